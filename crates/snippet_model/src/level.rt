@@ -1,0 +1,126 @@
+//! The level of a title or message: how grave it is, and the name that is shown for it.
+ghost use Rattle.std.specs.Prelude.{◌≡◌, false, Option, None};
+ghost use Rattle.snippet_model.specs.StandardName.{standard_name_of};
+ghost use Rattle.std.specs.declared.borrow.CowStr.TheVariants.{Borrowed};
+
+use crate::snippet::Title;
+use snippet_style::LevelInner;
+use snippet_text::CowStr;
+
+/// An error, in the way of what was asked for.
+pub const ERROR: Level<'static> = Level {
+    name: LevelName::Standard,
+    kind: LevelInner::Error,
+};
+
+/// Something that is likely wrong and doesn't stop the work.
+pub const WARNING: Level<'static> = Level {
+    name: LevelName::Standard,
+    kind: LevelInner::Warning,
+};
+
+/// Something worth knowing.
+pub const INFO: Level<'static> = Level {
+    name: LevelName::Standard,
+    kind: LevelInner::Info,
+};
+
+/// More on a message that stands before.
+pub const NOTE: Level<'static> = Level {
+    name: LevelName::Standard,
+    kind: LevelInner::Note,
+};
+
+/// What could be done about a message that stands before.
+pub const HELP: Level<'static> = Level {
+    name: LevelName::Standard,
+    kind: LevelInner::Help,
+};
+
+/// The name that a level is shown by.
+///
+/// Names are ordered as they are listed here, own ones by their text.
+#[derive(Clone, Debug, PartialEq, Eq, PartialOrd, Ord, Drop)]
+pub enum LevelName<'a> {
+    /// The name of the kind, as `error`.
+    Standard,
+    /// No name at all.
+    Hidden,
+    /// A name of the caller's.
+    Own(CowStr<'a>),
+}
+
+/// How grave a title or message is.
+///
+/// Levels are ordered by name, and then by kind.
+#[derive(Clone, Debug, PartialEq, Eq, PartialOrd, Ord, Drop)]
+pub struct Level<'a> {
+    /// What is shown for the level.
+    pub name: LevelName<'a>,
+    /// The kind, which chooses the style.
+    pub kind: LevelInner,
+}
+
+/// The name of a kind of level, as it is shown where the caller sets no other.
+fn standard_name(kind: LevelInner) -> &'static str
+    ensures value { result.now ≡ standard_name_of kind }
+{
+    match kind {
+        LevelInner::Error => "error",
+        LevelInner::Warning => "warning",
+        LevelInner::Info => "info",
+        LevelInner::Note => "note",
+        LevelInner::Help => "help",
+    }
+}
+
+impl<'a> Level<'a> {
+    ghost use Rattle.snippet_model.specs.Level.{name_of};
+
+    /// The constant [`ERROR`].
+    pub const ERROR: Level<'static> = ERROR;
+    /// The constant [`WARNING`].
+    pub const WARNING: Level<'static> = WARNING;
+    /// The constant [`INFO`].
+    pub const INFO: Level<'static> = INFO;
+    /// The constant [`NOTE`].
+    pub const NOTE: Level<'static> = NOTE;
+    /// The constant [`HELP`].
+    pub const HELP: Level<'static> = HELP;
+
+    /// The name that is shown: that of the kind, an own one, or the empty text where it is hidden.
+    pub fn as_str(&self) -> &str
+        ensures value { result.now ≡ name_of self.now }
+    {
+        match &self.name {
+            LevelName::Own(name) => name.as_str(),
+            LevelName::Hidden => "",
+            LevelName::Standard => standard_name(self.kind),
+        }
+    }
+
+    /// A title of this level from a text that isn't trusted: it is normalised where it is drawn.
+    pub fn primary_title(self, text: &'a str) -> Title<'a>
+        ensures level { result.level ≡ self.entry }
+        ensures text { result.text ≡ Borrowed text.entry }
+        ensures untrusted { result.allows_styling ≡ false }
+        ensures id { result.id ≡ None }
+    {
+        self.primary_title_cow(CowStr::Borrowed(text))
+    }
+
+    /// The same from a text that may be owned.
+    pub fn primary_title_cow(self, text: CowStr<'a>) -> Title<'a>
+        ensures level { result.level ≡ self.entry }
+        ensures text { result.text ≡ text.entry }
+        ensures untrusted { result.allows_styling ≡ false }
+        ensures id { result.id ≡ None }
+    {
+        Title {
+            level: self,
+            id: None,
+            text,
+            allows_styling: false,
+        }
+    }
+}

@@ -1,0 +1,11 @@
+//! What a report is made of: levels and titles, snippets of source with their annotations or patches, and the groups
+//! that hold them. Each builder keeps exactly what it is given; nothing here is judged or drawn.
+#![tactic(auto)]
+
+pub mod level;
+pub mod snippet;
+
+pub use level::Level;
+pub use snippet::{
+    Annotation, AnnotationKind, Element, Group, Id, Marker, Message, Origin, Padding, Patch, Snippet, Title,
+};

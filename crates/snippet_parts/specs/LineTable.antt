@@ -1,0 +1,31 @@
+-- The table of a source's lines.
+use Rattle.std.specs.Prelude.{◌≡◌, ℕ, ◌+◌, ◌<◌, ◌^◌, List, [], ◌∷◌, length, map}
+use Rattle.snippet_parts.specs.declared.source_map.LineInfo.{LineInfo}
+use Rattle.snippet_parts.specs.Lines.{Line, line_bytes, source_lines, text_at, start_of}
+
+-- what the table says of a line: its text, its number, where it starts and where the next one does
+pub record LineEntry : Type 0 where
+  pub text : List ℕ
+  pub number : ℕ
+  pub start : ℕ
+  pub next : ℕ
+
+-- the entry that a line's information is
+abbrev pub entry_of : LineInfo → LineEntry
+entry_of info = record { text = info.line.now; number = info.line_index; start = info.start_byte; next = info.end_byte }
+
+-- the entry of line k of some lines, of which the first has a number
+abbrev pub entry_at : ℕ → List Line → ℕ → LineEntry
+entry_at first ls k = record { text = text_at ls k; number = first + k; start = start_of ls k; next = start_of ls (k + 1) }
+
+-- the entries of some lines, of which the first has a number and starts at a byte
+abbrev pub entries_from : ℕ → ℕ → List Line → List LineEntry
+entries_from number start [] = []
+entries_from number start (l ∷ ls) =
+    record { text = l.0; number = number; start = start; next = start + length (line_bytes l) } ∷ entries_from (number + 1) (start + length (line_bytes l)) ls
+
+-- these are the lines of a source, and the numbers of the lines and of its bytes fit
+pub record IsLineTable (source : List ℕ) (first : ℕ) (infos : List LineInfo) : Type 0 where
+  pub entries : map entry_of infos ≡ entries_from first 0 (source_lines source)
+  pub short : length source < 2 ^ 56
+  pub numbers : first + length (source_lines source) < 2 ^ 64

@@ -1,0 +1,47 @@
+//! What is drawn below a line: an entry for each span that begins, ends or stands on it.
+
+use crate::place::Loc;
+use snippet_model::snippet::AnnotationKind;
+
+/// One entry of a line: the columns from `start.display` to before `end.display`.
+#[derive(Clone, Copy, Debug)]
+pub struct LineAnnotation<'a> {
+    /// Where it starts.
+    pub start: Loc,
+    /// Where it ends; on one line at least one column behind its start.
+    pub end: Loc,
+    /// How it is marked.
+    pub kind: AnnotationKind,
+    /// What is said of it.
+    pub label: Option<&'a str>,
+    /// Which part of a span it stands for.
+    pub annotation_type: LineAnnotationType,
+    /// Whether the source itself is coloured as the mark is.
+    pub highlight_source: bool,
+}
+
+/// Which part of a span an entry stands for. The numbers are depths: how far right a bar stands, from 1.
+#[derive(Clone, Copy, Debug, PartialEq, Eq)]
+pub enum LineAnnotationType {
+    /// A span that begins and ends on the line.
+    Singleline,
+    /// The line on which a span of several lines begins.
+    MultilineStart(usize),
+    /// The line on which such a span ends.
+    MultilineEnd(usize),
+    /// A line between those, where a bar is drawn.
+    MultilineLine(usize),
+}
+
+/// A line that is shown, with its entries.
+#[derive(Debug, Drop)]
+pub struct AnnotatedLineInfo<'a> {
+    /// The line's text, without its end.
+    pub line: &'a str,
+    /// The line's number.
+    pub line_index: usize,
+    /// The entries of the line, in the order made.
+    pub annotations: Vec<LineAnnotation<'a>>,
+    /// Whether a span keeps the line without marking it.
+    pub keep: bool,
+}

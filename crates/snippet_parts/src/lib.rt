@@ -1,0 +1,24 @@
+//! The parts of a snippet: the lines of a source, and the places in it.
+#![tactic(auto)]
+
+pub mod counts;
+pub mod entries;
+pub mod line_bounds;
+pub mod lines;
+pub mod marked_lines;
+pub mod place;
+pub mod prepare;
+pub mod source_map;
+pub mod span;
+#[cfg(test)]
+mod tests;
+pub mod window;
+
+pub use counts::{line_feed_count, newline_count_before};
+pub use lines::{CursorLines, EndLine, newline_count};
+pub use entries::{AnnotatedLineInfo, LineAnnotation, LineAnnotationType};
+pub use place::Loc;
+pub use prepare::counted_number;
+pub use source_map::{LineInfo, SourceMap};
+pub use span::{SpanFault, check_span};
+pub use window::{column_of, leading_whitespace};

@@ -1,0 +1,204 @@
+//! A source whose lines are known by number and by byte.
+ghost use Rattle.std.specs.Prelude.{◌≡◌, ℕ, List, ◌+◌, ◌-◌, ◌^◌, ◌<◌, ◌≤◌, map, length, IfOk, IfSome};
+ghost use Rattle.std.specs.Option.{option_copied};
+ghost use Rattle.std.specs.List.{HoldsAt};
+ghost use Rattle.std.specs.List.Sorted.{IsNonDecreasingBy};
+ghost use Rattle.snippet_parts.specs.Lines.{Line, AreLinesOf, line_at, source_lines, start_of, newline_count, StandsAt};
+ghost use Rattle.snippet_parts.specs.LineTable.{entry_of, entry_at, entries_from};
+ghost use Rattle.snippet_parts.specs.Place.{line_of, location_of, steps_behind_text, locations_of};
+ghost use Rattle.snippet_parts.specs.Span.{IsSpan, IsSpanBorder};
+
+use crate::lines::CursorLines;
+use crate::place::Loc;
+use std::alloc::{AllocError, Global};
+use std::marker::Model;
+use std::ops::Range;
+
+/// A line of a source.
+#[derive(Clone, Copy, Debug)]
+pub struct LineInfo<'a> {
+    /// Its text, without its end.
+    pub line: &'a str,
+    /// Its number.
+    pub line_index: usize,
+    /// The byte at which it starts.
+    pub start_byte: usize,
+    /// The byte behind it, line end counted.
+    pub end_byte: usize,
+}
+
+/// A source, cut into lines that have numbers.
+#[derive(Drop)]
+pub struct SourceMap<'a> {
+    lines: Vec<LineInfo<'a>>,
+    source: &'a str,
+    line_start: usize,
+}
+
+impl<'a> Model for SourceMap<'a> {
+    ghost use Rattle.snippet_parts.specs.Lines.{Source};
+
+    ghost Value = { Source };
+
+    ghost use Rattle.snippet_parts.specs.LineTable.{IsLineTable};
+
+    ghost view = { λ m. record { text = m.source.now; first = m.line_start } };
+
+    ghost invariant = { λ m. IsLineTable m.source.now m.line_start m.lines.items };
+}
+
+impl<'a> SourceMap<'a> {
+    /// The map of a source whose first line has the number `line_start`.
+    ///
+    /// The one error is want of memory.
+    pub fn new(
+        alloc: Global,
+        source: &'a str,
+        line_start: usize,
+    ) -> Result<SourceMap<'a>, AllocError>
+        requires fits { length source.now < 2 ^ 56 }
+        requires numbers { line_start + newline_count source.now + 1 < 2 ^ 64 }
+        ensures ok { IfOk result (λ m. m ≡ record { text = source.now; first = line_start }) }
+    {
+        Ok(SourceMap {
+            lines: line_table(alloc, source, line_start)?,
+            source,
+            line_start,
+        })
+    }
+
+    /// The source.
+    pub fn source(&self) -> &'a str
+        ensures value { result.now ≡ self.now.text }
+    {
+        self.source
+    }
+
+    /// The number of the first line.
+    pub fn line_start(&self) -> usize
+        ensures value { result ≡ self.now.first }
+    {
+        self.line_start
+    }
+
+    /// How many lines the source has: at least one.
+    pub fn line_count(&self) -> usize
+        ensures value { result ≡ length (source_lines self.now.text) }
+        // What these lines are, and that the source has no others.
+        ensures lines { AreLinesOf self.now.text (source_lines self.now.text) }
+        ensures only { (ls : List Line) → AreLinesOf self.now.text ls
+            → ls ≡ source_lines self.now.text }
+    {
+        self.lines.len()
+    }
+
+    /// The text of the line of a number, without its end; `None` where the source has no such line.
+    pub fn get_line(&self, number: usize) -> Option<&'a str>
+        ensures value { option_copied result ≡ line_at self.now number }
+        ensures stands { let at = start_of (source_lines self.now.text) (number - self.now.first) in
+            IfSome result (λ t. StandsAt self.now.text t.now at) }
+    {
+        let index = number.checked_sub(self.line_start)?;
+        let info = self.lines.get(index)?;
+        Some(info.line)
+    }
+
+    /// Where a span of bytes starts and ends.
+    ///
+    /// The end of an empty span is its start. A start behind the end of its line's text, at the line end, counts one
+    /// character more than the text has; such an end does too, and one column more, if the span started on an earlier
+    /// line.
+    #[tactic(auto, unfolding(crate::specs::Place::locations_of, crate::specs::Place::start_location, crate::specs::Place::end_location))]
+    pub fn span_to_locations(&self, span: Range<usize>) -> (Loc, Loc)
+        requires span { IsSpan self.now.text span.start span.end }
+        ensures value { result ≡ locations_of self.now span.start span.end }
+        ensures start_bound { result.0.display < 2 ^ 58 }
+        ensures end_bound { result.1.display ≤ 2 ^ 58 }
+    {
+        let (mut start, start_steps) = self.locate(span.start);
+        start.char += start_steps;
+        if span.start == span.end {
+            return (start, start);
+        }
+        let (mut end, end_steps) = self.locate(span.end);
+        if start.line != end.line {
+            end.char += end_steps;
+            end.display += end_steps;
+        }
+        (start, end)
+    }
+
+    /// The location of a byte, and 1 if the byte lies behind the end of its line's text, else 0.
+    fn locate(&self, byte: usize) -> (Loc, usize)
+        requires border { IsSpanBorder self.now.text byte }
+        ensures location { result.0 ≡ location_of self.now byte }
+        ensures steps { result.1 ≡ steps_behind_text self.now.text byte }
+        ensures char_bound { result.0.char < 2 ^ 56 }
+        ensures display_bound { result.0.display < 2 ^ 58 }
+        ensures step_bound { result.1 ≤ 1 }
+    {
+        let info = self.line_holding(byte);
+        let location = Loc::on_line(info.line, info.line_index, info.start_byte, byte);
+        let steps = usize::from(info.start_byte + info.line.len() < byte);
+        (location, steps)
+    }
+
+    /// The line that holds a byte.
+    fn line_holding(&self, byte: usize) -> LineInfo<'a>
+        ensures entry { let ls = source_lines self.now.text in
+            entry_of result ≡ entry_at self.now.first ls (line_of ls byte) }
+        ensures short { length self.now.text < 2 ^ 56 }
+    {
+        self.lines[last_starting_by(&self.lines, byte)]
+    }
+}
+
+/// The last of some lines that starts at a byte or before it.
+fn last_starting_by(lines: &[LineInfo<'_>], byte: usize) -> usize
+    requires some { 0 < length lines.now }
+    requires ordered { IsNonDecreasingBy (λ info. info.start_byte) lines.now }
+    requires first { HoldsAt (λ info. info.start_byte ≤ byte) lines.now 0 }
+    ensures within { result < length lines.now }
+    ensures from { HoldsAt (λ info. info.start_byte ≤ byte) lines.now result }
+    ensures to { result + 1 < length lines.now
+        → HoldsAt (λ info. byte < info.start_byte) lines.now (result + 1) }
+{
+    lines.partition_point(|info| info.start_byte <= byte) - 1
+}
+
+/// What is known of each line of a source whose first line has the number `line_start`.
+fn line_table<'a>(
+    alloc: Global,
+    source: &'a str,
+    line_start: usize,
+) -> Result<Vec<LineInfo<'a>>, AllocError>
+    requires fits { length source.now < 2 ^ 56 }
+    requires numbers { line_start + newline_count source.now + 1 < 2 ^ 64 }
+    ensures entries { IfOk result
+        (λ infos. map entry_of infos.items ≡ entries_from line_start 0 (source_lines source.now)) }
+{
+    let mut lines = Vec::new(alloc);
+    if source.is_empty() {
+        lines.push(LineInfo {
+            line: source,
+            line_index: line_start,
+            start_byte: 0,
+            end_byte: 0,
+        })?;
+        return Ok(lines);
+    }
+    let mut number = line_start;
+    let mut start = 0;
+    for (line, end_line) in CursorLines::new(source) {
+        let end = start + line.len() + end_line.len();
+        lines.push(LineInfo {
+            line,
+            line_index: number,
+            start_byte: start,
+            end_byte: end,
+        })?;
+        number += 1;
+        start = end;
+    }
+    Ok(lines)
+}

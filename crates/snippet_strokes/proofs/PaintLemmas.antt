@@ -1,0 +1,196 @@
+-- Painting marks into a row: one cell after another, and one entry over another.
+use Rattle.std.proofs.Common.{◌≡◌, ◌⊎◌, ℕ, ◌+◌, ◌<◌, ◌≤◌, false, List, [], ◌∷◌, ◌++◌, length, map, take, get_or, refl, sym, ap, ◌∙◌, subst, arith, inl, inr, All, Bor}
+use Rattle.std.proofs.lemmas.Bool.{cases_lt}
+use Rattle.std.proofs.lemmas.List.{length_push, get_or_append_left, get_or_push, map_more, take_all}
+use Rattle.snippet_model.specs.declared.snippet.AnnotationKind.{AnnotationKind}
+use Rattle.snippet_model.specs.declared.snippet.AnnotationKind.TheVariants.{Primary, Context, Visible}
+use Rattle.snippet_parts.specs.declared.entries.LineAnnotation.{LineAnnotation}
+use Rattle.snippet_style.specs.declared.glyphs.DecorStyle.{DecorStyle}
+use Rattle.snippet_style.specs.declared.glyphs.DecorStyle.TheVariants.{Ascii, Unicode}
+use Rattle.snippet_style.specs.declared.role.ElementStyle.{ElementStyle}
+use Rattle.snippet_style.specs.Glyphs.{glyph_of, underline_role}
+use Rattle.snippet_style.specs.Grid.{Cell, cell_at, unlinked_cell, WritesCells}
+use Rattle.snippet_text.specs.Normalized.{is_listed}
+use Rattle.snippet_strokes.specs.declared.layout.Layout.{Layout}
+use Rattle.snippet_strokes.specs.Entries.{EntryCovers, is_primary, IsMarkCell}
+use Rattle.snippet_strokes.specs.Painting.{Paints, Painted, ShowsFrom, mark_cell}
+
+-- no cell is painted yet
+pub Paints-none : (rows : List (List Cell)) (row from : ℕ) (cell : Cell) → Paints rows rows row from from cell
+Paints-none rows row from cell =
+    record {
+      inside = λ c after before. absurd (omega arith);
+      before = λ c _. refl;
+      behind = λ c _. refl;
+      others = λ r _. refl;
+      count = λ _. refl;
+    }
+
+-- one more cell is painted
+pub Paints-more : (old mid new : List (List Cell)) (row from to next : ℕ) (cell : Cell) → Paints old mid row from to cell → WritesCells mid new row to (cell ∷ []) → from ≤ to → next ≡ to + 1 → Paints old new row from next cell
+Paints-more old mid new row from to next cell done writes ordered one =
+    record {
+      inside = λ c after before. elim (cases_lt c to) [
+        | inl earlier ↦ writes.before c earlier ∙ done.inside c after earlier
+        | inr late ↦
+            let here : to + 0 ≡ c = omega arith in
+            ap (cell_at new row) (sym here) ∙ writes.inside 0 (omega arith)
+      ];
+      before = λ c left. writes.before c (omega arith) ∙ done.before c left;
+      behind = λ c right. writes.behind c (omega arith) ∙ done.behind c (omega arith);
+      others = λ r other. writes.others r other ∙ done.others r other;
+      count = λ within. omega (arith, writes.count, done.count within);
+    }
+
+-- all cells are painted; a span that ends before it starts has none
+pub Paints-all : (old new : List (List Cell)) (row at start end next : ℕ) (cell : Cell) → Paints old new row (at + start) (at + next) cell → end ≤ next → (start ≤ end → next ≤ end) → (end < start → next ≡ start) → Paints old new row (at + start) (at + end) cell
+Paints-all old new row at start end next cell done reached within empty =
+    elim (cases_lt end start) [
+      | inl none ↦
+          let still : next ≡ start = empty none in
+          record {
+            inside = λ c after before. absurd (omega arith);
+            before = done.before;
+            behind = λ c right. elim (cases_lt c (at + start)) [
+              | inl left ↦ done.before c left
+              | inr past ↦ done.behind c (omega arith)
+            ];
+            others = done.others;
+            count = done.count;
+          }
+      | inr some ↦
+          let ended : next ≡ end = omega (arith, within some) in
+          subst (λ n. Paints old new row (at + start) (at + n) cell) ended done
+    ]
+
+-- the stroke of an entry's marks is its mark cell
+pub mark_cell_is : (decor : DecorStyle) (kind : AnnotationKind) (primary : _) (glyph : ℕ) (role : ElementStyle) → primary ≡ is_primary kind → glyph ≡ glyph_of decor primary 94 45 0x2501 0x2500 → role ≡ underline_role primary → unlinked_cell role glyph ≡ mark_cell decor kind
+mark_cell_is decor kind primary glyph role is_kind is_glyph is_role =
+    ap (λ r. unlinked_cell r glyph) is_role ∙ ap (λ g. unlinked_cell (underline_role primary) g) is_glyph ∙ ap (λ p. unlinked_cell (underline_role p) (glyph_of decor p 94 45 0x2501 0x2500)) is_kind
+
+-- a mark cell is one of its kind, and no listed character
+pub IsMarkCell-mark_cell : (decor : DecorStyle) (kind : AnnotationKind) → IsMarkCell kind (mark_cell decor kind)
+IsMarkCell-mark_cell Ascii Primary = (inl refl, refl)
+IsMarkCell-mark_cell Ascii Context = (inl refl, refl)
+IsMarkCell-mark_cell Ascii Visible = (inl refl, refl)
+IsMarkCell-mark_cell Unicode Primary = (inr (inl refl), refl)
+IsMarkCell-mark_cell Unicode Context = (inr (inl refl), refl)
+IsMarkCell-mark_cell Unicode Visible = (inr (inl refl), refl)
+
+free_mark_cell : (decor : DecorStyle) (kind : AnnotationKind) → is_listed (mark_cell decor kind).ch ≡ false
+free_mark_cell Ascii Primary = refl
+free_mark_cell Ascii Context = refl
+free_mark_cell Ascii Visible = refl
+free_mark_cell Unicode Primary = refl
+free_mark_cell Unicode Context = refl
+free_mark_cell Unicode Visible = refl
+
+-- no entry is painted yet
+pub Painted-none : (layout : Layout) (row : ℕ) (rows : List (List Cell)) → Painted layout [] row rows rows
+Painted-none layout row rows =
+    record {
+      marked = λ k p d within covers. absurd (omega arith);
+      unmarked = λ p _. refl;
+      before = λ c _. refl;
+      free = λ c is. is;
+      others = λ r _. refl;
+      count = λ _. refl;
+    }
+
+-- a column that an entry covers, or not
+covers_or_not : (e : LineAnnotation) (p : ℕ) → EntryCovers e p ⊎ (EntryCovers e p → ⊥)
+covers_or_not e p =
+    elim (cases_lt p e.start.display) [
+      | inl left ↦ inr (λ covers. omega (arith, covers.0))
+      | inr after ↦
+          elim (cases_lt p e.end.display) [
+            | inl before ↦ inl (after, before)
+            | inr right ↦ inr (λ covers. omega (arith, covers.1))
+          ]
+    ]
+
+-- what stands at the places of a list with one more entry
+old_place : (es : List LineAnnotation) (e d : LineAnnotation) (k : ℕ) → k < length es → get_or (es ++ e ∷ []) k d ≡ get_or es k d
+old_place es e d k within = get_or_append_left es (e ∷ []) d k within
+
+new_place : (es : List LineAnnotation) (e d : LineAnnotation) → get_or (es ++ e ∷ []) (length es) d ≡ e
+new_place es e d = get_or_push es e d (length es) refl
+
+-- the painted cell is outside the columns that an entry doesn't cover
+untouched : (layout : Layout) (mid new : List (List Cell)) (row p : ℕ) (e : LineAnnotation) → Paints mid new row (layout.code + e.start.display) (layout.code + e.end.display) (mark_cell layout.decor e.kind) → (EntryCovers e p → ⊥) → cell_at new row (layout.code + p) ≡ cell_at mid row (layout.code + p)
+untouched layout mid new row p e paints not_covered =
+    elim (cases_lt p e.start.display) [
+      | inl left ↦ paints.before (layout.code + p) (omega arith)
+      | inr after ↦
+          elim (cases_lt p e.end.display) [
+            | inl before ↦ absurd (not_covered (after, before))
+            | inr right ↦ paints.behind (layout.code + p) (omega arith)
+          ]
+    ]
+
+-- what an entry shows that was painted last
+shows_new : (layout : Layout) (es : List LineAnnotation) (e d : LineAnnotation) (k p : ℕ) (mid new : List (List Cell)) (row : ℕ) → Paints mid new row (layout.code + e.start.display) (layout.code + e.end.display) (mark_cell layout.decor e.kind) → k < length (es ++ e ∷ []) → EntryCovers e p → ShowsFrom layout (es ++ e ∷ []) k p d (cell_at new row (layout.code + p))
+shows_new layout es e d k p mid new row paints within covers =
+    let here = new_place es e d in
+    record {
+      at = length es;
+      later = omega (arith, length_push es e);
+      within = omega (arith, length_push es e);
+      covers = subst (λ x. EntryCovers x p) (sym here) covers;
+      holds = paints.inside (layout.code + p) (omega (arith, covers.0)) (omega (arith, covers.1)) ∙ ap (λ (x : LineAnnotation). mark_cell layout.decor x.kind) (sym here);
+    }
+
+-- what an earlier entry shows where the last one doesn't cover the column
+shows_old : (layout : Layout) (es : List LineAnnotation) (e d : LineAnnotation) (k p : ℕ) (cell same : Cell) → same ≡ cell → ShowsFrom layout es k p d cell → ShowsFrom layout (es ++ e ∷ []) k p d same
+shows_old layout es e d k p cell same is shows =
+    let place = old_place es e d shows.at shows.within in
+    record {
+      at = shows.at;
+      later = shows.later;
+      within = omega (arith, shows.within, length_push es e);
+      covers = subst (λ x. EntryCovers x p) (sym place) shows.covers;
+      holds = is ∙ shows.holds ∙ ap (λ (x : LineAnnotation). mark_cell layout.decor x.kind) (sym place);
+    }
+
+-- one more entry is painted over those before
+pub Painted-more : (layout : Layout) (es : List LineAnnotation) (e : LineAnnotation) (row : ℕ) (old mid new : List (List Cell)) → Painted layout es row old mid → Paints mid new row (layout.code + e.start.display) (layout.code + e.end.display) (mark_cell layout.decor e.kind) → Painted layout (es ++ e ∷ []) row old new
+Painted-more layout es e row old mid new done paints =
+    record {
+      marked = λ k p d within covers. elim (covers_or_not e p) [
+        | inl last ↦ shows_new layout es e d k p mid new row paints within last
+        | inr not_last ↦
+            let old_one : k < length es = elim (cases_lt k (length es)) as (λ _. k < length es) [
+              | inl less ↦ less
+              | inr more ↦
+                  let here : k ≡ length es = omega (arith, length_push es e) in
+                  absurd (not_last (subst (λ x. EntryCovers x p) (ap (λ n. get_or (es ++ e ∷ []) n d) here ∙ new_place es e d) covers))
+            ] in
+            shows_old layout es e d k p (cell_at mid row (layout.code + p)) (cell_at new row (layout.code + p)) (untouched layout mid new row p e paints not_last) (done.marked k p d old_one (subst (λ x. EntryCovers x p) (old_place es e d k old_one) covers))
+      ];
+      unmarked = λ p none.
+          let N : LineAnnotation → Type 0 = λ x. EntryCovers x p → ⊥ in
+          let last : EntryCovers e p → ⊥ = subst N (new_place es e e) (none (length es) e (omega (arith, length_push es e))) in
+          let first : All N es = λ k d within. subst N (old_place es e d k within) (none k d (omega (arith, length_push es e))) in
+          untouched layout mid new row p e paints last ∙ done.unmarked p first;
+      before = λ c left. paints.before c (omega arith) ∙ done.before c left;
+      free = λ c is. elim (cases_lt c (layout.code + e.start.display)) [
+        | inl left ↦ subst (λ x. is_listed x.ch ≡ false) (sym (paints.before c left)) (done.free c is)
+        | inr after ↦
+            elim (cases_lt c (layout.code + e.end.display)) [
+              | inl inside ↦ subst (λ x. is_listed x.ch ≡ false) (sym (paints.inside c after inside)) (free_mark_cell layout.decor e.kind)
+              | inr right ↦ subst (λ x. is_listed x.ch ≡ false) (sym (paints.behind c right)) (done.free c is)
+            ]
+      ];
+      others = λ r other. paints.others r other ∙ done.others r other;
+      count = λ within. paints.count (omega (arith, done.count within)) ∙ done.count within;
+    }
+
+-- the entry that stands next in a list of references is painted
+pub Painted-next : (layout : Layout) (refs : List (Bor LineAnnotation)) (i : ℕ) (d : Bor LineAnnotation) (row : ℕ) (old mid new : List (List Cell)) → i < length refs → Painted layout (map (λ (e : Bor LineAnnotation). e.now) (take i refs)) row old mid → Paints mid new row (layout.code + (get_or refs i d).now.start.display) (layout.code + (get_or refs i d).now.end.display) (mark_cell layout.decor (get_or refs i d).now.kind) → Painted layout (map (λ (e : Bor LineAnnotation). e.now) (take (i + 1) refs)) row old new
+Painted-next layout refs i d row old mid new within done paints =
+    subst (λ es. Painted layout es row old new) (sym (map_more (λ (e : Bor LineAnnotation). e.now) refs i d within)) (Painted-more layout (map (λ (e : Bor LineAnnotation). e.now) (take i refs)) (get_or refs i d).now row old mid new done paints)
+
+-- all entries of a list of references are painted
+pub Painted-all : (layout : Layout) (refs : List (Bor LineAnnotation)) (i row : ℕ) (old new : List (List Cell)) → length refs ≤ i → Painted layout (map (λ (e : Bor LineAnnotation). e.now) (take i refs)) row old new → Painted layout (map (λ (e : Bor LineAnnotation). e.now) refs) row old new
+Painted-all layout refs i row old new past done =
+    subst (λ es. Painted layout (map (λ (e : Bor LineAnnotation). e.now) es) row old new) (take_all i refs past) done

@@ -1,0 +1,10 @@
+use Rattle.std.proofs.Common.{◌≡◌, ◌+◌, length}
+use Rattle.std.specs.Fmt.{decimal}
+use Rattle.snippet_strokes.proofs.number.gutter_width.Given as goal
+
+-- the digits of what is left and those that were counted are the number's
+abbrev pub invariant-loop-rest : goal.invariant-loop-rest
+invariant-loop-rest l = l.width + length (decimal l.rest) ≡ length (decimal l.number) + 1
+
+abbrev pub decreases-loop-rest : goal.decreases-loop-rest
+decreases-loop-rest l = l.rest

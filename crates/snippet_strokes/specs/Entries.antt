@@ -1,0 +1,35 @@
+-- The entries of a line, and the mark that they leave below each column.
+use Rattle.std.specs.Prelude.{◌≡◌, ℕ, ◌-◌, ◌<◌, ◌≤◌, Bool, true, false, List, Contains}
+use Rattle.snippet_model.specs.declared.snippet.AnnotationKind.{AnnotationKind}
+use Rattle.snippet_model.specs.declared.snippet.AnnotationKind.TheVariants.{Primary, Context, Visible}
+use Rattle.snippet_parts.specs.declared.entries.LineAnnotation.{LineAnnotation}
+use Rattle.snippet_style.specs.Glyphs.{IsMarkGlyph, underline_role}
+use Rattle.snippet_style.specs.Grid.{Cell}
+
+-- the entry covers this column
+abbrev pub EntryCovers : LineAnnotation → ℕ → Type 0
+EntryCovers e p = (e.start.display ≤ p) × (p < e.end.display)
+
+-- how many columns an entry covers
+abbrev pub entry_width : LineAnnotation → ℕ
+entry_width e = e.end.display - e.start.display
+
+-- whether marks of this kind are drawn as primary ones
+abbrev pub is_primary : AnnotationKind → Bool
+is_primary Primary = true
+is_primary Context = false
+is_primary Visible = false
+
+-- the mark of column p has this kind: that of an entry which is among the narrowest that cover the column; where it
+-- isn't primary, each primary entry there is wider, so that a primary one wins where both kinds have the least width
+pub record IsEntryMark (es : List LineAnnotation) (p : ℕ) (kind : AnnotationKind) : Type 0 where
+  pub entry : LineAnnotation
+  pub among : Contains es entry
+  pub covers : EntryCovers entry p
+  pub is : entry.kind ≡ kind
+  pub least : (other : LineAnnotation) → Contains es other → EntryCovers other p → entry_width entry ≤ entry_width other
+  pub primary_wins : is_primary kind ≡ false → (other : LineAnnotation) → Contains es other → EntryCovers other p → other.kind ≡ Primary → entry_width entry < entry_width other
+
+-- the cell holds a mark of this kind, in the role of its strokes
+abbrev pub IsMarkCell : AnnotationKind → Cell → Type 0
+IsMarkCell kind cell = IsMarkGlyph (is_primary kind) cell.ch × (cell.role ≡ underline_role (is_primary kind))

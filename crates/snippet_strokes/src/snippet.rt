@@ -1,0 +1,118 @@
+//! The rows of a snippet: a separator row, and the rows of each line that is shown.
+ghost use Rattle.std.specs.Prelude.{◌+◌, ◌^◌, ◌<◌, ◌≤◌, All, OnOk, length};
+ghost use Rattle.snippet_strokes.specs.Rows.{shown_number};
+ghost use Rattle.snippet_strokes.specs.Snippet.{AddsLine, AddsSnippet};
+
+use crate::layout::Layout;
+use crate::marks::draw_marks;
+use crate::row::begin_row;
+use crate::source_row::draw_source_row;
+use snippet_parts::AnnotatedLineInfo;
+use snippet_style::StyledBuffer;
+use std::alloc::{AllocError, Global};
+
+/// Draws a snippet below all that stands in the grid: a separator row, then for each line its source row and its marks.
+///
+/// ```text
+///       |
+///     1 | let x = 1;
+///       |     ^
+///     2 | let y = x;
+/// ```
+///
+/// Where lines aren't numbered, spaces stand in place of the numbers. A line with no entries has no row of marks. Each
+/// entry is drawn as one that begins and ends on its line, without its label.
+///
+/// # Errors
+///
+/// There is no memory for the rows. The grid may then hold some of them.
+pub fn draw_snippet(
+    alloc: Global,
+    buffer: &mut StyledBuffer,
+    layout: Layout,
+    numbered: bool,
+    infos: &[AnnotatedLineInfo],
+) -> Result<(), AllocError>
+    requires place { layout.gutter + 3 ≤ layout.code }
+    requires narrow { layout.code < 2 ^ 32 }
+    requires numbers { All (λ info. length (shown_number numbered layout.gutter info.line_index) ≤ layout.gutter + 1)
+        infos.now }
+    requires texts { All (λ info. length info.line.now < 2 ^ 56) infos.now }
+    requires columns { All (λ info. All (λ e. e.end.display < 2 ^ 60) info.annotations.items) infos.now }
+    ensures added { OnOk result (AddsSnippet layout numbered infos.now buffer.old buffer.new) }
+{
+    begin_row(buffer, layout)?;
+    for info in infos {
+        draw_line(alloc, buffer, layout, numbered, info)?;
+    }
+    Ok(())
+}
+
+/// Draws the rows of a line below all that stands in the grid.
+///
+/// ```text
+///     1 | let x = 1;
+///       |     ^
+/// ```
+fn draw_line(
+    alloc: Global,
+    buffer: &mut StyledBuffer,
+    layout: Layout,
+    numbered: bool,
+    info: &AnnotatedLineInfo,
+) -> Result<(), AllocError>
+    requires place { layout.gutter + 3 ≤ layout.code }
+    requires narrow { layout.code < 2 ^ 32 }
+    requires number { length (shown_number numbered layout.gutter info.now.line_index) ≤ layout.gutter + 1 }
+    requires text { length info.now.line.now < 2 ^ 56 }
+    requires columns { All (λ e. e.end.display < 2 ^ 60) info.now.annotations.items }
+    ensures added { OnOk result (AddsLine layout numbered info.now buffer.old buffer.new) }
+{
+    draw_source_row(alloc, buffer, layout, numbered, info)?;
+    draw_marks(alloc, buffer, layout, &info.annotations)
+}
+
+#[cfg(test)]
+mod tests {
+    use super::*;
+    use snippet_model::AnnotationKind;
+    use snippet_parts::{LineAnnotation, LineAnnotationType, Loc};
+    use snippet_style::DecorStyle;
+    use std::test::Fail;
+
+    #[test]
+    fn draws_where_memory_suffices(rt: HostRuntime) -> Result<(), Fail> {
+        let layout = Layout {
+            gutter: 1,
+            code: 4,
+            decor: DecorStyle::Ascii,
+        };
+        let start = Loc {
+            line: 7,
+            char: 4,
+            display: 4,
+            byte: 4,
+        };
+        let entry = LineAnnotation {
+            start,
+            end: Loc {
+                display: 5,
+                ..start
+            },
+            kind: AnnotationKind::Primary,
+            label: None,
+            annotation_type: LineAnnotationType::Singleline,
+            highlight_source: false,
+        };
+        let marked = AnnotatedLineInfo {
+            line: "let x = 1;",
+            line_index: 7,
+            annotations: [entry].to_vec(rt.alloc())?,
+            keep: false,
+        };
+        let mut buffer = StyledBuffer::new(rt.alloc());
+        draw_snippet(rt.alloc(), &mut buffer, layout, true, &[marked])?;
+        assert_eq!(rt; buffer.num_lines(), 3);
+        Ok(())
+    }
+}

@@ -1,0 +1,3 @@
+pub mod GridLemmas
+pub mod GridSteps
+pub mod PrintLemmas

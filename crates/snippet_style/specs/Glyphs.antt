@@ -1,0 +1,34 @@
+use Rattle.std.specs.Prelude.{◌≡◌, ◌⊎◌, ℕ, Bool, true, false}
+use Rattle.snippet_style.specs.declared.glyphs.DecorStyle.{DecorStyle}
+use Rattle.snippet_style.specs.declared.glyphs.DecorStyle.TheVariants.{Ascii, Unicode}
+use Rattle.snippet_style.specs.declared.role.ElementStyle.{ElementStyle}
+use Rattle.snippet_style.specs.declared.role.ElementStyle.TheVariants.{UnderlinePrimary, UnderlineSecondary}
+
+-- the stroke between the gutter and the source: '|', or '│' in Unicode
+abbrev pub separator_of : DecorStyle → ℕ
+separator_of Ascii = 124
+separator_of Unicode = 0x2502
+
+-- the role of a stroke: primary, or else for context
+abbrev pub underline_role : Bool → ElementStyle
+underline_role true = UnderlinePrimary
+underline_role false = UnderlineSecondary
+
+-- a character with which a mark is drawn: '^', '━' or '┯' if it is primary, and '-', '─' or '┬' if it is for
+-- context. No character is of both kinds, so a mark shows which kind it is
+abbrev pub IsMarkGlyph : Bool → ℕ → Type 0
+IsMarkGlyph true ch = (ch ≡ 94) ⊎ ((ch ≡ 0x2501) ⊎ (ch ≡ 0x252F))
+IsMarkGlyph false ch = (ch ≡ 45) ⊎ ((ch ≡ 0x2500) ⊎ (ch ≡ 0x252C))
+
+-- the one character with which a mark is drawn in ASCII: '^' if it is primary, and '-' if it is for context
+abbrev pub ascii_mark : Bool → ℕ
+ascii_mark true = 94
+ascii_mark false = 45
+
+-- one of the four glyphs of a stroke, which a line of the table gives in this order: ASCII for primary strokes, ASCII
+-- for context, Unicode for primary strokes, Unicode for context
+abbrev pub glyph_of : DecorStyle → Bool → ℕ → ℕ → ℕ → ℕ → ℕ
+glyph_of Ascii true ascii ascii_context unicode unicode_context = ascii
+glyph_of Ascii false ascii ascii_context unicode unicode_context = ascii_context
+glyph_of Unicode true ascii ascii_context unicode unicode_context = unicode
+glyph_of Unicode false ascii ascii_context unicode unicode_context = unicode_context

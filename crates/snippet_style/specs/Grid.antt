@@ -1,0 +1,54 @@
+use Rattle.std.specs.Prelude.{◌≡◌, ◌≢◌, ◌<◌, ◌≤◌, ◌+◌, ◌-◌, ℕ, max, List, [], ◌∷◌, ◌++◌, length, map, take, drop, replicate, Option, None}
+use Rattle.std.specs.List.{slice_index_or}
+use Rattle.snippet_style.specs.declared.role.ElementStyle.{ElementStyle}
+use Rattle.snippet_style.specs.declared.role.ElementStyle.TheVariants.{NoStyle}
+
+-- one cell of the grid: a character, what it is part of, and the URL of the linked text that it belongs to, if any
+pub record Cell : Type 0 where
+  pub ch : ℕ
+  pub role : ElementStyle
+  pub link : Option (List ℕ)
+
+-- the cell that fills a row up
+abbrev pub SPACE : Cell
+SPACE = record { ch = 32; role = NoStyle; link = None }
+
+-- the cell of this character in this role, with no link
+abbrev pub unlinked_cell : ElementStyle → ℕ → Cell
+unlinked_cell role ch = record { ch = ch; role = role; link = None }
+
+-- the cells of these characters in this role, one for each, with no link
+abbrev pub drawn : ElementStyle → List ℕ → List Cell
+drawn role chars = map (λ ch. unlinked_cell role ch) chars
+
+-- the list with these elements from `at` on; a shorter list is first filled up to there with the blank
+unfoldable pub written : {X : Type 0} → X → List X → ℕ → List X → List X
+written blank xs at new = take at (xs ++ replicate (at - length xs) blank) ++ new ++ drop (at + length new) xs
+
+-- the row of this number, which has no cells where the grid has no such row
+abbrev pub row_at : List (List Cell) → ℕ → List Cell
+row_at rows r = slice_index_or rows r []
+
+-- the cell at this place, a space where the grid has no such cell
+abbrev pub cell_at : List (List Cell) → ℕ → ℕ → Cell
+cell_at rows r c = slice_index_or (row_at rows r) c SPACE
+
+-- the grid after these cells are written in row r from cell `at` on
+abbrev pub cells_written : List (List Cell) → ℕ → ℕ → List Cell → List (List Cell)
+cells_written rows r at cells = written [] rows r (written SPACE (row_at rows r) at cells ∷ [])
+
+-- the same, read cell by cell
+pub record WritesCells (old new : List (List Cell)) (row at : ℕ) (cells : List Cell) : Type 0 where
+  -- the written cells are there, and every other cell of the row is as it was
+  pub inside : (k : ℕ) → k < length cells → cell_at new row (at + k) ≡ slice_index_or cells k SPACE
+  pub before : (c : ℕ) → c < at → cell_at new row c ≡ cell_at old row c
+  pub behind : (c : ℕ) → at + length cells ≤ c → cell_at new row c ≡ cell_at old row c
+  -- every other row is as it was
+  pub others : (r : ℕ) → r ≢ row → row_at new r ≡ row_at old r
+  -- the row and the grid are larger only as far as the write reaches
+  pub width : length (row_at new row) ≡ max (length (row_at old row)) (at + length cells)
+  pub count : length new ≡ max (length old) (row + 1)
+
+-- the fact holds of every cell of the grid, and of the spaces around it
+abbrev pub EachCell : (Cell → Type 0) → List (List Cell) → Type 0
+EachCell P rows = (r c : ℕ) → P (cell_at rows r c)

@@ -1,0 +1,331 @@
+//! The grid of styled cells that a report is drawn into.
+//!
+//! A grid has rows, and a row has cells, both counted from 0. What is written beyond a row's end,
+//! or below the last row, makes the row longer and adds rows, as far as needed and no farther.
+
+ghost use Rattle.std.specs.Prelude.{◌≡◌, ◌+◌, ◌-◌, ◌^◌, ◌<◌, ◌≤◌, List, [], ◌∷◌, ◌++◌, length, map, replicate, IfOk, OnOk, OnErr, IsOk, vec_len, string_bytes, encode_utf8_all};
+ghost use Rattle.snippet_style.specs.Grid.{SPACE, drawn, written, row_at, cells_written, WritesCells};
+ghost use Rattle.std.specs.Str.{chars};
+ghost use Rattle.snippet_style.specs.GridView.{cells_of, rows_of, lengthened};
+ghost use Rattle.snippet_style.specs.Print as spec;
+
+use crate::print::print_rows;
+use crate::role::ElementStyle;
+use std::alloc::{AllocError, Global};
+use std::marker::Model;
+
+/// The most rows that a grid may have.
+const MAX_ROWS: usize = (1 << 60) - 1;
+
+/// A cell: its character, its role, and the URL of the linked text that it belongs to.
+#[derive(Clone, Copy)]
+pub(crate) struct StyledChar<'a> {
+    pub(crate) ch: char,
+    role: ElementStyle,
+    link: Option<&'a str>,
+}
+
+impl StyledChar<'static> {
+    /// What fills a row up.
+    const SPACE: StyledChar<'static> = StyledChar {
+        ch: ' ',
+        role: ElementStyle::NoStyle,
+        link: None,
+    };
+}
+
+/// A grid of styled cells. It has no row at first.
+///
+/// Rows and cells are numbered from 0, and each character takes one cell. A call that fails for
+/// want of memory leaves the grid as it was.
+#[derive(Drop)]
+pub struct StyledBuffer<'a> {
+    rows: Vec<Vec<StyledChar<'a>>>,
+    alloc: Global,
+}
+
+impl<'a> Model for StyledBuffer<'a> {
+    ghost use Rattle.std.specs.Prelude.{◌^◌, ◌<◌, List, vec_len};
+    ghost use Rattle.snippet_style.specs.Grid.{Cell};
+    ghost use Rattle.snippet_style.specs.GridView.{rows_of};
+
+    ghost Value = { List (List Cell) };
+
+    ghost view = { λ buffer. rows_of buffer.rows.items };
+
+    ghost invariant = { λ buffer. vec_len buffer.rows < 2 ^ 60 };
+}
+
+impl<'a> StyledBuffer<'a> {
+    /// A grid with no rows.
+    pub fn new(alloc: Global) -> Self
+        ensures empty { result ≡ [] }
+    {
+        StyledBuffer {
+            rows: Vec::new(alloc),
+            alloc,
+        }
+    }
+
+    /// How many rows there are.
+    pub fn num_lines(&self) -> usize
+        ensures count { result ≡ length self.now }
+        ensures small { result < 2 ^ 60 }
+    {
+        self.rows.len()
+    }
+
+    /// Writes a character at this cell of this row.
+    ///
+    /// # Errors
+    ///
+    /// There is no memory for the row or its cells.
+    pub fn putc(
+        &mut self,
+        row: usize,
+        cell: usize,
+        ch: char,
+        role: ElementStyle,
+    ) -> Result<(), AllocError>
+        requires row { row + 1 < 2 ^ 64 }
+        requires end { cell + 1 < 2 ^ 64 }
+        ensures ok { OnOk result
+            (self.new ≡ cells_written self.old row cell (drawn role (ch ∷ []))) }
+        ensures reads { OnOk result
+            (WritesCells self.old self.new row cell (drawn role (ch ∷ []))) }
+        ensures err { OnErr result (self.new ≡ self.old) }
+    {
+        write_char(self.alloc, &mut self.rows, row, cell, ch, role)
+    }
+
+    /// Writes a text in this row, from this cell on, one cell for each character. An empty text
+    /// does nothing: it makes no row.
+    ///
+    /// # Errors
+    ///
+    /// There is no memory for the row or its cells.
+    pub fn puts(
+        &mut self,
+        row: usize,
+        cell: usize,
+        text: &str,
+        role: ElementStyle,
+    ) -> Result<(), AllocError>
+        requires row { row + 1 < 2 ^ 64 }
+        requires end { cell + length (chars text.now) < 2 ^ 64 }
+        ensures ok { OnOk result (0 < length text.now
+            → self.new ≡ cells_written self.old row cell (drawn role (chars text.now))) }
+        ensures reads { OnOk result (0 < length text.now
+            → WritesCells self.old self.new row cell (drawn role (chars text.now))) }
+        ensures empty { text.now ≡ [] → self.new ≡ self.old }
+        ensures empty_succeeds { text.now ≡ [] → IsOk result }
+        ensures err { OnErr result (self.new ≡ self.old) }
+    {
+        if text.is_empty() {
+            return Ok(());
+        }
+        write_text(self.alloc, &mut self.rows, row, cell, text, role)
+    }
+
+    /// Writes a text in this row, behind its last cell, one cell for each character. An empty text
+    /// does nothing: it makes no row.
+    ///
+    /// # Errors
+    ///
+    /// There is no memory for the row or its cells.
+    pub fn append(&mut self, row: usize, text: &str, role: ElementStyle) -> Result<(), AllocError>
+        requires row { row + 1 < 2 ^ 64 }
+        ensures ok { OnOk result (0 < length text.now
+            → (let end = length (row_at self.old row) in
+            self.new ≡ cells_written self.old row end (drawn role (chars text.now)))) }
+        ensures reads { OnOk result (0 < length text.now
+            → (let end = length (row_at self.old row) in
+            WritesCells self.old self.new row end (drawn role (chars text.now)))) }
+        ensures empty { text.now ≡ [] → self.new ≡ self.old }
+        ensures empty_succeeds { text.now ≡ [] → IsOk result }
+        ensures err { OnErr result (self.new ≡ self.old) }
+    {
+        let end = row_len(&self.rows, row);
+        self.puts(row, end, text, role)
+    }
+
+    /// The characters of the rows, joined by line feeds, without any style.
+    ///
+    /// # Errors
+    ///
+    /// There is no memory for the text.
+    pub fn plain_text(&self) -> Result<String, AllocError>
+        ensures text { IfOk result (λ t. string_bytes t ≡ encode_utf8_all (spec.plain_text self.now)) }
+    {
+        let mut text = String::new(self.alloc);
+        print_rows(&mut text, &self.rows)?;
+        Ok(text)
+    }
+}
+
+/// Fills a row up with spaces until it has `end` cells.
+fn lengthen<'a>(cells: &mut Vec<StyledChar<'a>>, end: usize) -> Result<(), AllocError>
+    ensures ok { OnOk result
+        (cells_of cells.new.items ≡ lengthened (cells_of cells.old.items) end) }
+    ensures err { OnErr result (cells_of cells.new.items ≡ cells_of cells.old.items) }
+{
+    if cells.len() < end {
+        cells.resize(end, StyledChar::SPACE)?;
+    }
+    Ok(())
+}
+
+/// Adds rows with no cells until there are `count`.
+fn add_rows<'a>(
+    alloc: Global,
+    rows: &mut Vec<Vec<StyledChar<'a>>>,
+    count: usize,
+) -> Result<(), AllocError>
+    ensures ok { OnOk result
+        (rows_of rows.new.items
+        ≡ rows_of rows.old.items ++ replicate (count - vec_len rows.old) []) }
+    ensures few { OnOk result (vec_len rows.old < 2 ^ 60 → vec_len rows.new < 2 ^ 60) }
+    ensures err { OnErr result (rows.new.items ≡ rows.old.items) }
+{
+    let len = rows.len();
+    if count <= len {
+        return Ok(());
+    }
+    rows.reserve(count - len)?;
+
+    // No memory holds so many rows, so the reserve has failed before. The test states it for the
+    // proof, since a `Vec` promises only a bound on its capacity that is above this one.
+    if count > MAX_ROWS {
+        return Err(AllocError);
+    }
+    for _ in len..count {
+        // There is room, so this does not fail.
+        rows.push(Vec::new(alloc))?;
+    }
+    Ok(())
+}
+
+/// Makes the row of this number `end` cells long, unless it is longer already.
+fn open_row<'a>(
+    alloc: Global,
+    rows: &mut Vec<Vec<StyledChar<'a>>>,
+    row: usize,
+    end: usize,
+) -> Result<(), AllocError>
+    requires row { row + 1 < 2 ^ 64 }
+    ensures ok { OnOk result
+        (let old = rows_of rows.old.items in
+        rows_of rows.new.items ≡ written [] old row (lengthened (row_at old row) end ∷ [])) }
+    ensures few { OnOk result (vec_len rows.old < 2 ^ 60 → vec_len rows.new < 2 ^ 60) }
+    ensures err { OnErr result (rows_of rows.new.items ≡ rows_of rows.old.items) }
+{
+    if row < rows.len() {
+        return lengthen(&mut rows[row], end);
+    }
+
+    // The row is made first: what fails then leaves the rows as they were.
+    let mut cells = Vec::new(alloc);
+    lengthen(&mut cells, end)?;
+    add_rows(alloc, rows, row + 1)?;
+    rows[row] = cells;
+    Ok(())
+}
+
+/// How many characters a text has.
+fn char_count(text: &str) -> usize
+    ensures value { result ≡ length (chars text.now) }
+{
+    text.chars().count()
+}
+
+/// Puts the characters of a text into a row that reaches past them.
+fn put_text<'a>(cells: &mut [StyledChar<'a>], at: usize, text: &str, role: ElementStyle)
+    requires room { at + length (chars text.now) ≤ length cells.old }
+    ensures value { cells_of cells.new
+        ≡ written SPACE (cells_of cells.old) at (drawn role (chars text.now)) }
+{
+    let mut to = at;
+    for ch in text.chars() {
+        cells[to] = StyledChar {
+            ch,
+            role,
+            link: None,
+        };
+        to += 1;
+    }
+}
+
+/// Writes a text that has a character into a row, from this cell on.
+fn write_text<'a>(
+    alloc: Global,
+    rows: &mut Vec<Vec<StyledChar<'a>>>,
+    row: usize,
+    at: usize,
+    text: &str,
+    role: ElementStyle,
+) -> Result<(), AllocError>
+    requires row { row + 1 < 2 ^ 64 }
+    requires end { at + length (chars text.now) < 2 ^ 64 }
+    ensures ok { OnOk result
+        (rows_of rows.new.items
+        ≡ cells_written (rows_of rows.old.items) row at (drawn role (chars text.now))) }
+    ensures few { OnOk result (vec_len rows.old < 2 ^ 60 → vec_len rows.new < 2 ^ 60) }
+    ensures err { OnErr result (rows_of rows.new.items ≡ rows_of rows.old.items) }
+{
+    open_row(alloc, rows, row, at + char_count(text))?;
+    put_text(&mut rows[row], at, text, role);
+    Ok(())
+}
+
+/// Writes one character into a row, at this cell.
+fn write_char<'a>(
+    alloc: Global,
+    rows: &mut Vec<Vec<StyledChar<'a>>>,
+    row: usize,
+    at: usize,
+    ch: char,
+    role: ElementStyle,
+) -> Result<(), AllocError>
+    requires row { row + 1 < 2 ^ 64 }
+    requires end { at + 1 < 2 ^ 64 }
+    ensures ok { OnOk result
+        (rows_of rows.new.items
+        ≡ cells_written (rows_of rows.old.items) row at (drawn role (ch ∷ []))) }
+    ensures few { OnOk result (vec_len rows.old < 2 ^ 60 → vec_len rows.new < 2 ^ 60) }
+    ensures err { OnErr result (rows_of rows.new.items ≡ rows_of rows.old.items) }
+{
+    open_row(alloc, rows, row, at + 1)?;
+    let cells = &mut rows[row];
+    cells[at] = StyledChar {
+        ch,
+        role,
+        link: None,
+    };
+    Ok(())
+}
+
+/// How many cells a row has, none where there is no such row.
+fn row_len<'a>(rows: &[Vec<StyledChar<'a>>], row: usize) -> usize
+    ensures value { result ≡ length (row_at (rows_of rows.now) row) }
+    ensures small { result < 2 ^ 63 }
+{
+    if row < rows.len() { rows[row].len() } else { 0 }
+}
+
+#[cfg(test)]
+mod tests {
+    use super::*;
+    use std::test::Fail;
+
+    #[test]
+    fn writes_where_memory_suffices(rt: HostRuntime) -> Result<(), Fail> {
+        let mut buffer = StyledBuffer::new(rt.alloc());
+        buffer.putc(1, 3, '^', ElementStyle::UnderlinePrimary)?;
+        buffer.puts(4, 2, "tèxt", ElementStyle::Quotation)?;
+        buffer.append(4, "label", ElementStyle::LabelPrimary)?;
+        buffer.append(6, "below", ElementStyle::NoStyle)?;
+        buffer.puts(8, 2, "", ElementStyle::NoStyle)?;
+        assert_eq!(rt; buffer.num_lines(), 7);
+        Ok(())
+    }
+}

@@ -1,0 +1,2 @@
+pub mod Normalized
+pub mod Width

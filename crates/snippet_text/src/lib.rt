@@ -1,0 +1,12 @@
+//! Text as the renderer sees it: listed characters and their replacements, widths in columns, and text that is
+//! borrowed until it has to be owned.
+#![tactic(auto)]
+
+mod limit;
+mod normalize;
+mod width;
+
+pub use limit::text_fits;
+pub use normalize::{normalize_untrusted_str, normalized};
+pub use std::borrow::CowStr;
+pub use width::{char_width, str_width};

@@ -1,0 +1,36 @@
+ghost use Rattle.std.specs.Prelude.{◌≡◌, ◌<◌, ◌≤◌, ◌^◌, ◌*◌, length, chars};
+ghost use Rattle.snippet_text.specs.Width as spec;
+
+use unicode_width::UnicodeWidthChar;
+
+/// The number of columns that a character takes: 4 for a tab, 1 for a character that is shown as one other, 0 for the
+/// zero width joiner, else what `unicode_width` says, or 1 where it says nothing.
+#[tactic(auto, unfolding(crate::specs::Width::char_width))]
+pub fn char_width(c: char) -> usize
+    ensures value { result ≡ spec.char_width c }
+    ensures bound { result ≤ 4 }
+{
+    match c {
+        '\t' => 4,
+        '\u{200d}' => 0,
+        '\0'..='\u{8}' | '\u{b}'..='\u{1f}' | '\u{7f}' => 1,
+        '\u{202a}'..='\u{202e}' | '\u{2066}'..='\u{2069}' => 1,
+        ' ' | '\u{2400}'..='\u{241f}' | '\u{2421}' | '\u{fffd}' => 1,
+        _ => c.width().unwrap_or(1),
+    }
+}
+
+/// The number of columns that a text takes: the sum of its characters' widths.
+///
+/// Sequences such as emoji and flags get no treatment of their own.
+pub fn str_width(text: &str) -> usize
+    requires fits { length text.now < 2 ^ 56 }
+    ensures value { result ≡ spec.width_of (chars text.now) }
+    ensures bound { result ≤ 4 * length text.now }
+{
+    let mut columns = 0;
+    for c in text.chars() {
+        columns += char_width(c);
+    }
+    columns
+}

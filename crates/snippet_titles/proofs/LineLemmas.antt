@@ -1,0 +1,44 @@
+-- What the lines of a text are where it is cut at its first line feed.
+use Rattle.std.proofs.Common.{◌≡◌, ◌≢◌, ℕ, ◌+◌, ◌<◌, ◌==◌, Bool, true, false, List, [], ◌∷◌, ◌++◌, length, map, get_or, refl, sym, ap, ◌∙◌, arith, encode_utf8_all}
+use Rattle.std.specs.List.{slice_split}
+use Rattle.std.specs.Str.{chars, IsUtf8}
+use Rattle.std.proofs.lemmas.Str.{encodes-chars}
+use Rattle.std.proofs.lemmas.Bool.Decides.{nat_tests}
+use Rattle.std.proofs.lemmas.List.{append_assoc}
+use Rattle.std.proofs.lemmas.List.Splits.{slice_split_none, slice_split_at}
+use Rattle.std.proofs.lemmas.List.Elements.{All-from_get_or}
+use Rattle.snippet_style.specs.Grid.{Cell}
+use Rattle.snippet_text.specs.Normalized.{norm}
+use Rattle.snippet_text.specs.Width.{width_of}
+use Rattle.snippet_model.specs.declared.level.Level.{Level}
+use Rattle.snippet_model.specs.Level.{name_of}
+use Rattle.snippet_titles.specs.Title.{first_row, further_row, rows_of_lines, title_lines, title_rows}
+
+-- the lines of a text, as bytes
+abbrev pub lines_at : List ℕ → List (List ℕ)
+lines_at text = slice_split (λ b. b == 10) text
+
+-- a text without a line feed is one line
+pub lines_at-one : (text : List ℕ) → ((i : ℕ) → i < length text → get_or text i 0 ≢ 10) → lines_at text ≡ text ∷ []
+lines_at-one text none = slice_split_none (λ b. b == 10) text (All-from_get_or (λ b. (b == 10) ≡ false) text 0 (λ i within. let other : get_or text i 0 ≢ 10 = none i within in grind (arith, nat_tests)))
+
+-- a line feed ends the first line
+pub lines_at-first : (text first rest : List ℕ) → text ≡ first ++ (10 ∷ rest) → ((i : ℕ) → i < length first → get_or first i 0 ≢ 10) → lines_at text ≡ first ∷ lines_at rest
+lines_at-first text first rest whole none =
+    ap lines_at whole ∙ slice_split_at (λ b. b == 10) first 10 rest (All-from_get_or (λ b. (b == 10) ≡ false) first 0 (λ i within. let other : get_or first i 0 ≢ 10 = none i within in grind (arith, nat_tests))) refl
+
+-- the rows of a text that is one line
+pub rows-one : (old new : List (List Cell)) (level : Level) (text : List ℕ) → lines_at text ≡ text ∷ [] → new ≡ old ++ first_row level (chars text) ∷ [] → new ≡ old ++ rows_of_lines level (map chars (lines_at text))
+rows-one old new level text one is =
+    is ∙ ap (λ (lines : List (List ℕ)). old ++ rows_of_lines level (map chars lines)) (sym one)
+
+-- the rows of a text of several lines
+pub rows-several : (old now new : List (List Cell)) (level : Level) (indent : ℕ) (text first rest : List ℕ) → lines_at text ≡ first ∷ lines_at rest → indent ≡ width_of (chars (name_of level)) + 2 → now ≡ old ++ first_row level (chars first) ∷ [] → new ≡ now ++ map (further_row indent) (map chars (lines_at rest)) → new ≡ old ++ rows_of_lines level (map chars (lines_at text))
+rows-several old now new level indent text first rest several by begun further =
+    further ∙ ap (λ (rows : List (List Cell)). rows ++ map (further_row indent) (map chars (lines_at rest))) begun ∙ append_assoc old (first_row level (chars first) ∷ []) (map (further_row indent) (map chars (lines_at rest))) ∙ ap (λ n. old ++ first_row level (chars first) ∷ map (further_row n) (map chars (lines_at rest))) by ∙ ap (λ (lines : List (List ℕ)). old ++ rows_of_lines level (map chars lines)) (sym several)
+
+-- the lines of a title are those of its normalised text
+pub title_rows-normalized : (level : Level) (text normalized : List ℕ) → IsUtf8 normalized → chars normalized ≡ norm (chars text) → rows_of_lines level (map chars (lines_at normalized)) ≡ title_rows level text
+unfolding title_rows title_lines
+title_rows-normalized level text normalized utf8 is =
+    ap (λ (bytes : List ℕ). rows_of_lines level (map chars (lines_at bytes))) (sym (encodes-chars normalized utf8) ∙ ap encode_utf8_all is)
