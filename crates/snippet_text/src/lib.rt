@@ -4,6 +4,8 @@
 
 mod limit;
 mod normalize;
+#[cfg(test)]
+mod tests;
 mod width;
 
 pub use limit::text_fits;

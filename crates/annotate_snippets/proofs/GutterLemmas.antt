@@ -1,0 +1,148 @@
+-- Why a line's number takes at most one cell more than the gutter has.
+use Rattle.std.proofs.Common.{◌≡◌, ◌≢◌, ℕ, zero, suc, ◌+◌, ◌-◌, ◌/◌, ◌<◌, ◌≤◌, ◌^◌, max, ◌==◌, ◌&&◌, not, nat_lt, Bool, true, false, cond, List, [], ◌∷◌, ◌++◌, All, length, take, map, fold, count_by, get_or, replicate, refl, sym, ap, ◌∙◌, arith}
+use Rattle.std.specs.Cow.{cow_str_bytes}
+use Rattle.std.specs.Fmt.{decimal}
+use Rattle.std.proofs.lemmas.List.{take-take, length-append, length-replicate}
+use Rattle.std.proofs.Math.Seq.{take-append_seam}
+use Rattle.std.proofs.lemmas.List.Sums.{sum_by-append, sum_by-take-le}
+use Rattle.std.proofs.lemmas.List.Elements.{All-nil, All-cons, All-head, All-tail}
+use Rattle.std.proofs.lemmas.Bool.Decides.{nat_tests}
+use Rattle.snippet_model.specs.declared.snippet.Snippet.{Snippet}
+use Rattle.snippet_model.specs.declared.snippet.Annotation.{Annotation}
+use Rattle.snippet_parts.specs.declared.lines.EndLine.{EndLine}
+use Rattle.snippet_parts.specs.declared.lines.EndLine.TheVariants.{Eof, Lf, Crlf}
+use Rattle.snippet_parts.specs.declared.entries.AnnotatedLineInfo.{AnnotatedLineInfo}
+use Rattle.snippet_parts.specs.Lines.{Line, AreLines, joined, line_bytes, is_lf, last_byte, newline_count, source_lines, start_of}
+use Rattle.snippet_parts.specs.Place.{line_of}
+use Rattle.snippet_parts.specs.Span.{IsSpan}
+use Rattle.snippet_parts.specs.Prepare.{greatest_end, counted_number, reached_source}
+use Rattle.snippet_parts.specs.Marked.{first_line, greatest_line, seen_line, marked_lines}
+use Rattle.snippet_parts.proofs.LinesLemmas.{joined-source_lines, AreLines-lines_of, split_at_line, length-source_lines}
+use Rattle.snippet_parts.proofs.CountLemmas.{newline_count-take}
+use Rattle.snippet_parts.proofs.PlaceLemmas.{HoldsByte-source, line_of-within}
+use Rattle.snippet_parts.proofs.MarkedLemmas.{length-marked_lines, marked_lines-number, greatest_line-within}
+use Rattle.snippet_strokes.specs.Rows.{shown_number}
+use Rattle.snippet_strokes.proofs.NumberLemmas.{length-decimal_monotone, length-decimal_more, length-decimal_last}
+use Rattle.annotate_snippets.specs.Covered.{gutter_of}
+use Rattle.annotate_snippets.specs.Drawn.{numbered_source}
+
+-- how many line feeds some bytes hold
+abbrev feeds : List ℕ → ℕ
+feeds bytes = count_by is_lf bytes
+
+feeds-append : (xs ys : List ℕ) → feeds (xs ++ ys) ≡ feeds xs + feeds ys
+feeds-append xs ys = sum_by-append (λ b. cond (is_lf b) 1 0) xs ys
+
+-- a line that isn't the last holds one
+feeds-line : (text : List ℕ) (ending : EndLine) → ending ≢ Eof → 1 ≤ feeds (line_bytes (text, ending))
+feeds-line text Eof more_follows = absurd (more_follows refl)
+feeds-line text Lf more_follows = let one : feeds (10 ∷ []) ≡ 1 = refl in omega (arith, feeds-append text (10 ∷ []))
+feeds-line text Crlf more_follows = let one : feeds (13 ∷ 10 ∷ []) ≡ 1 = refl in omega (arith, feeds-append text (13 ∷ 10 ∷ []))
+
+-- so k lines before another hold at least k
+feeds-lines : (ls : List Line) (k : ℕ) → AreLines ls → k < length ls → k ≤ feeds (joined (take k ls))
+feeds-lines ls zero are within = omega arith
+feeds-lines [] (suc k) are within = absurd (omega arith)
+feeds-lines (l ∷ ls) (suc k) are within =
+    let more : k < length ls = omega arith in
+    let rest : k ≤ feeds (joined (take k ls)) = feeds-lines ls k are.2 more in
+    let closed : l.1 ≢ Eof = λ is. absurd (omega (arith, ap length (are.1 is).1)) in
+    omega (arith, feeds-line l.0 l.1 closed, feeds-append (line_bytes l) (joined (take k ls)))
+
+-- before the byte of a source that stands on line k, at least k line feeds stand
+feeds-before : (source : List ℕ) (b e : ℕ) → b ≤ e → line_of (source_lines source) b ≤ feeds (take e source)
+unfolding start_of
+feeds-before [] b e within = let one : line_of (([], Eof) ∷ []) b < 1 = line_of-within [] b in omega arith
+feeds-before (x ∷ xs) b e within =
+    let source : List ℕ = x ∷ xs in
+    let ls : List Line = source_lines source in
+    let k : ℕ = line_of ls b in
+    let start : ℕ = length (joined (take k ls)) in
+    let inside = HoldsByte-source source b in
+    let before : k ≤ feeds (joined (take k ls)) = feeds-lines ls k (AreLines-lines_of source) inside.within in
+    let whole : joined ls ≡ source = joined-source_lines source in
+    let front : take start source ≡ joined (take k ls) = ap (λ bytes. take start bytes) (sym whole ∙ split_at_line ls k ([], Eof) inside.within) ∙ take-append_seam (joined (take k ls)) _ in
+    let early : start ≤ e = omega (arith, inside.from) in
+    let cut : take start (take e source) ≡ take start source = take-take start e source early in
+    let fewer : feeds (take start (take e source)) ≤ feeds (take e source) = sum_by-take-le (λ c. cond (is_lf c) 1 0) (take e source) start in
+    omega (arith, ap feeds (cut ∙ front))
+
+-- so its line's number from 0 is at most one more than the newlines counted up to there
+pub first_line-counted : (source : List ℕ) (b e : ℕ) → b ≤ e → line_of (source_lines source) b ≤ newline_count (take e source) + 1
+unfolding newline_count
+first_line-counted source b e within =
+    let one : (t : Bool) → cond t 1 0 ≤ 1 = λ t. elim t as (λ v. cond v 1 0 ≤ 1) [ true ↦ omega arith | false ↦ omega arith ] in
+    omega (arith, one (last_byte (take e source) == 10), feeds-before source b e within)
+
+-- the greatest end is that of no annotation less
+fold-end-ge : (marks : List Annotation) (m : ℕ) → m ≤ fold (λ end (a : Annotation). max a.span.end end) m marks
+fold-end-ge [] m = omega arith
+fold-end-ge (a ∷ marks) m = omega (arith, fold-end-ge marks (max a.span.end m))
+
+fold-ends : (marks : List Annotation) (m : ℕ) → All (λ (a : Annotation). a.span.end ≤ fold (λ end (b : Annotation). max b.span.end end) m marks) marks
+fold-ends [] m = All-nil (λ (a : Annotation). a.span.end ≤ m)
+fold-ends (a ∷ marks) m =
+    All-cons (λ (b : Annotation). b.span.end ≤ fold (λ end (c : Annotation). max c.span.end end) (max a.span.end m) marks) a marks (omega (arith, fold-end-ge marks (max a.span.end m))) (fold-ends marks (max a.span.end m))
+
+-- a greatest line is at most what each line is at most
+fold-max-le : (source : List ℕ) (n : ℕ) (marks : List Annotation) (m : ℕ) → m ≤ n → All (λ a. first_line source a ≤ n) marks → fold (λ line (a : Annotation). max line (first_line source a)) m marks ≤ n
+fold-max-le source n [] m low all = low
+fold-max-le source n (a ∷ marks) m low all =
+    let here : first_line source a ≤ n = All-head (λ b. first_line source b ≤ n) a marks all in
+    fold-max-le source n marks (max m (first_line source a)) (omega arith) (All-tail (λ b. first_line source b ≤ n) a marks all)
+
+-- each line that a span starts on has a number at most one more than the number counted for the gutter
+lines-counted : (s : Snippet Annotation) → All (λ a. IsSpan (cow_str_bytes s.source) a.span.start a.span.end) s.markers.items → All (λ a. first_line (cow_str_bytes s.source) a ≤ newline_count (reached_source s) + 1) s.markers.items
+lines-counted s spans = λ k d within.
+    let source : List ℕ = cow_str_bytes s.source in
+    let marks : List Annotation = s.markers.items in
+    let span = spans k d within in
+    let ends : (get_or marks k d).span.end ≤ greatest_end marks = fold-ends marks 0 k d within in
+    let folded : first_line source (get_or marks k d) ≤ newline_count (take (greatest_end marks) source) + 1 = first_line-counted source (get_or marks k d).span.start (greatest_end marks) (omega (arith, span.ordered)) in
+    let unfolded : first_line source (get_or marks k d) ≤ newline_count source + 1 = omega (arith, line_of-within source (get_or marks k d).span.start, length-source_lines source) in
+    elim (s.fold && not (length marks == 0)) as (λ b. first_line source (get_or marks k d) ≤ newline_count (cond b (take (greatest_end marks) source) source) + 1) [
+      | true ↦ folded
+      | false ↦ unfolded
+    ]
+
+-- so each marked line's number is at most one more than that
+pub numbers-counted : (s : Snippet Annotation) (infos : List AnnotatedLineInfo) → map seen_line infos ≡ marked_lines (numbered_source s) s.markers.items → All (λ a. IsSpan (cow_str_bytes s.source) a.span.start a.span.end) s.markers.items → All (λ info. info.line_index ≤ counted_number s + 1) infos
+numbers-counted s infos lines spans = λ i d within.
+    let source : List ℕ = cow_str_bytes s.source in
+    let marks : List Annotation = s.markers.items in
+    let highest : greatest_line source marks ≤ newline_count (reached_source s) + 1 = fold-max-le source (newline_count (reached_source s) + 1) marks 0 (omega arith) (lines-counted s spans) in
+    omega (arith, marked_lines-number (numbered_source s) marks infos lines i d within, length-marked_lines (numbered_source s) marks infos lines)
+
+-- and fits, since it is that of a line
+pub numbers-small : (s : Snippet Annotation) (infos : List AnnotatedLineInfo) → map seen_line infos ≡ marked_lines (numbered_source s) s.markers.items → s.line_start + length (source_lines (cow_str_bytes s.source)) < 2 ^ 64 → All (λ info. info.line_index < 2 ^ 64) infos
+numbers-small s infos lines fits = λ i d within.
+    omega (arith, marked_lines-number (numbered_source s) s.markers.items infos lines i d within, length-marked_lines (numbered_source s) s.markers.items infos lines, greatest_line-within (cow_str_bytes s.source) s.markers.items)
+
+-- a number one greater has at most one digit more
+length-decimal-step : (m n : ℕ) → m ≤ n + 1 → m < 2 ^ 64 → n < 2 ^ 64 → length (decimal m) ≤ length (decimal n) + 1
+length-decimal-step m n near small fits = by_cases (nat_lt m 10) refl
+  where
+    by_cases : (t : Bool) → nat_lt m 10 ≡ t → length (decimal m) ≤ length (decimal n) + 1
+    by_cases true is = let low : m < 10 = grind (arith, nat_tests) in omega (arith, length-decimal_last m low small)
+    by_cases false is =
+        let high : 10 ≤ m = grind (arith, nat_tests) in
+        let tenth : m / 10 ≤ n = omega arith in
+        omega (arith, length-decimal_more m high small, length-decimal_monotone (m / 10) n tenth fits)
+
+-- what the gutter shows for such a number takes at most one cell more than the gutter has
+pub shown-fits : (s : Snippet Annotation) (gutter number : ℕ) → gutter ≡ gutter_of s → number ≤ counted_number s + 1 → number < 2 ^ 64 → counted_number s < 2 ^ 64 → length (shown_number s.line_numbering gutter number) ≤ gutter + 1
+shown-fits s gutter number is near small fits = by_cases s.line_numbering refl
+  where
+    by_cases : (numbered : Bool) → s.line_numbering ≡ numbered → length (shown_number numbered gutter number) ≤ gutter + 1
+    by_cases true on =
+        let wide : gutter ≡ length (decimal (counted_number s)) = is ∙ ap (λ b. cond b (length (decimal (counted_number s))) 0) on in
+        omega (arith, length-append (replicate (gutter - length (decimal number)) 32) (decimal number), length-replicate {A = ℕ} (gutter - length (decimal number)) 32, length-decimal-step number (counted_number s) near small fits)
+    by_cases false off = omega (arith, length-replicate {A = ℕ} gutter 32)
+
+-- the number counted for the gutter fits, where those of the lines do
+pub counted-small : (s : Snippet Annotation) → s.line_start + length (source_lines (cow_str_bytes s.source)) < 2 ^ 64 → counted_number s < 2 ^ 64
+counted-small s fits =
+    let source : List ℕ = cow_str_bytes s.source in
+    let folded : newline_count (take (greatest_end s.markers.items) source) ≤ newline_count source + 1 = newline_count-take source (greatest_end s.markers.items) in
+    let low : newline_count (reached_source s) ≤ newline_count source + 1 = elim (s.fold && not (length s.markers.items == 0)) as (λ b. newline_count (cond b (take (greatest_end s.markers.items) source) source) ≤ newline_count source + 1) [ true ↦ folded | false ↦ omega arith ] in
+    omega (arith, length-source_lines source)

@@ -1,0 +1,131 @@
+-- Which reports are drawn so far; any other is refused as not done yet.
+use Rattle.std.specs.Prelude.{◌≡◌, ℕ, ◌+◌, ◌-◌, ◌==◌, Bool, true, false, not, ◌&&◌, ◌||◌, nat_le, List, [], ◌∷◌, Option, Some, None, is_none, length, count_by, chars, if◌then◌else◌}
+use Rattle.std.specs.List.{list_all, list_any}
+use Rattle.std.specs.Cow.{cow_str_bytes}
+use Rattle.std.specs.Fmt.{decimal}
+use Rattle.snippet_text.specs.Width.{width_of}
+use Rattle.snippet_style.specs.Stylesheet.{is_plain_sheet}
+use Rattle.snippet_style.specs.declared.glyphs.DecorStyle.{DecorStyle}
+use Rattle.snippet_style.specs.declared.glyphs.DecorStyle.TheVariants.{Ascii, Unicode}
+use Rattle.snippet_model.specs.declared.level.LevelName.{LevelName}
+use Rattle.snippet_model.specs.declared.level.LevelName.TheVariants.{Standard, Hidden, Own}
+use Rattle.snippet_model.specs.declared.snippet.Title.{Title}
+use Rattle.snippet_model.specs.declared.snippet.Group.{Group}
+use Rattle.snippet_model.specs.declared.snippet.Snippet.{Snippet}
+use Rattle.snippet_model.specs.declared.snippet.Annotation.{Annotation}
+use Rattle.snippet_model.specs.declared.snippet.AnnotationKind.{AnnotationKind}
+use Rattle.snippet_model.specs.declared.snippet.AnnotationKind.TheVariants.{Primary, Context, Visible}
+use Rattle.snippet_model.specs.declared.snippet.Element.{Element}
+use Rattle.snippet_model.specs.declared.snippet.Element.TheVariants.{Message, Cause, Suggestion, Origin, Padding}
+use Rattle.snippet_parts.specs.Lines.{source_lines, text_at, start_of}
+use Rattle.snippet_parts.specs.Place.{line_of, place_of}
+use Rattle.snippet_parts.specs.Prepare.{counted_number}
+use Rattle.snippet_parts.specs.Window.{leading_whitespace}
+use Rattle.annotate_snippets.specs.declared.renderer.Renderer.{Renderer}
+
+-- the byte at which the line begins on which a byte stands, and the one at which the line behind it does
+abbrev pub line_begin : List ℕ → ℕ → ℕ
+line_begin source byte = start_of (source_lines source) (line_of (source_lines source) byte)
+
+abbrev pub line_finish : List ℕ → ℕ → ℕ
+line_finish source byte = start_of (source_lines source) (line_of (source_lines source) byte + 1)
+
+-- the characters of the line on which a byte stands
+abbrev pub line_chars : List ℕ → ℕ → List ℕ
+line_chars source byte = chars (text_at (source_lines source) (line_of (source_lines source) byte))
+
+abbrev pub is_marking : AnnotationKind → Bool
+is_marking Primary = true
+is_marking Context = true
+is_marking Visible = false
+
+-- the span starts and ends on one line
+abbrev pub stands_on_one_line : List ℕ → Annotation → Bool
+stands_on_one_line source a =
+    line_of (source_lines source) a.span.end == line_of (source_lines source) a.span.start
+
+-- no other span starts on its line
+abbrev pub stands_alone : List ℕ → List Annotation → Annotation → Bool
+stands_alone source marks a =
+    count_by (λ b. line_begin source b.span.start == line_begin source a.span.start) marks == 1
+
+-- its line is the first that is marked, or begins where another marked line ends
+abbrev pub follows_on : List ℕ → List Annotation → Annotation → Bool
+follows_on source marks a =
+    list_all (λ b. nat_le (line_begin source a.span.start) (line_begin source b.span.start)) marks || list_any (λ b. line_finish source b.span.start == line_begin source a.span.start) marks
+
+-- an annotation that is drawn so far: a mark without label, of one line that no other marks
+abbrev pub is_covered_annotation : List ℕ → List Annotation → Annotation → Bool
+is_covered_annotation source marks a =
+    is_marking a.kind && is_none a.label && not a.highlight_source && stands_on_one_line source a && stands_alone source marks a && follows_on source marks a
+
+-- the width is known and at most 26, up to which nothing is cut from the left
+abbrev pub is_near : Option ℕ → Bool
+is_near None = false
+is_near (Some columns) = nat_le columns 26
+
+-- the marked lines aren't cut from the left: a span or a line begins within the first 26 columns, or all are blank
+abbrev pub is_near_left : List ℕ → List Annotation → Bool
+is_near_left source marks =
+    list_any (λ a. nat_le (place_of source a.span.start).column 26) marks || list_any (λ a. is_near (leading_whitespace (line_chars source a.span.start))) marks || list_all (λ a. is_none (leading_whitespace (line_chars source a.span.start))) marks
+
+-- each marked line stands whole in a room of this many columns
+abbrev pub stand_whole : ℕ → List ℕ → List Annotation → Bool
+stand_whole room source marks =
+    list_all (λ a. nat_le (width_of (line_chars source a.span.start)) room) marks && is_near_left source marks
+
+-- the gutter's width: that of the greatest line number counted, or 0 where lines aren't numbered
+abbrev pub gutter_of : Snippet Annotation → ℕ
+gutter_of s = if s.line_numbering then length (decimal (counted_number s)) else 0
+
+-- a snippet that is drawn so far: no path, folded, at least one mark, each covered, and all lines whole
+abbrev pub is_covered_snippet : ℕ → Snippet Annotation → Bool
+is_covered_snippet width s =
+    is_none s.path && s.fold && not (length s.markers.items == 0) && list_all (is_covered_annotation (cow_str_bytes s.source) s.markers.items) s.markers.items && stand_whole (width - (gutter_of s + 3)) (cow_str_bytes s.source) s.markers.items
+
+abbrev pub is_standard : LevelName → Bool
+is_standard Standard = true
+is_standard Hidden = false
+is_standard (Own name) = false
+
+-- a title that is drawn so far: a primary one of a standard level, without an id
+abbrev pub is_covered_title : Title → Bool
+is_covered_title title = is_standard title.level.name && is_none title.id && not title.allows_styling
+
+abbrev pub is_ascii : DecorStyle → Bool
+is_ascii Ascii = true
+is_ascii Unicode = false
+
+-- a renderer that draws so far: a plain one, of any width
+abbrev pub is_plain : Renderer → Bool
+is_plain r =
+    is_ascii r.decor_style && is_plain_sheet r.stylesheet && not (r.anonymized_origin_line_numbers || r.anonymized_snippet_line_numbers || r.hyperlink || r.short_message || r.no_graphics)
+
+-- elements under a title, as this renderer draws them so far: one annotated snippet
+abbrev pub are_covered_elements : Renderer → Title → List Element → Bool
+are_covered_elements r title [] = false
+are_covered_elements r title (Message message ∷ es) = false
+are_covered_elements r title (Cause snippet ∷ []) =
+    is_plain r && is_covered_title title && is_covered_snippet r.term_width snippet
+are_covered_elements r title (Cause snippet ∷ e ∷ es) = false
+are_covered_elements r title (Suggestion snippet ∷ es) = false
+are_covered_elements r title (Origin origin ∷ es) = false
+are_covered_elements r title (Padding padding ∷ es) = false
+
+-- a group, as this renderer draws it so far: one with a title
+abbrev pub is_covered_group : Renderer → Option Title → List Element → Bool
+is_covered_group r None es = false
+is_covered_group r (Some title) es = are_covered_elements r title es
+
+-- whether this renderer draws a report so far: one group
+abbrev pub is_covered : Renderer → List Group → Bool
+is_covered r [] = false
+is_covered r (g ∷ []) = is_covered_group r g.title g.elements.items
+is_covered r (g ∷ h ∷ gs) = false
+
+-- a report of one group, of this title and this annotated snippet
+pub record IsReportOf (title : Title) (snippet : Snippet Annotation) (groups : List Group) : Type 0 where
+  pub group : Group
+  pub groups_are : groups ≡ group ∷ []
+  pub title_is : group.title ≡ Some title
+  pub elements_are : group.elements.items ≡ Cause snippet ∷ []

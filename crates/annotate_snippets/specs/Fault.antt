@@ -1,0 +1,71 @@
+-- The faults of a report, in the order in which they are looked for.
+use Rattle.std.specs.Prelude.{ℕ, ◌+◌, ◌^◌, List, [], ◌∷◌, ◌++◌, Option, Some, None, is_some, length, sum_by, count_by, nat_lt, ◌==◌, if◌then◌else◌}
+use Rattle.std.specs.Option.{option_map, option_to_list}
+use Rattle.std.specs.Cow.{cow_str_bytes}
+use Rattle.std.specs.declared.ops.Range.{Range}
+use Rattle.snippet_model.specs.declared.snippet.Group.{Group}
+use Rattle.snippet_model.specs.declared.snippet.Patch.{Patch}
+use Rattle.snippet_model.specs.declared.snippet.Element.{Element}
+use Rattle.snippet_model.specs.declared.snippet.Element.TheVariants.{Message, Cause, Suggestion, Origin, Padding}
+use Rattle.snippet_parts.specs.Lines.{source_lines}
+use Rattle.snippet_parts.specs.Span.{span_fault}
+use Rattle.snippet_parts.specs.declared.span.SpanFault.{SpanFault}
+use Rattle.snippet_parts.specs.declared.span.SpanFault.TheVariants.{Reversed, PastEnd, OffBoundary}
+use Rattle.annotate_snippets.specs.declared.renderer.error.RenderError.{RenderError}
+use Rattle.annotate_snippets.specs.declared.renderer.error.RenderError.TheVariants.{SpanReversed, SpanPastEnd, SpanOffBoundary, LineNumberTooLarge}
+
+-- the refusal that names a fault of this marker
+abbrev pub refusal_of : ℕ → ℕ → ℕ → SpanFault → RenderError
+refusal_of group element marker Reversed = SpanReversed group element marker
+refusal_of group element marker PastEnd = SpanPastEnd group element marker
+refusal_of group element marker OffBoundary = SpanOffBoundary group element marker
+
+-- the refusals of a marker's span: one, or none
+abbrev pub span_faults : ℕ → ℕ → List ℕ → ℕ → Range ℕ → List RenderError
+span_faults group element source marker span =
+    option_to_list (option_map (refusal_of group element marker) (span_fault source span.start span.end))
+
+-- the refusals of some things, numbered from n on, where f gives those of one
+abbrev pub faults_from : {X : Type 0} → (ℕ → X → List RenderError) → ℕ → List X → List RenderError
+faults_from f n [] = []
+faults_from f n (x ∷ xs) = f n x ++ faults_from f (n + 1) xs
+
+-- the refusal of a snippet for which this number has to fit: one, or none
+abbrev pub number_faults : ℕ → ℕ → ℕ → List RenderError
+number_faults group element number =
+    if nat_lt number (2 ^ 64) then [] else LineNumberTooLarge group element ∷ []
+
+-- the same where the number is missing if it doesn't fit
+abbrev pub end_faults : ℕ → ℕ → Option ℕ → List RenderError
+end_faults group element end = if is_some end then [] else LineNumberTooLarge group element ∷ []
+
+-- the number behind that of a source's last line
+abbrev pub number_behind : ℕ → List ℕ → ℕ
+number_behind line_start source = line_start + length (source_lines source)
+
+-- how many lines some patches may add: the line feeds of their replacements
+abbrev pub added_lines : List Patch → ℕ
+added_lines patches = sum_by (λ p. count_by (λ b. b == 10) (cow_str_bytes p.replacement)) patches
+
+-- the refusals of an element: those of its spans in order, then that of its line numbers
+abbrev pub element_faults : ℕ → ℕ → Element → List RenderError
+element_faults group element (Cause snippet) =
+    faults_from (λ n a. span_faults group element (cow_str_bytes snippet.source) n a.span) 0 snippet.markers.items ++ number_faults group element (number_behind snippet.line_start (cow_str_bytes snippet.source))
+element_faults group element (Suggestion snippet) =
+    faults_from (λ n p. span_faults group element (cow_str_bytes snippet.source) n p.span) 0 snippet.markers.items ++ number_faults group element (number_behind snippet.line_start (cow_str_bytes snippet.source) + added_lines snippet.markers.items)
+element_faults group element (Message message) = []
+element_faults group element (Origin origin) = []
+element_faults group element (Padding padding) = []
+
+-- the refusals of a group's elements
+abbrev pub group_faults : ℕ → Group → List RenderError
+group_faults group g = faults_from (element_faults group) 0 g.elements.items
+
+-- the first of some refusals
+abbrev pub first_of : List RenderError → Option RenderError
+first_of [] = None
+first_of (fault ∷ faults) = Some fault
+
+-- the refusal of a report for what it holds, where there is one: the first in order
+unfoldable pub first_fault : List Group → Option RenderError
+first_fault groups = first_of (faults_from group_faults 0 groups)

@@ -1,0 +1,4 @@
+pub mod Covered
+pub mod Drawn
+pub mod Fault
+pub mod Settings

@@ -1,0 +1,3 @@
+//! Levels, and their constants.
+
+pub use snippet_model::level::{ERROR, HELP, INFO, Level, LevelName, NOTE, WARNING};

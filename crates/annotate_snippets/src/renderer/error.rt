@@ -1,0 +1,59 @@
+//! Why a report is refused.
+
+use std::alloc::AllocError;
+use thiserror::Error;
+
+/// Why a report gives no text.
+///
+/// Groups, elements and markers are numbered from 0; a marker is an annotation or a patch. Of several faults the first
+/// is named: groups, elements and markers in order, and an element's line numbers after its markers.
+#[derive(Debug, Drop, Error)]
+pub enum RenderError {
+    /// The short form was asked for, and the report is empty.
+    #[error("a short message needs a group")]
+    NoGroup,
+    /// The short form was asked for, and the first group has no title.
+    #[error("a short message needs a title")]
+    NoTitle,
+    /// A span starts behind its end.
+    #[error("group {group}, element {element}, marker {marker}: span is reversed")]
+    SpanReversed {
+        group: usize,
+        element: usize,
+        marker: usize,
+    },
+    /// A span ends more than one byte behind the source.
+    #[error("group {group}, element {element}, marker {marker}: span ends past the source")]
+    SpanPastEnd {
+        group: usize,
+        element: usize,
+        marker: usize,
+    },
+    /// A span starts or ends inside a character.
+    #[error("group {group}, element {element}, marker {marker}: span is off a character border")]
+    SpanOffBoundary {
+        group: usize,
+        element: usize,
+        marker: usize,
+    },
+    /// Two patches of a snippet overlap.
+    #[error("group {group}, element {element}: markers {first} and {second} overlap")]
+    PatchesOverlap {
+        group: usize,
+        element: usize,
+        first: usize,
+        second: usize,
+    },
+    /// The number behind that of a snippet's last line doesn't fit in a `usize`.
+    #[error("group {group}, element {element}: line numbers are too large")]
+    LineNumberTooLarge {
+        group: usize,
+        element: usize,
+    },
+    /// A growth of memory was refused.
+    #[error("out of memory")]
+    Memory(AllocError),
+    /// The report uses a part of the library that isn't done yet.
+    #[error("not yet")]
+    NotYet,
+}

@@ -1,0 +1,7 @@
+//! The parts that reports are drawn with, public so that their contracts can be read.
+
+pub use snippet_parts::{
+    AnnotatedLineInfo, CursorLines, EndLine, LineAnnotation, LineAnnotationType, LineInfo, Loc,
+    SourceMap, SpanFault, check_span, newline_count,
+};
+pub use snippet_style::{ElementStyle, LevelInner, StyledBuffer};

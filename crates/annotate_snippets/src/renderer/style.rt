@@ -1,0 +1,3 @@
+//! Styles, and the sheet that gives each role its style.
+
+pub use snippet_style::{AnsiColor, Color, Effects, Style, Stylesheet};

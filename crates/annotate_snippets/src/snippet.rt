@@ -1,0 +1,9 @@
+//! What a report is made of.
+
+pub use snippet_model::snippet::{
+    Annotation, AnnotationKind, Element, Group, Id, Marker, Message, Origin, Padding, Patch,
+    Snippet, Title,
+};
+
+/// A report: its groups, in order.
+pub type Report<'a> = &'a [Group<'a>];

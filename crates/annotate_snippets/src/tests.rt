@@ -1,0 +1,236 @@
+ghost use Rattle.std.specs.Prelude.{◌^◌, ◌<◌, length};
+ghost use Rattle.snippet_model.specs.Fits.{SnippetFits, AnnotationFits};
+
+use crate::level::ERROR;
+use crate::renderer::RenderError;
+use crate::{Annotation, AnnotationKind, Element, Renderer, Snippet};
+use std::alloc::{AllocError, Global};
+use std::test::Fail;
+
+/// The text of an error with this title and this snippet.
+fn text(alloc: Global, title: &str, snippet: Snippet<Annotation>) -> Result<String, RenderError>
+    requires title { length title.now < 2 ^ 56 }
+    requires snippet { SnippetFits AnnotationFits snippet }
+{
+    let group = ERROR
+        .primary_title(title)
+        .element(alloc, Element::from(snippet))
+        .map_err(RenderError::Memory)?;
+    Renderer::plain().render(alloc, &[group])
+}
+
+#[test]
+fn draws_one_marked_line(rt: HostRuntime) -> Result<(), Fail> {
+    let snippet = Snippet::source(rt.alloc(), "let x = 1;\n").annotation(
+        AnnotationKind::Primary.span(4..5),
+    )?;
+    assert_eq!(rt;
+        text(rt.alloc(), "unused", snippet)?.as_str(),
+        "error: unused\n  |\n1 | let x = 1;\n  |     ^"
+    );
+    let snippet = Snippet::source(rt.alloc(), "").annotation(AnnotationKind::Primary.span(0..0))?;
+    assert_eq!(rt;
+        text(rt.alloc(), "e", snippet)?.as_str(),
+        "error: e\n  |\n1 |\n  | ^"
+    );
+    let snippet = Snippet::source(rt.alloc(), "ab").annotation(AnnotationKind::Primary.span(2..3))?;
+    assert_eq!(rt;
+        text(rt.alloc(), "e", snippet)?.as_str(),
+        "error: e\n  |\n1 | ab\n  |   ^"
+    );
+    Ok(())
+}
+
+#[test]
+fn draws_lines_that_follow_each_other(rt: HostRuntime) -> Result<(), Fail> {
+    let snippet = Snippet::source(rt.alloc(), "ab\ncd")
+        .annotation(AnnotationKind::Primary.span(0..1))?
+        .annotation(AnnotationKind::Context.span(3..5))?;
+    assert_eq!(rt;
+        text(rt.alloc(), "e", snippet)?.as_str(),
+        "error: e\n  |\n1 | ab\n  | ^\n2 | cd\n  | --"
+    );
+    Ok(())
+}
+
+#[test]
+fn draws_every_character(rt: HostRuntime) -> Result<(), Fail> {
+    let snippet = Snippet::source(rt.alloc(), "日本").annotation(AnnotationKind::Primary.span(3..6))?;
+    assert_eq!(rt;
+        text(rt.alloc(), "e", snippet)?.as_str(),
+        "error: e\n  |\n1 | 日本\n  |   ^^"
+    );
+    let snippet = Snippet::source(rt.alloc(), "\tx").annotation(AnnotationKind::Primary.span(
+        1..2,
+    ))?;
+    assert_eq!(rt;
+        text(rt.alloc(), "e", snippet)?.as_str(),
+        "error: e\n  |\n1 |     x\n  |     ^"
+    );
+    let snippet = Snippet::source(rt.alloc(), "a\r\nb").annotation(AnnotationKind::Primary.span(
+        3..4,
+    ))?;
+    assert_eq!(rt;
+        text(rt.alloc(), "e", snippet)?.as_str(),
+        "error: e\n  |\n2 | b\n  | ^"
+    );
+    let snippet = Snippet::source(rt.alloc(), "a\u{200d}b").annotation(AnnotationKind::Primary.span(
+        4..5,
+    ))?;
+    assert_eq!(rt;
+        text(rt.alloc(), "e", snippet)?.as_str(),
+        "error: e\n  |\n1 | ab\n  |  ^"
+    );
+    let snippet = Snippet::source(rt.alloc(), "e\u{301}x").annotation(AnnotationKind::Primary.span(
+        1..3,
+    ))?;
+    assert_eq!(rt;
+        text(rt.alloc(), "e", snippet)?.as_str(),
+        "error: e\n  |\n1 | e\u{301}x\n  |  ^"
+    );
+    let snippet = Snippet::source(rt.alloc(), "a\u{1b}b").annotation(AnnotationKind::Primary.span(
+        1..2,
+    ))?;
+    assert_eq!(rt;
+        text(rt.alloc(), "e", snippet)?.as_str(),
+        "error: e\n  |\n1 | a␛b\n  |  ^"
+    );
+    Ok(())
+}
+
+#[test]
+fn splits_titles_at_line_feeds(rt: HostRuntime) -> Result<(), Fail> {
+    let snippet = Snippet::source(rt.alloc(), "ab").annotation(AnnotationKind::Primary.span(0..1))?;
+    assert_eq!(rt;
+        text(rt.alloc(), "a\nb", snippet)?.as_str(),
+        "error: a\n       b\n  |\n1 | ab\n  | ^"
+    );
+    Ok(())
+}
+
+#[test]
+fn draws_the_greatest_line_number(rt: HostRuntime) -> Result<(), Fail> {
+    let snippet = Snippet::source(rt.alloc(), "a")
+        .line_start(usize::MAX - 1)
+        .annotation(AnnotationKind::Primary.span(0..1))?;
+    assert_eq!(rt;
+        text(rt.alloc(), "e", snippet)?.as_str(),
+        "error: e\n                     |\n18446744073709551614 | a\n                     | ^"
+    );
+    Ok(())
+}
+
+#[test]
+fn refuses_faulty_reports(rt: HostRuntime) -> Result<(), Fail> {
+    let snippet = Snippet::source(rt.alloc(), "ab").annotation(AnnotationKind::Primary.span(3..4))?;
+    assert!(rt;
+        matches!(
+            text(rt.alloc(), "e", snippet),
+            Err(RenderError::SpanPastEnd {
+                group: 0,
+                element: 0,
+                marker: 0
+            })
+        )
+    );
+    let snippet = Snippet::source(rt.alloc(), "é").annotation(AnnotationKind::Primary.span(1..2))?;
+    assert!(rt;
+        matches!(
+            text(rt.alloc(), "e", snippet),
+            Err(RenderError::SpanOffBoundary {
+                group: 0,
+                element: 0,
+                marker: 0
+            })
+        )
+    );
+    let snippet = Snippet::source(rt.alloc(), "let x")
+        .annotation(AnnotationKind::Primary.span(0..1))?
+        .annotation(AnnotationKind::Primary.span(2..1))?;
+    assert!(rt;
+        matches!(
+            text(rt.alloc(), "e", snippet),
+            Err(RenderError::SpanReversed {
+                group: 0,
+                element: 0,
+                marker: 1
+            })
+        )
+    );
+    let snippet = Snippet::source(rt.alloc(), "a")
+        .line_start(usize::MAX)
+        .annotation(AnnotationKind::Primary.span(0..1))?;
+    assert!(rt;
+        matches!(
+            text(rt.alloc(), "e", snippet),
+            Err(RenderError::LineNumberTooLarge {
+                group: 0,
+                element: 0
+            })
+        )
+    );
+    Ok(())
+}
+
+#[test]
+fn refuses_what_is_not_drawn_yet(rt: HostRuntime) -> Result<(), Fail> {
+    let snippet = Snippet::source(rt.alloc(), "abcdef")
+        .annotation(AnnotationKind::Primary.span(0..1))?
+        .annotation(AnnotationKind::Context.span(2..3))?;
+    assert!(rt; matches!(text(rt.alloc(), "e", snippet), Err(RenderError::NotYet)));
+    let snippet = Snippet::source(rt.alloc(), "ab");
+    assert!(rt; matches!(text(rt.alloc(), "e", snippet), Err(RenderError::NotYet)));
+    Ok(())
+}
+
+#[test]
+fn says_why_a_report_is_refused(rt: HostRuntime) -> Result<(), Fail> {
+    let (group, element, marker) = (0, 1, 2);
+    let refusals = [
+        (RenderError::NoGroup, "a short message needs a group"),
+        (RenderError::NoTitle, "a short message needs a title"),
+        (
+            RenderError::SpanReversed {
+                group,
+                element,
+                marker,
+            },
+            "group 0, element 1, marker 2: span is reversed",
+        ),
+        (
+            RenderError::SpanPastEnd {
+                group,
+                element,
+                marker,
+            },
+            "group 0, element 1, marker 2: span ends past the source",
+        ),
+        (
+            RenderError::SpanOffBoundary {
+                group,
+                element,
+                marker,
+            },
+            "group 0, element 1, marker 2: span is off a character border",
+        ),
+        (
+            RenderError::PatchesOverlap {
+                group,
+                element,
+                first: 2,
+                second: 3,
+            },
+            "group 0, element 1: markers 2 and 3 overlap",
+        ),
+        (
+            RenderError::LineNumberTooLarge { group, element },
+            "group 0, element 1: line numbers are too large",
+        ),
+        (RenderError::Memory(AllocError), "out of memory"),
+        (RenderError::NotYet, "not yet"),
+    ];
+    for (refusal, text) in &refusals {
+        assert_eq!(rt; format!(in rt.alloc(); "{refusal}")?.as_str(), *text);
+    }
+    Ok(())
+}
