@@ -7,5 +7,6 @@ pub mod snippet;
 
 pub use level::Level;
 pub use snippet::{
-    Annotation, AnnotationKind, Element, Group, Id, Marker, Message, Origin, Padding, Patch, Snippet, Title,
+    Annotation, AnnotationKind, Element, Group, Id, Marker, Message, Origin, Padding, Patch,
+    Snippet, Title,
 };

@@ -15,8 +15,8 @@ mod tests;
 pub mod window;
 
 pub use counts::{line_feed_count, newline_count_before};
-pub use lines::{CursorLines, EndLine, newline_count};
 pub use entries::{AnnotatedLineInfo, LineAnnotation, LineAnnotationType};
+pub use lines::{CursorLines, EndLine, newline_count};
 pub use place::Loc;
 pub use prepare::counted_number;
 pub use source_map::{LineInfo, SourceMap};

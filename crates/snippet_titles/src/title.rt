@@ -16,11 +16,7 @@ use std::alloc::{AllocError, Global};
 ///     error: cannot find this name
 ///            in the modules that are open
 ///
-pub fn draw_title(
-    alloc: Global,
-    buffer: &mut StyledBuffer,
-    title: &Title,
-) -> Result<(), AllocError>
+pub fn draw_title(alloc: Global, buffer: &mut StyledBuffer, title: &Title) -> Result<(), AllocError>
     requires named { 0 < length (name_of title.now.level) }
     requires name { length (name_of title.now.level) < 2 ^ 56 }
     ensures rows { OnOk result (buffer.new ≡ buffer.old ++ title_rows title.now.level (cow_str_bytes title.now.text)) }
@@ -47,7 +43,11 @@ fn draw_lines(buffer: &mut StyledBuffer, level: &Level, text: &str) -> Result<()
 }
 
 /// Draws a row for each line of a text, indented by so many cells.
-fn draw_further_lines(buffer: &mut StyledBuffer, indent: usize, text: &str) -> Result<(), AllocError>
+fn draw_further_lines(
+    buffer: &mut StyledBuffer,
+    indent: usize,
+    text: &str,
+) -> Result<(), AllocError>
     requires some { 0 < indent }
     ensures rows { OnOk result (buffer.new ≡ buffer.old
         ++ map (further_row indent) (map chars (slice_split (λ b. b == 10) text.now))) }
