@@ -1,5 +1,5 @@
 -- What the counts of line feeds in a text's front are.
-use Rattle.std.proofs.Common.{◌≡◌, ◌≤◌, ◌∙◌, ◌-◌, ◌==◌, ap, sym, length, take, min, count_by, List, ℕ, Bool, true, false, cond, refl, arith, ◌+◌}
+use Rattle.std.proofs.Common.{◌≡◌, ◌≤◌, ◌∙◌, ◌-◌, ◌==◌, ap, length, take, min, count_by, List, ℕ, Bool, true, false, cond, refl, arith, ◌+◌}
 use Rattle.std.proofs.lemmas.List.Sums.{sum_by-take-le}
 use Rattle.std.proofs.lemmas.List.{take_min}
 use Rattle.snippet_parts.specs.Lines.{newline_count, is_lf, last_byte}

@@ -1,5 +1,5 @@
 -- How the leading whitespace of a line is counted character by character.
-use Rattle.std.proofs.Common.{◌≡◌, ℕ, ◌+◌, ◌<◌, cond, Bool, true, false, List, [], ◌∷◌, Option, Some, None, length, drop, get_or, refl, sym, ap, ◌∙◌, add_assoc, add-zero, le_refl}
+use Rattle.std.proofs.Common.{◌≡◌, ℕ, ◌+◌, ◌<◌, cond, true, false, List, Option, Some, None, length, drop, get_or, refl, sym, ap, ◌∙◌, add_assoc, add-zero, le_refl}
 use Rattle.std.specs.Option.{option_map}
 use Rattle.std.specs.Char.{is_whitespace}
 use Rattle.std.proofs.lemmas.List.{at_drop_more, drop_all}

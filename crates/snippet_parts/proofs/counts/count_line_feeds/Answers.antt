@@ -1,4 +1,4 @@
-use Rattle.std.proofs.Common.{◌≡◌, ◌+◌, ◌-◌, ◌≤◌, ℕ, List, count_by, length, take, drop, ap, arith}
+use Rattle.std.proofs.Common.{◌≡◌, ◌+◌, ◌-◌, ℕ, List, count_by, length, take, drop, ap, arith}
 use Rattle.std.proofs.lemmas.List.{take_rest, length-drop}
 use Rattle.snippet_parts.specs.Lines.{is_lf}
 use Rattle.snippet_parts.proofs.CursorLemmas.{count_by-find, count_by-none}

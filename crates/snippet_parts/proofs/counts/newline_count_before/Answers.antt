@@ -1,4 +1,4 @@
-use Rattle.std.proofs.Common.{◌≡◌, ◌∙◌, ap, sym, length, min, List, ℕ}
+use Rattle.std.proofs.Common.{◌∙◌, ap, sym, length, min, List, ℕ}
 use Rattle.snippet_parts.proofs.CountLemmas.{newline_count-cut}
 use Rattle.snippet_parts.proofs.counts.newline_count_before.Goals as goal
 

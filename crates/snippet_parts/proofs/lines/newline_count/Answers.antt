@@ -1,4 +1,4 @@
-use Rattle.std.proofs.Common.{◌≡◌, ◌∙◌, ap, length, arith}
+use Rattle.std.proofs.Common.{◌∙◌, ap, length, arith}
 use Rattle.std.proofs.lemmas.List.{take_all}
 use Rattle.snippet_parts.specs.Lines.{newline_count}
 use Rattle.snippet_parts.proofs.LinesLemmas.{length-source_lines}

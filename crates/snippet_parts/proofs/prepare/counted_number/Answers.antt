@@ -1,4 +1,4 @@
-use Rattle.std.proofs.Common.{◌≡◌, ap, arith, length}
+use Rattle.std.proofs.Common.{ap, arith, length}
 use Rattle.snippet_parts.specs.Lines.{source_lines}
 use Rattle.snippet_parts.proofs.LinesLemmas.{length-source_lines}
 use Rattle.snippet_parts.proofs.CountLemmas.{newline_count-take}
