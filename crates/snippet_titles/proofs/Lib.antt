@@ -1,2 +1,4 @@
+pub mod FreeLemmas
 pub mod LineLemmas
 pub mod RowLemmas
+pub mod SplitLemmas

@@ -1,8 +1,6 @@
 -- What the lines of a text are where it is cut at its first line feed.
-use Rattle.std.proofs.Common.{◌≡◌, ◌≢◌, ℕ, ◌+◌, ◌<◌, ◌==◌, Bool, true, false, List, [], ◌∷◌, ◌++◌, length, map, get_or, refl, sym, ap, ◌∙◌, arith, encode_utf8_all}
-use Rattle.std.specs.List.{slice_split}
+use Rattle.std.proofs.Common.{◌≡◌, ◌≢◌, ℕ, ◌+◌, ◌<◌, ◌==◌, false, List, [], ◌∷◌, ◌++◌, length, map, get_or, refl, sym, ap, ◌∙◌, arith}
 use Rattle.std.specs.Str.{chars, IsUtf8}
-use Rattle.std.proofs.lemmas.Str.{encodes-chars}
 use Rattle.std.proofs.lemmas.Bool.Decides.{nat_tests}
 use Rattle.std.proofs.lemmas.List.{append_assoc}
 use Rattle.std.proofs.lemmas.List.Splits.{slice_split_none, slice_split_at}
@@ -13,10 +11,7 @@ use Rattle.snippet_text.specs.Width.{width_of}
 use Rattle.snippet_model.specs.declared.level.Level.{Level}
 use Rattle.snippet_model.specs.Level.{name_of}
 use Rattle.snippet_titles.specs.Title.{first_row, further_row, rows_of_lines, title_lines, title_rows}
-
--- the lines of a text, as bytes
-abbrev pub lines_at : List ℕ → List (List ℕ)
-lines_at text = slice_split (λ b. b == 10) text
+use Rattle.snippet_titles.proofs.SplitLemmas.{lines_at, lines_at-chars}
 
 -- a text without a line feed is one line
 pub lines_at-one : (text : List ℕ) → ((i : ℕ) → i < length text → get_or text i 0 ≢ 10) → lines_at text ≡ text ∷ []
@@ -41,4 +36,4 @@ rows-several old now new level indent text first rest several by begun further =
 pub title_rows-normalized : (level : Level) (text normalized : List ℕ) → IsUtf8 normalized → chars normalized ≡ norm (chars text) → rows_of_lines level (map chars (lines_at normalized)) ≡ title_rows level text
 unfolding title_rows title_lines
 title_rows-normalized level text normalized utf8 is =
-    ap (λ (bytes : List ℕ). rows_of_lines level (map chars (lines_at bytes))) (sym (encodes-chars normalized utf8) ∙ ap encode_utf8_all is)
+    ap (rows_of_lines level) (lines_at-chars normalized utf8 ∙ ap lines_at is)

@@ -1,14 +1,14 @@
 -- What a grid becomes where a text is added at its end.
-use Rattle.std.proofs.Common.{◌≡◌, ℕ, ◌+◌, ◌-◌, ◌<◌, ◌≤◌, List, [], ◌∷◌, ◌++◌, length, take, replicate, codes, get_or, refl, sym, ap, ◌∙◌, arith, subst}
-use Rattle.std.specs.Str.{chars, IsUtf8}
-use Rattle.std.proofs.lemmas.List.{replicate_more, take_more, take_all, length-take, append-nil, get_or_past, places, same_lists, length-append}
+use Rattle.std.proofs.Common.{◌≡◌, ℕ, ◌+◌, ◌-◌, ◌<◌, List, [], ◌∷◌, ◌++◌, length, take, replicate, codes, refl, sym, ap, ◌∙◌, arith}
+use Rattle.std.specs.Str.{chars}
+use Rattle.std.proofs.lemmas.List.{take_more, take_all, length-take, append-nil, get_or_past, places, same_lists, length-append}
 use Rattle.std.proofs.Math.Seq.{take-append_seam, get_or-append_seam}
 use Rattle.snippet_style.specs.Grid.{Cell, SPACE, drawn, row_at, written, cells_written}
 use Rattle.snippet_style.specs.declared.role.ElementStyle.{ElementStyle}
 use Rattle.snippet_style.specs.declared.role.ElementStyle.TheVariants as role
 use Rattle.snippet_model.specs.declared.level.Level.{Level}
 use Rattle.snippet_model.specs.Level.{name_of}
-use Rattle.snippet_titles.specs.Title.{first_row, further_row, rows_of_lines}
+use Rattle.snippet_titles.specs.Title.{first_row, further_row}
 use Rattle.snippet_style.proofs.GridLemmas.{cells_written_below, cells_written_last, written_end}
 
 -- a row of cells behind a row that isn't there is a new row

@@ -1,5 +1,5 @@
 -- The rows of a primary title.
-use Rattle.std.specs.Prelude.{ℕ, ◌+◌, ◌==◌, List, [], ◌∷◌, ◌++◌, chars, map, replicate, codes, encode_utf8_all}
+use Rattle.std.specs.Prelude.{ℕ, ◌+◌, ◌==◌, List, [], ◌∷◌, ◌++◌, chars, map, replicate, codes}
 use Rattle.std.specs.List.{slice_split}
 use Rattle.snippet_style.specs.declared.role.ElementStyle.TheVariants as role
 use Rattle.snippet_style.specs.Grid.{Cell, SPACE, drawn}
@@ -10,7 +10,7 @@ use Rattle.snippet_model.specs.Level.{name_of}
 
 -- the lines of a title: the characters of its normalised text, cut at each line feed
 unfoldable pub title_lines : List ℕ → List (List ℕ)
-title_lines text = map chars (slice_split (λ b. b == 10) (encode_utf8_all (norm (chars text))))
+title_lines text = slice_split (λ c. c == 10) (norm (chars text))
 
 -- the row of a title's first line: the level's name in the level's role, a colon and a space, and the line
 unfoldable pub first_row : Level → List ℕ → List Cell
