@@ -13,14 +13,13 @@ use Rattle.snippet_model.specs.declared.snippet.Title.{Title}
 use Rattle.snippet_model.specs.declared.snippet.Group.{Group}
 use Rattle.snippet_model.specs.declared.snippet.Snippet.{Snippet}
 use Rattle.snippet_model.specs.declared.snippet.Annotation.{Annotation}
-use Rattle.snippet_model.specs.declared.snippet.AnnotationKind.{AnnotationKind}
-use Rattle.snippet_model.specs.declared.snippet.AnnotationKind.TheVariants.{Primary, Context, Visible}
 use Rattle.snippet_model.specs.declared.snippet.Element.{Element}
 use Rattle.snippet_model.specs.declared.snippet.Element.TheVariants.{Message, Cause, Suggestion, Origin, Padding}
 use Rattle.snippet_parts.specs.Lines.{source_lines, text_at, start_of}
+use Rattle.snippet_parts.specs.Mark.{is_marking, is_single_line}
 use Rattle.snippet_parts.specs.Place.{line_of, place_of}
 use Rattle.snippet_parts.specs.Prepare.{counted_number}
-use Rattle.snippet_parts.specs.Window.{leading_whitespace}
+use Rattle.snippet_parts.specs.Window.{leading_whitespace, is_near}
 use Rattle.annotate_snippets.specs.declared.renderer.Renderer.{Renderer}
 
 -- the byte at which the line begins on which a byte stands, and the one at which the line behind it does
@@ -33,16 +32,6 @@ line_finish source byte = start_of (source_lines source) (line_of (source_lines 
 -- the characters of the line on which a byte stands
 abbrev pub line_chars : List ℕ → ℕ → List ℕ
 line_chars source byte = chars (text_at (source_lines source) (line_of (source_lines source) byte))
-
-abbrev pub is_marking : AnnotationKind → Bool
-is_marking Primary = true
-is_marking Context = true
-is_marking Visible = false
-
--- the span starts and ends on one line
-abbrev pub stands_on_one_line : List ℕ → Annotation → Bool
-stands_on_one_line source a =
-    line_of (source_lines source) a.span.end == line_of (source_lines source) a.span.start
 
 -- no other span starts on its line
 abbrev pub stands_alone : List ℕ → List Annotation → Annotation → Bool
@@ -57,12 +46,7 @@ follows_on source marks a =
 -- an annotation that is drawn so far: a mark without label, of one line that no other marks
 abbrev pub is_covered_annotation : List ℕ → List Annotation → Annotation → Bool
 is_covered_annotation source marks a =
-    is_marking a.kind && is_none a.label && not a.highlight_source && stands_on_one_line source a && stands_alone source marks a && follows_on source marks a
-
--- the width is known and at most 26, up to which nothing is cut from the left
-abbrev pub is_near : Option ℕ → Bool
-is_near None = false
-is_near (Some columns) = nat_le columns 26
+    is_marking a.kind && is_none a.label && not a.highlight_source && is_single_line source a && stands_alone source marks a && follows_on source marks a
 
 -- the marked lines aren't cut from the left: a span or a line begins within the first 26 columns, or all are blank
 abbrev pub is_near_left : List ℕ → List Annotation → Bool

@@ -1,5 +1,5 @@
 -- What an annotated snippet adds to the grid.
-use Rattle.std.specs.Prelude.{◌≡◌, ℕ, ◌+◌, List, map, encode_utf8_all}
+use Rattle.std.specs.Prelude.{◌≡◌, ℕ, ◌+◌, List, map, chars}
 use Rattle.std.specs.Cow.{cow_str_bytes}
 use Rattle.snippet_style.specs.Grid.{Cell}
 use Rattle.snippet_style.specs.Print.{plain_text}
@@ -33,4 +33,4 @@ pub record AddsCause (s : Snippet Annotation) (old new : List (List Cell)) : Typ
 pub record IsTextOf (title : Title) (s : Snippet Annotation) (text : List ℕ) : Type 0 where
   pub rows : List (List Cell)
   pub drawn : AddsCause s (title_rows title.level (cow_str_bytes title.text)) rows
-  pub printed : text ≡ encode_utf8_all (plain_text rows)
+  pub printed : chars text ≡ plain_text rows

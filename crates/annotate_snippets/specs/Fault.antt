@@ -1,5 +1,5 @@
 -- The faults of a report, in the order in which they are looked for.
-use Rattle.std.specs.Prelude.{ℕ, ◌+◌, ◌^◌, List, [], ◌∷◌, ◌++◌, Option, Some, None, is_some, length, sum_by, count_by, nat_lt, ◌==◌, if◌then◌else◌}
+use Rattle.std.specs.Prelude.{◌≡◌, ℕ, ◌+◌, ◌^◌, List, [], ◌∷◌, ◌++◌, Option, Some, None, is_some, length, sum_by, count_by, nat_lt, ◌==◌, if◌then◌else◌}
 use Rattle.std.specs.Option.{option_map, option_to_list}
 use Rattle.std.specs.Cow.{cow_str_bytes}
 use Rattle.std.specs.declared.ops.Range.{Range}
@@ -7,6 +7,7 @@ use Rattle.snippet_model.specs.declared.snippet.Group.{Group}
 use Rattle.snippet_model.specs.declared.snippet.Patch.{Patch}
 use Rattle.snippet_model.specs.declared.snippet.Element.{Element}
 use Rattle.snippet_model.specs.declared.snippet.Element.TheVariants.{Message, Cause, Suggestion, Origin, Padding}
+use Rattle.snippet_model.specs.Fits.{ReportFits}
 use Rattle.snippet_parts.specs.Lines.{source_lines}
 use Rattle.snippet_parts.specs.Span.{span_fault}
 use Rattle.snippet_parts.specs.declared.span.SpanFault.{SpanFault}
@@ -69,3 +70,8 @@ first_of (fault ∷ faults) = Some fault
 -- the refusal of a report for what it holds, where there is one: the first in order
 unfoldable pub first_fault : List Group → Option RenderError
 first_fault groups = first_of (faults_from group_faults 0 groups)
+
+-- a report is within bounds: no refusal stands, and each of its texts fits
+pub record IsWithinBounds (groups : List Group) : Type 0 where
+  pub faultless : first_fault groups ≡ None
+  pub fits : ReportFits groups

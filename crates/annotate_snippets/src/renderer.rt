@@ -1,5 +1,5 @@
 //! The settings that reports are drawn with.
-ghost use Rattle.std.specs.Prelude.{◌≡◌, true, false, None, Err, IfSome, IsOkUnless, alloc_error};
+ghost use Rattle.std.specs.Prelude.{◌≡◌, true, false, None, Err, IfSome, IfOk, IsOkUnless, alloc_error, string_bytes};
 
 mod coverage;
 mod error;
@@ -42,9 +42,11 @@ pub struct Renderer {
 
 impl Renderer {
     ghost use Rattle.snippet_model.specs.Fits.{ReportFits};
-    ghost use Rattle.annotate_snippets.specs.Fault.{first_fault};
+    ghost use Rattle.annotate_snippets.specs.Fault.{first_fault, IsWithinBounds};
     ghost use Rattle.annotate_snippets.specs.Covered.{is_covered};
     ghost use Rattle.annotate_snippets.specs.Settings.{plain_settings};
+    ghost use Rattle.annotate_snippets.specs.Shown.{is_graphic, ShowsReport, IsFreeBut};
+    ghost use Rattle.snippet_model.specs.Trusted.{trusted_texts, AreNamesOneRow};
 
     /// A renderer that writes no style codes.
     pub fn plain() -> Renderer
@@ -81,11 +83,19 @@ impl Renderer {
         // A faulty report is refused for its first fault.
         ensures refused { IfSome (first_fault groups.now) (λ fault. result ≡ Err fault) }
 
-        // One without faults gives a text where memory is found, if it is one that is drawn so far.
-        ensures covered { first_fault groups.now ≡ None → is_covered self.now groups.now ≡ true
+        // One within bounds gives a text where memory is found, if it is one that is drawn so far.
+        ensures covered { IsWithinBounds groups.now → is_covered self.now groups.now ≡ true
             → IsOkUnless result (RenderError.Memory alloc_error) }
-        ensures not_yet { first_fault groups.now ≡ None → is_covered self.now groups.now ≡ false
+        ensures not_yet { IsWithinBounds groups.now → is_covered self.now groups.now ≡ false
             → result ≡ Err RenderError.NotYet }
+
+        // The text prints a page that shows the report: its titles, each line on which a span begins or ends, once and in
+        // order, and the marks below them.
+        ensures shows { is_graphic self.now ≡ true → AreNamesOneRow groups.now
+            → IfOk result (λ text. ShowsReport self.now groups.now (string_bytes text)) }
+
+        // Each listed character of the text is one of a trusted text.
+        ensures free { IfOk result (λ text. IsFreeBut (trusted_texts groups.now) (string_bytes text)) }
     {
         if let Some(fault) = first_fault(groups) {
             return Err(fault);

@@ -1,5 +1,5 @@
 -- The library's one limit: each text of a report has fewer than 2^56 bytes.
-use Rattle.std.specs.Prelude.{ℕ, ◌^◌, ◌<◌, List, All, Option, IfSome, length}
+use Rattle.std.specs.Prelude.{ℕ, ◌^◌, ◌<◌, List, All, IfSome, length}
 use Rattle.std.specs.Cow.{cow_str_bytes}
 use Rattle.snippet_model.specs.declared.level.Level.{Level}
 use Rattle.snippet_model.specs.declared.snippet.Id.{Id}
@@ -8,7 +8,6 @@ use Rattle.snippet_model.specs.declared.snippet.Message.{Message}
 use Rattle.snippet_model.specs.declared.snippet.Annotation.{Annotation}
 use Rattle.snippet_model.specs.declared.snippet.Patch.{Patch}
 use Rattle.snippet_model.specs.declared.snippet.Snippet.{Snippet}
-use Rattle.snippet_model.specs.declared.snippet.Origin.{Origin}
 use Rattle.snippet_model.specs.declared.snippet.Group.{Group}
 use Rattle.snippet_model.specs.declared.snippet.Element.{Element}
 use Rattle.snippet_model.specs.declared.snippet.Element.TheVariants as element

@@ -1,3 +1,4 @@
 pub mod Fits
 pub mod Level
 pub mod StandardName
+pub mod Trusted

@@ -50,11 +50,11 @@ line_added layout numbered info old mid new place source marks =
         below = marks.rows;
         rows_are = refl;
         shows = source.is.shows;
+        count = marks.count;
         marks = marks_below layout es marks.rows marks.count marks.are;
         unnumbered = All-weaker (IsMarkRow layout es) (HasNoNumber layout.gutter) (no_number layout es place) marks.rows marks.are;
         free = All-cons IsFree source.row marks.rows source.is.free (All-weaker (IsMarkRow layout es) IsFree weaker marks.rows marks.are);
       };
-      count = omega (arith, marks.count);
     }
 
 -- what some lines add: rows that show them

@@ -1,18 +1,19 @@
 -- The rows of a snippet.
-use Rattle.std.specs.Prelude.{◌≡◌, ◌+◌, min, Bool, List, [], ◌∷◌, ◌++◌, All, chars, length}
+use Rattle.std.specs.Prelude.{◌≡◌, min, Bool, List, [], ◌∷◌, ◌++◌, All, chars, length}
 use Rattle.snippet_parts.specs.declared.entries.AnnotatedLineInfo.{AnnotatedLineInfo}
 use Rattle.snippet_strokes.specs.declared.layout.Layout.{Layout}
 use Rattle.snippet_style.specs.Grid.{Cell, row_at}
 use Rattle.snippet_text.specs.Normalized.{norm}
 use Rattle.snippet_strokes.specs.Rows.{shown_number, separator_row, HasNoNumber, IsFree, ShowsSource, ShowsMarks}
 
--- the rows show this line: the first its number and its source, normalised, the second (if there is one) its marks;
--- none but the first can be taken for a source row, and none holds a listed character
+-- the rows show this line: the first its number and its source, normalised, the second (which is there if the line has
+-- entries) its marks; none but the first can be taken for a source row, and none holds a listed character
 pub record ShowsLine (layout : Layout) (numbered : Bool) (info : AnnotatedLineInfo) (rows : List (List Cell)) : Type 0 where
   pub source : List Cell
   pub below : List (List Cell)
   pub rows_are : rows ≡ source ∷ below
   pub shows : ShowsSource layout.gutter layout.code (shown_number numbered layout.gutter info.line_index) (norm (chars info.line.now)) source
+  pub count : length below ≡ min 1 (length info.annotations.items)
   pub marks : ShowsMarks layout.code info.annotations.items (row_at below 0)
   pub unnumbered : All (HasNoNumber layout.gutter) below
   pub free : All IsFree rows
@@ -29,10 +30,8 @@ pub record AddsSnippet (layout : Layout) (numbered : Bool) (infos : List Annotat
   pub added : new ≡ old ++ separator_row layout.decor layout.gutter ∷ rows
   pub shown : AreLinesShown layout numbered infos rows
 
--- what a line adds below the rows that are there: rows that show it, one for its source, and one for its marks if it
--- has entries
+-- what a line adds below the rows that are there: rows that show it
 pub record AddsLine (layout : Layout) (numbered : Bool) (info : AnnotatedLineInfo) (old new : List (List Cell)) : Type 0 where
   pub rows : List (List Cell)
   pub added : new ≡ old ++ rows
   pub shown : ShowsLine layout numbered info rows
-  pub count : length rows ≡ 1 + min 1 (length info.annotations.items)

@@ -1,1 +1,2 @@
 pub mod NormLemmas
+pub mod WidthLemmas

@@ -1,16 +1,16 @@
 -- What normalising does to a text's width and to its listed characters.
-use Rattle.std.proofs.Common.{◌≡◌, ℕ, ◌+◌, Bool, true, false, ◌||◌, List, [], ◌∷◌, ◌++◌, sum_by, refl, sym, ap, ◌∙◌, arith, add-zero, encode_utf8_all, map, chars}
+use Rattle.std.proofs.Common.{◌≡◌, ℕ, false, List, [], ◌∷◌, ◌++◌, refl, sym, ap, ◌∙◌, arith, encode_utf8_all, map, chars}
 use Rattle.std.specs.Str.{IsUtf8}
 use Rattle.std.proofs.lemmas.Str.{chars_from_encodes}
 use Rattle.std.proofs.lemmas.List.{map-id}
 use Rattle.std.proofs.lemmas.List.Folds.{list_any-append}
 use Rattle.std.proofs.lemmas.List.Sums.{sum_by-append, sum_by-cons}
 use Rattle.std.specs.List.{flat_map, list_any}
-use Rattle.std.proofs.lemmas.Grind.{flat_map-append, common_steps}
+use Rattle.std.proofs.lemmas.Grind.{flat_map-append}
 use Rattle.std.proofs.lemmas.Bool.Decides.{nat_tests}
 use Rattle.std.proofs.lemmas.List.{append-nil}
-use Rattle.snippet_text.specs.Normalized.{norm, shown, is_listed, has_control_picture, is_bidirectional_control}
-use Rattle.snippet_text.specs.Width.{char_width, width_of, is_replacement}
+use Rattle.snippet_text.specs.Normalized.{norm, shown, is_listed}
+use Rattle.snippet_text.specs.Width.{char_width, width_of}
 
 -- one more character
 pub norm-push : (cs : List ℕ) (c : ℕ) → norm (cs ++ c ∷ []) ≡ norm cs ++ shown c

@@ -6,7 +6,9 @@ ghost use Rattle.std.specs.Cow.{cow_str_bytes};
 ghost use Rattle.snippet_parts.specs.Lines.{source_lines};
 ghost use Rattle.snippet_parts.specs.Span.{IsSpan};
 ghost use Rattle.snippet_parts.specs.Place.{place_of};
+ghost use Rattle.snippet_parts.specs.Mark as mark;
 ghost use Rattle.snippet_parts.specs.Window.{leading_whitespace};
+ghost use Rattle.snippet_parts.specs.Window as window;
 ghost use Rattle.snippet_text.specs.Width.{width_of};
 ghost use Rattle.snippet_model.specs.Fits.{ReportFits};
 ghost use Rattle.annotate_snippets.specs.Fault.{first_fault};
@@ -38,6 +40,7 @@ pub fn covered<'r, 'a>(
     requires faultless { first_fault groups.now ≡ None }
     ensures covered { is_some result ≡ spec.is_covered renderer.now groups.now }
     ensures parts { IfSome result (λ parts. IsReportOf parts.0.now parts.1.now groups.now) }
+    ensures plain { IfSome result (λ parts. spec.is_plain renderer.now ≡ true) }
     ensures title { IfSome result (λ parts. spec.is_covered_title parts.0.now ≡ true) }
     ensures snippet { IfSome result (λ parts. spec.is_covered_snippet renderer.now.term_width parts.1.now ≡ true) }
 {
@@ -155,7 +158,7 @@ fn are_covered_annotations(source: &str, annotations: &[Annotation]) -> bool
 
 /// Whether a span starts and ends on one line.
 fn stands_on_one_line(source: &str, annotation: &Annotation) -> bool
-    ensures value { result ≡ spec.stands_on_one_line source.now annotation.now }
+    ensures value { result ≡ mark.is_single_line source.now annotation.now }
 {
     let line = line_bounds(source, annotation.span.start);
     let end = annotation.span.end;
@@ -214,7 +217,7 @@ fn is_covered_annotation(source: &str, annotations: &[Annotation], annotation: &
 
 /// Whether spans of this kind are marked.
 fn is_marking(kind: AnnotationKind) -> bool
-    ensures value { result ≡ spec.is_marking kind }
+    ensures value { result ≡ mark.is_marking kind }
 {
     match kind {
         AnnotationKind::Primary | AnnotationKind::Context => true,
@@ -261,7 +264,7 @@ fn a_span_is_near(source: &str, annotations: &[Annotation]) -> bool
 /// Whether a marked line begins, behind its whitespace, within those columns.
 fn a_line_is_near(source: &str, annotations: &[Annotation]) -> bool
     requires fits { length source.now < 2 ^ 56 }
-    ensures value { result ≡ list_any (λ a. spec.is_near (leading_whitespace (spec.line_chars source.now a.span.start))) annotations.now }
+    ensures value { result ≡ list_any (λ a. window.is_near (leading_whitespace (spec.line_chars source.now a.span.start))) annotations.now }
 {
     annotations
         .iter()
@@ -271,7 +274,7 @@ fn a_line_is_near(source: &str, annotations: &[Annotation]) -> bool
 /// Whether a line begins, behind its whitespace, within those columns.
 fn is_near(line: &str) -> bool
     requires fits { length line.now < 2 ^ 56 }
-    ensures value { result ≡ spec.is_near (leading_whitespace (chars line.now)) }
+    ensures value { result ≡ window.is_near (leading_whitespace (chars line.now)) }
 {
     match parts::leading_whitespace(line) {
         Some(columns) => columns <= NEAR,

@@ -1,4 +1,4 @@
-use Rattle.std.proofs.Common.{◌≡◌, ◌∙◌, ap, sym, List, chars, encode_utf8_all, ◌++◌}
+use Rattle.std.proofs.Common.{◌∙◌, ap, sym, encode_utf8_all, ◌++◌}
 use Rattle.std.proofs.lemmas.Str.{encodes-append}
 use Rattle.std.proofs.lemmas.Str.{IsUtf8-string_bytes}
 use Rattle.std.proofs.lemmas.Iterator.{YieldsList-from_chars}

@@ -1,0 +1,39 @@
+-- What a list contains after its elements are chosen or mapped.
+use Rattle.std.proofs.Common.{◌≡◌, zero, suc, Bool, true, false, cond, List, [], ◌∷◌, map, refl, ap, subst, ◌∙◌, arith, inl, inr, ◌⊎◌}
+use Rattle.std.specs.List.{Contains, filter}
+use Rattle.std.proofs.lemmas.List.{length-map, get_or-map}
+
+module _ {X : Type 0} where
+  pub Contains-head : (x : X) (xs : List X) → Contains (x ∷ xs) x
+  Contains-head x xs = (0, omega arith, refl)
+
+  pub Contains-tail : (x y : X) (xs : List X) → Contains xs y → Contains (x ∷ xs) y
+  Contains-tail x y xs in_xs = (suc in_xs.0, omega (arith, in_xs.1), in_xs.2)
+
+  pub Contains-cons_cases : (x y : X) (xs : List X) → Contains (x ∷ xs) y → (x ≡ y) ⊎ Contains xs y
+  Contains-cons_cases x y xs (zero, within, same) = inl same
+  Contains-cons_cases x y xs (suc k, within, same) = inr (k, omega arith, same)
+
+  pub Contains-nil : (x : X) → Contains [] x → ⊥
+  Contains-nil x (k, within, same) = absurd (omega arith)
+
+  -- an element that passes is one of those chosen
+  pub Contains-filter : (p : X → Bool) (xs : List X) (x : X) → p x ≡ true → Contains xs x → Contains (filter p xs) x
+  Contains-filter p [] x passes among = absurd (Contains-nil x among)
+  Contains-filter p (y ∷ xs) x passes among =
+      elim (Contains-cons_cases y x xs among) [
+        | inl same ↦ subst (λ z. Contains (cond (p y) (y ∷ filter p xs) (filter p xs)) z) same (kept (p y) (ap p same ∙ passes))
+        | inr rest ↦ later (p y) (Contains-filter p xs x passes rest)
+      ]
+    where
+      kept : (b : Bool) → b ≡ true → Contains (cond b (y ∷ filter p xs) (filter p xs)) y
+      kept true passed = Contains-head y (filter p xs)
+      kept false never = cc
+
+      later : (b : Bool) → Contains (filter p xs) x → Contains (cond b (y ∷ filter p xs) (filter p xs)) x
+      later true rest = Contains-tail y x (filter p xs) rest
+      later false rest = rest
+
+  pub Contains-map : {Y : Type 0} (f : X → Y) (xs : List X) (x : X) → Contains xs x → Contains (map f xs) (f x)
+  Contains-map f xs x among =
+      (among.0, omega (arith, length-map xs f, among.1), get_or-map f xs among.0 x (f x) among.1 ∙ ap f among.2)

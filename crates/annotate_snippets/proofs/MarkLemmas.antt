@@ -1,0 +1,155 @@
+-- The marks of a line's spans are those of its entries.
+use Rattle.std.proofs.Common.{◌≡◌, ℕ, ◌+◌, ◌<◌, ◌≤◌, ◌==◌, ◌&&◌, max, Bool, true, false, List, [], ◌∷◌, map, length, get_or, refl, sym, ap, subst, ◌∙◌, arith, inl, inr}
+use Rattle.std.specs.List.{All, Contains, filter, list_any}
+use Rattle.std.proofs.lemmas.Bool.{and_parts, and_from, eqb-true, eq-eqb, cases_Bool}
+use Rattle.std.proofs.lemmas.List.{length-map, get_or-map}
+use Rattle.std.proofs.lemmas.List.Elements.{All-contains, All-contains_itself, All-filter, filter_passes, Contains-get_or}
+use Rattle.snippet_model.specs.declared.snippet.Annotation.{Annotation}
+use Rattle.snippet_model.specs.declared.snippet.AnnotationKind.{AnnotationKind}
+use Rattle.snippet_model.specs.declared.snippet.AnnotationKind.TheVariants.{Primary, Context, Visible}
+use Rattle.snippet_parts.specs.declared.entries.LineAnnotation.{LineAnnotation}
+use Rattle.snippet_parts.specs.Lines.{Source}
+use Rattle.snippet_parts.specs.Place.{place_of, location_of, start_location, end_location, locations_of}
+use Rattle.snippet_parts.specs.Marked.{first_line, last_line, Entry, seen_entry, entry_of}
+use Rattle.snippet_parts.specs.Mark.{is_marking, is_single_line, is_marked_on, start_column, end_column, span_width, IsMarkedAt, IsMarkOf}
+use Rattle.snippet_strokes.specs.Entries.{EntryCovers, is_primary, IsEntryMark}
+use Rattle.annotate_snippets.proofs.ListLemmas.{Contains-filter, Contains-map, Contains-head, Contains-tail}
+
+-- the start of an entry is its span's
+start_of_entry : (s : Source) (a : Annotation) → (entry_of s a).start.display ≡ start_column s.text a
+unfolding locations_of start_location location_of
+start_of_entry s a = refl
+
+-- and so is its end, where the span stands on one line
+end_of_empty : (s : Source) (a : Annotation) → (a.span.start == a.span.end) ≡ true → (entry_of s a).end.display ≡ end_column s.text a
+unfolding locations_of start_location location_of
+end_of_empty s a empty =
+    let same : a.span.start ≡ a.span.end = eqb-true a.span.start a.span.end empty in
+    rw empty (ap (λ b. max (place_of s.text b).column (start_column s.text a + 1)) same)
+
+end_of_other : (s : Source) (a : Annotation) → (a.span.start == a.span.end) ≡ false → is_single_line s.text a ≡ true → (entry_of s a).end.display ≡ end_column s.text a
+unfolding locations_of start_location end_location location_of place_of
+end_of_other s a other single =
+    let same : last_line s.text a ≡ first_line s.text a = eqb-true (last_line s.text a) (first_line s.text a) single in
+    let here : (s.first + first_line s.text a == s.first + last_line s.text a) ≡ true = eq-eqb _ _ (ap (λ k. s.first + k) (sym same)) in
+    rw (other, here) (ap (λ n. max n (start_column s.text a + 1)) (omega arith))
+
+end_of_entry : (s : Source) (a : Annotation) → is_single_line s.text a ≡ true → (entry_of s a).end.display ≡ end_column s.text a
+end_of_entry s a single =
+    elim (cases_Bool (a.span.start == a.span.end)) [
+      | inl empty ↦ end_of_empty s a empty
+      | inr other ↦ end_of_other s a other single
+    ]
+
+-- spans that are marked, each on one line
+abbrev pub AreShort : Source → List Annotation → Type 0
+AreShort s marks = All (λ a. (is_marking a.kind ≡ true) × (is_single_line s.text a ≡ true)) marks
+
+-- an entry is that of a span: it covers the same columns, with marks of the same kind
+pub record IsEntryOf (s : Source) (k : ℕ) (a : Annotation) (e : LineAnnotation) : Type 0 where
+  pub marked : is_marked_on s.text k a ≡ true
+  pub start : e.start.display ≡ start_column s.text a
+  pub end : e.end.display ≡ end_column s.text a
+  pub kind : e.kind ≡ a.kind
+
+entry_is : (s : Source) (k : ℕ) (a : Annotation) (e : LineAnnotation) → is_marked_on s.text k a ≡ true → is_single_line s.text a ≡ true → seen_entry e ≡ entry_of s a → IsEntryOf s k a e
+entry_is s k a e marked single same =
+    record {
+      marked = marked;
+      start = ap (λ (x : Entry). x.start.display) same ∙ start_of_entry s a;
+      end = ap (λ (x : Entry). x.end.display) same ∙ end_of_entry s a single;
+      kind = ap (λ (x : Entry). x.kind) same;
+    }
+
+-- what a mapped list contains
+from_map : {X Y : Type 0} (f : X → Y) (xs : List X) (y : Y) → Contains (map f xs) y → (x : X) × Contains xs x × (f x ≡ y)
+from_map f [] y (k, within, same) = absurd (omega arith)
+from_map f (x ∷ xs) y (k, within, same) =
+    let at : ℕ = k in
+    let inside : at < length (x ∷ xs) = omega (arith, within, length-map (x ∷ xs) f) in
+    (get_or (x ∷ xs) at x, Contains-get_or (x ∷ xs) at x inside, sym (get_or-map f (x ∷ xs) at x y inside) ∙ same)
+
+-- an element at which some test gives true
+rest_any : {X : Type 0} (q : X → Bool) (x : X) (xs : List X) → q x ≡ false → list_any q (x ∷ xs) ≡ true → list_any q xs ≡ true
+rest_any q x xs fails some = grind (arith, fails, some)
+
+from_any : {X : Type 0} (q : X → Bool) (xs : List X) → list_any q xs ≡ true → (a : X) × Contains xs a × (q a ≡ true)
+from_any q [] some = cc
+from_any q (x ∷ xs) some =
+    elim (cases_Bool (q x)) [
+      | inl passes ↦ (x, Contains-head x xs, passes)
+      | inr fails ↦
+          let rest = from_any q xs (rest_any q x xs fails some) in
+          (rest.0, Contains-tail x rest.0 xs rest.1, rest.2)
+    ]
+
+module _ (s : Source) (marks : List Annotation) (short : AreShort s marks) (k : ℕ) (es : List LineAnnotation) (same : map seen_entry es ≡ map (entry_of s) (filter (λ a. first_line s.text a == k) marks)) where
+  on_line : Annotation → Bool
+  on_line a = first_line s.text a == k
+
+  -- each span of the line has an entry
+  pub entry_of_span : (a : Annotation) → Contains marks a → is_marked_on s.text k a ≡ true → (e : LineAnnotation) × Contains es e × IsEntryOf s k a e
+  entry_of_span a among marked =
+      let parts = and_parts (is_marking a.kind && is_single_line s.text a) (first_line s.text a == k) marked in
+      let seen : Contains (map seen_entry es) (entry_of s a) = subst (λ xs. Contains xs (entry_of s a)) (sym same) (Contains-map (entry_of s) (filter (λ b. first_line s.text b == k) marks) a (Contains-filter (λ b. first_line s.text b == k) marks a parts.1 among)) in
+      let found = from_map seen_entry es (entry_of s a) seen in
+      (found.0, found.1, entry_is s k a found.0 marked (and_parts (is_marking a.kind) (is_single_line s.text a) parts.0).1 found.2)
+
+  -- each entry is that of a span
+  pub span_of_entry : (e : LineAnnotation) → Contains es e → (a : Annotation) × Contains marks a × IsEntryOf s k a e
+  span_of_entry e among =
+      let kept : List Annotation = filter (λ b. first_line s.text b == k) marks in
+      let seen : Contains (map (entry_of s) kept) (seen_entry e) = subst (λ xs. Contains xs (seen_entry e)) same (Contains-map seen_entry es e among) in
+      let found = from_map (entry_of s) kept (seen_entry e) seen in
+      let a : Annotation = found.0 in
+      let in_marks : Contains marks a = All-contains (Contains marks) kept a (All-filter (λ b. first_line s.text b == k) (Contains marks) marks (All-contains_itself marks)) found.1 in
+      let here : (first_line s.text a == k) ≡ true = All-contains (λ b. (first_line s.text b == k) ≡ true) kept a (filter_passes (λ b. first_line s.text b == k) marks) found.1 in
+      let is_short = All-contains (λ b. (is_marking b.kind ≡ true) × (is_single_line s.text b ≡ true)) marks a short in_marks in
+      let marked : is_marked_on s.text k a ≡ true = and_from (is_marking a.kind && is_single_line s.text a) (first_line s.text a == k) (and_from (is_marking a.kind) (is_single_line s.text a) is_short.0 is_short.1) here in
+      (a, in_marks, entry_is s k a e marked is_short.1 (sym found.2))
+
+  -- the mark of a column is that which the entries leave there
+  pub mark_of_entries : (p : ℕ) (kind : AnnotationKind) → IsMarkOf s.text marks k p kind → IsEntryMark es p kind
+  mark_of_entries p kind mark =
+      let own = entry_of_span mark.span mark.among mark.covers.0 in
+      let e : LineAnnotation = own.0 in
+      let is : IsEntryOf s k mark.span e = own.2 in
+      record {
+        entry = e;
+        among = own.1;
+        covers = (omega (arith, is.start, mark.covers.1.0), omega (arith, is.end, mark.covers.1.1));
+        is = is.kind ∙ mark.is;
+        least = λ other in_es covers.
+            let theirs = span_of_entry other in_es in
+            let b : Annotation = theirs.0 in
+            let isb : IsEntryOf s k b other = theirs.2 in
+            let narrow : span_width s.text mark.span ≤ span_width s.text b = mark.least b theirs.1 (isb.marked, (omega (arith, isb.start, covers.0), omega (arith, isb.end, covers.1))) in
+            omega (arith, is.start, is.end, isb.start, isb.end, narrow);
+        primary_wins = λ unprimary other in_es covers primary.
+            let theirs = span_of_entry other in_es in
+            let b : Annotation = theirs.0 in
+            let isb : IsEntryOf s k b other = theirs.2 in
+            let narrow : span_width s.text mark.span < span_width s.text b = mark.primary_wins (context_of kind (ap is_marking (sym mark.is) ∙ (and_parts (is_marking mark.span.kind) (is_single_line s.text mark.span) (and_parts (is_marking mark.span.kind && is_single_line s.text mark.span) (first_line s.text mark.span == k) mark.covers.0).0).0) unprimary) b theirs.1 (isb.marked, (omega (arith, isb.start, covers.0), omega (arith, isb.end, covers.1))) (sym isb.kind ∙ primary) in
+            omega (arith, is.start, is.end, isb.start, isb.end, narrow);
+      }
+    where
+      context_of : (kind : AnnotationKind) → is_marking kind ≡ true → is_primary kind ≡ false → kind ≡ Context
+      context_of Primary marking unprimary = cc
+      context_of Context marking unprimary = refl
+      context_of Visible marking unprimary = cc
+
+  -- where no span is marked, no entry covers
+  pub unmarked_by_entries : (p : ℕ) → All (λ a. IsMarkedAt s.text k p a → ⊥) marks → All (λ e. EntryCovers e p → ⊥) es
+  unmarked_by_entries p none =
+      λ i d within covers.
+      let theirs = span_of_entry (get_or es i d) (Contains-get_or es i d within) in
+      let b : Annotation = theirs.0 in
+      let isb : IsEntryOf s k b (get_or es i d) = theirs.2 in
+      All-contains (λ a. IsMarkedAt s.text k p a → ⊥) marks b none theirs.1 (isb.marked, (omega (arith, isb.start, covers.0), omega (arith, isb.end, covers.1)))
+
+  -- a line that qualifies has an entry
+  pub some_entry : list_any (is_marked_on s.text k) marks ≡ true → 0 < length es
+  some_entry some =
+      let found = from_any (is_marked_on s.text k) marks some in
+      let own = entry_of_span found.0 found.1 found.2 in
+      omega (arith, own.1.1)

@@ -1,0 +1,178 @@
+-- The rows of a covered report are a page that shows it.
+use Rattle.std.proofs.Common.{◌≡◌, ℕ, zero, suc, ◌+◌, ◌-◌, ◌<◌, ◌≤◌, ◌==◌, false, List, [], ◌∷◌, ◌++◌, map, length, take, drop, chars, get_or, refl, sym, ap, subst, ◌∙◌, arith, inl, inr}
+use Rattle.std.specs.List.{All, Contains, filter, range_with_len, count_by}
+use Rattle.std.specs.Cow.{cow_str_bytes}
+use Rattle.std.proofs.lemmas.Bool.{and_parts, cases_lt, eqb-true}
+use Rattle.std.proofs.lemmas.List.{map-append}
+use Rattle.std.proofs.lemmas.List.Elements.{All-head, All-tail}
+use Rattle.snippet_model.specs.declared.snippet.Annotation.{Annotation}
+use Rattle.snippet_model.specs.declared.snippet.Snippet.{Snippet}
+use Rattle.snippet_style.specs.Grid.{Cell, SPACE, row_at}
+use Rattle.snippet_style.specs.Print.{row_text}
+use Rattle.snippet_style.specs.declared.role.ElementStyle.TheVariants.{LineNumber, Quotation}
+use Rattle.snippet_text.specs.Normalized.{norm}
+use Rattle.snippet_parts.specs.declared.entries.AnnotatedLineInfo.{AnnotatedLineInfo}
+use Rattle.snippet_parts.specs.declared.entries.LineAnnotation.{LineAnnotation}
+use Rattle.snippet_parts.specs.Lines.{source_lines, text_at}
+use Rattle.snippet_parts.specs.Marked.{first_line, last_line, seen_entry, entry_of, seen_line, MarkedLine, marked_line, marked_lines, least_line, greatest_line}
+use Rattle.snippet_parts.specs.Mark.{is_marked_on}
+use Rattle.snippet_parts.specs.Window.{chars_at}
+use Rattle.snippet_strokes.specs.Entries.{IsMarkCell}
+use Rattle.snippet_strokes.specs.Rows.{shown_number, separator_row, HasNoNumber, ShowsSource, ShowsMarks}
+use Rattle.snippet_strokes.specs.Snippet as strokes
+use Rattle.snippet_strokes.proofs.SnippetLemmas.{HasNoNumber-separator_row}
+use Rattle.snippet_parts.proofs.MarkedLemmas.{least_line-le, greatest_line-ge, greatest_line-within, least_line-le-greatest_line}
+use Rattle.snippet_style.specs.declared.glyphs.DecorStyle.TheVariants.{Ascii}
+use Rattle.annotate_snippets.specs.declared.renderer.Renderer.{Renderer}
+use Rattle.annotate_snippets.specs.Covered.{gutter_of}
+use Rattle.annotate_snippets.specs.Drawn.{layout_of, numbered_source}
+use Rattle.annotate_snippets.specs.Page.{SourceRow, Other, NamedRow, lines_named, cells_of, cells_below, IsAscending}
+use Rattle.annotate_snippets.specs.Shown.{Frame, number_text, placeholder_of, room_of, ShowsSourceLine, ShowsMarksOf, ShowsLineAndMarks, AreRowsOf, ShowsSnippet}
+use Rattle.annotate_snippets.proofs.ListLemmas.{Contains-head, Contains-tail}
+use Rattle.annotate_snippets.proofs.MarkLemmas.{AreShort, mark_of_entries, unmarked_by_entries, some_entry}
+use Rattle.annotate_snippets.proofs.TitleLemmas.{row_text-drawn}
+use Rattle.annotate_snippets.proofs.WindowLemmas.{IsWindowOf-whole}
+
+-- where the parts of a snippet's rows stand
+abbrev pub frame_of : Snippet Annotation → Frame
+frame_of s = record { gutter = gutter_of s; code = gutter_of s + 3 }
+
+-- rows that aren't named by a line
+abbrev pub others : List (List Cell) → List NamedRow
+others rows = map (λ cells. record { name = Other; cells = cells }) rows
+
+pub cells_of-others : (rows : List (List Cell)) → cells_of (others rows) ≡ rows
+cells_of-others [] = refl
+cells_of-others (row ∷ rows) = ap (λ rs. row ∷ rs) (cells_of-others rows)
+
+lines_named-others : (rows : List (List Cell)) (more : List NamedRow) → lines_named (others rows ++ more) ≡ lines_named more
+lines_named-others [] more = refl
+lines_named-others (row ∷ rows) more = lines_named-others rows more
+
+cells_of-append : (xs ys : List NamedRow) → cells_of (xs ++ ys) ≡ cells_of xs ++ cells_of ys
+cells_of-append xs ys = map-append (λ (row : NamedRow). row.cells) xs ys
+
+-- the first row below, where there is one
+below-first : (below : List (List Cell)) (more : List NamedRow) → 0 < length below → cells_below (others below ++ more) ≡ row_at below 0
+below-first [] more some = absurd (omega arith)
+below-first (row ∷ below) more some = refl
+
+head_same : {X : Type 0} (x y : X) (xs ys : List X) → x ∷ xs ≡ y ∷ ys → x ≡ y
+head_same x y xs ys same = cc
+
+tail_same : {X : Type 0} (x y : X) (xs ys : List X) → x ∷ xs ≡ y ∷ ys → xs ≡ ys
+tail_same x y xs ys same = cc
+
+-- numbers one after the other are ascending, and each between the first and the last is among them
+ascending : (from count : ℕ) → IsAscending (range_with_len from count)
+ascending from zero = tt
+ascending from (suc zero) = tt
+ascending from (suc (suc count)) = (omega arith, ascending (from + 1) (suc count))
+
+in_range : (count from k : ℕ) → from ≤ k → k < from + count → Contains (range_with_len from count) k
+in_range zero from k low high = absurd (omega arith)
+in_range (suc count) from k low high =
+    elim (cases_lt from k) [
+      | inl less ↦ Contains-tail from k (range_with_len (from + 1) count) (in_range count (from + 1) k (omega arith) (omega arith))
+      | inr equal ↦ subst (λ n. Contains (range_with_len from (suc count)) n) (omega arith) (Contains-head from (range_with_len (from + 1) count))
+    ]
+
+module _ (r : Renderer) (plain : r.anonymized_snippet_line_numbers ≡ false) (s : Snippet Annotation) (short : AreShort (numbered_source s) s.markers.items) where
+  abbrev own_lines : ℕ
+  own_lines = length (source_lines (cow_str_bytes s.source))
+
+  abbrev row_shows : AnnotatedLineInfo → List (List Cell) → Type 0
+  row_shows info rows = strokes.ShowsLine (layout_of s) s.line_numbering info rows
+
+  number_plain : (number : ℕ) → number_text r s.line_numbering (gutter_of s) number ≡ shown_number s.line_numbering (gutter_of s) number
+  number_plain number = rw plain refl
+
+  -- a source row shows its line
+  source_line : (k : ℕ) (info : AnnotatedLineInfo) (row : List Cell) → k < own_lines → seen_line info ≡ marked_line (numbered_source s) s.markers.items k → ShowsSource (gutter_of s) (gutter_of s + 3) (shown_number s.line_numbering (gutter_of s) info.line_index) (norm (chars info.line.now)) row → ShowsSourceLine r (frame_of s) s k 0 row
+  source_line k info row within seen shows =
+      let number_is : info.line_index ≡ s.line_start + k = ap (λ (l : MarkedLine). l.number) seen in
+      let text_is : info.line.now ≡ text_at (source_lines (cow_str_bytes s.source)) k = ap (λ (l : MarkedLine). l.text) seen in
+      let code : row_text (drop (gutter_of s + 3) row) ≡ norm (chars_at (cow_str_bytes s.source) k) = ap row_text shows.code ∙ row_text-drawn Quotation (norm (chars info.line.now)) ∙ ap (λ bytes. norm (chars bytes)) text_is in
+      record {
+        within = within;
+        number = subst (λ shown. row_text (take (length shown) row) ≡ shown) (ap (λ n. shown_number s.line_numbering (gutter_of s) n) number_is ∙ sym (number_plain (s.line_start + k))) (ap row_text shows.number ∙ row_text-drawn LineNumber (shown_number s.line_numbering (gutter_of s) info.line_index));
+        window = IsWindowOf-whole (placeholder_of r.decor_style) (room_of r (frame_of s)) (count_by (is_marked_on (cow_str_bytes s.source) k) s.markers.items) (norm (chars_at (cow_str_bytes s.source) k)) (row_text (drop (gutter_of s + 3) row)) code;
+        whole = λ _. (refl, code);
+      }
+
+  -- the row below it has its marks
+  marks_of_line : (k : ℕ) (info : AnnotatedLineInfo) (row : List Cell) → seen_line info ≡ marked_line (numbered_source s) s.markers.items k → ShowsMarks (gutter_of s + 3) info.annotations.items row → ShowsMarksOf (frame_of s) s k 0 row
+  marks_of_line k info row seen shows =
+      let es : List LineAnnotation = info.annotations.items in
+      let same : map seen_entry es ≡ map (entry_of (numbered_source s)) (filter (λ a. first_line (cow_str_bytes s.source) a == k) s.markers.items) = ap (λ (l : MarkedLine). l.entries) seen in
+      record {
+        marks = λ p kind mark. subst (λ c. IsMarkCell kind (get_or row c SPACE)) (omega arith) (shows.marks p kind (mark_of_entries (numbered_source s) s.markers.items short k es same p kind mark));
+        spaces = λ unlabelled p right none. subst (λ c. get_or row c SPACE ≡ SPACE) (omega arith) (shows.spaces p (unmarked_by_entries (numbered_source s) s.markers.items short k es same p none));
+      }
+
+  -- the rows of a line show it
+  line_and_marks : (k : ℕ) (info : AnnotatedLineInfo) (rows : List (List Cell)) (more : List NamedRow) → k < own_lines → seen_line info ≡ marked_line (numbered_source s) s.markers.items k → (shows : row_shows info rows) → ShowsLineAndMarks r (frame_of s) s k shows.source (cells_below (others shows.below ++ more))
+  line_and_marks k info rows more within seen shows =
+      let es : List LineAnnotation = info.annotations.items in
+      let same : map seen_entry es ≡ map (entry_of (numbered_source s)) (filter (λ a. first_line (cow_str_bytes s.source) a == k) s.markers.items) = ap (λ (l : MarkedLine). l.entries) seen in
+      record {
+        dropped = 0;
+        line = source_line k info shows.source within seen shows.shows;
+        marks = λ qualifies.
+            let some : 0 < length es = some_entry (numbered_source s) s.markers.items short k es same (and_parts _ _ (and_parts _ _ qualifies).0).0 in
+            let there : 0 < length shows.below = omega (arith, shows.count, some) in
+            subst (λ row. ShowsMarksOf (frame_of s) s k 0 row) (sym (below-first shows.below more there)) (marks_of_line k info (row_at shows.below 0) seen shows.marks);
+      }
+
+  -- rows that aren't named by a line hold no number
+  others_are : (rows : List (List Cell)) (more : List NamedRow) → All (HasNoNumber (gutter_of s)) rows → AreRowsOf r (frame_of s) s more → AreRowsOf r (frame_of s) s (others rows ++ more)
+  others_are [] more unnumbered are = are
+  others_are (row ∷ rows) more unnumbered are =
+      (All-head (HasNoNumber (gutter_of s)) row rows unnumbered, others_are rows more (All-tail (HasNoNumber (gutter_of s)) row rows unnumbered) are)
+
+  -- rows with names: those of some lines, one behind the other
+  pub record AreNamed (from count : ℕ) (rows : List (List Cell)) : Type 0 where
+    pub part : List NamedRow
+    pub cells : cells_of part ≡ rows
+    pub names : lines_named part ≡ range_with_len from count
+    pub are : AreRowsOf r (frame_of s) s part
+
+  pub named_lines : (count from : ℕ) (infos : List AnnotatedLineInfo) (rows : List (List Cell)) → from + count ≤ own_lines → map seen_line infos ≡ map (marked_line (numbered_source s) s.markers.items) (range_with_len from count) → strokes.AreLinesShown (layout_of s) s.line_numbering infos rows → AreNamed from count rows
+  named_lines zero from [] rows within lines shown = record { part = []; cells = sym shown; names = refl; are = tt }
+  named_lines zero from (info ∷ infos) rows within lines shown = cc
+  named_lines (suc count) from [] rows within lines shown = cc
+  named_lines (suc count) from (info ∷ infos) rows within lines shown =
+      let here = head_same (seen_line info) (marked_line (numbered_source s) s.markers.items from) (map seen_line infos) (map (marked_line (numbered_source s) s.markers.items) (range_with_len (from + 1) count)) lines in
+      let further = tail_same (seen_line info) (marked_line (numbered_source s) s.markers.items from) (map seen_line infos) (map (marked_line (numbered_source s) s.markers.items) (range_with_len (from + 1) count)) lines in
+      let rest : AreNamed (from + 1) count shown.1 = named_lines count (from + 1) infos shown.1 (omega arith) further shown.4 in
+      let shows : row_shows info shown.0 = shown.3 in
+      let source_row : NamedRow = record { name = SourceRow from; cells = shows.source } in
+      record {
+        part = source_row ∷ (others shows.below ++ rest.part);
+        cells = ap (λ rs. shows.source ∷ rs) (cells_of-append (others shows.below) rest.part ∙ ap (λ rs. rs ++ cells_of rest.part) (cells_of-others shows.below) ∙ ap (λ rs. shows.below ++ rs) rest.cells) ∙ ap (λ rs. rs ++ shown.1) (sym shows.rows_are) ∙ sym shown.2;
+        names = ap (λ ks. from ∷ ks) (lines_named-others shows.below rest.part ∙ rest.names);
+        are = (line_and_marks from info shown.0 rest.part (omega arith) here shows, others_are shows.below rest.part shows.unnumbered rest.are);
+      }
+
+  -- the rows of a snippet show it: a separator row, and the rows of its lines
+  pub snippet_shown : (infos : List AnnotatedLineInfo) (rows : List (List Cell)) → 0 < length s.markers.items → map seen_line infos ≡ marked_lines (numbered_source s) s.markers.items → strokes.AreLinesShown (layout_of s) s.line_numbering infos rows → (part : List NamedRow) × (cells_of part ≡ separator_row Ascii (gutter_of s) ∷ rows) × ShowsSnippet r (frame_of s) s part
+  snippet_shown infos rows some lines shown =
+      let text : List ℕ = cow_str_bytes s.source in
+      let first : ℕ = least_line text s.markers.items in
+      let last : ℕ = greatest_line text s.markers.items in
+      let named : AreNamed first (last + 1 - first) rows = named_lines (last + 1 - first) first infos rows (omega (arith, greatest_line-within text s.markers.items, least_line-le-greatest_line text s.markers.items some)) lines shown in
+      let separator : NamedRow = record { name = Other; cells = separator_row Ascii (gutter_of s) } in
+      let among : (k : ℕ) → first ≤ k → k ≤ last → Contains (lines_named named.part) k = λ k from to. subst (λ ks. Contains ks k) (sym named.names) (in_range (last + 1 - first) first k from (omega arith)) in (
+        separator ∷ named.part,
+        ap (λ rs. separator_row Ascii (gutter_of s) ∷ rs) named.cells,
+        record {
+          ends = λ i d within.
+              let a : Annotation = get_or s.markers.items i d in
+              let from : first ≤ first_line text a = least_line-le text s.markers.items i d within in
+              let to : first_line text a ≤ last = greatest_line-ge text s.markers.items i d within in
+              let same : last_line text a ≡ first_line text a = eqb-true (last_line text a) (first_line text a) (short i d within).1 in
+              (among (first_line text a) from to, among (last_line text a) (omega (arith, same, from)) (omega (arith, same, to)));
+          ordered = subst IsAscending (sym named.names) (ascending first (last + 1 - first));
+          named = (HasNoNumber-separator_row Ascii (gutter_of s), named.are);
+        },
+      )

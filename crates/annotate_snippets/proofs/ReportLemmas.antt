@@ -1,0 +1,144 @@
+-- The text of a covered report shows it.
+use Rattle.std.proofs.Common.{◌≡◌, ℕ, zero, suc, ◌+◌, ◌<◌, ◌==◌, ◌||◌, Bool, true, false, not, List, [], ◌∷◌, ◌++◌, length, chars, Result, Ok, Err, refl, sym, ap, subst, ◌∙◌, arith}
+use Rattle.std.specs.List.{All, AllZip, Contains, flat_map}
+use Rattle.std.specs.Result.{IfOk, MatchResult, IsErrAnd}
+use Rattle.std.specs.Cow.{cow_str_bytes}
+use Rattle.std.proofs.lemmas.Bool.{and_parts}
+use Rattle.std.proofs.lemmas.List.{append-nil}
+use Rattle.std.proofs.lemmas.List.Elements.{All-nil, All-cons, All-head, All-tail, All-append, All-map, All-weaker, All-same}
+use Rattle.std.proofs.lemmas.List.Sums.{AllPass-from_list_all}
+use Rattle.snippet_model.specs.declared.snippet.Annotation.{Annotation}
+use Rattle.snippet_model.specs.declared.snippet.Group.{Group}
+use Rattle.snippet_model.specs.declared.snippet.Snippet.{Snippet}
+use Rattle.snippet_model.specs.declared.snippet.Title.{Title}
+use Rattle.snippet_model.specs.declared.snippet.Element.TheVariants.{Cause}
+use Rattle.snippet_style.specs.Grid.{Cell}
+use Rattle.snippet_style.specs.Print.{row_text, further_text, plain_text}
+use Rattle.snippet_text.specs.Normalized.{is_listed}
+use Rattle.snippet_titles.specs.Title.{title_rows}
+use Rattle.snippet_parts.specs.Mark.{is_marking, is_single_line}
+use Rattle.snippet_strokes.specs.Rows.{IsFree}
+use Rattle.snippet_strokes.proofs.SnippetLemmas.{free_from_AddsSnippet}
+use Rattle.annotate_snippets.specs.declared.renderer.Renderer.{Renderer}
+use Rattle.annotate_snippets.specs.Covered.{gutter_of, is_covered_annotation, is_covered_snippet, is_covered_title, is_plain, IsReportOf}
+use Rattle.annotate_snippets.specs.Drawn.{layout_of, numbered_source, AddsCause, IsTextOf}
+use Rattle.annotate_snippets.specs.Page.{NamedRow, cells_of, GroupPage}
+use Rattle.annotate_snippets.specs.Shown.{gutter_of_report, ShowsTitle, ShowsElement, ShowsGroup, ShowsReport, IsFreeBut}
+use Rattle.annotate_snippets.proofs.MarkLemmas.{AreShort}
+use Rattle.annotate_snippets.proofs.PageLemmas.{frame_of, snippet_shown}
+use Rattle.annotate_snippets.proofs.TitleLemmas.{ShowsTitle-rows, free_title}
+
+-- a covered annotation is marked, and stands on one line
+short_annotation : (source : List ℕ) (marks : List Annotation) (a : Annotation) → is_covered_annotation source marks a ≡ true → (is_marking a.kind ≡ true) × (is_single_line source a ≡ true)
+short_annotation source marks a covered =
+    let line = and_parts _ _ (and_parts _ _ (and_parts _ _ covered).0).0 in
+    ((and_parts _ _ (and_parts _ _ line.0).0).0, line.1)
+
+-- a covered snippet has spans, each of which is such a one
+pub record IsShortSnippet (s : Snippet Annotation) : Type 0 where
+  pub some : 0 < length s.markers.items
+  pub short : AreShort (numbered_source s) s.markers.items
+
+some_from : (n : ℕ) → not (n == 0) ≡ true → 0 < n
+some_from zero some = cc
+some_from (suc n) some = omega arith
+
+pub short_snippet : (width : ℕ) (s : Snippet Annotation) → is_covered_snippet width s ≡ true → IsShortSnippet s
+short_snippet width s covered =
+    let inner = and_parts _ _ (and_parts _ _ covered).0 in
+    let each : All (λ a. is_covered_annotation (cow_str_bytes s.source) s.markers.items a ≡ true) s.markers.items = AllPass-from_list_all (is_covered_annotation (cow_str_bytes s.source) s.markers.items) s.markers.items inner.1 in
+    record {
+      some = some_from (length s.markers.items) (and_parts _ _ inner.0).1;
+      short = All-weaker (λ a. is_covered_annotation (cow_str_bytes s.source) s.markers.items a ≡ true) (λ a. (is_marking a.kind ≡ true) × (is_single_line (cow_str_bytes s.source) a ≡ true)) (short_annotation (cow_str_bytes s.source) s.markers.items) s.markers.items each;
+    }
+
+-- the gutter of a report of one snippet is the snippet's
+gutter_is : (r : Renderer) (group : Group) (s : Snippet Annotation) → r.anonymized_snippet_line_numbers ≡ false → group.elements.items ≡ Cause s ∷ [] → gutter_of s ≡ gutter_of_report r (group ∷ [])
+gutter_is r group s plain elements =
+    sym (rw (plain, append-nil group.elements.items, elements) (omega arith))
+
+module _ (r : Renderer) (groups : List Group) (title : Title) (s : Snippet Annotation) (of : IsReportOf title s groups) (plain : r.anonymized_snippet_line_numbers ≡ false) (titled : is_covered_title title ≡ true) (covered : is_covered_snippet r.term_width s ≡ true) where
+  abbrev titles : List (List Cell)
+  titles = title_rows title.level (cow_str_bytes title.text)
+
+  -- the rows show the report
+  pub report_shown : (rows : List (List Cell)) (text : List ℕ) → AddsCause s titles rows → chars text ≡ plain_text rows → ShowsReport r groups text
+  report_shown rows text drawn printed =
+      let is : IsShortSnippet s = short_snippet r.term_width s covered in
+      let shown = snippet_shown r plain s is.short drawn.infos drawn.rows.rows is.some drawn.lines drawn.rows.shown in
+      let part : List NamedRow = shown.0 in
+      let group_page : GroupPage = record { title = titles; elements = part ∷ [] } in
+      let gutter : gutter_of s ≡ gutter_of_report r (of.group ∷ []) = gutter_is r of.group s plain of.elements_are in
+      let group_shown : ShowsGroup r (gutter_of_report r (of.group ∷ [])) of.group group_page = record {
+        frame = frame_of s;
+        gutter_is = gutter;
+        code_from = omega (arith, gutter);
+        code_is = λ _. ap (λ n. n + 3) gutter;
+        title = subst (λ t. ShowsTitle (gutter_of_report r (of.group ∷ [])) t titles) (sym of.title_is) (ShowsTitle-rows (gutter_of_report r (of.group ∷ [])) title titled);
+        elements = subst (λ es. AllZip (ShowsElement r (frame_of s)) es (part ∷ [])) (sym of.elements_are) (shown.2, tt);
+      } in
+      record {
+        page = group_page ∷ [];
+        shows = subst (λ gs. AllZip (ShowsGroup r (gutter_of_report r gs)) gs (group_page ∷ [])) (sym of.groups_are) (group_shown, tt);
+        printed = printed ∙ ap plain_text (drawn.rows.added ∙ ap (λ rs. titles ++ rs) (sym shown.1 ∙ sym (append-nil (cells_of part))));
+      }
+
+  -- no row holds a listed character
+  rows_free : (rows : List (List Cell)) → AddsCause s titles rows → All IsFree rows
+  rows_free rows drawn =
+      free_from_AddsSnippet (layout_of s) s.line_numbering drawn.infos titles rows drawn.rows (free_title title titled)
+
+-- the text of free rows is free
+row_free : (row : List Cell) → IsFree row → All (λ c. is_listed c ≡ false) (row_text row)
+row_free row free = All-map (λ c. is_listed c ≡ false) (λ (cell : Cell). cell.ch) row free
+
+further_free : (rows : List (List Cell)) → All IsFree rows → All (λ c. is_listed c ≡ false) (further_text rows)
+further_free [] free = All-nil (λ c. is_listed c ≡ false)
+further_free (row ∷ rows) free =
+    All-append (λ c. is_listed c ≡ false) (10 ∷ row_text row) (further_text rows) (All-cons (λ c. is_listed c ≡ false) 10 (row_text row) refl (row_free row (All-head IsFree row rows free))) (further_free rows (All-tail IsFree row rows free))
+
+text_free : (rows : List (List Cell)) → All IsFree rows → All (λ c. is_listed c ≡ false) (plain_text rows)
+text_free [] free = All-nil (λ c. is_listed c ≡ false)
+text_free (row ∷ rows) free =
+    All-append (λ c. is_listed c ≡ false) (row_text row) (further_text rows) (row_free row (All-head IsFree row rows free)) (further_free rows (All-tail IsFree row rows free))
+
+-- so is that of a covered report
+pub report_free : (trusted : List (List ℕ)) (r : Renderer) (groups : List Group) (title : Title) (s : Snippet Annotation) → IsReportOf title s groups → r.anonymized_snippet_line_numbers ≡ false → is_covered_title title ≡ true → is_covered_snippet r.term_width s ≡ true → (rows : List (List Cell)) (text : List ℕ) → AddsCause s (title_rows title.level (cow_str_bytes title.text)) rows → chars text ≡ plain_text rows → IsFreeBut trusted text
+report_free trusted r groups title s of plain titled covered rows text drawn printed =
+    let free : All (λ c. is_listed c ≡ false) (chars text) = All-same (λ c. is_listed c ≡ false) (chars text) (plain_text rows) printed (text_free rows (rows_free r groups title s of plain titled covered rows drawn)) in
+    All-weaker (λ c. is_listed c ≡ false) (λ c. is_listed c ≡ true → Contains (flat_map chars trusted) c) (λ c unlisted listed. absurd (clash (is_listed c) unlisted listed)) (chars text) free
+  where
+    clash : (b : Bool) → b ≡ false → b ≡ true → ⊥
+    clash true is_false is_true = cc
+    clash false is_false is_true = cc
+
+-- a plain renderer shows the numbers themselves
+pub numbers_shown : (r : Renderer) → is_plain r ≡ true → r.anonymized_snippet_line_numbers ≡ false
+numbers_shown r plain =
+    let off = and_parts _ _ plain in
+    none_of r.anonymized_origin_line_numbers r.anonymized_snippet_line_numbers r.hyperlink r.short_message r.no_graphics off.1
+  where
+    none_of : (a b c d e : Bool) → not (a || b || c || d || e) ≡ true → b ≡ false
+    none_of true b c d e off = grind (arith, off)
+    none_of false true c d e off = grind (arith, off)
+    none_of false false c d e off = refl
+
+-- what a text that prints a covered report's rows shows, and that it is free
+pub shows_of_text : (r : Renderer) (groups : List Group) (title : Title) (s : Snippet Annotation) → IsReportOf title s groups → is_plain r ≡ true → is_covered_title title ≡ true → is_covered_snippet r.term_width s ≡ true → (text : List ℕ) → IsTextOf title s text → ShowsReport r groups text
+shows_of_text r groups title s of plain titled covered text is =
+    report_shown r groups title s of (numbers_shown r plain) titled covered is.rows text is.drawn is.printed
+
+pub free_of_text : (trusted : List (List ℕ)) (r : Renderer) (groups : List Group) (title : Title) (s : Snippet Annotation) → IsReportOf title s groups → is_plain r ≡ true → is_covered_title title ≡ true → is_covered_snippet r.term_width s ≡ true → (text : List ℕ) → IsTextOf title s text → IsFreeBut trusted text
+free_of_text trusted r groups title s of plain titled covered text is =
+    report_free trusted r groups title s of (numbers_shown r plain) titled covered is.rows text is.drawn is.printed
+
+-- what holds of an answer holds of it where another error stands for the first
+pub IfOk-map_err : {T E D : Type 0} (P : T → Type 0) (R : E → D → Type 0) (r : Result T E) (q : Result T D) → IfOk r P → MatchResult r (λ x. q ≡ Ok x) (λ e. IsErrAnd q (R e)) → IfOk q P
+IfOk-map_err P R (Ok x) q holds is = subst (λ z. IfOk z P) (sym is) holds
+IfOk-map_err P R (Err e) (Ok y) holds is = absurd is
+IfOk-map_err P R (Err e) (Err d) holds is = tt
+
+-- and what follows from it
+pub IfOk-weaker : {T E : Type 0} (P Q : T → Type 0) → ((x : T) → P x → Q x) → (r : Result T E) → IfOk r P → IfOk r Q
+IfOk-weaker P Q weaker (Ok x) holds = weaker x holds
+IfOk-weaker P Q weaker (Err e) holds = tt

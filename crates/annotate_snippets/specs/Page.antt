@@ -1,0 +1,56 @@
+-- A page: the rows of a report's text, each of them part of a title or of an element.
+use Rattle.std.specs.Prelude.{ℕ, ◌<◌, List, [], ◌∷◌, ◌++◌, Option, Some, None, map}
+use Rattle.std.specs.List.{flat_map, filter_map, join_with_byte}
+use Rattle.snippet_style.specs.Grid.{Cell}
+use Rattle.snippet_style.specs.Print.{plain_text}
+
+-- what a row of an element shows: a line of the element's source, from 0, or something else
+pub data RowName : Type 0 where
+  SourceRow : (k : ℕ) → RowName
+  Other : RowName
+
+-- a row of an element: its name and its cells
+pub record NamedRow : Type 0 where
+  pub name : RowName
+  pub cells : List Cell
+
+-- the line that a source row is named by
+abbrev pub line_named : RowName → Option ℕ
+line_named (SourceRow k) = Some k
+line_named Other = None
+
+-- the lines that some rows are named by
+abbrev pub lines_named : List NamedRow → List ℕ
+lines_named rows = filter_map (λ row. line_named row.name) rows
+
+-- the cells of some rows
+abbrev pub cells_of : List NamedRow → List (List Cell)
+cells_of rows = map (λ row. row.cells) rows
+
+-- the cells of the row right below, which are none behind the last row
+abbrev pub cells_below : List NamedRow → List Cell
+cells_below [] = []
+cells_below (row ∷ rows) = row.cells
+
+-- the rows of a group: those of its title, of which there are none without a title, and those of each element
+pub record GroupPage : Type 0 where
+  pub title : List (List Cell)
+  pub elements : List (List NamedRow)
+
+-- a page: the rows of each group
+abbrev pub Page : Type 0
+Page = List GroupPage
+
+-- the rows of a group, from top to bottom
+abbrev pub group_rows : GroupPage → List (List Cell)
+group_rows g = g.title ++ flat_map cells_of g.elements
+
+-- the characters that print a page: the groups' rows, joined by line feeds
+abbrev pub page_text : Page → List ℕ
+page_text page = join_with_byte 10 (map (λ g. plain_text (group_rows g)) page)
+
+-- each number is greater than the one before it
+abbrev pub IsAscending : List ℕ → Type 0
+IsAscending [] = Unit {0}
+IsAscending (j ∷ []) = Unit {0}
+IsAscending (j ∷ k ∷ ks) = (j < k) × IsAscending (k ∷ ks)

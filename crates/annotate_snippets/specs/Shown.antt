@@ -1,0 +1,183 @@
+-- What the page of a report shows.
+use Rattle.std.specs.Prelude.{◌≡◌, ℕ, ◌+◌, ◌-◌, ◌<◌, ◌≤◌, ◌==◌, ◌&&◌, ◌||◌, max, Bool, true, false, not, List, [], ◌∷◌, ◌++◌, All, Contains, Option, Some, None, is_none, length, map, take, drop, fold, replicate, chars, codes, if◌then◌else◌}
+use Rattle.std.specs.List.{AllZip, flat_map, list_all, count_by, slice_split, slice_index_or}
+use Rattle.std.specs.Option.{option_to_list}
+use Rattle.std.specs.Cow.{cow_str_bytes}
+use Rattle.snippet_style.specs.Grid.{Cell, SPACE, row_at}
+use Rattle.snippet_style.specs.Print.{row_text}
+use Rattle.snippet_style.specs.declared.glyphs.DecorStyle.{DecorStyle}
+use Rattle.snippet_style.specs.declared.glyphs.DecorStyle.TheVariants.{Ascii, Unicode}
+use Rattle.snippet_text.specs.Normalized.{is_listed, norm}
+use Rattle.snippet_text.specs.Width.{width_of}
+use Rattle.snippet_model.specs.Level.{name_of}
+use Rattle.snippet_model.specs.declared.level.LevelName.{LevelName}
+use Rattle.snippet_model.specs.declared.level.LevelName.TheVariants.{Standard, Hidden, Own}
+use Rattle.snippet_model.specs.declared.snippet.Id.{Id}
+use Rattle.snippet_model.specs.declared.snippet.Title.{Title}
+use Rattle.snippet_model.specs.declared.snippet.Group.{Group}
+use Rattle.snippet_model.specs.declared.snippet.Snippet.{Snippet}
+use Rattle.snippet_model.specs.declared.snippet.Annotation.{Annotation}
+use Rattle.snippet_model.specs.declared.snippet.AnnotationKind.{AnnotationKind}
+use Rattle.snippet_model.specs.declared.snippet.Element.{Element}
+use Rattle.snippet_model.specs.declared.snippet.Element.TheVariants.{Message, Cause, Suggestion, Origin, Padding}
+use Rattle.snippet_parts.specs.Lines.{source_lines}
+use Rattle.snippet_parts.specs.Marked.{first_line, last_line}
+use Rattle.snippet_parts.specs.Mark.{is_marking, is_single_line, is_marked_on, qualifies_for_marks, IsMarkedAt, IsMarkOf}
+use Rattle.snippet_parts.specs.Window.{chars_at, stands_whole, IsWindowOf}
+use Rattle.snippet_strokes.specs.Entries.{IsMarkCell}
+use Rattle.snippet_strokes.specs.Rows.{shown_number, set_right, HasNoNumber}
+use Rattle.annotate_snippets.specs.declared.renderer.Renderer.{Renderer}
+use Rattle.annotate_snippets.specs.Covered.{gutter_of}
+use Rattle.annotate_snippets.specs.Page.{RowName, SourceRow, Other, NamedRow, lines_named, cells_below, GroupPage, Page, page_text, IsAscending}
+
+-- the characters of a title's text as it is drawn: a trusted one as it is, any other normalised
+abbrev pub drawn_text : Title → List ℕ
+drawn_text title = if title.allows_styling then chars (cow_str_bytes title.text) else norm (chars (cow_str_bytes title.text))
+
+-- whether a level's name isn't shown
+abbrev pub is_hidden : LevelName → Bool
+is_hidden Standard = false
+is_hidden Hidden = true
+is_hidden (Own name) = false
+
+-- the characters of an id: in brackets where a name stands before it
+abbrev pub bracketed : Bool → List ℕ → List ℕ
+bracketed hidden text = if hidden then text else codes "[" ++ text ++ codes "]"
+
+abbrev pub shown_id : Bool → Option Id → List ℕ
+shown_id hidden None = []
+shown_id hidden (Some id) = flat_map (λ t. bracketed hidden (norm (chars (cow_str_bytes t)))) (option_to_list id.id)
+
+-- what stands before a title's text: the level's name, the id, a colon and a space; no colon where neither is given
+abbrev pub title_label : Title → List ℕ
+title_label title =
+    let hidden = is_hidden title.level.name in
+    norm (chars (name_of title.level)) ++ shown_id hidden title.id ++ (if hidden && is_none title.id then [] else codes ": ")
+
+-- the text of each row of a title: its first line behind the label, each further one below its text
+abbrev pub texts_below : List ℕ → List (List ℕ) → List (List ℕ)
+texts_below label [] = []
+texts_below label (line ∷ lines) =
+    (label ++ line) ∷ map (λ further. replicate (width_of label) 32 ++ further) lines
+
+abbrev pub title_texts : Option Title → List (List ℕ)
+title_texts None = []
+title_texts (Some title) =
+    texts_below (title_label title) (slice_split (λ c. c == 10) (drawn_text title))
+
+-- the rows show a title, where there is one: its texts, row by row; and no further row holds a letter or digit in the
+-- gutter, so that none can be taken for the row of a line
+pub record ShowsTitle (gutter : ℕ) (title : Option Title) (rows : List (List Cell)) : Type 0 where
+  pub texts : (i : ℕ) → i < length (title_texts title) → row_text (row_at rows i) ≡ slice_index_or (title_texts title) i []
+  pub further : (i : ℕ) → length (title_texts title) ≤ i → HasNoNumber gutter (row_at rows i)
+
+-- the width of the gutter: that of the greatest line number counted, or of `LL` in place of all
+abbrev pub gutter_of_element : ℕ → Element → ℕ
+gutter_of_element gutter (Cause snippet) = max (gutter_of snippet) gutter
+gutter_of_element gutter (Suggestion snippet) = gutter
+gutter_of_element gutter (Message message) = gutter
+gutter_of_element gutter (Origin origin) = gutter
+gutter_of_element gutter (Padding padding) = gutter
+
+abbrev pub gutter_of_report : Renderer → List Group → ℕ
+gutter_of_report r groups =
+    if r.anonymized_snippet_line_numbers then 2 else fold gutter_of_element 0 (flat_map (λ g. g.elements.items) groups)
+
+-- what stands in the gutter beside a line of this number: the number, `LL` in its place, or spaces
+abbrev pub number_text : Renderer → Bool → ℕ → ℕ → List ℕ
+number_text r numbered gutter number =
+    if r.anonymized_snippet_line_numbers && numbered then set_right gutter (codes "LL") else shown_number numbered gutter number
+
+-- what stands for a part of a line that is left out
+abbrev pub placeholder_of : DecorStyle → List ℕ
+placeholder_of Ascii = 46 ∷ 46 ∷ 46 ∷ []
+placeholder_of Unicode = 0x2026 ∷ []
+
+-- where the rows of a report's snippets have their parts: the gutter's width, and the code's cell
+pub record Frame : Type 0 where
+  pub gutter : ℕ
+  pub code : ℕ
+
+-- the columns that code has
+abbrev pub room_of : Renderer → Frame → ℕ
+room_of r frame = r.term_width - frame.code
+
+-- the row shows line k: its number in the gutter, and from the code's cell to its end a window of the line's normalised
+-- text, left of which so many columns are dropped; where the line stands whole, all of it
+pub record ShowsSourceLine (r : Renderer) (frame : Frame) (s : Snippet Annotation) (k dropped : ℕ) (row : List Cell) : Type 0 where
+  pub within : k < length (source_lines (cow_str_bytes s.source))
+  pub number : let shown = number_text r s.line_numbering frame.gutter (s.line_start + k) in row_text (take (length shown) row) ≡ shown
+  pub window : IsWindowOf (placeholder_of r.decor_style) (room_of r frame) (count_by (is_marked_on (cow_str_bytes s.source) k) s.markers.items) (norm (chars_at (cow_str_bytes s.source) k)) dropped (row_text (drop frame.code row))
+  pub whole : stands_whole (room_of r frame) (length (placeholder_of r.decor_style)) s.fold (cow_str_bytes s.source) s.markers.items k ≡ true → (dropped ≡ 0) × (row_text (drop frame.code row) ≡ norm (chars_at (cow_str_bytes s.source) k))
+
+-- the row has the marks of line k: below each column that has a mark it holds a glyph of the mark's kind in the role of
+-- its strokes; and where no span on the line has a label, every other cell from the code's cell on is a space
+pub record ShowsMarksOf (frame : Frame) (s : Snippet Annotation) (k dropped : ℕ) (row : List Cell) : Type 0 where
+  pub marks : (p : ℕ) (kind : AnnotationKind) → IsMarkOf (cow_str_bytes s.source) s.markers.items k p kind → IsMarkCell kind (slice_index_or row (frame.code + p - dropped) SPACE)
+  pub spaces : All (λ a. is_marked_on (cow_str_bytes s.source) k a ≡ true → a.label ≡ None) s.markers.items → (p : ℕ) → dropped ≤ p → All (λ a. IsMarkedAt (cow_str_bytes s.source) k p a → ⊥) s.markers.items → slice_index_or row (frame.code + p - dropped) SPACE ≡ SPACE
+
+-- a source row of line k, with the row right below it: it shows the line, and where the line qualifies for the promise
+-- on marks the row below has its marks
+pub record ShowsLineAndMarks (r : Renderer) (frame : Frame) (s : Snippet Annotation) (k : ℕ) (row below : List Cell) : Type 0 where
+  pub dropped : ℕ
+  pub line : ShowsSourceLine r frame s k dropped row
+  pub marks : qualifies_for_marks (room_of r frame) (length (placeholder_of r.decor_style)) (cow_str_bytes s.source) s.markers.items k ≡ true → ShowsMarksOf frame s k dropped below
+
+-- a row is what its name says; one that isn't named by a line has no letter or digit in the gutter, so that it can't be
+-- taken for the row of a line
+abbrev pub IsRowOf : Renderer → Frame → Snippet Annotation → RowName → List Cell → List Cell → Type 0
+IsRowOf r frame s (SourceRow k) row below = ShowsLineAndMarks r frame s k row below
+IsRowOf r frame s Other row below = HasNoNumber frame.gutter row
+
+-- each row is what its name says
+abbrev pub AreRowsOf : Renderer → Frame → Snippet Annotation → List NamedRow → Type 0
+AreRowsOf r frame s [] = Unit {0}
+AreRowsOf r frame s (row ∷ rows) = IsRowOf r frame s row.name row.cells (cells_below rows) × AreRowsOf r frame s rows
+
+-- the rows show an annotated snippet: each line on which a span begins or ends has one source row, source rows of
+-- greater lines stand lower, and each row is what its name says
+pub record ShowsSnippet (r : Renderer) (frame : Frame) (s : Snippet Annotation) (rows : List NamedRow) : Type 0 where
+  pub ends : All (λ a. Contains (lines_named rows) (first_line (cow_str_bytes s.source) a) × Contains (lines_named rows) (last_line (cow_str_bytes s.source) a)) s.markers.items
+  pub ordered : IsAscending (lines_named rows)
+  pub named : AreRowsOf r frame s rows
+
+-- the rows show an element. Only of annotated snippets is anything said yet
+abbrev pub ShowsElement : Renderer → Frame → Element → List NamedRow → Type 0
+ShowsElement r frame (Cause snippet) rows = ShowsSnippet r frame snippet rows
+ShowsElement r frame (Suggestion snippet) rows = Unit {0}
+ShowsElement r frame (Message message) rows = Unit {0}
+ShowsElement r frame (Origin origin) rows = Unit {0}
+ShowsElement r frame (Padding padding) rows = Unit {0}
+
+-- whether an element has no spans of several lines, for which bars would stand left of the code
+abbrev pub has_no_bars : Element → Bool
+has_no_bars (Cause snippet) =
+    list_all (λ a. not (is_marking a.kind) || is_single_line (cow_str_bytes snippet.source) a) snippet.markers.items
+has_no_bars (Suggestion snippet) = true
+has_no_bars (Message message) = true
+has_no_bars (Origin origin) = true
+has_no_bars (Padding padding) = true
+
+-- the rows show a group: its title, and each element in order. The code's cell is three behind the gutter, and more
+-- only where bars stand between
+pub record ShowsGroup (r : Renderer) (gutter : ℕ) (g : Group) (page : GroupPage) : Type 0 where
+  pub frame : Frame
+  pub gutter_is : frame.gutter ≡ gutter
+  pub code_from : gutter + 3 ≤ frame.code
+  pub code_is : list_all has_no_bars g.elements.items ≡ true → frame.code ≡ gutter + 3
+  pub title : ShowsTitle gutter g.title page.title
+  pub elements : AllZip (ShowsElement r frame) g.elements.items page.elements
+
+-- the text shows a report: it prints a page that shows each group, in order
+pub record ShowsReport (r : Renderer) (groups : List Group) (text : List ℕ) : Type 0 where
+  pub page : Page
+  pub shows : AllZip (ShowsGroup r (gutter_of_report r groups)) groups page
+  pub printed : chars text ≡ page_text page
+
+-- each listed character of the text is one of a trusted text
+abbrev pub IsFreeBut : List (List ℕ) → List ℕ → Type 0
+IsFreeBut trusted text = All (λ c. is_listed c ≡ true → Contains (flat_map chars trusted) c) (chars text)
+
+-- whether a renderer draws the graphic form
+abbrev pub is_graphic : Renderer → Bool
+is_graphic r = not (r.no_graphics || r.short_message)
