@@ -1,7 +1,9 @@
 pub mod BoundsLemmas
 pub mod CountLemmas
 pub mod CursorLemmas
+pub mod Examples
 pub mod LinesLemmas
+pub mod MarkLemmas
 pub mod MarkedLemmas
 pub mod PlaceLemmas
 pub mod TableLemmas

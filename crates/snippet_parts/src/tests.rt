@@ -1,8 +1,15 @@
+ghost use Rattle.std.specs.Prelude.{◌+◌, ◌<◌, ◌^◌, All, length};
+ghost use Rattle.snippet_parts.specs.Lines.{newline_count};
+ghost use Rattle.snippet_parts.specs.Span.{IsSpan};
+
 use crate::lines::newline_count;
+use crate::mark::mark_of;
 use crate::place::Loc;
 use crate::source_map::SourceMap;
 use crate::span::check_span;
+use snippet_model::snippet::{Annotation, AnnotationKind};
 use snippet_text::text_fits;
+use std::alloc::{AllocError, Global};
 use std::test::Fail;
 
 #[test]
@@ -83,5 +90,70 @@ fn places_behind_a_tab(rt: HostRuntime) -> Result<(), Fail> {
             byte: 2
         }
     );
+    Ok(())
+}
+
+// The marks of the first columns of a source's first line: `^`, `-` or a space.
+fn marks(
+    alloc: Global,
+    source: &str,
+    annotations: &[Annotation<'_>],
+    columns: usize,
+) -> Result<String, AllocError>
+    requires fits { length source.now < 2 ^ 56 }
+    requires numbers { newline_count source.now + 2 < 2 ^ 64 }
+    requires spans { All (λ a. IsSpan source.now a.span.start a.span.end) annotations.now }
+{
+    let map = SourceMap::new(alloc, source, 1)?;
+    let mut marks = String::new(alloc);
+    for column in 0..columns {
+        marks.push(match mark_of(&map, annotations, 1, column) {
+            Some(AnnotationKind::Primary) => '^',
+            Some(_) => '-',
+            None => ' ',
+        })?;
+    }
+    Ok(marks)
+}
+
+#[test]
+fn marks_of_a_span(rt: HostRuntime) -> Result<(), Fail> {
+    for (source, start, end, want) in [
+        ("日本", 3, 6, "  ^^ "),
+        ("\tx", 1, 2, "    ^ "),
+        ("e\u{301}x", 1, 3, " ^ "),
+        ("ab", 2, 3, "  ^ "),
+    ] {
+        assert!(rt; text_fits(source) && newline_count(source) < 9);
+        assert!(rt; check_span(source, &(start..end)).is_none());
+        let annotations = [AnnotationKind::Primary.span(start..end)];
+        let got = marks(rt.alloc(), source, &annotations, want.len())?;
+        assert_eq!(rt; got.as_str(), want);
+    }
+    Ok(())
+}
+
+#[test]
+fn marks_of_two_spans(rt: HostRuntime) -> Result<(), Fail> {
+    for (source, context, primary, want) in [
+        ("abcdef", (0, 6), (2, 4), "--^^--"),
+        ("abcd", (0, 2), (0, 2), "^^  "),
+    ] {
+        assert!(rt; text_fits(source) && newline_count(source) < 9);
+        assert!(rt; check_span(source, &(context.0..context.1)).is_none());
+        assert!(rt; check_span(source, &(primary.0..primary.1)).is_none());
+        let context_first = [
+            AnnotationKind::Context.span(context.0..context.1),
+            AnnotationKind::Primary.span(primary.0..primary.1),
+        ];
+        let got = marks(rt.alloc(), source, &context_first, want.len())?;
+        assert_eq!(rt; got.as_str(), want);
+        let primary_first = [
+            AnnotationKind::Primary.span(primary.0..primary.1),
+            AnnotationKind::Context.span(context.0..context.1),
+        ];
+        let got = marks(rt.alloc(), source, &primary_first, want.len())?;
+        assert_eq!(rt; got.as_str(), want);
+    }
     Ok(())
 }

@@ -1,9 +1,9 @@
 -- The columns of texts that the library itself writes.
 use Rattle.std.proofs.Common.{◌≡◌, codes, refl}
-use Rattle.unicode_width.specs.Width as unicode
+unfoldable pub use Rattle.unicode_width.proofs.Computing.{unicode_width}
 use Rattle.snippet_text.specs.Width.{char_width, width_of}
 
 -- a colon and a space
 pub width_of-colon : width_of (codes ": ") ≡ 2
-unfolding char_width unicode.char_width
+unfolding char_width unicode_width
 width_of-colon = refl
