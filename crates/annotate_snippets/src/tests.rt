@@ -54,6 +54,44 @@ fn draws_lines_that_follow_each_other(rt: HostRuntime) -> Result<(), Fail> {
 }
 
 #[test]
+fn marks_the_narrowest_span(rt: HostRuntime) -> Result<(), Fail> {
+    let snippet = Snippet::source(rt.alloc(), "abcdef")
+        .annotation(AnnotationKind::Context.span(0..6))?
+        .annotation(AnnotationKind::Primary.span(2..4))?;
+    assert_eq!(rt;
+        text(rt.alloc(), "e", snippet)?.as_str(),
+        "error: e\n  |\n1 | abcdef\n  | --^^--"
+    );
+    let snippet = Snippet::source(rt.alloc(), "abcdef")
+        .annotation(AnnotationKind::Primary.span(2..4))?
+        .annotation(AnnotationKind::Context.span(0..6))?;
+    assert_eq!(rt;
+        text(rt.alloc(), "e", snippet)?.as_str(),
+        "error: e\n  |\n1 | abcdef\n  | --^^--"
+    );
+    Ok(())
+}
+
+#[test]
+fn marks_a_primary_span_at_ties(rt: HostRuntime) -> Result<(), Fail> {
+    let snippet = Snippet::source(rt.alloc(), "abcd")
+        .annotation(AnnotationKind::Context.span(0..2))?
+        .annotation(AnnotationKind::Primary.span(0..2))?;
+    assert_eq!(rt;
+        text(rt.alloc(), "e", snippet)?.as_str(),
+        "error: e\n  |\n1 | abcd\n  | ^^"
+    );
+    let snippet = Snippet::source(rt.alloc(), "abcd")
+        .annotation(AnnotationKind::Primary.span(0..2))?
+        .annotation(AnnotationKind::Context.span(0..2))?;
+    assert_eq!(rt;
+        text(rt.alloc(), "e", snippet)?.as_str(),
+        "error: e\n  |\n1 | abcd\n  | ^^"
+    );
+    Ok(())
+}
+
+#[test]
 fn draws_every_character(rt: HostRuntime) -> Result<(), Fail> {
     let snippet = Snippet::source(rt.alloc(), "日本").annotation(AnnotationKind::Primary.span(3..6))?;
     assert_eq!(rt;
@@ -174,9 +212,7 @@ fn refuses_faulty_reports(rt: HostRuntime) -> Result<(), Fail> {
 
 #[test]
 fn refuses_what_is_not_drawn_yet(rt: HostRuntime) -> Result<(), Fail> {
-    let snippet = Snippet::source(rt.alloc(), "abcdef")
-        .annotation(AnnotationKind::Primary.span(0..1))?
-        .annotation(AnnotationKind::Context.span(2..3))?;
+    let snippet = Snippet::source(rt.alloc(), "a\nb").annotation(AnnotationKind::Primary.span(0..3))?;
     assert!(rt; matches!(text(rt.alloc(), "e", snippet), Err(RenderError::NotYet)));
     let snippet = Snippet::source(rt.alloc(), "ab");
     assert!(rt; matches!(text(rt.alloc(), "e", snippet), Err(RenderError::NotYet)));
