@@ -2,7 +2,7 @@
 use Rattle.std.proofs.Common.{◌≡◌, ℕ, zero, suc, ◌+◌, ◌-◌, ◌<◌, ◌≤◌, ◌==◌, false, List, [], ◌∷◌, ◌++◌, map, length, take, drop, chars, get_or, refl, sym, ap, subst, ◌∙◌, arith, inl, inr}
 use Rattle.std.specs.List.{All, Contains, filter, range_with_len, count_by}
 use Rattle.std.specs.Cow.{cow_str_bytes}
-use Rattle.std.proofs.lemmas.Bool.{and_parts, cases_lt, eqb-true}
+use Rattle.std.proofs.lemmas.Bool.{and_parts, cases_lt, cases_eq, eqb-true}
 use Rattle.std.proofs.lemmas.List.{map-append}
 use Rattle.std.proofs.lemmas.List.Elements.{All-head, All-tail}
 use Rattle.snippet_model.specs.declared.snippet.Annotation.{Annotation}
@@ -18,11 +18,15 @@ use Rattle.snippet_parts.specs.Marked.{first_line, last_line, seen_entry, entry_
 use Rattle.snippet_parts.specs.Mark.{is_marked_on}
 use Rattle.snippet_parts.specs.Window.{chars_at}
 use Rattle.snippet_strokes.specs.Entries.{IsMarkCell}
-use Rattle.snippet_strokes.specs.Rows.{shown_number, separator_row, HasNoNumber, ShowsSource, ShowsMarks}
+use Rattle.snippet_strokes.specs.Rows.{shown_number, separator_row, HasNoNumber, IsSourceRow, ShowsMarks}
+use Rattle.snippet_strokes.specs.declared.layout.Layout.{Layout}
 use Rattle.snippet_strokes.specs.Snippet as strokes
 use Rattle.snippet_strokes.proofs.SnippetLemmas.{HasNoNumber-separator_row}
 use Rattle.snippet_parts.proofs.MarkedLemmas.{least_line-le, greatest_line-ge, greatest_line-within, least_line-le-greatest_line}
-use Rattle.snippet_style.specs.declared.glyphs.DecorStyle.TheVariants.{Ascii}
+use Rattle.snippet_style.specs.declared.glyphs.DecorStyle.TheVariants.{Ascii, Unicode}
+use Rattle.snippet_style.specs.declared.glyphs.DecorStyle.{DecorStyle}
+use Rattle.snippet_style.specs.Glyphs.{separator_of}
+use Rattle.std.specs.Char.{is_ascii_alphanumeric}
 use Rattle.annotate_snippets.specs.declared.renderer.Renderer.{Renderer}
 use Rattle.annotate_snippets.specs.Covered.{gutter_of}
 use Rattle.annotate_snippets.specs.Drawn.{layout_of, numbered_source}
@@ -63,6 +67,18 @@ head_same x y xs ys same = cc
 tail_same : {X : Type 0} (x y : X) (xs ys : List X) → x ∷ xs ≡ y ∷ ys → xs ≡ ys
 tail_same x y xs ys same = cc
 
+-- between a line's number and its code stand the separator and spaces
+beside_number : (layout : Layout) (shown text : List ℕ) (row : List Cell) (c : ℕ) → IsSourceRow layout shown text row → length shown ≤ c → c < layout.code → is_ascii_alphanumeric (get_or row c SPACE).ch ≡ false
+beside_number layout shown text row c is right left =
+    elim (cases_eq c (layout.gutter + 1)) [
+      | inl at ↦ ap (λ (cell : Cell). is_ascii_alphanumeric cell.ch) (ap (λ n. get_or row n SPACE) at ∙ is.separator) ∙ no_letter layout.decor
+      | inr other ↦ ap (λ (cell : Cell). is_ascii_alphanumeric cell.ch) (is.blank c right other left)
+    ]
+  where
+    no_letter : (decor : DecorStyle) → is_ascii_alphanumeric (separator_of decor) ≡ false
+    no_letter Ascii = refl
+    no_letter Unicode = refl
+
 -- numbers one after the other are ascending, and each between the first and the last is among them
 ascending : (from count : ℕ) → IsAscending (range_with_len from count)
 ascending from zero = tt
@@ -88,14 +104,16 @@ module _ (r : Renderer) (plain : r.anonymized_snippet_line_numbers ≡ false) (s
   number_plain number = rw plain refl
 
   -- a source row shows its line
-  source_line : (k : ℕ) (info : AnnotatedLineInfo) (row : List Cell) → k < own_lines → seen_line info ≡ marked_line (numbered_source s) s.markers.items k → ShowsSource (gutter_of s) (gutter_of s + 3) (shown_number s.line_numbering (gutter_of s) info.line_index) (norm (chars info.line.now)) row → ShowsSourceLine r (frame_of s) s k 0 row
-  source_line k info row within seen shows =
-      let number_is : info.line_index ≡ s.line_start + k = ap (λ (l : MarkedLine). l.number) seen in
+  source_line : (k : ℕ) (info : AnnotatedLineInfo) (row : List Cell) → k < own_lines → seen_line info ≡ marked_line (numbered_source s) s.markers.items k → IsSourceRow (layout_of s) (shown_number s.line_numbering (gutter_of s) info.line_index) (norm (chars info.line.now)) row → ShowsSourceLine r (frame_of s) s k 0 row
+  source_line k info row within seen is =
+      let shows = is.shows in
+      let same_number : shown_number s.line_numbering (gutter_of s) info.line_index ≡ number_text r s.line_numbering (gutter_of s) (s.line_start + k) = ap (λ n. shown_number s.line_numbering (gutter_of s) n) (ap (λ (l : MarkedLine). l.number) seen) ∙ sym (number_plain (s.line_start + k)) in
       let text_is : info.line.now ≡ text_at (source_lines (cow_str_bytes s.source)) k = ap (λ (l : MarkedLine). l.text) seen in
       let code : row_text (drop (gutter_of s + 3) row) ≡ norm (chars_at (cow_str_bytes s.source) k) = ap row_text shows.code ∙ row_text-drawn Quotation (norm (chars info.line.now)) ∙ ap (λ bytes. norm (chars bytes)) text_is in
       record {
         within = within;
-        number = subst (λ shown. row_text (take (length shown) row) ≡ shown) (ap (λ n. shown_number s.line_numbering (gutter_of s) n) number_is ∙ sym (number_plain (s.line_start + k))) (ap row_text shows.number ∙ row_text-drawn LineNumber (shown_number s.line_numbering (gutter_of s) info.line_index));
+        number = subst (λ shown. row_text (take (length shown) row) ≡ shown) same_number (ap row_text shows.number ∙ row_text-drawn LineNumber (shown_number s.line_numbering (gutter_of s) info.line_index));
+        beside = λ c right left. beside_number (layout_of s) _ _ row c is (omega (arith, ap length same_number, right)) left;
         window = IsWindowOf-whole (placeholder_of r.decor_style) (room_of r (frame_of s)) (count_by (is_marked_on (cow_str_bytes s.source) k) s.markers.items) (norm (chars_at (cow_str_bytes s.source) k)) (row_text (drop (gutter_of s + 3) row)) code;
         whole = λ _. (refl, code);
       }

@@ -2,6 +2,7 @@
 use Rattle.std.specs.Prelude.{◌≡◌, ℕ, ◌+◌, ◌-◌, ◌<◌, ◌≤◌, ◌==◌, ◌&&◌, ◌||◌, max, Bool, true, false, not, List, [], ◌∷◌, ◌++◌, All, Contains, Option, Some, None, is_none, length, map, take, drop, fold, replicate, chars, codes, if◌then◌else◌}
 use Rattle.std.specs.List.{AllZip, flat_map, list_all, count_by, slice_split, slice_index_or}
 use Rattle.std.specs.Option.{option_to_list}
+use Rattle.std.specs.Char.{is_ascii_alphanumeric}
 use Rattle.std.specs.Cow.{cow_str_bytes}
 use Rattle.snippet_style.specs.Grid.{Cell, SPACE, row_at}
 use Rattle.snippet_style.specs.Print.{row_text}
@@ -102,11 +103,13 @@ pub record Frame : Type 0 where
 abbrev pub room_of : Renderer → Frame → ℕ
 room_of r frame = r.term_width - frame.code
 
--- the row shows line k: its number in the gutter, and from the code's cell to its end a window of the line's normalised
--- text, left of which so many columns are dropped; where the line stands whole, all of it
+-- the row shows line k: its number in the gutter with no letter or digit between it and the code, and from the code's
+-- cell to its end a window of the line's normalised text, left of which so many columns are dropped; where the line
+-- stands whole, all of it
 pub record ShowsSourceLine (r : Renderer) (frame : Frame) (s : Snippet Annotation) (k dropped : ℕ) (row : List Cell) : Type 0 where
   pub within : k < length (source_lines (cow_str_bytes s.source))
   pub number : let shown = number_text r s.line_numbering frame.gutter (s.line_start + k) in row_text (take (length shown) row) ≡ shown
+  pub beside : (c : ℕ) → length (number_text r s.line_numbering frame.gutter (s.line_start + k)) ≤ c → c < frame.code → is_ascii_alphanumeric (slice_index_or row c SPACE).ch ≡ false
   pub window : IsWindowOf (placeholder_of r.decor_style) (room_of r frame) (count_by (is_marked_on (cow_str_bytes s.source) k) s.markers.items) (norm (chars_at (cow_str_bytes s.source) k)) dropped (row_text (drop frame.code row))
   pub whole : stands_whole (room_of r frame) (length (placeholder_of r.decor_style)) s.fold (cow_str_bytes s.source) s.markers.items k ≡ true → (dropped ≡ 0) × (row_text (drop frame.code row) ≡ norm (chars_at (cow_str_bytes s.source) k))
 

@@ -212,7 +212,9 @@ fn refuses_faulty_reports(rt: HostRuntime) -> Result<(), Fail> {
 
 #[test]
 fn refuses_what_is_not_drawn_yet(rt: HostRuntime) -> Result<(), Fail> {
-    let snippet = Snippet::source(rt.alloc(), "a\nb").annotation(AnnotationKind::Primary.span(0..3))?;
+    let snippet = Snippet::source(rt.alloc(), "a\nb").annotation(AnnotationKind::Primary.span(
+        0..3,
+    ))?;
     assert!(rt; matches!(text(rt.alloc(), "e", snippet), Err(RenderError::NotYet)));
     let snippet = Snippet::source(rt.alloc(), "ab");
     assert!(rt; matches!(text(rt.alloc(), "e", snippet), Err(RenderError::NotYet)));

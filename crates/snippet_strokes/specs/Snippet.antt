@@ -4,7 +4,7 @@ use Rattle.snippet_parts.specs.declared.entries.AnnotatedLineInfo.{AnnotatedLine
 use Rattle.snippet_strokes.specs.declared.layout.Layout.{Layout}
 use Rattle.snippet_style.specs.Grid.{Cell, row_at}
 use Rattle.snippet_text.specs.Normalized.{norm}
-use Rattle.snippet_strokes.specs.Rows.{shown_number, separator_row, HasNoNumber, IsFree, ShowsSource, ShowsMarks}
+use Rattle.snippet_strokes.specs.Rows.{shown_number, separator_row, HasNoNumber, IsFree, IsSourceRow, ShowsMarks}
 
 -- the rows show this line: the first its number and its source, normalised, the second (which is there if the line has
 -- entries) its marks; none but the first can be taken for a source row, and none holds a listed character
@@ -12,7 +12,7 @@ pub record ShowsLine (layout : Layout) (numbered : Bool) (info : AnnotatedLineIn
   pub source : List Cell
   pub below : List (List Cell)
   pub rows_are : rows ≡ source ∷ below
-  pub shows : ShowsSource layout.gutter layout.code (shown_number numbered layout.gutter info.line_index) (norm (chars info.line.now)) source
+  pub shows : IsSourceRow layout (shown_number numbered layout.gutter info.line_index) (norm (chars info.line.now)) source
   pub count : length below ≡ min 1 (length info.annotations.items)
   pub marks : ShowsMarks layout.code info.annotations.items (row_at below 0)
   pub unnumbered : All (HasNoNumber layout.gutter) below
