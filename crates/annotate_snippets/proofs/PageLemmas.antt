@@ -1,6 +1,6 @@
 -- The rows of a covered report are a page that shows it.
 use Rattle.std.proofs.Common.{◌≡◌, ℕ, zero, suc, ◌+◌, ◌-◌, ◌<◌, ◌≤◌, ◌==◌, false, List, [], ◌∷◌, ◌++◌, map, length, take, drop, chars, get_or, refl, sym, ap, subst, ◌∙◌, arith, inl, inr}
-use Rattle.std.specs.List.{All, Contains, filter, range_with_len, count_by}
+use Rattle.std.specs.List.{All, Contains, filter, range_with_len}
 use Rattle.std.specs.Cow.{cow_str_bytes}
 use Rattle.std.proofs.lemmas.Bool.{and_parts, cases_lt, cases_eq, eqb-true}
 use Rattle.std.proofs.lemmas.List.{map-append}
@@ -15,7 +15,6 @@ use Rattle.snippet_parts.specs.declared.entries.AnnotatedLineInfo.{AnnotatedLine
 use Rattle.snippet_parts.specs.declared.entries.LineAnnotation.{LineAnnotation}
 use Rattle.snippet_parts.specs.Lines.{source_lines, text_at}
 use Rattle.snippet_parts.specs.Marked.{first_line, last_line, seen_entry, entry_of, seen_line, MarkedLine, marked_line, marked_lines, least_line, greatest_line}
-use Rattle.snippet_parts.specs.Mark.{is_marked_on}
 use Rattle.snippet_parts.specs.Window.{chars_at}
 use Rattle.snippet_strokes.specs.Entries.{IsMarkCell}
 use Rattle.snippet_strokes.specs.Rows.{shown_number, separator_row, HasNoNumber, IsSourceRow, ShowsMarks}
@@ -31,7 +30,7 @@ use Rattle.annotate_snippets.specs.declared.renderer.Renderer.{Renderer}
 use Rattle.annotate_snippets.specs.Covered.{gutter_of}
 use Rattle.annotate_snippets.specs.Drawn.{layout_of, numbered_source}
 use Rattle.annotate_snippets.specs.Page.{SourceRow, Other, NamedRow, lines_named, cells_of, cells_below, IsAscending}
-use Rattle.annotate_snippets.specs.Shown.{Frame, number_text, placeholder_of, room_of, ShowsSourceLine, ShowsMarksOf, ShowsLineAndMarks, AreRowsOf, ShowsSnippet}
+use Rattle.annotate_snippets.specs.Shown.{Frame, number_text, placeholder_of, room_of, wide_spans, ShowsSourceLine, ShowsMarksOf, ShowsLineAndMarks, AreRowsOf, ShowsSnippet}
 use Rattle.annotate_snippets.proofs.ListLemmas.{Contains-head, Contains-tail}
 use Rattle.annotate_snippets.proofs.MarkLemmas.{AreShort, mark_of_entries, unmarked_by_entries, some_entry}
 use Rattle.annotate_snippets.proofs.TitleLemmas.{row_text-drawn}
@@ -114,7 +113,7 @@ module _ (r : Renderer) (plain : r.anonymized_snippet_line_numbers ≡ false) (s
         within = within;
         number = subst (λ shown. row_text (take (length shown) row) ≡ shown) same_number (ap row_text shows.number ∙ row_text-drawn LineNumber (shown_number s.line_numbering (gutter_of s) info.line_index));
         beside = λ c right left. beside_number (layout_of s) _ _ row c is (omega (arith, ap length same_number, right)) left;
-        window = IsWindowOf-whole (placeholder_of r.decor_style) (room_of r (frame_of s)) (count_by (is_marked_on (cow_str_bytes s.source) k) s.markers.items) (norm (chars_at (cow_str_bytes s.source) k)) (row_text (drop (gutter_of s + 3) row)) code;
+        window = IsWindowOf-whole (placeholder_of r.decor_style) (room_of r (frame_of s)) (wide_spans (room_of r (frame_of s)) (length (placeholder_of r.decor_style)) s k) (norm (chars_at (cow_str_bytes s.source) k)) (row_text (drop (gutter_of s + 3) row)) code;
         whole = λ _. (refl, code);
       }
 
