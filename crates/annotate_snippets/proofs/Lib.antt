@@ -1,5 +1,6 @@
 pub mod FaultLemmas
 pub mod GutterLemmas
+pub mod LabelLemmas
 pub mod ListLemmas
 pub mod MarkLemmas
 pub mod PageLemmas

@@ -1,9 +1,9 @@
 -- The marks of a line's spans are those of its entries.
-use Rattle.std.proofs.Common.{◌≡◌, ℕ, ◌+◌, ◌<◌, ◌≤◌, ◌==◌, ◌&&◌, max, Bool, true, false, List, [], ◌∷◌, map, length, get_or, refl, sym, ap, subst, ◌∙◌, arith, inl, inr}
+use Rattle.std.proofs.Common.{Option, Some, None, cond, ◌≡◌, ℕ, ◌+◌, ◌<◌, ◌≤◌, ◌==◌, ◌&&◌, max, Bool, true, false, List, [], ◌∷◌, map, length, get_or, refl, sym, ap, subst, ◌∙◌, arith, inl, inr}
 use Rattle.std.specs.List.{All, Contains, filter, list_any}
 use Rattle.std.proofs.lemmas.Bool.{and_parts, and_from, eqb-true, eq-eqb, cases_Bool}
 use Rattle.std.proofs.lemmas.List.{length-map, get_or-map}
-use Rattle.std.proofs.lemmas.List.Elements.{All-contains, All-contains_itself, All-filter, filter_passes, Contains-get_or}
+use Rattle.std.proofs.lemmas.List.Elements.{All-contains, All-contains_itself, All-filter, filter_passes, All-head, All-tail, Contains-get_or}
 use Rattle.snippet_model.specs.declared.snippet.Annotation.{Annotation}
 use Rattle.snippet_model.specs.declared.snippet.AnnotationKind.{AnnotationKind}
 use Rattle.snippet_model.specs.declared.snippet.AnnotationKind.TheVariants.{Primary, Context, Visible}
@@ -12,6 +12,10 @@ use Rattle.snippet_parts.specs.Lines.{Source}
 use Rattle.snippet_parts.specs.Place.{place_of, location_of, start_location, end_location, locations_of}
 use Rattle.snippet_parts.specs.Marked.{first_line, last_line, Entry, seen_entry, entry_of}
 use Rattle.snippet_parts.specs.Mark.{is_marking, is_single_line, is_marked_on, start_column, end_column, span_width, IsMarkedAt, IsMarkOf}
+use Rattle.std.specs.Borrow.{Bor}
+use Rattle.std.specs.Option.{option_copied}
+use Rattle.snippet_strokes.specs.Entries as entry
+use Rattle.annotate_snippets.specs.Shown.{shown_label, normalized_chars}
 use Rattle.snippet_strokes.specs.Entries.{EntryCovers, is_primary, IsEntryMark}
 use Rattle.annotate_snippets.proofs.ListLemmas.{Contains-filter, Contains-map, Contains-head, Contains-tail}
 
@@ -51,6 +55,12 @@ pub record IsEntryOf (s : Source) (k : ℕ) (a : Annotation) (e : LineAnnotation
   pub start : e.start.display ≡ start_column s.text a
   pub end : e.end.display ≡ end_column s.text a
   pub kind : e.kind ≡ a.kind
+  pub label : entry.shown_label e.label ≡ shown_label a
+
+-- an entry's label shows what its text does
+label_is : (label : Option (Bor (List ℕ))) → entry.shown_label label ≡ normalized_chars (option_copied label)
+label_is None = refl
+label_is (Some l) = refl
 
 entry_is : (s : Source) (k : ℕ) (a : Annotation) (e : LineAnnotation) → is_marked_on s.text k a ≡ true → is_single_line s.text a ≡ true → seen_entry e ≡ entry_of s a → IsEntryOf s k a e
 entry_is s k a e marked single same =
@@ -59,6 +69,7 @@ entry_is s k a e marked single same =
       start = ap (λ (x : Entry). x.start.display) same ∙ start_of_entry s a;
       end = ap (λ (x : Entry). x.end.display) same ∙ end_of_entry s a single;
       kind = ap (λ (x : Entry). x.kind) same;
+      label = label_is e.label ∙ ap normalized_chars (ap (λ (x : Entry). x.label) same);
     }
 
 -- what a mapped list contains
@@ -153,3 +164,47 @@ module _ (s : Source) (marks : List Annotation) (short : AreShort s marks) (k : 
       let found = from_any (is_marked_on s.text k) marks some in
       let own = entry_of_span found.0 found.1 found.2 in
       omega (arith, own.1.1)
+
+  -- where no span on the line has a label that shows anything, no entry has one
+  pub unlabelled_entries : All (λ a. is_marked_on s.text k a ≡ true → shown_label a ≡ []) marks → All (λ e. entry.label_text e ≡ []) es
+  unlabelled_entries none =
+      λ i d within.
+      let theirs = span_of_entry (get_or es i d) (Contains-get_or es i d within) in
+      let b : Annotation = theirs.0 in
+      let isb : IsEntryOf s k b (get_or es i d) = theirs.2 in
+      isb.label ∙ All-contains (λ a. is_marked_on s.text k a ≡ true → shown_label a ≡ []) marks b none theirs.1 isb.marked
+
+  -- the one span of a line has the one entry
+  pub lone_entry : (a : Annotation) → filter (is_marked_on s.text k) marks ≡ a ∷ [] → (e : LineAnnotation) × (es ≡ e ∷ []) × IsEntryOf s k a e
+  lone_entry a lone =
+      let kept : filter (λ b. first_line s.text b == k) marks ≡ a ∷ [] = sym (same_filter marks short) ∙ lone in
+      let seen : map seen_entry es ≡ entry_of s a ∷ [] = same ∙ ap (map (entry_of s)) kept in
+      let one : length es ≡ 1 = sym (length-map es seen_entry) ∙ ap length seen in
+      let first : LineAnnotation × Unit {0} = head_of es one in
+      let e : LineAnnotation = first.0 in
+      let sole : es ≡ e ∷ [] = head_of_is es one in
+      let among : Contains marks a = All-contains (Contains marks) (filter (is_marked_on s.text k) marks) a (All-filter (is_marked_on s.text k) (Contains marks) marks (All-contains_itself marks)) (subst (λ xs. Contains xs a) (sym lone) (Contains-head a [])) in
+      let marked : is_marked_on s.text k a ≡ true = All-contains (λ b. is_marked_on s.text k b ≡ true) (filter (is_marked_on s.text k) marks) a (filter_passes (is_marked_on s.text k) marks) (subst (λ xs. Contains xs a) (sym lone) (Contains-head a [])) in
+      let is_short = All-contains (λ b. (is_marking b.kind ≡ true) × (is_single_line s.text b ≡ true)) marks a short among in
+      (e, sole, entry_is s k a e marked is_short.1 (same_head (sym (ap (map seen_entry) sole) ∙ seen)))
+    where
+      head_of : (xs : List LineAnnotation) → length xs ≡ 1 → LineAnnotation × Unit {0}
+      head_of [] one = absurd (omega (arith, one))
+      head_of (x ∷ xs) one = (x, tt)
+
+      head_of_is : (xs : List LineAnnotation) (one : length xs ≡ 1) → xs ≡ (head_of xs one).0 ∷ []
+      head_of_is [] one = absurd (omega (arith, one))
+      head_of_is (x ∷ []) one = refl
+      head_of_is (x ∷ y ∷ xs) one = absurd (omega (arith, one))
+
+      same_head : {x y : Entry} → x ∷ [] ≡ y ∷ [] → x ≡ y
+      same_head is = cc
+
+      same_test : (a : Annotation) → is_marking a.kind ≡ true → is_single_line s.text a ≡ true → is_marked_on s.text k a ≡ (first_line s.text a == k)
+      same_test a marking single = rw (marking, single) refl
+
+      same_filter : (xs : List Annotation) → AreShort s xs → filter (is_marked_on s.text k) xs ≡ filter (λ b. first_line s.text b == k) xs
+      same_filter [] all = refl
+      same_filter (x ∷ xs) all =
+          let own = All-head (λ b. (is_marking b.kind ≡ true) × (is_single_line s.text b ≡ true)) x xs all in
+          ap (λ t. cond t (x ∷ filter (is_marked_on s.text k) xs) (filter (is_marked_on s.text k) xs)) (same_test x own.0 own.1) ∙ ap (λ ys. cond (first_line s.text x == k) (x ∷ ys) ys) (same_filter xs (All-tail (λ b. (is_marking b.kind ≡ true) × (is_single_line s.text b ≡ true)) x xs all))

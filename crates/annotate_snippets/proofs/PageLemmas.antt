@@ -16,7 +16,7 @@ use Rattle.snippet_parts.specs.declared.entries.LineAnnotation.{LineAnnotation}
 use Rattle.snippet_parts.specs.Lines.{source_lines, text_at}
 use Rattle.snippet_parts.specs.Marked.{first_line, last_line, seen_entry, entry_of, seen_line, MarkedLine, marked_line, marked_lines, least_line, greatest_line}
 use Rattle.snippet_parts.specs.Window.{chars_at}
-use Rattle.snippet_strokes.specs.Entries.{IsMarkCell}
+use Rattle.snippet_strokes.specs.Entries.{IsMarkCell, label_role, label_text}
 use Rattle.snippet_strokes.specs.Rows.{shown_number, separator_row, HasNoNumber, IsSourceRow, ShowsMarks}
 use Rattle.snippet_strokes.specs.declared.layout.Layout.{Layout}
 use Rattle.snippet_strokes.specs.Snippet as strokes
@@ -30,9 +30,10 @@ use Rattle.annotate_snippets.specs.declared.renderer.Renderer.{Renderer}
 use Rattle.annotate_snippets.specs.Covered.{gutter_of}
 use Rattle.annotate_snippets.specs.Drawn.{layout_of, numbered_source}
 use Rattle.annotate_snippets.specs.Page.{SourceRow, Other, NamedRow, lines_named, cells_of, cells_below, IsAscending}
-use Rattle.annotate_snippets.specs.Shown.{Frame, number_text, placeholder_of, room_of, wide_spans, ShowsSourceLine, ShowsMarksOf, ShowsLineAndMarks, AreRowsOf, ShowsSnippet}
+use Rattle.annotate_snippets.specs.Shown.{Frame, shown_label, number_text, placeholder_of, room_of, wide_spans, ShowsSourceLine, ShowsMarksOf, ShowsLineAndMarks, AreRowsOf, ShowsSnippet}
+use Rattle.snippet_parts.specs.Mark.{end_column}
 use Rattle.annotate_snippets.proofs.ListLemmas.{Contains-head, Contains-tail}
-use Rattle.annotate_snippets.proofs.MarkLemmas.{AreShort, mark_of_entries, unmarked_by_entries, some_entry}
+use Rattle.annotate_snippets.proofs.MarkLemmas.{AreShort, IsEntryOf, mark_of_entries, unmarked_by_entries, unlabelled_entries, lone_entry, some_entry}
 use Rattle.annotate_snippets.proofs.TitleLemmas.{row_text-drawn}
 use Rattle.annotate_snippets.proofs.WindowLemmas.{IsWindowOf-whole}
 
@@ -124,7 +125,13 @@ module _ (r : Renderer) (plain : r.anonymized_snippet_line_numbers ≡ false) (s
       let same : map seen_entry es ≡ map (entry_of (numbered_source s)) (filter (λ a. first_line (cow_str_bytes s.source) a == k) s.markers.items) = ap (λ (l : MarkedLine). l.entries) seen in
       record {
         marks = λ p kind mark. subst (λ c. IsMarkCell kind (get_or row c SPACE)) (omega arith) (shows.marks p kind (mark_of_entries (numbered_source s) s.markers.items short k es same p kind mark));
-        spaces = λ unlabelled p right none. subst (λ c. get_or row c SPACE ≡ SPACE) (omega arith) (shows.spaces p (unmarked_by_entries (numbered_source s) s.markers.items short k es same p none));
+        spaces = λ unlabelled p right none. subst (λ c. get_or row c SPACE ≡ SPACE) (omega arith) (shows.spaces (unlabelled_entries (numbered_source s) s.markers.items short k es same unlabelled) p (unmarked_by_entries (numbered_source s) s.markers.items short k es same p none));
+        lone = λ a alone shown.
+            let own = lone_entry (numbered_source s) s.markers.items short k es same a alone in
+            let e : LineAnnotation = own.0 in
+            let is : IsEntryOf (numbered_source s) k a e = own.2 in
+            let behind = shows.lone e own.1 (omega (arith, is.start, is.end)) (omega (arith, shown, ap length is.label)) in
+            subst (λ c. row_text (drop c row) ≡ 32 ∷ shown_label a) (let at : gutter_of s + 3 + e.end.display ≡ gutter_of s + 3 + end_column (cow_str_bytes s.source) a - 0 = omega (arith, is.end) in at) (ap row_text behind ∙ ap (λ cs. 32 ∷ cs) (row_text-drawn (label_role e.kind) (label_text e) ∙ is.label));
       }
 
   -- the rows of a line show it

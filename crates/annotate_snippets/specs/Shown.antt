@@ -1,7 +1,7 @@
 -- What the page of a report shows.
-use Rattle.std.specs.Prelude.{◌≡◌, ℕ, ◌+◌, ◌-◌, ◌<◌, ◌≤◌, ◌==◌, ◌&&◌, ◌||◌, max, Bool, true, false, not, List, [], ◌∷◌, ◌++◌, All, Contains, Option, Some, None, IfSome, is_none, length, map, take, drop, fold, replicate, chars, codes, if◌then◌else◌}
+use Rattle.std.specs.Prelude.{◌≡◌, ℕ, ◌+◌, ◌-◌, ◌<◌, ◌≤◌, ◌==◌, ◌&&◌, ◌||◌, max, Bool, true, false, not, List, [], ◌∷◌, ◌++◌, All, Contains, Option, Some, None, filter, is_none, length, map, take, drop, fold, replicate, chars, codes, if◌then◌else◌}
 use Rattle.std.specs.List.{AllZip, flat_map, list_all, count_by, slice_split, slice_index_or}
-use Rattle.std.specs.Option.{option_to_list}
+use Rattle.std.specs.Option.{option_map, option_to_list}
 use Rattle.std.specs.Char.{is_ascii_alphanumeric}
 use Rattle.std.specs.Cow.{cow_str_bytes}
 use Rattle.snippet_style.specs.Grid.{Cell, SPACE, row_at}
@@ -23,7 +23,7 @@ use Rattle.snippet_model.specs.declared.snippet.Element.{Element}
 use Rattle.snippet_model.specs.declared.snippet.Element.TheVariants.{Message, Cause, Suggestion, Origin, Padding}
 use Rattle.snippet_parts.specs.Lines.{source_lines}
 use Rattle.snippet_parts.specs.Marked.{first_line, last_line}
-use Rattle.snippet_parts.specs.Mark.{is_marking, is_single_line, is_marked_on, is_wide, qualifies_for_marks, IsMarkedAt, IsMarkOf}
+use Rattle.snippet_parts.specs.Mark.{is_marking, is_single_line, is_marked_on, is_wide, qualifies_for_marks, end_column, IsMarkedAt, IsMarkOf}
 use Rattle.snippet_parts.specs.Window.{chars_at, stands_whole, IsWindowOf}
 use Rattle.snippet_strokes.specs.Entries.{IsMarkCell}
 use Rattle.snippet_strokes.specs.Rows.{shown_number, set_right, HasNoNumber}
@@ -108,9 +108,14 @@ abbrev pub wide_spans : ℕ → ℕ → Snippet Annotation → ℕ → ℕ
 wide_spans room placeholder_width s k =
     count_by (λ a. is_marked_on (cow_str_bytes s.source) k a && is_wide room placeholder_width (cow_str_bytes s.source) a) s.markers.items
 
--- the span has a label that shows nothing, or none
-abbrev pub IsUnlabelled : Annotation → Type 0
-IsUnlabelled a = IfSome a.label (λ t. norm (chars (cow_str_bytes t)) ≡ [])
+-- the characters that a text shows where there is one
+abbrev pub normalized_chars : Option (List ℕ) → List ℕ
+normalized_chars None = []
+normalized_chars (Some text) = norm (chars text)
+
+-- the characters that a span's label shows, which are none where it has no label
+abbrev pub shown_label : Annotation → List ℕ
+shown_label a = normalized_chars (option_map cow_str_bytes a.label)
 
 -- the row shows line k: its number in the gutter with no letter or digit between it and the code, and from the code's
 -- cell to its end a window of the line's normalised text, left of which so many columns are dropped; where the line
@@ -123,10 +128,13 @@ pub record ShowsSourceLine (r : Renderer) (frame : Frame) (s : Snippet Annotatio
   pub whole : stands_whole (room_of r frame) (length (placeholder_of r.decor_style)) s.fold (cow_str_bytes s.source) s.markers.items k ≡ true → (dropped ≡ 0) × (row_text (drop frame.code row) ≡ norm (chars_at (cow_str_bytes s.source) k))
 
 -- the row has the marks of line k: below each column that has a mark it holds a glyph of the mark's kind in the role of
--- its strokes; and where no span on the line has a label, every other cell from the code's cell on is a space
+-- its strokes. Where no span on the line has a label that shows anything, every other cell from the code's cell on is a
+-- space. Where the line has one span alone and it has such a label, the row goes on behind the span's last column with a
+-- space and the label, and ends
 pub record ShowsMarksOf (frame : Frame) (s : Snippet Annotation) (k dropped : ℕ) (row : List Cell) : Type 0 where
   pub marks : (p : ℕ) (kind : AnnotationKind) → IsMarkOf (cow_str_bytes s.source) s.markers.items k p kind → IsMarkCell kind (slice_index_or row (frame.code + p - dropped) SPACE)
-  pub spaces : All (λ a. is_marked_on (cow_str_bytes s.source) k a ≡ true → IsUnlabelled a) s.markers.items → (p : ℕ) → dropped ≤ p → All (λ a. IsMarkedAt (cow_str_bytes s.source) k p a → ⊥) s.markers.items → slice_index_or row (frame.code + p - dropped) SPACE ≡ SPACE
+  pub spaces : All (λ a. is_marked_on (cow_str_bytes s.source) k a ≡ true → shown_label a ≡ []) s.markers.items → (p : ℕ) → dropped ≤ p → All (λ a. IsMarkedAt (cow_str_bytes s.source) k p a → ⊥) s.markers.items → slice_index_or row (frame.code + p - dropped) SPACE ≡ SPACE
+  pub lone : (a : Annotation) → filter (is_marked_on (cow_str_bytes s.source) k) s.markers.items ≡ a ∷ [] → 0 < length (shown_label a) → row_text (drop (frame.code + end_column (cow_str_bytes s.source) a - dropped) row) ≡ 32 ∷ shown_label a
 
 -- a source row of line k, with the row right below it: it shows the line, and where the line qualifies for the promise
 -- on marks the row below has its marks

@@ -13,8 +13,8 @@ pub mod text;
 
 pub use renderer::Renderer;
 pub use snippet::{
-    Annotation, AnnotationKind, Element, Group, Message, Origin, Padding, Patch, Report, Snippet,
-    Title,
+    Annotation, AnnotationKind, Element, Group, Message, OptionCow, Origin, Padding, Patch, Report,
+    Snippet, Title,
 };
 pub use snippet_model::Level;
 pub use snippet_text::normalize_untrusted_str;

@@ -1,5 +1,6 @@
 //! What a report is made of.
 
+pub use snippet_model::OptionCow;
 pub use snippet_model::snippet::{
     Annotation, AnnotationKind, Element, Group, Id, Marker, Message, Origin, Padding, Patch,
     Snippet, Title,

@@ -3,7 +3,7 @@ ghost use Rattle.snippet_model.specs.Fits.{SnippetFits, AnnotationFits};
 
 use crate::level::ERROR;
 use crate::renderer::RenderError;
-use crate::{Annotation, AnnotationKind, Element, Renderer, Snippet};
+use crate::{Annotation, AnnotationKind, Element, OptionCow, Renderer, Snippet};
 use std::alloc::{AllocError, Global};
 use std::test::Fail;
 
@@ -87,6 +87,35 @@ fn marks_a_primary_span_at_ties(rt: HostRuntime) -> Result<(), Fail> {
     assert_eq!(rt;
         text(rt.alloc(), "e", snippet)?.as_str(),
         "error: e\n  |\n1 | abcd\n  | ^^"
+    );
+    Ok(())
+}
+
+#[test]
+fn draws_a_lone_label_behind_its_mark(rt: HostRuntime) -> Result<(), Fail> {
+    let mark = AnnotationKind::Primary
+        .span(4..5)
+        .label(OptionCow::from("here"));
+    let snippet = Snippet::source(rt.alloc(), "let x = 1;").annotation(mark)?;
+    assert_eq!(rt;
+        text(rt.alloc(), "unused", snippet)?.as_str(),
+        "error: unused\n  |\n1 | let x = 1;\n  |     ^ here"
+    );
+    let mark = AnnotationKind::Primary
+        .span(0..1)
+        .label(OptionCow::from("\u{1b}[31mx"));
+    let snippet = Snippet::source(rt.alloc(), "ab").annotation(mark)?;
+    assert_eq!(rt;
+        text(rt.alloc(), "e", snippet)?.as_str(),
+        "error: e\n  |\n1 | ab\n  | ^ ␛[31mx"
+    );
+    let mark = AnnotationKind::Primary
+        .span(0..1)
+        .label(OptionCow::from("\u{200d}"));
+    let snippet = Snippet::source(rt.alloc(), "ab").annotation(mark)?;
+    assert_eq!(rt;
+        text(rt.alloc(), "e", snippet)?.as_str(),
+        "error: e\n  |\n1 | ab\n  | ^"
     );
     Ok(())
 }
@@ -217,6 +246,18 @@ fn refuses_what_is_not_drawn_yet(rt: HostRuntime) -> Result<(), Fail> {
     ))?;
     assert!(rt; matches!(text(rt.alloc(), "e", snippet), Err(RenderError::NotYet)));
     let snippet = Snippet::source(rt.alloc(), "ab");
+    assert!(rt; matches!(text(rt.alloc(), "e", snippet), Err(RenderError::NotYet)));
+    let snippet = Snippet::source(rt.alloc(), "ab cd")
+        .annotation(
+            AnnotationKind::Context
+                .span(0..2)
+                .label(OptionCow::from("a")),
+        )?
+        .annotation(
+            AnnotationKind::Primary
+                .span(3..5)
+                .label(OptionCow::from("c")),
+        )?;
     assert!(rt; matches!(text(rt.alloc(), "e", snippet), Err(RenderError::NotYet)));
     Ok(())
 }

@@ -10,7 +10,7 @@ use crate::words::{Command, command_of};
 use annotate_snippets::level::ERROR;
 use annotate_snippets::renderer::RenderError;
 use annotate_snippets::text::{normalize_untrusted_str, text_fits};
-use annotate_snippets::{AnnotationKind, Element, Group, Renderer, Snippet};
+use annotate_snippets::{AnnotationKind, Element, Group, OptionCow, Renderer, Snippet};
 use std::alloc::{AllocError, Global};
 use std::io::Write;
 use std::{fmt, str};
@@ -84,13 +84,16 @@ fn rendered<'a>(
     source: &'a str,
 ) -> Result<String, RenderError>
     requires title { TextFits command.now.title.now }
+    requires label { IfSome command.now.label (λ t. TextFits t.now) }
     requires source { TextFits source.now }
 {
     let renderer = match command.options.width {
         Some(columns) => Renderer::plain().term_width(columns),
         None => Renderer::plain(),
     };
-    let mark = AnnotationKind::Primary.span(command.start..command.end);
+    let mark = AnnotationKind::Primary
+        .span(command.start..command.end)
+        .label(OptionCow::from(command.label));
     let snippet = Snippet::source(alloc, source)
         .annotation(mark)
         .map_err(RenderError::Memory)?;

@@ -49,10 +49,10 @@ impl Command<'_> {
     /// Whether the command asks for something that isn't done yet.
     pub fn is_unfinished(&self) -> bool
         ensures value { result ≡ (self.now.options.unicode || self.now.options.text || self.now.options.short
-            || self.now.options.styled || is_some self.now.label) }
+            || self.now.options.styled) }
     {
         let options = self.options;
-        options.unicode || options.text || options.short || options.styled || self.label.is_some()
+        options.unicode || options.text || options.short || options.styled
     }
 }
 

@@ -3,9 +3,11 @@
 #![tactic(auto)]
 
 pub mod level;
+pub mod option_cow;
 pub mod snippet;
 
 pub use level::Level;
+pub use option_cow::OptionCow;
 pub use snippet::{
     Annotation, AnnotationKind, Element, Group, Id, Marker, Message, Origin, Padding, Patch,
     Snippet, Title,

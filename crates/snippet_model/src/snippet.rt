@@ -1,9 +1,11 @@
 //! The parts of a report: groups of a title and elements, and what an element may be.
-ghost use Rattle.std.specs.Prelude.{◌≡◌, ℕ, [], ◌∷◌, ◌++◌, Some, None, true, false, IfOk};
+ghost use Rattle.std.specs.Prelude.{◌≡◌, ℕ, List, [], ◌∷◌, ◌++◌, Some, None, true, false, IfOk};
+ghost use Rattle.std.specs.Iterator.{IsFiniteIterable, Drains};
 ghost use Rattle.std.specs.declared.ops.Range.{Range};
 ghost use Rattle.std.specs.declared.borrow.CowStr.TheVariants.{Borrowed};
 
 use crate::level::Level;
+use crate::option_cow::OptionCow;
 use snippet_style::LevelInner;
 use snippet_text::CowStr;
 use std::alloc::{AllocError, Global};
@@ -212,6 +214,25 @@ impl<'a> Snippet<'a, Annotation<'a>> {
         self.markers.push(annotation)?;
         Ok(self)
     }
+
+    /// The snippet with these annotations behind those it has, in their order. The one error is want of memory.
+    pub fn annotations<I: IntoIterator<Item = Annotation<'a>>>(
+        mut self,
+        annotations: I,
+    ) -> Result<Snippet<'a, Annotation<'a>>, AllocError>
+        requires ends { IsFiniteIterable I.into_iter_gives I.IntoIter.can_next I.IntoIter.remaining annotations }
+        ensures annotations { IfOk result (λ s. (it : I.IntoIter) × (xs : List Annotation)
+            × I.into_iter_gives annotations it × Drains I.IntoIter.next_gives it xs
+            × (s.markers.items ≡ self.entry.markers.items ++ xs)) }
+        ensures source { IfOk result (λ s. s.source ≡ self.entry.source) }
+        ensures path { IfOk result (λ s. s.path ≡ self.entry.path) }
+        ensures line_start { IfOk result (λ s. s.line_start ≡ self.entry.line_start) }
+        ensures line_numbering { IfOk result (λ s. s.line_numbering ≡ self.entry.line_numbering) }
+        ensures fold { IfOk result (λ s. s.fold ≡ self.entry.fold) }
+    {
+        self.markers.extend(annotations)?;
+        Ok(self)
+    }
 }
 
 /// A marked span of a source.
@@ -225,6 +246,24 @@ pub struct Annotation<'a> {
     pub kind: AnnotationKind,
     /// Whether the source itself is coloured as the mark is.
     pub highlight_source: bool,
+}
+
+impl<'a> Annotation<'a> {
+    /// What is said of the span, drawn beside or below its mark: the text given, or nothing.
+    pub fn label(mut self, label: OptionCow<'a>) -> Annotation<'a>
+        ensures changed { result ≡ record self.entry { label = label.entry.0 } }
+    {
+        self.label = label.0;
+        self
+    }
+
+    /// Whether the marked source is drawn in the mark's style.
+    pub fn highlight_source(mut self, highlight: bool) -> Annotation<'a>
+        ensures changed { result ≡ record self.entry { highlight_source = highlight } }
+    {
+        self.highlight_source = highlight;
+        self
+    }
 }
 
 impl<'a> Marker for Annotation<'a> {

@@ -1,5 +1,5 @@
 -- Painting marks into a row: one cell after another, and one entry over another.
-use Rattle.std.proofs.Common.{◌≡◌, ◌⊎◌, ℕ, ◌+◌, ◌<◌, ◌≤◌, false, List, [], ◌∷◌, ◌++◌, length, map, take, get_or, refl, sym, ap, ◌∙◌, subst, arith, inl, inr, All, Bor}
+use Rattle.std.proofs.Common.{◌≡◌, ◌⊎◌, ℕ, ◌+◌, ◌<◌, ◌≤◌, max, false, List, [], ◌∷◌, ◌++◌, length, map, take, get_or, refl, sym, ap, ◌∙◌, subst, arith, inl, inr, All, Bor}
 use Rattle.std.proofs.lemmas.Bool.{cases_lt}
 use Rattle.std.proofs.lemmas.List.{length_push, get_or_append_left, get_or_push, map_more, take_all}
 use Rattle.snippet_model.specs.declared.snippet.AnnotationKind.{AnnotationKind}
@@ -9,7 +9,7 @@ use Rattle.snippet_style.specs.declared.glyphs.DecorStyle.{DecorStyle}
 use Rattle.snippet_style.specs.declared.glyphs.DecorStyle.TheVariants.{Ascii, Unicode}
 use Rattle.snippet_style.specs.declared.role.ElementStyle.{ElementStyle}
 use Rattle.snippet_style.specs.Glyphs.{glyph_of, underline_role}
-use Rattle.snippet_style.specs.Grid.{Cell, cell_at, unlinked_cell, WritesCells}
+use Rattle.snippet_style.specs.Grid.{Cell, cell_at, row_at, unlinked_cell, WritesCells}
 use Rattle.snippet_text.specs.Normalized.{is_listed}
 use Rattle.snippet_strokes.specs.declared.layout.Layout.{Layout}
 use Rattle.snippet_strokes.specs.Entries.{EntryCovers, is_primary, IsMarkCell}
@@ -24,6 +24,8 @@ Paints-none rows row from cell =
       behind = λ c _. refl;
       others = λ r _. refl;
       count = λ _. refl;
+      width = λ some. absurd (omega arith);
+      kept = λ _. refl;
     }
 
 -- one more cell is painted
@@ -40,6 +42,11 @@ Paints-more old mid new row from to next cell done writes ordered one =
       behind = λ c right. writes.behind c (omega arith) ∙ done.behind c (omega arith);
       others = λ r other. writes.others r other ∙ done.others r other;
       count = λ within. omega (arith, writes.count, done.count within);
+      width = λ some. elim (cases_lt from to) [
+        | inl begun ↦ omega (arith, writes.width, done.width begun)
+        | inr none ↦ omega (arith, writes.width, done.kept none)
+      ];
+      kept = λ none. absurd (omega arith);
     }
 
 -- all cells are painted; a span that ends before it starts has none
@@ -57,6 +64,8 @@ Paints-all old new row at start end next cell done reached within empty =
             ];
             others = done.others;
             count = done.count;
+            width = λ some. absurd (omega arith);
+            kept = λ _. done.kept (omega arith);
           }
       | inr some ↦
           let ended : next ≡ end = omega (arith, within some) in
@@ -95,6 +104,8 @@ Painted-none layout row rows =
       free = λ c is. is;
       others = λ r _. refl;
       count = λ _. refl;
+      width = λ e one some. cc;
+      kept = λ _. refl;
     }
 
 -- a column that an entry covers, or not
@@ -152,6 +163,14 @@ shows_old layout es e d k p cell same is shows =
       holds = is ∙ shows.holds ∙ ap (λ (x : LineAnnotation). mark_cell layout.decor x.kind) (sym place);
     }
 
+-- where one entry is painted the row ends where the entry does, or where it did
+sole_width : (layout : Layout) (es : List LineAnnotation) (e f : LineAnnotation) (row : ℕ) (old mid new : List (List Cell)) → Painted layout es row old mid → Paints mid new row (layout.code + e.start.display) (layout.code + e.end.display) (mark_cell layout.decor e.kind) → es ++ e ∷ [] ≡ f ∷ [] → f.start.display < f.end.display → length (row_at new row) ≡ max (length (row_at old row)) (layout.code + f.end.display)
+sole_width layout [] e f row old mid new done paints one some =
+    let same : e ≡ f = cc in
+    omega (arith, paints.width (omega (arith, ap (λ (x : LineAnnotation). x.start.display) same, ap (λ (x : LineAnnotation). x.end.display) same)), done.kept refl, ap (λ (x : LineAnnotation). x.end.display) same)
+sole_width layout (d ∷ es) e f row old mid new done paints one some =
+    absurd (omega (arith, length_push es e, ap length one))
+
 -- one more entry is painted over those before
 pub Painted-more : (layout : Layout) (es : List LineAnnotation) (e : LineAnnotation) (row : ℕ) (old mid new : List (List Cell)) → Painted layout es row old mid → Paints mid new row (layout.code + e.start.display) (layout.code + e.end.display) (mark_cell layout.decor e.kind) → Painted layout (es ++ e ∷ []) row old new
 Painted-more layout es e row old mid new done paints =
@@ -183,6 +202,8 @@ Painted-more layout es e row old mid new done paints =
       ];
       others = λ r other. paints.others r other ∙ done.others r other;
       count = λ within. paints.count (omega (arith, done.count within)) ∙ done.count within;
+      width = λ f one some. sole_width layout es e f row old mid new done paints one some;
+      kept = λ none. absurd (omega (arith, length_push es e, ap length none));
     }
 
 -- the entry that stands next in a list of references is painted

@@ -51,7 +51,7 @@ texted_start [] row =
     sym (ap (λ cs. written SPACE row 0 (drawn LineNumber cs)) chars-nil ∙ written_start row [])
 texted_start (b ∷ bs) row = refl
 
-length-separator_row : (decor : DecorStyle) (gutter : ℕ) → length (separator_row decor gutter) ≡ gutter + 2
+pub length-separator_row : (decor : DecorStyle) (gutter : ℕ) → length (separator_row decor gutter) ≡ gutter + 2
 length-separator_row decor gutter =
     omega (arith, length-append (replicate (gutter + 1) SPACE) (drawn LineNumber (separator_of decor ∷ [])), length-replicate (gutter + 1) SPACE)
 

@@ -24,7 +24,8 @@ no_marks : (code : ℕ) (es : List LineAnnotation) → length es ≡ 0 → Shows
 no_marks code es none =
     record {
       marks = λ p kind mark. absurd (omega (arith, mark.among.1));
-      spaces = λ p _. refl;
+      spaces = λ _ p none_covers. refl;
+      lone = λ e one some shown. absurd (omega (arith, none, ap length one));
     }
 
 -- the first row below a source row shows the marks

@@ -1,10 +1,14 @@
 -- The entries of a line, and the mark that they leave below each column.
-use Rattle.std.specs.Prelude.{◌≡◌, ℕ, ◌-◌, ◌<◌, ◌≤◌, Bool, true, false, List, Contains}
+use Rattle.std.specs.Prelude.{◌≡◌, ℕ, ◌-◌, ◌<◌, ◌≤◌, Bool, true, false, List, [], Contains, Option, Some, None, chars}
+use Rattle.std.specs.Borrow.{Bor}
 use Rattle.snippet_model.specs.declared.snippet.AnnotationKind.{AnnotationKind}
 use Rattle.snippet_model.specs.declared.snippet.AnnotationKind.TheVariants.{Primary, Context, Visible}
 use Rattle.snippet_parts.specs.declared.entries.LineAnnotation.{LineAnnotation}
 use Rattle.snippet_style.specs.Glyphs.{IsMarkGlyph, underline_role}
 use Rattle.snippet_style.specs.Grid.{Cell}
+use Rattle.snippet_style.specs.declared.role.ElementStyle.{ElementStyle}
+use Rattle.snippet_style.specs.declared.role.ElementStyle.TheVariants.{LabelPrimary, LabelSecondary}
+use Rattle.snippet_text.specs.Normalized.{norm}
 
 -- the entry covers this column
 abbrev pub EntryCovers : LineAnnotation → ℕ → Type 0
@@ -29,6 +33,20 @@ pub record IsEntryMark (es : List LineAnnotation) (p : ℕ) (kind : AnnotationKi
   pub is : entry.kind ≡ kind
   pub least : (other : LineAnnotation) → Contains es other → EntryCovers other p → entry_width entry ≤ entry_width other
   pub primary_wins : is_primary kind ≡ false → (other : LineAnnotation) → Contains es other → EntryCovers other p → other.kind ≡ Primary → entry_width entry < entry_width other
+
+-- the role of labels of this kind: primary, or else for context
+abbrev pub label_role : AnnotationKind → ElementStyle
+label_role Primary = LabelPrimary
+label_role Context = LabelSecondary
+label_role Visible = LabelSecondary
+
+-- the characters that a label shows: normalised, and none where there is no label
+abbrev pub shown_label : Option (Bor (List ℕ)) → List ℕ
+shown_label None = []
+shown_label (Some label) = norm (chars label.now)
+
+abbrev pub label_text : LineAnnotation → List ℕ
+label_text e = shown_label e.label
 
 -- the cell holds a mark of this kind, in the role of its strokes
 abbrev pub IsMarkCell : AnnotationKind → Cell → Type 0

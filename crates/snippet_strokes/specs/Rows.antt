@@ -11,7 +11,7 @@ use Rattle.snippet_style.specs.Glyphs.{separator_of}
 use Rattle.snippet_style.specs.Grid.{Cell, SPACE, drawn, unlinked_cell}
 use Rattle.snippet_text.specs.Normalized.{is_listed}
 use Rattle.snippet_strokes.specs.declared.layout.Layout.{Layout}
-use Rattle.snippet_strokes.specs.Entries.{EntryCovers, IsEntryMark, IsMarkCell}
+use Rattle.snippet_strokes.specs.Entries.{EntryCovers, IsEntryMark, IsMarkCell, label_text, label_role}
 
 -- these digits at the right end of a field of this width, filled up with spaces
 abbrev pub set_right : ℕ → List ℕ → List ℕ
@@ -39,10 +39,12 @@ pub record ShowsSource (gutter from : ℕ) (shown text : List ℕ) (row : List C
   pub number : take (length shown) row ≡ drawn LineNumber shown
   pub code : drop from row ≡ drawn Quotation text
 
--- below each column that has a mark the row holds it, and below each column that no entry covers a space
+-- below each column that has a mark the row holds it. Where no entry has a label that shows anything, below each column
+-- that no entry covers stands a space; behind the mark of a line's one entry stand a space and its label, and nothing more
 pub record ShowsMarks (code : ℕ) (es : List LineAnnotation) (row : List Cell) : Type 0 where
   pub marks : (p : ℕ) (kind : AnnotationKind) → IsEntryMark es p kind → IsMarkCell kind (slice_index_or row (code + p) SPACE)
-  pub spaces : (p : ℕ) → All (λ e. EntryCovers e p → ⊥) es → slice_index_or row (code + p) SPACE ≡ SPACE
+  pub spaces : All (λ e. label_text e ≡ []) es → (p : ℕ) → All (λ e. EntryCovers e p → ⊥) es → slice_index_or row (code + p) SPACE ≡ SPACE
+  pub lone : (e : LineAnnotation) → es ≡ e ∷ [] → e.start.display < e.end.display → 0 < length (label_text e) → drop (code + e.end.display) row ≡ SPACE ∷ drawn (label_role e.kind) (label_text e)
 
 -- a source row: what ShowsSource says, the separator, and else spaces left of the code
 pub record IsSourceRow (layout : Layout) (shown text : List ℕ) (row : List Cell) : Type 0 where

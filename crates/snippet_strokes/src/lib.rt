@@ -1,6 +1,7 @@
 //! The strokes of a snippet: for each line that is shown its source row, and below it the row of its marks.
 #![tactic(auto)]
 
+mod labels;
 pub mod layout;
 mod marks;
 mod number;

@@ -1,9 +1,10 @@
 //! The marks below a line of the source.
-ghost use Rattle.std.specs.Prelude.{◌≡◌, ◌-◌, ◌+◌, ◌^◌, ◌<◌, ◌≤◌, All, IfOk, OnOk, IsPermutation, length, map};
+ghost use Rattle.std.specs.Prelude.{◌≡◌, ◌-◌, ◌+◌, ◌^◌, ◌<◌, ◌≤◌, All, IfOk, IfSome, OnOk, IsPermutation, length, map};
 ghost use Rattle.snippet_strokes.specs.Entries as spec;
 ghost use Rattle.snippet_strokes.specs.Painting.{IsPaintingOrder, Painted, Paints, mark_cell};
 ghost use Rattle.snippet_strokes.specs.Rows.{AddsMarks};
 
+use crate::labels::draw_lone_label;
 use crate::layout::Layout;
 use crate::row::begin_row;
 use snippet_model::AnnotationKind;
@@ -12,7 +13,8 @@ use snippet_style::StyledBuffer;
 use std::alloc::{AllocError, Global};
 use std::cmp::Reverse;
 
-/// Draws the marks of a line below all that stands in the grid: one row, or none if the line has no entries.
+/// Draws the marks of a line below all that stands in the grid: one row, or none if the line has no entries. Where the
+/// line has one entry, its label stands behind the mark.
 ///
 /// ```text
 ///       |     ----^^^--
@@ -30,6 +32,7 @@ pub(crate) fn draw_marks(
     requires place { layout.gutter + 3 ≤ layout.code }
     requires narrow { layout.code < 2 ^ 32 }
     requires columns { All (λ e. e.end.display < 2 ^ 60) entries.now }
+    requires labels { All (λ e. IfSome e.label (λ t. length t.now < 2 ^ 56)) entries.now }
     ensures added { OnOk result (AddsMarks layout entries.now buffer.old buffer.new) }
 {
     if entries.is_empty() {
@@ -37,7 +40,8 @@ pub(crate) fn draw_marks(
     }
     let order = painting_order(alloc, entries)?;
     let row = begin_row(buffer, layout)?;
-    paint_entries(buffer, layout, row, &order)
+    paint_entries(buffer, layout, row, &order)?;
+    draw_lone_label(alloc, buffer, layout, row, entries)
 }
 
 /// The entries from the widest to the narrowest, those of one width with the primary ones last, and else as given:

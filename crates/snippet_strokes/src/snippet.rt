@@ -1,5 +1,5 @@
 //! The rows of a snippet: a separator row, and the rows of each line that is shown.
-ghost use Rattle.std.specs.Prelude.{◌+◌, ◌^◌, ◌<◌, ◌≤◌, All, OnOk, length};
+ghost use Rattle.std.specs.Prelude.{◌+◌, ◌^◌, ◌<◌, ◌≤◌, All, IfSome, OnOk, length};
 ghost use Rattle.snippet_strokes.specs.Rows.{shown_number};
 ghost use Rattle.snippet_strokes.specs.Snippet.{AddsLine, AddsSnippet};
 
@@ -21,7 +21,8 @@ use std::alloc::{AllocError, Global};
 /// ```
 ///
 /// Where lines aren't numbered, spaces stand in place of the numbers. A line with no entries has no row of marks. Each
-/// entry is drawn as one that begins and ends on its line, without its label.
+/// entry is drawn as one that begins and ends on its line. The label of a line's one entry stands behind its mark; the
+/// labels of several aren't drawn.
 ///
 /// # Errors
 ///
@@ -39,6 +40,7 @@ pub fn draw_snippet(
         infos.now }
     requires texts { All (λ info. length info.line.now < 2 ^ 56) infos.now }
     requires columns { All (λ info. All (λ e. e.end.display < 2 ^ 60) info.annotations.items) infos.now }
+    requires labels { All (λ info. All (λ e. IfSome e.label (λ t. length t.now < 2 ^ 56)) info.annotations.items) infos.now }
     ensures added { OnOk result (AddsSnippet layout numbered infos.now buffer.old buffer.new) }
 {
     begin_row(buffer, layout)?;
@@ -66,6 +68,7 @@ fn draw_line(
     requires number { length (shown_number numbered layout.gutter info.now.line_index) ≤ layout.gutter + 1 }
     requires text { length info.now.line.now < 2 ^ 56 }
     requires columns { All (λ e. e.end.display < 2 ^ 60) info.now.annotations.items }
+    requires labels { All (λ e. IfSome e.label (λ t. length t.now < 2 ^ 56)) info.now.annotations.items }
     ensures added { OnOk result (AddsLine layout numbered info.now buffer.old buffer.new) }
 {
     draw_source_row(alloc, buffer, layout, numbered, info)?;

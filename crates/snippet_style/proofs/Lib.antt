@@ -1,3 +1,4 @@
 pub mod GridLemmas
 pub mod GridSteps
 pub mod PrintLemmas
+pub mod RestyleLemmas

@@ -1,7 +1,7 @@
-use Rattle.std.specs.Prelude.{◌≡◌, ◌≢◌, ◌<◌, ◌≤◌, ◌+◌, ◌-◌, ℕ, max, List, [], ◌∷◌, ◌++◌, length, map, take, drop, replicate, Option, None}
+use Rattle.std.specs.Prelude.{◌≡◌, ◌≢◌, ◌<◌, ◌≤◌, ◌+◌, ◌-◌, ℕ, max, Bool, true, false, ◌||◌, if◌then◌else◌, List, [], ◌∷◌, ◌++◌, length, map, take, drop, replicate, Option, None}
 use Rattle.std.specs.List.{slice_index_or}
 use Rattle.snippet_style.specs.declared.role.ElementStyle.{ElementStyle}
-use Rattle.snippet_style.specs.declared.role.ElementStyle.TheVariants.{NoStyle}
+use Rattle.snippet_style.specs.declared.role.ElementStyle.TheVariants.{NoStyle, Quotation}
 
 -- one cell of the grid: a character, what it is part of, and the URL of the linked text that it belongs to, if any
 pub record Cell : Type 0 where
@@ -48,6 +48,40 @@ pub record WritesCells (old new : List (List Cell)) (row at : ℕ) (cells : List
   -- the row and the grid are larger only as far as the write reaches
   pub width : length (row_at new row) ≡ max (length (row_at old row)) (at + length cells)
   pub count : length new ≡ max (length old) (row + 1)
+
+-- whether a cell of this role may be given another one where overwriting is not allowed: a space between other parts, or
+-- part of a line of the source
+abbrev pub gives_way : ElementStyle → Bool
+gives_way NoStyle = true
+gives_way Quotation = true
+gives_way other = false
+
+-- the cell in this role, where overwriting is allowed or its own role gives way; else the cell as it was
+abbrev pub restyled : ElementStyle → Bool → Cell → Cell
+restyled role overwrite cell =
+    if overwrite || gives_way cell.role then record cell { role = role } else cell
+
+-- the list with each element from `start` to before `end` changed by f, as far as the list has any there
+unfoldable pub changed_within : {X : Type 0} → (X → X) → ℕ → ℕ → List X → List X
+changed_within f start end xs =
+    take start xs ++ map f (take (end - start) (drop start xs)) ++ drop (max start end) xs
+
+-- the grid after the cells of row r from `start` to before `end` are restyled
+abbrev pub cells_restyled : List (List Cell) → ℕ → ℕ → ℕ → ElementStyle → Bool → List (List Cell)
+cells_restyled rows r start end role overwrite =
+    changed_within (changed_within (restyled role overwrite) start end) r (r + 1) rows
+
+-- the same, read cell by cell
+pub record RestylesCells (old new : List (List Cell)) (row start end : ℕ) (role : ElementStyle) (overwrite : Bool) : Type 0 where
+  -- the cells that are there are restyled, and every other cell of the row is as it was
+  pub inside : (c : ℕ) → start ≤ c → c < end → c < length (row_at old row) → cell_at new row c ≡ restyled role overwrite (cell_at old row c)
+  pub before : (c : ℕ) → c < start → cell_at new row c ≡ cell_at old row c
+  pub behind : (c : ℕ) → end ≤ c → cell_at new row c ≡ cell_at old row c
+  -- every other row is as it was
+  pub others : (r : ℕ) → r ≢ row → row_at new r ≡ row_at old r
+  -- no cell and no row is added
+  pub width : length (row_at new row) ≡ length (row_at old row)
+  pub count : length new ≡ length old
 
 -- the fact holds of every cell of the grid, and of the spaces around it
 abbrev pub EachCell : (Cell → Type 0) → List (List Cell) → Type 0

@@ -4,9 +4,9 @@
 //! or below the last row, makes the row longer and adds rows, as far as needed and no farther.
 
 ghost use Rattle.std.specs.Prelude.{◌≡◌, ◌+◌, ◌-◌, ◌^◌, ◌<◌, ◌≤◌, List, [], ◌∷◌, ◌++◌, length, map, replicate, IfOk, OnOk, OnErr, IsOk, vec_len, string_bytes, encode_utf8_all};
-ghost use Rattle.snippet_style.specs.Grid.{SPACE, drawn, written, row_at, cells_written, WritesCells};
+ghost use Rattle.snippet_style.specs.Grid.{SPACE, drawn, written, row_at, cells_written, WritesCells, restyled, cells_restyled, RestylesCells};
 ghost use Rattle.std.specs.Str.{chars};
-ghost use Rattle.snippet_style.specs.GridView.{cells_of, rows_of, lengthened};
+ghost use Rattle.snippet_style.specs.GridView.{cell_of, cells_of, rows_of, lengthened};
 ghost use Rattle.snippet_style.specs.Print as spec;
 
 use crate::print::print_rows;
@@ -32,6 +32,17 @@ impl StyledChar<'static> {
         role: ElementStyle::NoStyle,
         link: None,
     };
+}
+
+impl<'a> StyledChar<'a> {
+    /// Gives the cell this role, where overwriting is allowed or its own gives way.
+    fn restyle(&mut self, style: ElementStyle, overwrite: bool)
+        ensures value { cell_of self.new ≡ restyled style overwrite (cell_of self.old) }
+    {
+        if overwrite || self.role.gives_way() {
+            self.role = style;
+        }
+    }
 }
 
 /// A grid of styled cells. It has no row at first.
@@ -147,6 +158,49 @@ impl<'a> StyledBuffer<'a> {
     {
         let end = row_len(&self.rows, row);
         self.puts(row, end, text, role)
+    }
+
+    /// Gives the cell of this row and number another role, if there is such a cell, and if
+    /// overwriting is allowed or its role is `NoStyle` or `Quotation`. Nothing else changes.
+    ///
+    /// # Errors
+    ///
+    /// None: it takes no memory. The result is there for the form that the grid's calls share.
+    pub fn set_style(
+        &mut self,
+        row: usize,
+        cell: usize,
+        style: ElementStyle,
+        overwrite: bool,
+    ) -> Result<(), AllocError>
+        ensures ok { self.new ≡ cells_restyled self.old row cell (cell + 1) style overwrite }
+        ensures reads { RestylesCells self.old self.new row cell (cell + 1) style overwrite }
+        ensures succeeds { IsOk result }
+    {
+        restyle_cell(&mut self.rows, row, cell, style, overwrite);
+        Ok(())
+    }
+
+    /// Does what `set_style` does with each cell of this row from `start` to before `end`. Cells
+    /// that are not there are left out, and nothing happens where `start` is not below `end`.
+    ///
+    /// # Errors
+    ///
+    /// None: it takes no memory. The result is there for the form that the grid's calls share.
+    pub fn set_style_range(
+        &mut self,
+        row: usize,
+        start: usize,
+        end: usize,
+        style: ElementStyle,
+        overwrite: bool,
+    ) -> Result<(), AllocError>
+        ensures ok { self.new ≡ cells_restyled self.old row start end style overwrite }
+        ensures reads { RestylesCells self.old self.new row start end style overwrite }
+        ensures succeeds { IsOk result }
+    {
+        restyle_range(&mut self.rows, row, start, end, style, overwrite);
+        Ok(())
     }
 
     /// The characters of the rows, joined by line feeds, without any style.
@@ -304,6 +358,51 @@ fn write_char<'a>(
     Ok(())
 }
 
+/// Restyles each of some cells.
+fn restyle_each<'a>(cells: &mut [StyledChar<'a>], style: ElementStyle, overwrite: bool)
+    ensures value { cells_of cells.new ≡ map (restyled style overwrite) (cells_of cells.old) }
+{
+    for cell in cells.iter_mut() {
+        cell.restyle(style, overwrite);
+    }
+}
+
+/// Restyles the cells of a row from `start` to before `end`, as far as they are there.
+fn restyle_range<'a>(
+    rows: &mut Vec<Vec<StyledChar<'a>>>,
+    row: usize,
+    start: usize,
+    end: usize,
+    style: ElementStyle,
+    overwrite: bool,
+)
+    ensures value { rows_of rows.new.items
+        ≡ cells_restyled (rows_of rows.old.items) row start end style overwrite }
+    ensures count { vec_len rows.new ≡ vec_len rows.old }
+{
+    let end = end.min(row_len(rows, row));
+    if start < end {
+        restyle_each(&mut rows[row][start..end], style, overwrite);
+    }
+}
+
+/// Restyles the cell of this row and number, if it is there.
+fn restyle_cell<'a>(
+    rows: &mut Vec<Vec<StyledChar<'a>>>,
+    row: usize,
+    cell: usize,
+    style: ElementStyle,
+    overwrite: bool,
+)
+    ensures value { rows_of rows.new.items
+        ≡ cells_restyled (rows_of rows.old.items) row cell (cell + 1) style overwrite }
+    ensures count { vec_len rows.new ≡ vec_len rows.old }
+{
+    if cell < row_len(rows, row) {
+        restyle_range(rows, row, cell, cell + 1, style, overwrite);
+    }
+}
+
 /// How many cells a row has, none where there is no such row.
 fn row_len<'a>(rows: &[Vec<StyledChar<'a>>], row: usize) -> usize
     ensures value { result ≡ length (row_at (rows_of rows.now) row) }
@@ -326,6 +425,43 @@ mod tests {
         buffer.append(6, "below", ElementStyle::NoStyle)?;
         buffer.puts(8, 2, "", ElementStyle::NoStyle)?;
         assert_eq!(rt; buffer.num_lines(), 7);
+        Ok(())
+    }
+
+    fn role_at(buffer: &StyledBuffer<'_>, row: usize, cell: usize) -> Option<ElementStyle> {
+        Some(buffer.rows.get(row)?.get(cell)?.role)
+    }
+
+    #[test]
+    fn restyles_the_cells_that_are_there(rt: HostRuntime) -> Result<(), Fail> {
+        let mut buffer = StyledBuffer::new(rt.alloc());
+        buffer.putc(0, 0, 'a', ElementStyle::Quotation)?;
+        buffer.putc(0, 1, 'b', ElementStyle::Quotation)?;
+        buffer.putc(0, 3, 'c', ElementStyle::LabelPrimary)?;
+
+        // The source and the space give way, and the label does not.
+        buffer.set_style_range(0, 1, 9, ElementStyle::Addition, false)?;
+        assert_eq!(rt; role_at(&buffer, 0, 0), Some(ElementStyle::Quotation));
+        assert_eq!(rt; role_at(&buffer, 0, 1), Some(ElementStyle::Addition));
+        assert_eq!(rt; role_at(&buffer, 0, 2), Some(ElementStyle::Addition));
+        assert_eq!(rt; role_at(&buffer, 0, 3), Some(ElementStyle::LabelPrimary));
+        assert_eq!(rt; role_at(&buffer, 0, 4), None);
+
+        buffer.set_style(0, 0, ElementStyle::LineNumber, false)?;
+        buffer.set_style(0, 1, ElementStyle::Removal, false)?;
+        buffer.set_style(0, 3, ElementStyle::Removal, true)?;
+        assert_eq!(rt; role_at(&buffer, 0, 0), Some(ElementStyle::LineNumber));
+        assert_eq!(rt; role_at(&buffer, 0, 1), Some(ElementStyle::Addition));
+        assert_eq!(rt; role_at(&buffer, 0, 3), Some(ElementStyle::Removal));
+
+        // No such cell, no such row, and no cell from 2 to before 1.
+        buffer.set_style(0, usize::MAX, ElementStyle::HeaderMsg, true)?;
+        buffer.set_style(1, 0, ElementStyle::HeaderMsg, true)?;
+        buffer.set_style_range(0, 2, 1, ElementStyle::HeaderMsg, true)?;
+        assert_eq!(rt; role_at(&buffer, 0, 1), Some(ElementStyle::Addition));
+        assert_eq!(rt; role_at(&buffer, 0, 2), Some(ElementStyle::Addition));
+        assert_eq!(rt; buffer.num_lines(), 1);
+        assert_eq!(rt; buffer.plain_text()?.as_str(), "ab c");
         Ok(())
     }
 }

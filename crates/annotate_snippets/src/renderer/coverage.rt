@@ -165,6 +165,18 @@ fn stands_on_one_line(source: &str, annotation: &Annotation) -> bool
     line.start <= end && (end < line.end || line.end == source.len())
 }
 
+/// Whether no other span starts on its line.
+fn stands_alone(source: &str, annotations: &[Annotation], annotation: &Annotation) -> bool
+    ensures value { result ≡ spec.stands_alone source.now annotations.now annotation.now }
+{
+    let begin = line_bounds(source, annotation.span.start).start;
+    annotations
+        .iter()
+        .filter(|other| line_bounds(source, other.span.start).start == begin)
+        .count()
+        == 1
+}
+
 /// Whether its line is the first that is marked, or begins where another marked line ends.
 fn follows_on(source: &str, annotations: &[Annotation], annotation: &Annotation) -> bool
     ensures value { result ≡ spec.follows_on source.now annotations.now annotation.now }
@@ -191,12 +203,12 @@ fn a_line_ends_at(source: &str, annotations: &[Annotation], byte: usize) -> bool
         .any(|a| line_bounds(source, a.span.start).end == byte)
 }
 
-/// Whether an annotation is one that is drawn so far: a mark without label, of one line.
+/// Whether an annotation is one that is drawn so far: a mark on one line, with a label only if the line has no other.
 fn is_covered_annotation(source: &str, annotations: &[Annotation], annotation: &Annotation) -> bool
     ensures value { result ≡ spec.is_covered_annotation source.now annotations.now annotation.now }
 {
     is_marking(annotation.kind)
-        && annotation.label.is_none()
+        && (annotation.label.is_none() || stands_alone(source, annotations, annotation))
         && !annotation.highlight_source
         && stands_on_one_line(source, annotation)
         && follows_on(source, annotations, annotation)

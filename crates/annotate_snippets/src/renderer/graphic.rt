@@ -8,6 +8,7 @@
 //! ```
 ghost use Rattle.std.specs.Prelude.{◌≡◌, ◌+◌, ◌<◌, ◌≤◌, ◌^◌, All, length, OnOk, IfOk, string_bytes};
 ghost use Rattle.std.specs.Cow.{cow_str_bytes};
+ghost use Rattle.snippet_model.specs.Fits.{AnnotationFits};
 ghost use Rattle.snippet_model.specs.Level.{name_of};
 ghost use Rattle.snippet_parts.specs.Lines.{source_lines};
 ghost use Rattle.snippet_parts.specs.Span.{IsSpan};
@@ -34,6 +35,7 @@ pub fn text(
     requires numbers { snippet.now.line_start + length (source_lines (cow_str_bytes snippet.now.source)) < 2 ^ 64 }
     requires some { 0 < length snippet.now.markers.items }
     requires spans { All (λ a. IsSpan (cow_str_bytes snippet.now.source) a.span.start a.span.end) snippet.now.markers.items }
+    requires labels { All AnnotationFits snippet.now.markers.items }
     ensures drawn { IfOk result (λ text. IsTextOf title.now snippet.now (string_bytes text)) }
 {
     let mut buffer = StyledBuffer::new(alloc);
@@ -53,6 +55,7 @@ fn draw_cause(
     requires numbers { snippet.now.line_start + length (source_lines (cow_str_bytes snippet.now.source)) < 2 ^ 64 }
     requires some { 0 < length snippet.now.markers.items }
     requires spans { All (λ a. IsSpan (cow_str_bytes snippet.now.source) a.span.start a.span.end) snippet.now.markers.items }
+    requires labels { All AnnotationFits snippet.now.markers.items }
     ensures added { OnOk result (AddsCause snippet.now buffer.old buffer.new) }
 {
     let source = SourceMap::new(alloc, snippet.source.as_str(), snippet.line_start)?;

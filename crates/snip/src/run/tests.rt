@@ -47,7 +47,13 @@ fn refuses_wrong_words(rt: HostRuntime) {
 fn tells_what_is_in_the_way(rt: HostRuntime) {
     let not_yet = "snip: not yet\n";
     let runs: [Run<'_>; 7] = [
-        (&["a.rs", "0", "1", "t", "l"], Some(SOURCE), 1, "", not_yet),
+        (
+            &["--styled", "a.rs", "0", "1", "t", "l"],
+            Some(SOURCE),
+            1,
+            "",
+            not_yet,
+        ),
         (&["--unicode", "a.rs", "0", "1", "t"], None, 1, "", not_yet),
         (
             &["a.rs", "0", "1", "t"],
@@ -92,8 +98,16 @@ fn tells_what_is_in_the_way(rt: HostRuntime) {
 
 #[test]
 fn prints_the_report(rt: HostRuntime) {
-    let runs: [Run<'_>; 2] = [
+    let labelled = "error: unused\n  |\n1 | let x = 1;\n  |     ^ here\n";
+    let runs: [Run<'_>; 3] = [
         (&["a.rs", "4", "5", "unused"], Some(SOURCE), 0, REPORT, ""),
+        (
+            &["a.rs", "4", "5", "unused", "here"],
+            Some(SOURCE),
+            0,
+            labelled,
+            "",
+        ),
         (
             &["--width", "20", "--width", "80", "a.rs", "4", "5", "unused"],
             Some(SOURCE),

@@ -13,6 +13,7 @@ pub returns : goal.returns
 returns c =
     let es = c.args.entries.now in
     let some : 0 < length es = grind arith in
+    let painted = subst (λ refs. Painted c.args.layout (map (λ (e : Bor LineAnnotation). e.now) refs) c.in_ok-row.row c.begin_row.new.buffer c.paint_entries.new.buffer) c.deref.ensures.value c.in_ok-paint_entries.ensures.painted in
     record {
-      added = on_ok_weaker c.paint_entries.result (λ painted. mark_row_added c.args.layout es (map (λ (e : Bor LineAnnotation). e.now) c.in_ok-order.order.items) c.args.buffer.now c.begin_row.new.buffer c.paint_entries.new.buffer c.in_ok-row.row some c.requires.place c.in_ok-row.ensures.row c.in_ok-row.ensures.added c.in_ok-order.ensures.same c.in_ok-order.ensures.ordered (subst (λ refs. Painted c.args.layout (map (λ (e : Bor LineAnnotation). e.now) refs) c.in_ok-row.row c.begin_row.new.buffer c.paint_entries.new.buffer) c.deref.ensures.value painted)) c.paint_entries.ensures.painted;
+      added = on_ok_weaker c.draw_lone_label.result (λ label. mark_row_added c.args.layout es (map (λ (e : Bor LineAnnotation). e.now) c.in_ok-order.order.items) c.args.buffer.now c.begin_row.new.buffer c.paint_entries.new.buffer c.draw_lone_label.new.buffer c.in_ok-row.row some c.requires.place c.in_ok-row.ensures.row c.in_ok-row.ensures.added c.in_ok-order.ensures.same c.in_ok-order.ensures.ordered painted label) c.draw_lone_label.ensures.labelled;
     }

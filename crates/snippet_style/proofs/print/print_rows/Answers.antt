@@ -1,4 +1,4 @@
-use Rattle.std.proofs.Common.{◌≡◌, ◌∙◌, ap, ◌++◌, List, Vec, string_bytes, encode_utf8_all}
+use Rattle.std.proofs.Common.{◌∙◌, ap, ◌++◌, List, Vec, string_bytes, encode_utf8_all}
 use Rattle.std.proofs.lemmas.List.{take_all}
 use Rattle.std.specs.declared.alloc.Global.{Global}
 use Rattle.snippet_style.specs.declared.grid.StyledChar.{StyledChar}

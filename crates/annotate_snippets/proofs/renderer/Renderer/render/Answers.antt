@@ -15,6 +15,10 @@ pub text-requires-clause-source : goal.text-requires-clause-source
 text-requires-clause-source c =
     (source-of_report _ _ _ c.in-Some-covered.ensures.parts c.requires.fits).0
 
+pub text-requires-clause-labels : goal.text-requires-clause-labels
+text-requires-clause-labels c =
+    (source-of_report _ _ _ c.in-Some-covered.ensures.parts c.requires.fits).2
+
 pub text-requires-clause-numbers : goal.text-requires-clause-numbers
 text-requires-clause-numbers c =
     numbers-of_report _ _ _ c.in-Some-covered.ensures.parts (sym c.in_default.ensures.value)

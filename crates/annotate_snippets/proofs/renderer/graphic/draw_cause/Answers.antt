@@ -7,6 +7,7 @@ use Rattle.snippet_parts.proofs.LinesLemmas.{length-source_lines, length-text_at
 use Rattle.snippet_parts.proofs.MarkedLemmas.{marked_lines-text}
 use Rattle.annotate_snippets.specs.Drawn.{numbered_source}
 use Rattle.annotate_snippets.proofs.GutterLemmas.{numbers-counted, numbers-small, counted-small, shown-fits}
+use Rattle.annotate_snippets.proofs.LabelLemmas.{labels_fit}
 use Rattle.annotate_snippets.proofs.renderer.graphic.draw_cause.Goals as goal
 
 pub new-requires-clause-numbers : goal.new-requires-clause-numbers
@@ -27,3 +28,7 @@ pub draw_snippet-requires-clause-texts : goal.draw_snippet-requires-clause-texts
 draw_snippet-requires-clause-texts c = λ k d within.
     let s = c.args.snippet.now in
     omega (arith, ap length (marked_lines-text (numbered_source s) s.markers.items c.deref-2.result.now (marked c) k d within), length-text_at-source (cow_str_bytes s.source) (least_line (cow_str_bytes s.source) s.markers.items + k), c.requires.source)
+
+pub draw_snippet-requires-clause-labels : goal.draw_snippet-requires-clause-labels
+draw_snippet-requires-clause-labels c =
+    labels_fit (numbered_source c.args.snippet.now) c.args.snippet.now.markers.items c.deref-2.result.now (marked c) c.requires.labels
