@@ -3,7 +3,7 @@ use Rattle.std.proofs.Common.{◌≡◌, ℕ, zero, suc, ◌+◌, ◌-◌, ◌<�
 use Rattle.std.specs.List.{All, Contains, filter, range_with_len}
 use Rattle.std.specs.Cow.{cow_str_bytes}
 use Rattle.std.proofs.lemmas.Bool.{and_parts, cases_lt, cases_eq, eqb-true}
-use Rattle.std.proofs.lemmas.List.{map-append}
+use Rattle.std.proofs.lemmas.List.{map-append, take-map, drop-map}
 use Rattle.std.proofs.lemmas.List.Elements.{All-head, All-tail}
 use Rattle.snippet_model.specs.declared.snippet.Annotation.{Annotation}
 use Rattle.snippet_model.specs.declared.snippet.Snippet.{Snippet}
@@ -15,12 +15,12 @@ use Rattle.snippet_parts.specs.declared.entries.AnnotatedLineInfo.{AnnotatedLine
 use Rattle.snippet_parts.specs.declared.entries.LineAnnotation.{LineAnnotation}
 use Rattle.snippet_parts.specs.Lines.{source_lines, text_at}
 use Rattle.snippet_parts.specs.Marked.{first_line, last_line, seen_entry, entry_of, seen_line, MarkedLine, marked_line, marked_lines, least_line, greatest_line}
-use Rattle.snippet_parts.specs.Window.{chars_at}
+use Rattle.snippet_parts.specs.Window.{IsWindowOf, chars_at}
 use Rattle.snippet_strokes.specs.Entries.{IsMarkCell, label_role, label_text}
 use Rattle.snippet_strokes.specs.Rows.{shown_number, separator_row, HasNoNumber, IsSourceRow, ShowsMarks}
 use Rattle.snippet_strokes.specs.declared.layout.Layout.{Layout}
 use Rattle.snippet_strokes.specs.Snippet as strokes
-use Rattle.snippet_strokes.proofs.SnippetLemmas.{HasNoNumber-separator_row}
+use Rattle.snippet_strokes.proofs.SnippetLemmas.{highlighted_text, HasNoNumber-separator_row}
 use Rattle.snippet_parts.proofs.MarkedLemmas.{least_line-le, greatest_line-ge, greatest_line-within, least_line-le-greatest_line}
 use Rattle.snippet_style.specs.declared.glyphs.DecorStyle.TheVariants.{Ascii, Unicode}
 use Rattle.snippet_style.specs.declared.glyphs.DecorStyle.{DecorStyle}
@@ -78,6 +78,26 @@ beside_number layout shown text row c is right left =
     no_letter : (decor : DecorStyle) → is_ascii_alphanumeric (separator_of decor) ≡ false
     no_letter Ascii = refl
     no_letter Unicode = refl
+
+-- the character of a cell, read from the row's text
+char_at : (row : List Cell) (c : ℕ) → (get_or row c SPACE).ch ≡ get_or (row_text row) c 32
+char_at [] c = refl
+char_at (x ∷ row) zero = refl
+char_at (x ∷ row) (suc c) = char_at row c
+
+-- a row with the text of a source row shows the line too
+same_line : (r : Renderer) (frame : Frame) (s : Snippet Annotation) (k dropped : ℕ) (plain row : List Cell) → row_text row ≡ row_text plain → ShowsSourceLine r frame s k dropped plain → ShowsSourceLine r frame s k dropped row
+same_line r frame s k dropped plain row same shows =
+    let taken : (n : ℕ) → row_text (take n row) ≡ row_text (take n plain) = λ n. sym (take-map (λ (cell : Cell). cell.ch) n row) ∙ ap (take n) same ∙ take-map (λ (cell : Cell). cell.ch) n plain in
+    let rest : (n : ℕ) → row_text (drop n row) ≡ row_text (drop n plain) = λ n. sym (drop-map (λ (cell : Cell). cell.ch) n row) ∙ ap (drop n) same ∙ drop-map (λ (cell : Cell). cell.ch) n plain in
+    let number = number_text r s.line_numbering frame.gutter (s.line_start + k) in
+    record {
+      within = shows.within;
+      number = taken (length number) ∙ shows.number;
+      beside = λ c right left. ap is_ascii_alphanumeric (char_at row c ∙ ap (λ cs. get_or cs c 32) same ∙ sym (char_at plain c)) ∙ shows.beside c right left;
+      window = subst (IsWindowOf (placeholder_of r.decor_style) (room_of r frame) (wide_spans (room_of r frame) (length (placeholder_of r.decor_style)) s k) (norm (chars_at (cow_str_bytes s.source) k)) dropped) (sym (rest frame.code)) shows.window;
+      whole = λ stands. ((shows.whole stands).0, rest frame.code ∙ (shows.whole stands).1);
+    }
 
 -- numbers one after the other are ascending, and each between the first and the last is among them
 ascending : (from count : ℕ) → IsAscending (range_with_len from count)
@@ -141,11 +161,11 @@ module _ (r : Renderer) (plain : r.anonymized_snippet_line_numbers ≡ false) (s
       let same : map seen_entry es ≡ map (entry_of (numbered_source s)) (filter (λ a. first_line (cow_str_bytes s.source) a == k) s.markers.items) = ap (λ (l : MarkedLine). l.entries) seen in
       record {
         dropped = 0;
-        line = source_line k info shows.source within seen shows.shows;
+        line = same_line r (frame_of s) s k 0 shows.plain shows.source (highlighted_text (gutter_of s + 3) es shows.plain shows.source shows.highlighted) (source_line k info shows.plain within seen shows.shows);
         marks = λ qualifies.
             let some : 0 < length es = some_entry (numbered_source s) s.markers.items short k es same (and_parts _ _ (and_parts _ _ qualifies).0).0 in
-            let there : 0 < length shows.below = omega (arith, shows.count, some) in
-            subst (λ row. ShowsMarksOf (frame_of s) s k 0 row) (sym (below-first shows.below more there)) (marks_of_line k info (row_at shows.below 0) seen shows.marks);
+            let there : 0 < length shows.below = shows.strokes.some some in
+            subst (λ row. ShowsMarksOf (frame_of s) s k 0 row) (sym (below-first shows.below more there)) (marks_of_line k info (row_at shows.below 0) seen shows.strokes.marks);
       }
 
   -- rows that aren't named by a line hold no number

@@ -32,7 +32,7 @@ use Rattle.annotate_snippets.proofs.TitleLemmas.{ShowsTitle-rows, free_title}
 short_annotation : (source : List ℕ) (marks : List Annotation) (a : Annotation) → is_covered_annotation source marks a ≡ true → (is_marking a.kind ≡ true) × (is_single_line source a ≡ true)
 short_annotation source marks a covered =
     let line = and_parts _ _ (and_parts _ _ covered).0 in
-    ((and_parts _ _ (and_parts _ _ line.0).0).0, line.1)
+    (line.0, line.1)
 
 -- a covered snippet has spans, each of which is such a one
 pub record IsShortSnippet (s : Snippet Annotation) : Type 0 where

@@ -1,5 +1,5 @@
 -- Which reports are drawn so far; any other is refused as not done yet.
-use Rattle.std.specs.Prelude.{◌≡◌, ℕ, ◌+◌, ◌-◌, ◌==◌, Bool, true, false, not, ◌&&◌, ◌||◌, nat_le, List, [], ◌∷◌, Option, Some, None, is_none, length, count_by, chars, if◌then◌else◌}
+use Rattle.std.specs.Prelude.{◌≡◌, ℕ, ◌+◌, ◌-◌, ◌==◌, Bool, true, false, not, ◌&&◌, ◌||◌, nat_le, List, [], ◌∷◌, Option, Some, None, is_none, length, chars, if◌then◌else◌}
 use Rattle.std.specs.List.{list_all, list_any}
 use Rattle.std.specs.Cow.{cow_str_bytes}
 use Rattle.std.specs.Fmt.{decimal}
@@ -38,15 +38,10 @@ abbrev pub follows_on : List ℕ → List Annotation → Annotation → Bool
 follows_on source marks a =
     list_all (λ b. nat_le (line_begin source a.span.start) (line_begin source b.span.start)) marks || list_any (λ b. line_finish source b.span.start == line_begin source a.span.start) marks
 
--- no other span starts on its line
-abbrev pub stands_alone : List ℕ → List Annotation → Annotation → Bool
-stands_alone source marks a =
-    count_by (λ b. line_begin source b.span.start == line_begin source a.span.start) marks == 1
-
--- an annotation that is drawn so far: a mark on one line, with a label only if the line has no other
+-- an annotation that is drawn so far: a mark on one line
 abbrev pub is_covered_annotation : List ℕ → List Annotation → Annotation → Bool
 is_covered_annotation source marks a =
-    is_marking a.kind && (is_none a.label || stands_alone source marks a) && not a.highlight_source && is_single_line source a && follows_on source marks a
+    is_marking a.kind && is_single_line source a && follows_on source marks a
 
 -- the marked lines aren't cut from the left: a span or a line begins within the first 26 columns, or all are blank
 abbrev pub is_near_left : List ℕ → List Annotation → Bool

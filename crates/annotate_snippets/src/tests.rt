@@ -188,6 +188,53 @@ fn draws_the_greatest_line_number(rt: HostRuntime) -> Result<(), Fail> {
 }
 
 #[test]
+fn hangs_labels_that_have_no_room_behind_their_marks(rt: HostRuntime) -> Result<(), Fail> {
+    let snippet = Snippet::source(rt.alloc(), "ab cd")
+        .annotation(
+            AnnotationKind::Context
+                .span(0..2)
+                .label(OptionCow::from("a")),
+        )?
+        .annotation(
+            AnnotationKind::Primary
+                .span(3..5)
+                .label(OptionCow::from("c")),
+        )?;
+    assert_eq!(rt;
+        text(rt.alloc(), "e", snippet)?.as_str(),
+        "error: e\n  |\n1 | ab cd\n  | -- ^^ c\n  | |\n  | a"
+    );
+    let snippet = Snippet::source(rt.alloc(), "abcdef")
+        .annotation(
+            AnnotationKind::Context
+                .span(0..6)
+                .label(OptionCow::from("f")),
+        )?
+        .annotation(
+            AnnotationKind::Primary
+                .span(2..4)
+                .label(OptionCow::from("x")),
+        )?;
+    assert_eq!(rt;
+        text(rt.alloc(), "e", snippet)?.as_str(),
+        "error: e\n  |\n1 | abcdef\n  | --^^--\n  | | |\n  | | x\n  | f"
+    );
+    Ok(())
+}
+
+#[test]
+fn keeps_the_text_of_highlighted_source(rt: HostRuntime) -> Result<(), Fail> {
+    let snippet = Snippet::source(rt.alloc(), "ab").annotation(
+        AnnotationKind::Primary.span(0..1).highlight_source(true),
+    )?;
+    assert_eq!(rt;
+        text(rt.alloc(), "e", snippet)?.as_str(),
+        "error: e\n  |\n1 | ab\n  | ^"
+    );
+    Ok(())
+}
+
+#[test]
 fn refuses_faulty_reports(rt: HostRuntime) -> Result<(), Fail> {
     let snippet = Snippet::source(rt.alloc(), "ab").annotation(AnnotationKind::Primary.span(3..4))?;
     assert!(rt;
@@ -246,18 +293,6 @@ fn refuses_what_is_not_drawn_yet(rt: HostRuntime) -> Result<(), Fail> {
     ))?;
     assert!(rt; matches!(text(rt.alloc(), "e", snippet), Err(RenderError::NotYet)));
     let snippet = Snippet::source(rt.alloc(), "ab");
-    assert!(rt; matches!(text(rt.alloc(), "e", snippet), Err(RenderError::NotYet)));
-    let snippet = Snippet::source(rt.alloc(), "ab cd")
-        .annotation(
-            AnnotationKind::Context
-                .span(0..2)
-                .label(OptionCow::from("a")),
-        )?
-        .annotation(
-            AnnotationKind::Primary
-                .span(3..5)
-                .label(OptionCow::from("c")),
-        )?;
     assert!(rt; matches!(text(rt.alloc(), "e", snippet), Err(RenderError::NotYet)));
     Ok(())
 }

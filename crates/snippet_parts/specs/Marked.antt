@@ -1,5 +1,5 @@
 -- What annotations mark: lines, columns, and the entry of each on its line.
-use Rattle.std.specs.Prelude.{◌≡◌, ℕ, ◌+◌, ◌-◌, ◌==◌, zero, suc, max, min, Bool, false, All, List, [], ◌∷◌, ◌++◌, Option, map, filter, fold}
+use Rattle.std.specs.Prelude.{◌≡◌, ℕ, ◌+◌, ◌-◌, ◌^◌, ◌<◌, ◌==◌, zero, suc, max, min, Bool, false, All, List, [], ◌∷◌, ◌++◌, Option, map, filter, fold}
 use Rattle.std.specs.List.{range_with_len}
 use Rattle.std.specs.Option.{option_map, option_copied}
 use Rattle.std.specs.Cow.{cow_str_bytes}
@@ -33,6 +33,10 @@ seen_entry e = record { start = e.start; end = e.end; kind = e.kind; label = opt
 -- the end of an entry that starts and ends at these: at least one column behind the start
 abbrev pub widened : Loc → Loc → Loc
 widened start end = record end { display = max end.display (start.display + 1) }
+
+-- between these an entry covers at least one column, and no more than sums of columns have room for
+abbrev pub HasColumns : Loc → Loc → Type 0
+HasColumns start end = (start.display < end.display) × (end.display < 2 ^ 60)
 
 -- the entry of an annotation that stands on one line
 abbrev pub entry_of : Source → Annotation → Entry

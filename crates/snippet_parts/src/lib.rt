@@ -18,7 +18,7 @@ pub mod window;
 pub use counts::{line_feed_count, newline_count_before};
 pub use entries::{AnnotatedLineInfo, LineAnnotation, LineAnnotationType};
 pub use lines::{CursorLines, EndLine, newline_count};
-pub use mark::mark_of;
+pub use mark::{is_marking, mark_of};
 pub use place::Loc;
 pub use prepare::counted_number;
 pub use source_map::{LineInfo, SourceMap};

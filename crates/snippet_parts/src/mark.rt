@@ -113,8 +113,8 @@ fn marked_columns(
     Some(start.display..end.display.max(start.display + 1))
 }
 
-/// Whether spans of this kind are marked.
-fn is_marking(kind: AnnotationKind) -> bool
+/// Whether spans of this kind are marked, and don't just keep their lines.
+pub fn is_marking(kind: AnnotationKind) -> bool
     ensures value { result ≡ is_marking kind }
 {
     matches!(kind, AnnotationKind::Primary | AnnotationKind::Context)

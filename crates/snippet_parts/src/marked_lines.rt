@@ -3,7 +3,7 @@ ghost use Rattle.std.specs.Prelude.{◌≡◌, ◌+◌, ◌-◌, ◌<◌, ◌≤
 ghost use Rattle.std.specs.List.{HoldsAt, range_with_len};
 ghost use Rattle.snippet_parts.specs.Lines.{source_lines};
 ghost use Rattle.snippet_parts.specs.Span.{IsSpan};
-ghost use Rattle.snippet_parts.specs.Marked.{entry_of, seen_entry, seen_line, marked_line, marked_lines, with_entry, HasSingleEntries};
+ghost use Rattle.snippet_parts.specs.Marked.{entry_of, seen_entry, seen_line, marked_line, marked_lines, with_entry, HasColumns, HasSingleEntries};
 ghost use Rattle.snippet_parts.specs.declared.entries.LineAnnotationType.TheVariants.{Singleline};
 
 use crate::entries::{AnnotatedLineInfo, LineAnnotation, LineAnnotationType};
@@ -25,7 +25,7 @@ pub fn marked_lines<'a>(
     ensures lines { IfOk result (λ infos. map seen_line infos.items ≡ marked_lines source.now annotations.now) }
     ensures some { IfOk result (λ infos. 0 < length infos.items) }
     ensures bounds { IfOk result
-        (λ infos. All (λ i. All (λ e. e.end.display < 2 ^ 60) i.annotations.items) infos.items) }
+        (λ infos. All (λ i. All (λ e. HasColumns e.start e.end) i.annotations.items) infos.items) }
     ensures single { IfOk result (λ infos. All HasSingleEntries infos.items) }
 {
     let entries = entries(alloc, source, annotations)?;
@@ -46,7 +46,7 @@ fn entries<'a>(
     requires spans { All (λ a. IsSpan source.now.text a.span.start a.span.end) annotations.now }
     ensures value { IfOk result
         (λ entries. map seen_entry entries.items ≡ map (entry_of source.now) annotations.now) }
-    ensures bounds { IfOk result (λ entries. All (λ e. e.end.display < 2 ^ 60) entries.items) }
+    ensures bounds { IfOk result (λ entries. All (λ e. HasColumns e.start e.end) entries.items) }
     ensures single { IfOk result (λ entries. All (λ e. e.annotation_type ≡ Singleline) entries.items) }
 {
     let mut entries = Vec::new(alloc);
@@ -60,7 +60,7 @@ fn entries<'a>(
 fn entry<'a>(source: &SourceMap<'a>, annotation: &'a Annotation<'a>) -> LineAnnotation<'a>
     requires span { IsSpan source.now.text annotation.now.span.start annotation.now.span.end }
     ensures value { seen_entry result ≡ entry_of source.now annotation.now }
-    ensures bound { result.end.display < 2 ^ 60 }
+    ensures bound { HasColumns result.start result.end }
     ensures single { result.annotation_type ≡ Singleline }
 {
     let (start, mut end) = source.span_to_locations(annotation.span.start..annotation.span.end);

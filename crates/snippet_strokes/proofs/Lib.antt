@@ -2,6 +2,9 @@ pub mod NumberLemmas
 pub mod RowLemmas
 pub mod TextLemmas
 pub mod OrderLemmas
-pub mod PaintLemmas
+pub mod PositionLemmas
+pub mod DrawLemmas
 pub mod MarkLemmas
+pub mod StrokeLemmas
 pub mod SnippetLemmas
+pub mod PaintLemmas

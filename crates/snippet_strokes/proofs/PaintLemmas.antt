@@ -1,10 +1,12 @@
 -- Painting marks into a row: one cell after another, and one entry over another.
-use Rattle.std.proofs.Common.{◌≡◌, ◌⊎◌, ℕ, ◌+◌, ◌<◌, ◌≤◌, max, false, List, [], ◌∷◌, ◌++◌, length, map, take, get_or, refl, sym, ap, ◌∙◌, subst, arith, inl, inr, All, Bor}
+use Rattle.std.proofs.Common.{◌≡◌, ◌⊎◌, ℕ, ◌+◌, ◌<◌, ◌≤◌, ◌==◌, ◌&&◌, cond, max, Bool, true, false, List, [], ◌∷◌, ◌++◌, length, take, get_or, refl, sym, ap, ◌∙◌, subst, arith, inl, inr, All}
 use Rattle.std.proofs.lemmas.Bool.{cases_lt}
-use Rattle.std.proofs.lemmas.List.{length_push, get_or_append_left, get_or_push, map_more, take_all}
+use Rattle.std.proofs.lemmas.Bool.Decides.{nat_tests}
+use Rattle.std.proofs.lemmas.List.{length_push, get_or_append_left, get_or_push, take_more, take_all}
 use Rattle.snippet_model.specs.declared.snippet.AnnotationKind.{AnnotationKind}
 use Rattle.snippet_model.specs.declared.snippet.AnnotationKind.TheVariants.{Primary, Context, Visible}
-use Rattle.snippet_parts.specs.declared.entries.LineAnnotation.{LineAnnotation}
+use Rattle.snippet_strokes.specs.declared.positions.PlacedEntry.{PlacedEntry}
+use Rattle.snippet_strokes.specs.Positions.{is_hung}
 use Rattle.snippet_style.specs.declared.glyphs.DecorStyle.{DecorStyle}
 use Rattle.snippet_style.specs.declared.glyphs.DecorStyle.TheVariants.{Ascii, Unicode}
 use Rattle.snippet_style.specs.declared.role.ElementStyle.{ElementStyle}
@@ -16,7 +18,7 @@ use Rattle.snippet_strokes.specs.Entries.{EntryCovers, is_primary, IsMarkCell}
 use Rattle.snippet_strokes.specs.Painting.{Paints, Painted, ShowsFrom, mark_cell}
 
 -- no cell is painted yet
-pub Paints-none : (rows : List (List Cell)) (row from : ℕ) (cell : Cell) → Paints rows rows row from from cell
+pub Paints-none : (rows : List (List Cell)) (row from : ℕ) (cell : ℕ → Cell) → Paints rows rows row from from cell
 Paints-none rows row from cell =
     record {
       inside = λ c after before. absurd (omega arith);
@@ -29,14 +31,15 @@ Paints-none rows row from cell =
     }
 
 -- one more cell is painted
-pub Paints-more : (old mid new : List (List Cell)) (row from to next : ℕ) (cell : Cell) → Paints old mid row from to cell → WritesCells mid new row to (cell ∷ []) → from ≤ to → next ≡ to + 1 → Paints old new row from next cell
+pub Paints-more : (old mid new : List (List Cell)) (row from to next : ℕ) (cell : ℕ → Cell) → Paints old mid row from to cell → WritesCells mid new row to (cell to ∷ []) → from ≤ to → next ≡ to + 1 → Paints old new row from next cell
 Paints-more old mid new row from to next cell done writes ordered one =
     record {
       inside = λ c after before. elim (cases_lt c to) [
         | inl earlier ↦ writes.before c earlier ∙ done.inside c after earlier
         | inr late ↦
             let here : to + 0 ≡ c = omega arith in
-            ap (cell_at new row) (sym here) ∙ writes.inside 0 (omega arith)
+            let last : to ≡ c = omega arith in
+            ap (cell_at new row) (sym here) ∙ writes.inside 0 (omega arith) ∙ ap cell last
       ];
       before = λ c left. writes.before c (omega arith) ∙ done.before c left;
       behind = λ c right. writes.behind c (omega arith) ∙ done.behind c (omega arith);
@@ -50,7 +53,7 @@ Paints-more old mid new row from to next cell done writes ordered one =
     }
 
 -- all cells are painted; a span that ends before it starts has none
-pub Paints-all : (old new : List (List Cell)) (row at start end next : ℕ) (cell : Cell) → Paints old new row (at + start) (at + next) cell → end ≤ next → (start ≤ end → next ≤ end) → (end < start → next ≡ start) → Paints old new row (at + start) (at + end) cell
+pub Paints-all : (old new : List (List Cell)) (row at start end next : ℕ) (cell : ℕ → Cell) → Paints old new row (at + start) (at + next) cell → end ≤ next → (start ≤ end → next ≤ end) → (end < start → next ≡ start) → Paints old new row (at + start) (at + end) cell
 Paints-all old new row at start end next cell done reached within empty =
     elim (cases_lt end start) [
       | inl none ↦
@@ -72,27 +75,50 @@ Paints-all old new row at start end next cell done reached within empty =
           subst (λ n. Paints old new row (at + start) (at + n) cell) ended done
     ]
 
--- the stroke of an entry's marks is its mark cell
-pub mark_cell_is : (decor : DecorStyle) (kind : AnnotationKind) (primary : _) (glyph : ℕ) (role : ElementStyle) → primary ≡ is_primary kind → glyph ≡ glyph_of decor primary 94 45 0x2501 0x2500 → role ≡ underline_role primary → unlinked_cell role glyph ≡ mark_cell decor kind
-mark_cell_is decor kind primary glyph role is_kind is_glyph is_role =
-    ap (λ r. unlinked_cell r glyph) is_role ∙ ap (λ g. unlinked_cell (underline_role primary) g) is_glyph ∙ ap (λ p. unlinked_cell (underline_role p) (glyph_of decor p 94 45 0x2501 0x2500)) is_kind
+-- the glyph of an entry's mark is that of its mark cell
+pub mark_cell_is : (layout : Layout) (e : PlacedEntry) (at mark glyph hung_glyph : ℕ) (primary : Bool) (role : ElementStyle) → primary ≡ is_primary e.entry.kind → mark ≡ cond (is_hung e && at == e.entry.start.display) hung_glyph glyph → hung_glyph ≡ glyph_of layout.decor primary 94 45 0x252F 0x252C → glyph ≡ glyph_of layout.decor primary 94 45 0x2501 0x2500 → role ≡ underline_role primary → unlinked_cell role mark ≡ mark_cell layout e (layout.code + at)
+mark_cell_is layout e at mark glyph hung_glyph primary role is_kind is_mark is_hung_glyph is_glyph is_role =
+    rw (is_role, is_mark, is_hung_glyph, is_glyph, shifted layout.code at e.entry.start.display, is_kind) refl
+  where
+    shifted : (k m n : ℕ) → (k + m == k + n) ≡ (m == n)
+    shifted k m n = grind (arith, nat_tests)
 
 -- a mark cell is one of its kind, and no listed character
-pub IsMarkCell-mark_cell : (decor : DecorStyle) (kind : AnnotationKind) → IsMarkCell kind (mark_cell decor kind)
-IsMarkCell-mark_cell Ascii Primary = (inl refl, refl)
-IsMarkCell-mark_cell Ascii Context = (inl refl, refl)
-IsMarkCell-mark_cell Ascii Visible = (inl refl, refl)
-IsMarkCell-mark_cell Unicode Primary = (inr (inl refl), refl)
-IsMarkCell-mark_cell Unicode Context = (inr (inl refl), refl)
-IsMarkCell-mark_cell Unicode Visible = (inr (inl refl), refl)
+stroke_is : (decor : DecorStyle) (kind : AnnotationKind) (start : Bool) → IsMarkCell kind (unlinked_cell (underline_role (is_primary kind)) (cond start (glyph_of decor (is_primary kind) 94 45 0x252F 0x252C) (glyph_of decor (is_primary kind) 94 45 0x2501 0x2500)))
+stroke_is Ascii Primary true = (inl refl, refl)
+stroke_is Ascii Context true = (inl refl, refl)
+stroke_is Ascii Visible true = (inl refl, refl)
+stroke_is Unicode Primary true = (inr (inr refl), refl)
+stroke_is Unicode Context true = (inr (inr refl), refl)
+stroke_is Unicode Visible true = (inr (inr refl), refl)
+stroke_is Ascii Primary false = (inl refl, refl)
+stroke_is Ascii Context false = (inl refl, refl)
+stroke_is Ascii Visible false = (inl refl, refl)
+stroke_is Unicode Primary false = (inr (inl refl), refl)
+stroke_is Unicode Context false = (inr (inl refl), refl)
+stroke_is Unicode Visible false = (inr (inl refl), refl)
 
-free_mark_cell : (decor : DecorStyle) (kind : AnnotationKind) → is_listed (mark_cell decor kind).ch ≡ false
-free_mark_cell Ascii Primary = refl
-free_mark_cell Ascii Context = refl
-free_mark_cell Ascii Visible = refl
-free_mark_cell Unicode Primary = refl
-free_mark_cell Unicode Context = refl
-free_mark_cell Unicode Visible = refl
+pub IsMarkCell-mark_cell : (layout : Layout) (e : PlacedEntry) (c : ℕ) → IsMarkCell e.entry.kind (mark_cell layout e c)
+IsMarkCell-mark_cell layout e c =
+    stroke_is layout.decor e.entry.kind (is_hung e && c == layout.code + e.entry.start.display)
+
+free_stroke : (decor : DecorStyle) (kind : AnnotationKind) (start : Bool) → is_listed (cond start (glyph_of decor (is_primary kind) 94 45 0x252F 0x252C) (glyph_of decor (is_primary kind) 94 45 0x2501 0x2500)) ≡ false
+free_stroke Ascii Primary true = refl
+free_stroke Ascii Context true = refl
+free_stroke Ascii Visible true = refl
+free_stroke Unicode Primary true = refl
+free_stroke Unicode Context true = refl
+free_stroke Unicode Visible true = refl
+free_stroke Ascii Primary false = refl
+free_stroke Ascii Context false = refl
+free_stroke Ascii Visible false = refl
+free_stroke Unicode Primary false = refl
+free_stroke Unicode Context false = refl
+free_stroke Unicode Visible false = refl
+
+free_mark_cell : (layout : Layout) (e : PlacedEntry) (c : ℕ) → is_listed (mark_cell layout e c).ch ≡ false
+free_mark_cell layout e c =
+    free_stroke layout.decor e.entry.kind (is_hung e && c == layout.code + e.entry.start.display)
 
 -- no entry is painted yet
 pub Painted-none : (layout : Layout) (row : ℕ) (rows : List (List Cell)) → Painted layout [] row rows rows
@@ -100,7 +126,7 @@ Painted-none layout row rows =
     record {
       marked = λ k p d within covers. absurd (omega arith);
       unmarked = λ p _. refl;
-      before = λ c _. refl;
+      left = λ c _. refl;
       free = λ c is. is;
       others = λ r _. refl;
       count = λ _. refl;
@@ -109,70 +135,70 @@ Painted-none layout row rows =
     }
 
 -- a column that an entry covers, or not
-covers_or_not : (e : LineAnnotation) (p : ℕ) → EntryCovers e p ⊎ (EntryCovers e p → ⊥)
+covers_or_not : (e : PlacedEntry) (p : ℕ) → EntryCovers e.entry p ⊎ (EntryCovers e.entry p → ⊥)
 covers_or_not e p =
-    elim (cases_lt p e.start.display) [
+    elim (cases_lt p e.entry.start.display) [
       | inl left ↦ inr (λ covers. omega (arith, covers.0))
       | inr after ↦
-          elim (cases_lt p e.end.display) [
+          elim (cases_lt p e.entry.end.display) [
             | inl before ↦ inl (after, before)
             | inr right ↦ inr (λ covers. omega (arith, covers.1))
           ]
     ]
 
 -- what stands at the places of a list with one more entry
-old_place : (es : List LineAnnotation) (e d : LineAnnotation) (k : ℕ) → k < length es → get_or (es ++ e ∷ []) k d ≡ get_or es k d
+old_place : (es : List PlacedEntry) (e d : PlacedEntry) (k : ℕ) → k < length es → get_or (es ++ e ∷ []) k d ≡ get_or es k d
 old_place es e d k within = get_or_append_left es (e ∷ []) d k within
 
-new_place : (es : List LineAnnotation) (e d : LineAnnotation) → get_or (es ++ e ∷ []) (length es) d ≡ e
+new_place : (es : List PlacedEntry) (e d : PlacedEntry) → get_or (es ++ e ∷ []) (length es) d ≡ e
 new_place es e d = get_or_push es e d (length es) refl
 
 -- the painted cell is outside the columns that an entry doesn't cover
-untouched : (layout : Layout) (mid new : List (List Cell)) (row p : ℕ) (e : LineAnnotation) → Paints mid new row (layout.code + e.start.display) (layout.code + e.end.display) (mark_cell layout.decor e.kind) → (EntryCovers e p → ⊥) → cell_at new row (layout.code + p) ≡ cell_at mid row (layout.code + p)
+untouched : (layout : Layout) (mid new : List (List Cell)) (row p : ℕ) (e : PlacedEntry) → Paints mid new row (layout.code + e.entry.start.display) (layout.code + e.entry.end.display) (mark_cell layout e) → (EntryCovers e.entry p → ⊥) → cell_at new row (layout.code + p) ≡ cell_at mid row (layout.code + p)
 untouched layout mid new row p e paints not_covered =
-    elim (cases_lt p e.start.display) [
+    elim (cases_lt p e.entry.start.display) [
       | inl left ↦ paints.before (layout.code + p) (omega arith)
       | inr after ↦
-          elim (cases_lt p e.end.display) [
+          elim (cases_lt p e.entry.end.display) [
             | inl before ↦ absurd (not_covered (after, before))
             | inr right ↦ paints.behind (layout.code + p) (omega arith)
           ]
     ]
 
 -- what an entry shows that was painted last
-shows_new : (layout : Layout) (es : List LineAnnotation) (e d : LineAnnotation) (k p : ℕ) (mid new : List (List Cell)) (row : ℕ) → Paints mid new row (layout.code + e.start.display) (layout.code + e.end.display) (mark_cell layout.decor e.kind) → k < length (es ++ e ∷ []) → EntryCovers e p → ShowsFrom layout (es ++ e ∷ []) k p d (cell_at new row (layout.code + p))
+shows_new : (layout : Layout) (es : List PlacedEntry) (e d : PlacedEntry) (k p : ℕ) (mid new : List (List Cell)) (row : ℕ) → Paints mid new row (layout.code + e.entry.start.display) (layout.code + e.entry.end.display) (mark_cell layout e) → k < length (es ++ e ∷ []) → EntryCovers e.entry p → ShowsFrom layout (es ++ e ∷ []) k p d (cell_at new row (layout.code + p))
 shows_new layout es e d k p mid new row paints within covers =
     let here = new_place es e d in
     record {
       at = length es;
       later = omega (arith, length_push es e);
       within = omega (arith, length_push es e);
-      covers = subst (λ x. EntryCovers x p) (sym here) covers;
-      holds = paints.inside (layout.code + p) (omega (arith, covers.0)) (omega (arith, covers.1)) ∙ ap (λ (x : LineAnnotation). mark_cell layout.decor x.kind) (sym here);
+      covers = subst (λ x. EntryCovers x.entry p) (sym here) covers;
+      holds = paints.inside (layout.code + p) (omega (arith, covers.0)) (omega (arith, covers.1)) ∙ ap (λ (x : PlacedEntry). mark_cell layout x (layout.code + p)) (sym here);
     }
 
 -- what an earlier entry shows where the last one doesn't cover the column
-shows_old : (layout : Layout) (es : List LineAnnotation) (e d : LineAnnotation) (k p : ℕ) (cell same : Cell) → same ≡ cell → ShowsFrom layout es k p d cell → ShowsFrom layout (es ++ e ∷ []) k p d same
+shows_old : (layout : Layout) (es : List PlacedEntry) (e d : PlacedEntry) (k p : ℕ) (cell same : Cell) → same ≡ cell → ShowsFrom layout es k p d cell → ShowsFrom layout (es ++ e ∷ []) k p d same
 shows_old layout es e d k p cell same is shows =
     let place = old_place es e d shows.at shows.within in
     record {
       at = shows.at;
       later = shows.later;
       within = omega (arith, shows.within, length_push es e);
-      covers = subst (λ x. EntryCovers x p) (sym place) shows.covers;
-      holds = is ∙ shows.holds ∙ ap (λ (x : LineAnnotation). mark_cell layout.decor x.kind) (sym place);
+      covers = subst (λ x. EntryCovers x.entry p) (sym place) shows.covers;
+      holds = is ∙ shows.holds ∙ ap (λ (x : PlacedEntry). mark_cell layout x (layout.code + p)) (sym place);
     }
 
 -- where one entry is painted the row ends where the entry does, or where it did
-sole_width : (layout : Layout) (es : List LineAnnotation) (e f : LineAnnotation) (row : ℕ) (old mid new : List (List Cell)) → Painted layout es row old mid → Paints mid new row (layout.code + e.start.display) (layout.code + e.end.display) (mark_cell layout.decor e.kind) → es ++ e ∷ [] ≡ f ∷ [] → f.start.display < f.end.display → length (row_at new row) ≡ max (length (row_at old row)) (layout.code + f.end.display)
+sole_width : (layout : Layout) (es : List PlacedEntry) (e f : PlacedEntry) (row : ℕ) (old mid new : List (List Cell)) → Painted layout es row old mid → Paints mid new row (layout.code + e.entry.start.display) (layout.code + e.entry.end.display) (mark_cell layout e) → es ++ e ∷ [] ≡ f ∷ [] → f.entry.start.display < f.entry.end.display → length (row_at new row) ≡ max (length (row_at old row)) (layout.code + f.entry.end.display)
 sole_width layout [] e f row old mid new done paints one some =
     let same : e ≡ f = cc in
-    omega (arith, paints.width (omega (arith, ap (λ (x : LineAnnotation). x.start.display) same, ap (λ (x : LineAnnotation). x.end.display) same)), done.kept refl, ap (λ (x : LineAnnotation). x.end.display) same)
+    omega (arith, paints.width (omega (arith, ap (λ (x : PlacedEntry). x.entry.start.display) same, ap (λ (x : PlacedEntry). x.entry.end.display) same)), done.kept refl, ap (λ (x : PlacedEntry). x.entry.end.display) same)
 sole_width layout (d ∷ es) e f row old mid new done paints one some =
     absurd (omega (arith, length_push es e, ap length one))
 
 -- one more entry is painted over those before
-pub Painted-more : (layout : Layout) (es : List LineAnnotation) (e : LineAnnotation) (row : ℕ) (old mid new : List (List Cell)) → Painted layout es row old mid → Paints mid new row (layout.code + e.start.display) (layout.code + e.end.display) (mark_cell layout.decor e.kind) → Painted layout (es ++ e ∷ []) row old new
+pub Painted-more : (layout : Layout) (es : List PlacedEntry) (e : PlacedEntry) (row : ℕ) (old mid new : List (List Cell)) → Painted layout es row old mid → Paints mid new row (layout.code + e.entry.start.display) (layout.code + e.entry.end.display) (mark_cell layout e) → Painted layout (es ++ e ∷ []) row old new
 Painted-more layout es e row old mid new done paints =
     record {
       marked = λ k p d within covers. elim (covers_or_not e p) [
@@ -182,21 +208,25 @@ Painted-more layout es e row old mid new done paints =
               | inl less ↦ less
               | inr more ↦
                   let here : k ≡ length es = omega (arith, length_push es e) in
-                  absurd (not_last (subst (λ x. EntryCovers x p) (ap (λ n. get_or (es ++ e ∷ []) n d) here ∙ new_place es e d) covers))
+                  absurd (not_last (subst (λ x. EntryCovers x.entry p) (ap (λ n. get_or (es ++ e ∷ []) n d) here ∙ new_place es e d) covers))
             ] in
-            shows_old layout es e d k p (cell_at mid row (layout.code + p)) (cell_at new row (layout.code + p)) (untouched layout mid new row p e paints not_last) (done.marked k p d old_one (subst (λ x. EntryCovers x p) (old_place es e d k old_one) covers))
+            shows_old layout es e d k p (cell_at mid row (layout.code + p)) (cell_at new row (layout.code + p)) (untouched layout mid new row p e paints not_last) (done.marked k p d old_one (subst (λ x. EntryCovers x.entry p) (old_place es e d k old_one) covers))
       ];
       unmarked = λ p none.
-          let N : LineAnnotation → Type 0 = λ x. EntryCovers x p → ⊥ in
-          let last : EntryCovers e p → ⊥ = subst N (new_place es e e) (none (length es) e (omega (arith, length_push es e))) in
+          let N : PlacedEntry → Type 0 = λ x. EntryCovers x.entry p → ⊥ in
+          let last : EntryCovers e.entry p → ⊥ = subst N (new_place es e e) (none (length es) e (omega (arith, length_push es e))) in
           let first : All N es = λ k d within. subst N (old_place es e d k within) (none k d (omega (arith, length_push es e))) in
           untouched layout mid new row p e paints last ∙ done.unmarked p first;
-      before = λ c left. paints.before c (omega arith) ∙ done.before c left;
-      free = λ c is. elim (cases_lt c (layout.code + e.start.display)) [
+      left = λ c all.
+          let L : PlacedEntry → Type 0 = λ x. c < layout.code + x.entry.start.display in
+          let last : L e = subst L (new_place es e e) (all (length es) e (omega (arith, length_push es e))) in
+          let first : All L es = λ k d within. subst L (old_place es e d k within) (all k d (omega (arith, length_push es e))) in
+          paints.before c last ∙ done.left c first;
+      free = λ c is. elim (cases_lt c (layout.code + e.entry.start.display)) [
         | inl left ↦ subst (λ x. is_listed x.ch ≡ false) (sym (paints.before c left)) (done.free c is)
         | inr after ↦
-            elim (cases_lt c (layout.code + e.end.display)) [
-              | inl inside ↦ subst (λ x. is_listed x.ch ≡ false) (sym (paints.inside c after inside)) (free_mark_cell layout.decor e.kind)
+            elim (cases_lt c (layout.code + e.entry.end.display)) [
+              | inl inside ↦ subst (λ x. is_listed x.ch ≡ false) (sym (paints.inside c after inside)) (free_mark_cell layout e c)
               | inr right ↦ subst (λ x. is_listed x.ch ≡ false) (sym (paints.behind c right)) (done.free c is)
             ]
       ];
@@ -206,12 +236,12 @@ Painted-more layout es e row old mid new done paints =
       kept = λ none. absurd (omega (arith, length_push es e, ap length none));
     }
 
--- the entry that stands next in a list of references is painted
-pub Painted-next : (layout : Layout) (refs : List (Bor LineAnnotation)) (i : ℕ) (d : Bor LineAnnotation) (row : ℕ) (old mid new : List (List Cell)) → i < length refs → Painted layout (map (λ (e : Bor LineAnnotation). e.now) (take i refs)) row old mid → Paints mid new row (layout.code + (get_or refs i d).now.start.display) (layout.code + (get_or refs i d).now.end.display) (mark_cell layout.decor (get_or refs i d).now.kind) → Painted layout (map (λ (e : Bor LineAnnotation). e.now) (take (i + 1) refs)) row old new
-Painted-next layout refs i d row old mid new within done paints =
-    subst (λ es. Painted layout es row old new) (sym (map_more (λ (e : Bor LineAnnotation). e.now) refs i d within)) (Painted-more layout (map (λ (e : Bor LineAnnotation). e.now) (take i refs)) (get_or refs i d).now row old mid new done paints)
+-- the entry that stands next is painted
+pub Painted-next : (layout : Layout) (es : List PlacedEntry) (i : ℕ) (d : PlacedEntry) (row : ℕ) (old mid new : List (List Cell)) → i < length es → Painted layout (take i es) row old mid → Paints mid new row (layout.code + (get_or es i d).entry.start.display) (layout.code + (get_or es i d).entry.end.display) (mark_cell layout (get_or es i d)) → Painted layout (take (i + 1) es) row old new
+Painted-next layout es i d row old mid new within done paints =
+    subst (λ xs. Painted layout xs row old new) (sym (take_more es i d within)) (Painted-more layout (take i es) (get_or es i d) row old mid new done paints)
 
--- all entries of a list of references are painted
-pub Painted-all : (layout : Layout) (refs : List (Bor LineAnnotation)) (i row : ℕ) (old new : List (List Cell)) → length refs ≤ i → Painted layout (map (λ (e : Bor LineAnnotation). e.now) (take i refs)) row old new → Painted layout (map (λ (e : Bor LineAnnotation). e.now) refs) row old new
-Painted-all layout refs i row old new past done =
-    subst (λ es. Painted layout (map (λ (e : Bor LineAnnotation). e.now) es) row old new) (take_all i refs past) done
+-- all entries are painted
+pub Painted-all : (layout : Layout) (es : List PlacedEntry) (i row : ℕ) (old new : List (List Cell)) → length es ≤ i → Painted layout (take i es) row old new → Painted layout es row old new
+Painted-all layout es i row old new past done =
+    subst (λ xs. Painted layout xs row old new) (take_all i es past) done

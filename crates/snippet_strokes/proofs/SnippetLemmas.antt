@@ -1,60 +1,89 @@
 -- The rows of lines, one after another.
-use Rattle.std.proofs.Common.{◌≡◌, ℕ, ◌+◌, ◌<◌, ◌≤◌, min, Bool, List, [], ◌∷◌, ◌++◌, length, take, get_or, refl, sym, ap, ◌∙◌, subst, arith, inl, inr, All, chars}
+use Rattle.std.proofs.Common.{◌≡◌, ◌≢◌, ℕ, ◌+◌, ◌<◌, ◌≤◌, ◌^◌, false, Bool, List, [], ◌∷◌, ◌++◌, length, take, get_or, refl, sym, ap, ◌∙◌, subst, arith, inl, inr, All, chars}
 use Rattle.std.specs.Char.{is_ascii_alphanumeric}
-use Rattle.std.proofs.lemmas.Bool.{cases_lt}
-use Rattle.std.proofs.lemmas.List.{append_assoc, append-nil, nil_from_length, take_more, take_all}
-use Rattle.std.proofs.lemmas.List.Elements.{All-get_or, All-append, All-cons, All-nil, All-same, All-weaker}
+use Rattle.std.proofs.lemmas.Bool.{cases_eq}
+use Rattle.std.proofs.lemmas.List.{append_assoc, append-nil, take_more, take_all, length_push, length-drop, get_or_push, get_or_append_left, get_or-map, length-map, ext_get_or}
+use Rattle.std.proofs.lemmas.List.Elements.{All-get_or, All-from_get_or, All-append, All-cons, All-nil, All-same, All-weaker}
 use Rattle.snippet_parts.specs.declared.entries.AnnotatedLineInfo.{AnnotatedLineInfo}
 use Rattle.snippet_parts.specs.declared.entries.LineAnnotation.{LineAnnotation}
 use Rattle.snippet_style.specs.declared.glyphs.DecorStyle.{DecorStyle}
-use Rattle.snippet_style.specs.Grid.{Cell, row_at}
-use Rattle.snippet_text.specs.Normalized.{norm}
+use Rattle.snippet_style.specs.declared.role.ElementStyle.TheVariants.{Quotation}
+use Rattle.snippet_style.specs.Grid.{Cell, SPACE, row_at}
+use Rattle.snippet_style.specs.Print.{row_text}
+use Rattle.snippet_style.proofs.GridLemmas.{length-drawn}
+use Rattle.snippet_text.specs.Normalized.{is_listed, norm}
 use Rattle.snippet_strokes.specs.declared.layout.Layout.{Layout}
-use Rattle.snippet_strokes.specs.Rows.{shown_number, separator_row, HasNoNumber, IsFree, ShowsMarks, IsMarkRow, AddsSourceRow, AddsMarks}
+use Rattle.snippet_strokes.specs.Rows.{shown_number, separator_row, HasNoNumber, IsFree, IsSourceRow, IsStrokeRow, IsHighlighted, AddsSourceRow, AddsStrokes}
 use Rattle.snippet_strokes.proofs.RowLemmas.{free_separator_row, separator_row_blank}
 use Rattle.snippet_strokes.specs.Snippet.{ShowsLine, AreLinesShown, AddsLine, AddsSnippet}
 
--- a row of marks holds no number, since spaces stand left of its separator
-no_number : (layout : Layout) (es : List LineAnnotation) → layout.gutter + 3 ≤ layout.code → (row : List Cell) → IsMarkRow layout es row → HasNoNumber layout.gutter row
+-- a row of strokes holds no number, since spaces stand left of its separator
+no_number : (layout : Layout) (es : List LineAnnotation) → layout.gutter + 3 ≤ layout.code → (row : List Cell) → IsStrokeRow layout es row → HasNoNumber layout.gutter row
 no_number layout es place row is c left =
-    ap (λ (cell : Cell). is_ascii_alphanumeric cell.ch) (is.blank c (λ same. omega arith) (omega arith))
+    ap (λ (cell : Cell). is_ascii_alphanumeric cell.ch) (is.left c layout.code (omega arith) (λ k d within. omega arith) ∙ separator_row_blank layout.decor layout.gutter c (λ same. omega arith))
 
--- a line with no entries has no marks to show
-no_marks : (code : ℕ) (es : List LineAnnotation) → length es ≡ 0 → ShowsMarks code es []
-no_marks code es none =
-    record {
-      marks = λ p kind mark. absurd (omega (arith, mark.among.1));
-      spaces = λ _ p none_covers. refl;
-      lone = λ e one some shown. absurd (omega (arith, none, ap length one));
-    }
+-- a grid of which only the last row changed
+last_changed : (old begun new : List (List Cell)) (row : ℕ) (first : List Cell) → row ≡ length old → begun ≡ old ++ first ∷ [] → length new ≡ length begun → ((r : ℕ) → r ≢ row → row_at new r ≡ row_at begun r) → new ≡ old ++ row_at new row ∷ []
+last_changed old begun new row first last begins count others =
+    let changed = row_at new row in
+    let long : length begun ≡ length old + 1 = ap length begins ∙ length_push old first in
+    ext_get_or [] new (old ++ changed ∷ []) (omega (arith, length_push old changed)) (λ k within. elim (cases_eq k row) [
+      | inl here ↦
+          ap (λ n. get_or new n []) here ∙ sym (ap (λ n. get_or (old ++ changed ∷ []) n []) here ∙ get_or_push old changed [] row (sym last))
+      | inr other ↦
+          let before : k < length old = omega arith in
+          others k other ∙ ap (λ rows. get_or rows k []) begins ∙ get_or_append_left old (first ∷ []) [] k before ∙ sym (get_or_append_left old (changed ∷ []) [] k before)
+    ])
 
--- the first row below a source row shows the marks
-marks_below : (layout : Layout) (es : List LineAnnotation) (below : List (List Cell)) → length below ≡ min 1 (length es) → All (IsMarkRow layout es) below → ShowsMarks layout.code es (row_at below 0)
-marks_below layout es below count are =
-    elim (cases_lt 0 (length es)) [
-      | inl some ↦ (All-get_or (IsMarkRow layout es) below 0 [] (omega arith) are).shows
-      | inr none ↦
-          let bare : below ≡ [] = nil_from_length below (omega arith) in
-          subst (λ rows. ShowsMarks layout.code es (row_at rows 0)) (sym bare) (no_marks layout.code es (omega arith))
-    ]
+-- the row that was added last
+pub row_added : (old new : List (List Cell)) (row : List Cell) (r : ℕ) → r ≡ length old → new ≡ old ++ row ∷ [] → row_at new r ≡ row
+row_added old new row r last added = ap (λ rows. row_at rows r) added ∙ get_or_push old row [] r (sym last)
 
--- a source row and the marks below it show a line
-pub line_added : (layout : Layout) (numbered : Bool) (info : AnnotatedLineInfo) (old mid new : List (List Cell)) → layout.gutter + 3 ≤ layout.code → AddsSourceRow layout (shown_number numbered layout.gutter info.line_index) (norm (chars info.line.now)) old mid → AddsMarks layout info.annotations.items mid new → AddsLine layout numbered info old new
-line_added layout numbered info old mid new place source marks =
+-- a source row is short
+pub source_row_short : (layout : Layout) (shown text : List ℕ) (row : List Cell) → IsSourceRow layout shown text row → layout.code < 2 ^ 32 → length text < 2 ^ 60 → length row < 2 ^ 62
+source_row_short layout shown text row is narrow short =
+    omega (arith, length-drop layout.code row, ap length is.shows.code, length-drawn Quotation text)
+
+-- highlighting puts no other character into a row
+highlighted_free : (code : ℕ) (es : List LineAnnotation) (plain row : List Cell) → IsHighlighted code es plain row → IsFree plain → IsFree row
+highlighted_free code es plain row is free =
+    let P : Cell → Type 0 = λ c. is_listed c.ch ≡ false in
+    All-from_get_or P row SPACE (λ c within.
+    let inside : c < length plain = omega (arith, is.width, within) in
+    subst P (sym (is.cells c inside)) (All-get_or P plain c SPACE inside free))
+
+-- and it leaves the row's text as it was
+pub highlighted_text : (code : ℕ) (es : List LineAnnotation) (plain row : List Cell) → IsHighlighted code es plain row → row_text row ≡ row_text plain
+highlighted_text code es plain row is =
+    let f : Cell → ℕ = λ c. c.ch in
+    let long : length (row_text row) ≡ length (row_text plain) = length-map row f ∙ is.width ∙ sym (length-map plain f) in
+    ext_get_or 32 (row_text row) (row_text plain) long (λ k within.
+    let here : k < length row = omega (arith, within, length-map row f) in
+    let there : k < length plain = omega (arith, here, is.width) in
+    get_or-map f row k SPACE 32 here ∙ ap f (is.cells k there) ∙ sym (get_or-map f plain k SPACE 32 there))
+
+-- a source row, what its entries highlight, and the strokes below it show a line
+pub line_added : (layout : Layout) (numbered : Bool) (info : AnnotatedLineInfo) (old mid high new : List (List Cell)) (row : ℕ) → layout.gutter + 3 ≤ layout.code → AddsSourceRow layout (shown_number numbered layout.gutter info.line_index) (norm (chars info.line.now)) old mid → row ≡ length old → IsHighlighted layout.code info.annotations.items (row_at mid row) (row_at high row) → ((r : ℕ) → r ≢ row → row_at high r ≡ row_at mid r) → length high ≡ length mid → AddsStrokes layout info.annotations.items high new → AddsLine layout numbered info old new
+line_added layout numbered info old mid high new row place source last highlights others count strokes =
     let es = info.annotations.items in
-    let weaker : (row : List Cell) → IsMarkRow layout es row → IsFree row = λ row is. is.free in
+    let below = strokes.rows in
+    let first : row_at mid row ≡ source.row = row_added old mid source.row row last source.added in
+    let is : IsHighlighted layout.code es source.row (row_at high row) = subst (λ plain. IsHighlighted layout.code es plain (row_at high row)) first highlights in
+    let top : high ≡ old ++ row_at high row ∷ [] = last_changed old mid high row source.row last source.added count others in
+    let weaker : (r : List Cell) → IsStrokeRow layout es r → IsFree r = λ r stroke. stroke.free in
     record {
-      rows = source.row ∷ marks.rows;
-      added = marks.added ∙ ap (λ rows. rows ++ marks.rows) source.added ∙ append_assoc old (source.row ∷ []) marks.rows;
+      rows = row_at high row ∷ below;
+      added = strokes.added ∙ ap (λ rows. rows ++ below) top ∙ append_assoc old (row_at high row ∷ []) below;
       shown = record {
-        source = source.row;
-        below = marks.rows;
+        source = row_at high row;
+        below = below;
         rows_are = refl;
+        plain = source.row;
         shows = source.is;
-        count = marks.count;
-        marks = marks_below layout es marks.rows marks.count marks.are;
-        unnumbered = All-weaker (IsMarkRow layout es) (HasNoNumber layout.gutter) (no_number layout es place) marks.rows marks.are;
-        free = All-cons IsFree source.row marks.rows source.is.free (All-weaker (IsMarkRow layout es) IsFree weaker marks.rows marks.are);
+        highlighted = is;
+        strokes = strokes.are;
+        unnumbered = All-weaker (IsStrokeRow layout es) (HasNoNumber layout.gutter) (no_number layout es place) below strokes.are.are;
+        free = All-cons IsFree (row_at high row) below (highlighted_free layout.code es source.row (row_at high row) is source.is.free) (All-weaker (IsStrokeRow layout es) IsFree weaker below strokes.are.are);
       };
     }
 

@@ -1,10 +1,18 @@
 -- The normalised text of a line: how long it gets, and that it holds no listed character.
-use Rattle.std.proofs.Common.{◌≡◌, ℕ, zero, suc, ◌+◌, ◌-◌, ◌*◌, ◌<◌, ◌≤◌, ◌^◌, false, List, [], ◌∷◌, length, arith, All}
+use Rattle.std.proofs.Common.{◌≡◌, ◌==◌, Bool, true, not, refl, sym, ap, ◌∙◌, ℕ, zero, suc, ◌+◌, ◌-◌, ◌*◌, ◌<◌, ◌≤◌, ◌^◌, false, List, [], ◌∷◌, length, arith, All, Option, Some, None, inl, inr, Bor, IsUtf8, encode_utf8_all}
+use Rattle.std.proofs.lemmas.Str.{chars-nil, encodes-chars}
+use Rattle.snippet_parts.specs.declared.entries.LineAnnotation.{LineAnnotation}
+use Rattle.snippet_text.proofs.NormLemmas.{list_any-norm}
+use Rattle.snippet_strokes.specs.Entries.{shown_label, label_text}
 use Rattle.std.specs.List.{flat_map, list_any}
 use Rattle.std.specs.Str.{chars, chars_after, continuation_len, lead_bits}
 use Rattle.std.proofs.lemmas.Bool.Decides.{nat_tests}
-use Rattle.std.proofs.lemmas.List.{length-append}
+use Rattle.std.proofs.lemmas.Bool.{cases_lt}
+use Rattle.std.proofs.lemmas.List.{length-append, nil_from_length}
 use Rattle.std.proofs.lemmas.List.Elements.{All-nil, All-cons}
+use Rattle.snippet_style.specs.Glyphs.{glyph_of}
+use Rattle.snippet_style.specs.declared.glyphs.DecorStyle.{DecorStyle}
+use Rattle.snippet_style.specs.declared.glyphs.DecorStyle.TheVariants.{Ascii, Unicode}
 use Rattle.snippet_text.specs.Normalized.{is_listed, norm, shown}
 
 -- no more than four characters are shown for one
@@ -42,3 +50,52 @@ All-from_none (c ∷ cs) none =
     let first : is_listed c ≡ false = grind arith in
     let later : list_any is_listed cs ≡ false = grind arith in
     All-cons P c cs first (All-from_none cs later)
+
+-- a stem is no listed character
+pub free_stem : (decor : DecorStyle) (primary : Bool) → is_listed (glyph_of decor primary 124 124 0x2502 0x2502) ≡ false
+free_stem Ascii true = refl
+free_stem Ascii false = refl
+free_stem Unicode true = refl
+free_stem Unicode false = refl
+
+-- a text that has a byte has a character
+chars_some : (bytes : List ℕ) → IsUtf8 bytes → 0 < length bytes → 0 < length (chars bytes)
+chars_some bytes utf8 some = by_chars (chars bytes) (encodes-chars bytes utf8)
+  where
+    by_chars : (cs : List ℕ) → encode_utf8_all cs ≡ bytes → 0 < length cs
+    by_chars [] same = absurd (omega (arith, some, ap length same))
+    by_chars (c ∷ cs) same = omega arith
+
+-- a text has no character where it has no byte
+pub is_empty-chars : (bytes : List ℕ) → IsUtf8 bytes → (length bytes == 0) ≡ (length (chars bytes) == 0)
+is_empty-chars bytes utf8 =
+    elim (cases_lt 0 (length bytes)) [
+      | inl some ↦ above (length bytes) some ∙ sym (above (length (chars bytes)) (chars_some bytes utf8 some))
+      | inr none ↦
+          let empty : bytes ≡ [] = nil_from_length bytes (omega arith) in
+          ap (λ (cs : List ℕ). length cs == 0) (empty ∙ sym (ap chars empty ∙ chars-nil))
+    ]
+  where
+    above : (n : ℕ) → 0 < n → (n == 0) ≡ false
+    above n some = grind (arith, nat_tests)
+
+-- a label's characters aren't listed
+pub free_label_text : (e : LineAnnotation) → All (λ c. is_listed c ≡ false) (label_text e)
+free_label_text e = text_free e.label
+  where
+    text_free : (label : Option (Bor (List ℕ))) → All (λ c. is_listed c ≡ false) (shown_label label)
+    text_free None = All-nil (λ c. is_listed c ≡ false)
+    text_free (Some label) = All-from_none (norm (chars label.now)) (list_any-norm (chars label.now))
+
+-- a text that has a character has a byte, and one that has none has none
+pub bytes_some : (bytes : List ℕ) → IsUtf8 bytes → not (length (chars bytes) == 0) ≡ true → 0 < length bytes
+bytes_some bytes utf8 some = above (length bytes) (ap not (is_empty-chars bytes utf8) ∙ some)
+  where
+    above : (n : ℕ) → not (n == 0) ≡ true → 0 < n
+    above n some = grind (arith, nat_tests)
+
+pub bytes_none : (bytes : List ℕ) → IsUtf8 bytes → not (length (chars bytes) == 0) ≡ false → bytes ≡ []
+bytes_none bytes utf8 none = nil_from_length bytes (zero_there (length bytes) (ap not (is_empty-chars bytes utf8) ∙ none))
+  where
+    zero_there : (n : ℕ) → not (n == 0) ≡ false → n ≡ 0
+    zero_there n none = grind (arith, nat_tests)

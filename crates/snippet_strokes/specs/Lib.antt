@@ -1,4 +1,5 @@
 pub mod Entries
+pub mod Positions
+pub mod Painting
 pub mod Rows
 pub mod Snippet
-pub mod Painting

@@ -1,17 +1,19 @@
--- The rows of a line that is shown: its source row, and the row of marks below it.
-use Rattle.std.specs.Prelude.{◌≡◌, ℕ, ◌≢◌, ◌+◌, ◌-◌, ◌<◌, ◌≤◌, Bool, true, false, List, [], ◌∷◌, ◌++◌, All, length, min, take, drop, replicate}
+-- The rows of a line that is shown: its source row, and the rows of its strokes below it.
+use Rattle.std.specs.Prelude.{◌≡◌, ℕ, ◌≢◌, ◌+◌, ◌-◌, ◌<◌, ◌≤◌, ◌&&◌, nat_le, nat_lt, Bool, true, false, List, [], ◌∷◌, ◌++◌, All, length, take, drop, replicate, if◌then◌else◌}
 use Rattle.std.specs.Char.{is_ascii_alphanumeric}
 use Rattle.std.specs.Fmt.{decimal}
-use Rattle.std.specs.List.{slice_index_or}
+use Rattle.std.specs.List.{slice_index_or, list_any}
 use Rattle.snippet_model.specs.declared.snippet.AnnotationKind.{AnnotationKind}
 use Rattle.snippet_parts.specs.declared.entries.LineAnnotation.{LineAnnotation}
 use Rattle.snippet_style.specs.declared.glyphs.DecorStyle.{DecorStyle}
-use Rattle.snippet_style.specs.declared.role.ElementStyle.TheVariants.{LineNumber, Quotation}
-use Rattle.snippet_style.specs.Glyphs.{separator_of}
-use Rattle.snippet_style.specs.Grid.{Cell, SPACE, drawn, unlinked_cell}
+use Rattle.snippet_style.specs.declared.role.ElementStyle.{ElementStyle}
+use Rattle.snippet_style.specs.declared.role.ElementStyle.TheVariants.{LineNumber, Quotation, UnderlinePrimary, UnderlineSecondary}
+use Rattle.snippet_style.specs.Glyphs.{separator_of, underline_role}
+use Rattle.snippet_style.specs.Grid.{Cell, SPACE, drawn, unlinked_cell, row_at, cell_at, gives_way, restyled}
 use Rattle.snippet_text.specs.Normalized.{is_listed}
 use Rattle.snippet_strokes.specs.declared.layout.Layout.{Layout}
-use Rattle.snippet_strokes.specs.Entries.{EntryCovers, IsEntryMark, IsMarkCell, label_text, label_role}
+use Rattle.snippet_strokes.specs.Entries.{EntryCovers, is_primary, IsEntryMark, IsMarkCell, label_text, label_role}
+use Rattle.snippet_strokes.specs.Painting.{StandsFrom}
 
 -- these digits at the right end of a field of this width, filled up with spaces
 abbrev pub set_right : ℕ → List ℕ → List ℕ
@@ -53,12 +55,20 @@ pub record IsSourceRow (layout : Layout) (shown text : List ℕ) (row : List Cel
   pub blank : (c : ℕ) → length shown ≤ c → c ≢ layout.gutter + 1 → c < layout.code → slice_index_or row c SPACE ≡ SPACE
   pub free : IsFree row
 
--- a row of marks: what ShowsMarks says, the separator, and else spaces left of the code
-pub record IsMarkRow (layout : Layout) (es : List LineAnnotation) (row : List Cell) : Type 0 where
-  pub shows : ShowsMarks layout.code es row
-  pub separator : slice_index_or row (layout.gutter + 1) SPACE ≡ unlinked_cell LineNumber (separator_of layout.decor)
-  pub blank : (c : ℕ) → c ≢ layout.gutter + 1 → c < layout.code → slice_index_or row c SPACE ≡ SPACE
+-- a row of strokes: left of all entries it is as a separator row, and it holds no listed character
+pub record IsStrokeRow (layout : Layout) (es : List LineAnnotation) (row : List Cell) : Type 0 where
+  pub left : (c from : ℕ) → c < from → All (StandsFrom layout.code from) es → slice_index_or row c SPACE ≡ slice_index_or (separator_row layout.decor layout.gutter) c SPACE
   pub free : IsFree row
+
+-- the rows of a line's strokes: none if it has no entries, and else first that of its marks. It is the only one where
+-- the line has one entry, or no label that shows anything
+pub record AreStrokes (layout : Layout) (es : List LineAnnotation) (rows : List (List Cell)) : Type 0 where
+  pub none : es ≡ [] → rows ≡ []
+  pub some : 0 < length es → 0 < length rows
+  pub lone : length es ≡ 1 → length rows ≡ 1
+  pub bare : All (λ e. label_text e ≡ []) es → length rows ≤ 1
+  pub marks : ShowsMarks layout.code es (row_at rows 0)
+  pub are : All (IsStrokeRow layout es) rows
 
 -- one source row was added below the rows that are there
 pub record AddsSourceRow (layout : Layout) (shown text : List ℕ) (old new : List (List Cell)) : Type 0 where
@@ -66,9 +76,33 @@ pub record AddsSourceRow (layout : Layout) (shown text : List ℕ) (old new : Li
   pub added : new ≡ old ++ row ∷ []
   pub is : IsSourceRow layout shown text row
 
--- the rows of marks that were added below the rows that are there: one if the line has entries, and else none
-pub record AddsMarks (layout : Layout) (es : List LineAnnotation) (old new : List (List Cell)) : Type 0 where
+-- the rows of a line's strokes were added below the rows that are there
+pub record AddsStrokes (layout : Layout) (es : List LineAnnotation) (old new : List (List Cell)) : Type 0 where
   pub rows : List (List Cell)
   pub added : new ≡ old ++ rows
-  pub count : length rows ≡ min 1 (length es)
-  pub are : All (IsMarkRow layout es) rows
+  pub are : AreStrokes layout es rows
+
+-- whether an entry asks to highlight the character at this cell
+abbrev pub highlights : ℕ → ℕ → LineAnnotation → Bool
+highlights code c e =
+    e.highlight_source && nat_le (code + e.start.char) c && nat_lt c (code + e.end.char)
+
+-- the role of a cell of a source row, one which has this role, with what entries highlight: that of primary marks where a
+-- primary entry asks for it, else that of marks for context where an entry asks and the cell's role gives way
+abbrev pub role_in_source : ℕ → List LineAnnotation → ℕ → ElementStyle → ElementStyle
+role_in_source code es c role =
+    if list_any (λ e. is_primary e.kind && highlights code c e) es then UnderlinePrimary else (if list_any (highlights code c) es && gives_way role then UnderlineSecondary else role)
+
+-- the row is this source row, with the characters highlighted that entries ask for
+pub record IsHighlighted (code : ℕ) (es : List LineAnnotation) (plain row : List Cell) : Type 0 where
+  pub width : length row ≡ length plain
+  pub cells : (c : ℕ) → c < length plain → slice_index_or row c SPACE ≡ (let cell = slice_index_or plain c SPACE in record cell { role = role_in_source code es c cell.role })
+
+-- the characters of a row that one entry asks to highlight have the role of its marks, where it is primary or their own
+-- gives way, and nothing else changed
+pub record Restyled (code : ℕ) (e : LineAnnotation) (row : ℕ) (old new : List (List Cell)) : Type 0 where
+  pub asked : (c : ℕ) → c < length (row_at old row) → nat_le (code + e.start.char) c && nat_lt c (code + e.end.char) ≡ true → cell_at new row c ≡ restyled (underline_role (is_primary e.kind)) (is_primary e.kind) (cell_at old row c)
+  pub unasked : (c : ℕ) → nat_le (code + e.start.char) c && nat_lt c (code + e.end.char) ≡ false → cell_at new row c ≡ cell_at old row c
+  pub others : (r : ℕ) → r ≢ row → row_at new r ≡ row_at old r
+  pub width : length (row_at new row) ≡ length (row_at old row)
+  pub count : length new ≡ length old

@@ -1,20 +1,21 @@
 -- The rows of a snippet.
-use Rattle.std.specs.Prelude.{◌≡◌, min, Bool, List, [], ◌∷◌, ◌++◌, All, chars, length}
+use Rattle.std.specs.Prelude.{◌≡◌, Bool, List, [], ◌∷◌, ◌++◌, All, chars}
 use Rattle.snippet_parts.specs.declared.entries.AnnotatedLineInfo.{AnnotatedLineInfo}
 use Rattle.snippet_strokes.specs.declared.layout.Layout.{Layout}
-use Rattle.snippet_style.specs.Grid.{Cell, row_at}
+use Rattle.snippet_style.specs.Grid.{Cell}
 use Rattle.snippet_text.specs.Normalized.{norm}
-use Rattle.snippet_strokes.specs.Rows.{shown_number, separator_row, HasNoNumber, IsFree, IsSourceRow, ShowsMarks}
+use Rattle.snippet_strokes.specs.Rows.{shown_number, separator_row, HasNoNumber, IsFree, IsSourceRow, IsHighlighted, AreStrokes}
 
--- the rows show this line: the first its number and its source, normalised, the second (which is there if the line has
--- entries) its marks; none but the first can be taken for a source row, and none holds a listed character
+-- the rows show this line: the first its number and its source, normalised, with what its entries highlight, the others
+-- its strokes; none but the first can be taken for a source row, and none holds a listed character
 pub record ShowsLine (layout : Layout) (numbered : Bool) (info : AnnotatedLineInfo) (rows : List (List Cell)) : Type 0 where
   pub source : List Cell
   pub below : List (List Cell)
   pub rows_are : rows ≡ source ∷ below
-  pub shows : IsSourceRow layout (shown_number numbered layout.gutter info.line_index) (norm (chars info.line.now)) source
-  pub count : length below ≡ min 1 (length info.annotations.items)
-  pub marks : ShowsMarks layout.code info.annotations.items (row_at below 0)
+  pub plain : List Cell
+  pub shows : IsSourceRow layout (shown_number numbered layout.gutter info.line_index) (norm (chars info.line.now)) plain
+  pub highlighted : IsHighlighted layout.code info.annotations.items plain source
+  pub strokes : AreStrokes layout info.annotations.items below
   pub unnumbered : All (HasNoNumber layout.gutter) below
   pub free : All IsFree rows
 

@@ -1,78 +1,91 @@
 //! The labels of marks.
-ghost use Rattle.std.specs.Prelude.{◌≡◌, ◌+◌, ◌^◌, ◌<◌, [], All, IfSome, OnOk, length};
+ghost use Rattle.std.specs.Prelude.{◌≡◌, ◌+◌, ◌^◌, ◌<◌, ◌≤◌, ◌∷◌, [], All, OnOk, false, true, length, ℕ};
 ghost use Rattle.snippet_style.specs.Grid.{cells_written, drawn};
-ghost use Rattle.snippet_strokes.specs.Entries as spec;
-ghost use Rattle.snippet_strokes.specs.Painting.{Labelled};
+ghost use Rattle.snippet_parts.specs.Marked.{HasColumns};
+ghost use Rattle.snippet_strokes.specs.Entries.{label_role, label_text};
+ghost use Rattle.snippet_strokes.specs.Painting.{DrawsFrom, HasRows, StandsFrom};
+ghost use Rattle.snippet_strokes.specs.Positions as spec;
+ghost use Rattle.snippet_strokes.specs.Positions.{HasItsLabel};
+ghost use Rattle.snippet_strokes.specs.declared.positions.PlacedEntry.{PlacedEntry};
 
 use crate::layout::Layout;
-use snippet_model::AnnotationKind;
-use snippet_parts::LineAnnotation;
-use snippet_style::{ElementStyle, StyledBuffer};
-use snippet_text::normalized;
-use std::alloc::{AllocError, Global};
+use crate::positions::PlacedEntry;
+use crate::roles::label_role;
+use snippet_style::StyledBuffer;
+use std::alloc::AllocError;
 
-/// Draws the label of a line's one entry into the row of its mark, one cell behind it.
+/// Draws the labels of some entries, the first row of which is that of the marks.
 ///
 /// ```text
-///       |     ^ here
+///       |        c       position 0: in the row of the marks, one cell behind its own
+///       |
+///       | a              position 1: two rows farther down, below its mark's first column
 /// ```
 ///
 /// # Errors
 ///
-/// There is no memory for the label.
-pub(crate) fn draw_lone_label(
-    alloc: Global,
+/// There is no memory for the cells.
+pub(crate) fn draw_labels(
     buffer: &mut StyledBuffer,
     layout: Layout,
     row: usize,
-    entries: &[LineAnnotation],
+    placed: &[PlacedEntry],
 ) -> Result<(), AllocError>
-    requires row { row + 1 < 2 ^ 64 }
     requires narrow { layout.code < 2 ^ 32 }
-    requires columns { All (λ e. e.end.display < 2 ^ 60) entries.now }
-    requires labels { All (λ e. IfSome e.label (λ t. length t.now < 2 ^ 56)) entries.now }
-    ensures labelled { OnOk result (Labelled layout entries.now row buffer.old buffer.new) }
+    requires columns { All (λ e. HasColumns e.entry.start e.entry.end) placed.now }
+    requires small { length buffer.old ≤ 2 ^ 60 }
+    requires rows { All (HasRows row (length buffer.old)) placed.now }
+    requires labels { All HasItsLabel placed.now }
+    ensures draws { OnOk result ((from : ℕ) → All (λ e. StandsFrom layout.code from e.entry) placed.now
+        → DrawsFrom row from buffer.old buffer.new) }
+    ensures none { OnOk result (All (λ e. spec.has_label e ≡ false) placed.now → buffer.new ≡ buffer.old) }
+    ensures lone { OnOk result ((e : PlacedEntry) → placed.now ≡ e ∷ [] → e.position ≡ 0 → spec.has_label e ≡ true
+        → buffer.new ≡ cells_written buffer.old row (layout.code + e.entry.end.display + 1)
+        (drawn (label_role e.entry.kind) (label_text e.entry))) }
 {
-    let [entry] = entries else {
-        return Ok(());
-    };
-    draw_label(
-        alloc,
-        buffer,
-        row,
-        layout.code + entry.end.display + 1,
-        entry,
+    for entry in placed {
+        draw_label(buffer, layout, row, entry)?;
+    }
+    Ok(())
+}
+
+/// Draws the label of an entry.
+fn draw_label(
+    buffer: &mut StyledBuffer,
+    layout: Layout,
+    row: usize,
+    placed: &PlacedEntry,
+) -> Result<(), AllocError>
+    requires narrow { layout.code < 2 ^ 32 }
+    requires columns { HasColumns placed.now.entry.start placed.now.entry.end }
+    requires small { length buffer.old ≤ 2 ^ 60 }
+    requires rows { HasRows row (length buffer.old) placed.now }
+    requires label { HasItsLabel placed.now }
+    ensures draws { OnOk result ((from : ℕ) → StandsFrom layout.code from placed.now.entry
+        → DrawsFrom row from buffer.old buffer.new) }
+    ensures none { OnOk result (spec.has_label placed.now ≡ false → buffer.new ≡ buffer.old) }
+    ensures behind { OnOk result (placed.now.position ≡ 0 → spec.has_label placed.now ≡ true
+        → buffer.new ≡ cells_written buffer.old row (layout.code + placed.now.entry.end.display + 1)
+        (drawn (label_role placed.now.entry.kind) (label_text placed.now.entry))) }
+{
+    let (below, column) = label_place(placed);
+    buffer.puts(
+        row + below,
+        layout.code + column,
+        placed.label.as_str(),
+        label_role(placed.entry.kind),
     )
 }
 
-/// Draws the label of an entry, from a cell on.
-fn draw_label(
-    alloc: Global,
-    buffer: &mut StyledBuffer,
-    row: usize,
-    cell: usize,
-    entry: &LineAnnotation,
-) -> Result<(), AllocError>
-    requires row { row + 1 < 2 ^ 64 }
-    requires cell { cell < 2 ^ 61 }
-    requires label { IfSome entry.now.label (λ t. length t.now < 2 ^ 56) }
-    ensures none { OnOk result (spec.label_text entry.now ≡ [] → buffer.new ≡ buffer.old) }
-    ensures written { OnOk result (0 < length (spec.label_text entry.now)
-        → buffer.new ≡ cells_written buffer.old row cell (drawn (spec.label_role entry.now.kind) (spec.label_text entry.now))) }
+/// Where the label of an entry begins: how many rows below the row of the marks, and at which column.
+fn label_place(placed: &PlacedEntry) -> (usize, usize)
+    requires columns { HasColumns placed.now.entry.start placed.now.entry.end }
+    requires low { placed.now.position + 1 < 2 ^ 64 }
+    ensures value { result ≡ spec.label_place placed.now }
 {
-    let Some(label) = entry.label else {
-        return Ok(());
-    };
-    let label = normalized(alloc, label)?;
-    buffer.puts(row, cell, label.as_str(), label_role(entry.kind))
-}
-
-/// The role of labels of this kind.
-fn label_role(kind: AnnotationKind) -> ElementStyle
-    ensures value { result ≡ spec.label_role kind }
-{
-    match kind {
-        AnnotationKind::Primary => ElementStyle::LabelPrimary,
-        AnnotationKind::Context | AnnotationKind::Visible => ElementStyle::LabelSecondary,
+    if placed.position == 0 {
+        (0, placed.entry.end.display + 1)
+    } else {
+        (placed.position + 1, placed.entry.start.display)
     }
 }

@@ -1,13 +1,18 @@
 //! The strokes of a snippet: for each line that is shown its source row, and below it the row of its marks.
 #![tactic(auto)]
 
+mod highlight;
 mod labels;
 pub mod layout;
 mod marks;
 mod number;
+mod positions;
+mod roles;
 mod row;
 mod snippet;
 mod source_row;
+mod stems;
+mod strokes;
 
 pub use layout::Layout;
 pub use number::gutter_width;

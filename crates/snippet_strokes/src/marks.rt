@@ -1,20 +1,18 @@
 //! The marks below a line of the source.
-ghost use Rattle.std.specs.Prelude.{◌≡◌, ◌-◌, ◌+◌, ◌^◌, ◌<◌, ◌≤◌, All, IfOk, IfSome, OnOk, IsPermutation, length, map};
+ghost use Rattle.std.specs.Prelude.{◌≡◌, ◌+◌, ◌^◌, ◌<◌, ◌==◌, ◌&&◌, if◌then◌else◌, All, OnOk, IsPermutation, map};
 ghost use Rattle.snippet_strokes.specs.Entries as spec;
-ghost use Rattle.snippet_strokes.specs.Painting.{IsPaintingOrder, Painted, Paints, mark_cell};
-ghost use Rattle.snippet_strokes.specs.Rows.{AddsMarks};
+ghost use Rattle.snippet_strokes.specs.Positions.{is_hung};
+ghost use Rattle.snippet_strokes.specs.Painting.{AreMarked, IsPaintingOrder, Painted, Paints, mark_cell};
 
-use crate::labels::draw_lone_label;
 use crate::layout::Layout;
-use crate::row::begin_row;
-use snippet_model::AnnotationKind;
+use crate::positions::PlacedEntry;
+use crate::roles::is_primary;
 use snippet_parts::LineAnnotation;
-use snippet_style::StyledBuffer;
-use std::alloc::{AllocError, Global};
+use snippet_style::{StyledBuffer, Underline};
+use std::alloc::AllocError;
 use std::cmp::Reverse;
 
-/// Draws the marks of a line below all that stands in the grid: one row, or none if the line has no entries. Where the
-/// line has one entry, its label stands behind the mark.
+/// Draws the marks of some entries into a row, over what stands there. The entries are put in another order.
 ///
 /// ```text
 ///       |     ----^^^--
@@ -22,44 +20,33 @@ use std::cmp::Reverse;
 ///
 /// # Errors
 ///
-/// There is no memory for the row or the list of entries.
+/// There is no memory for the cells, or to sort the entries.
 pub(crate) fn draw_marks(
-    alloc: Global,
     buffer: &mut StyledBuffer,
     layout: Layout,
-    entries: &[LineAnnotation],
+    row: usize,
+    placed: &mut Vec<PlacedEntry>,
 ) -> Result<(), AllocError>
-    requires place { layout.gutter + 3 ≤ layout.code }
+    requires row { row + 1 < 2 ^ 64 }
     requires narrow { layout.code < 2 ^ 32 }
-    requires columns { All (λ e. e.end.display < 2 ^ 60) entries.now }
-    requires labels { All (λ e. IfSome e.label (λ t. length t.now < 2 ^ 56)) entries.now }
-    ensures added { OnOk result (AddsMarks layout entries.now buffer.old buffer.new) }
+    requires columns { All (λ e. e.entry.end.display < 2 ^ 60) placed.old.items }
+    ensures marked { OnOk result (AreMarked layout placed.old.items row buffer.old buffer.new) }
 {
-    if entries.is_empty() {
-        return Ok(());
-    }
-    let order = painting_order(alloc, entries)?;
-    let row = begin_row(buffer, layout)?;
-    paint_entries(buffer, layout, row, &order)?;
-    draw_lone_label(alloc, buffer, layout, row, entries)
+    sort_for_painting(placed)?;
+    paint_entries(buffer, layout, row, placed)
 }
 
-/// The entries from the widest to the narrowest, those of one width with the primary ones last, and else as given:
-/// painted one over another, each column shows the narrowest entry that covers it.
+/// Puts the entries in order from the widest to the narrowest, those of one width with the primary ones last, and else
+/// as given: painted one over another, each column shows the narrowest entry that covers it.
 ///
 /// # Errors
 ///
-/// There is no memory for the list.
-fn painting_order<'s, 'a>(
-    alloc: Global,
-    entries: &'s [LineAnnotation<'a>],
-) -> Result<Vec<&'s LineAnnotation<'a>>, AllocError>
-    ensures same { IfOk result (λ order. IsPermutation entries.now (map (λ e. e.now) order.items)) }
-    ensures ordered { IfOk result (λ order. IsPaintingOrder (map (λ e. e.now) order.items)) }
+/// There is no memory to sort them.
+fn sort_for_painting(placed: &mut Vec<PlacedEntry>) -> Result<(), AllocError>
+    ensures same { OnOk result (IsPermutation placed.old.items placed.new.items) }
+    ensures ordered { OnOk result (IsPaintingOrder (map (λ e. e.entry) placed.new.items)) }
 {
-    let mut order: Vec<&'s LineAnnotation<'a>> = entries.iter().collect(alloc)?;
-    order.sort_by_key(|entry| (Reverse(entry_width(entry)), is_primary(entry.kind)))?;
-    Ok(order)
+    placed.sort_by_key(|p| (Reverse(entry_width(&p.entry)), is_primary(p.entry.kind)))
 }
 
 /// How many columns an entry covers.
@@ -69,32 +56,25 @@ fn entry_width(entry: &LineAnnotation) -> usize
     entry.end.display.saturating_sub(entry.start.display)
 }
 
-/// Whether marks of this kind are drawn as primary ones.
-fn is_primary(kind: AnnotationKind) -> bool
-    ensures value { result ≡ spec.is_primary kind }
-{
-    matches!(kind, AnnotationKind::Primary)
-}
-
 /// Paints the marks of entries into a row, each over those before it.
 fn paint_entries(
     buffer: &mut StyledBuffer,
     layout: Layout,
     row: usize,
-    entries: &[&LineAnnotation],
+    placed: &[PlacedEntry],
 ) -> Result<(), AllocError>
     requires row { row + 1 < 2 ^ 64 }
     requires narrow { layout.code < 2 ^ 32 }
-    requires columns { All (λ e. e.now.end.display < 2 ^ 60) entries.now }
-    ensures painted { OnOk result (Painted layout (map (λ e. e.now) entries.now) row buffer.old buffer.new) }
+    requires columns { All (λ e. e.entry.end.display < 2 ^ 60) placed.now }
+    ensures painted { OnOk result (Painted layout placed.now row buffer.old buffer.new) }
 {
-    for entry in entries {
+    for entry in placed {
         paint_entry(buffer, layout, row, entry)?;
     }
     Ok(())
 }
 
-/// Paints the marks of an entry into a row, over what stands there.
+/// Paints the marks of an entry into a row, over what stands there. Where its label hangs, the first is a label start.
 ///
 /// ```text
 ///       |       ^^^^^
@@ -103,19 +83,30 @@ fn paint_entry(
     buffer: &mut StyledBuffer,
     layout: Layout,
     row: usize,
-    entry: &LineAnnotation,
+    placed: &PlacedEntry,
 ) -> Result<(), AllocError>
     requires row { row + 1 < 2 ^ 64 }
     requires narrow { layout.code < 2 ^ 32 }
-    requires columns { entry.now.end.display < 2 ^ 60 }
-    ensures painted { OnOk result (Paints buffer.old buffer.new row (layout.code + entry.now.start.display)
-        (layout.code + entry.now.end.display) (mark_cell layout.decor entry.now.kind)) }
+    requires columns { placed.now.entry.end.display < 2 ^ 60 }
+    ensures painted { OnOk result (Paints buffer.old buffer.new row (layout.code + placed.now.entry.start.display)
+        (layout.code + placed.now.entry.end.display) (mark_cell layout placed.now)) }
 {
-    let mark = layout.decor.underline(is_primary(entry.kind));
-    let start = entry.start.display;
-    let end = entry.end.display;
-    for column in start..end {
-        buffer.putc(row, layout.code + column, mark.underline, mark.style)?;
+    let strokes = layout.decor.underline(is_primary(placed.entry.kind));
+    for column in placed.entry.start.display..placed.entry.end.display {
+        let mark = mark_glyph(placed, strokes, column);
+        buffer.putc(row, layout.code + column, mark, strokes.style)?;
     }
     Ok(())
+}
+
+/// The glyph of an entry's mark at one of its columns.
+fn mark_glyph(placed: &PlacedEntry, strokes: Underline, column: usize) -> char
+    ensures value { result ≡ (if is_hung placed.now && column == placed.now.entry.start.display then strokes.label_start
+        else strokes.underline) }
+{
+    if placed.is_hung() && column == placed.entry.start.display {
+        strokes.label_start
+    } else {
+        strokes.underline
+    }
 }

@@ -1,12 +1,14 @@
 //! The rows of a snippet: a separator row, and the rows of each line that is shown.
 ghost use Rattle.std.specs.Prelude.{◌+◌, ◌^◌, ◌<◌, ◌≤◌, All, IfSome, OnOk, length};
+ghost use Rattle.snippet_parts.specs.Marked.{HasColumns};
 ghost use Rattle.snippet_strokes.specs.Rows.{shown_number};
 ghost use Rattle.snippet_strokes.specs.Snippet.{AddsLine, AddsSnippet};
 
+use crate::highlight::highlight_source;
 use crate::layout::Layout;
-use crate::marks::draw_marks;
 use crate::row::begin_row;
 use crate::source_row::draw_source_row;
+use crate::strokes::draw_strokes;
 use snippet_parts::AnnotatedLineInfo;
 use snippet_style::StyledBuffer;
 use std::alloc::{AllocError, Global};
@@ -39,7 +41,7 @@ pub fn draw_snippet(
     requires numbers { All (λ info. length (shown_number numbered layout.gutter info.line_index) ≤ layout.gutter + 1)
         infos.now }
     requires texts { All (λ info. length info.line.now < 2 ^ 56) infos.now }
-    requires columns { All (λ info. All (λ e. e.end.display < 2 ^ 60) info.annotations.items) infos.now }
+    requires columns { All (λ info. All (λ e. HasColumns e.start e.end) info.annotations.items) infos.now }
     requires labels { All (λ info. All (λ e. IfSome e.label (λ t. length t.now < 2 ^ 56)) info.annotations.items) infos.now }
     ensures added { OnOk result (AddsSnippet layout numbered infos.now buffer.old buffer.new) }
 {
@@ -67,12 +69,13 @@ fn draw_line(
     requires narrow { layout.code < 2 ^ 32 }
     requires number { length (shown_number numbered layout.gutter info.now.line_index) ≤ layout.gutter + 1 }
     requires text { length info.now.line.now < 2 ^ 56 }
-    requires columns { All (λ e. e.end.display < 2 ^ 60) info.now.annotations.items }
+    requires columns { All (λ e. HasColumns e.start e.end) info.now.annotations.items }
     requires labels { All (λ e. IfSome e.label (λ t. length t.now < 2 ^ 56)) info.now.annotations.items }
     ensures added { OnOk result (AddsLine layout numbered info.now buffer.old buffer.new) }
 {
-    draw_source_row(alloc, buffer, layout, numbered, info)?;
-    draw_marks(alloc, buffer, layout, &info.annotations)
+    let row = draw_source_row(alloc, buffer, layout, numbered, info)?;
+    highlight_source(buffer, layout, row, &info.annotations)?;
+    draw_strokes(alloc, buffer, layout, &info.annotations)
 }
 
 #[cfg(test)]

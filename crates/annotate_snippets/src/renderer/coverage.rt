@@ -20,10 +20,10 @@ ghost use Rattle.snippet_model.specs.declared.snippet.Annotation.{Annotation};
 
 use crate::renderer::Renderer;
 use snippet_model::level::LevelName;
-use snippet_model::snippet::{Annotation, AnnotationKind, Element, Group, Snippet, Title};
+use snippet_model::snippet::{Annotation, Element, Group, Snippet, Title};
 use snippet_parts as parts;
 use snippet_parts::line_bounds::{line_bounds, line_text};
-use snippet_parts::{column_of, counted_number};
+use snippet_parts::{column_of, counted_number, is_marking};
 use snippet_strokes::gutter_width;
 use snippet_style::DecorStyle;
 use snippet_text::str_width;
@@ -165,18 +165,6 @@ fn stands_on_one_line(source: &str, annotation: &Annotation) -> bool
     line.start <= end && (end < line.end || line.end == source.len())
 }
 
-/// Whether no other span starts on its line.
-fn stands_alone(source: &str, annotations: &[Annotation], annotation: &Annotation) -> bool
-    ensures value { result ≡ spec.stands_alone source.now annotations.now annotation.now }
-{
-    let begin = line_bounds(source, annotation.span.start).start;
-    annotations
-        .iter()
-        .filter(|other| line_bounds(source, other.span.start).start == begin)
-        .count()
-        == 1
-}
-
 /// Whether its line is the first that is marked, or begins where another marked line ends.
 fn follows_on(source: &str, annotations: &[Annotation], annotation: &Annotation) -> bool
     ensures value { result ≡ spec.follows_on source.now annotations.now annotation.now }
@@ -203,25 +191,13 @@ fn a_line_ends_at(source: &str, annotations: &[Annotation], byte: usize) -> bool
         .any(|a| line_bounds(source, a.span.start).end == byte)
 }
 
-/// Whether an annotation is one that is drawn so far: a mark on one line, with a label only if the line has no other.
+/// Whether an annotation is one that is drawn so far: a mark on one line.
 fn is_covered_annotation(source: &str, annotations: &[Annotation], annotation: &Annotation) -> bool
     ensures value { result ≡ spec.is_covered_annotation source.now annotations.now annotation.now }
 {
     is_marking(annotation.kind)
-        && (annotation.label.is_none() || stands_alone(source, annotations, annotation))
-        && !annotation.highlight_source
         && stands_on_one_line(source, annotation)
         && follows_on(source, annotations, annotation)
-}
-
-/// Whether spans of this kind are marked.
-fn is_marking(kind: AnnotationKind) -> bool
-    ensures value { result ≡ mark.is_marking kind }
-{
-    match kind {
-        AnnotationKind::Primary | AnnotationKind::Context => true,
-        AnnotationKind::Visible => false,
-    }
 }
 
 /// Whether the marked lines stand whole in a room of this many columns: each is as narrow, and none is cut from the left.

@@ -4,7 +4,7 @@ use Rattle.std.proofs.lemmas.List.FromFn.{length-map-range_with_len}
 use Rattle.std.proofs.lemmas.List.Elements.{All-take, All-same}
 use Rattle.snippet_parts.specs.declared.entries.LineAnnotation.{LineAnnotation}
 use Rattle.snippet_parts.specs.declared.entries.LineAnnotationType.TheVariants.{Singleline}
-use Rattle.snippet_parts.specs.Marked.{seen_entry, seen_line, Entry}
+use Rattle.snippet_parts.specs.Marked.{HasColumns, seen_entry, seen_line, Entry}
 use Rattle.snippet_parts.proofs.MarkedLemmas.{line_with, IsLineRange, IsLineRange-from_entries, start-from, start-within, lines-more, lines-all, marked_lines-some, All-line_with}
 use Rattle.snippet_parts.proofs.marked_lines.marked_lines.Goals.{After-line_range-first}
 use Rattle.snippet_parts.proofs.marked_lines.marked_lines.Goals as goal
@@ -53,4 +53,4 @@ returns-clause-some c =
 pub returns-clause-bounds : goal.returns-clause-bounds
 returns-clause-bounds c =
     let es = c.deref-entry-items.result.now in
-    All-line_with (λ (e : Entry). e.end.display < 2 ^ 60) c.args.source.now (take c.loop-entry.entry-index es) (c.line_range-first.result.0 - c.args.source.now.first) (c.line_range-first.result.1 + 1 - c.line_range-first.result.0) c.loop-entry.lines.items (All-take (λ (e : LineAnnotation). e.end.display < 2 ^ 60) c.loop-entry.entry-index es (All-same (λ (e : LineAnnotation). e.end.display < 2 ^ 60) es c.in_ok-entries.entries.items c.deref-entry-items.ensures.value c.in_ok-entries.ensures.bounds)) c.loop-entry.invariant.0
+    All-line_with (λ (e : Entry). HasColumns e.start e.end) c.args.source.now (take c.loop-entry.entry-index es) (c.line_range-first.result.0 - c.args.source.now.first) (c.line_range-first.result.1 + 1 - c.line_range-first.result.0) c.loop-entry.lines.items (All-take (λ (e : LineAnnotation). HasColumns e.start e.end) c.loop-entry.entry-index es (All-same (λ (e : LineAnnotation). HasColumns e.start e.end) es c.in_ok-entries.entries.items c.deref-entry-items.ensures.value c.in_ok-entries.ensures.bounds)) c.loop-entry.invariant.0

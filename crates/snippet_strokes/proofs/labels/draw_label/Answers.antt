@@ -1,21 +1,55 @@
-use Rattle.std.proofs.Common.{◌∙◌, ◌<◌, ◌^◌, ap, sym, subst, arith, length, chars, encode_utf8_all, IfSome}
+use Rattle.std.proofs.Common.{◌≡◌, ◌∙◌, ◌==◌, ◌+◌, ◌<◌, ℕ, not, false, All, ap, sym, subst, arith, inl, inr, length, chars}
+use Rattle.std.proofs.lemmas.Bool.{cases_lt}
+use Rattle.std.proofs.lemmas.List.{nil_from_length}
 use Rattle.std.proofs.lemmas.Result.{on_ok_weaker}
-use Rattle.std.proofs.lemmas.Str.{encodes-chars}
-use Rattle.snippet_style.specs.Grid.{cells_written, drawn}
-use Rattle.snippet_style.proofs.GridLemmas.{length-chars_le}
-use Rattle.snippet_strokes.specs.Entries.{label_text, shown_label}
-use Rattle.snippet_strokes.proofs.TextLemmas.{norm_short}
+use Rattle.snippet_style.specs.Grid.{Cell, drawn, cells_written}
+use Rattle.snippet_style.proofs.GridLemmas.{All-drawn, length-chars_le}
+use Rattle.snippet_text.specs.Normalized.{is_listed}
+use Rattle.snippet_strokes.specs.Entries.{label_text}
+use Rattle.snippet_strokes.specs.Painting.{DrawsFrom}
+use Rattle.snippet_strokes.specs.Positions.{label_place}
+use Rattle.snippet_strokes.proofs.DrawLemmas.{DrawsFrom-none, DrawsFrom-writes}
+use Rattle.snippet_strokes.proofs.PositionLemmas.{label_stands, label_beside}
+use Rattle.snippet_strokes.proofs.TextLemmas.{free_label_text, bytes_some, bytes_none}
 use Rattle.snippet_strokes.proofs.labels.draw_label.Goals as goal
 
 pub puts-requires-clause-end : goal.puts-requires-clause-end
 puts-requires-clause-end c =
-    let fits : length c.in-Some.label.now < 2 ^ 56 = subst (λ label. IfSome label (λ t. length t.now < 2 ^ 56)) c.in-Some.is c.requires.label in
-    omega (arith, ap length (ap chars c.as_str.ensures.value ∙ c.in_ok-label.ensures.value), norm_short c.in-Some.label.now fits, c.requires.cell)
+    let placed = c.args.placed.now in
+    let column : c.label_place-below.result.1 ≡ (label_place placed).1 = ap (λ (x : ℕ × ℕ). x.1) c.label_place-below.ensures.value in
+    let stands = label_stands c.args.row (length c.args.buffer.now) placed c.requires.rows c.requires.columns in
+    omega (arith, column, stands.2, c.requires.narrow, length-chars_le c.as_str.result.now, c.as_str.ensures.len)
+
+pub returns-clause-draws : goal.returns-clause-draws
+returns-clause-draws c =
+    let P : Cell → Type 0 = λ cell. is_listed cell.ch ≡ false in
+    let text = c.as_str.result.now in
+    let placed = c.args.placed.now in
+    let text_is : chars text ≡ label_text placed.entry = ap chars c.as_str.ensures.value ∙ c.requires.label in
+    let place : c.label_place-below.result ≡ label_place placed = c.label_place-below.ensures.value in
+    let stands = label_stands c.args.row (length c.args.buffer.now) placed c.requires.rows c.requires.columns in
+    let row = c.args.row + c.label_place-below.result.0 in
+    let at = c.args.layout.code + c.label_place-below.result.1 in
+    let same_row : c.label_place-below.result.0 ≡ (label_place placed).0 = ap (λ (x : ℕ × ℕ). x.0) place in
+    let same_column : c.label_place-below.result.1 ≡ (label_place placed).1 = ap (λ (x : ℕ × ℕ). x.1) place in
+    let free : All P (drawn c.label_role.result (chars text)) = All-drawn P c.label_role.result (chars text) (subst (λ cs. All (λ ch. is_listed ch ≡ false) cs) (sym text_is) (free_label_text placed.entry)) in
+    elim (cases_lt 0 (length text)) [
+      | inl some ↦ on_ok_weaker c.puts.result (λ reads from right. DrawsFrom-writes c.args.row row from at c.args.buffer.now c.puts.new.self (drawn c.label_role.result (chars text)) (reads some) (omega arith) (omega (arith, stands.0, same_row)) (omega (arith, right, stands.1, same_column)) free) c.puts.ensures.reads
+      | inr none ↦ on_ok_weaker c.puts.result (λ reads from right. subst (DrawsFrom c.args.row from c.args.buffer.now) (sym (c.puts.ensures.empty (nil_from_length text (omega arith)))) (DrawsFrom-none c.args.row from c.args.buffer.now)) c.puts.ensures.reads
+    ]
 
 pub returns-clause-none : goal.returns-clause-none
 returns-clause-none c =
-    on_ok_weaker c.puts.result (λ ok nothing. c.puts.ensures.empty (sym (encodes-chars c.as_str.result.now c.as_str.utf8) ∙ ap encode_utf8_all ((ap chars c.as_str.ensures.value ∙ c.in_ok-label.ensures.value ∙ sym (ap shown_label c.in-Some.is)) ∙ nothing))) c.puts.ensures.ok
+    on_ok_weaker c.puts.result (λ reads none. c.puts.ensures.empty (bytes_none c.as_str.result.now c.as_str.utf8 (ap (λ bs. not (length (chars bs) == 0)) c.as_str.ensures.value ∙ none))) c.puts.ensures.reads
 
-pub returns-clause-written : goal.returns-clause-written
-returns-clause-written c =
-    on_ok_weaker c.puts.result (λ ok some. ok (omega (arith, some, ap length (ap chars c.as_str.ensures.value ∙ c.in_ok-label.ensures.value ∙ sym (ap shown_label c.in-Some.is)), length-chars_le c.as_str.result.now)) ∙ ap (λ cs. cells_written c.args.buffer.now c.args.row c.args.cell (drawn c.label_role.result cs)) (ap chars c.as_str.ensures.value ∙ c.in_ok-label.ensures.value ∙ sym (ap shown_label c.in-Some.is)) ∙ ap (λ r. cells_written c.args.buffer.now c.args.row c.args.cell (drawn r (label_text c.args.entry.now))) c.label_role.ensures.value) c.puts.ensures.ok
+pub returns-clause-behind : goal.returns-clause-behind
+returns-clause-behind c =
+    let placed = c.args.placed.now in
+    let text = c.as_str.result.now in
+    let text_is : chars text ≡ label_text placed.entry = ap chars c.as_str.ensures.value ∙ c.requires.label in
+    on_ok_weaker c.puts.result (λ ok zero_here shown.
+    let place : c.label_place-below.result ≡ (0, placed.entry.end.display + 1) = c.label_place-below.ensures.value ∙ label_beside placed zero_here in
+    let some : 0 < length text = bytes_some text c.as_str.utf8 (ap (λ bs. not (length (chars bs) == 0)) c.as_str.ensures.value ∙ shown) in
+    let row : c.args.row + c.label_place-below.result.0 ≡ c.args.row = omega (arith, ap (λ (x : ℕ × ℕ). x.0) place) in
+    let at : c.args.layout.code + c.label_place-below.result.1 ≡ c.args.layout.code + placed.entry.end.display + 1 = omega (arith, ap (λ (x : ℕ × ℕ). x.1) place) in
+    ok some ∙ ap (λ r. cells_written c.args.buffer.now r (c.args.layout.code + c.label_place-below.result.1) (drawn c.label_role.result (chars text))) row ∙ ap (λ n. cells_written c.args.buffer.now c.args.row n (drawn c.label_role.result (chars text))) at ∙ ap (λ cs. cells_written c.args.buffer.now c.args.row (c.args.layout.code + placed.entry.end.display + 1) (drawn c.label_role.result cs)) text_is ∙ ap (λ role. cells_written c.args.buffer.now c.args.row (c.args.layout.code + placed.entry.end.display + 1) (drawn role (label_text placed.entry))) c.label_role.ensures.value) c.puts.ensures.ok

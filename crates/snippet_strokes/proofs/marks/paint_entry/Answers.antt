@@ -6,20 +6,21 @@ use Rattle.snippet_strokes.proofs.marks.paint_entry.Goals as goal
 
 pub loop-column-init : goal.loop-column-init
 loop-column-init c =
-    (Paints-none c.args.buffer.now c.args.row (c.args.layout.code + c.args.entry.now.start.display) (mark_cell c.args.layout.decor c.args.entry.now.kind), λ _. refl)
+    (Paints-none c.args.buffer.now c.args.row (c.args.layout.code + c.args.placed.now.entry.start.display) (mark_cell c.args.layout c.args.placed.now), λ _. refl)
 
 pub loop-column-preserved : goal.loop-column-preserved
 loop-column-preserved c =
-    let entry = c.args.entry.now in
+    let placed = c.args.placed.now in
     let at = c.args.layout.code in
-    let mark = c.underline-mark in
-    let cell = mark_cell_is c.args.layout.decor entry.kind c.is_primary.result mark.result.underline mark.result.style c.is_primary.ensures.value mark.ensures.underline mark.ensures.style in
-    let writes = subst (λ x. WritesCells c.loop-column.buffer c.putc.new.self c.args.row (at + c.loop-column.column) (x ∷ [])) cell c.in_ok-putc.ensures.reads in
-    (Paints-more c.args.buffer.now c.loop-column.buffer c.putc.new.self c.args.row (at + entry.start.display) (at + c.loop-column.column) (at + (c.loop-column.column + 1)) (mark_cell c.args.layout.decor entry.kind) c.loop-column.invariant.0 writes (omega arith) (omega arith), λ none. absurd (omega arith))
+    let strokes = c.underline-strokes in
+    let column = c.loop-column.column in
+    let cell = mark_cell_is c.args.layout placed column c.mark_glyph-mark.result strokes.result.underline strokes.result.label_start c.is_primary.result strokes.result.style c.is_primary.ensures.value c.mark_glyph-mark.ensures.value strokes.ensures.label_start strokes.ensures.underline strokes.ensures.style in
+    let writes = subst (λ x. WritesCells c.loop-column.buffer c.putc.new.self c.args.row (at + column) (x ∷ [])) cell c.in_ok-putc.ensures.reads in
+    (Paints-more c.args.buffer.now c.loop-column.buffer c.putc.new.self c.args.row (at + placed.entry.start.display) (at + column) (at + (column + 1)) (mark_cell c.args.layout placed) c.loop-column.invariant.0 writes (omega arith) (omega arith), λ none. absurd (omega arith))
 
 pub returns : goal.returns
 returns c =
-    let entry = c.args.entry.now in
+    let entry = c.args.placed.now.entry in
     record {
-      painted = Paints-all c.args.buffer.now c.loop-column.buffer c.args.row c.args.layout.code entry.start.display entry.end.display c.loop-column.column (mark_cell c.args.layout.decor entry.kind) c.loop-column.invariant.0 c.loop-column-test.false c.loop-column.auto.column-end c.loop-column.invariant.1;
+      painted = Paints-all c.args.buffer.now c.loop-column.buffer c.args.row c.args.layout.code entry.start.display entry.end.display c.loop-column.column (mark_cell c.args.layout c.args.placed.now) c.loop-column.invariant.0 c.loop-column-test.false c.loop-column.auto.column-end c.loop-column.invariant.1;
     }

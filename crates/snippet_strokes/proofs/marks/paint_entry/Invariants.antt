@@ -5,4 +5,5 @@ use Rattle.snippet_strokes.proofs.marks.paint_entry.Given as goal
 -- the marks before this column are painted; an entry that ends before it starts has none
 abbrev pub invariant-loop-column : goal.invariant-loop-column
 invariant-loop-column l =
-    Paints l.initial.buffer l.buffer l.row (l.layout.code + l.start) (l.layout.code + l.column) (mark_cell l.layout.decor l.entry.kind) × (l.end < l.start → l.column ≡ l.start)
+    let entry = l.placed.entry in
+    Paints l.initial.buffer l.buffer l.row (l.layout.code + entry.start.display) (l.layout.code + l.column) (mark_cell l.layout l.placed) × (entry.end.display < entry.start.display → l.column ≡ entry.start.display)

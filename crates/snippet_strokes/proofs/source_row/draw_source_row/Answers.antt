@@ -35,11 +35,9 @@ pub write_source_row-requires-clause-text_free : goal.write_source_row-requires-
 write_source_row-requires-clause-text_free c =
     ap (list_any is_listed) (text_is c) ∙ list_any-norm (chars c.args.info.now.line.now)
 
-pub returns : goal.returns
-returns c =
+pub returns-clause-added : goal.returns-clause-added
+returns-clause-added c =
     let args = c.args in
     let number = ap chars (c.as_str.ensures.value ∙ c.in_ok-number.ensures.text) ∙ chars-shown_number args.numbered args.layout.gutter args.info.now.line_index (omega arith) in
     let text = ap chars c.as_str-2.ensures.value ∙ c.in_ok-text.ensures.value in
-    record {
-      added = on_ok_weaker c.write_source_row.result (λ added. AddsSourceRow-same args.layout _ _ _ _ args.buffer.now c.write_source_row.new.buffer number text added) c.write_source_row.ensures.added;
-    }
+    on_ok_weaker c.write_source_row.result (λ added. AddsSourceRow-same args.layout _ _ _ _ args.buffer.now c.write_source_row.new.buffer number text added) c.write_source_row.ensures.added

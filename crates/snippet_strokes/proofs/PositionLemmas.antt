@@ -1,0 +1,237 @@
+-- The positions of labels.
+use Rattle.std.proofs.Common.{◌≡◌, ℕ, suc, ◌+◌, ◌<◌, ◌≤◌, ◌^◌, ◌==◌, ◌&&◌, ◌||◌, cond, max, nat_lt, Bool, true, false, List, [], ◌∷◌, ◌++◌, length, map, fold, drop, take, set, get_or, refl, sym, ap, ◌∙◌, subst, arith, inl, inr, All}
+use Rattle.std.specs.List.{list_any}
+use Rattle.std.proofs.lemmas.Bool.{cases_eq, eq-eqb, and_parts}
+use Rattle.std.proofs.lemmas.Bool.Decides.{nat_tests}
+use Rattle.std.proofs.lemmas.Simd.{map-map}
+use Rattle.std.proofs.lemmas.List.{append_assoc, append-nil, drop_more, drop_all, take_more, take_more_set, take_all, length-map, get_or-map}
+use Rattle.std.proofs.lemmas.List.Elements.{All-cons, All-nil, All-head, All-tail, All-weaker}
+use Rattle.std.proofs.lemmas.List.Folds.{list_any_none}
+use Rattle.std.specs.List.Sorted.{IsPermutation}
+use Rattle.std.proofs.lemmas.List.Sorted.{All-permutation, IsPermutation-map}
+use Rattle.snippet_parts.specs.declared.entries.LineAnnotation.{LineAnnotation}
+use Rattle.snippet_strokes.specs.declared.positions.PlacedEntry.{PlacedEntry}
+use Rattle.snippet_strokes.specs.Positions.{ArePlaced, HasItsLabel, has_label, is_hung, crosses, crowds, position_at, position_behind, positions, lowest_position, row_count, label_place, unplaced}
+use Rattle.snippet_strokes.specs.Painting.{HasRows}
+use Rattle.snippet_parts.specs.Marked.{HasColumns}
+
+-- a test of changed elements
+list_any-map : {X Y : Type 0} (p : Y → Bool) (f : X → Y) (xs : List X) → list_any p (map f xs) ≡ list_any (λ x. p (f x)) xs
+list_any-map p f [] = refl
+list_any-map p f (x ∷ xs) = ap (λ b. p (f x) || b) (list_any-map p f xs)
+
+-- one more position is known
+pub positions_more : (ps : List ℕ) (es : List PlacedEntry) (all : List ℕ) (i reached : ℕ) (d : PlacedEntry) → i < length es → ps ++ positions reached (drop i es) ≡ all → let e = get_or es i d in let others = drop (i + 1) es in (ps ++ position_at reached e others ∷ []) ++ positions (position_behind (position_at reached e others) e others) others ≡ all
+positions_more ps es all i reached d within so_far =
+    let e = get_or es i d in
+    let others = drop (i + 1) es in
+    append_assoc ps (position_at reached e others ∷ []) (positions (position_behind (position_at reached e others) e others) others) ∙ sym (ap (λ xs. ps ++ positions reached xs) (drop_more es i d within)) ∙ so_far
+
+-- the position reached grows by one at most, from 1 on
+pub reached_low : (reached i : ℕ) (e : PlacedEntry) (others : List PlacedEntry) → reached ≤ i + 1 → position_behind (position_at reached e others) e others ≤ i + 1 + 1
+reached_low reached i e others low =
+    grind (arith, nat_tests)
+
+-- the positions of a list that has no labels
+pub positions-unlabelled : (p : ℕ) (es : List PlacedEntry) → All (λ e. has_label e ≡ false) es → All (λ q. q ≡ p) (positions p es)
+positions-unlabelled p [] none = All-nil (λ q. q ≡ p)
+positions-unlabelled p (e ∷ others) none =
+    let L : PlacedEntry → Type 0 = λ x. has_label x ≡ false in
+    let own : has_label e ≡ false = All-head L e others none in
+    let rest : All L others = All-tail L e others none in
+    let here : position_at p e others ≡ p = at_bare p e others own in
+    let uncrowded : list_any (crowds p e) others ≡ false = list_any_none (crowds p e) others (All-weaker L (λ x. crowds p e x ≡ false) (λ x bare. crowds_bare p e x bare) others rest) in
+    let behind : position_behind p e others ≡ p = ap (λ t. cond t (p + 1) p) uncrowded in
+    All-cons (λ q. q ≡ p) (position_at p e others) _ here (subst (λ q. All (λ x. x ≡ p) (positions (position_behind q e others) others)) (sym here) (subst (λ q. All (λ x. x ≡ p) (positions q others)) (sym behind) (positions-unlabelled p others rest)))
+  where
+    cond_and : (b : Bool) (x y : ℕ) → cond (b && false) x y ≡ y
+    cond_and true x y = refl
+    cond_and false x y = refl
+
+    at_bare : (p : ℕ) (e : PlacedEntry) (others : List PlacedEntry) → has_label e ≡ false → position_at p e others ≡ p
+    at_bare p e others bare =
+        ap (λ t. cond ((p == 0) && (t && list_any (crosses e) others)) 1 p) bare ∙ cond_and (p == 0) 1 p
+
+    crowds_bare : (p : ℕ) (e x : PlacedEntry) → has_label x ≡ false → crowds p e x ≡ false
+    crowds_bare p e x bare = rw bare refl
+
+-- the positions of a list of one
+pub positions_sole : (e : PlacedEntry) → positions 0 (e ∷ []) ≡ 0 ∷ []
+positions_sole e = ap (λ (q : ℕ). q ∷ []) (nothing (has_label e))
+  where
+    nothing : (b : Bool) → (let q : ℕ = cond (b && false) 1 0 in q) ≡ 0
+    nothing true = refl
+    nothing false = refl
+
+-- positions are as low as there are entries
+pub positions_low : (p n : ℕ) (es : List PlacedEntry) → max p 1 + length es ≤ n + 1 → All (λ q. q ≤ n) (positions p es)
+positions_low p n [] low = All-nil (λ q. q ≤ n)
+positions_low p n (e ∷ others) low =
+    let here : position_at p e others ≤ max p 1 = at_most p ((p == 0) && (has_label e && list_any (crosses e) others)) in
+    let next : position_behind (position_at p e others) e others ≤ max p 1 + 1 = behind_most (position_at p e others) (list_any (crowds (position_at p e others) e) others) (max p 1) here in
+    All-cons (λ q. q ≤ n) (position_at p e others) _ (omega (arith, here, low)) (positions_low (position_behind (position_at p e others) e others) n others (omega (arith, next, low)))
+  where
+    at_most : (p : ℕ) (b : Bool) → cond b 1 p ≤ max p 1
+    at_most p true = omega arith
+    at_most p false = omega arith
+
+    behind_most : (p : ℕ) (b : Bool) (m : ℕ) → p ≤ m → cond b (p + 1) p ≤ m + 1
+    behind_most p true m low = omega arith
+    behind_most p false m low = omega arith
+
+-- each position is at most the lowest one
+fold-max_ge : (es : List PlacedEntry) (m : ℕ) → m ≤ fold (λ lowest (e : PlacedEntry). max lowest e.position) m es
+fold-max_ge [] m = omega arith
+fold-max_ge (e ∷ es) m = omega (arith, fold-max_ge es (max m e.position))
+
+fold-max_all : (es : List PlacedEntry) (m : ℕ) → All (λ (e : PlacedEntry). e.position ≤ fold (λ lowest (f : PlacedEntry). max lowest f.position) m es) es
+fold-max_all [] m = All-nil (λ (e : PlacedEntry). e.position ≤ m)
+fold-max_all (e ∷ es) m =
+    All-cons (λ (f : PlacedEntry). f.position ≤ fold (λ lowest (g : PlacedEntry). max lowest g.position) (max m e.position) es) e es (omega (arith, fold-max_ge es (max m e.position))) (fold-max_all es (max m e.position))
+
+pub positions_at_most : (es : List PlacedEntry) → All (λ e. e.position ≤ lowest_position es) es
+positions_at_most es = fold-max_all es 0
+
+-- and it is as low as a bound of all
+fold-max_le : (es : List PlacedEntry) (m n : ℕ) → m ≤ n → All (λ (e : PlacedEntry). e.position ≤ n) es → fold (λ lowest (e : PlacedEntry). max lowest e.position) m es ≤ n
+fold-max_le [] m n low all = low
+fold-max_le (e ∷ es) m n low all =
+    let here : e.position ≤ n = All-head (λ (f : PlacedEntry). f.position ≤ n) e es all in
+    fold-max_le es (max m e.position) n (omega arith) (All-tail (λ (f : PlacedEntry). f.position ≤ n) e es all)
+
+pub lowest_position_le : (es : List PlacedEntry) (n : ℕ) → All (λ e. e.position ≤ n) es → lowest_position es ≤ n
+lowest_position_le es n all = fold-max_le es 0 n (omega arith) all
+
+-- what is known of all positions is known of the entries
+pub of_positions : (P : ℕ → Type 0) (es : List PlacedEntry) (ps : List ℕ) → map (λ (e : PlacedEntry). e.position) es ≡ ps → All P ps → All (λ e. P e.position) es
+of_positions P es ps are all k d within =
+    subst P (ap (λ xs. get_or xs k d.position) (sym are) ∙ get_or-map (λ (e : PlacedEntry). e.position) es k d d.position within) (all k d.position (omega (arith, within, length-map es (λ (e : PlacedEntry). e.position), ap length are)))
+
+-- a position is given to one more entry
+pub placed_more : (es first : List PlacedEntry) (ps : List ℕ) (i : ℕ) (e : PlacedEntry) → i < length es → i < length ps → map (λ (x : PlacedEntry). x.position) (take i es) ≡ take i ps → e.position ≡ get_or ps i 0 → map (λ (x : PlacedEntry). x.position) (take (i + 1) (set es i e)) ≡ take (i + 1) ps
+placed_more es first ps i e within within_ps so_far is =
+    ap (map (λ (x : PlacedEntry). x.position)) (take_more_set es i e within) ∙ map-push (take i es) e ∙ ap (λ xs. xs ++ e.position ∷ []) so_far ∙ ap (λ p. take i ps ++ p ∷ []) is ∙ sym (take_more ps i 0 within_ps)
+  where
+    map-push : (xs : List PlacedEntry) (x : PlacedEntry) → map (λ (y : PlacedEntry). y.position) (xs ++ x ∷ []) ≡ map (λ (y : PlacedEntry). y.position) xs ++ x.position ∷ []
+    map-push [] x = refl
+    map-push (y ∷ ys) x = ap (λ zs. y.position ∷ zs) (map-push ys x)
+
+-- where a label begins: in a row that is there, and not left of its entry
+pub label_stands : (row n : ℕ) (e : PlacedEntry) → HasRows row n e → HasColumns e.entry.start e.entry.end → (row + (label_place e).0 < n) × (e.entry.start.display ≤ (label_place e).1) × ((label_place e).1 < 2 ^ 61)
+label_stands row n e rows columns =
+    elim (cases_eq e.position 0) [
+      | inl zero_here ↦ rw (eq-eqb e.position 0 zero_here) (omega (arith, rows.mark), omega (arith, columns.0), omega (arith, columns.1))
+      | inr some ↦
+          let hung : 0 < e.position = omega (arith, some) in
+          rw (above e.position hung) (omega (arith, rows.label hung), omega arith, omega (arith, columns.0, columns.1))
+    ]
+  where
+    above : (n : ℕ) → 0 < n → (n == 0) ≡ false
+    above n some = grind (arith, nat_tests)
+
+-- a label that hangs is below the row of the marks
+pub hung_below : (e : PlacedEntry) → is_hung e ≡ true → 0 < e.position
+hung_below e hung = low e.position (and_parts (nat_lt 0 e.position) (has_label e) hung).0
+  where
+    low : (n : ℕ) → nat_lt 0 n ≡ true → 0 < n
+    low n is = grind (arith, nat_tests)
+
+-- an entry without a label has none that hangs, nor has one at position 0
+pub unhung_bare : (e : PlacedEntry) → has_label e ≡ false → is_hung e ≡ false
+unhung_bare e bare = ap (λ b. nat_lt 0 e.position && b) bare ∙ none (nat_lt 0 e.position)
+  where
+    none : (b : Bool) → (b && false) ≡ false
+    none true = refl
+    none false = refl
+
+pub unhung_beside : (e : PlacedEntry) → e.position ≡ 0 → is_hung e ≡ false
+unhung_beside e beside = ap (λ n. nat_lt 0 n && has_label e) beside
+
+-- at position 0 a label begins in the row of the marks, one column behind its entry
+pub label_beside : (e : PlacedEntry) → e.position ≡ 0 → label_place e ≡ (0, e.entry.end.display + 1)
+label_beside e beside = rw (eq-eqb e.position 0 beside) refl
+
+-- there are as many positions as entries
+pub length-positions : (p : ℕ) (es : List PlacedEntry) → length (positions p es) ≡ length es
+length-positions p [] = refl
+length-positions p (e ∷ others) =
+    ap suc (length-positions (position_behind (position_at p e others) e others) others)
+
+-- what holds of the entries of a line holds of the placed ones
+pub entries_all : (Q : LineAnnotation → Type 0) (es : List LineAnnotation) (ps : List PlacedEntry) → IsPermutation es (map (λ (e : PlacedEntry). e.entry) ps) → All Q es → All (λ (e : PlacedEntry). Q e.entry) ps
+entries_all Q es ps same all k d within =
+    let f : PlacedEntry → LineAnnotation = λ e. e.entry in
+    subst Q (get_or-map f ps k d d.entry within) (All-permutation Q es (map f ps) same all k d.entry (omega (arith, within, length-map ps f)))
+
+-- the rule of positions doesn't look at positions
+positions-unplaced : (p : ℕ) (es : List PlacedEntry) → positions p (map unplaced es) ≡ positions p es
+positions-unplaced p [] = refl
+positions-unplaced p (e ∷ others) =
+    let crossed : list_any (crosses (unplaced e)) (map unplaced others) ≡ list_any (crosses e) others = list_any-map (crosses (unplaced e)) unplaced others in
+    let here : position_at p (unplaced e) (map unplaced others) ≡ position_at p e others = ap (λ b. cond ((p == 0) && (has_label e && b)) 1 p) crossed in
+    let crowded : (q : ℕ) → list_any (crowds q (unplaced e)) (map unplaced others) ≡ list_any (crowds q e) others = λ q. list_any-map (crowds q (unplaced e)) unplaced others in
+    let behind : (q : ℕ) → position_behind q (unplaced e) (map unplaced others) ≡ position_behind q e others = λ q. ap (λ b. cond b (q + 1) q) (crowded q) in
+    ap (λ q. q ∷ positions (position_behind q (unplaced e) (map unplaced others)) (map unplaced others)) here ∙ ap (λ q. position_at p e others ∷ positions q (map unplaced others)) (behind (position_at p e others)) ∙ ap (λ qs. position_at p e others ∷ qs) (positions-unplaced (position_behind (position_at p e others) e others) others)
+
+pub positions_kept : (p : ℕ) (es fs : List PlacedEntry) → map unplaced es ≡ map unplaced fs → positions p es ≡ positions p fs
+positions_kept p es fs kept = sym (positions-unplaced p es) ∙ ap (positions p) kept ∙ positions-unplaced p fs
+
+-- what doesn't look at positions is kept where nothing else changes
+pub all_kept : (P : PlacedEntry → Type 0) (es fs : List PlacedEntry) → ((e : PlacedEntry) → P (unplaced e) → P e) → ((e : PlacedEntry) → P e → P (unplaced e)) → map unplaced es ≡ map unplaced fs → All P fs → All P es
+all_kept P es fs back forth kept all k d within =
+    let long : length es ≡ length fs = sym (length-map es unplaced) ∙ ap length kept ∙ length-map fs unplaced in
+    let inside : k < length fs = omega (arith, long, within) in
+    let same : unplaced (get_or es k d) ≡ unplaced (get_or fs k d) = sym (get_or-map unplaced es k d (unplaced d) within) ∙ ap (λ xs. get_or xs k (unplaced d)) kept ∙ get_or-map unplaced fs k d (unplaced d) inside in
+    back (get_or es k d) (subst P (sym same) (forth (get_or fs k d) (all k d inside)))
+
+pub entries_kept : (es fs : List PlacedEntry) → map unplaced es ≡ map unplaced fs → map (λ (e : PlacedEntry). e.entry) es ≡ map (λ (e : PlacedEntry). e.entry) fs
+entries_kept es fs kept =
+    let f : PlacedEntry → LineAnnotation = λ e. e.entry in
+    sym (map-map f unplaced es) ∙ ap (map f) kept ∙ map-map f unplaced fs
+
+-- the rows down to each label are among those that are begun
+pub HasRows-row_count : (row n : ℕ) (es : List PlacedEntry) → n ≡ row + row_count es → All (HasRows row n) es
+HasRows-row_count row n es is k d within =
+    let low : (get_or es k d).position ≤ lowest_position es = positions_at_most es k d within in
+    let one : 1 ≤ row_count es = at_least (lowest_position es) in
+    record { mark = omega (arith, is, one); label = λ hung. omega (arith, is, low, more (lowest_position es) (omega (arith, low, hung))) }
+  where
+    at_least : (n : ℕ) → 1 ≤ cond (n == 0) 1 (n + 2)
+    at_least n = grind (arith, nat_tests)
+
+    more : (n : ℕ) → 0 < n → n + 2 ≤ cond (n == 0) 1 (n + 2)
+    more n some = grind (arith, nat_tests)
+
+-- where all labels stand in the row of the marks that row is the only one
+pub row_count_one : (es : List PlacedEntry) → All (λ e. e.position ≡ 0) es → row_count es ≡ 1
+row_count_one es zero_all =
+    let low : lowest_position es ≤ 0 = lowest_position_le es 0 (λ k d within. omega (arith, zero_all k d within)) in
+    let none : lowest_position es ≡ 0 = omega (arith, low) in
+    ap (λ n. cond (n == 0) 1 (n + 2)) none
+
+pub row_count_some : (es : List PlacedEntry) → 0 < row_count es
+row_count_some es = some (lowest_position es)
+  where
+    some : (n : ℕ) → 0 < cond (n == 0) 1 (n + 2)
+    some n = grind (arith, nat_tests)
+
+-- a part that was lent, as long as the whole, comes back in its place
+pub written_back : (xs ys : List PlacedEntry) (len : ℕ) → len ≡ length ys → map unplaced xs ≡ map unplaced ys → take len (xs ++ drop (length xs) ys) ≡ xs
+written_back xs ys len is kept =
+    let long : length xs ≡ length ys = sym (length-map xs unplaced) ∙ ap length kept ∙ length-map ys unplaced in
+    ap (λ rest. take len (xs ++ rest)) (drop_all (length xs) ys (omega (arith, long))) ∙ ap (take len) (append-nil xs) ∙ take_all len xs (omega (arith, is, long))
+
+-- entries that were put in an order and got the positions of it are placed
+pub ArePlaced-from : (es : List LineAnnotation) (labelled sorted placed : List PlacedEntry) (ps : List ℕ) → map (λ (e : PlacedEntry). e.entry) labelled ≡ es → All HasItsLabel labelled → IsPermutation labelled sorted → ps ≡ positions 0 sorted → map (λ (e : PlacedEntry). e.position) placed ≡ ps → map unplaced placed ≡ map unplaced sorted → ArePlaced es placed
+ArePlaced-from es labelled sorted placed ps entries labels same are got kept =
+    let f : PlacedEntry → LineAnnotation = λ e. e.entry in
+    record {
+      same = subst (IsPermutation es) (sym (entries_kept placed sorted kept)) (subst (λ xs. IsPermutation xs (map f sorted)) entries (IsPermutation-map f labelled sorted same));
+      labels = all_kept HasItsLabel placed sorted (λ e has. has) (λ e has. has) kept (All-permutation HasItsLabel labelled sorted same labels);
+      positions_are = got ∙ are ∙ sym (positions_kept 0 placed sorted kept);
+    }
+
+-- labels of a line stand no lower than there are entries
+pub positions_of_placed : (es : List LineAnnotation) (placed : List PlacedEntry) → ArePlaced es placed → All (λ e. e.position ≤ length placed) placed
+positions_of_placed es placed is =
+    of_positions (λ q. q ≤ length placed) placed (positions 0 placed) is.positions_are (positions_low 0 (length placed) placed (omega arith))

@@ -1,0 +1,29 @@
+use Rattle.std.proofs.Common.{◌∙◌, ◌<◌, ◌^◌, All, sym, subst, ap, length, map}
+use Rattle.std.specs.List.Sorted.{IsPermutation}
+use Rattle.std.proofs.lemmas.List.Sorted.{IsPermutation-map}
+use Rattle.snippet_parts.specs.declared.entries.LineAnnotation.{LineAnnotation}
+use Rattle.snippet_strokes.specs.declared.positions.PlacedEntry.{PlacedEntry}
+use Rattle.snippet_strokes.proofs.PositionLemmas.{length-positions, entries_all, written_back, ArePlaced-from}
+use Rattle.snippet_strokes.specs.Positions.{ArePlaced, positions, unplaced}
+use Rattle.snippet_strokes.proofs.positions.placed_entries.Goals as goal
+
+pub label_positions-requires : goal.label_positions-requires
+label_positions-requires c =
+    let Q : LineAnnotation → Type 0 = λ e. e.end.display < 2 ^ 60 in
+    let sorted = c.sort_by_key.new.self.items in
+    let same = subst (λ es. IsPermutation es (map (λ (e : PlacedEntry). e.entry) sorted)) c.in_ok-placed.ensures.entries (IsPermutation-map (λ (e : PlacedEntry). e.entry) _ _ c.in_ok-sort_by_key.ensures.permutation) in
+    record { columns = subst (λ (ps : _). All (λ (e : PlacedEntry). Q e.entry) ps) (sym c.deref.ensures.value) (entries_all Q c.args.entries.now sorted same c.requires.columns) }
+
+pub set_positions-requires : goal.set_positions-requires
+set_positions-requires c =
+    record { count = ap length (c.deref-2.ensures.value ∙ c.in_ok-positions.ensures.value) ∙ length-positions 0 c.deref.result.now ∙ ap length (c.deref.ensures.value ∙ sym c.deref_mut.ensures.value) }
+
+pub returns : goal.returns
+returns c =
+    let es = c.args.entries.now in
+    let sorted = c.sort_by_key.new.self in
+    let placed = c.set_positions.new.entries in
+    let kept = c.set_positions.ensures.kept ∙ ap (map unplaced) c.deref_mut.ensures.value in
+    record {
+      placed = subst (ArePlaced es) (sym (written_back placed sorted.items sorted.len sorted.ok.0 kept)) (ArePlaced-from es c.in_ok-placed.placed.items sorted.items placed c.deref-2.result.now c.in_ok-placed.ensures.entries c.in_ok-placed.ensures.labels c.in_ok-sort_by_key.ensures.permutation (c.deref-2.ensures.value ∙ c.in_ok-positions.ensures.value ∙ ap (positions 0) c.deref.ensures.value) c.set_positions.ensures.placed kept);
+    }

@@ -1,0 +1,84 @@
+-- Where the labels of a line stand.
+use Rattle.std.specs.Prelude.{◌≡◌, ℕ, ◌+◌, ◌==◌, ◌&&◌, ◌||◌, nat_le, nat_lt, not, Bool, List, [], ◌∷◌, All, IsPermutation, length, map, fold, max, chars, if◌then◌else◌}
+use Rattle.std.specs.List.{list_any}
+use Rattle.std.specs.Cow.{cow_str_bytes}
+use Rattle.snippet_parts.specs.declared.entries.LineAnnotation.{LineAnnotation}
+use Rattle.snippet_strokes.specs.declared.positions.PlacedEntry.{PlacedEntry}
+use Rattle.snippet_strokes.specs.Entries.{label_text}
+
+-- the label holds the characters that its entry shows
+abbrev pub HasItsLabel : PlacedEntry → Type 0
+HasItsLabel e = chars (cow_str_bytes e.label) ≡ label_text e.entry
+
+-- whether an entry has a label that shows anything
+abbrev pub has_label : PlacedEntry → Bool
+has_label e = not (length (chars (cow_str_bytes e.label)) == 0)
+
+-- whether its label hangs from its mark
+abbrev pub is_hung : PlacedEntry → Bool
+is_hung e = nat_lt 0 e.position && has_label e
+
+-- whether one of two entries starts in the columns of the other, those of the first being `more` more
+abbrev pub do_overlap : PlacedEntry → ℕ → PlacedEntry → Bool
+do_overlap e more f =
+    (nat_le f.entry.start.display e.entry.start.display && nat_lt e.entry.start.display f.entry.end.display) || (nat_le e.entry.start.display f.entry.start.display && nat_lt f.entry.start.display (e.entry.end.display + more))
+
+-- whether two entries have the same start and the same end, in columns and in characters
+abbrev pub is_same_place : PlacedEntry → PlacedEntry → Bool
+is_same_place e f =
+    e.entry.start.display == f.entry.start.display && e.entry.start.char == f.entry.start.char && e.entry.end.display == f.entry.end.display && e.entry.end.char == f.entry.end.char
+
+-- whether an entry ends no later than another: at a lesser column, or at the same one and no greater character
+abbrev pub ends_no_later : PlacedEntry → PlacedEntry → Bool
+ends_no_later e f =
+    nat_lt e.entry.end.display f.entry.end.display || (e.entry.end.display == f.entry.end.display && nat_le e.entry.end.char f.entry.end.char)
+
+-- whether another entry's mark stands in the way of a label behind its mark: they overlap, and aren't one mark of which
+-- the other has no label
+abbrev pub crosses : PlacedEntry → PlacedEntry → Bool
+crosses e other = do_overlap other 0 e && (has_label other || not (is_same_place e other))
+
+-- whether another entry's label needs a row below that of this entry's, which has position p: it and the two columns
+-- behind it would reach into this entry, which has a label too, or stands at position 0 and ends no earlier
+abbrev pub crowds : ℕ → PlacedEntry → PlacedEntry → Bool
+crowds p e other =
+    has_label other && do_overlap other (length (cow_str_bytes other.label) + 2) e && (has_label e || (p == 0 && ends_no_later other e))
+
+-- the position of an entry in front of others, where p is the one reached: position 0 isn't taken where a mark stands in
+-- the way
+abbrev pub position_at : ℕ → PlacedEntry → List PlacedEntry → ℕ
+position_at p e others = if p == 0 && (has_label e && list_any (crosses e) others) then 1 else p
+
+-- the position reached behind it: one more where an entry behind needs a row of its own
+abbrev pub position_behind : ℕ → PlacedEntry → List PlacedEntry → ℕ
+position_behind p e others = if list_any (crowds p e) others then p + 1 else p
+
+-- the positions of entries, in their order, from the one reached on
+abbrev pub positions : ℕ → List PlacedEntry → List ℕ
+positions p [] = []
+positions p (e ∷ others) =
+    position_at p e others ∷ positions (position_behind (position_at p e others) e others) others
+
+-- where the label of an entry begins: how many rows below the row of the marks, and at which column
+abbrev pub label_place : PlacedEntry → ℕ × ℕ
+label_place e =
+    if e.position == 0 then (0, e.entry.end.display + 1) else (e.position + 1, e.entry.start.display)
+
+-- the greatest position of some entries
+abbrev pub lowest_position : List PlacedEntry → ℕ
+lowest_position placed = fold (λ lowest e. max lowest e.position) 0 placed
+
+-- how many rows the strokes of some entries take: that of the marks, and below it, where a label hangs, one more than the
+-- lowest position
+abbrev pub row_count : List PlacedEntry → ℕ
+row_count placed = if lowest_position placed == 0 then 1 else lowest_position placed + 2
+
+-- an entry without its position
+abbrev pub unplaced : PlacedEntry → PlacedEntry
+unplaced e = record e { position = 0 }
+
+-- the entries of a line in some order, each with its label, at the positions of that order
+pub record ArePlaced (es : List LineAnnotation) (placed : List PlacedEntry) : Type 0 where
+  pub same : IsPermutation es (map (λ e. e.entry) placed)
+  pub labels : All HasItsLabel placed
+  pub positions_are : map (λ e. e.position) placed ≡ positions 0 placed

@@ -1,0 +1,57 @@
+//! The parts of the source that are coloured as their marks are.
+ghost use Rattle.std.specs.Prelude.{◌≡◌, ◌≢◌, ◌^◌, ◌<◌, OnOk, length, ℕ};
+ghost use Rattle.snippet_style.specs.Grid.{row_at};
+ghost use Rattle.snippet_strokes.specs.Rows.{IsHighlighted, Restyled};
+
+use crate::layout::Layout;
+use crate::roles::is_primary;
+use snippet_parts::LineAnnotation;
+use snippet_style::StyledBuffer;
+use std::alloc::AllocError;
+
+/// Gives the characters of a source row that entries ask to highlight the role of these entries' marks, primary ones over
+/// those for context.
+///
+/// # Errors
+///
+/// None: it takes no memory. The result is there for the form that the grid's calls share.
+pub(crate) fn highlight_source(
+    buffer: &mut StyledBuffer,
+    layout: Layout,
+    row: usize,
+    entries: &[LineAnnotation],
+) -> Result<(), AllocError>
+    requires narrow { layout.code < 2 ^ 32 }
+    requires short { length (row_at buffer.old row) < 2 ^ 62 }
+    ensures highlighted { OnOk result (IsHighlighted layout.code entries.now (row_at buffer.old row) (row_at buffer.new row)) }
+    ensures others { OnOk result ((r : ℕ) → r ≢ row → row_at buffer.new r ≡ row_at buffer.old r) }
+    ensures count { OnOk result (length buffer.new ≡ length buffer.old) }
+{
+    for entry in entries {
+        if entry.highlight_source {
+            highlight_entry(buffer, layout, row, entry)?;
+        }
+    }
+    Ok(())
+}
+
+/// Gives the characters of an entry the role of its mark.
+fn highlight_entry(
+    buffer: &mut StyledBuffer,
+    layout: Layout,
+    row: usize,
+    entry: &LineAnnotation,
+) -> Result<(), AllocError>
+    requires narrow { layout.code < 2 ^ 32 }
+    requires short { length (row_at buffer.old row) < 2 ^ 62 }
+    ensures restyled { OnOk result (Restyled layout.code entry.now row buffer.old buffer.new) }
+{
+    let primary = is_primary(entry.kind);
+    buffer.set_style_range(
+        row,
+        layout.code.saturating_add(entry.start.char),
+        layout.code.saturating_add(entry.end.char),
+        layout.decor.underline(primary).style,
+        primary,
+    )
+}

@@ -1,0 +1,232 @@
+//! Where the labels of a line stand: how far below the row of its marks each hangs.
+ghost use Rattle.std.specs.Prelude.{◌≡◌, ◌+◌, ◌^◌, ◌<◌, ◌&&◌, All, IfOk, chars, length, map};
+ghost use Rattle.std.specs.List.{list_any};
+ghost use Rattle.std.specs.Cow.{cow_str_bytes};
+ghost use Rattle.snippet_strokes.specs.Positions as spec;
+ghost use Rattle.snippet_strokes.specs.Positions.{ArePlaced, HasItsLabel};
+ghost use Rattle.snippet_strokes.specs.Entries.{label_text};
+
+use snippet_parts::LineAnnotation;
+use snippet_text::normalized;
+use std::alloc::{AllocError, Global};
+use std::borrow::CowStr;
+use std::cmp::Reverse;
+
+/// How many columns stand free behind a label, before the next one in its row.
+const GAP: usize = 2;
+
+/// An entry of a line, with its label as it is drawn and the place where the label stands.
+#[derive(Debug, Drop)]
+pub(crate) struct PlacedEntry<'a> {
+    /// The entry.
+    pub(crate) entry: LineAnnotation<'a>,
+    /// Its label, normalised; empty where it has none to show.
+    pub(crate) label: CowStr<'a>,
+    /// At 0 the label stands behind its mark; at n it hangs from it, in the row n + 1 below the row of the marks.
+    pub(crate) position: usize,
+}
+
+impl<'a> PlacedEntry<'a> {
+    /// Whether it has a label to show.
+    pub(crate) fn has_label(&self) -> bool
+        ensures value { result ≡ spec.has_label self.now }
+    {
+        !self.label.as_str().is_empty()
+    }
+
+    /// Whether its label hangs from its mark.
+    pub(crate) fn is_hung(&self) -> bool
+        ensures value { result ≡ spec.is_hung self.now }
+    {
+        self.position > 0 && self.has_label()
+    }
+}
+
+/// The entries of a line from right to left, each with the place of its label.
+///
+/// ```text
+///       | --^^--         the label of the entry farthest right may stand behind its mark, at position 0
+///       | | |
+///       | | x            position 1
+///       | f              position 2
+/// ```
+///
+/// # Errors
+///
+/// There is no memory for the list or a label.
+pub(crate) fn placed_entries<'a>(
+    alloc: Global,
+    entries: &[LineAnnotation<'a>],
+) -> Result<Vec<PlacedEntry<'a>>, AllocError>
+    requires columns { All (λ e. e.end.display < 2 ^ 60) entries.now }
+    ensures placed { IfOk result (λ placed. ArePlaced entries.now placed.items) }
+{
+    let mut placed = labelled_entries(alloc, entries)?;
+    placed.sort_by_key(|p| Reverse((p.entry.start.display, p.entry.start.char)))?;
+    let positions = label_positions(alloc, &placed)?;
+    set_positions(&mut placed, &positions);
+    Ok(placed)
+}
+
+/// The entries as they are given, each with its label normalised, and none placed yet.
+///
+/// # Errors
+///
+/// There is no memory for the list or a label.
+fn labelled_entries<'a>(
+    alloc: Global,
+    entries: &[LineAnnotation<'a>],
+) -> Result<Vec<PlacedEntry<'a>>, AllocError>
+    ensures entries { IfOk result (λ labelled. map (λ e. e.entry) labelled.items ≡ entries.now) }
+    ensures labels { IfOk result (λ labelled. All HasItsLabel labelled.items) }
+{
+    let mut labelled = Vec::new(alloc);
+    for entry in entries {
+        let label = shown_label(alloc, entry)?;
+        labelled.push(PlacedEntry {
+            entry: *entry,
+            label,
+            position: 0,
+        })?;
+    }
+    Ok(labelled)
+}
+
+/// What an entry's label shows: its text, normalised, or nothing.
+///
+/// # Errors
+///
+/// There is no memory for the text.
+fn shown_label<'a>(alloc: Global, entry: &LineAnnotation<'a>) -> Result<CowStr<'a>, AllocError>
+    ensures shows { IfOk result (λ label. chars (cow_str_bytes label) ≡ label_text entry.now) }
+{
+    match entry.label {
+        Some(label) => normalized(alloc, label),
+        None => Ok(CowStr::Borrowed("")),
+    }
+}
+
+/// The position of each label, from right to left. A label goes one row farther down than the last one where the row
+/// would not hold both, and the first one where a mark stands in its way.
+///
+/// # Errors
+///
+/// There is no memory for the list.
+fn label_positions(alloc: Global, entries: &[PlacedEntry]) -> Result<Vec<usize>, AllocError>
+    requires columns { All (λ e. e.entry.end.display < 2 ^ 60) entries.now }
+    ensures value { IfOk result (λ positions. positions.items ≡ spec.positions 0 entries.now) }
+{
+    let mut positions = Vec::new(alloc);
+    let mut reached = 0;
+    for i in 0..entries.len() {
+        let entry = &entries[i];
+        let others = &entries[i + 1..];
+        let position = position_at(reached, entry, others);
+        positions.push(position)?;
+        reached = position_behind(position, entry, others);
+    }
+    Ok(positions)
+}
+
+/// The position of an entry in front of others, where this one is reached.
+fn position_at(reached: usize, entry: &PlacedEntry, others: &[PlacedEntry]) -> usize
+    requires columns { All (λ e. e.entry.end.display < 2 ^ 60) others.now }
+    ensures value { result ≡ spec.position_at reached entry.now others.now }
+{
+    if reached == 0 && entry.has_label() && is_crossed(entry, others) {
+        1
+    } else {
+        reached
+    }
+}
+
+/// The position that is reached behind an entry that has this one.
+fn position_behind(position: usize, entry: &PlacedEntry, others: &[PlacedEntry]) -> usize
+    requires columns { All (λ e. e.entry.end.display < 2 ^ 60) others.now }
+    requires low { position + 1 < 2 ^ 64 }
+    ensures value { result ≡ spec.position_behind position entry.now others.now }
+{
+    if is_crowded(position, entry, others) {
+        position + 1
+    } else {
+        position
+    }
+}
+
+/// Gives entries these positions, one to each.
+fn set_positions(entries: &mut [PlacedEntry], positions: &[usize])
+    requires count { length positions.now ≡ length entries.old }
+    ensures placed { map (λ e. e.position) entries.new ≡ positions.now }
+    ensures kept { map spec.unplaced entries.new ≡ map spec.unplaced entries.old }
+{
+    for i in 0..entries.len() {
+        entries[i].position = positions[i];
+    }
+}
+
+/// Whether the mark of an entry farther left stands in the way of a label behind its mark.
+fn is_crossed(entry: &PlacedEntry, others: &[PlacedEntry]) -> bool
+    requires columns { All (λ e. e.entry.end.display < 2 ^ 60) others.now }
+    ensures value { result ≡ list_any (spec.crosses entry.now) others.now }
+{
+    others.iter().any(|other| crosses(entry, other))
+}
+
+/// Whether two marks overlap, unless they are one mark and only the first has a label.
+fn crosses(entry: &PlacedEntry, other: &PlacedEntry) -> bool
+    requires columns { other.now.entry.end.display < 2 ^ 60 }
+    ensures value { result ≡ spec.crosses entry.now other.now }
+{
+    overlap(other, 0, entry) && (other.has_label() || !is_same_place(entry, other))
+}
+
+/// Whether an entry farther left needs its label in a row of its own, below that of this entry.
+fn is_crowded(position: usize, entry: &PlacedEntry, others: &[PlacedEntry]) -> bool
+    requires columns { All (λ e. e.entry.end.display < 2 ^ 60) others.now }
+    ensures value { result ≡ list_any (spec.crowds position entry.now) others.now }
+{
+    others.iter().any(|other| crowds(position, entry, other))
+}
+
+/// Whether the label of an entry farther left would reach into this entry, which has a label too, or stands in the first
+/// row and ends no earlier.
+fn crowds(position: usize, entry: &PlacedEntry, other: &PlacedEntry) -> bool
+    requires columns { other.now.entry.end.display < 2 ^ 60 }
+    ensures value { result ≡ spec.crowds position entry.now other.now }
+{
+    other.has_label()
+        && overlap(other, other.label.as_str().len() + GAP, entry)
+        && (entry.has_label() || (position == 0 && ends_no_later(other, entry)))
+}
+
+/// Whether one of two entries starts in the columns of the other, those of the first being so many more.
+fn overlap(first: &PlacedEntry, more: usize, second: &PlacedEntry) -> bool
+    requires room { first.now.entry.end.display + more < 2 ^ 64 }
+    ensures value { result ≡ spec.do_overlap first.now more second.now }
+{
+    let first_start = first.entry.start.display;
+    let first_end = first.entry.end.display + more;
+    let second_start = second.entry.start.display;
+    let second_end = second.entry.end.display;
+    (second_start <= first_start && first_start < second_end)
+        || (first_start <= second_start && second_start < first_end)
+}
+
+/// Whether two entries have the same start and the same end, in columns and in characters.
+fn is_same_place(first: &PlacedEntry, second: &PlacedEntry) -> bool
+    ensures value { result ≡ spec.is_same_place first.now second.now }
+{
+    first.entry.start.display == second.entry.start.display
+        && first.entry.start.char == second.entry.start.char
+        && first.entry.end.display == second.entry.end.display
+        && first.entry.end.char == second.entry.end.char
+}
+
+/// Whether an entry ends no later than another: at a lesser column, or at the same one and no greater character.
+fn ends_no_later(first: &PlacedEntry, second: &PlacedEntry) -> bool
+    ensures value { result ≡ spec.ends_no_later first.now second.now }
+{
+    let first = first.entry.end;
+    let second = second.entry.end;
+    first.display < second.display || (first.display == second.display && first.char <= second.char)
+}

@@ -1,0 +1,73 @@
+//! All that stands below the source row of a line.
+ghost use Rattle.std.specs.Prelude.{◌≡◌, ◌+◌, ◌^◌, ◌<◌, ◌≤◌, All, IfSome, OnOk, length};
+ghost use Rattle.snippet_parts.specs.Marked.{HasColumns};
+ghost use Rattle.snippet_strokes.specs.Positions as spec;
+ghost use Rattle.snippet_strokes.specs.Rows.{AddsStrokes};
+
+use crate::labels::draw_labels;
+use crate::layout::Layout;
+use crate::marks::draw_marks;
+use crate::positions::{PlacedEntry, placed_entries};
+use crate::row::begin_rows;
+use crate::stems::draw_stems;
+use snippet_parts::LineAnnotation;
+use snippet_style::StyledBuffer;
+use std::alloc::{AllocError, Global};
+
+/// Draws the strokes of a line below all that stands in the grid: none if the line has no entries, and else the row of
+/// its marks and the rows of the labels that hang from them.
+///
+/// ```text
+///       | --^^--
+///       | | |
+///       | | x
+///       | f
+/// ```
+///
+/// What is drawn later stands over what was there: stems over separators, labels over stems, marks over all.
+///
+/// # Errors
+///
+/// There is no memory for the rows, the labels or the list of entries.
+pub(crate) fn draw_strokes(
+    alloc: Global,
+    buffer: &mut StyledBuffer,
+    layout: Layout,
+    entries: &[LineAnnotation],
+) -> Result<(), AllocError>
+    requires place { layout.gutter + 3 ≤ layout.code }
+    requires narrow { layout.code < 2 ^ 32 }
+    requires columns { All (λ e. HasColumns e.start e.end) entries.now }
+    requires labels { All (λ e. IfSome e.label (λ t. length t.now < 2 ^ 56)) entries.now }
+    ensures added { OnOk result (AddsStrokes layout entries.now buffer.old buffer.new) }
+{
+    if entries.is_empty() {
+        return Ok(());
+    }
+    let mut placed = placed_entries(alloc, entries)?;
+    let row = begin_rows(buffer, layout, row_count(&placed))?;
+    draw_stems(buffer, layout, row, &placed)?;
+    draw_labels(buffer, layout, row, &placed)?;
+    draw_marks(buffer, layout, row, &mut placed)
+}
+
+/// How many rows the strokes of some entries take: that of the marks, and below it, where a label hangs, one more than
+/// the lowest position.
+fn row_count(placed: &[PlacedEntry]) -> usize
+    requires low { All (λ e. e.position < 2 ^ 63) placed.now }
+    ensures value { result ≡ spec.row_count placed.now }
+{
+    let lowest = lowest_position(placed);
+    if lowest == 0 { 1 } else { lowest + 2 }
+}
+
+/// The greatest position of some entries.
+fn lowest_position(placed: &[PlacedEntry]) -> usize
+    ensures value { result ≡ spec.lowest_position placed.now }
+{
+    let mut lowest = 0;
+    for entry in placed {
+        lowest = lowest.max(entry.position);
+    }
+    lowest
+}
