@@ -1,5 +1,5 @@
 -- Which reports are drawn so far; any other is refused as not done yet.
-use Rattle.std.specs.Prelude.{◌≡◌, ℕ, ◌+◌, ◌-◌, ◌==◌, Bool, true, false, not, ◌&&◌, ◌||◌, nat_le, List, [], ◌∷◌, Option, Some, None, is_none, length, chars, if◌then◌else◌}
+use Rattle.std.specs.Prelude.{◌≡◌, ℕ, ◌+◌, ◌-◌, ◌==◌, Bool, true, false, not, ◌&&◌, ◌||◌, nat_le, nat_lt, List, [], ◌∷◌, Option, Some, None, is_none, length, chars, if◌then◌else◌}
 use Rattle.std.specs.List.{list_all, list_any}
 use Rattle.std.specs.Cow.{cow_str_bytes}
 use Rattle.std.specs.Fmt.{decimal}
@@ -22,21 +22,19 @@ use Rattle.snippet_parts.specs.Prepare.{counted_number}
 use Rattle.snippet_parts.specs.Window.{leading_whitespace, is_near}
 use Rattle.annotate_snippets.specs.declared.renderer.Renderer.{Renderer}
 
--- the byte at which the line begins on which a byte stands, and the one at which the line behind it does
+-- the byte at which the line begins on which a byte stands
 abbrev pub line_begin : List ℕ → ℕ → ℕ
 line_begin source byte = start_of (source_lines source) (line_of (source_lines source) byte)
-
-abbrev pub line_finish : List ℕ → ℕ → ℕ
-line_finish source byte = start_of (source_lines source) (line_of (source_lines source) byte + 1)
 
 -- the characters of the line on which a byte stands
 abbrev pub line_chars : List ℕ → ℕ → List ℕ
 line_chars source byte = chars (text_at (source_lines source) (line_of (source_lines source) byte))
 
--- its line is the first that is marked, or begins where another marked line ends
+-- no span starts before its line, or one starts on the line right before it
 abbrev pub follows_on : List ℕ → List Annotation → Annotation → Bool
 follows_on source marks a =
-    list_all (λ b. nat_le (line_begin source a.span.start) (line_begin source b.span.start)) marks || list_any (λ b. line_finish source b.span.start == line_begin source a.span.start) marks
+    let begin = line_begin source a.span.start in
+    list_all (λ b. nat_le begin b.span.start) marks || list_any (λ b. nat_le (line_begin source (begin - 1)) b.span.start && nat_lt b.span.start begin) marks
 
 -- an annotation that is drawn so far: a mark on one line
 abbrev pub is_covered_annotation : List ℕ → List Annotation → Annotation → Bool

@@ -1,6 +1,6 @@
 //! Which reports are drawn so far. A report outside is answered `NotYet`, and looking for it takes no memory: so the
-//! spans of a snippet are compared with one another, each through its own line alone.
-ghost use Rattle.std.specs.Prelude.{◌≡◌, ◌+◌, ◌-◌, ◌<◌, ◌≤◌, ◌^◌, ◌&&◌, ◌||◌, ◌==◌, ◌≢◌, [], ◌∷◌, true, None, IfSome, IfNone, is_some, All, length, chars, nat_le, is_none};
+//! spans of a snippet are compared with one another.
+ghost use Rattle.std.specs.Prelude.{◌≡◌, ◌+◌, ◌-◌, ◌<◌, ◌≤◌, ◌^◌, ◌&&◌, ◌||◌, ◌==◌, ◌≢◌, [], ◌∷◌, true, None, IfSome, IfNone, is_some, All, length, chars, nat_le, nat_lt, is_none};
 ghost use Rattle.std.specs.List.{list_all, list_any};
 ghost use Rattle.std.specs.Cow.{cow_str_bytes};
 ghost use Rattle.snippet_parts.specs.Lines.{source_lines};
@@ -165,30 +165,29 @@ fn stands_on_one_line(source: &str, annotation: &Annotation) -> bool
     line.start <= end && (end < line.end || line.end == source.len())
 }
 
-/// Whether its line is the first that is marked, or begins where another marked line ends.
+/// Whether no span starts before its line, or one starts on the line right before it.
 fn follows_on(source: &str, annotations: &[Annotation], annotation: &Annotation) -> bool
     ensures value { result ≡ spec.follows_on source.now annotations.now annotation.now }
 {
     let begin = line_bounds(source, annotation.span.start).start;
-    no_line_begins_before(source, annotations, begin) || a_line_ends_at(source, annotations, begin)
+    let before = line_bounds(source, begin.saturating_sub(1)).start;
+    no_span_starts_before(annotations, begin) || a_span_starts_between(annotations, before, begin)
 }
 
-/// Whether no marked line begins before this byte.
-fn no_line_begins_before(source: &str, annotations: &[Annotation], byte: usize) -> bool
-    ensures value { result ≡ list_all (λ a. nat_le byte (spec.line_begin source.now a.span.start)) annotations.now }
+/// Whether no span starts before this byte.
+fn no_span_starts_before(annotations: &[Annotation], byte: usize) -> bool
+    ensures value { result ≡ list_all (λ a. nat_le byte a.span.start) annotations.now }
+{
+    annotations.iter().all(|a| byte <= a.span.start)
+}
+
+/// Whether a span starts at a byte from `from` on, and before `to`.
+fn a_span_starts_between(annotations: &[Annotation], from: usize, to: usize) -> bool
+    ensures value { result ≡ list_any (λ a. nat_le from a.span.start && nat_lt a.span.start to) annotations.now }
 {
     annotations
         .iter()
-        .all(|a| byte <= line_bounds(source, a.span.start).start)
-}
-
-/// Whether a marked line ends at this byte.
-fn a_line_ends_at(source: &str, annotations: &[Annotation], byte: usize) -> bool
-    ensures value { result ≡ list_any (λ a. spec.line_finish source.now a.span.start == byte) annotations.now }
-{
-    annotations
-        .iter()
-        .any(|a| line_bounds(source, a.span.start).end == byte)
+        .any(|a| from <= a.span.start && a.span.start < to)
 }
 
 /// Whether an annotation is one that is drawn so far: a mark on one line.
