@@ -1,4 +1,11 @@
+pub mod ChangeLemmas
+pub mod CodeExamples
+pub mod CodeLemmas
+pub mod CodeSteps
 pub mod GridLemmas
 pub mod GridSteps
 pub mod PrintLemmas
-pub mod RestyleLemmas
+pub mod PrintsOnce
+pub mod StyleLemmas
+pub mod WeaveLemmas
+pub mod WovenLemmas

@@ -1,4 +1,4 @@
-use Rattle.std.specs.Prelude.{◌≡◌, ◌≢◌, ◌<◌, ◌≤◌, ◌+◌, ◌-◌, ℕ, max, Bool, true, false, ◌||◌, if◌then◌else◌, List, [], ◌∷◌, ◌++◌, length, map, take, drop, replicate, Option, None}
+use Rattle.std.specs.Prelude.{◌≡◌, ◌≢◌, ◌<◌, ◌≤◌, ◌+◌, ◌-◌, ℕ, max, Bool, true, false, ◌||◌, if◌then◌else◌, List, [], ◌∷◌, ◌++◌, length, map, take, drop, replicate, Option, None, Some}
 use Rattle.std.specs.List.{slice_index_or}
 use Rattle.snippet_style.specs.declared.role.ElementStyle.{ElementStyle}
 use Rattle.snippet_style.specs.declared.role.ElementStyle.TheVariants.{NoStyle, Quotation}
@@ -66,15 +66,14 @@ unfoldable pub changed_within : {X : Type 0} → (X → X) → ℕ → ℕ → L
 changed_within f start end xs =
     take start xs ++ map f (take (end - start) (drop start xs)) ++ drop (max start end) xs
 
--- the grid after the cells of row r from `start` to before `end` are restyled
-abbrev pub cells_restyled : List (List Cell) → ℕ → ℕ → ℕ → ElementStyle → Bool → List (List Cell)
-cells_restyled rows r start end role overwrite =
-    changed_within (changed_within (restyled role overwrite) start end) r (r + 1) rows
+-- the grid after the cells of row r from `start` to before `end` are changed by f, as far as they are there
+abbrev pub cells_changed : (Cell → Cell) → List (List Cell) → ℕ → ℕ → ℕ → List (List Cell)
+cells_changed f rows r start end = changed_within (changed_within f start end) r (r + 1) rows
 
 -- the same, read cell by cell
-pub record RestylesCells (old new : List (List Cell)) (row start end : ℕ) (role : ElementStyle) (overwrite : Bool) : Type 0 where
-  -- the cells that are there are restyled, and every other cell of the row is as it was
-  pub inside : (c : ℕ) → start ≤ c → c < end → c < length (row_at old row) → cell_at new row c ≡ restyled role overwrite (cell_at old row c)
+pub record ChangesCells (f : Cell → Cell) (old new : List (List Cell)) (row start end : ℕ) : Type 0 where
+  -- the cells that are there are changed, and every other cell of the row is as it was
+  pub inside : (c : ℕ) → start ≤ c → c < end → c < length (row_at old row) → cell_at new row c ≡ f (cell_at old row c)
   pub before : (c : ℕ) → c < start → cell_at new row c ≡ cell_at old row c
   pub behind : (c : ℕ) → end ≤ c → cell_at new row c ≡ cell_at old row c
   -- every other row is as it was
@@ -82,6 +81,25 @@ pub record RestylesCells (old new : List (List Cell)) (row start end : ℕ) (rol
   -- no cell and no row is added
   pub width : length (row_at new row) ≡ length (row_at old row)
   pub count : length new ≡ length old
+
+-- the grid after the cells of row r from `start` to before `end` are restyled, and the same read cell by cell
+abbrev pub cells_restyled : List (List Cell) → ℕ → ℕ → ℕ → ElementStyle → Bool → List (List Cell)
+cells_restyled rows r start end role overwrite = cells_changed (restyled role overwrite) rows r start end
+
+abbrev pub RestylesCells : List (List Cell) → List (List Cell) → ℕ → ℕ → ℕ → ElementStyle → Bool → Type 0
+RestylesCells old new row start end role overwrite =
+    ChangesCells (restyled role overwrite) old new row start end
+
+-- the cell as part of a linked text with this URL, whatever link it had
+abbrev pub linked : List ℕ → Cell → Cell
+linked url cell = record cell { link = Some url }
+
+-- the grid after the cells of row r from `start` to before `end` are linked, and the same read cell by cell
+abbrev pub cells_linked : List (List Cell) → ℕ → ℕ → ℕ → List ℕ → List (List Cell)
+cells_linked rows r start end url = cells_changed (linked url) rows r start end
+
+abbrev pub LinksCells : List (List Cell) → List (List Cell) → ℕ → ℕ → ℕ → List ℕ → Type 0
+LinksCells old new row start end url = ChangesCells (linked url) old new row start end
 
 -- the fact holds of every cell of the grid, and of the spaces around it
 abbrev pub EachCell : (Cell → Type 0) → List (List Cell) → Type 0

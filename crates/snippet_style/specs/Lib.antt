@@ -1,6 +1,8 @@
+pub mod Codes
 pub mod Glyphs
 pub mod Grid
 pub mod GridView
 pub mod Print
 pub mod Style
 pub mod Stylesheet
+pub mod Woven

@@ -3,16 +3,22 @@
 //! A grid has rows, and a row has cells, both counted from 0. What is written beyond a row's end,
 //! or below the last row, makes the row longer and adds rows, as far as needed and no farther.
 
-ghost use Rattle.std.specs.Prelude.{◌≡◌, ◌+◌, ◌-◌, ◌^◌, ◌<◌, ◌≤◌, List, [], ◌∷◌, ◌++◌, length, map, replicate, IfOk, OnOk, OnErr, IsOk, vec_len, string_bytes, encode_utf8_all};
-ghost use Rattle.snippet_style.specs.Grid.{SPACE, drawn, written, row_at, cells_written, WritesCells, restyled, cells_restyled, RestylesCells};
+ghost use Rattle.std.specs.Prelude.{◌≡◌, ℕ, true, ◌+◌, ◌-◌, ◌^◌, ◌<◌, ◌≤◌, List, [], ◌∷◌, ◌++◌, length, replicate, IfOk, OnOk, OnErr, IsOk, vec_len, string_bytes, encode_utf8_all};
+ghost use Rattle.snippet_style.specs.Grid.{SPACE, drawn, written, row_at, cells_written, WritesCells, cells_restyled, RestylesCells, cells_linked, LinksCells};
 ghost use Rattle.std.specs.Str.{chars};
 ghost use Rattle.snippet_style.specs.GridView.{cell_of, cells_of, rows_of, lengthened};
 ghost use Rattle.snippet_style.specs.Print as spec;
+ghost use Rattle.snippet_style.specs.Stylesheet.{is_plain_sheet};
+ghost use Rattle.snippet_style.specs.Woven.{Prints, IsWoven, links_of};
 
 use crate::print::print_rows;
-use crate::role::ElementStyle;
+use crate::restyle::{link_range, restyle_cell, restyle_range, row_len};
+use crate::role::{ElementStyle, LevelInner};
+use crate::stylesheet::Stylesheet;
+use crate::weave::weave_rows;
 use std::alloc::{AllocError, Global};
 use std::marker::Model;
+use std::ops::Range;
 
 /// The most rows that a grid may have.
 const MAX_ROWS: usize = (1 << 60) - 1;
@@ -21,8 +27,8 @@ const MAX_ROWS: usize = (1 << 60) - 1;
 #[derive(Clone, Copy)]
 pub(crate) struct StyledChar<'a> {
     pub(crate) ch: char,
-    role: ElementStyle,
-    link: Option<&'a str>,
+    pub(crate) role: ElementStyle,
+    pub(crate) link: Option<&'a str>,
 }
 
 impl StyledChar<'static> {
@@ -32,17 +38,6 @@ impl StyledChar<'static> {
         role: ElementStyle::NoStyle,
         link: None,
     };
-}
-
-impl<'a> StyledChar<'a> {
-    /// Gives the cell this role, where overwriting is allowed or its own gives way.
-    fn restyle(&mut self, style: ElementStyle, overwrite: bool)
-        ensures value { cell_of self.new ≡ restyled style overwrite (cell_of self.old) }
-    {
-        if overwrite || self.role.gives_way() {
-            self.role = style;
-        }
-    }
 }
 
 /// A grid of styled cells. It has no row at first.
@@ -203,6 +198,42 @@ impl<'a> StyledBuffer<'a> {
         Ok(())
     }
 
+    /// Marks the cells of this row in this range as a link to a URL. Cells that are not there are
+    /// left out, and nothing happens where the range is empty. A linked cell that is written
+    /// anew is linked no more.
+    ///
+    /// # Errors
+    ///
+    /// None: it takes no memory. The result is there for the form that the grid's calls share.
+    pub fn link(&mut self, row: usize, cells: Range<usize>, url: &'a str) -> Result<(), AllocError>
+        ensures ok { self.new ≡ cells_linked self.old row cells.start cells.end url.now }
+        ensures reads { LinksCells self.old self.new row cells.start cells.end url.now }
+        ensures succeeds { IsOk result }
+    {
+        link_range(&mut self.rows, row, cells.start, cells.end, url);
+        Ok(())
+    }
+
+    /// The rows, joined by line feeds, as they look under a sheet of styles in a group of this
+    /// level, with the codes of their links. The characters are those of `plain_text`, whatever the sheet.
+    ///
+    /// # Errors
+    ///
+    /// There is no memory for the text.
+    pub fn render(&self, level: LevelInner, sheet: &Stylesheet) -> Result<String, AllocError>
+        ensures prints { IfOk result (λ t. Prints sheet.now level self.now (string_bytes t)) }
+        ensures only { IfOk result (λ t. (other : List ℕ)
+            → Prints sheet.now level self.now other → other ≡ string_bytes t) }
+        ensures woven { IfOk result (λ t.
+            IsWoven sheet.now (string_bytes t) (spec.plain_text self.now) (links_of self.now)) }
+        ensures plain { IfOk result (λ t. is_plain_sheet sheet.now ≡ true → links_of self.now ≡ []
+            → string_bytes t ≡ encode_utf8_all (spec.plain_text self.now)) }
+    {
+        let mut text = String::new(self.alloc);
+        weave_rows(&mut text, &self.rows, level, sheet)?;
+        Ok(text)
+    }
+
     /// The characters of the rows, joined by line feeds, without any style.
     ///
     /// # Errors
@@ -356,59 +387,6 @@ fn write_char<'a>(
         link: None,
     };
     Ok(())
-}
-
-/// Restyles each of some cells.
-fn restyle_each<'a>(cells: &mut [StyledChar<'a>], style: ElementStyle, overwrite: bool)
-    ensures value { cells_of cells.new ≡ map (restyled style overwrite) (cells_of cells.old) }
-{
-    for cell in cells.iter_mut() {
-        cell.restyle(style, overwrite);
-    }
-}
-
-/// Restyles the cells of a row from `start` to before `end`, as far as they are there.
-fn restyle_range<'a>(
-    rows: &mut Vec<Vec<StyledChar<'a>>>,
-    row: usize,
-    start: usize,
-    end: usize,
-    style: ElementStyle,
-    overwrite: bool,
-)
-    ensures value { rows_of rows.new.items
-        ≡ cells_restyled (rows_of rows.old.items) row start end style overwrite }
-    ensures count { vec_len rows.new ≡ vec_len rows.old }
-{
-    let end = end.min(row_len(rows, row));
-    if start < end {
-        restyle_each(&mut rows[row][start..end], style, overwrite);
-    }
-}
-
-/// Restyles the cell of this row and number, if it is there.
-fn restyle_cell<'a>(
-    rows: &mut Vec<Vec<StyledChar<'a>>>,
-    row: usize,
-    cell: usize,
-    style: ElementStyle,
-    overwrite: bool,
-)
-    ensures value { rows_of rows.new.items
-        ≡ cells_restyled (rows_of rows.old.items) row cell (cell + 1) style overwrite }
-    ensures count { vec_len rows.new ≡ vec_len rows.old }
-{
-    if cell < row_len(rows, row) {
-        restyle_range(rows, row, cell, cell + 1, style, overwrite);
-    }
-}
-
-/// How many cells a row has, none where there is no such row.
-fn row_len<'a>(rows: &[Vec<StyledChar<'a>>], row: usize) -> usize
-    ensures value { result ≡ length (row_at (rows_of rows.now) row) }
-    ensures small { result < 2 ^ 63 }
-{
-    if row < rows.len() { rows[row].len() } else { 0 }
 }
 
 #[cfg(test)]

@@ -1,11 +1,10 @@
 -- Lemmas on lists and grids in which some elements were changed.
-use Rattle.std.proofs.Common.{◌≡◌, ◌≢◌, ℕ, Bool, ◌+◌, ◌-◌, ◌<◌, ◌≤◌, max, min, List, [], ◌++◌, length, map, take, drop, set, get_or, sym, ap, ◌∙◌, arith, inl, inr, subst}
+use Rattle.std.proofs.Common.{◌≡◌, ◌≢◌, ℕ, ◌+◌, ◌-◌, ◌<◌, ◌≤◌, max, min, List, [], ◌++◌, length, map, take, drop, set, get_or, sym, ap, ◌∙◌, arith, inl, inr, subst}
 use Rattle.std.proofs.lemmas.List.{places, same_lists, get_or-map, get_or_past, get_or-set_same, get_or-set_other, set-get_or, with_items_is, length-map, length-set, map-append, map-set, take-map, drop-map, append_assoc}
 use Rattle.std.proofs.lemmas.List.Edits.{map_over_more}
 use Rattle.std.proofs.lemmas.Bool.{cases_lt, cases_eq}
 use Rattle.std.specs.List.{slice_index_or}
-use Rattle.snippet_style.specs.declared.role.ElementStyle.{ElementStyle}
-use Rattle.snippet_style.specs.Grid.{Cell, SPACE, row_at, restyled, changed_within, cells_restyled, RestylesCells}
+use Rattle.snippet_style.specs.Grid.{Cell, SPACE, row_at, changed_within, cells_changed, ChangesCells}
 use Rattle.std.specs.Vec.{with_items}
 use Rattle.snippet_style.specs.declared.grid.StyledChar.{StyledChar}
 use Rattle.snippet_style.specs.GridView.{cell_of, cells_of, rows_of}
@@ -75,54 +74,53 @@ changed_part v f xs new start end last some is_last is_new =
     map-parts v (take start xs) new (drop count (drop start xs)) (take start ys) (map f (take (end - start) (drop start ys))) (drop (max start end) ys) (sym (take-map v start xs)) (is_new ∙ ap (map f) (sym (take-map v count (drop start xs)) ∙ ap (take count) dropped ∙ part)) (sym (drop-map v count (drop start xs)) ∙ ap (drop count) dropped ∙ rest)
 
 -- the row that was changed
-pub row_at-cells_restyled_same : (rows : List (List Cell)) (row start end : ℕ) (role : ElementStyle) (overwrite : Bool) → row_at (cells_restyled rows row start end role overwrite) row ≡ changed_within (restyled role overwrite) start end (row_at rows row)
-row_at-cells_restyled_same rows row start end role overwrite =
-    let change = changed_within (restyled role overwrite) start end in
+pub row_at-cells_changed_same : (f : Cell → Cell) (rows : List (List Cell)) (row start end : ℕ) → row_at (cells_changed f rows row start end) row ≡ changed_within f start end (row_at rows row)
+row_at-cells_changed_same f rows row start end =
+    let change = changed_within f start end in
     elim (cases_lt row (length rows)) [
       | inl there ↦ slice_index_or-changed_within_inside change row (row + 1) rows row [] (omega arith) (omega arith) there
       | inr past ↦
           let no_cells : length (row_at rows row) ≡ 0 = ap length (get_or_past rows row [] past) in
-          ap (λ rs. row_at rs row) (changed_within_none change row (row + 1) rows (omega arith)) ∙ sym (changed_within_none (restyled role overwrite) start end (row_at rows row) (omega arith))
+          ap (λ rs. row_at rs row) (changed_within_none change row (row + 1) rows (omega arith)) ∙ sym (changed_within_none f start end (row_at rows row) (omega arith))
     ]
 
 -- the other rows
-pub row_at-cells_restyled_other : (rows : List (List Cell)) (row start end : ℕ) (role : ElementStyle) (overwrite : Bool) (r : ℕ) → r ≢ row → row_at (cells_restyled rows row start end role overwrite) r ≡ row_at rows r
-row_at-cells_restyled_other rows row start end role overwrite r other =
-    let change = changed_within (restyled role overwrite) start end in
+pub row_at-cells_changed_other : (f : Cell → Cell) (rows : List (List Cell)) (row start end : ℕ) (r : ℕ) → r ≢ row → row_at (cells_changed f rows row start end) r ≡ row_at rows r
+row_at-cells_changed_other f rows row start end r other =
+    let change = changed_within f start end in
     elim (cases_lt r row) [
       | inl above ↦ slice_index_or-changed_within_before change row (row + 1) rows r [] above
       | inr below ↦ slice_index_or-changed_within_behind change row (row + 1) rows r [] (omega arith)
     ]
 
 -- a grid with no cell there stays as it was
-cells_restyled_none : (rows : List (List Cell)) (row start end : ℕ) (role : ElementStyle) (overwrite : Bool) → min end (length (row_at rows row)) ≤ start → cells_restyled rows row start end role overwrite ≡ rows
-cells_restyled_none rows row start end role overwrite none =
-    let change = changed_within (restyled role overwrite) start end in
-    let kept : change (row_at rows row) ≡ row_at rows row = changed_within_none (restyled role overwrite) start end (row_at rows row) none in
+cells_changed_none : (f : Cell → Cell) (rows : List (List Cell)) (row start end : ℕ) → min end (length (row_at rows row)) ≤ start → cells_changed f rows row start end ≡ rows
+cells_changed_none f rows row start end none =
+    let change = changed_within f start end in
+    let kept : change (row_at rows row) ≡ row_at rows row = changed_within_none f start end (row_at rows row) none in
     elim (cases_lt row (length rows)) [
       | inl there ↦ changed_within_one change row rows [] there ∙ ap (set rows row) kept ∙ set-get_or rows row []
       | inr past ↦ changed_within_none change row (row + 1) rows (omega arith)
     ]
 
 -- the change, read cell by cell
-pub RestylesCells-cells_restyled : (rows : List (List Cell)) (row start end : ℕ) (role : ElementStyle) (overwrite : Bool) → RestylesCells rows (cells_restyled rows row start end role overwrite) row start end role overwrite
-RestylesCells-cells_restyled rows row start end role overwrite =
+pub ChangesCells-cells_changed : (f : Cell → Cell) (rows : List (List Cell)) (row start end : ℕ) → ChangesCells f rows (cells_changed f rows row start end) row start end
+ChangesCells-cells_changed f rows row start end =
     let old = row_at rows row in
-    let f = restyled role overwrite in
-    let same = row_at-cells_restyled_same rows row start end role overwrite in
+    let same = row_at-cells_changed_same f rows row start end in
     record {
       inside = λ c from before within. ap (λ r. slice_index_or r c SPACE) same ∙ slice_index_or-changed_within_inside f start end old c SPACE from before within;
       before = λ c h. ap (λ r. slice_index_or r c SPACE) same ∙ slice_index_or-changed_within_before f start end old c SPACE h;
       behind = λ c h. ap (λ r. slice_index_or r c SPACE) same ∙ slice_index_or-changed_within_behind f start end old c SPACE h;
-      others = row_at-cells_restyled_other rows row start end role overwrite;
+      others = row_at-cells_changed_other f rows row start end;
       width = ap length same ∙ length-changed_within f start end old;
       count = length-changed_within (changed_within f start end) row (row + 1) rows;
     }
 
 -- the same of a grid that is known to be the one after the change
-pub RestylesCells-from_equal : (old new : List (List Cell)) (row start end : ℕ) (role : ElementStyle) (overwrite : Bool) → new ≡ cells_restyled old row start end role overwrite → RestylesCells old new row start end role overwrite
-RestylesCells-from_equal old new row start end role overwrite is =
-    subst (λ rows. RestylesCells old rows row start end role overwrite) (sym is) (RestylesCells-cells_restyled old row start end role overwrite)
+pub ChangesCells-from_equal : (f : Cell → Cell) (old new : List (List Cell)) (row start end : ℕ) → new ≡ cells_changed f old row start end → ChangesCells f old new row start end
+ChangesCells-from_equal f old new row start end is =
+    subst (λ rows. ChangesCells f old rows row start end) (sym is) (ChangesCells-cells_changed f old row start end)
 
 -- a row that has a cell is there
 row_is_there : (rows : List Row) (row n : ℕ) → n < length (row_at (rows_of rows) row) → row < length rows
@@ -132,27 +130,27 @@ row_is_there rows row n some =
       | inr past ↦ omega (arith, length-map rows (λ (v : Row). cells_of v.items), ap length (get_or_past (rows_of rows) row [] (omega (arith, length-map rows (λ (v : Row). cells_of v.items)))))
     ]
 
--- a row whose cells were restyled in its place
-restyled_here : (rows : List Row) (row start end : ℕ) (role : ElementStyle) (overwrite : Bool) (old new : Row) → row < length rows → old ≡ get_or rows row old → cells_of new.items ≡ changed_within (restyled role overwrite) start end (cells_of old.items) → rows_of (set rows row new) ≡ cells_restyled (rows_of rows) row start end role overwrite
-restyled_here rows row start end role overwrite old new there read is =
-    let change = changed_within (restyled role overwrite) start end in
+-- a row whose cells were changed in its place
+changed_here : (f : Cell → Cell) (rows : List Row) (row start end : ℕ) (old new : Row) → row < length rows → old ≡ get_or rows row old → cells_of new.items ≡ changed_within f start end (cells_of old.items) → rows_of (set rows row new) ≡ cells_changed f (rows_of rows) row start end
+changed_here f rows row start end old new there read is =
+    let change = changed_within f start end in
     let there_view : row < length (rows_of rows) = omega (arith, length-map rows (λ (v : Row). cells_of v.items)) in
     map-set (λ (v : Row). cells_of v.items) rows row new ∙ ap (set (rows_of rows) row) (is ∙ ap change (sym (row_at-read rows row old there read))) ∙ sym (changed_within_one change row (rows_of rows) [] there_view)
 
--- the same, where a part of the row was lent and came back restyled
-pub restyled_part : (rows lent : List Row) (row start end count last : ℕ) (role : ElementStyle) (overwrite : Bool) (old : Row) (items new : List StyledChar) → lent ≡ rows → count ≡ length (row_at (rows_of lent) row) → last ≡ min end count → start < last → old ≡ get_or rows row old → items ≡ old.items → cells_of new ≡ map (restyled role overwrite) (cells_of (take (last - start) (drop start items))) → rows_of (set rows row (with_items old (take start items ++ (new ++ drop (last - start) (drop start items))))) ≡ cells_restyled (rows_of rows) row start end role overwrite
-restyled_part rows lent row start end count last role overwrite old items new same is_count is_last some read is_items is_new =
+-- the same, where a part of the row was lent and came back changed
+pub changed_row_part : (f : Cell → Cell) (rows lent : List Row) (row start end count last : ℕ) (old : Row) (items new : List StyledChar) → lent ≡ rows → count ≡ length (row_at (rows_of lent) row) → last ≡ min end count → start < last → old ≡ get_or rows row old → items ≡ old.items → cells_of new ≡ map f (cells_of (take (last - start) (drop start items))) → rows_of (set rows row (with_items old (take start items ++ (new ++ drop (last - start) (drop start items))))) ≡ cells_changed f (rows_of rows) row start end
+changed_row_part f rows lent row start end count last old items new same is_count is_last some read is_items is_new =
     let row_cells : length (row_at (rows_of rows) row) ≡ count = ap (λ rs. length (row_at (rows_of rs) row)) (sym same) ∙ sym is_count in
     let there : row < length rows = row_is_there rows row start (omega arith) in
     let row_length : count ≡ length items = sym row_cells ∙ ap length (row_at-read rows row old there read) ∙ length-map old.items cell_of ∙ ap length (sym is_items) in
     let new_length : length new ≡ last - start = sym (length-map new cell_of) ∙ ap length is_new ∙ grind (arith, places, length-map) in
     let all = take start items ++ (new ++ drop (last - start) (drop start items)) in
     let kept : length all ≡ old.len = grind (arith, places, old.ok.0) in
-    let part = changed_part cell_of (restyled role overwrite) items new start end last some (is_last ∙ ap (min end) row_length) is_new in
-    restyled_here rows row start end role overwrite old (with_items old all) there read (ap cells_of (with_items_is old all kept) ∙ part ∙ ap (λ xs. changed_within (restyled role overwrite) start end (cells_of xs)) is_items)
+    let part = changed_part cell_of f items new start end last some (is_last ∙ ap (min end) row_length) is_new in
+    changed_here f rows row start end old (with_items old all) there read (ap cells_of (with_items_is old all kept) ∙ part ∙ ap (λ xs. changed_within f start end (cells_of xs)) is_items)
 
 -- a row that has no cell there
-pub restyled_nowhere : (rows lent : List Row) (row start end count : ℕ) (role : ElementStyle) (overwrite : Bool) → lent ≡ rows → count ≡ length (row_at (rows_of lent) row) → min end count ≤ start → rows_of rows ≡ cells_restyled (rows_of rows) row start end role overwrite
-restyled_nowhere rows lent row start end count role overwrite same is_count none =
+pub changed_nowhere : (f : Cell → Cell) (rows lent : List Row) (row start end count : ℕ) → lent ≡ rows → count ≡ length (row_at (rows_of lent) row) → min end count ≤ start → rows_of rows ≡ cells_changed f (rows_of rows) row start end
+changed_nowhere f rows lent row start end count same is_count none =
     let row_cells = ap (λ rs. length (row_at (rows_of rs) row)) (sym same) ∙ sym is_count in
-    sym (cells_restyled_none (rows_of rows) row start end role overwrite (omega (arith, row_cells)))
+    sym (cells_changed_none f (rows_of rows) row start end (omega (arith, row_cells)))
