@@ -11,7 +11,7 @@ use Rattle.std.specs.List.Sorted.{IsPermutation}
 use Rattle.std.proofs.lemmas.List.Sorted.{All-permutation, IsPermutation-map}
 use Rattle.snippet_parts.specs.declared.entries.LineAnnotation.{LineAnnotation}
 use Rattle.snippet_strokes.specs.declared.positions.PlacedEntry.{PlacedEntry}
-use Rattle.snippet_strokes.specs.Positions.{ArePlaced, HasItsLabel, has_label, is_hung, crosses, crowds, position_at, position_behind, positions, lowest_position, row_count, label_place, unplaced}
+use Rattle.snippet_strokes.specs.Positions.{ArePlaced, IsFromRight, HasItsLabel, has_label, is_hung, crosses, crowds, position_at, position_behind, positions, lowest_position, row_count, label_place, unplaced}
 use Rattle.snippet_strokes.specs.Painting.{HasRows}
 use Rattle.snippet_parts.specs.Marked.{HasColumns}
 
@@ -222,11 +222,12 @@ written_back xs ys len is kept =
     ap (λ rest. take len (xs ++ rest)) (drop_all (length xs) ys (omega (arith, long))) ∙ ap (take len) (append-nil xs) ∙ take_all len xs (omega (arith, is, long))
 
 -- entries that were put in an order and got the positions of it are placed
-pub ArePlaced-from : (es : List LineAnnotation) (labelled sorted placed : List PlacedEntry) (ps : List ℕ) → map (λ (e : PlacedEntry). e.entry) labelled ≡ es → All HasItsLabel labelled → IsPermutation labelled sorted → ps ≡ positions 0 sorted → map (λ (e : PlacedEntry). e.position) placed ≡ ps → map unplaced placed ≡ map unplaced sorted → ArePlaced es placed
-ArePlaced-from es labelled sorted placed ps entries labels same are got kept =
+pub ArePlaced-from : (es : List LineAnnotation) (labelled sorted placed : List PlacedEntry) (ps : List ℕ) → map (λ (e : PlacedEntry). e.entry) labelled ≡ es → All HasItsLabel labelled → IsPermutation labelled sorted → IsFromRight (map (λ (e : PlacedEntry). e.entry) sorted) → ps ≡ positions 0 sorted → map (λ (e : PlacedEntry). e.position) placed ≡ ps → map unplaced placed ≡ map unplaced sorted → ArePlaced es placed
+ArePlaced-from es labelled sorted placed ps entries labels same ordered are got kept =
     let f : PlacedEntry → LineAnnotation = λ e. e.entry in
     record {
       same = subst (IsPermutation es) (sym (entries_kept placed sorted kept)) (subst (λ xs. IsPermutation xs (map f sorted)) entries (IsPermutation-map f labelled sorted same));
+      from_right = subst IsFromRight (sym (entries_kept placed sorted kept)) ordered;
       labels = all_kept HasItsLabel placed sorted (λ e has. has) (λ e has. has) kept (All-permutation HasItsLabel labelled sorted same labels);
       positions_are = got ∙ are ∙ sym (positions_kept 0 placed sorted kept);
     }

@@ -1,5 +1,5 @@
 -- Where the labels of a line stand.
-use Rattle.std.specs.Prelude.{◌≡◌, ℕ, ◌+◌, ◌==◌, ◌&&◌, ◌||◌, nat_le, nat_lt, not, Bool, List, [], ◌∷◌, All, IsPermutation, length, map, fold, max, chars, if◌then◌else◌}
+use Rattle.std.specs.Prelude.{◌≡◌, ℕ, ◌+◌, ◌<◌, ◌≤◌, ◌==◌, ◌&&◌, ◌||◌, nat_le, nat_lt, not, Bool, List, [], ◌∷◌, All, IsPermutation, length, map, fold, max, chars, slice_index_or, if◌then◌else◌}
 use Rattle.std.specs.List.{list_any}
 use Rattle.std.specs.Cow.{cow_str_bytes}
 use Rattle.snippet_parts.specs.declared.entries.LineAnnotation.{LineAnnotation}
@@ -77,8 +77,19 @@ row_count placed = if lowest_position placed == 0 then 1 else lowest_position pl
 abbrev pub unplaced : PlacedEntry → PlacedEntry
 unplaced e = record e { position = 0 }
 
--- the entries of a line in some order, each with its label, at the positions of that order
+-- the later entry may stand behind the earlier one: it starts farther left, or at the same column and no greater
+-- character
+pub record StandsLeft (earlier later : LineAnnotation) : Type 0 where
+  pub column : later.start.display ≤ earlier.start.display
+  pub character : later.start.display ≡ earlier.start.display → later.start.char ≤ earlier.start.char
+
+-- the entries stand from right to left
+abbrev pub IsFromRight : List LineAnnotation → Type 0
+IsFromRight es = (i j : ℕ) (d : LineAnnotation) → i ≤ j → j < length es → StandsLeft (slice_index_or es i d) (slice_index_or es j d)
+
+-- the entries of a line from right to left, each with its label, at the positions of that order
 pub record ArePlaced (es : List LineAnnotation) (placed : List PlacedEntry) : Type 0 where
   pub same : IsPermutation es (map (λ e. e.entry) placed)
+  pub from_right : IsFromRight (map (λ e. e.entry) placed)
   pub labels : All HasItsLabel placed
   pub positions_are : map (λ e. e.position) placed ≡ positions 0 placed

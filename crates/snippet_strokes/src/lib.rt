@@ -1,4 +1,4 @@
-//! The strokes of a snippet: for each line that is shown its source row, and below it the row of its marks.
+//! The strokes of a snippet: for each line that is shown its source row, and below it the rows of its marks and labels.
 #![tactic(auto)]
 
 mod highlight;

@@ -13,18 +13,17 @@ use snippet_parts::AnnotatedLineInfo;
 use snippet_style::StyledBuffer;
 use std::alloc::{AllocError, Global};
 
-/// Draws a snippet below all that stands in the grid: a separator row, then for each line its source row and its marks.
+/// Draws a snippet below all that stands in the grid: a separator row, then for each line its source row and its strokes.
 ///
 /// ```text
 ///       |
 ///     1 | let x = 1;
-///       |     ^
+///       |     ^ here
 ///     2 | let y = x;
 /// ```
 ///
-/// Where lines aren't numbered, spaces stand in place of the numbers. A line with no entries has no row of marks. Each
-/// entry is drawn as one that begins and ends on its line. The label of a line's one entry stands behind its mark; the
-/// labels of several aren't drawn.
+/// Where lines aren't numbered, spaces stand in place of the numbers. A line with no entries has no strokes. Each entry is
+/// drawn as one that begins and ends on its line.
 ///
 /// # Errors
 ///
@@ -56,7 +55,7 @@ pub fn draw_snippet(
 ///
 /// ```text
 ///     1 | let x = 1;
-///       |     ^
+///       |     ^ here
 /// ```
 fn draw_line(
     alloc: Global,

@@ -1,10 +1,12 @@
-use Rattle.std.proofs.Common.{◌∙◌, ◌<◌, ◌^◌, All, sym, subst, ap, length, map}
+use Rattle.std.proofs.Common.{rules, ◌∙◌, ◌<◌, ◌^◌, All, sym, subst, ap, length, map}
 use Rattle.std.specs.List.Sorted.{IsPermutation}
 use Rattle.std.proofs.lemmas.List.Sorted.{IsPermutation-map}
 use Rattle.snippet_parts.specs.declared.entries.LineAnnotation.{LineAnnotation}
 use Rattle.snippet_strokes.specs.declared.positions.PlacedEntry.{PlacedEntry}
 use Rattle.snippet_strokes.proofs.PositionLemmas.{length-positions, entries_all, written_back, ArePlaced-from}
 use Rattle.snippet_strokes.specs.Positions.{ArePlaced, positions, unplaced}
+use Rattle.std.proofs.lemmas.List.Sorted.{answers_always}
+use Rattle.snippet_strokes.proofs.OrderLemmas.{place_key, from_right_from_sort}
 use Rattle.snippet_strokes.proofs.positions.placed_entries.Goals as goal
 
 pub label_positions-requires : goal.label_positions-requires
@@ -25,5 +27,5 @@ returns c =
     let placed = c.set_positions.new.entries in
     let kept = c.set_positions.ensures.kept ∙ ap (map unplaced) c.deref_mut.ensures.value in
     record {
-      placed = subst (ArePlaced es) (sym (written_back placed sorted.items sorted.len sorted.ok.0 kept)) (ArePlaced-from es c.in_ok-placed.placed.items sorted.items placed c.deref-2.result.now c.in_ok-placed.ensures.entries c.in_ok-placed.ensures.labels c.in_ok-sort_by_key.ensures.permutation (c.deref-2.ensures.value ∙ c.in_ok-positions.ensures.value ∙ ap (positions 0) c.deref.ensures.value) c.set_positions.ensures.placed kept);
+      placed = subst (ArePlaced es) (sym (written_back placed sorted.items sorted.len sorted.ok.0 kept)) (ArePlaced-from es c.in_ok-placed.placed.items sorted.items placed c.deref-2.result.now c.in_ok-placed.ensures.entries c.in_ok-placed.ensures.labels c.in_ok-sort_by_key.ensures.permutation (from_right_from_sort sorted.items (c.in_ok-sort_by_key.ensures.sorted place_key (answers_always _ _ _ (λ f a r g h. search rules)))) (c.deref-2.ensures.value ∙ c.in_ok-positions.ensures.value ∙ ap (positions 0) c.deref.ensures.value) c.set_positions.ensures.placed kept);
     }
