@@ -12,9 +12,13 @@ use crate::snippet::Report;
 use coverage::covered;
 pub use error::RenderError;
 use judge::first_fault;
-pub use snippet_style::DecorStyle;
-use snippet_style::Stylesheet;
+pub use snippet_style::{
+    DEFAULT_ADDITION_STYLE, DEFAULT_CONTEXT_STYLE, DEFAULT_EMPHASIS_STYLE, DEFAULT_ERROR_STYLE,
+    DEFAULT_HELP_STYLE, DEFAULT_INFO_STYLE, DEFAULT_LINE_NUM_STYLE, DEFAULT_NONE_STYLE,
+    DEFAULT_NOTE_STYLE, DEFAULT_REMOVAL_STYLE, DEFAULT_WARNING_STYLE, DecorStyle,
+};
 use std::alloc::Global;
+pub use style::{AnsiColor, Color, Effects, Style, Stylesheet, open_code, reset_code};
 
 /// The width that lines are cut to where no other is set, in columns.
 pub const DEFAULT_TERM_WIDTH: usize = 140;
@@ -44,7 +48,7 @@ impl Renderer {
     ghost use Rattle.snippet_model.specs.Fits.{ReportFits};
     ghost use Rattle.annotate_snippets.specs.Fault.{first_fault, IsWithinBounds};
     ghost use Rattle.annotate_snippets.specs.Covered.{is_covered};
-    ghost use Rattle.annotate_snippets.specs.Settings.{plain_settings};
+    ghost use Rattle.annotate_snippets.specs.Settings.{plain_settings, styled_settings};
     ghost use Rattle.annotate_snippets.specs.Shown.{is_graphic, ShowsReport, IsFreeBut};
     ghost use Rattle.snippet_model.specs.Trusted.{trusted_texts, AreNamesOneRow};
 
@@ -64,11 +68,126 @@ impl Renderer {
         }
     }
 
+    /// A renderer that writes the codes of the `DEFAULT_*_STYLE` constants, and links.
+    pub fn styled() -> Renderer
+        ensures settings { result ≡ styled_settings }
+    {
+        Renderer {
+            stylesheet: Stylesheet::styled(),
+            hyperlink: true,
+            ..Renderer::plain()
+        }
+    }
+
     /// The width that lines are cut to, in columns.
     pub fn term_width(mut self, term_width: usize) -> Renderer
         ensures changed { result ≡ record self { term_width = term_width } }
     {
         self.term_width = term_width;
+        self
+    }
+
+    /// The characters that strokes are drawn with.
+    pub fn decor_style(mut self, decor_style: DecorStyle) -> Renderer
+        ensures changed { result ≡ record self { decor_style = decor_style } }
+    {
+        self.decor_style = decor_style;
+        self
+    }
+
+    /// Whether the identifiers of titles link to their addresses.
+    pub fn hyperlink(mut self, hyperlink: bool) -> Renderer
+        ensures changed { result ≡ record self { hyperlink = hyperlink } }
+    {
+        self.hyperlink = hyperlink;
+        self
+    }
+
+    /// An error's level and its primary marks and labels are in this style.
+    pub fn error(mut self, error: Style) -> Renderer
+        ensures changed { result ≡ record self { stylesheet = record self.stylesheet { error = error } } }
+    {
+        self.stylesheet.error = error;
+        self
+    }
+
+    /// A warning's level and its primary marks and labels are in this style.
+    pub fn warning(mut self, warning: Style) -> Renderer
+        ensures changed { result ≡ record self { stylesheet = record self.stylesheet { warning = warning } } }
+    {
+        self.stylesheet.warning = warning;
+        self
+    }
+
+    /// An info's level and its primary marks and labels are in this style.
+    pub fn info(mut self, info: Style) -> Renderer
+        ensures changed { result ≡ record self { stylesheet = record self.stylesheet { info = info } } }
+    {
+        self.stylesheet.info = info;
+        self
+    }
+
+    /// A note's level and its primary marks and labels are in this style.
+    pub fn note(mut self, note: Style) -> Renderer
+        ensures changed { result ≡ record self { stylesheet = record self.stylesheet { note = note } } }
+    {
+        self.stylesheet.note = note;
+        self
+    }
+
+    /// A help's level and its primary marks and labels are in this style.
+    pub fn help(mut self, help: Style) -> Renderer
+        ensures changed { result ≡ record self { stylesheet = record self.stylesheet { help = help } } }
+    {
+        self.stylesheet.help = help;
+        self
+    }
+
+    /// Line numbers and the strokes of the gutter are in this style.
+    pub fn line_num(mut self, line_num: Style) -> Renderer
+        ensures changed { result ≡ record self { stylesheet = record self.stylesheet { line_num = line_num } } }
+    {
+        self.stylesheet.line_num = line_num;
+        self
+    }
+
+    /// The text of a title that stands out is in this style.
+    pub fn emphasis(mut self, emphasis: Style) -> Renderer
+        ensures changed { result ≡ record self { stylesheet = record self.stylesheet { emphasis = emphasis } } }
+    {
+        self.stylesheet.emphasis = emphasis;
+        self
+    }
+
+    /// Marks and labels of context are in this style.
+    pub fn context(mut self, context: Style) -> Renderer
+        ensures changed { result ≡ record self { stylesheet = record self.stylesheet { context = context } } }
+    {
+        self.stylesheet.context = context;
+        self
+    }
+
+    /// Text that a suggestion adds is in this style.
+    pub fn addition(mut self, addition: Style) -> Renderer
+        ensures changed { result ≡ record self { stylesheet = record self.stylesheet { addition = addition } } }
+    {
+        self.stylesheet.addition = addition;
+        self
+    }
+
+    /// Text that a suggestion removes is in this style.
+    pub fn removal(mut self, removal: Style) -> Renderer
+        ensures changed { result ≡ record self { stylesheet = record self.stylesheet { removal = removal } } }
+    {
+        self.stylesheet.removal = removal;
+        self
+    }
+
+    /// Everything that has no style of its own is in this style.
+    pub fn none(mut self, none: Style) -> Renderer
+        ensures changed { result ≡ record self { stylesheet = record self.stylesheet { none = none } } }
+    {
+        self.stylesheet.none = none;
         self
     }
 
