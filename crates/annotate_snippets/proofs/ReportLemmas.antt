@@ -1,11 +1,12 @@
 -- The text of a covered report shows it.
-use Rattle.std.proofs.Common.{◌≡◌, ℕ, zero, suc, ◌+◌, ◌<◌, ◌==◌, ◌||◌, Bool, true, false, not, List, [], ◌∷◌, ◌++◌, length, chars, Result, Ok, Err, refl, sym, ap, subst, ◌∙◌, arith}
+use Rattle.std.proofs.Common.{◌≡◌, ℕ, zero, suc, ◌+◌, ◌<◌, ◌==◌, ◌||◌, Bool, true, false, not, List, [], ◌∷◌, ◌++◌, length, chars, take, get_or, Result, Ok, Err, refl, sym, ap, subst, ◌∙◌, arith}
 use Rattle.std.specs.List.{All, AllZip, Contains, flat_map}
 use Rattle.std.specs.Result.{IfOk, MatchResult, IsErrAnd}
 use Rattle.std.specs.Cow.{cow_str_bytes}
+use Rattle.std.proofs.Math.Seq.{take-suc}
 use Rattle.std.proofs.lemmas.Bool.{and_parts}
 use Rattle.std.proofs.lemmas.List.{append-nil}
-use Rattle.std.proofs.lemmas.List.Elements.{All-nil, All-cons, All-head, All-tail, All-append, All-map, All-weaker, All-same}
+use Rattle.std.proofs.lemmas.List.Elements.{All-nil, All-cons, All-head, All-tail, All-append, All-map, All-weaker}
 use Rattle.std.proofs.lemmas.List.Sums.{AllPass-from_list_all}
 use Rattle.snippet_model.specs.declared.snippet.Annotation.{Annotation}
 use Rattle.snippet_model.specs.declared.snippet.Group.{Group}
@@ -13,17 +14,22 @@ use Rattle.snippet_model.specs.declared.snippet.Snippet.{Snippet}
 use Rattle.snippet_model.specs.declared.snippet.Title.{Title}
 use Rattle.snippet_model.specs.declared.snippet.Element.TheVariants.{Cause}
 use Rattle.snippet_style.specs.Grid.{Cell}
+use Rattle.snippet_style.specs.declared.role.LevelInner.{LevelInner}
+use Rattle.snippet_style.specs.declared.stylesheet.Stylesheet.{Stylesheet}
 use Rattle.snippet_style.specs.Print.{row_text, further_text, plain_text}
+use Rattle.snippet_style.specs.Woven.{Prints, links_of}
+use Rattle.snippet_style.proofs.WovenLemmas.{IsWoven-from_prints}
 use Rattle.snippet_text.specs.Normalized.{is_listed}
+use Rattle.snippet_model.specs.Trusted.{trusted_texts}
 use Rattle.snippet_titles.specs.Title.{title_rows}
 use Rattle.snippet_parts.specs.Mark.{is_marking, is_single_line}
 use Rattle.snippet_strokes.specs.Rows.{IsFree}
 use Rattle.snippet_strokes.proofs.SnippetLemmas.{free_from_AddsSnippet}
 use Rattle.annotate_snippets.specs.declared.renderer.Renderer.{Renderer}
-use Rattle.annotate_snippets.specs.Covered.{gutter_of, is_covered_annotation, is_covered_snippet, is_covered_title, is_plain, IsReportOf}
-use Rattle.annotate_snippets.specs.Drawn.{layout_of, numbered_source, AddsCause, IsTextOf}
-use Rattle.annotate_snippets.specs.Page.{NamedRow, cells_of, GroupPage}
-use Rattle.annotate_snippets.specs.Shown.{gutter_of_report, ShowsTitle, ShowsElement, ShowsGroup, ShowsReport, IsFreeBut}
+use Rattle.annotate_snippets.specs.Covered.{gutter_of, is_covered_annotation, is_covered_snippet, is_covered_title, is_covered_renderer, IsReportOf}
+use Rattle.annotate_snippets.specs.Drawn.{layout_of, numbered_source, AddsCause, IsGridOf, IsGridOfReport}
+use Rattle.annotate_snippets.specs.Page.{NamedRow, cells_of, GroupPage, group_rows, ArePrinted, PrintsPage}
+use Rattle.annotate_snippets.specs.Shown.{gutter_of_report, ShowsTitle, ShowsElement, ShowsGroup, levels_of, SheetsShown, IsFreeBut, IsFreeUnder}
 use Rattle.annotate_snippets.proofs.MarkLemmas.{AreShort}
 use Rattle.annotate_snippets.proofs.PageLemmas.{frame_of, snippet_shown}
 use Rattle.annotate_snippets.proofs.TitleLemmas.{ShowsTitle-rows, free_title}
@@ -61,9 +67,9 @@ module _ (r : Renderer) (groups : List Group) (title : Title) (s : Snippet Annot
   abbrev titles : List (List Cell)
   titles = title_rows title.level (cow_str_bytes title.text)
 
-  -- the rows show the report
-  pub report_shown : (rows : List (List Cell)) (text : List ℕ) → AddsCause s titles rows → chars text ≡ plain_text rows → ShowsReport r groups text
-  report_shown rows text drawn printed =
+  -- the rows are those of a group that shows the report
+  pub report_shown : (rows : List (List Cell)) → AddsCause s titles rows → (page : GroupPage) × (rows ≡ group_rows page) × AllZip (ShowsGroup r (gutter_of_report r groups)) groups (page ∷ [])
+  report_shown rows drawn =
       let is : IsShortSnippet s = short_snippet r.term_width s covered in
       let shown = snippet_shown r plain s is.short drawn.infos drawn.rows.rows is.some drawn.lines drawn.rows.shown in
       let part : List NamedRow = shown.0 in
@@ -76,12 +82,11 @@ module _ (r : Renderer) (groups : List Group) (title : Title) (s : Snippet Annot
         code_is = λ _. ap (λ n. n + 3) gutter;
         title = subst (λ t. ShowsTitle (gutter_of_report r (of.group ∷ [])) t titles) (sym of.title_is) (ShowsTitle-rows (gutter_of_report r (of.group ∷ [])) title titled);
         elements = subst (λ es. AllZip (ShowsElement r (frame_of s)) es (part ∷ [])) (sym of.elements_are) (shown.2, tt);
-      } in
-      record {
-        page = group_page ∷ [];
-        shows = subst (λ gs. AllZip (ShowsGroup r (gutter_of_report r gs)) gs (group_page ∷ [])) (sym of.groups_are) (group_shown, tt);
-        printed = printed ∙ ap plain_text (drawn.rows.added ∙ ap (λ rs. titles ++ rs) (sym shown.1 ∙ sym (append-nil (cells_of part))));
-      }
+      } in (
+        group_page,
+        drawn.rows.added ∙ ap (λ rs. titles ++ rs) (sym shown.1 ∙ sym (append-nil (cells_of part))),
+        subst (λ gs. AllZip (ShowsGroup r (gutter_of_report r gs)) gs (group_page ∷ [])) (sym of.groups_are) (group_shown, tt),
+      )
 
   -- no row holds a listed character
   rows_free : (rows : List (List Cell)) → AddsCause s titles rows → All IsFree rows
@@ -102,35 +107,88 @@ text_free [] free = All-nil (λ c. is_listed c ≡ false)
 text_free (row ∷ rows) free =
     All-append (λ c. is_listed c ≡ false) (row_text row) (further_text rows) (row_free row (All-head IsFree row rows free)) (further_free rows (All-tail IsFree row rows free))
 
--- so is that of a covered report
-pub report_free : (trusted : List (List ℕ)) (r : Renderer) (groups : List Group) (title : Title) (s : Snippet Annotation) → IsReportOf title s groups → r.anonymized_snippet_line_numbers ≡ false → is_covered_title title ≡ true → is_covered_snippet r.term_width s ≡ true → (rows : List (List Cell)) (text : List ℕ) → AddsCause s (title_rows title.level (cow_str_bytes title.text)) rows → chars text ≡ plain_text rows → IsFreeBut trusted text
-report_free trusted r groups title s of plain titled covered rows text drawn printed =
-    let free : All (λ c. is_listed c ≡ false) (chars text) = All-same (λ c. is_listed c ≡ false) (chars text) (plain_text rows) printed (text_free rows (rows_free r groups title s of plain titled covered rows drawn)) in
-    All-weaker (λ c. is_listed c ≡ false) (λ c. is_listed c ≡ true → Contains (flat_map chars trusted) c) (λ c unlisted listed. absurd (clash (is_listed c) unlisted listed)) (chars text) free
+-- free text has no listed characters but trusted ones
+free_but : (trusted : List (List ℕ)) (text : List ℕ) → All (λ c. is_listed c ≡ false) text → IsFreeBut trusted text
+free_but trusted text free =
+    All-weaker (λ c. is_listed c ≡ false) (λ c. is_listed c ≡ true → Contains (flat_map chars trusted) c) (λ c unlisted listed. absurd (clash (is_listed c) unlisted listed)) text free
   where
     clash : (b : Bool) → b ≡ false → b ≡ true → ⊥
     clash true is_false is_true = cc
     clash false is_false is_true = cc
 
--- a plain renderer shows the numbers themselves
-pub numbers_shown : (r : Renderer) → is_plain r ≡ true → r.anonymized_snippet_line_numbers ≡ false
-numbers_shown r plain =
-    let off = and_parts _ _ plain in
-    none_of r.anonymized_origin_line_numbers r.anonymized_snippet_line_numbers r.hyperlink r.short_message r.no_graphics off.1
+-- a covered renderer shows the numbers themselves
+numbers_shown : (r : Renderer) → is_covered_renderer r ≡ true → r.anonymized_snippet_line_numbers ≡ false
+numbers_shown r covered =
+    let off = and_parts _ _ covered in
+    none_of r.anonymized_origin_line_numbers r.anonymized_snippet_line_numbers r.short_message r.no_graphics off.1
   where
-    none_of : (a b c d e : Bool) → not (a || b || c || d || e) ≡ true → b ≡ false
-    none_of true b c d e off = grind (arith, off)
-    none_of false true c d e off = grind (arith, off)
-    none_of false false c d e off = refl
+    none_of : (a b c d : Bool) → not (a || b || c || d) ≡ true → b ≡ false
+    none_of true b c d off = grind (arith, off)
+    none_of false true c d off = grind (arith, off)
+    none_of false false c d off = refl
 
--- what a text that prints a covered report's rows shows, and that it is free
-pub shows_of_text : (r : Renderer) (groups : List Group) (title : Title) (s : Snippet Annotation) → IsReportOf title s groups → is_plain r ≡ true → is_covered_title title ≡ true → is_covered_snippet r.term_width s ≡ true → (text : List ℕ) → IsTextOf title s text → ShowsReport r groups text
-shows_of_text r groups title s of plain titled covered text is =
-    report_shown r groups title s of (numbers_shown r plain) titled covered is.rows text is.drawn is.printed
+-- the grid of a covered report is a page of it
+pub grid_of_report : (r : Renderer) (groups : List Group) (level : LevelInner) (title : Title) (s : Snippet Annotation) → levels_of groups ≡ level ∷ [] → IsReportOf title s groups → is_covered_renderer r ≡ true → is_covered_title title ≡ true → is_covered_snippet r.term_width s ≡ true → (rows : List (List Cell)) → IsGridOf title s rows → IsGridOfReport r groups level rows
+grid_of_report r groups level title s leveled of drawing titled covered rows drawn =
+    let plain = numbers_shown r drawing in
+    let shown = report_shown r groups title s of plain titled covered rows drawn in
+    record {
+      group = shown.0;
+      rows_are = shown.1;
+      level_is = leveled;
+      shows = shown.2;
+      free = free_but (trusted_texts groups) (plain_text rows) (text_free rows (rows_free r groups title s of plain titled covered rows drawn));
+    }
 
-pub free_of_text : (trusted : List (List ℕ)) (r : Renderer) (groups : List Group) (title : Title) (s : Snippet Annotation) → IsReportOf title s groups → is_plain r ≡ true → is_covered_title title ≡ true → is_covered_snippet r.term_width s ≡ true → (text : List ℕ) → IsTextOf title s text → IsFreeBut trusted text
-free_of_text trusted r groups title s of plain titled covered text is =
-    report_free trusted r groups title s of (numbers_shown r plain) titled covered is.rows text is.drawn is.printed
+-- what holds of the items of two lists, place by place, and what follows from it
+pub AllZip-weaker : {A B : Type 0} (P Q : A → B → Type 0) → ((x : A) (y : B) → P x y → Q x y) → (xs : List A) (ys : List B) → AllZip P xs ys → AllZip Q xs ys
+AllZip-weaker P Q weaker [] [] holds = tt
+AllZip-weaker P Q weaker [] (y ∷ ys) holds = absurd holds
+AllZip-weaker P Q weaker (x ∷ xs) [] holds = absurd holds
+AllZip-weaker P Q weaker (x ∷ xs) (y ∷ ys) holds =
+    (weaker x y holds.0, AllZip-weaker P Q weaker xs ys holds.1)
+
+-- one more of both: the next item of the first list, and an item behind the second
+AllZip-last : {A B : Type 0} (P : A → B → Type 0) (xs : List A) (ys : List B) (x : A) (y : B) → AllZip P xs ys → P x y → AllZip P (xs ++ x ∷ []) (ys ++ y ∷ [])
+AllZip-last P [] [] x y before last = (last, tt)
+AllZip-last P [] (z ∷ ys) x y before last = absurd before
+AllZip-last P (z ∷ xs) [] x y before last = absurd before
+AllZip-last P (v ∷ xs) (z ∷ ys) x y before last = (before.0, AllZip-last P xs ys x y before.1 last)
+
+pub AllZip-push : {A B : Type 0} (P : A → B → Type 0) (xs : List A) (i : ℕ) (d : A) → i < length xs → (ys new : List B) (y : B) → new ≡ ys ++ y ∷ [] → AllZip P (take i xs) ys → P (get_or xs i d) y → AllZip P (take (i + 1) xs) new
+AllZip-push P xs i d within ys new y pushed before last =
+    let more : take (i + 1) xs ≡ take i xs ++ get_or xs i d ∷ [] = ap (λ n. take n xs) (let e : i + 1 ≡ suc i = omega arith in e) ∙ take-suc xs i d within in
+    subst (λ zs. AllZip P zs new) (sym more) (subst (λ zs. AllZip P (take i xs ++ get_or xs i d ∷ []) zs) (sym pushed) (AllZip-last P (take i xs) ys (get_or xs i d) y before last))
+
+module _ (r : Renderer) (groups : List Group) (level : LevelInner) (rows : List (List Cell)) (is : IsGridOfReport r groups level rows) where
+  -- a text that prints the grid prints the page of the one group
+  page_printed : (sheet : Stylesheet) (text : List ℕ) → Prints sheet level rows text → PrintsPage sheet (levels_of groups) (is.group ∷ []) text
+  page_printed sheet text prints =
+      record {
+        parts = text ∷ [];
+        printed = subst (λ levels. ArePrinted sheet levels (is.group ∷ []) (text ∷ [])) (sym is.level_is) (subst (λ rs. Prints sheet level rs text) is.rows_are prints, tt);
+        joined = refl;
+      }
+
+  -- texts that print the grid under some sheets show the report under them
+  pub sheets_shown : (sheets : List Stylesheet) (texts : List (List ℕ)) → AllZip (λ sheet text. Prints sheet level rows text) sheets texts → SheetsShown r groups sheets texts
+  sheets_shown sheets texts printed =
+      record {
+        page = is.group ∷ [];
+        shows = is.shows;
+        printed = AllZip-weaker (λ sheet text. Prints sheet level rows text) (λ sheet text. PrintsPage sheet (levels_of groups) (is.group ∷ []) text) page_printed sheets texts printed;
+        free = subst (λ rs. IsFreeBut (trusted_texts groups) (plain_text rs)) is.rows_are is.free;
+      }
+
+  -- a text that prints the grid is free, but for its codes
+  pub text_is_free : (sheet : Stylesheet) (text : List ℕ) → Prints sheet level rows text → IsFreeUnder (trusted_texts groups) sheet text
+  text_is_free sheet text prints =
+      record {
+        plain = plain_text rows;
+        links = links_of rows;
+        woven = IsWoven-from_prints sheet level rows text prints;
+        free = is.free;
+      }
 
 -- what holds of an answer holds of it where another error stands for the first
 pub IfOk-map_err : {T E D : Type 0} (P : T → Type 0) (R : E → D → Type 0) (r : Result T E) (q : Result T D) → IfOk r P → MatchResult r (λ x. q ≡ Ok x) (λ e. IsErrAnd q (R e)) → IfOk q P
@@ -142,3 +200,7 @@ IfOk-map_err P R (Err e) (Err d) holds is = tt
 pub IfOk-weaker : {T E : Type 0} (P Q : T → Type 0) → ((x : T) → P x → Q x) → (r : Result T E) → IfOk r P → IfOk r Q
 IfOk-weaker P Q weaker (Ok x) holds = weaker x holds
 IfOk-weaker P Q weaker (Err e) holds = tt
+
+-- what holds of an answer that is known holds of what it gives
+pub ok_had : {T E : Type 0} (P : T → Type 0) (r : Result T E) (x : T) → r ≡ Ok x → IfOk r P → P x
+ok_had P r x is holds = subst (λ z. IfOk z P) is holds

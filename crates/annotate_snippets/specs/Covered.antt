@@ -4,7 +4,6 @@ use Rattle.std.specs.List.{list_all, list_any}
 use Rattle.std.specs.Cow.{cow_str_bytes}
 use Rattle.std.specs.Fmt.{decimal}
 use Rattle.snippet_text.specs.Width.{width_of}
-use Rattle.snippet_style.specs.Stylesheet.{is_plain_sheet}
 use Rattle.snippet_style.specs.declared.glyphs.DecorStyle.{DecorStyle}
 use Rattle.snippet_style.specs.declared.glyphs.DecorStyle.TheVariants.{Ascii, Unicode}
 use Rattle.snippet_model.specs.declared.level.LevelName.{LevelName}
@@ -73,17 +72,17 @@ abbrev pub is_ascii : DecorStyle → Bool
 is_ascii Ascii = true
 is_ascii Unicode = false
 
--- a renderer that draws so far: a plain one, of any width
-abbrev pub is_plain : Renderer → Bool
-is_plain r =
-    is_ascii r.decor_style && is_plain_sheet r.stylesheet && not (r.anonymized_origin_line_numbers || r.anonymized_snippet_line_numbers || r.hyperlink || r.short_message || r.no_graphics)
+-- a renderer that draws so far: one with ASCII strokes and no switch, of any width and stylesheet, with links or without
+abbrev pub is_covered_renderer : Renderer → Bool
+is_covered_renderer r =
+    is_ascii r.decor_style && not (r.anonymized_origin_line_numbers || r.anonymized_snippet_line_numbers || r.short_message || r.no_graphics)
 
 -- elements under a title, as this renderer draws them so far: one annotated snippet
 abbrev pub are_covered_elements : Renderer → Title → List Element → Bool
 are_covered_elements r title [] = false
 are_covered_elements r title (Message message ∷ es) = false
 are_covered_elements r title (Cause snippet ∷ []) =
-    is_plain r && is_covered_title title && is_covered_snippet r.term_width snippet
+    is_covered_renderer r && is_covered_title title && is_covered_snippet r.term_width snippet
 are_covered_elements r title (Cause snippet ∷ e ∷ es) = false
 are_covered_elements r title (Suggestion snippet ∷ es) = false
 are_covered_elements r title (Origin origin ∷ es) = false

@@ -1,10 +1,14 @@
--- What an annotated snippet adds to the grid.
-use Rattle.std.specs.Prelude.{◌≡◌, ℕ, ◌+◌, List, map, chars}
+-- What the grid holds: a title, an annotated snippet below it, and with both a whole report.
+use Rattle.std.specs.Prelude.{◌≡◌, ◌+◌, List, [], ◌∷◌, map}
+use Rattle.std.specs.List.{AllZip}
 use Rattle.std.specs.Cow.{cow_str_bytes}
 use Rattle.snippet_style.specs.Grid.{Cell}
 use Rattle.snippet_style.specs.Print.{plain_text}
 use Rattle.snippet_titles.specs.Title.{title_rows}
 use Rattle.snippet_model.specs.declared.snippet.Title.{Title}
+use Rattle.snippet_model.specs.declared.snippet.Group.{Group}
+use Rattle.snippet_model.specs.Trusted.{trusted_texts}
+use Rattle.snippet_style.specs.declared.role.LevelInner.{LevelInner}
 use Rattle.snippet_style.specs.declared.glyphs.DecorStyle.TheVariants.{Ascii}
 use Rattle.snippet_model.specs.declared.snippet.Snippet.{Snippet}
 use Rattle.snippet_model.specs.declared.snippet.Annotation.{Annotation}
@@ -13,7 +17,10 @@ use Rattle.snippet_parts.specs.Lines.{Source}
 use Rattle.snippet_parts.specs.Marked.{seen_line, marked_lines}
 use Rattle.snippet_strokes.specs.declared.layout.Layout.{Layout}
 use Rattle.snippet_strokes.specs.Snippet.{AddsSnippet}
+use Rattle.annotate_snippets.specs.declared.renderer.Renderer.{Renderer}
 use Rattle.annotate_snippets.specs.Covered.{gutter_of}
+use Rattle.annotate_snippets.specs.Page.{GroupPage, group_rows}
+use Rattle.annotate_snippets.specs.Shown.{gutter_of_report, levels_of, ShowsGroup, IsFreeBut}
 
 -- where the parts of a snippet's rows stand
 abbrev pub layout_of : Snippet Annotation → Layout
@@ -29,8 +36,15 @@ pub record AddsCause (s : Snippet Annotation) (old new : List (List Cell)) : Typ
   pub lines : map seen_line infos ≡ marked_lines (numbered_source s) s.markers.items
   pub rows : AddsSnippet (layout_of s) s.line_numbering infos old new
 
--- the text prints a grid that holds the rows of this title, and below them the rows of this snippet
-pub record IsTextOf (title : Title) (s : Snippet Annotation) (text : List ℕ) : Type 0 where
-  pub rows : List (List Cell)
-  pub drawn : AddsCause s (title_rows title.level (cow_str_bytes title.text)) rows
-  pub printed : chars text ≡ plain_text rows
+-- the grid holds the rows of this title, and below them the rows of this snippet
+abbrev pub IsGridOf : Title → Snippet Annotation → List (List Cell) → Type 0
+IsGridOf title s rows = AddsCause s (title_rows title.level (cow_str_bytes title.text)) rows
+
+-- the grid of a report of one group, which is printed in this level: its rows are a page that shows the group, and each
+-- listed character of them is one of a trusted text
+pub record IsGridOfReport (r : Renderer) (groups : List Group) (level : LevelInner) (rows : List (List Cell)) : Type 0 where
+  pub group : GroupPage
+  pub rows_are : rows ≡ group_rows group
+  pub level_is : levels_of groups ≡ level ∷ []
+  pub shows : AllZip (ShowsGroup r (gutter_of_report r groups)) groups (group ∷ [])
+  pub free : IsFreeBut (trusted_texts groups) (plain_text rows)

@@ -1,8 +1,11 @@
--- A page: the rows of a report's text, each of them part of a title or of an element.
-use Rattle.std.specs.Prelude.{ℕ, ◌<◌, List, [], ◌∷◌, ◌++◌, Option, Some, None, map}
+-- A page: the rows of a report's text, each of them part of a title or of an element; and the texts that print it.
+use Rattle.std.specs.Prelude.{◌≡◌, ℕ, ◌<◌, List, [], ◌∷◌, ◌++◌, Option, Some, None, map}
 use Rattle.std.specs.List.{flat_map, filter_map, join_with_byte}
 use Rattle.snippet_style.specs.Grid.{Cell}
 use Rattle.snippet_style.specs.Print.{plain_text}
+use Rattle.snippet_style.specs.Woven.{Prints}
+use Rattle.snippet_style.specs.declared.role.LevelInner.{LevelInner}
+use Rattle.snippet_style.specs.declared.stylesheet.Stylesheet.{Stylesheet}
 
 -- what a row of an element shows: a line of the element's source, from 0, or something else
 pub data RowName : Type 0 where
@@ -45,9 +48,22 @@ Page = List GroupPage
 abbrev pub group_rows : GroupPage → List (List Cell)
 group_rows g = g.title ++ flat_map cells_of g.elements
 
--- the characters that print a page: the groups' rows, joined by line feeds
+-- the plain characters of a page: the groups' rows, joined by line feeds
 abbrev pub page_text : Page → List ℕ
 page_text page = join_with_byte 10 (map (λ g. plain_text (group_rows g)) page)
+
+-- each part prints the rows of one group under a sheet, in the level of the group
+abbrev pub ArePrinted : Stylesheet → List LevelInner → Page → List (List ℕ) → Type 0
+ArePrinted sheet [] [] [] = Unit {0}
+ArePrinted sheet (level ∷ levels) (g ∷ gs) (part ∷ parts) =
+    Prints sheet level (group_rows g) part × ArePrinted sheet levels gs parts
+ArePrinted sheet levels gs parts = ⊥
+
+-- the text prints a page under a sheet, in groups of these levels: each group in its own, joined by line feeds
+pub record PrintsPage (sheet : Stylesheet) (levels : List LevelInner) (page : Page) (text : List ℕ) : Type 0 where
+  pub parts : List (List ℕ)
+  pub printed : ArePrinted sheet levels page parts
+  pub joined : text ≡ join_with_byte 10 parts
 
 -- each number is greater than the one before it
 abbrev pub IsAscending : List ℕ → Type 0

@@ -1,7 +1,7 @@
 -- The settings of a renderer.
-use Rattle.std.specs.Prelude.{false}
+use Rattle.std.specs.Prelude.{true, false}
 use Rattle.snippet_style.specs.declared.glyphs.DecorStyle.TheVariants.{Ascii}
-use Rattle.snippet_style.specs.Stylesheet.{plain_sheet}
+use Rattle.snippet_style.specs.Stylesheet.{plain_sheet, default_sheet}
 use Rattle.annotate_snippets.specs.declared.renderer.Renderer.{Renderer}
 
 -- no style codes, ASCII strokes, no links, a width of 140 columns, every switch off
@@ -17,3 +17,8 @@ plain_settings =
       short_message = false;
       no_graphics = false;
     }
+
+-- the plain settings with the default sheet's codes in place of none, and with links
+abbrev pub styled_settings : Renderer
+styled_settings =
+    record plain_settings { stylesheet = default_sheet; hyperlink = true }

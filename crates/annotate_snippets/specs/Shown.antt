@@ -6,11 +6,15 @@ use Rattle.std.specs.Char.{is_ascii_alphanumeric}
 use Rattle.std.specs.Cow.{cow_str_bytes}
 use Rattle.snippet_style.specs.Grid.{Cell, SPACE, row_at}
 use Rattle.snippet_style.specs.Print.{row_text}
+use Rattle.snippet_style.specs.Woven.{IsWoven}
 use Rattle.snippet_style.specs.declared.glyphs.DecorStyle.{DecorStyle}
 use Rattle.snippet_style.specs.declared.glyphs.DecorStyle.TheVariants.{Ascii, Unicode}
+use Rattle.snippet_style.specs.declared.role.LevelInner.{LevelInner}
+use Rattle.snippet_style.specs.declared.stylesheet.Stylesheet.{Stylesheet}
 use Rattle.snippet_text.specs.Normalized.{is_listed, norm}
 use Rattle.snippet_text.specs.Width.{width_of}
 use Rattle.snippet_model.specs.Level.{name_of}
+use Rattle.snippet_model.specs.Trusted.{trusted_texts}
 use Rattle.snippet_model.specs.declared.level.LevelName.{LevelName}
 use Rattle.snippet_model.specs.declared.level.LevelName.TheVariants.{Standard, Hidden, Own}
 use Rattle.snippet_model.specs.declared.snippet.Id.{Id}
@@ -29,7 +33,7 @@ use Rattle.snippet_strokes.specs.Entries.{IsMarkCell}
 use Rattle.snippet_strokes.specs.Rows.{shown_number, set_right, HasNoNumber}
 use Rattle.annotate_snippets.specs.declared.renderer.Renderer.{Renderer}
 use Rattle.annotate_snippets.specs.Covered.{gutter_of}
-use Rattle.annotate_snippets.specs.Page.{RowName, SourceRow, Other, NamedRow, lines_named, cells_below, GroupPage, Page, page_text, IsAscending}
+use Rattle.annotate_snippets.specs.Page.{RowName, SourceRow, Other, NamedRow, lines_named, cells_below, GroupPage, Page, page_text, PrintsPage, IsAscending}
 
 -- the characters of a title's text as it is drawn: a trusted one as it is, any other normalised
 abbrev pub drawn_text : Title → List ℕ
@@ -188,15 +192,33 @@ pub record ShowsGroup (r : Renderer) (gutter : ℕ) (g : Group) (page : GroupPag
   pub title : ShowsTitle gutter g.title page.title
   pub elements : AllZip (ShowsElement r frame) g.elements.items page.elements
 
--- the text shows a report: it prints a page that shows each group, in order
-pub record ShowsReport (r : Renderer) (groups : List Group) (text : List ℕ) : Type 0 where
+-- each listed character is one of a trusted text
+abbrev pub IsFreeBut : List (List ℕ) → List ℕ → Type 0
+IsFreeBut trusted text = All (λ c. is_listed c ≡ true → Contains (flat_map chars trusted) c) text
+
+-- the levels of a report's groups, in which they are printed
+abbrev pub levels_of : List Group → List LevelInner
+levels_of groups = map (λ g. g.level) groups
+
+-- the texts show a report under these sheets, one text under each: all print one page, which shows each group, in order,
+-- and each listed character of which is one of a trusted text
+pub record SheetsShown (r : Renderer) (groups : List Group) (sheets : List Stylesheet) (texts : List (List ℕ)) : Type 0 where
   pub page : Page
   pub shows : AllZip (ShowsGroup r (gutter_of_report r groups)) groups page
-  pub printed : chars text ≡ page_text page
+  pub printed : AllZip (λ sheet text. PrintsPage sheet (levels_of groups) page text) sheets texts
+  pub free : IsFreeBut (trusted_texts groups) (page_text page)
 
--- each listed character of the text is one of a trusted text
-abbrev pub IsFreeBut : List (List ℕ) → List ℕ → Type 0
-IsFreeBut trusted text = All (λ c. is_listed c ≡ true → Contains (flat_map chars trusted) c) (chars text)
+-- the text shows a report under this sheet
+abbrev pub ShowsReport : Renderer → List Group → Stylesheet → List ℕ → Type 0
+ShowsReport r groups sheet text = SheetsShown r groups (sheet ∷ []) (text ∷ [])
+
+-- the text under a sheet is a plain one with codes of the sheet and of links between its characters, and each listed
+-- character of the plain text is one of a trusted text
+pub record IsFreeUnder (trusted : List (List ℕ)) (sheet : Stylesheet) (text : List ℕ) : Type 0 where
+  pub plain : List ℕ
+  pub links : List (List ℕ)
+  pub woven : IsWoven sheet text plain links
+  pub free : IsFreeBut trusted plain
 
 -- whether a renderer draws the graphic form
 abbrev pub is_graphic : Renderer → Bool

@@ -1,5 +1,6 @@
 //! The settings that reports are drawn with.
-ghost use Rattle.std.specs.Prelude.{◌≡◌, true, false, None, Err, IfSome, IfOk, IsOkUnless, alloc_error, string_bytes};
+ghost use Rattle.std.specs.Prelude.{◌≡◌, true, false, None, Err, IfSome, IfOk, IsOkUnless, alloc_error, map, string_bytes};
+ghost use Rattle.std.specs.List.{AllZip};
 
 mod coverage;
 mod error;
@@ -12,9 +13,14 @@ use crate::snippet::Report;
 use coverage::covered;
 pub use error::RenderError;
 use judge::first_fault;
-pub use snippet_style::DecorStyle;
-use snippet_style::Stylesheet;
+use snippet_style::{LevelInner, StyledBuffer};
+pub use snippet_style::{
+    DEFAULT_ADDITION_STYLE, DEFAULT_CONTEXT_STYLE, DEFAULT_EMPHASIS_STYLE, DEFAULT_ERROR_STYLE,
+    DEFAULT_HELP_STYLE, DEFAULT_INFO_STYLE, DEFAULT_LINE_NUM_STYLE, DEFAULT_NONE_STYLE,
+    DEFAULT_NOTE_STYLE, DEFAULT_REMOVAL_STYLE, DEFAULT_WARNING_STYLE, DecorStyle,
+};
 use std::alloc::Global;
+pub use style::{AnsiColor, Color, Effects, Style, Stylesheet, open_code, reset_code};
 
 /// The width that lines are cut to where no other is set, in columns.
 pub const DEFAULT_TERM_WIDTH: usize = 140;
@@ -44,8 +50,9 @@ impl Renderer {
     ghost use Rattle.snippet_model.specs.Fits.{ReportFits};
     ghost use Rattle.annotate_snippets.specs.Fault.{first_fault, IsWithinBounds};
     ghost use Rattle.annotate_snippets.specs.Covered.{is_covered};
-    ghost use Rattle.annotate_snippets.specs.Settings.{plain_settings};
-    ghost use Rattle.annotate_snippets.specs.Shown.{is_graphic, ShowsReport, IsFreeBut};
+    ghost use Rattle.annotate_snippets.specs.Settings.{plain_settings, styled_settings};
+    ghost use Rattle.annotate_snippets.specs.Shown.{is_graphic, ShowsReport, SheetsShown, IsFreeUnder};
+    ghost use Rattle.annotate_snippets.specs.Drawn.{IsGridOfReport};
     ghost use Rattle.snippet_model.specs.Trusted.{trusted_texts, AreNamesOneRow};
 
     /// A renderer that writes no style codes.
@@ -64,6 +71,17 @@ impl Renderer {
         }
     }
 
+    /// A renderer that writes the codes of the `DEFAULT_*_STYLE` constants, and links.
+    pub fn styled() -> Renderer
+        ensures settings { result ≡ styled_settings }
+    {
+        Renderer {
+            stylesheet: Stylesheet::styled(),
+            hyperlink: true,
+            ..Renderer::plain()
+        }
+    }
+
     /// The width that lines are cut to, in columns.
     pub fn term_width(mut self, term_width: usize) -> Renderer
         ensures changed { result ≡ record self { term_width = term_width } }
@@ -72,7 +90,111 @@ impl Renderer {
         self
     }
 
-    /// The text of a report.
+    /// The characters that strokes are drawn with.
+    pub fn decor_style(mut self, decor_style: DecorStyle) -> Renderer
+        ensures changed { result ≡ record self { decor_style = decor_style } }
+    {
+        self.decor_style = decor_style;
+        self
+    }
+
+    /// Whether the identifiers of titles link to their addresses.
+    pub fn hyperlink(mut self, hyperlink: bool) -> Renderer
+        ensures changed { result ≡ record self { hyperlink = hyperlink } }
+    {
+        self.hyperlink = hyperlink;
+        self
+    }
+
+    /// An error's level and its primary marks and labels are in this style.
+    pub fn error(mut self, error: Style) -> Renderer
+        ensures changed { result ≡ record self { stylesheet = record self.stylesheet { error = error } } }
+    {
+        self.stylesheet.error = error;
+        self
+    }
+
+    /// A warning's level and its primary marks and labels are in this style.
+    pub fn warning(mut self, warning: Style) -> Renderer
+        ensures changed { result ≡ record self { stylesheet = record self.stylesheet { warning = warning } } }
+    {
+        self.stylesheet.warning = warning;
+        self
+    }
+
+    /// An info's level and its primary marks and labels are in this style.
+    pub fn info(mut self, info: Style) -> Renderer
+        ensures changed { result ≡ record self { stylesheet = record self.stylesheet { info = info } } }
+    {
+        self.stylesheet.info = info;
+        self
+    }
+
+    /// A note's level and its primary marks and labels are in this style.
+    pub fn note(mut self, note: Style) -> Renderer
+        ensures changed { result ≡ record self { stylesheet = record self.stylesheet { note = note } } }
+    {
+        self.stylesheet.note = note;
+        self
+    }
+
+    /// A help's level and its primary marks and labels are in this style.
+    pub fn help(mut self, help: Style) -> Renderer
+        ensures changed { result ≡ record self { stylesheet = record self.stylesheet { help = help } } }
+    {
+        self.stylesheet.help = help;
+        self
+    }
+
+    /// Line numbers and the strokes of the gutter are in this style.
+    pub fn line_num(mut self, line_num: Style) -> Renderer
+        ensures changed { result ≡ record self { stylesheet = record self.stylesheet { line_num = line_num } } }
+    {
+        self.stylesheet.line_num = line_num;
+        self
+    }
+
+    /// The text of a title that stands out is in this style.
+    pub fn emphasis(mut self, emphasis: Style) -> Renderer
+        ensures changed { result ≡ record self { stylesheet = record self.stylesheet { emphasis = emphasis } } }
+    {
+        self.stylesheet.emphasis = emphasis;
+        self
+    }
+
+    /// Marks and labels of context are in this style.
+    pub fn context(mut self, context: Style) -> Renderer
+        ensures changed { result ≡ record self { stylesheet = record self.stylesheet { context = context } } }
+    {
+        self.stylesheet.context = context;
+        self
+    }
+
+    /// Text that a suggestion adds is in this style.
+    pub fn addition(mut self, addition: Style) -> Renderer
+        ensures changed { result ≡ record self { stylesheet = record self.stylesheet { addition = addition } } }
+    {
+        self.stylesheet.addition = addition;
+        self
+    }
+
+    /// Text that a suggestion removes is in this style.
+    pub fn removal(mut self, removal: Style) -> Renderer
+        ensures changed { result ≡ record self { stylesheet = record self.stylesheet { removal = removal } } }
+    {
+        self.stylesheet.removal = removal;
+        self
+    }
+
+    /// Everything that has no style of its own is in this style.
+    pub fn none(mut self, none: Style) -> Renderer
+        ensures changed { result ≡ record self { stylesheet = record self.stylesheet { none = none } } }
+    {
+        self.stylesheet.none = none;
+        self
+    }
+
+    /// The text of a report, under the renderer's own sheet.
     ///
     /// # Errors
     ///
@@ -90,19 +212,76 @@ impl Renderer {
             → result ≡ Err RenderError.NotYet }
 
         // The text prints a page that shows the report: its titles, each line on which a span begins or ends, once and in
-        // order, and the marks below them.
+        // order, and the marks below them. Each listed character of the page is one of a trusted text.
         ensures shows { is_graphic self.now ≡ true → AreNamesOneRow groups.now
-            → IfOk result (λ text. ShowsReport self.now groups.now (string_bytes text)) }
+            → IfOk result (λ text. ShowsReport self.now groups.now self.now.stylesheet (string_bytes text)) }
 
-        // Each listed character of the text is one of a trusted text.
-        ensures free { IfOk result (λ text. IsFreeBut (trusted_texts groups.now) (string_bytes text)) }
+        // Without the codes of the sheet and of links, each listed character of the text is one of a trusted text.
+        ensures free { IfOk result (λ text.
+            IsFreeUnder (trusted_texts groups.now) self.now.stylesheet (string_bytes text)) }
+    {
+        let (level, grid) = self.page(alloc, groups)?;
+        grid.render(level, &self.stylesheet)
+            .map_err(RenderError::Memory)
+    }
+
+    /// The texts of a report, one under each of these sheets, in order; the renderer's own sheet isn't looked at. The
+    /// report is drawn once, so the texts differ in their codes alone.
+    ///
+    /// # Errors
+    ///
+    /// As of [`render`](Renderer::render), with no sheets too.
+    pub fn render_sheets(
+        &self,
+        alloc: Global,
+        groups: Report<'_>,
+        sheets: &[Stylesheet],
+    ) -> Result<Vec<String>, RenderError>
+        requires fits { ReportFits groups.now }
+
+        // A faulty report is refused for its first fault.
+        ensures refused { IfSome (first_fault groups.now) (λ fault. result ≡ Err fault) }
+
+        // One within bounds gives its texts where memory is found, if it is one that is drawn so far.
+        ensures covered { IsWithinBounds groups.now → is_covered self.now groups.now ≡ true
+            → IsOkUnless result (RenderError.Memory alloc_error) }
+        ensures not_yet { IsWithinBounds groups.now → is_covered self.now groups.now ≡ false
+            → result ≡ Err RenderError.NotYet }
+
+        // All texts print one page, each under its sheet: a page that shows the report, and each listed character of which
+        // is one of a trusted text.
+        ensures shows { is_graphic self.now ≡ true → AreNamesOneRow groups.now
+            → IfOk result (λ texts. SheetsShown self.now groups.now sheets.now (map string_bytes texts.items)) }
+
+        // Without the codes of its sheet and of links, each listed character of a text is one of a trusted text.
+        ensures free { IfOk result (λ texts.
+            AllZip (λ sheet text. IsFreeUnder (trusted_texts groups.now) sheet text) sheets.now (map string_bytes texts.items)) }
+    {
+        let (level, grid) = self.page(alloc, groups)?;
+        graphic::printed(alloc, &grid, level, sheets).map_err(RenderError::Memory)
+    }
+
+    /// The grid of a report that has no fault and is drawn so far, and the level that it is printed in.
+    fn page<'a>(
+        &self,
+        alloc: Global,
+        groups: Report<'a>,
+    ) -> Result<(LevelInner, StyledBuffer<'a>), RenderError>
+        requires fits { ReportFits groups.now }
+        ensures refused { IfSome (first_fault groups.now) (λ fault. result ≡ Err fault) }
+        ensures covered { IsWithinBounds groups.now → is_covered self.now groups.now ≡ true
+            → IsOkUnless result (RenderError.Memory alloc_error) }
+        ensures not_yet { IsWithinBounds groups.now → is_covered self.now groups.now ≡ false
+            → result ≡ Err RenderError.NotYet }
+        ensures drawn { IfOk result (λ page. IsGridOfReport self.now groups.now page.0 page.1) }
     {
         if let Some(fault) = first_fault(groups) {
             return Err(fault);
         }
-        let Some((title, snippet)) = covered(self, groups) else {
+        let Some((level, title, snippet)) = covered(self, groups) else {
             return Err(RenderError::NotYet);
         };
-        graphic::text(alloc, title, snippet).map_err(RenderError::Memory)
+        let grid = graphic::page(alloc, title, snippet).map_err(RenderError::Memory)?;
+        Ok((level, grid))
     }
 }

@@ -14,6 +14,7 @@ ghost use Rattle.snippet_model.specs.Fits.{ReportFits};
 ghost use Rattle.annotate_snippets.specs.Fault.{first_fault};
 ghost use Rattle.annotate_snippets.specs.Covered.{IsReportOf};
 ghost use Rattle.annotate_snippets.specs.Covered as spec;
+ghost use Rattle.annotate_snippets.specs.Shown.{levels_of};
 ghost use Rattle.snippet_model.specs.declared.snippet.Element.TheVariants.{Cause};
 ghost use Rattle.snippet_model.specs.declared.snippet.Snippet.{Snippet};
 ghost use Rattle.snippet_model.specs.declared.snippet.Annotation.{Annotation};
@@ -25,24 +26,25 @@ use snippet_parts as parts;
 use snippet_parts::line_bounds::{line_bounds, line_text};
 use snippet_parts::{column_of, counted_number, is_marking};
 use snippet_strokes::gutter_width;
-use snippet_style::DecorStyle;
+use snippet_style::{DecorStyle, LevelInner};
 use snippet_text::str_width;
 
 /// The column up to which a line may begin, or a span start, for nothing to be cut from the left.
 const NEAR: usize = 26;
 
-/// The title and the snippet of a report, if this renderer draws it so far.
-pub fn covered<'r, 'a>(
-    renderer: &Renderer,
-    groups: &'r [Group<'a>],
-) -> Option<(&'r Title<'a>, &'r Snippet<'a, Annotation<'a>>)>
+/// The one group of a report as it is drawn: its level, its title and its snippet.
+pub type CoveredGroup<'r, 'a> = (LevelInner, &'r Title<'a>, &'r Snippet<'a, Annotation<'a>>);
+
+/// The level, the title and the snippet of a report, if this renderer draws it so far.
+pub fn covered<'r, 'a>(renderer: &Renderer, groups: &'r [Group<'a>]) -> Option<CoveredGroup<'r, 'a>>
     requires fits { ReportFits groups.now }
     requires faultless { first_fault groups.now ≡ None }
     ensures covered { is_some result ≡ spec.is_covered renderer.now groups.now }
-    ensures parts { IfSome result (λ parts. IsReportOf parts.0.now parts.1.now groups.now) }
-    ensures plain { IfSome result (λ parts. spec.is_plain renderer.now ≡ true) }
-    ensures title { IfSome result (λ parts. spec.is_covered_title parts.0.now ≡ true) }
-    ensures snippet { IfSome result (λ parts. spec.is_covered_snippet renderer.now.term_width parts.1.now ≡ true) }
+    ensures level { IfSome result (λ parts. levels_of groups.now ≡ parts.0 ∷ []) }
+    ensures parts { IfSome result (λ parts. IsReportOf parts.1.now parts.2.now groups.now) }
+    ensures renderer { IfSome result (λ parts. spec.is_covered_renderer renderer.now ≡ true) }
+    ensures title { IfSome result (λ parts. spec.is_covered_title parts.1.now ≡ true) }
+    ensures snippet { IfSome result (λ parts. spec.is_covered_snippet renderer.now.term_width parts.2.now ≡ true) }
 {
     let [group] = groups else {
         return None;
@@ -51,11 +53,11 @@ pub fn covered<'r, 'a>(
         return None;
     };
     let snippet = sole_snippet(&group.elements)?;
-    if is_plain(renderer)
+    if is_covered_renderer(renderer)
         && is_covered_title(title)
         && is_covered_snippet(renderer.term_width, snippet)
     {
-        Some((title, snippet))
+        Some((group.level, title, snippet))
     } else {
         None
     }
@@ -75,15 +77,13 @@ fn sole_snippet<'r, 'a>(elements: &'r [Element<'a>]) -> Option<&'r Snippet<'a, A
     }
 }
 
-/// Whether a renderer is a plain one, of any width.
-fn is_plain(renderer: &Renderer) -> bool
-    ensures value { result ≡ spec.is_plain renderer.now }
+/// Whether a renderer draws so far: with ASCII strokes and no switch, of any width and stylesheet, with links or without.
+fn is_covered_renderer(renderer: &Renderer) -> bool
+    ensures value { result ≡ spec.is_covered_renderer renderer.now }
 {
     is_ascii(renderer.decor_style)
-        && renderer.stylesheet.is_plain()
         && !(renderer.anonymized_origin_line_numbers
             || renderer.anonymized_snippet_line_numbers
-            || renderer.hyperlink
             || renderer.short_message
             || renderer.no_graphics)
 }

@@ -6,29 +6,31 @@
 //! 1 | let x = 1;
 //!   |     ^
 //! ```
-ghost use Rattle.std.specs.Prelude.{◌≡◌, ◌+◌, ◌<◌, ◌≤◌, ◌^◌, All, length, OnOk, IfOk, string_bytes};
+ghost use Rattle.std.specs.Prelude.{◌≡◌, ◌+◌, ◌<◌, ◌≤◌, ◌^◌, All, length, OnOk, IfOk, map, string_bytes};
+ghost use Rattle.std.specs.List.{AllZip};
 ghost use Rattle.std.specs.Cow.{cow_str_bytes};
 ghost use Rattle.snippet_model.specs.Fits.{AnnotationFits};
 ghost use Rattle.snippet_model.specs.Level.{name_of};
 ghost use Rattle.snippet_parts.specs.Lines.{source_lines};
 ghost use Rattle.snippet_parts.specs.Span.{IsSpan};
-ghost use Rattle.annotate_snippets.specs.Drawn.{AddsCause, IsTextOf};
+ghost use Rattle.annotate_snippets.specs.Drawn.{AddsCause, IsGridOf};
+ghost use Rattle.snippet_style.specs.Woven.{Prints};
 
 use crate::renderer::coverage::gutter_of;
 use snippet_model::snippet::{Annotation, Snippet, Title};
 use snippet_parts::SourceMap;
 use snippet_parts::marked_lines::marked_lines;
 use snippet_strokes::{Layout, draw_snippet};
-use snippet_style::{DecorStyle, StyledBuffer};
+use snippet_style::{DecorStyle, LevelInner, StyledBuffer, Stylesheet};
 use snippet_titles::draw_title;
 use std::alloc::{AllocError, Global};
 
-/// The text of a title and an annotated snippet below it.
-pub fn text(
+/// The grid of a title and an annotated snippet below it.
+pub fn page<'a>(
     alloc: Global,
-    title: &Title,
-    snippet: &Snippet<Annotation>,
-) -> Result<String, AllocError>
+    title: &Title<'a>,
+    snippet: &Snippet<'a, Annotation<'a>>,
+) -> Result<StyledBuffer<'a>, AllocError>
     requires named { 0 < length (name_of title.now.level) }
     requires name { length (name_of title.now.level) < 2 ^ 56 }
     requires source { length (cow_str_bytes snippet.now.source) < 2 ^ 56 }
@@ -36,13 +38,29 @@ pub fn text(
     requires some { 0 < length snippet.now.markers.items }
     requires spans { All (λ a. IsSpan (cow_str_bytes snippet.now.source) a.span.start a.span.end) snippet.now.markers.items }
     requires labels { All AnnotationFits snippet.now.markers.items }
-    ensures drawn { IfOk result (λ text. IsTextOf title.now snippet.now (string_bytes text)) }
+    ensures drawn { IfOk result (λ grid. IsGridOf title.now snippet.now grid) }
 {
     let mut buffer = StyledBuffer::new(alloc);
     draw_title(alloc, &mut buffer, title)?;
     draw_cause(alloc, &mut buffer, snippet)?;
-    let text = buffer.plain_text()?;
-    Ok(text)
+    Ok(buffer)
+}
+
+/// The texts that print a grid, in a group of this level: one under each of these sheets, in order.
+pub fn printed(
+    alloc: Global,
+    grid: &StyledBuffer,
+    level: LevelInner,
+    sheets: &[Stylesheet],
+) -> Result<Vec<String>, AllocError>
+    ensures printed { IfOk result (λ texts.
+        AllZip (λ sheet text. Prints sheet level grid.now text) sheets.now (map string_bytes texts.items)) }
+{
+    let mut texts = Vec::new(alloc);
+    for sheet in sheets {
+        texts.push(grid.render(level, sheet)?)?;
+    }
+    Ok(texts)
 }
 
 /// Draws an annotated snippet below all that stands in the grid.

@@ -1,3 +1,3 @@
-//! Styles, and the sheet that gives each role its style.
+//! Styles and their codes, and the sheet that gives each role its style.
 
-pub use snippet_style::{AnsiColor, Color, Effects, Style, Stylesheet};
+pub use snippet_style::{AnsiColor, Color, Effects, Style, Stylesheet, open_code, reset_code};
