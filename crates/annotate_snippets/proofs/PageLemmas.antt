@@ -118,13 +118,13 @@ module _ (r : Renderer) (plain : r.anonymized_snippet_line_numbers ≡ false) (s
   own_lines = length (source_lines (cow_str_bytes s.source))
 
   abbrev row_shows : AnnotatedLineInfo → List (List Cell) → Type 0
-  row_shows info rows = strokes.ShowsLine (layout_of s) s.line_numbering info rows
+  row_shows info rows = strokes.ShowsLine (layout_of r.decor_style s) s.line_numbering info rows
 
   number_plain : (number : ℕ) → number_text r s.line_numbering (gutter_of s) number ≡ shown_number s.line_numbering (gutter_of s) number
   number_plain number = rw plain refl
 
   -- a source row shows its line
-  source_line : (k : ℕ) (info : AnnotatedLineInfo) (row : List Cell) → k < own_lines → seen_line info ≡ marked_line (numbered_source s) s.markers.items k → IsSourceRow (layout_of s) (shown_number s.line_numbering (gutter_of s) info.line_index) (norm (chars info.line.now)) row → ShowsSourceLine r (frame_of s) s k 0 row
+  source_line : (k : ℕ) (info : AnnotatedLineInfo) (row : List Cell) → k < own_lines → seen_line info ≡ marked_line (numbered_source s) s.markers.items k → IsSourceRow (layout_of r.decor_style s) (shown_number s.line_numbering (gutter_of s) info.line_index) (norm (chars info.line.now)) row → ShowsSourceLine r (frame_of s) s k 0 row
   source_line k info row within seen is =
       let shows = is.shows in
       let same_number : shown_number s.line_numbering (gutter_of s) info.line_index ≡ number_text r s.line_numbering (gutter_of s) (s.line_start + k) = ap (λ n. shown_number s.line_numbering (gutter_of s) n) (ap (λ (l : MarkedLine). l.number) seen) ∙ sym (number_plain (s.line_start + k)) in
@@ -133,7 +133,7 @@ module _ (r : Renderer) (plain : r.anonymized_snippet_line_numbers ≡ false) (s
       record {
         within = within;
         number = subst (λ shown. row_text (take (length shown) row) ≡ shown) same_number (ap row_text shows.number ∙ row_text-drawn LineNumber (shown_number s.line_numbering (gutter_of s) info.line_index));
-        beside = λ c right left. beside_number (layout_of s) _ _ row c is (omega (arith, ap length same_number, right)) left;
+        beside = λ c right left. beside_number (layout_of r.decor_style s) _ _ row c is (omega (arith, ap length same_number, right)) left;
         window = IsWindowOf-whole (placeholder_of r.decor_style) (room_of r (frame_of s)) (wide_spans (room_of r (frame_of s)) (length (placeholder_of r.decor_style)) s k) (norm (chars_at (cow_str_bytes s.source) k)) (row_text (drop (gutter_of s + 3) row)) code;
         whole = λ _. (refl, code);
       }
@@ -181,7 +181,7 @@ module _ (r : Renderer) (plain : r.anonymized_snippet_line_numbers ≡ false) (s
     pub names : lines_named part ≡ range_with_len from count
     pub are : AreRowsOf r (frame_of s) s part
 
-  pub named_lines : (count from : ℕ) (infos : List AnnotatedLineInfo) (rows : List (List Cell)) → from + count ≤ own_lines → map seen_line infos ≡ map (marked_line (numbered_source s) s.markers.items) (range_with_len from count) → strokes.AreLinesShown (layout_of s) s.line_numbering infos rows → AreNamed from count rows
+  pub named_lines : (count from : ℕ) (infos : List AnnotatedLineInfo) (rows : List (List Cell)) → from + count ≤ own_lines → map seen_line infos ≡ map (marked_line (numbered_source s) s.markers.items) (range_with_len from count) → strokes.AreLinesShown (layout_of r.decor_style s) s.line_numbering infos rows → AreNamed from count rows
   named_lines zero from [] rows within lines shown = record { part = []; cells = sym shown; names = refl; are = tt }
   named_lines zero from (info ∷ infos) rows within lines shown = cc
   named_lines (suc count) from [] rows within lines shown = cc
@@ -199,16 +199,16 @@ module _ (r : Renderer) (plain : r.anonymized_snippet_line_numbers ≡ false) (s
       }
 
   -- the rows of a snippet show it: a separator row, and the rows of its lines
-  pub snippet_shown : (infos : List AnnotatedLineInfo) (rows : List (List Cell)) → 0 < length s.markers.items → map seen_line infos ≡ marked_lines (numbered_source s) s.markers.items → strokes.AreLinesShown (layout_of s) s.line_numbering infos rows → (part : List NamedRow) × (cells_of part ≡ separator_row Ascii (gutter_of s) ∷ rows) × ShowsSnippet r (frame_of s) s part
+  pub snippet_shown : (infos : List AnnotatedLineInfo) (rows : List (List Cell)) → 0 < length s.markers.items → map seen_line infos ≡ marked_lines (numbered_source s) s.markers.items → strokes.AreLinesShown (layout_of r.decor_style s) s.line_numbering infos rows → (part : List NamedRow) × (cells_of part ≡ separator_row r.decor_style (gutter_of s) ∷ rows) × ShowsSnippet r (frame_of s) s part
   snippet_shown infos rows some lines shown =
       let text : List ℕ = cow_str_bytes s.source in
       let first : ℕ = least_line text s.markers.items in
       let last : ℕ = greatest_line text s.markers.items in
       let named : AreNamed first (last + 1 - first) rows = named_lines (last + 1 - first) first infos rows (omega (arith, greatest_line-within text s.markers.items, least_line-le-greatest_line text s.markers.items some)) lines shown in
-      let separator : NamedRow = record { name = Other; cells = separator_row Ascii (gutter_of s) } in
+      let separator : NamedRow = record { name = Other; cells = separator_row r.decor_style (gutter_of s) } in
       let among : (k : ℕ) → first ≤ k → k ≤ last → Contains (lines_named named.part) k = λ k from to. subst (λ ks. Contains ks k) (sym named.names) (in_range (last + 1 - first) first k from (omega arith)) in (
         separator ∷ named.part,
-        ap (λ rs. separator_row Ascii (gutter_of s) ∷ rs) named.cells,
+        ap (λ rs. separator_row r.decor_style (gutter_of s) ∷ rs) named.cells,
         record {
           ends = λ i d within.
               let a : Annotation = get_or s.markers.items i d in
@@ -217,6 +217,6 @@ module _ (r : Renderer) (plain : r.anonymized_snippet_line_numbers ≡ false) (s
               let same : last_line text a ≡ first_line text a = eqb-true (last_line text a) (first_line text a) (short i d within).1 in
               (among (first_line text a) from to, among (last_line text a) (omega (arith, same, from)) (omega (arith, same, to)));
           ordered = subst IsAscending (sym named.names) (ascending first (last + 1 - first));
-          named = (HasNoNumber-separator_row Ascii (gutter_of s), named.are);
+          named = (HasNoNumber-separator_row r.decor_style (gutter_of s), named.are);
         },
       )

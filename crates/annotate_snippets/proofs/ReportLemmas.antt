@@ -68,7 +68,7 @@ module _ (r : Renderer) (groups : List Group) (title : Title) (s : Snippet Annot
   titles = title_rows title.level (cow_str_bytes title.text)
 
   -- the rows are those of a group that shows the report
-  pub report_shown : (rows : List (List Cell)) → AddsCause s titles rows → (page : GroupPage) × (rows ≡ group_rows page) × AllZip (ShowsGroup r (gutter_of_report r groups)) groups (page ∷ [])
+  pub report_shown : (rows : List (List Cell)) → AddsCause r.decor_style s titles rows → (page : GroupPage) × (rows ≡ group_rows page) × AllZip (ShowsGroup r (gutter_of_report r groups)) groups (page ∷ [])
   report_shown rows drawn =
       let is : IsShortSnippet s = short_snippet r.term_width s covered in
       let shown = snippet_shown r plain s is.short drawn.infos drawn.rows.rows is.some drawn.lines drawn.rows.shown in
@@ -89,9 +89,9 @@ module _ (r : Renderer) (groups : List Group) (title : Title) (s : Snippet Annot
       )
 
   -- no row holds a listed character
-  rows_free : (rows : List (List Cell)) → AddsCause s titles rows → All IsFree rows
+  rows_free : (rows : List (List Cell)) → AddsCause r.decor_style s titles rows → All IsFree rows
   rows_free rows drawn =
-      free_from_AddsSnippet (layout_of s) s.line_numbering drawn.infos titles rows drawn.rows (free_title title titled)
+      free_from_AddsSnippet (layout_of r.decor_style s) s.line_numbering drawn.infos titles rows drawn.rows (free_title title titled)
 
 -- the text of free rows is free
 row_free : (row : List Cell) → IsFree row → All (λ c. is_listed c ≡ false) (row_text row)
@@ -128,7 +128,7 @@ numbers_shown r covered =
     none_of false false c d off = refl
 
 -- the grid of a covered report is a page of it
-pub grid_of_report : (r : Renderer) (groups : List Group) (level : LevelInner) (title : Title) (s : Snippet Annotation) → levels_of groups ≡ level ∷ [] → IsReportOf title s groups → is_covered_renderer r ≡ true → is_covered_title title ≡ true → is_covered_snippet r.term_width s ≡ true → (rows : List (List Cell)) → IsGridOf title s rows → IsGridOfReport r groups level rows
+pub grid_of_report : (r : Renderer) (groups : List Group) (level : LevelInner) (title : Title) (s : Snippet Annotation) → levels_of groups ≡ level ∷ [] → IsReportOf title s groups → is_covered_renderer r ≡ true → is_covered_title title ≡ true → is_covered_snippet r.term_width s ≡ true → (rows : List (List Cell)) → IsGridOf r.decor_style title s rows → IsGridOfReport r groups level rows
 grid_of_report r groups level title s leveled of drawing titled covered rows drawn =
     let plain = numbers_shown r drawing in
     let shown = report_shown r groups title s of plain titled covered rows drawn in

@@ -9,7 +9,7 @@ use Rattle.snippet_model.specs.declared.snippet.Title.{Title}
 use Rattle.snippet_model.specs.declared.snippet.Group.{Group}
 use Rattle.snippet_model.specs.Trusted.{trusted_texts}
 use Rattle.snippet_style.specs.declared.role.LevelInner.{LevelInner}
-use Rattle.snippet_style.specs.declared.glyphs.DecorStyle.TheVariants.{Ascii}
+use Rattle.snippet_style.specs.declared.glyphs.DecorStyle.{DecorStyle}
 use Rattle.snippet_model.specs.declared.snippet.Snippet.{Snippet}
 use Rattle.snippet_model.specs.declared.snippet.Annotation.{Annotation}
 use Rattle.snippet_parts.specs.declared.entries.AnnotatedLineInfo.{AnnotatedLineInfo}
@@ -22,23 +22,23 @@ use Rattle.annotate_snippets.specs.Covered.{gutter_of}
 use Rattle.annotate_snippets.specs.Page.{GroupPage, group_rows}
 use Rattle.annotate_snippets.specs.Shown.{gutter_of_report, levels_of, ShowsGroup, IsFreeBut}
 
--- where the parts of a snippet's rows stand
-abbrev pub layout_of : Snippet Annotation → Layout
-layout_of s = record { gutter = gutter_of s; code = gutter_of s + 3; decor = Ascii }
+-- where the parts of a snippet's rows stand, and the strokes that they are drawn with
+abbrev pub layout_of : DecorStyle → Snippet Annotation → Layout
+layout_of decor s = record { gutter = gutter_of s; code = gutter_of s + 3; decor = decor }
 
 -- a snippet's source, with the number of its first line
 abbrev pub numbered_source : Snippet Annotation → Source
 numbered_source s = record { text = cow_str_bytes s.source; first = s.line_start }
 
 -- the rows of a snippet's marked lines are added below the rows that are there
-pub record AddsCause (s : Snippet Annotation) (old new : List (List Cell)) : Type 0 where
+pub record AddsCause (decor : DecorStyle) (s : Snippet Annotation) (old new : List (List Cell)) : Type 0 where
   pub infos : List AnnotatedLineInfo
   pub lines : map seen_line infos ≡ marked_lines (numbered_source s) s.markers.items
-  pub rows : AddsSnippet (layout_of s) s.line_numbering infos old new
+  pub rows : AddsSnippet (layout_of decor s) s.line_numbering infos old new
 
 -- the grid holds the rows of this title, and below them the rows of this snippet
-abbrev pub IsGridOf : Title → Snippet Annotation → List (List Cell) → Type 0
-IsGridOf title s rows = AddsCause s (title_rows title.level (cow_str_bytes title.text)) rows
+abbrev pub IsGridOf : DecorStyle → Title → Snippet Annotation → List (List Cell) → Type 0
+IsGridOf decor title s rows = AddsCause decor s (title_rows title.level (cow_str_bytes title.text)) rows
 
 -- the grid of a report of one group, which is printed in this level: its rows are a page that shows the group, and each
 -- listed character of them is one of a trusted text

@@ -25,9 +25,10 @@ use snippet_style::{DecorStyle, LevelInner, StyledBuffer, Stylesheet};
 use snippet_titles::draw_title;
 use std::alloc::{AllocError, Global};
 
-/// The grid of a title and an annotated snippet below it.
+/// The grid of a title and an annotated snippet below it, drawn with these strokes.
 pub fn page<'a>(
     alloc: Global,
+    decor: DecorStyle,
     title: &Title<'a>,
     snippet: &Snippet<'a, Annotation<'a>>,
 ) -> Result<StyledBuffer<'a>, AllocError>
@@ -38,11 +39,11 @@ pub fn page<'a>(
     requires some { 0 < length snippet.now.markers.items }
     requires spans { All (λ a. IsSpan (cow_str_bytes snippet.now.source) a.span.start a.span.end) snippet.now.markers.items }
     requires labels { All AnnotationFits snippet.now.markers.items }
-    ensures drawn { IfOk result (λ grid. IsGridOf title.now snippet.now grid) }
+    ensures drawn { IfOk result (λ grid. IsGridOf decor title.now snippet.now grid) }
 {
     let mut buffer = StyledBuffer::new(alloc);
     draw_title(alloc, &mut buffer, title)?;
-    draw_cause(alloc, &mut buffer, snippet)?;
+    draw_cause(alloc, &mut buffer, decor, snippet)?;
     Ok(buffer)
 }
 
@@ -67,6 +68,7 @@ pub fn printed(
 fn draw_cause(
     alloc: Global,
     buffer: &mut StyledBuffer,
+    decor: DecorStyle,
     snippet: &Snippet<Annotation>,
 ) -> Result<(), AllocError>
     requires source { length (cow_str_bytes snippet.now.source) < 2 ^ 56 }
@@ -74,7 +76,7 @@ fn draw_cause(
     requires some { 0 < length snippet.now.markers.items }
     requires spans { All (λ a. IsSpan (cow_str_bytes snippet.now.source) a.span.start a.span.end) snippet.now.markers.items }
     requires labels { All AnnotationFits snippet.now.markers.items }
-    ensures added { OnOk result (AddsCause snippet.now buffer.old buffer.new) }
+    ensures added { OnOk result (AddsCause decor snippet.now buffer.old buffer.new) }
 {
     let source = SourceMap::new(alloc, snippet.source.as_str(), snippet.line_start)?;
     let lines = marked_lines(alloc, &source, &snippet.markers)?;
@@ -82,7 +84,7 @@ fn draw_cause(
     let layout = Layout {
         gutter,
         code: gutter + 3,
-        decor: DecorStyle::Ascii,
+        decor,
     };
     draw_snippet(alloc, buffer, layout, snippet.line_numbering, &lines)?;
     Ok(())

@@ -28,5 +28,6 @@ returns-clause-drawn c =
     let title : Title = c.in-Some-covered.title.now in
     let s : Snippet Annotation = c.in-Some-covered.snippet.now in
     let known = c.in-Some-covered.ensures in
-    let drawn : IsGridOf title s c.in_ok-grid.grid = ok_had (IsGridOf title s) c.map_err.result c.in_ok-grid.grid c.in_ok-grid.was (IfOk-map_err (IsGridOf title s) _ c.page.result c.map_err.result c.page.ensures.drawn c.map_err.ensures.cases) in
+    let decor = c.args.self.now.decor_style in
+    let drawn : IsGridOf decor title s c.in_ok-grid.grid = ok_had (IsGridOf decor title s) c.map_err.result c.in_ok-grid.grid c.in_ok-grid.was (IfOk-map_err (IsGridOf decor title s) _ c.page.result c.map_err.result c.page.ensures.drawn c.map_err.ensures.cases) in
     grid_of_report c.args.self.now c.args.groups.now c.in-Some-covered.level title s known.level known.parts known.renderer known.title known.snippet c.in_ok-grid.grid drawn
