@@ -1,5 +1,5 @@
 -- What an annotated snippet adds to the grid.
-use Rattle.std.specs.Prelude.{◌≡◌, ℕ, ◌+◌, List, map, chars}
+use Rattle.std.specs.Prelude.{◌≡◌, ℕ, ◌+◌, true, List, map, chars}
 use Rattle.std.specs.Cow.{cow_str_bytes}
 use Rattle.snippet_style.specs.Grid.{Cell}
 use Rattle.snippet_style.specs.Print.{plain_text}
@@ -23,11 +23,12 @@ layout_of s = record { gutter = gutter_of s; code = gutter_of s + 3; decor = Asc
 abbrev pub numbered_source : Snippet Annotation → Source
 numbered_source s = record { text = cow_str_bytes s.source; first = s.line_start }
 
--- the rows of a snippet's marked lines are added below the rows that are there
+-- the rows of a snippet's marked lines are added below the rows that are there; it is its group's one element, and so the
+-- first and the one with which the window closes
 pub record AddsCause (s : Snippet Annotation) (old new : List (List Cell)) : Type 0 where
   pub infos : List AnnotatedLineInfo
   pub lines : map seen_line infos ≡ marked_lines (numbered_source s) s.markers.items
-  pub rows : AddsSnippet (layout_of s) s.line_numbering infos old new
+  pub rows : AddsSnippet (layout_of s) s.line_numbering true true infos old new
 
 -- the text prints a grid that holds the rows of this title, and below them the rows of this snippet
 pub record IsTextOf (title : Title) (s : Snippet Annotation) (text : List ℕ) : Type 0 where

@@ -66,6 +66,6 @@ fn draw_cause(
         code: gutter + 3,
         decor: DecorStyle::Ascii,
     };
-    draw_snippet(alloc, buffer, layout, snippet.line_numbering, &lines)?;
+    draw_snippet(alloc, buffer, layout, snippet.line_numbering, true, true, &lines)?;
     Ok(())
 }
