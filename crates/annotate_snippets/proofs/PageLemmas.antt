@@ -1,5 +1,5 @@
 -- The rows of a covered report are a page that shows it.
-use Rattle.std.proofs.Common.{◌≡◌, ℕ, zero, suc, ◌+◌, ◌-◌, ◌<◌, ◌≤◌, ◌==◌, false, List, [], ◌∷◌, ◌++◌, map, length, take, drop, chars, get_or, refl, sym, ap, subst, ◌∙◌, arith, inl, inr}
+use Rattle.std.proofs.Common.{◌≡◌, ℕ, zero, suc, ◌+◌, ◌-◌, ◌<◌, ◌≤◌, ◌==◌, ◌&&◌, Bool, true, false, List, [], ◌∷◌, ◌++◌, map, length, take, drop, chars, get_or, refl, sym, ap, subst, ◌∙◌, arith, inl, inr}
 use Rattle.std.specs.List.{All, Contains, filter, range_with_len}
 use Rattle.std.specs.Cow.{cow_str_bytes}
 use Rattle.std.proofs.lemmas.Bool.{and_parts, cases_lt, cases_eq, eqb-true}
@@ -17,10 +17,11 @@ use Rattle.snippet_parts.specs.Lines.{source_lines, text_at}
 use Rattle.snippet_parts.specs.Marked.{first_line, last_line, seen_entry, entry_of, seen_line, MarkedLine, marked_line, marked_lines, least_line, greatest_line}
 use Rattle.snippet_parts.specs.Window.{IsWindowOf, chars_at}
 use Rattle.snippet_strokes.specs.Entries.{IsMarkCell, label_role, label_text}
-use Rattle.snippet_strokes.specs.Rows.{shown_number, separator_row, HasNoNumber, IsSourceRow, ShowsMarks}
+use Rattle.snippet_strokes.specs.Rows.{shown_number, first_row, HasNoNumber, IsSourceRow, ShowsMarks}
 use Rattle.snippet_strokes.specs.declared.layout.Layout.{Layout}
 use Rattle.snippet_strokes.specs.Snippet as strokes
-use Rattle.snippet_strokes.proofs.SnippetLemmas.{highlighted_text, HasNoNumber-separator_row}
+use Rattle.snippet_strokes.proofs.SnippetLemmas.{highlighted_text}
+use Rattle.snippet_strokes.proofs.RowLemmas.{HasNoNumber-first_row}
 use Rattle.snippet_parts.proofs.MarkedLemmas.{least_line-le, greatest_line-ge, greatest_line-within, least_line-le-greatest_line}
 use Rattle.snippet_style.specs.declared.glyphs.DecorStyle.TheVariants.{Ascii, Unicode}
 use Rattle.snippet_style.specs.declared.glyphs.DecorStyle.{DecorStyle}
@@ -117,8 +118,8 @@ module _ (r : Renderer) (plain : r.anonymized_snippet_line_numbers ≡ false) (s
   abbrev own_lines : ℕ
   own_lines = length (source_lines (cow_str_bytes s.source))
 
-  abbrev row_shows : AnnotatedLineInfo → List (List Cell) → Type 0
-  row_shows info rows = strokes.ShowsLine (layout_of r.decor_style s) s.line_numbering info rows
+  abbrev row_shows : Bool → AnnotatedLineInfo → List (List Cell) → Type 0
+  row_shows closes info rows = strokes.ShowsLine (layout_of r.decor_style s) s.line_numbering closes info rows
 
   number_plain : (number : ℕ) → number_text r s.line_numbering (gutter_of s) number ≡ shown_number s.line_numbering (gutter_of s) number
   number_plain number = rw plain refl
@@ -155,8 +156,8 @@ module _ (r : Renderer) (plain : r.anonymized_snippet_line_numbers ≡ false) (s
       }
 
   -- the rows of a line show it
-  line_and_marks : (k : ℕ) (info : AnnotatedLineInfo) (rows : List (List Cell)) (more : List NamedRow) → k < own_lines → seen_line info ≡ marked_line (numbered_source s) s.markers.items k → (shows : row_shows info rows) → ShowsLineAndMarks r (frame_of s) s k shows.source (cells_below (others shows.below ++ more))
-  line_and_marks k info rows more within seen shows =
+  line_and_marks : (closes : Bool) (k : ℕ) (info : AnnotatedLineInfo) (rows : List (List Cell)) (more : List NamedRow) → k < own_lines → seen_line info ≡ marked_line (numbered_source s) s.markers.items k → (shows : row_shows closes info rows) → ShowsLineAndMarks r (frame_of s) s k shows.source (cells_below (others shows.below ++ more))
+  line_and_marks closes k info rows more within seen shows =
       let es : List LineAnnotation = info.annotations.items in
       let same : map seen_entry es ≡ map (entry_of (numbered_source s)) (filter (λ a. first_line (cow_str_bytes s.source) a == k) s.markers.items) = ap (λ (l : MarkedLine). l.entries) seen in
       record {
@@ -181,7 +182,7 @@ module _ (r : Renderer) (plain : r.anonymized_snippet_line_numbers ≡ false) (s
     pub names : lines_named part ≡ range_with_len from count
     pub are : AreRowsOf r (frame_of s) s part
 
-  pub named_lines : (count from : ℕ) (infos : List AnnotatedLineInfo) (rows : List (List Cell)) → from + count ≤ own_lines → map seen_line infos ≡ map (marked_line (numbered_source s) s.markers.items) (range_with_len from count) → strokes.AreLinesShown (layout_of r.decor_style s) s.line_numbering infos rows → AreNamed from count rows
+  pub named_lines : (count from : ℕ) (infos : List AnnotatedLineInfo) (rows : List (List Cell)) → from + count ≤ own_lines → map seen_line infos ≡ map (marked_line (numbered_source s) s.markers.items) (range_with_len from count) → strokes.AreLinesShown (layout_of r.decor_style s) s.line_numbering true infos rows → AreNamed from count rows
   named_lines zero from [] rows within lines shown = record { part = []; cells = sym shown; names = refl; are = tt }
   named_lines zero from (info ∷ infos) rows within lines shown = cc
   named_lines (suc count) from [] rows within lines shown = cc
@@ -189,26 +190,27 @@ module _ (r : Renderer) (plain : r.anonymized_snippet_line_numbers ≡ false) (s
       let here = head_same (seen_line info) (marked_line (numbered_source s) s.markers.items from) (map seen_line infos) (map (marked_line (numbered_source s) s.markers.items) (range_with_len (from + 1) count)) lines in
       let further = tail_same (seen_line info) (marked_line (numbered_source s) s.markers.items from) (map seen_line infos) (map (marked_line (numbered_source s) s.markers.items) (range_with_len (from + 1) count)) lines in
       let rest : AreNamed (from + 1) count shown.1 = named_lines count (from + 1) infos shown.1 (omega arith) further shown.4 in
-      let shows : row_shows info shown.0 = shown.3 in
+      let closes : Bool = true && length infos == 0 in
+      let shows : row_shows closes info shown.0 = shown.3 in
       let source_row : NamedRow = record { name = SourceRow from; cells = shows.source } in
       record {
         part = source_row ∷ (others shows.below ++ rest.part);
         cells = ap (λ rs. shows.source ∷ rs) (cells_of-append (others shows.below) rest.part ∙ ap (λ rs. rs ++ cells_of rest.part) (cells_of-others shows.below) ∙ ap (λ rs. shows.below ++ rs) rest.cells) ∙ ap (λ rs. rs ++ shown.1) (sym shows.rows_are) ∙ sym shown.2;
         names = ap (λ ks. from ∷ ks) (lines_named-others shows.below rest.part ∙ rest.names);
-        are = (line_and_marks from info shown.0 rest.part (omega arith) here shows, others_are shows.below rest.part shows.unnumbered rest.are);
+        are = (line_and_marks closes from info shown.0 rest.part (omega arith) here shows, others_are shows.below rest.part shows.unnumbered rest.are);
       }
 
   -- the rows of a snippet show it: a separator row, and the rows of its lines
-  pub snippet_shown : (infos : List AnnotatedLineInfo) (rows : List (List Cell)) → 0 < length s.markers.items → map seen_line infos ≡ marked_lines (numbered_source s) s.markers.items → strokes.AreLinesShown (layout_of r.decor_style s) s.line_numbering infos rows → (part : List NamedRow) × (cells_of part ≡ separator_row r.decor_style (gutter_of s) ∷ rows) × ShowsSnippet r (frame_of s) s part
+  pub snippet_shown : (infos : List AnnotatedLineInfo) (rows : List (List Cell)) → 0 < length s.markers.items → map seen_line infos ≡ marked_lines (numbered_source s) s.markers.items → strokes.AreLinesShown (layout_of r.decor_style s) s.line_numbering true infos rows → (part : List NamedRow) × (cells_of part ≡ first_row r.decor_style true (gutter_of s) ∷ rows) × ShowsSnippet r (frame_of s) s part
   snippet_shown infos rows some lines shown =
       let text : List ℕ = cow_str_bytes s.source in
       let first : ℕ = least_line text s.markers.items in
       let last : ℕ = greatest_line text s.markers.items in
       let named : AreNamed first (last + 1 - first) rows = named_lines (last + 1 - first) first infos rows (omega (arith, greatest_line-within text s.markers.items, least_line-le-greatest_line text s.markers.items some)) lines shown in
-      let separator : NamedRow = record { name = Other; cells = separator_row r.decor_style (gutter_of s) } in
+      let separator : NamedRow = record { name = Other; cells = first_row r.decor_style true (gutter_of s) } in
       let among : (k : ℕ) → first ≤ k → k ≤ last → Contains (lines_named named.part) k = λ k from to. subst (λ ks. Contains ks k) (sym named.names) (in_range (last + 1 - first) first k from (omega arith)) in (
         separator ∷ named.part,
-        ap (λ rs. separator_row r.decor_style (gutter_of s) ∷ rs) named.cells,
+        ap (λ rs. first_row r.decor_style true (gutter_of s) ∷ rs) named.cells,
         record {
           ends = λ i d within.
               let a : Annotation = get_or s.markers.items i d in
@@ -217,6 +219,6 @@ module _ (r : Renderer) (plain : r.anonymized_snippet_line_numbers ≡ false) (s
               let same : last_line text a ≡ first_line text a = eqb-true (last_line text a) (first_line text a) (short i d within).1 in
               (among (first_line text a) from to, among (last_line text a) (omega (arith, same, from)) (omega (arith, same, to)));
           ordered = subst IsAscending (sym named.names) (ascending first (last + 1 - first));
-          named = (HasNoNumber-separator_row r.decor_style (gutter_of s), named.are);
+          named = (HasNoNumber-first_row r.decor_style true (gutter_of s), named.are);
         },
       )

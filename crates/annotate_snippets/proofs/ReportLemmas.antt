@@ -91,7 +91,7 @@ module _ (r : Renderer) (groups : List Group) (title : Title) (s : Snippet Annot
   -- no row holds a listed character
   rows_free : (rows : List (List Cell)) → AddsCause r.decor_style s titles rows → All IsFree rows
   rows_free rows drawn =
-      free_from_AddsSnippet (layout_of r.decor_style s) s.line_numbering drawn.infos titles rows drawn.rows (free_title title titled)
+      free_from_AddsSnippet (layout_of r.decor_style s) s.line_numbering true true drawn.infos titles rows drawn.rows (free_title title titled)
 
 -- the text of free rows is free
 row_free : (row : List Cell) → IsFree row → All (λ c. is_listed c ≡ false) (row_text row)

@@ -1,5 +1,5 @@
 -- What the grid holds: a title, an annotated snippet below it, and with both a whole report.
-use Rattle.std.specs.Prelude.{◌≡◌, ◌+◌, List, [], ◌∷◌, map}
+use Rattle.std.specs.Prelude.{◌≡◌, ◌+◌, true, List, [], ◌∷◌, map}
 use Rattle.std.specs.List.{AllZip}
 use Rattle.std.specs.Cow.{cow_str_bytes}
 use Rattle.snippet_style.specs.Grid.{Cell}
@@ -30,11 +30,12 @@ layout_of decor s = record { gutter = gutter_of s; code = gutter_of s + 3; decor
 abbrev pub numbered_source : Snippet Annotation → Source
 numbered_source s = record { text = cow_str_bytes s.source; first = s.line_start }
 
--- the rows of a snippet's marked lines are added below the rows that are there
+-- the rows of a snippet's marked lines are added below the rows that are there; it is its group's one element, and so the
+-- first and the one with which the window closes
 pub record AddsCause (decor : DecorStyle) (s : Snippet Annotation) (old new : List (List Cell)) : Type 0 where
   pub infos : List AnnotatedLineInfo
   pub lines : map seen_line infos ≡ marked_lines (numbered_source s) s.markers.items
-  pub rows : AddsSnippet (layout_of decor s) s.line_numbering infos old new
+  pub rows : AddsSnippet (layout_of decor s) s.line_numbering true true infos old new
 
 -- the grid holds the rows of this title, and below them the rows of this snippet
 abbrev pub IsGridOf : DecorStyle → Title → Snippet Annotation → List (List Cell) → Type 0

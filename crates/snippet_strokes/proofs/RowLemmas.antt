@@ -1,5 +1,6 @@
 -- What the writes of a source row make of it.
-use Rattle.std.proofs.Common.{◌≡◌, ◌≢◌, ℕ, ◌+◌, ◌-◌, ◌<◌, ◌≤◌, false, List, [], ◌∷◌, ◌++◌, length, take, drop, replicate, refl, sym, ap, ◌∙◌, arith, inl, inr, subst, All, chars}
+use Rattle.std.proofs.Common.{◌≡◌, ◌≢◌, ℕ, ◌+◌, ◌-◌, ◌<◌, ◌≤◌, Bool, true, false, List, [], ◌∷◌, ◌++◌, length, take, drop, replicate, refl, sym, ap, ◌∙◌, arith, inl, inr, subst, All, chars}
+use Rattle.std.specs.Char.{is_ascii_alphanumeric}
 use Rattle.std.specs.List.{slice_index_or}
 use Rattle.std.proofs.lemmas.Bool.{cases_lt}
 use Rattle.std.proofs.lemmas.List.{places, same_lists, append-nil, length-replicate, length-append, get_or_at, get_or_append_left, get_or-replicate, get_or_past, take_at, take-take, take-append-le, drop_all}
@@ -8,17 +9,27 @@ use Rattle.std.proofs.lemmas.Str.{chars-nil}
 use Rattle.snippet_style.specs.declared.glyphs.DecorStyle.{DecorStyle}
 use Rattle.snippet_style.specs.declared.glyphs.DecorStyle.TheVariants.{Ascii, Unicode}
 use Rattle.snippet_style.specs.declared.role.ElementStyle.TheVariants.{LineNumber, Quotation}
-use Rattle.snippet_style.specs.Glyphs.{separator_of}
+use Rattle.snippet_style.specs.Glyphs.{separator_of, closing_of, file_start_of}
 use Rattle.snippet_style.specs.Grid.{Cell, SPACE, drawn, unlinked_cell, written, cells_written}
-use Rattle.snippet_style.proofs.GridLemmas.{length-drawn, length-written, drop-written, take-written_past, cells_written_below, cells_written_last, slice_index_or-written_before, slice_index_or-written_behind, All-drawn}
+use Rattle.snippet_style.proofs.GridLemmas.{length-chars_le, length-drawn, length-written, drop-written, take-written_past, cells_written_below, cells_written_last, slice_index_or-written_before, slice_index_or-written_behind, All-drawn}
 use Rattle.snippet_text.specs.Normalized.{is_listed}
 use Rattle.snippet_strokes.specs.declared.layout.Layout.{Layout}
-use Rattle.snippet_strokes.specs.Rows.{separator_row, IsFree, IsSourceRow, AddsSourceRow}
+use Rattle.snippet_strokes.specs.Rows.{separator_row, closing_row, bare_row, first_row, HasNoNumber, IsFree, IsSourceRow, AddsSourceRow}
 
 -- writing into an empty row
 written-nil : (at : ℕ) (cells : List Cell) → written SPACE [] at cells ≡ replicate at SPACE ++ cells
 written-nil at cells =
     same_lists _ _ (unfold written in grind (arith, places)) (λ k d h. unfold written in grind (arith, places))
+
+-- a row that is begun by some cells alone
+pub begun_by : (old new : List (List Cell)) (row at : ℕ) (cells : List Cell) → row ≡ length old → new ≡ cells_written old row at cells → new ≡ old ++ (replicate at SPACE ++ cells) ∷ []
+begun_by old new row at cells below writes =
+    writes ∙ ap (λ r. cells_written old r at cells) below ∙ cells_written_below old at cells ∙ ap (λ r. old ++ r ∷ []) (written-nil at cells)
+
+-- a row that is begun by a text
+pub begun_by_text : (old new : List (List Cell)) (row at : ℕ) (text chs : List ℕ) → row ≡ length old → chars text ≡ chs → 0 < length chs → (0 < length text → new ≡ cells_written old row at (drawn LineNumber (chars text))) → new ≡ old ++ (replicate at SPACE ++ drawn LineNumber chs) ∷ []
+begun_by_text old new row at text chs below is some writes =
+    begun_by old new row at (drawn LineNumber chs) below (writes (omega (arith, length-chars_le text, ap length is, some)) ∙ ap (λ cs. cells_written old row at (drawn LineNumber cs)) is)
 
 -- a row that is begun by the separator alone
 pub begun : (old new : List (List Cell)) (row gutter stroke : ℕ) (decor : DecorStyle) → row ≡ length old → stroke ≡ separator_of decor → new ≡ cells_written old row (gutter + 1) (drawn LineNumber (stroke ∷ [])) → new ≡ old ++ separator_row decor gutter ∷ []
@@ -78,6 +89,107 @@ pub free_separator_row : (decor : DecorStyle) (gutter : ℕ) → IsFree (separat
 free_separator_row decor gutter =
     let P : Cell → Type 0 = λ c. is_listed c.ch ≡ false in
     All-append P (replicate (gutter + 1) SPACE) (drawn LineNumber (separator_of decor ∷ [])) (All-replicate P (gutter + 1) SPACE refl) (All-cons P (unlinked_cell LineNumber (separator_of decor)) [] (free_separator decor) (All-nil P))
+
+-- a row of spaces and some characters behind them, read cell by cell
+led_before : (n c : ℕ) (cells : List Cell) → c < n → slice_index_or (replicate n SPACE ++ cells) c SPACE ≡ SPACE
+led_before n c cells left =
+    get_or_append_left (replicate n SPACE) cells SPACE c (omega (arith, length-replicate n SPACE, left)) ∙ get_or-replicate n c SPACE SPACE left
+
+length-led : (n : ℕ) (chs : List ℕ) → length (replicate n SPACE ++ drawn LineNumber chs) ≡ n + length chs
+length-led n chs =
+    length-append (replicate n SPACE) (drawn LineNumber chs) ∙ ap (λ k. k + length (drawn LineNumber chs)) (length-replicate n SPACE) ∙ ap (λ k. n + k) (length-drawn LineNumber chs)
+
+free_led : (n : ℕ) (chs : List ℕ) → All (λ c. is_listed c ≡ false) chs → IsFree (replicate n SPACE ++ drawn LineNumber chs)
+free_led n chs free =
+    let P : Cell → Type 0 = λ c. is_listed c.ch ≡ false in
+    All-append P (replicate n SPACE) (drawn LineNumber chs) (All-replicate P n SPACE refl) (All-drawn P LineNumber chs free)
+
+-- closing glyphs are one or two characters, none of them listed
+pub closing_some : (decor : DecorStyle) → 0 < length (closing_of decor)
+closing_some Ascii = omega arith
+closing_some Unicode = omega arith
+
+pub closing_short : (decor : DecorStyle) → length (closing_of decor) ≤ 2
+closing_short Ascii = omega arith
+closing_short Unicode = omega arith
+
+free_closing : (decor : DecorStyle) → All (λ c. is_listed c ≡ false) (closing_of decor)
+free_closing Ascii = All-cons (λ c. is_listed c ≡ false) 124 [] refl (All-nil (λ c. is_listed c ≡ false))
+free_closing Unicode =
+    let P : ℕ → Type 0 = λ c. is_listed c ≡ false in
+    All-cons P 0x2570 (0x2574 ∷ []) refl (All-cons P 0x2574 [] refl (All-nil P))
+
+-- a row of strokes before any stroke is drawn, read cell by cell
+pub bare_row_short : (decor : DecorStyle) (gutter : ℕ) (closes : Bool) → length (bare_row decor gutter closes) ≤ gutter + 3
+bare_row_short decor gutter true = omega (arith, length-led (gutter + 1) (closing_of decor), closing_short decor)
+bare_row_short decor gutter false = omega (arith, length-separator_row decor gutter)
+
+pub bare_row_left : (decor : DecorStyle) (gutter : ℕ) (closes : Bool) (c : ℕ) → c ≤ gutter → slice_index_or (bare_row decor gutter closes) c SPACE ≡ SPACE
+bare_row_left decor gutter true c left =
+    led_before (gutter + 1) c (drawn LineNumber (closing_of decor)) (omega (arith, left))
+bare_row_left decor gutter false c left = separator_row_blank decor gutter c (λ same. omega (arith, same, left))
+
+pub bare_row_right : (decor : DecorStyle) (gutter : ℕ) (closes : Bool) (c : ℕ) → gutter + 3 ≤ c → slice_index_or (bare_row decor gutter closes) c SPACE ≡ SPACE
+bare_row_right decor gutter closes c right =
+    get_or_past (bare_row decor gutter closes) c SPACE (omega (arith, bare_row_short decor gutter closes, right))
+
+pub free_bare_row : (decor : DecorStyle) (gutter : ℕ) (closes : Bool) → IsFree (bare_row decor gutter closes)
+free_bare_row decor gutter true = free_led (gutter + 1) (closing_of decor) (free_closing decor)
+free_bare_row decor gutter false = free_separator_row decor gutter
+
+-- in ASCII it is the separator row either way
+pub bare_row-ascii : (gutter : ℕ) (closes : Bool) → bare_row Ascii gutter closes ≡ separator_row Ascii gutter
+bare_row-ascii gutter true = refl
+bare_row-ascii gutter false = refl
+
+pub closing_row-ascii : (gutter : ℕ) → closing_row Ascii gutter ≡ separator_row Ascii gutter
+closing_row-ascii gutter = refl
+
+-- what a snippet begins with is no letter or digit, and not listed
+pub file_start_some : (decor : DecorStyle) (first : Bool) → 0 < length (file_start_of decor first)
+file_start_some Ascii first = omega arith
+file_start_some Unicode true = omega arith
+file_start_some Unicode false = omega arith
+
+pub file_start_short : (decor : DecorStyle) (first : Bool) → length (file_start_of decor first) ≤ 4
+file_start_short Ascii first = omega arith
+file_start_short Unicode true = omega arith
+file_start_short Unicode false = omega arith
+
+free_file_start : (first : Bool) → All (λ c. is_listed c ≡ false) (file_start_of Unicode first)
+free_file_start true =
+    let P : ℕ → Type 0 = λ c. is_listed c ≡ false in
+    All-cons P 32 (0x256D ∷ 0x25B8 ∷ 32 ∷ []) refl (All-cons P 0x256D (0x25B8 ∷ 32 ∷ []) refl (All-cons P 0x25B8 (32 ∷ []) refl (All-cons P 32 [] refl (All-nil P))))
+free_file_start false =
+    let P : ℕ → Type 0 = λ c. is_listed c ≡ false in
+    All-cons P 32 (0x251C ∷ 0x25B8 ∷ 32 ∷ []) refl (All-cons P 0x251C (0x25B8 ∷ 32 ∷ []) refl (All-cons P 0x25B8 (32 ∷ []) refl (All-cons P 32 [] refl (All-nil P))))
+
+pub first_row-ascii : (first : Bool) (gutter : ℕ) → first_row Ascii first gutter ≡ separator_row Ascii gutter
+first_row-ascii first gutter = refl
+
+pub free_first_row : (decor : DecorStyle) (first : Bool) (gutter : ℕ) → IsFree (first_row decor first gutter)
+free_first_row Ascii first gutter = free_separator_row Ascii gutter
+free_first_row Unicode first gutter = free_led gutter (file_start_of Unicode first) (free_file_start first)
+
+-- up to the separator's cell the row that a snippet begins with has spaces, but for that cell in ASCII
+first_row_left : (first : Bool) (gutter c : ℕ) → c ≤ gutter → (slice_index_or (first_row Unicode first gutter) c SPACE).ch ≡ 32
+first_row_left first gutter c left =
+    elim (cases_lt c gutter) [
+      | inl before ↦ ap (λ (cell : Cell). cell.ch) (led_before gutter c (drawn LineNumber (file_start_of Unicode first)) before)
+      | inr at ↦ at_gutter first (omega (arith, at, left))
+    ]
+  where
+    at_gutter : (first : Bool) → c ≡ gutter → (slice_index_or (first_row Unicode first gutter) c SPACE).ch ≡ 32
+    at_gutter true here =
+        ap (λ (cell : Cell). cell.ch) (get_or_at (replicate gutter SPACE) (unlinked_cell LineNumber 32) (drawn LineNumber (0x256D ∷ 0x25B8 ∷ 32 ∷ [])) SPACE c (length-replicate gutter SPACE ∙ sym here))
+    at_gutter false here =
+        ap (λ (cell : Cell). cell.ch) (get_or_at (replicate gutter SPACE) (unlinked_cell LineNumber 32) (drawn LineNumber (0x251C ∷ 0x25B8 ∷ 32 ∷ [])) SPACE c (length-replicate gutter SPACE ∙ sym here))
+
+-- so it can't be taken for a source row
+pub HasNoNumber-first_row : (decor : DecorStyle) (first : Bool) (gutter : ℕ) → HasNoNumber gutter (first_row decor first gutter)
+HasNoNumber-first_row Ascii first gutter c left =
+    ap (λ (cell : Cell). is_ascii_alphanumeric cell.ch) (separator_row_blank Ascii gutter c (λ same. omega (arith, same, left)))
+HasNoNumber-first_row Unicode first gutter c left = ap is_ascii_alphanumeric (first_row_left first gutter c left)
 
 -- a write of free cells keeps a row free
 free_written : (row : List Cell) (at : ℕ) (cells : List Cell) → IsFree row → IsFree cells → IsFree (written SPACE row at cells)

@@ -1,26 +1,26 @@
 -- The rows of lines, one after another.
-use Rattle.std.proofs.Common.{◌≡◌, ◌≢◌, ℕ, ◌+◌, ◌<◌, ◌≤◌, ◌^◌, false, Bool, List, [], ◌∷◌, ◌++◌, length, take, get_or, refl, sym, ap, ◌∙◌, subst, arith, inl, inr, All, chars}
+use Rattle.std.proofs.Common.{◌≡◌, ◌≢◌, ℕ, ◌+◌, ◌<◌, ◌≤◌, ◌^◌, ◌==◌, ◌&&◌, true, false, Bool, List, [], ◌∷◌, ◌++◌, length, take, get_or, refl, sym, ap, ◌∙◌, subst, arith, inl, inr, All, chars}
 use Rattle.std.specs.Char.{is_ascii_alphanumeric}
 use Rattle.std.proofs.lemmas.Bool.{cases_eq}
+use Rattle.std.proofs.lemmas.Bool.Decides.{nat_tests}
 use Rattle.std.proofs.lemmas.List.{append_assoc, append-nil, take_more, take_all, length_push, length-drop, get_or_push, get_or_append_left, get_or-map, length-map, ext_get_or}
-use Rattle.std.proofs.lemmas.List.Elements.{All-get_or, All-from_get_or, All-append, All-cons, All-nil, All-same, All-weaker}
+use Rattle.std.proofs.lemmas.List.Elements.{All-get_or, All-from_get_or, All-append, All-cons, All-nil, All-same}
 use Rattle.snippet_parts.specs.declared.entries.AnnotatedLineInfo.{AnnotatedLineInfo}
 use Rattle.snippet_parts.specs.declared.entries.LineAnnotation.{LineAnnotation}
-use Rattle.snippet_style.specs.declared.glyphs.DecorStyle.{DecorStyle}
 use Rattle.snippet_style.specs.declared.role.ElementStyle.TheVariants.{Quotation}
 use Rattle.snippet_style.specs.Grid.{Cell, SPACE, row_at}
 use Rattle.snippet_style.specs.Print.{row_text}
 use Rattle.snippet_style.proofs.GridLemmas.{length-drawn}
 use Rattle.snippet_text.specs.Normalized.{is_listed, norm}
 use Rattle.snippet_strokes.specs.declared.layout.Layout.{Layout}
-use Rattle.snippet_strokes.specs.Rows.{shown_number, separator_row, HasNoNumber, IsFree, IsSourceRow, IsStrokeRow, IsHighlighted, AddsSourceRow, AddsStrokes}
-use Rattle.snippet_strokes.proofs.RowLemmas.{free_separator_row, separator_row_blank}
+use Rattle.snippet_strokes.specs.Rows.{shown_number, first_row, HasNoNumber, IsFree, IsSourceRow, IsStrokeRow, IsHighlighted, AddsSourceRow, AddsStrokes}
+use Rattle.snippet_strokes.proofs.RowLemmas.{bare_row_left, free_first_row}
 use Rattle.snippet_strokes.specs.Snippet.{ShowsLine, AreLinesShown, AddsLine, AddsSnippet}
 
 -- a row of strokes holds no number, since spaces stand left of its separator
-no_number : (layout : Layout) (es : List LineAnnotation) → layout.gutter + 3 ≤ layout.code → (row : List Cell) → IsStrokeRow layout es row → HasNoNumber layout.gutter row
-no_number layout es place row is c left =
-    ap (λ (cell : Cell). is_ascii_alphanumeric cell.ch) (is.left c layout.code (omega arith) (λ k d within. omega arith) ∙ separator_row_blank layout.decor layout.gutter c (λ same. omega arith))
+no_number : (layout : Layout) (es : List LineAnnotation) (closes : Bool) → layout.gutter + 3 ≤ layout.code → (row : List Cell) → IsStrokeRow layout es closes row → HasNoNumber layout.gutter row
+no_number layout es closes place row is c left =
+    ap (λ (cell : Cell). is_ascii_alphanumeric cell.ch) (is.left c layout.code (omega arith) (λ k d within. omega arith) ∙ bare_row_left layout.decor layout.gutter closes c left)
 
 -- a grid of which only the last row changed
 last_changed : (old begun new : List (List Cell)) (row : ℕ) (first : List Cell) → row ≡ length old → begun ≡ old ++ first ∷ [] → length new ≡ length begun → ((r : ℕ) → r ≢ row → row_at new r ≡ row_at begun r) → new ≡ old ++ row_at new row ∷ []
@@ -63,14 +63,14 @@ highlighted_text code es plain row is =
     get_or-map f row k SPACE 32 here ∙ ap f (is.cells k there) ∙ sym (get_or-map f plain k SPACE 32 there))
 
 -- a source row, what its entries highlight, and the strokes below it show a line
-pub line_added : (layout : Layout) (numbered : Bool) (info : AnnotatedLineInfo) (old mid high new : List (List Cell)) (row : ℕ) → layout.gutter + 3 ≤ layout.code → AddsSourceRow layout (shown_number numbered layout.gutter info.line_index) (norm (chars info.line.now)) old mid → row ≡ length old → IsHighlighted layout.code info.annotations.items (row_at mid row) (row_at high row) → ((r : ℕ) → r ≢ row → row_at high r ≡ row_at mid r) → length high ≡ length mid → AddsStrokes layout info.annotations.items high new → AddsLine layout numbered info old new
-line_added layout numbered info old mid high new row place source last highlights others count strokes =
+pub line_added : (layout : Layout) (numbered closes : Bool) (info : AnnotatedLineInfo) (old mid high new : List (List Cell)) (row : ℕ) → layout.gutter + 3 ≤ layout.code → AddsSourceRow layout (shown_number numbered layout.gutter info.line_index) (norm (chars info.line.now)) old mid → row ≡ length old → IsHighlighted layout.code info.annotations.items (row_at mid row) (row_at high row) → ((r : ℕ) → r ≢ row → row_at high r ≡ row_at mid r) → length high ≡ length mid → AddsStrokes layout info.annotations.items closes high new → AddsLine layout numbered closes info old new
+line_added layout numbered closes info old mid high new row place source last highlights others count strokes =
     let es = info.annotations.items in
     let below = strokes.rows in
     let first : row_at mid row ≡ source.row = row_added old mid source.row row last source.added in
     let is : IsHighlighted layout.code es source.row (row_at high row) = subst (λ plain. IsHighlighted layout.code es plain (row_at high row)) first highlights in
     let top : high ≡ old ++ row_at high row ∷ [] = last_changed old mid high row source.row last source.added count others in
-    let weaker : (r : List Cell) → IsStrokeRow layout es r → IsFree r = λ r stroke. stroke.free in
+    let free_below : All IsFree below = All-from_get_or IsFree below [] (λ k within. (strokes.are.are k within).free) in
     record {
       rows = row_at high row ∷ below;
       added = strokes.added ∙ ap (λ rows. rows ++ below) top ∙ append_assoc old (row_at high row ∷ []) below;
@@ -82,61 +82,78 @@ line_added layout numbered info old mid high new row place source last highlight
         shows = source.is;
         highlighted = is;
         strokes = strokes.are;
-        unnumbered = All-weaker (IsStrokeRow layout es) (HasNoNumber layout.gutter) (no_number layout es place) below strokes.are.are;
-        free = All-cons IsFree (row_at high row) below (highlighted_free layout.code es source.row (row_at high row) is source.is.free) (All-weaker (IsStrokeRow layout es) IsFree weaker below strokes.are.are);
+        unnumbered = All-from_get_or (HasNoNumber layout.gutter) below [] (λ k within. no_number layout es (closes && k + 1 == length below) place (row_at below k) (strokes.are.are k within));
+        free = All-cons IsFree (row_at high row) below (highlighted_free layout.code es source.row (row_at high row) is source.is.free) free_below;
       };
     }
 
 -- what some lines add: rows that show them
-pub record AddsLines (layout : Layout) (numbered : Bool) (infos : List AnnotatedLineInfo) (old new : List (List Cell)) : Type 0 where
+pub record AddsLines (layout : Layout) (numbered closes : Bool) (infos : List AnnotatedLineInfo) (old new : List (List Cell)) : Type 0 where
   pub rows : List (List Cell)
   pub added : new ≡ old ++ rows
-  pub shown : AreLinesShown layout numbered infos rows
+  pub shown : AreLinesShown layout numbered closes infos rows
 
 -- no line is drawn yet
-pub AddsLines-none : (layout : Layout) (numbered : Bool) (rows : List (List Cell)) → AddsLines layout numbered [] rows rows
-AddsLines-none layout numbered rows = record { rows = []; added = sym (append-nil rows); shown = refl }
+pub AddsLines-none : (layout : Layout) (numbered closes : Bool) (rows : List (List Cell)) → AddsLines layout numbered closes [] rows rows
+AddsLines-none layout numbered closes rows = record { rows = []; added = sym (append-nil rows); shown = refl }
 
--- one more line is shown
-pub AreLinesShown-push : (layout : Layout) (numbered : Bool) (infos : List AnnotatedLineInfo) (info : AnnotatedLineInfo) (rows more : List (List Cell)) → AreLinesShown layout numbered infos rows → ShowsLine layout numbered info more → AreLinesShown layout numbered (infos ++ info ∷ []) (rows ++ more)
-AreLinesShown-push layout numbered [] info rows more none shows =
-    (more, [], ap (λ rs. rs ++ more) none ∙ sym (append-nil more), shows, refl)
-AreLinesShown-push layout numbered (first ∷ infos) info rows more shown shows =
-    (shown.0, shown.1 ++ more, ap (λ rs. rs ++ more) shown.2 ∙ append_assoc shown.0 shown.1 more, shown.3, AreLinesShown-push layout numbered infos info shown.1 more shown.4 shows)
+-- one more line is shown, with which the window may close
+pub AreLinesShown-push : (layout : Layout) (numbered closes : Bool) (infos : List AnnotatedLineInfo) (info : AnnotatedLineInfo) (rows more : List (List Cell)) → AreLinesShown layout numbered false infos rows → ShowsLine layout numbered closes info more → AreLinesShown layout numbered closes (infos ++ info ∷ []) (rows ++ more)
+AreLinesShown-push layout numbered closes [] info rows more none shows =
+    (more, [], ap (λ rs. rs ++ more) none ∙ sym (append-nil more), subst (λ b. ShowsLine layout numbered b info more) (sym (and_true closes)) shows, refl)
+  where
+    and_true : (b : Bool) → (b && true) ≡ b
+    and_true true = refl
+    and_true false = refl
+AreLinesShown-push layout numbered closes (first ∷ infos) info rows more shown shows =
+    (shown.0, shown.1 ++ more, ap (λ rs. rs ++ more) shown.2 ∙ append_assoc shown.0 shown.1 more, subst (λ b. ShowsLine layout numbered b first shown.0) (sym (not_last closes)) shown.3, AreLinesShown-push layout numbered closes infos info shown.1 more shown.4 shows)
+  where
+    some : (n : ℕ) → 0 < n → (n == 0) ≡ false
+    some n more = grind (arith, nat_tests, more)
 
--- the line that stands next is drawn
-pub AddsLines-next : (layout : Layout) (numbered : Bool) (infos : List AnnotatedLineInfo) (i : ℕ) (info : AnnotatedLineInfo) (old mid new : List (List Cell)) → i < length infos → info ≡ get_or infos i info → AddsLines layout numbered (take i infos) old mid → AddsLine layout numbered info mid new → AddsLines layout numbered (take (i + 1) infos) old new
-AddsLines-next layout numbered infos i info old mid new within is done line =
+    not_last : (b : Bool) → (b && length (infos ++ info ∷ []) == 0) ≡ false
+    not_last true = some (length (infos ++ info ∷ [])) (omega (arith, length_push infos info))
+    not_last false = refl
+
+-- the line that stands next is drawn; the window may close with the last
+pub AddsLines-next : (layout : Layout) (numbered closes : Bool) (infos : List AnnotatedLineInfo) (i : ℕ) (info : AnnotatedLineInfo) (old mid new : List (List Cell)) → i < length infos → info ≡ get_or infos i info → AddsLines layout numbered (closes && i == length infos) (take i infos) old mid → AddsLine layout numbered (closes && i + 1 == length infos) info mid new → AddsLines layout numbered (closes && i + 1 == length infos) (take (i + 1) infos) old new
+AddsLines-next layout numbered closes infos i info old mid new within is done line =
     let next : take (i + 1) infos ≡ take i infos ++ info ∷ [] = take_more infos i info within ∙ ap (λ x. take i infos ++ x ∷ []) (sym is) in
+    let closes_here : Bool = closes && i + 1 == length infos in
+    let before : AreLinesShown layout numbered false (take i infos) done.rows = subst (λ b. AreLinesShown layout numbered b (take i infos) done.rows) (not_yet closes) done.shown in
     record {
       rows = done.rows ++ line.rows;
       added = line.added ∙ ap (λ rows. rows ++ line.rows) done.added ∙ append_assoc old done.rows line.rows;
-      shown = subst (λ xs. AreLinesShown layout numbered xs (done.rows ++ line.rows)) (sym next) (AreLinesShown-push layout numbered (take i infos) info done.rows line.rows done.shown line.shown);
+      shown = subst (λ xs. AreLinesShown layout numbered closes_here xs (done.rows ++ line.rows)) (sym next) (AreLinesShown-push layout numbered closes_here (take i infos) info done.rows line.rows before line.shown);
     }
+  where
+    not_yet : (b : Bool) → (b && i == length infos) ≡ false
+    not_yet true = grind (arith, nat_tests, within)
+    not_yet false = refl
 
--- the separator row and all lines are drawn
-pub AddsSnippet-from_lines : (layout : Layout) (numbered : Bool) (infos : List AnnotatedLineInfo) (i : ℕ) (old begun new : List (List Cell)) → length infos ≤ i → begun ≡ old ++ separator_row layout.decor layout.gutter ∷ [] → AddsLines layout numbered (take i infos) begun new → AddsSnippet layout numbered infos old new
-AddsSnippet-from_lines layout numbered infos i old begun new all begins done =
+-- the row that a snippet begins with and all lines are drawn
+pub AddsSnippet-from_lines : (layout : Layout) (numbered first closes : Bool) (infos : List AnnotatedLineInfo) (i : ℕ) (old begun new : List (List Cell)) → i ≡ length infos → begun ≡ old ++ first_row layout.decor first layout.gutter ∷ [] → AddsLines layout numbered (closes && i == length infos) (take i infos) begun new → AddsSnippet layout numbered first closes infos old new
+AddsSnippet-from_lines layout numbered first closes infos i old begun new all begins done =
+    let ends : AreLinesShown layout numbered closes (take i infos) done.rows = subst (λ b. AreLinesShown layout numbered b (take i infos) done.rows) (at_end closes) done.shown in
     record {
       rows = done.rows;
-      added = done.added ∙ ap (λ rows. rows ++ done.rows) begins ∙ append_assoc old (separator_row layout.decor layout.gutter ∷ []) done.rows;
-      shown = subst (λ xs. AreLinesShown layout numbered xs done.rows) (take_all i infos all) done.shown;
+      added = done.added ∙ ap (λ rows. rows ++ done.rows) begins ∙ append_assoc old (first_row layout.decor first layout.gutter ∷ []) done.rows;
+      shown = subst (λ xs. AreLinesShown layout numbered closes xs done.rows) (take_all i infos (omega (arith, all))) ends;
     }
+  where
+    at_end : (b : Bool) → (b && i == length infos) ≡ b
+    at_end true = grind (arith, nat_tests, all)
+    at_end false = refl
 
 -- no row of the lines holds a listed character
-pub free_from_AreLinesShown : (layout : Layout) (numbered : Bool) (infos : List AnnotatedLineInfo) (rows : List (List Cell)) → AreLinesShown layout numbered infos rows → All IsFree rows
-free_from_AreLinesShown layout numbered [] rows none = All-same IsFree rows [] none (All-nil IsFree)
-free_from_AreLinesShown layout numbered (info ∷ infos) rows shown =
-    All-same IsFree rows (shown.0 ++ shown.1) shown.2 (All-append IsFree shown.0 shown.1 shown.3.free (free_from_AreLinesShown layout numbered infos shown.1 shown.4))
+pub free_from_AreLinesShown : (layout : Layout) (numbered closes : Bool) (infos : List AnnotatedLineInfo) (rows : List (List Cell)) → AreLinesShown layout numbered closes infos rows → All IsFree rows
+free_from_AreLinesShown layout numbered closes [] rows none = All-same IsFree rows [] none (All-nil IsFree)
+free_from_AreLinesShown layout numbered closes (info ∷ infos) rows shown =
+    All-same IsFree rows (shown.0 ++ shown.1) shown.2 (All-append IsFree shown.0 shown.1 shown.3.free (free_from_AreLinesShown layout numbered closes infos shown.1 shown.4))
 
 -- a snippet keeps a grid free of listed characters
-pub free_from_AddsSnippet : (layout : Layout) (numbered : Bool) (infos : List AnnotatedLineInfo) (old new : List (List Cell)) → AddsSnippet layout numbered infos old new → All IsFree old → All IsFree new
-free_from_AddsSnippet layout numbered infos old new adds free_old =
-    let first = separator_row layout.decor layout.gutter in
-    let added : All IsFree (first ∷ adds.rows) = All-cons IsFree first adds.rows (free_separator_row layout.decor layout.gutter) (free_from_AreLinesShown layout numbered infos adds.rows adds.shown) in
-    All-same IsFree new (old ++ first ∷ adds.rows) adds.added (All-append IsFree old (first ∷ adds.rows) free_old added)
-
--- the separator row of a snippet can't be taken for a source row
-pub HasNoNumber-separator_row : (decor : DecorStyle) (gutter : ℕ) → HasNoNumber gutter (separator_row decor gutter)
-HasNoNumber-separator_row decor gutter c left =
-    ap (λ (cell : Cell). is_ascii_alphanumeric cell.ch) (separator_row_blank decor gutter c (λ same. omega arith))
+pub free_from_AddsSnippet : (layout : Layout) (numbered first closes : Bool) (infos : List AnnotatedLineInfo) (old new : List (List Cell)) → AddsSnippet layout numbered first closes infos old new → All IsFree old → All IsFree new
+free_from_AddsSnippet layout numbered first closes infos old new adds free_old =
+    let start = first_row layout.decor first layout.gutter in
+    let added : All IsFree (start ∷ adds.rows) = All-cons IsFree start adds.rows (free_first_row layout.decor first layout.gutter) (free_from_AreLinesShown layout numbered closes infos adds.rows adds.shown) in
+    All-same IsFree new (old ++ start ∷ adds.rows) adds.added (All-append IsFree old (start ∷ adds.rows) free_old added)

@@ -1,14 +1,15 @@
 -- The rows of a line that is shown: its source row, and the rows of its strokes below it.
-use Rattle.std.specs.Prelude.{◌≡◌, ℕ, ◌≢◌, ◌+◌, ◌-◌, ◌<◌, ◌≤◌, ◌&&◌, nat_le, nat_lt, Bool, true, false, List, [], ◌∷◌, ◌++◌, All, length, take, drop, replicate, if◌then◌else◌}
+use Rattle.std.specs.Prelude.{◌≡◌, ℕ, ◌≢◌, ◌+◌, ◌-◌, ◌<◌, ◌≤◌, ◌==◌, ◌&&◌, nat_le, nat_lt, Bool, true, false, List, [], ◌∷◌, ◌++◌, All, length, take, drop, replicate, if◌then◌else◌}
 use Rattle.std.specs.Char.{is_ascii_alphanumeric}
 use Rattle.std.specs.Fmt.{decimal}
 use Rattle.std.specs.List.{slice_index_or, list_any}
 use Rattle.snippet_model.specs.declared.snippet.AnnotationKind.{AnnotationKind}
 use Rattle.snippet_parts.specs.declared.entries.LineAnnotation.{LineAnnotation}
 use Rattle.snippet_style.specs.declared.glyphs.DecorStyle.{DecorStyle}
+use Rattle.snippet_style.specs.declared.glyphs.DecorStyle.TheVariants.{Ascii, Unicode}
 use Rattle.snippet_style.specs.declared.role.ElementStyle.{ElementStyle}
 use Rattle.snippet_style.specs.declared.role.ElementStyle.TheVariants.{LineNumber, Quotation, UnderlinePrimary, UnderlineSecondary}
-use Rattle.snippet_style.specs.Glyphs.{separator_of, underline_role}
+use Rattle.snippet_style.specs.Glyphs.{separator_of, closing_of, file_start_of, underline_role}
 use Rattle.snippet_style.specs.Grid.{Cell, SPACE, drawn, unlinked_cell, row_at, cell_at, gives_way, restyled}
 use Rattle.snippet_text.specs.Normalized.{is_listed}
 use Rattle.snippet_strokes.specs.declared.layout.Layout.{Layout}
@@ -27,6 +28,21 @@ shown_number false gutter number = replicate gutter 32
 -- the row that sets a snippet off: the separator at cell gutter + 1, and nothing else
 abbrev pub separator_row : DecorStyle → ℕ → List Cell
 separator_row decor gutter = replicate (gutter + 1) SPACE ++ drawn LineNumber (separator_of decor ∷ [])
+
+-- the row that closes a group's window: in place of the separator, the closing glyph, and nothing else
+abbrev pub closing_row : DecorStyle → ℕ → List Cell
+closing_row decor gutter = replicate (gutter + 1) SPACE ++ drawn LineNumber (closing_of decor)
+
+-- a row of strokes before any stroke is drawn: the closing row where the window closes with it, else the separator row
+abbrev pub bare_row : DecorStyle → ℕ → Bool → List Cell
+bare_row decor gutter true = closing_row decor gutter
+bare_row decor gutter false = separator_row decor gutter
+
+-- the row that a group's primary snippet begins with where it has no path: in ASCII the separator row, in Unicode the
+-- start of a file, from cell `gutter` on, for a group's first element or for a later one
+abbrev pub first_row : DecorStyle → Bool → ℕ → List Cell
+first_row Ascii first gutter = separator_row Ascii gutter
+first_row Unicode first gutter = replicate gutter SPACE ++ drawn LineNumber (file_start_of Unicode first)
 
 -- no cell up to the separator holds an ASCII letter or digit, so the row can't be taken for a line's source row
 abbrev pub HasNoNumber : ℕ → List Cell → Type 0
@@ -55,20 +71,22 @@ pub record IsSourceRow (layout : Layout) (shown text : List ℕ) (row : List Cel
   pub blank : (c : ℕ) → length shown ≤ c → c ≢ layout.gutter + 1 → c < layout.code → slice_index_or row c SPACE ≡ SPACE
   pub free : IsFree row
 
--- a row of strokes: left of all entries it is as a separator row, and it holds no listed character
-pub record IsStrokeRow (layout : Layout) (es : List LineAnnotation) (row : List Cell) : Type 0 where
-  pub left : (c from : ℕ) → c < from → All (StandsFrom layout.code from) es → slice_index_or row c SPACE ≡ slice_index_or (separator_row layout.decor layout.gutter) c SPACE
+-- a row of strokes: left of all entries it is as a separator row, or as the closing row where the window closes with it,
+-- and it holds no listed character
+pub record IsStrokeRow (layout : Layout) (es : List LineAnnotation) (closes : Bool) (row : List Cell) : Type 0 where
+  pub left : (c from : ℕ) → c < from → All (StandsFrom layout.code from) es → slice_index_or row c SPACE ≡ slice_index_or (bare_row layout.decor layout.gutter closes) c SPACE
   pub free : IsFree row
 
--- the rows of a line's strokes: none if it has no entries, and else first that of its marks. It is the only one where
--- the line has one entry, or no label that shows anything
-pub record AreStrokes (layout : Layout) (es : List LineAnnotation) (rows : List (List Cell)) : Type 0 where
-  pub none : es ≡ [] → rows ≡ []
+-- the rows of a line's strokes: none if it has no entries, but a closing row where the window closes with the line; and
+-- else first that of its marks, which is the only one where the line has one entry, or no label that shows anything. It
+-- is with the last row that the window closes
+pub record AreStrokes (layout : Layout) (es : List LineAnnotation) (closes : Bool) (rows : List (List Cell)) : Type 0 where
+  pub none : es ≡ [] → rows ≡ (if closes then closing_row layout.decor layout.gutter ∷ [] else [])
   pub some : 0 < length es → 0 < length rows
   pub lone : length es ≡ 1 → length rows ≡ 1
   pub bare : All (λ e. label_text e ≡ []) es → length rows ≤ 1
   pub marks : ShowsMarks layout.code es (row_at rows 0)
-  pub are : All (IsStrokeRow layout es) rows
+  pub are : (k : ℕ) → k < length rows → IsStrokeRow layout es (closes && k + 1 == length rows) (row_at rows k)
 
 -- one source row was added below the rows that are there
 pub record AddsSourceRow (layout : Layout) (shown text : List ℕ) (old new : List (List Cell)) : Type 0 where
@@ -77,10 +95,10 @@ pub record AddsSourceRow (layout : Layout) (shown text : List ℕ) (old new : Li
   pub is : IsSourceRow layout shown text row
 
 -- the rows of a line's strokes were added below the rows that are there
-pub record AddsStrokes (layout : Layout) (es : List LineAnnotation) (old new : List (List Cell)) : Type 0 where
+pub record AddsStrokes (layout : Layout) (es : List LineAnnotation) (closes : Bool) (old new : List (List Cell)) : Type 0 where
   pub rows : List (List Cell)
   pub added : new ≡ old ++ rows
-  pub are : AreStrokes layout es rows
+  pub are : AreStrokes layout es closes rows
 
 -- whether an entry asks to highlight the character at this cell
 abbrev pub highlights : ℕ → ℕ → LineAnnotation → Bool

@@ -1,9 +1,12 @@
 //! Rows that are begun below all that stands in the grid.
-ghost use Rattle.std.specs.Prelude.{◌≡◌, ◌^◌, ◌<◌, ◌≤◌, ◌++◌, ◌∷◌, [], OnOk, IfOk, length, replicate};
-ghost use Rattle.snippet_strokes.specs.Rows.{separator_row};
+ghost use Rattle.std.specs.Prelude.{◌≡◌, ◌-◌, ◌^◌, ◌<◌, ◌≤◌, ◌++◌, ◌∷◌, [], OnOk, IfOk, length, replicate};
+ghost use Rattle.snippet_style.specs.Glyphs.{file_start_of};
+ghost use Rattle.snippet_style.specs.Grid.{SPACE, drawn};
+ghost use Rattle.snippet_style.specs.declared.role.ElementStyle.TheVariants.{LineNumber};
+ghost use Rattle.snippet_strokes.specs.Rows.{bare_row, closing_row, first_row, separator_row};
 
 use crate::layout::Layout;
-use snippet_style::{ElementStyle, StyledBuffer};
+use snippet_style::{DecorStyle, ElementStyle, StyledBuffer};
 use std::alloc::AllocError;
 
 /// Begins a row below all that stands in the grid, with the separator alone, and gives the row's number.
@@ -31,7 +34,74 @@ pub(crate) fn begin_row(buffer: &mut StyledBuffer, layout: Layout) -> Result<usi
     Ok(row)
 }
 
+/// Begins a row below all that stands in the grid, with the closing glyph alone.
+///
+/// ```text
+///       ╰╴
+/// ```
+///
+/// # Errors
+///
+/// There is no memory for the row.
+pub(crate) fn begin_closing_row(buffer: &mut StyledBuffer, layout: Layout) -> Result<(), AllocError>
+    requires narrow { layout.gutter < 2 ^ 32 }
+    ensures added { OnOk result (buffer.new ≡ buffer.old ++ closing_row layout.decor layout.gutter ∷ []) }
+    ensures small { length buffer.old < 2 ^ 60 }
+{
+    let row = buffer.num_lines();
+    buffer.puts(
+        row,
+        layout.gutter + 1,
+        layout.decor.closing(),
+        ElementStyle::LineNumber,
+    )
+}
+
+/// Begins the row that a group's primary snippet without a path begins with, below all that stands in the grid.
+///
+/// ```text
+///       |      in ASCII
+///      ╭▸      in Unicode, where the snippet is the group's first element
+///      ├▸      in Unicode, where it is a later one
+/// ```
+///
+/// # Errors
+///
+/// There is no memory for the row.
+pub(crate) fn begin_first_row(
+    buffer: &mut StyledBuffer,
+    layout: Layout,
+    first: bool,
+) -> Result<(), AllocError>
+    requires narrow { layout.gutter < 2 ^ 32 }
+    ensures added { OnOk result (buffer.new ≡ buffer.old ++ first_row layout.decor first layout.gutter ∷ []) }
+{
+    match layout.decor {
+        DecorStyle::Ascii => {
+            begin_row(buffer, layout)?;
+            Ok(())
+        }
+        DecorStyle::Unicode => begin_file_row(buffer, layout, first),
+    }
+}
+
+/// Begins a row below all that stands in the grid, with the start of a file alone, from cell `gutter` on.
+fn begin_file_row(buffer: &mut StyledBuffer, layout: Layout, first: bool) -> Result<(), AllocError>
+    requires narrow { layout.gutter < 2 ^ 32 }
+    ensures added { OnOk result (buffer.new ≡ buffer.old
+        ++ (replicate layout.gutter SPACE ++ drawn LineNumber (file_start_of layout.decor first)) ∷ []) }
+{
+    let row = buffer.num_lines();
+    buffer.puts(
+        row,
+        layout.gutter,
+        layout.decor.file_start(first),
+        ElementStyle::LineNumber,
+    )
+}
+
 /// Begins some rows below all that stands in the grid, each with the separator alone, and gives the first one's number.
+/// Where the window closes, the closing glyph stands in the last of them in place of the separator.
 ///
 /// ```text
 ///       |
@@ -44,16 +114,33 @@ pub(crate) fn begin_row(buffer: &mut StyledBuffer, layout: Layout) -> Result<usi
 pub(crate) fn begin_rows(
     buffer: &mut StyledBuffer,
     layout: Layout,
+    closes: bool,
     count: usize,
 ) -> Result<usize, AllocError>
+    requires some { 0 < count }
     requires narrow { layout.gutter < 2 ^ 32 }
-    ensures added { OnOk result (buffer.new ≡ buffer.old ++ replicate count (separator_row layout.decor layout.gutter)) }
+    ensures added { OnOk result (buffer.new ≡ buffer.old ++ replicate (count - 1) (separator_row layout.decor layout.gutter)
+        ++ bare_row layout.decor layout.gutter closes ∷ []) }
     ensures row { IfOk result (λ row. row ≡ length buffer.old) }
     ensures small { OnOk result (length buffer.new ≤ 2 ^ 60) }
 {
     let row = buffer.num_lines();
-    for _ in 0..count {
+    for _ in 1..count {
         begin_row(buffer, layout)?;
     }
+    begin_last_row(buffer, layout, closes)?;
     Ok(row)
+}
+
+/// Begins the last row of a line's strokes below all that stands in the grid.
+fn begin_last_row(buffer: &mut StyledBuffer, layout: Layout, closes: bool) -> Result<(), AllocError>
+    requires narrow { layout.gutter < 2 ^ 32 }
+    ensures added { OnOk result (buffer.new ≡ buffer.old ++ bare_row layout.decor layout.gutter closes ∷ []) }
+    ensures small { length buffer.old < 2 ^ 60 }
+{
+    if closes {
+        return begin_closing_row(buffer, layout);
+    }
+    begin_row(buffer, layout)?;
+    Ok(())
 }

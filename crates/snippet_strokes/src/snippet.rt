@@ -1,4 +1,4 @@
-//! The rows of a snippet: a separator row, and the rows of each line that is shown.
+//! The rows of a snippet: the row that it begins with, and the rows of each line that is shown.
 ghost use Rattle.std.specs.Prelude.{◌+◌, ◌^◌, ◌<◌, ◌≤◌, All, IfSome, OnOk, length};
 ghost use Rattle.snippet_parts.specs.Marked.{HasColumns};
 ghost use Rattle.snippet_strokes.specs.Rows.{shown_number};
@@ -6,20 +6,23 @@ ghost use Rattle.snippet_strokes.specs.Snippet.{AddsLine, AddsSnippet};
 
 use crate::highlight::highlight_source;
 use crate::layout::Layout;
-use crate::row::begin_row;
+use crate::row::begin_first_row;
 use crate::source_row::draw_source_row;
 use crate::strokes::draw_strokes;
 use snippet_parts::AnnotatedLineInfo;
 use snippet_style::StyledBuffer;
 use std::alloc::{AllocError, Global};
 
-/// Draws a snippet below all that stands in the grid: a separator row, then for each line its source row and its strokes.
+/// Draws a group's primary snippet, one without a path, below all that stands in the grid: the row that it begins with,
+/// then for each line its source row and its strokes. It may be the group's `first` element. Where the group's window
+/// `closes` with it, the last row does so; it is one of its own where the last line has no entries.
 ///
 /// ```text
-///       |
-///     1 | let x = 1;
-///       |     ^ here
-///     2 | let y = x;
+///       |                        ╭▸
+///     1 | let x = 1;           1 │ let x = 1;
+///       |     ^                  │     ━
+///     2 | let y = x;           2 │ let y = x;
+///       |                        ╰╴
 /// ```
 ///
 /// Where lines aren't numbered, spaces stand in place of the numbers. A line with no entries has no strokes. Each entry is
@@ -33,6 +36,8 @@ pub fn draw_snippet(
     buffer: &mut StyledBuffer,
     layout: Layout,
     numbered: bool,
+    first: bool,
+    closes: bool,
     infos: &[AnnotatedLineInfo],
 ) -> Result<(), AllocError>
     requires place { layout.gutter + 3 ≤ layout.code }
@@ -42,16 +47,17 @@ pub fn draw_snippet(
     requires texts { All (λ info. length info.line.now < 2 ^ 56) infos.now }
     requires columns { All (λ info. All (λ e. HasColumns e.start e.end) info.annotations.items) infos.now }
     requires labels { All (λ info. All (λ e. IfSome e.label (λ t. length t.now < 2 ^ 56)) info.annotations.items) infos.now }
-    ensures added { OnOk result (AddsSnippet layout numbered infos.now buffer.old buffer.new) }
+    ensures added { OnOk result (AddsSnippet layout numbered first closes infos.now buffer.old buffer.new) }
 {
-    begin_row(buffer, layout)?;
-    for info in infos {
-        draw_line(alloc, buffer, layout, numbered, info)?;
+    begin_first_row(buffer, layout, first)?;
+    for i in 0..infos.len() {
+        let closes = closes && i + 1 == infos.len();
+        draw_line(alloc, buffer, layout, numbered, closes, &infos[i])?;
     }
     Ok(())
 }
 
-/// Draws the rows of a line below all that stands in the grid.
+/// Draws the rows of a line below all that stands in the grid. The window may close with it.
 ///
 /// ```text
 ///     1 | let x = 1;
@@ -62,6 +68,7 @@ fn draw_line(
     buffer: &mut StyledBuffer,
     layout: Layout,
     numbered: bool,
+    closes: bool,
     info: &AnnotatedLineInfo,
 ) -> Result<(), AllocError>
     requires place { layout.gutter + 3 ≤ layout.code }
@@ -70,11 +77,11 @@ fn draw_line(
     requires text { length info.now.line.now < 2 ^ 56 }
     requires columns { All (λ e. HasColumns e.start e.end) info.now.annotations.items }
     requires labels { All (λ e. IfSome e.label (λ t. length t.now < 2 ^ 56)) info.now.annotations.items }
-    ensures added { OnOk result (AddsLine layout numbered info.now buffer.old buffer.new) }
+    ensures added { OnOk result (AddsLine layout numbered closes info.now buffer.old buffer.new) }
 {
     let row = draw_source_row(alloc, buffer, layout, numbered, info)?;
     highlight_source(buffer, layout, row, &info.annotations)?;
-    draw_strokes(alloc, buffer, layout, &info.annotations)
+    draw_strokes(alloc, buffer, layout, closes, &info.annotations)
 }
 
 #[cfg(test)]
@@ -116,7 +123,7 @@ mod tests {
             keep: false,
         };
         let mut buffer = StyledBuffer::new(rt.alloc());
-        draw_snippet(rt.alloc(), &mut buffer, layout, true, &[marked])?;
+        draw_snippet(rt.alloc(), &mut buffer, layout, true, true, true, &[marked])?;
         assert_eq!(rt; buffer.num_lines(), 3);
         Ok(())
     }

@@ -1,27 +1,28 @@
 //! All that stands below the source row of a line.
-ghost use Rattle.std.specs.Prelude.{◌≡◌, ◌+◌, ◌^◌, ◌<◌, ◌≤◌, All, IfSome, OnOk, length};
+ghost use Rattle.std.specs.Prelude.{◌≡◌, ◌+◌, ◌^◌, ◌<◌, ◌≤◌, ◌++◌, ◌∷◌, [], if◌then◌else◌, All, IfSome, OnOk, length};
 ghost use Rattle.snippet_parts.specs.Marked.{HasColumns};
 ghost use Rattle.snippet_strokes.specs.Positions as spec;
-ghost use Rattle.snippet_strokes.specs.Rows.{AddsStrokes};
+ghost use Rattle.snippet_strokes.specs.Rows.{AddsStrokes, closing_row};
 
 use crate::labels::draw_labels;
 use crate::layout::Layout;
 use crate::marks::draw_marks;
 use crate::positions::{PlacedEntry, placed_entries};
-use crate::row::begin_rows;
+use crate::row::{begin_closing_row, begin_rows};
 use crate::stems::draw_stems;
 use snippet_parts::LineAnnotation;
 use snippet_style::StyledBuffer;
 use std::alloc::{AllocError, Global};
 
 /// Draws the strokes of a line below all that stands in the grid: none if the line has no entries, and else the row of
-/// its marks and the rows of the labels that hang from them.
+/// its marks and the rows of the labels that hang from them. Where the window closes with the line, its last row begins
+/// with the closing glyph; a line with no entries then has a row for it.
 ///
 /// ```text
-///       | --^^--
-///       | | |
-///       | | x
-///       | f
+///       | --^^--             │ ┬─┯━──
+///       | | |                │ │ │
+///       | | x                │ │ x
+///       | f                  ╰╴f
 /// ```
 ///
 /// What is drawn later stands over what was there: stems over separators, labels over stems, marks over all.
@@ -33,22 +34,35 @@ pub(crate) fn draw_strokes(
     alloc: Global,
     buffer: &mut StyledBuffer,
     layout: Layout,
+    closes: bool,
     entries: &[LineAnnotation],
 ) -> Result<(), AllocError>
     requires place { layout.gutter + 3 ≤ layout.code }
     requires narrow { layout.code < 2 ^ 32 }
     requires columns { All (λ e. HasColumns e.start e.end) entries.now }
     requires labels { All (λ e. IfSome e.label (λ t. length t.now < 2 ^ 56)) entries.now }
-    ensures added { OnOk result (AddsStrokes layout entries.now buffer.old buffer.new) }
+    ensures added { OnOk result (AddsStrokes layout entries.now closes buffer.old buffer.new) }
 {
     if entries.is_empty() {
-        return Ok(());
+        return close_below(buffer, layout, closes);
     }
     let mut placed = placed_entries(alloc, entries)?;
-    let row = begin_rows(buffer, layout, row_count(&placed))?;
+    let row = begin_rows(buffer, layout, closes, row_count(&placed))?;
     draw_stems(buffer, layout, row, &placed)?;
     draw_labels(buffer, layout, row, &placed)?;
     draw_marks(buffer, layout, row, &mut placed)
+}
+
+/// Adds a closing row where the window closes with a line that has no entries.
+fn close_below(buffer: &mut StyledBuffer, layout: Layout, closes: bool) -> Result<(), AllocError>
+    requires narrow { layout.gutter < 2 ^ 32 }
+    ensures added { OnOk result (buffer.new ≡ buffer.old
+        ++ (if closes then closing_row layout.decor layout.gutter ∷ [] else [])) }
+{
+    if closes {
+        begin_closing_row(buffer, layout)?;
+    }
+    Ok(())
 }
 
 /// How many rows the strokes of some entries take: that of the marks, and below it, where a label hangs, one more than

@@ -9,3 +9,4 @@ pub mod PrintsOnce
 pub mod StyleLemmas
 pub mod WeaveLemmas
 pub mod WovenLemmas
+pub mod GlyphLemmas

@@ -1,4 +1,4 @@
-use Rattle.std.specs.Prelude.{◌≡◌, ◌⊎◌, ℕ, Bool, true, false}
+use Rattle.std.specs.Prelude.{◌≡◌, ◌⊎◌, ℕ, Bool, true, false, List, codes}
 use Rattle.snippet_style.specs.declared.glyphs.DecorStyle.{DecorStyle}
 use Rattle.snippet_style.specs.declared.glyphs.DecorStyle.TheVariants.{Ascii, Unicode}
 use Rattle.snippet_style.specs.declared.role.ElementStyle.{ElementStyle}
@@ -8,6 +8,18 @@ use Rattle.snippet_style.specs.declared.role.ElementStyle.TheVariants.{Underline
 abbrev pub separator_of : DecorStyle → ℕ
 separator_of Ascii = 124
 separator_of Unicode = 0x2502
+
+-- what leads from the gutter to a group's primary file: '--> ', or in Unicode ' ╭▸ ' where it is the group's first
+-- element, and ' ├▸ ' where it is a later one
+abbrev pub file_start_of : DecorStyle → Bool → List ℕ
+file_start_of Ascii first = codes "--> "
+file_start_of Unicode true = codes " ╭▸ "
+file_start_of Unicode false = codes " ├▸ "
+
+-- what stands in place of the separator in a row that closes: '|', or '╰╴' in Unicode
+abbrev pub closing_of : DecorStyle → List ℕ
+closing_of Ascii = codes "|"
+closing_of Unicode = codes "╰╴"
 
 -- the role of a stroke: primary, or else for context
 abbrev pub underline_role : Bool → ElementStyle

@@ -1,8 +1,8 @@
 //! The characters that the strokes of a report are drawn with.
 
-ghost use Rattle.std.specs.Prelude.{◌≡◌};
+ghost use Rattle.std.specs.Prelude.{◌≡◌, chars};
 ghost use Rattle.snippet_style.specs.declared.glyphs.DecorStyle.TheVariants.{Ascii};
-ghost use Rattle.snippet_style.specs.Glyphs.{IsMarkGlyph, ascii_mark, glyph_of, separator_of, underline_role};
+ghost use Rattle.snippet_style.specs.Glyphs.{IsMarkGlyph, ascii_mark, closing_of, file_start_of, glyph_of, separator_of, underline_role};
 
 use crate::role::ElementStyle;
 
@@ -60,6 +60,28 @@ impl DecorStyle {
         match self {
             DecorStyle::Ascii => '|',
             DecorStyle::Unicode => '│',
+        }
+    }
+
+    /// What leads from the gutter to a group's primary file, or to the snippet that stands for it: that of the group's
+    /// first element, or of a later one.
+    pub fn file_start(self, first: bool) -> &'static str
+        ensures value { chars result.now ≡ file_start_of self first }
+    {
+        match (self, first) {
+            (DecorStyle::Ascii, _) => "--> ",
+            (DecorStyle::Unicode, true) => " ╭▸ ",
+            (DecorStyle::Unicode, false) => " ├▸ ",
+        }
+    }
+
+    /// What stands in place of the separator in the row that closes a group's window.
+    pub fn closing(self) -> &'static str
+        ensures value { chars result.now ≡ closing_of self }
+    {
+        match self {
+            DecorStyle::Ascii => "|",
+            DecorStyle::Unicode => "╰╴",
         }
     }
 

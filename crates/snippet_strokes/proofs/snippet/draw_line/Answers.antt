@@ -22,5 +22,5 @@ returns c =
     let layout = c.args.layout in
     let highlighted = c.in_ok-highlight_source.ensures in
     record {
-      added = on_ok_weaker c.draw_strokes.result (λ strokes. line_added layout c.args.numbered c.args.info.now c.args.buffer.now mid high ends row c.requires.place c.in_ok-row.ensures.added c.in_ok-row.ensures.row (subst (λ es. IsHighlighted layout.code es (row_at mid row) (row_at high row)) c.deref.ensures.value highlighted.highlighted) highlighted.others highlighted.count (subst (λ es. AddsStrokes layout es high ends) c.deref-2.ensures.value strokes)) c.draw_strokes.ensures.added;
+      added = on_ok_weaker c.draw_strokes.result (λ strokes. line_added layout c.args.numbered c.args.closes c.args.info.now c.args.buffer.now mid high ends row c.requires.place c.in_ok-row.ensures.added c.in_ok-row.ensures.row (subst (λ es. IsHighlighted layout.code es (row_at mid row) (row_at high row)) c.deref.ensures.value highlighted.highlighted) highlighted.others highlighted.count (subst (λ es. AddsStrokes layout es c.args.closes high ends) c.deref-2.ensures.value strokes)) c.draw_strokes.ensures.added;
     }

@@ -1,7 +1,8 @@
-use Rattle.std.proofs.Common.{take}
+use Rattle.std.proofs.Common.{◌&&◌, ◌==◌, take, length}
 use Rattle.snippet_strokes.proofs.SnippetLemmas.{AddsLines}
 use Rattle.snippet_strokes.proofs.snippet.draw_snippet.Given as goal
 
 -- the lines before this one are drawn
-abbrev pub invariant-loop-info : goal.invariant-loop-info
-invariant-loop-info l = AddsLines l.layout l.numbered (take l.info-index l.infos) l.initial.buffer l.buffer
+abbrev pub invariant-loop-i : goal.invariant-loop-i
+invariant-loop-i l =
+    AddsLines l.layout l.numbered (l.closes && l.i == length l.infos) (take l.i l.infos) l.initial.buffer l.buffer
