@@ -119,8 +119,7 @@ free_but trusted text free =
 -- a covered renderer shows the numbers themselves
 numbers_shown : (r : Renderer) → is_covered_renderer r ≡ true → r.anonymized_snippet_line_numbers ≡ false
 numbers_shown r covered =
-    let off = and_parts _ _ covered in
-    none_of r.anonymized_origin_line_numbers r.anonymized_snippet_line_numbers r.short_message r.no_graphics off.1
+    none_of r.anonymized_origin_line_numbers r.anonymized_snippet_line_numbers r.short_message r.no_graphics covered
   where
     none_of : (a b c d : Bool) → not (a || b || c || d) ≡ true → b ≡ false
     none_of true b c d off = grind (arith, off)

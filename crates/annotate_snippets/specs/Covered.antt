@@ -4,8 +4,6 @@ use Rattle.std.specs.List.{list_all, list_any}
 use Rattle.std.specs.Cow.{cow_str_bytes}
 use Rattle.std.specs.Fmt.{decimal}
 use Rattle.snippet_text.specs.Width.{width_of}
-use Rattle.snippet_style.specs.declared.glyphs.DecorStyle.{DecorStyle}
-use Rattle.snippet_style.specs.declared.glyphs.DecorStyle.TheVariants.{Ascii, Unicode}
 use Rattle.snippet_model.specs.declared.level.LevelName.{LevelName}
 use Rattle.snippet_model.specs.declared.level.LevelName.TheVariants.{Standard, Hidden, Own}
 use Rattle.snippet_model.specs.declared.snippet.Title.{Title}
@@ -68,14 +66,10 @@ is_standard (Own name) = false
 abbrev pub is_covered_title : Title → Bool
 is_covered_title title = is_standard title.level.name && is_none title.id && not title.allows_styling
 
-abbrev pub is_ascii : DecorStyle → Bool
-is_ascii Ascii = true
-is_ascii Unicode = false
-
--- a renderer that draws so far: one with ASCII strokes and no switch, of any width and stylesheet, with links or without
+-- a renderer that draws so far: one with no switch, of any width, strokes and stylesheet, with links or without
 abbrev pub is_covered_renderer : Renderer → Bool
 is_covered_renderer r =
-    is_ascii r.decor_style && not (r.anonymized_origin_line_numbers || r.anonymized_snippet_line_numbers || r.short_message || r.no_graphics)
+    not (r.anonymized_origin_line_numbers || r.anonymized_snippet_line_numbers || r.short_message || r.no_graphics)
 
 -- elements under a title, as this renderer draws them so far: one annotated snippet
 abbrev pub are_covered_elements : Renderer → Title → List Element → Bool

@@ -281,7 +281,9 @@ impl Renderer {
         let Some((level, title, snippet)) = covered(self, groups) else {
             return Err(RenderError::NotYet);
         };
-        let grid = graphic::page(alloc, self.decor_style, title, snippet).map_err(RenderError::Memory)?;
+        let grid = graphic::page(alloc, self.decor_style, title, snippet).map_err(
+            RenderError::Memory,
+        )?;
         Ok((level, grid))
     }
 }

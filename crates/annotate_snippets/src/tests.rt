@@ -2,8 +2,8 @@ ghost use Rattle.std.specs.Prelude.{◌^◌, ◌<◌, length, IfOk};
 ghost use Rattle.snippet_model.specs.Fits.{SnippetFits, AnnotationFits};
 
 use crate::level::ERROR;
-use crate::renderer::RenderError;
 use crate::renderer::style::{AnsiColor, Stylesheet};
+use crate::renderer::{DecorStyle, RenderError};
 use crate::{Annotation, AnnotationKind, Element, OptionCow, Renderer, Snippet};
 use std::alloc::{AllocError, Global};
 use std::test::Fail;
@@ -48,6 +48,24 @@ fn texts(
         .element(alloc, Element::from(snippet))
         .map_err(RenderError::Memory)?;
     Renderer::plain().render_sheets(alloc, &[group], sheets)
+}
+
+/// The same, drawn with Unicode strokes.
+fn unicode_text(
+    alloc: Global,
+    title: &str,
+    snippet: Snippet<Annotation>,
+) -> Result<String, RenderError>
+    requires title { length title.now < 2 ^ 56 }
+    requires snippet { SnippetFits AnnotationFits snippet }
+{
+    let group = ERROR
+        .primary_title(title)
+        .element(alloc, Element::from(snippet))
+        .map_err(RenderError::Memory)?;
+    Renderer::plain()
+        .decor_style(DecorStyle::Unicode)
+        .render(alloc, &[group])
 }
 
 #[test]
@@ -457,6 +475,35 @@ fn judges_a_report_under_no_sheets(rt: HostRuntime) -> Result<(), Fail> {
                 marker: 0
             })
         )
+    );
+    Ok(())
+}
+
+#[test]
+fn draws_in_unicode(rt: HostRuntime) -> Result<(), Fail> {
+    let snippet = Snippet::source(rt.alloc(), "let x = 1;\n").annotation(
+        AnnotationKind::Primary
+            .span(4..5)
+            .label(OptionCow::from("here")),
+    )?;
+    assert_eq!(rt;
+        unicode_text(rt.alloc(), "unused", snippet)?.as_str(),
+        "error: unused\n  ╭▸ \n1 │ let x = 1;\n  ╰╴    ━ here"
+    );
+    let snippet = Snippet::source(rt.alloc(), "ab cd")
+        .annotation(
+            AnnotationKind::Context
+                .span(0..2)
+                .label(OptionCow::from("a")),
+        )?
+        .annotation(
+            AnnotationKind::Primary
+                .span(3..5)
+                .label(OptionCow::from("c")),
+        )?;
+    assert_eq!(rt;
+        unicode_text(rt.alloc(), "e", snippet)?.as_str(),
+        "error: e\n  ╭▸ \n1 │ ab cd\n  │ ┬─ ━━ c\n  │ │\n  ╰╴a"
     );
     Ok(())
 }

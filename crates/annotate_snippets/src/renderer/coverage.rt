@@ -26,7 +26,7 @@ use snippet_parts as parts;
 use snippet_parts::line_bounds::{line_bounds, line_text};
 use snippet_parts::{column_of, counted_number, is_marking};
 use snippet_strokes::gutter_width;
-use snippet_style::{DecorStyle, LevelInner};
+use snippet_style::LevelInner;
 use snippet_text::str_width;
 
 /// The column up to which a line may begin, or a span start, for nothing to be cut from the left.
@@ -77,25 +77,14 @@ fn sole_snippet<'r, 'a>(elements: &'r [Element<'a>]) -> Option<&'r Snippet<'a, A
     }
 }
 
-/// Whether a renderer draws so far: with ASCII strokes and no switch, of any width and stylesheet, with links or without.
+/// Whether a renderer draws so far: with no switch, of any width, strokes and stylesheet, with links or without.
 fn is_covered_renderer(renderer: &Renderer) -> bool
     ensures value { result ≡ spec.is_covered_renderer renderer.now }
 {
-    is_ascii(renderer.decor_style)
-        && !(renderer.anonymized_origin_line_numbers
-            || renderer.anonymized_snippet_line_numbers
-            || renderer.short_message
-            || renderer.no_graphics)
-}
-
-/// Whether strokes are drawn in ASCII.
-fn is_ascii(decor: DecorStyle) -> bool
-    ensures value { result ≡ spec.is_ascii decor }
-{
-    match decor {
-        DecorStyle::Ascii => true,
-        DecorStyle::Unicode => false,
-    }
+    !(renderer.anonymized_origin_line_numbers
+        || renderer.anonymized_snippet_line_numbers
+        || renderer.short_message
+        || renderer.no_graphics)
 }
 
 /// Whether a title is drawn so far: a primary one of a standard level, without an id.

@@ -86,6 +86,14 @@ fn draw_cause(
         code: gutter + 3,
         decor,
     };
-    draw_snippet(alloc, buffer, layout, snippet.line_numbering, true, true, &lines)?;
+    draw_snippet(
+        alloc,
+        buffer,
+        layout,
+        snippet.line_numbering,
+        true,
+        true,
+        &lines,
+    )?;
     Ok(())
 }
