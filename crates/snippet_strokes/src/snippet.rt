@@ -92,15 +92,16 @@ mod tests {
     use snippet_style::DecorStyle;
     use std::test::Fail;
 
+    /// The strokes of `let x = 1;`, of which column 4 is marked and labelled, in a group of this one snippet.
     #[test]
     fn draws_where_memory_suffices(rt: HostRuntime) -> Result<(), Fail> {
         let layout = Layout {
             gutter: 1,
             code: 4,
-            decor: DecorStyle::Ascii,
+            decor: DecorStyle::Unicode,
         };
         let start = Loc {
-            line: 7,
+            line: 1,
             char: 4,
             display: 4,
             byte: 4,
@@ -112,19 +113,20 @@ mod tests {
                 ..start
             },
             kind: AnnotationKind::Primary,
-            label: None,
+            label: Some("here"),
             annotation_type: LineAnnotationType::Singleline,
             highlight_source: false,
         };
         let marked = AnnotatedLineInfo {
             line: "let x = 1;",
-            line_index: 7,
+            line_index: 1,
             annotations: [entry].to_vec(rt.alloc())?,
             keep: false,
         };
         let mut buffer = StyledBuffer::new(rt.alloc());
         draw_snippet(rt.alloc(), &mut buffer, layout, true, true, true, &[marked])?;
-        assert_eq!(rt; buffer.num_lines(), 3);
+        let text = buffer.plain_text()?;
+        assert_eq!(rt; text.as_str(), "  ╭▸ \n1 │ let x = 1;\n  ╰╴    ━ here");
         Ok(())
     }
 }
