@@ -281,9 +281,8 @@ impl Renderer {
         let Some((level, title, snippet)) = covered(self, groups) else {
             return Err(RenderError::NotYet);
         };
-        let grid = graphic::page(alloc, self.decor_style, title, snippet).map_err(
-            RenderError::Memory,
-        )?;
+        let decor = self.decor_style;
+        let grid = graphic::page(alloc, decor, title, snippet).map_err(RenderError::Memory)?;
         Ok((level, grid))
     }
 }
