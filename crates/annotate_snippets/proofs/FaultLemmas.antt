@@ -89,31 +89,31 @@ number-faultless group element number none = by_cases (nat_lt number (2 ^ 64)) r
     by_cases false is h = cc
 
 -- what a report of one annotated snippet is where it has no fault: the faults of the snippet are none
-snippet-faultless : (title : Title) (snippet : Snippet Annotation) (groups : List Group) → IsReportOf title snippet groups → first_fault groups ≡ None → element_faults 0 0 (Cause snippet) ≡ []
+snippet-faultless : (title : Title) (snippet : Snippet Annotation) (groups : List Group) → IsReportOf title (Some snippet) groups → first_fault groups ≡ None → element_faults 0 0 (Cause snippet) ≡ []
 unfolding first_fault
 snippet-faultless title snippet groups of none =
     front_none _ [] (ap (faults_from (element_faults 0) 0) (sym of.elements_are) ∙ front_none (group_faults 0 of.group) [] (none_first _ (ap (λ (gs : List Group). first_of (faults_from group_faults 0 gs)) (sym of.groups_are) ∙ none)))
 
 -- its spans are spans
-pub spans-of_report : (title : Title) (snippet : Snippet Annotation) (groups : List Group) → IsReportOf title snippet groups → first_fault groups ≡ None → All (λ a. IsSpan (cow_str_bytes snippet.source) a.span.start a.span.end) snippet.markers.items
+pub spans-of_report : (title : Title) (snippet : Snippet Annotation) (groups : List Group) → IsReportOf title (Some snippet) groups → first_fault groups ≡ None → All (λ a. IsSpan (cow_str_bytes snippet.source) a.span.start a.span.end) snippet.markers.items
 spans-of_report title snippet groups of none =
     spans-faultless 0 0 0 (cow_str_bytes snippet.source) snippet.markers.items (front_none _ _ (snippet-faultless title snippet groups of none))
 
 -- its line numbers fit
-pub numbers-of_report : (title : Title) (snippet : Snippet Annotation) (groups : List Group) → IsReportOf title snippet groups → first_fault groups ≡ None → snippet.line_start + length (source_lines (cow_str_bytes snippet.source)) < 2 ^ 64
+pub numbers-of_report : (title : Title) (snippet : Snippet Annotation) (groups : List Group) → IsReportOf title (Some snippet) groups → first_fault groups ≡ None → snippet.line_start + length (source_lines (cow_str_bytes snippet.source)) < 2 ^ 64
 numbers-of_report title snippet groups of none =
     number-faultless 0 0 _ (back_none _ _ (snippet-faultless title snippet groups of none))
 
 -- its texts fit
-group-fits : (title : Title) (snippet : Snippet Annotation) (groups : List Group) (of : IsReportOf title snippet groups) → ReportFits groups → GroupFits of.group
-group-fits title snippet groups of fits =
+group-fits : (title : Title) (cause : Option (Snippet Annotation)) (groups : List Group) (of : IsReportOf title cause groups) → ReportFits groups → GroupFits of.group
+group-fits title cause groups of fits =
     All-head GroupFits of.group [] (All-same GroupFits (of.group ∷ []) groups (sym of.groups_are) fits)
 
-pub source-of_report : (title : Title) (snippet : Snippet Annotation) (groups : List Group) → IsReportOf title snippet groups → ReportFits groups → SnippetFits AnnotationFits snippet
+pub source-of_report : (title : Title) (snippet : Snippet Annotation) (groups : List Group) → IsReportOf title (Some snippet) groups → ReportFits groups → SnippetFits AnnotationFits snippet
 source-of_report title snippet groups of fits =
-    All-head ElementFits (Cause snippet) [] (All-same ElementFits (Cause snippet ∷ []) of.group.elements.items (sym of.elements_are) (group-fits title snippet groups of fits).1)
+    All-head ElementFits (Cause snippet) [] (All-same ElementFits (Cause snippet ∷ []) of.group.elements.items (sym of.elements_are) (group-fits title (Some snippet) groups of fits).1)
 
-pub title-of_report : (title : Title) (snippet : Snippet Annotation) (groups : List Group) → IsReportOf title snippet groups → ReportFits groups → TitleFits title
-title-of_report title snippet groups of fits =
-    let one : IfSome of.group.title TitleFits = (group-fits title snippet groups of fits).0 in
+pub title-of_report : (title : Title) (cause : Option (Snippet Annotation)) (groups : List Group) → IsReportOf title cause groups → ReportFits groups → TitleFits title
+title-of_report title cause groups of fits =
+    let one : IfSome of.group.title TitleFits = (group-fits title cause groups of fits).0 in
     subst (λ t. IfSome t TitleFits) of.title_is one

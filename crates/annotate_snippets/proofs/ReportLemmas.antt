@@ -1,5 +1,5 @@
 -- The text of a covered report shows it.
-use Rattle.std.proofs.Common.{◌≡◌, ℕ, zero, suc, ◌+◌, ◌<◌, ◌==◌, ◌||◌, Bool, true, false, not, List, [], ◌∷◌, ◌++◌, length, chars, take, get_or, Result, Ok, Err, refl, sym, ap, subst, ◌∙◌, arith}
+use Rattle.std.proofs.Common.{◌≡◌, ℕ, zero, suc, ◌+◌, ◌<◌, ◌==◌, ◌||◌, Bool, true, false, not, List, [], ◌∷◌, ◌++◌, length, chars, take, get_or, Result, Ok, Err, refl, sym, ap, subst, ◌∙◌, arith, Option, None, Some, IfSome}
 use Rattle.std.specs.List.{All, AllZip, Contains, flat_map}
 use Rattle.std.specs.Result.{IfOk, MatchResult, IsErrAnd}
 use Rattle.std.specs.Cow.{cow_str_bytes}
@@ -27,9 +27,14 @@ use Rattle.snippet_strokes.specs.Rows.{IsFree}
 use Rattle.snippet_strokes.proofs.SnippetLemmas.{free_from_AddsSnippet}
 use Rattle.annotate_snippets.specs.declared.renderer.Renderer.{Renderer}
 use Rattle.annotate_snippets.specs.Covered.{gutter_of, is_covered_annotation, is_covered_snippet, is_covered_title, is_covered_renderer, IsReportOf}
-use Rattle.annotate_snippets.specs.Drawn.{layout_of, numbered_source, AddsCause, IsGridOf, IsGridOfReport}
+use Rattle.annotate_snippets.specs.Drawn.{layout_of, numbered_source, AddsCause, IsDrawable, IsGridOf, IsGridOfReport}
 use Rattle.annotate_snippets.specs.Page.{NamedRow, cells_of, GroupPage, group_rows, ArePrinted, PrintsPage}
-use Rattle.annotate_snippets.specs.Shown.{gutter_of_report, ShowsTitle, ShowsElement, ShowsGroup, levels_of, SheetsShown, IsFreeBut, IsFreeUnder}
+use Rattle.annotate_snippets.specs.Shown.{Frame, gutter_of_report, ShowsTitle, ShowsElement, ShowsGroup, levels_of, SheetsShown, IsFreeBut, IsFreeUnder}
+use Rattle.std.specs.Borrow.{Bor}
+use Rattle.std.specs.Option.{option_copied}
+use Rattle.snippet_model.specs.Fits.{ReportFits}
+use Rattle.annotate_snippets.specs.Fault.{first_fault}
+use Rattle.annotate_snippets.proofs.FaultLemmas.{spans-of_report, numbers-of_report, source-of_report}
 use Rattle.annotate_snippets.proofs.MarkLemmas.{AreShort}
 use Rattle.annotate_snippets.proofs.PageLemmas.{frame_of, snippet_shown}
 use Rattle.annotate_snippets.proofs.TitleLemmas.{ShowsTitle-rows, free_title}
@@ -63,7 +68,7 @@ gutter_is : (r : Renderer) (group : Group) (s : Snippet Annotation) → r.anonym
 gutter_is r group s plain elements =
     sym (rw (plain, append-nil group.elements.items, elements) (omega arith))
 
-module _ (r : Renderer) (groups : List Group) (title : Title) (s : Snippet Annotation) (of : IsReportOf title s groups) (plain : r.anonymized_snippet_line_numbers ≡ false) (titled : is_covered_title title ≡ true) (covered : is_covered_snippet r.term_width s ≡ true) where
+module _ (r : Renderer) (groups : List Group) (title : Title) (s : Snippet Annotation) (of : IsReportOf title (Some s) groups) (plain : r.anonymized_snippet_line_numbers ≡ false) (titled : is_covered_title title ≡ true) (covered : is_covered_snippet r.term_width s ≡ true) where
   abbrev titles : List (List Cell)
   titles = title_rows title.level (cow_str_bytes title.text)
 
@@ -126,9 +131,35 @@ numbers_shown r covered =
     none_of false true c d off = grind (arith, off)
     none_of false false c d off = refl
 
+-- a title alone is a page of its group
+bare_shown : (r : Renderer) (groups : List Group) (title : Title) (of : IsReportOf title None groups) → is_covered_title title ≡ true → AllZip (ShowsGroup r (gutter_of_report r groups)) groups (record { title = title_rows title.level (cow_str_bytes title.text); elements = [] } ∷ [])
+bare_shown r groups title of titled =
+    let titles : List (List Cell) = title_rows title.level (cow_str_bytes title.text) in
+    let page : GroupPage = record { title = titles; elements = [] } in
+    let gutter : ℕ = gutter_of_report r groups in
+    let frame : Frame = record { gutter = gutter; code = gutter + 3 } in
+    let shown : ShowsGroup r gutter of.group page = record {
+      frame = frame;
+      gutter_is = refl;
+      code_from = omega arith;
+      code_is = λ _. refl;
+      title = subst (λ t. ShowsTitle gutter t titles) (sym of.title_is) (ShowsTitle-rows gutter title titled);
+      elements = subst (λ es. AllZip (ShowsElement r frame) es []) (sym of.elements_are) tt;
+    } in
+    subst (λ gs. AllZip (ShowsGroup r gutter) gs (page ∷ [])) (sym of.groups_are) (shown, tt)
+
 -- the grid of a covered report is a page of it
-pub grid_of_report : (r : Renderer) (groups : List Group) (level : LevelInner) (title : Title) (s : Snippet Annotation) → levels_of groups ≡ level ∷ [] → IsReportOf title s groups → is_covered_renderer r ≡ true → is_covered_title title ≡ true → is_covered_snippet r.term_width s ≡ true → (rows : List (List Cell)) → IsGridOf r.decor_style title s rows → IsGridOfReport r groups level rows
-grid_of_report r groups level title s leveled of drawing titled covered rows drawn =
+pub grid_of_report : (r : Renderer) (groups : List Group) (level : LevelInner) (title : Title) (cause : Option (Snippet Annotation)) → levels_of groups ≡ level ∷ [] → IsReportOf title cause groups → is_covered_renderer r ≡ true → is_covered_title title ≡ true → IfSome cause (λ s. is_covered_snippet r.term_width s ≡ true) → (rows : List (List Cell)) → IsGridOf r.decor_style title cause rows → IsGridOfReport r groups level rows
+grid_of_report r groups level title None leveled of drawing titled covered rows drawn =
+    let titles : List (List Cell) = title_rows title.level (cow_str_bytes title.text) in
+    record {
+      group = record { title = titles; elements = [] };
+      rows_are = drawn ∙ sym (append-nil titles);
+      level_is = leveled;
+      shows = bare_shown r groups title of titled;
+      free = free_but (trusted_texts groups) (plain_text rows) (text_free rows (subst (All IsFree) (sym drawn) (free_title title titled)));
+    }
+grid_of_report r groups level title (Some s) leveled of drawing titled covered rows drawn =
     let plain = numbers_shown r drawing in
     let shown = report_shown r groups title s of plain titled covered rows drawn in
     record {
@@ -138,6 +169,24 @@ grid_of_report r groups level title s leveled of drawing titled covered rows dra
       shows = shown.2;
       free = free_but (trusted_texts groups) (plain_text rows) (text_free rows (rows_free r groups title s of plain titled covered rows drawn));
     }
+
+-- the snippet of a covered report can be drawn
+pub drawable_of_report : (width : ℕ) (title : Title) (cause : Option (Bor (Snippet Annotation))) (groups : List Group) → IsReportOf title (option_copied cause) groups → ReportFits groups → first_fault groups ≡ None → IfSome cause (λ s. is_covered_snippet width s.now ≡ true) → IfSome cause (λ s. IsDrawable s.now)
+drawable_of_report width title None groups of fits faultless covered = tt
+drawable_of_report width title (Some s) groups of fits faultless covered =
+    let texts = source-of_report title s.now groups of fits in
+    record {
+      source = texts.0;
+      numbers = numbers-of_report title s.now groups of faultless;
+      some = (short_snippet width s.now covered).some;
+      spans = spans-of_report title s.now groups of faultless;
+      labels = texts.2;
+    }
+
+-- what is known of a snippet that is lent is known of it
+pub covered_copied : (width : ℕ) (cause : Option (Bor (Snippet Annotation))) → IfSome cause (λ s. is_covered_snippet width s.now ≡ true) → IfSome (option_copied cause) (λ s. is_covered_snippet width s ≡ true)
+covered_copied width None covered = tt
+covered_copied width (Some s) covered = covered
 
 -- what holds of the items of two lists, place by place, and what follows from it
 pub AllZip-weaker : {A B : Type 0} (P Q : A → B → Type 0) → ((x : A) (y : B) → P x y → Q x y) → (xs : List A) (ys : List B) → AllZip P xs ys → AllZip Q xs ys

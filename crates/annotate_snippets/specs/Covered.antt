@@ -71,9 +71,9 @@ abbrev pub is_covered_renderer : Renderer → Bool
 is_covered_renderer r =
     not (r.anonymized_origin_line_numbers || r.anonymized_snippet_line_numbers || r.short_message || r.no_graphics)
 
--- elements under a title, as this renderer draws them so far: one annotated snippet
+-- elements under a title, as this renderer draws them so far: none, or one annotated snippet
 abbrev pub are_covered_elements : Renderer → Title → List Element → Bool
-are_covered_elements r title [] = false
+are_covered_elements r title [] = is_covered_renderer r && is_covered_title title
 are_covered_elements r title (Message message ∷ es) = false
 are_covered_elements r title (Cause snippet ∷ []) =
     is_covered_renderer r && is_covered_title title && is_covered_snippet r.term_width snippet
@@ -93,9 +93,14 @@ is_covered r [] = false
 is_covered r (g ∷ []) = is_covered_group r g.title g.elements.items
 is_covered r (g ∷ h ∷ gs) = false
 
--- a report of one group, of this title and this annotated snippet
-pub record IsReportOf (title : Title) (snippet : Snippet Annotation) (groups : List Group) : Type 0 where
+-- the elements of a group with this annotated snippet, or with none
+abbrev pub causes : Option (Snippet Annotation) → List Element
+causes None = []
+causes (Some snippet) = Cause snippet ∷ []
+
+-- a report of one group, of this title and this annotated snippet, or without one
+pub record IsReportOf (title : Title) (cause : Option (Snippet Annotation)) (groups : List Group) : Type 0 where
   pub group : Group
   pub groups_are : groups ≡ group ∷ []
   pub title_is : group.title ≡ Some title
-  pub elements_are : group.elements.items ≡ Cause snippet ∷ []
+  pub elements_are : group.elements.items ≡ causes cause

@@ -1,5 +1,5 @@
 -- What the grid holds: a title, an annotated snippet below it, and with both a whole report.
-use Rattle.std.specs.Prelude.{◌≡◌, ◌+◌, true, List, [], ◌∷◌, map}
+use Rattle.std.specs.Prelude.{◌≡◌, ◌+◌, ◌<◌, ◌^◌, All, length, true, List, [], ◌∷◌, Option, None, Some, map}
 use Rattle.std.specs.List.{AllZip}
 use Rattle.std.specs.Cow.{cow_str_bytes}
 use Rattle.snippet_style.specs.Grid.{Cell}
@@ -13,7 +13,9 @@ use Rattle.snippet_style.specs.declared.glyphs.DecorStyle.{DecorStyle}
 use Rattle.snippet_model.specs.declared.snippet.Snippet.{Snippet}
 use Rattle.snippet_model.specs.declared.snippet.Annotation.{Annotation}
 use Rattle.snippet_parts.specs.declared.entries.AnnotatedLineInfo.{AnnotatedLineInfo}
-use Rattle.snippet_parts.specs.Lines.{Source}
+use Rattle.snippet_parts.specs.Lines.{Source, source_lines}
+use Rattle.snippet_parts.specs.Span.{IsSpan}
+use Rattle.snippet_model.specs.Fits.{AnnotationFits}
 use Rattle.snippet_parts.specs.Marked.{seen_line, marked_lines}
 use Rattle.snippet_strokes.specs.declared.layout.Layout.{Layout}
 use Rattle.snippet_strokes.specs.Snippet.{AddsSnippet}
@@ -37,9 +39,18 @@ pub record AddsCause (decor : DecorStyle) (s : Snippet Annotation) (old new : Li
   pub lines : map seen_line infos ≡ marked_lines (numbered_source s) s.markers.items
   pub rows : AddsSnippet (layout_of decor s) s.line_numbering true true infos old new
 
--- the grid holds the rows of this title, and below them the rows of this snippet
-abbrev pub IsGridOf : DecorStyle → Title → Snippet Annotation → List (List Cell) → Type 0
-IsGridOf decor title s rows = AddsCause decor s (title_rows title.level (cow_str_bytes title.text)) rows
+-- what drawing a snippet asks of it: that its texts and its line numbers fit, and that it has spans, each of which is one
+pub record IsDrawable (s : Snippet Annotation) : Type 0 where
+  pub source : length (cow_str_bytes s.source) < 2 ^ 56
+  pub numbers : s.line_start + length (source_lines (cow_str_bytes s.source)) < 2 ^ 64
+  pub some : 0 < length s.markers.items
+  pub spans : All (λ a. IsSpan (cow_str_bytes s.source) a.span.start a.span.end) s.markers.items
+  pub labels : All AnnotationFits s.markers.items
+
+-- the grid holds the rows of this title, and below them those of this snippet, if there is one
+abbrev pub IsGridOf : DecorStyle → Title → Option (Snippet Annotation) → List (List Cell) → Type 0
+IsGridOf decor title None rows = rows ≡ title_rows title.level (cow_str_bytes title.text)
+IsGridOf decor title (Some s) rows = AddsCause decor s (title_rows title.level (cow_str_bytes title.text)) rows
 
 -- the grid of a report of one group, which is printed in this level: its rows are a page that shows the group, and each
 -- listed character of them is one of a trusted text

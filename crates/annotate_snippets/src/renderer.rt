@@ -278,11 +278,11 @@ impl Renderer {
         if let Some(fault) = first_fault(groups) {
             return Err(fault);
         }
-        let Some((level, title, snippet)) = covered(self, groups) else {
+        let Some((level, title, cause)) = covered(self, groups) else {
             return Err(RenderError::NotYet);
         };
         let decor = self.decor_style;
-        let grid = graphic::page(alloc, decor, title, snippet).map_err(RenderError::Memory)?;
+        let grid = graphic::page(alloc, decor, title, cause).map_err(RenderError::Memory)?;
         Ok((level, grid))
     }
 }

@@ -4,7 +4,7 @@ ghost use Rattle.snippet_model.specs.Fits.{SnippetFits, AnnotationFits};
 use crate::level::ERROR;
 use crate::renderer::style::{AnsiColor, Stylesheet};
 use crate::renderer::{DecorStyle, RenderError};
-use crate::{Annotation, AnnotationKind, Element, OptionCow, Renderer, Snippet};
+use crate::{Annotation, AnnotationKind, Element, Group, OptionCow, Renderer, Snippet};
 use std::alloc::{AllocError, Global};
 use std::test::Fail;
 
@@ -505,5 +505,12 @@ fn draws_in_unicode(rt: HostRuntime) -> Result<(), Fail> {
         unicode_text(rt.alloc(), "e", snippet)?.as_str(),
         "error: e\n  ╭▸ \n1 │ ab cd\n  │ ┬─ ━━ c\n  │ │\n  ╰╴a"
     );
+    Ok(())
+}
+
+#[test]
+fn draws_a_title_alone(rt: HostRuntime) -> Result<(), Fail> {
+    let group = Group::with_title(rt.alloc(), ERROR.primary_title("e"));
+    assert_eq!(rt; Renderer::plain().render(rt.alloc(), &[group])?.as_str(), "error: e");
     Ok(())
 }

@@ -3,6 +3,7 @@
 ghost use Rattle.std.specs.Prelude.{◌≡◌, ◌+◌, ◌-◌, ◌<◌, ◌≤◌, ◌^◌, ◌&&◌, ◌||◌, ◌==◌, ◌≢◌, [], ◌∷◌, true, None, IfSome, IfNone, is_some, All, length, chars, nat_le, nat_lt, is_none};
 ghost use Rattle.std.specs.List.{list_all, list_any};
 ghost use Rattle.std.specs.Cow.{cow_str_bytes};
+ghost use Rattle.std.specs.Option.{option_copied};
 ghost use Rattle.snippet_parts.specs.Lines.{source_lines};
 ghost use Rattle.snippet_parts.specs.Span.{IsSpan};
 ghost use Rattle.snippet_parts.specs.Place.{place_of};
@@ -32,8 +33,12 @@ use snippet_text::str_width;
 /// The column up to which a line may begin, or a span start, for nothing to be cut from the left.
 const NEAR: usize = 26;
 
-/// The one group of a report as it is drawn: its level, its title and its snippet.
-pub type CoveredGroup<'r, 'a> = (LevelInner, &'r Title<'a>, &'r Snippet<'a, Annotation<'a>>);
+/// The one group of a report as it is drawn: its level, its title and its snippet, if it has one.
+pub type CoveredGroup<'r, 'a> = (
+    LevelInner,
+    &'r Title<'a>,
+    Option<&'r Snippet<'a, Annotation<'a>>>,
+);
 
 /// The level, the title and the snippet of a report, if this renderer draws it so far.
 pub fn covered<'r, 'a>(renderer: &Renderer, groups: &'r [Group<'a>]) -> Option<CoveredGroup<'r, 'a>>
@@ -41,10 +46,11 @@ pub fn covered<'r, 'a>(renderer: &Renderer, groups: &'r [Group<'a>]) -> Option<C
     requires faultless { first_fault groups.now ≡ None }
     ensures covered { is_some result ≡ spec.is_covered renderer.now groups.now }
     ensures level { IfSome result (λ parts. levels_of groups.now ≡ parts.0 ∷ []) }
-    ensures parts { IfSome result (λ parts. IsReportOf parts.1.now parts.2.now groups.now) }
+    ensures parts { IfSome result (λ parts. IsReportOf parts.1.now (option_copied parts.2) groups.now) }
     ensures renderer { IfSome result (λ parts. spec.is_covered_renderer renderer.now ≡ true) }
     ensures title { IfSome result (λ parts. spec.is_covered_title parts.1.now ≡ true) }
-    ensures snippet { IfSome result (λ parts. spec.is_covered_snippet renderer.now.term_width parts.2.now ≡ true) }
+    ensures snippet { IfSome result (λ parts.
+        IfSome parts.2 (λ snippet. spec.is_covered_snippet renderer.now.term_width snippet.now ≡ true)) }
 {
     let [group] = groups else {
         return None;
@@ -52,12 +58,15 @@ pub fn covered<'r, 'a>(renderer: &Renderer, groups: &'r [Group<'a>]) -> Option<C
     let Some(title) = &group.title else {
         return None;
     };
+    if !is_covered_renderer(renderer) || !is_covered_title(title) {
+        return None;
+    }
+    if group.elements.is_empty() {
+        return Some((group.level, title, None));
+    }
     let snippet = sole_snippet(&group.elements)?;
-    if is_covered_renderer(renderer)
-        && is_covered_title(title)
-        && is_covered_snippet(renderer.term_width, snippet)
-    {
-        Some((group.level, title, snippet))
+    if is_covered_snippet(renderer.term_width, snippet) {
+        Some((group.level, title, Some(snippet)))
     } else {
         None
     }

@@ -6,14 +6,14 @@
 //! 1 | let x = 1;
 //!   |     ^
 //! ```
-ghost use Rattle.std.specs.Prelude.{◌≡◌, ◌+◌, ◌<◌, ◌≤◌, ◌^◌, All, length, OnOk, IfOk, map, string_bytes};
+ghost use Rattle.std.specs.Prelude.{◌<◌, ◌^◌, length, IfSome, OnOk, IfOk, map, string_bytes};
 ghost use Rattle.std.specs.List.{AllZip};
-ghost use Rattle.std.specs.Cow.{cow_str_bytes};
+ghost use Rattle.std.specs.Option.{option_copied};
 ghost use Rattle.snippet_model.specs.Fits.{AnnotationFits};
 ghost use Rattle.snippet_model.specs.Level.{name_of};
 ghost use Rattle.snippet_parts.specs.Lines.{source_lines};
 ghost use Rattle.snippet_parts.specs.Span.{IsSpan};
-ghost use Rattle.annotate_snippets.specs.Drawn.{AddsCause, IsGridOf};
+ghost use Rattle.annotate_snippets.specs.Drawn.{AddsCause, IsDrawable, IsGridOf};
 ghost use Rattle.snippet_style.specs.Woven.{Prints};
 
 use crate::renderer::coverage::gutter_of;
@@ -25,24 +25,23 @@ use snippet_style::{DecorStyle, LevelInner, StyledBuffer, Stylesheet};
 use snippet_titles::draw_title;
 use std::alloc::{AllocError, Global};
 
-/// The grid of a title and an annotated snippet below it, drawn with these strokes.
+/// The grid of a title and an annotated snippet below it, if there is one, drawn with these strokes.
 pub fn page<'a>(
     alloc: Global,
     decor: DecorStyle,
     title: &Title<'a>,
-    snippet: &Snippet<'a, Annotation<'a>>,
+    cause: Option<&Snippet<'a, Annotation<'a>>>,
 ) -> Result<StyledBuffer<'a>, AllocError>
     requires named { 0 < length (name_of title.now.level) }
     requires name { length (name_of title.now.level) < 2 ^ 56 }
-    requires source { length (cow_str_bytes snippet.now.source) < 2 ^ 56 }
-    requires numbers { snippet.now.line_start + length (source_lines (cow_str_bytes snippet.now.source)) < 2 ^ 64 }
-    requires some { 0 < length snippet.now.markers.items }
-    requires spans { All (λ a. IsSpan (cow_str_bytes snippet.now.source) a.span.start a.span.end) snippet.now.markers.items }
-    requires labels { All AnnotationFits snippet.now.markers.items }
-    ensures drawn { IfOk result (λ grid. IsGridOf decor title.now snippet.now grid) }
+    requires cause { IfSome cause (λ snippet. IsDrawable snippet.now) }
+    ensures drawn { IfOk result (λ grid. IsGridOf decor title.now (option_copied cause.entry) grid) }
 {
     let mut buffer = StyledBuffer::new(alloc);
     draw_title(alloc, &mut buffer, title)?;
+    let Some(snippet) = cause else {
+        return Ok(buffer);
+    };
     draw_cause(alloc, &mut buffer, decor, snippet)?;
     Ok(buffer)
 }
@@ -71,11 +70,7 @@ fn draw_cause(
     decor: DecorStyle,
     snippet: &Snippet<Annotation>,
 ) -> Result<(), AllocError>
-    requires source { length (cow_str_bytes snippet.now.source) < 2 ^ 56 }
-    requires numbers { snippet.now.line_start + length (source_lines (cow_str_bytes snippet.now.source)) < 2 ^ 64 }
-    requires some { 0 < length snippet.now.markers.items }
-    requires spans { All (λ a. IsSpan (cow_str_bytes snippet.now.source) a.span.start a.span.end) snippet.now.markers.items }
-    requires labels { All AnnotationFits snippet.now.markers.items }
+    requires drawable { IsDrawable snippet.now }
     ensures added { OnOk result (AddsCause decor snippet.now buffer.old buffer.new) }
 {
     let source = SourceMap::new(alloc, snippet.source.as_str(), snippet.line_start)?;

@@ -12,7 +12,7 @@ use Rattle.annotate_snippets.proofs.renderer.graphic.draw_cause.Goals as goal
 
 pub new-requires-clause-numbers : goal.new-requires-clause-numbers
 new-requires-clause-numbers c =
-    omega (arith, ap newline_count c.as_str.ensures.value, length-source_lines (cow_str_bytes c.args.snippet.now.source), c.requires.numbers)
+    omega (arith, ap newline_count c.as_str.ensures.value, length-source_lines (cow_str_bytes c.args.snippet.now.source), c.requires.drawable.numbers)
 
 -- the lines that are drawn are the marked ones of the snippet's source
 marked : (c : goal.After-deref-2) → map seen_line c.deref-2.result.now ≡ marked_lines (numbered_source c.args.snippet.now) c.args.snippet.now.markers.items
@@ -22,13 +22,13 @@ marked c =
 pub draw_snippet-requires-clause-numbers : goal.draw_snippet-requires-clause-numbers
 draw_snippet-requires-clause-numbers c = λ k d within.
     let s = c.args.snippet.now in
-    shown-fits s c.gutter_of-gutter.result _ c.gutter_of-gutter.ensures.value (numbers-counted s c.deref-2.result.now (marked c) c.requires.spans k d within) (numbers-small s c.deref-2.result.now (marked c) c.requires.numbers k d within) (counted-small s c.requires.numbers)
+    shown-fits s c.gutter_of-gutter.result _ c.gutter_of-gutter.ensures.value (numbers-counted s c.deref-2.result.now (marked c) c.requires.drawable.spans k d within) (numbers-small s c.deref-2.result.now (marked c) c.requires.drawable.numbers k d within) (counted-small s c.requires.drawable.numbers)
 
 pub draw_snippet-requires-clause-texts : goal.draw_snippet-requires-clause-texts
 draw_snippet-requires-clause-texts c = λ k d within.
     let s = c.args.snippet.now in
-    omega (arith, ap length (marked_lines-text (numbered_source s) s.markers.items c.deref-2.result.now (marked c) k d within), length-text_at-source (cow_str_bytes s.source) (least_line (cow_str_bytes s.source) s.markers.items + k), c.requires.source)
+    omega (arith, ap length (marked_lines-text (numbered_source s) s.markers.items c.deref-2.result.now (marked c) k d within), length-text_at-source (cow_str_bytes s.source) (least_line (cow_str_bytes s.source) s.markers.items + k), c.requires.drawable.source)
 
 pub draw_snippet-requires-clause-labels : goal.draw_snippet-requires-clause-labels
 draw_snippet-requires-clause-labels c =
-    labels_fit (numbered_source c.args.snippet.now) c.args.snippet.now.markers.items c.deref-2.result.now (marked c) c.requires.labels
+    labels_fit (numbered_source c.args.snippet.now) c.args.snippet.now.markers.items c.deref-2.result.now (marked c) c.requires.drawable.labels
