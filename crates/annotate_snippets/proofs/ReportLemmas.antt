@@ -1,24 +1,26 @@
 -- The text of a covered report shows it.
-use Rattle.std.proofs.Common.{◌≡◌, ℕ, zero, suc, ◌+◌, ◌<◌, ◌==◌, ◌||◌, Bool, true, false, not, List, [], ◌∷◌, ◌++◌, length, chars, take, get_or, Result, Ok, Err, refl, sym, ap, subst, ◌∙◌, arith, Option, None, Some, IfSome}
+use Rattle.snippet_strokes.specs.Painting.{IsFreeCell}
+use Rattle.snippet_style.specs.Stylesheet.{is_plain_sheet}
+use Rattle.std.proofs.Common.{◌≡◌, ℕ, zero, suc, ◌+◌, ◌<◌, ◌==◌, ◌||◌, Bool, true, false, not, List, [], ◌∷◌, ◌++◌, length, chars, take, get_or, Result, Ok, Err, refl, sym, ap, subst, ◌∙◌, arith, Option, None, Some, IfSome, encode_utf8_all, inl, inr}
 use Rattle.std.specs.List.{All, AllZip, Contains, flat_map}
 use Rattle.std.specs.Result.{IfOk, MatchResult, IsErrAnd}
 use Rattle.std.specs.Cow.{cow_str_bytes}
 use Rattle.std.proofs.Math.Seq.{take-suc}
-use Rattle.std.proofs.lemmas.Bool.{and_parts}
-use Rattle.std.proofs.lemmas.List.{append-nil}
-use Rattle.std.proofs.lemmas.List.Elements.{All-nil, All-cons, All-head, All-tail, All-append, All-map, All-weaker}
+use Rattle.std.proofs.lemmas.Bool.{and_parts, cases_lt}
+use Rattle.std.proofs.lemmas.List.{append-nil, get_or_past}
+use Rattle.std.proofs.lemmas.List.Elements.{All-nil, All-cons, All-head, All-tail, All-append, All-map, All-weaker, All-get_or}
 use Rattle.std.proofs.lemmas.List.Sums.{AllPass-from_list_all}
 use Rattle.snippet_model.specs.declared.snippet.Annotation.{Annotation}
 use Rattle.snippet_model.specs.declared.snippet.Group.{Group}
 use Rattle.snippet_model.specs.declared.snippet.Snippet.{Snippet}
 use Rattle.snippet_model.specs.declared.snippet.Title.{Title}
 use Rattle.snippet_model.specs.declared.snippet.Element.TheVariants.{Cause}
-use Rattle.snippet_style.specs.Grid.{Cell}
+use Rattle.snippet_style.specs.Grid.{Cell, SPACE}
 use Rattle.snippet_style.specs.declared.role.LevelInner.{LevelInner}
 use Rattle.snippet_style.specs.declared.stylesheet.Stylesheet.{Stylesheet}
 use Rattle.snippet_style.specs.Print.{row_text, further_text, plain_text}
 use Rattle.snippet_style.specs.Woven.{Prints, links_of}
-use Rattle.snippet_style.proofs.WovenLemmas.{IsWoven-from_prints}
+use Rattle.snippet_style.proofs.WovenLemmas.{IsWoven-from_prints, links_of-unlinked, plain_woven}
 use Rattle.snippet_text.specs.Normalized.{is_listed}
 use Rattle.snippet_model.specs.Trusted.{trusted_texts}
 use Rattle.snippet_titles.specs.Title.{title_rows}
@@ -100,7 +102,8 @@ module _ (r : Renderer) (groups : List Group) (title : Title) (s : Snippet Annot
 
 -- the text of free rows is free
 row_free : (row : List Cell) → IsFree row → All (λ c. is_listed c ≡ false) (row_text row)
-row_free row free = All-map (λ c. is_listed c ≡ false) (λ (cell : Cell). cell.ch) row free
+row_free row free =
+    All-map (λ c. is_listed c ≡ false) (λ (cell : Cell). cell.ch) row (All-weaker IsFreeCell (λ cell. is_listed cell.ch ≡ false) (λ cell is. is.0) row free)
 
 further_free : (rows : List (List Cell)) → All IsFree rows → All (λ c. is_listed c ≡ false) (further_text rows)
 further_free [] free = All-nil (λ c. is_listed c ≡ false)
@@ -111,6 +114,21 @@ text_free : (rows : List (List Cell)) → All IsFree rows → All (λ c. is_list
 text_free [] free = All-nil (λ c. is_listed c ≡ false)
 text_free (row ∷ rows) free =
     All-append (λ c. is_listed c ≡ false) (row_text row) (further_text rows) (row_free row (All-head IsFree row rows free)) (further_free rows (All-tail IsFree row rows free))
+
+-- free rows have no links
+free_unlinked : (rows : List (List Cell)) → All IsFree rows → links_of rows ≡ []
+free_unlinked rows free =
+    links_of-unlinked rows (λ r c. elim (cases_lt r (length rows)) [
+      | inl within ↦ in_row (get_or rows r []) (All-get_or IsFree rows r [] within free) c
+      | inr past ↦ in_row (get_or rows r []) (subst IsFree (sym (get_or_past rows r [] past)) (All-nil IsFreeCell)) c
+    ])
+  where
+    in_row : (row : List Cell) → IsFree row → (c : ℕ) → (get_or row c SPACE).link ≡ None
+    in_row row free c =
+        elim (cases_lt c (length row)) [
+          | inl within ↦ (All-get_or IsFreeCell row c SPACE within free).1
+          | inr past ↦ ap (λ (cell : Cell). cell.link) (get_or_past row c SPACE past)
+        ]
 
 -- free text has no listed characters but trusted ones
 free_but : (trusted : List (List ℕ)) (text : List ℕ) → All (λ c. is_listed c ≡ false) text → IsFreeBut trusted text
@@ -158,6 +176,7 @@ grid_of_report r groups level title None leveled of drawing titled covered rows 
       level_is = leveled;
       shows = bare_shown r groups title of titled;
       free = free_but (trusted_texts groups) (plain_text rows) (text_free rows (subst (All IsFree) (sym drawn) (free_title title titled)));
+      unlinked = free_unlinked rows (subst (All IsFree) (sym drawn) (free_title title titled));
     }
 grid_of_report r groups level title (Some s) leveled of drawing titled covered rows drawn =
     let plain = numbers_shown r drawing in
@@ -168,6 +187,7 @@ grid_of_report r groups level title (Some s) leveled of drawing titled covered r
       level_is = leveled;
       shows = shown.2;
       free = free_but (trusted_texts groups) (plain_text rows) (text_free rows (rows_free r groups title s of plain titled covered rows drawn));
+      unlinked = free_unlinked rows (rows_free r groups title s of plain titled covered rows drawn);
     }
 
 -- the snippet of a covered report can be drawn
@@ -226,6 +246,8 @@ module _ (r : Renderer) (groups : List Group) (level : LevelInner) (rows : List 
         shows = is.shows;
         printed = AllZip-weaker (λ sheet text. Prints sheet level rows text) (λ sheet text. PrintsPage sheet (levels_of groups) (is.group ∷ []) text) page_printed sheets texts printed;
         free = subst (λ rs. IsFreeBut (trusted_texts groups) (plain_text rs)) is.rows_are is.free;
+        links = λ _. append-nil (links_of (group_rows is.group)) ∙ ap links_of (sym is.rows_are) ∙ is.unlinked;
+        plain = λ _. AllZip-weaker (λ sheet text. Prints sheet level rows text) (λ sheet text. is_plain_sheet sheet ≡ true → text ≡ encode_utf8_all (plain_text (group_rows is.group))) (λ sheet text prints plain. plain_woven sheet text (plain_text rows) (links_of rows) plain is.unlinked (IsWoven-from_prints sheet level rows text prints) ∙ ap (λ rs. encode_utf8_all (plain_text rs)) is.rows_are) sheets texts printed;
       }
 
   -- a text that prints the grid is free, but for its codes

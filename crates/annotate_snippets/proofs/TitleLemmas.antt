@@ -11,6 +11,7 @@ use Rattle.snippet_text.proofs.NormLemmas.{norm-unlisted}
 use Rattle.snippet_text.proofs.WidthLemmas.{width_of-colon}
 use Rattle.snippet_titles.proofs.FreeLemmas.{norm-free, title_rows-free}
 use Rattle.snippet_style.specs.Grid.{Cell, SPACE, drawn}
+use Rattle.snippet_strokes.specs.Rows.{IsFree}
 use Rattle.snippet_style.specs.Print.{row_text}
 use Rattle.snippet_style.specs.declared.role.ElementStyle.{ElementStyle}
 use Rattle.snippet_style.specs.declared.role.ElementStyle.TheVariants as role
@@ -136,7 +137,7 @@ ShowsTitle-rows gutter title covered =
     }
 
 -- no cell of a covered title's rows holds a listed character
-pub free_title : (title : Title) → is_covered_title title ≡ true → All (λ row. All (λ cell. is_listed cell.ch ≡ false) row) (title_rows title.level (cow_str_bytes title.text))
+pub free_title : (title : Title) → is_covered_title title ≡ true → All IsFree (title_rows title.level (cow_str_bytes title.text))
 free_title title covered =
     let parts = and_parts (is_standard title.level.name && is_none title.id) (not title.allows_styling) covered in
     let name : LevelName = title.level.name in

@@ -1,4 +1,5 @@
 -- What the grid holds: a title, an annotated snippet below it, and with both a whole report.
+use Rattle.snippet_style.specs.Woven.{links_of}
 use Rattle.std.specs.Prelude.{◌≡◌, ◌+◌, ◌<◌, ◌^◌, All, length, true, List, [], ◌∷◌, Option, None, Some, map}
 use Rattle.std.specs.List.{AllZip}
 use Rattle.std.specs.Cow.{cow_str_bytes}
@@ -53,10 +54,11 @@ IsGridOf decor title None rows = rows ≡ title_rows title.level (cow_str_bytes 
 IsGridOf decor title (Some s) rows = AddsCause decor s (title_rows title.level (cow_str_bytes title.text)) rows
 
 -- the grid of a report of one group, which is printed in this level: its rows are a page that shows the group, and each
--- listed character of them is one of a trusted text
+-- listed character of them is one of a trusted text; no cell belongs to a link yet
 pub record IsGridOfReport (r : Renderer) (groups : List Group) (level : LevelInner) (rows : List (List Cell)) : Type 0 where
   pub group : GroupPage
   pub rows_are : rows ≡ group_rows group
   pub level_is : levels_of groups ≡ level ∷ []
   pub shows : AllZip (ShowsGroup r (gutter_of_report r groups)) groups (group ∷ [])
   pub free : IsFreeBut (trusted_texts groups) (plain_text rows)
+  pub unlinked : links_of rows ≡ []

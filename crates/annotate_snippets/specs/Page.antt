@@ -3,7 +3,7 @@ use Rattle.std.specs.Prelude.{◌≡◌, ℕ, ◌<◌, List, [], ◌∷◌, ◌+
 use Rattle.std.specs.List.{flat_map, filter_map, join_with_byte}
 use Rattle.snippet_style.specs.Grid.{Cell}
 use Rattle.snippet_style.specs.Print.{plain_text}
-use Rattle.snippet_style.specs.Woven.{Prints}
+use Rattle.snippet_style.specs.Woven.{Prints, links_of}
 use Rattle.snippet_style.specs.declared.role.LevelInner.{LevelInner}
 use Rattle.snippet_style.specs.declared.stylesheet.Stylesheet.{Stylesheet}
 
@@ -51,6 +51,10 @@ group_rows g = g.title ++ flat_map cells_of g.elements
 -- the plain characters of a page: the groups' rows, joined by line feeds
 abbrev pub page_text : Page → List ℕ
 page_text page = join_with_byte 10 (map (λ g. plain_text (group_rows g)) page)
+
+-- the URLs of a page's linked runs of cells, in order
+abbrev pub page_links : Page → List (List ℕ)
+page_links page = flat_map (λ g. links_of (group_rows g)) page
 
 -- each part prints the rows of one group under a sheet, in the level of the group
 abbrev pub ArePrinted : Stylesheet → List LevelInner → Page → List (List ℕ) → Type 0

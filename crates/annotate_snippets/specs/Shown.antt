@@ -1,5 +1,6 @@
 -- What the page of a report shows.
-use Rattle.std.specs.Prelude.{◌≡◌, ℕ, ◌+◌, ◌-◌, ◌<◌, ◌≤◌, ◌==◌, ◌&&◌, ◌||◌, max, Bool, true, false, not, List, [], ◌∷◌, ◌++◌, All, Contains, Option, Some, None, filter, is_none, length, map, take, drop, fold, replicate, chars, codes, if◌then◌else◌}
+use Rattle.snippet_style.specs.Stylesheet.{is_plain_sheet}
+use Rattle.std.specs.Prelude.{◌≡◌, ℕ, ◌+◌, ◌-◌, ◌<◌, ◌≤◌, ◌==◌, ◌&&◌, ◌||◌, max, Bool, true, false, not, List, [], ◌∷◌, ◌++◌, All, Contains, Option, Some, None, filter, is_none, length, map, take, drop, fold, replicate, chars, codes, if◌then◌else◌, encode_utf8_all}
 use Rattle.std.specs.List.{AllZip, flat_map, list_all, count_by, slice_split, slice_index_or}
 use Rattle.std.specs.Option.{option_map, option_to_list}
 use Rattle.std.specs.Char.{is_ascii_alphanumeric}
@@ -33,7 +34,7 @@ use Rattle.snippet_strokes.specs.Entries.{IsMarkCell}
 use Rattle.snippet_strokes.specs.Rows.{shown_number, set_right, HasNoNumber}
 use Rattle.annotate_snippets.specs.declared.renderer.Renderer.{Renderer}
 use Rattle.annotate_snippets.specs.Covered.{gutter_of}
-use Rattle.annotate_snippets.specs.Page.{RowName, SourceRow, Other, NamedRow, lines_named, cells_below, GroupPage, Page, page_text, PrintsPage, IsAscending}
+use Rattle.annotate_snippets.specs.Page.{RowName, SourceRow, Other, NamedRow, lines_named, cells_below, GroupPage, Page, page_text, PrintsPage, IsAscending, page_links}
 
 -- the characters of a title's text as it is drawn: a trusted one as it is, any other normalised
 abbrev pub drawn_text : Title → List ℕ
@@ -201,12 +202,15 @@ abbrev pub levels_of : List Group → List LevelInner
 levels_of groups = map (λ g. g.level) groups
 
 -- the texts show a report under these sheets, one text under each: all print one page, which shows each group, in order,
--- and each listed character of which is one of a trusted text
+-- and each listed character of which is one of a trusted text. Without hyperlinks the page has no links, and under a plain
+-- sheet the text is the page's characters
 pub record SheetsShown (r : Renderer) (groups : List Group) (sheets : List Stylesheet) (texts : List (List ℕ)) : Type 0 where
   pub page : Page
   pub shows : AllZip (ShowsGroup r (gutter_of_report r groups)) groups page
   pub printed : AllZip (λ sheet text. PrintsPage sheet (levels_of groups) page text) sheets texts
   pub free : IsFreeBut (trusted_texts groups) (page_text page)
+  pub links : r.hyperlink ≡ false → page_links page ≡ []
+  pub plain : r.hyperlink ≡ false → AllZip (λ sheet text. is_plain_sheet sheet ≡ true → text ≡ encode_utf8_all (page_text page)) sheets texts
 
 -- the text shows a report under this sheet
 abbrev pub ShowsReport : Renderer → List Group → Stylesheet → List ℕ → Type 0

@@ -511,6 +511,9 @@ fn draws_in_unicode(rt: HostRuntime) -> Result<(), Fail> {
 #[test]
 fn draws_a_title_alone(rt: HostRuntime) -> Result<(), Fail> {
     let group = Group::with_title(rt.alloc(), ERROR.primary_title("e"));
-    assert_eq!(rt; Renderer::plain().render(rt.alloc(), &[group])?.as_str(), "error: e");
+    assert_eq!(rt;
+        Renderer::plain().render(rt.alloc(), &[group])?.as_str(),
+        "error: e"
+    );
     Ok(())
 }

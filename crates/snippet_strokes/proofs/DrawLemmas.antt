@@ -1,9 +1,12 @@
 -- Drawing in rows from one on, and in cells from one on.
 use Rattle.std.proofs.Common.{◌≡◌, ℕ, ◌+◌, ◌-◌, ◌<◌, ◌≤◌, false, List, length, get_or, refl, sym, ◌∙◌, subst, arith, inl, inr, All}
 use Rattle.std.proofs.lemmas.Bool.{cases_lt, cases_eq}
-use Rattle.snippet_style.specs.Grid.{Cell, SPACE, cell_at, WritesCells}
+use Rattle.snippet_style.specs.Grid.{Cell, SPACE, cell_at, WritesCells, drawn, unlinked_cell}
+use Rattle.snippet_style.specs.declared.role.ElementStyle.{ElementStyle}
+use Rattle.snippet_style.proofs.GridLemmas.{All-drawn}
+use Rattle.std.proofs.lemmas.List.Elements.{All-weaker}
 use Rattle.snippet_text.specs.Normalized.{is_listed}
-use Rattle.snippet_strokes.specs.Painting.{DrawsFrom}
+use Rattle.snippet_strokes.specs.Painting.{IsFreeCell, DrawsFrom}
 
 -- nothing is drawn yet
 pub DrawsFrom-none : (row from : ℕ) (rows : List (List Cell)) → DrawsFrom row from rows rows
@@ -52,9 +55,9 @@ written_cell P old new row at c cells writes all before =
     ]
 
 -- a write of cells that aren't listed draws
-pub DrawsFrom-writes : (row r from at : ℕ) (old new : List (List Cell)) (cells : List Cell) → WritesCells old new r at cells → row ≤ r → r < length old → from ≤ at → All (λ cell. is_listed cell.ch ≡ false) cells → DrawsFrom row from old new
+pub DrawsFrom-writes : (row r from at : ℕ) (old new : List (List Cell)) (cells : List Cell) → WritesCells old new r at cells → row ≤ r → r < length old → from ≤ at → All IsFreeCell cells → DrawsFrom row from old new
 DrawsFrom-writes row r from at old new cells writes lower within right all =
-    let P : Cell → Type 0 = λ cell. is_listed cell.ch ≡ false in
+    let P : Cell → Type 0 = IsFreeCell in
     record {
       above = λ k high. writes.others k (λ same. omega (arith, same));
       left = λ k c before. elim (cases_eq k r) [
@@ -67,3 +70,8 @@ DrawsFrom-writes row r from at old new cells writes lower within right all =
       ];
       count = omega (arith, writes.count, within);
     }
+
+-- cells drawn of characters that aren't listed are free
+pub free_drawn : (role : ElementStyle) (cs : List ℕ) → All (λ c. is_listed c ≡ false) cs → All IsFreeCell (drawn role cs)
+free_drawn role cs free =
+    All-drawn IsFreeCell role cs (All-weaker (λ c. is_listed c ≡ false) (λ c. IsFreeCell (unlinked_cell role c)) (λ c is. (is, refl)) cs free)

@@ -15,7 +15,7 @@ use Rattle.snippet_style.specs.Grid.{Cell, cell_at, row_at, unlinked_cell, Write
 use Rattle.snippet_text.specs.Normalized.{is_listed}
 use Rattle.snippet_strokes.specs.declared.layout.Layout.{Layout}
 use Rattle.snippet_strokes.specs.Entries.{EntryCovers, is_primary, IsMarkCell}
-use Rattle.snippet_strokes.specs.Painting.{Paints, Painted, ShowsFrom, mark_cell}
+use Rattle.snippet_strokes.specs.Painting.{IsFreeCell, Paints, Painted, ShowsFrom, mark_cell}
 
 -- no cell is painted yet
 pub Paints-none : (rows : List (List Cell)) (row from : ℕ) (cell : ℕ → Cell) → Paints rows rows row from from cell
@@ -116,9 +116,9 @@ free_stroke Unicode Primary false = refl
 free_stroke Unicode Context false = refl
 free_stroke Unicode Visible false = refl
 
-free_mark_cell : (layout : Layout) (e : PlacedEntry) (c : ℕ) → is_listed (mark_cell layout e c).ch ≡ false
+free_mark_cell : (layout : Layout) (e : PlacedEntry) (c : ℕ) → IsFreeCell (mark_cell layout e c)
 free_mark_cell layout e c =
-    free_stroke layout.decor e.entry.kind (is_hung e && c == layout.code + e.entry.start.display)
+    (free_stroke layout.decor e.entry.kind (is_hung e && c == layout.code + e.entry.start.display), refl)
 
 -- no entry is painted yet
 pub Painted-none : (layout : Layout) (row : ℕ) (rows : List (List Cell)) → Painted layout [] row rows rows
@@ -223,11 +223,11 @@ Painted-more layout es e row old mid new done paints =
           let first : All L es = λ k d within. subst L (old_place es e d k within) (all k d (omega (arith, length_push es e))) in
           paints.before c last ∙ done.left c first;
       free = λ c is. elim (cases_lt c (layout.code + e.entry.start.display)) [
-        | inl left ↦ subst (λ x. is_listed x.ch ≡ false) (sym (paints.before c left)) (done.free c is)
+        | inl left ↦ subst IsFreeCell (sym (paints.before c left)) (done.free c is)
         | inr after ↦
             elim (cases_lt c (layout.code + e.entry.end.display)) [
-              | inl inside ↦ subst (λ x. is_listed x.ch ≡ false) (sym (paints.inside c after inside)) (free_mark_cell layout e c)
-              | inr right ↦ subst (λ x. is_listed x.ch ≡ false) (sym (paints.behind c right)) (done.free c is)
+              | inl inside ↦ subst IsFreeCell (sym (paints.inside c after inside)) (free_mark_cell layout e c)
+              | inr right ↦ subst IsFreeCell (sym (paints.behind c right)) (done.free c is)
             ]
       ];
       others = λ r other. paints.others r other ∙ done.others r other;

@@ -13,6 +13,8 @@ use Rattle.snippet_style.specs.Glyphs.{separator_of, closing_of, file_start_of}
 use Rattle.snippet_style.specs.Grid.{Cell, SPACE, drawn, unlinked_cell, written, cells_written}
 use Rattle.snippet_style.proofs.GridLemmas.{length-chars_le, length-drawn, length-written, drop-written, take-written_past, cells_written_below, cells_written_last, slice_index_or-written_before, slice_index_or-written_behind, All-drawn}
 use Rattle.snippet_text.specs.Normalized.{is_listed}
+use Rattle.snippet_strokes.specs.Painting.{IsFreeCell}
+use Rattle.snippet_strokes.proofs.DrawLemmas.{free_drawn}
 use Rattle.snippet_strokes.specs.declared.layout.Layout.{Layout}
 use Rattle.snippet_strokes.specs.Rows.{separator_row, closing_row, bare_row, first_row, HasNoNumber, IsFree, IsSourceRow, AddsSourceRow}
 
@@ -87,8 +89,8 @@ free_separator Unicode = refl
 
 pub free_separator_row : (decor : DecorStyle) (gutter : ℕ) → IsFree (separator_row decor gutter)
 free_separator_row decor gutter =
-    let P : Cell → Type 0 = λ c. is_listed c.ch ≡ false in
-    All-append P (replicate (gutter + 1) SPACE) (drawn LineNumber (separator_of decor ∷ [])) (All-replicate P (gutter + 1) SPACE refl) (All-cons P (unlinked_cell LineNumber (separator_of decor)) [] (free_separator decor) (All-nil P))
+    let P : Cell → Type 0 = IsFreeCell in
+    All-append P (replicate (gutter + 1) SPACE) (drawn LineNumber (separator_of decor ∷ [])) (All-replicate P (gutter + 1) SPACE (refl, refl)) (All-cons P (unlinked_cell LineNumber (separator_of decor)) [] (free_separator decor, refl) (All-nil P))
 
 -- a row of spaces and some characters behind them, read cell by cell
 led_before : (n c : ℕ) (cells : List Cell) → c < n → slice_index_or (replicate n SPACE ++ cells) c SPACE ≡ SPACE
@@ -101,8 +103,8 @@ length-led n chs =
 
 free_led : (n : ℕ) (chs : List ℕ) → All (λ c. is_listed c ≡ false) chs → IsFree (replicate n SPACE ++ drawn LineNumber chs)
 free_led n chs free =
-    let P : Cell → Type 0 = λ c. is_listed c.ch ≡ false in
-    All-append P (replicate n SPACE) (drawn LineNumber chs) (All-replicate P n SPACE refl) (All-drawn P LineNumber chs free)
+    let P : Cell → Type 0 = IsFreeCell in
+    All-append P (replicate n SPACE) (drawn LineNumber chs) (All-replicate P n SPACE (refl, refl)) (free_drawn LineNumber chs free)
 
 -- closing glyphs are one or two characters, none of them listed
 pub closing_some : (decor : DecorStyle) → 0 < length (closing_of decor)
@@ -195,9 +197,9 @@ HasNoNumber-first_row Unicode first gutter c left = ap is_ascii_alphanumeric (fi
 free_written : (row : List Cell) (at : ℕ) (cells : List Cell) → IsFree row → IsFree cells → IsFree (written SPACE row at cells)
 unfolding written
 free_written row at cells free_row free_cells =
-    let P : Cell → Type 0 = λ c. is_listed c.ch ≡ false in
+    let P : Cell → Type 0 = IsFreeCell in
     let pad = replicate (at - length row) SPACE in
-    All-append P (take at (row ++ pad) ++ cells) (drop (at + length cells) row) (All-append P (take at (row ++ pad)) cells (All-take P at (row ++ pad) (All-append P row pad free_row (All-replicate P (at - length row) SPACE refl))) free_cells) (All-drop P (at + length cells) row free_row)
+    All-append P (take at (row ++ pad) ++ cells) (drop (at + length cells) row) (All-append P (take at (row ++ pad)) cells (All-take P at (row ++ pad) (All-append P row pad free_row (All-replicate P (at - length row) SPACE (refl, refl)))) free_cells) (All-drop P (at + length cells) row free_row)
 
 -- the row that has its number, read
 length-front : (layout : Layout) (shown : List ℕ) → length shown ≤ layout.gutter + 1 → length (front layout shown) ≡ layout.gutter + 2
@@ -216,8 +218,8 @@ front_behind layout shown c behind =
 
 free_front : (layout : Layout) (shown : List ℕ) → All (λ c. is_listed c ≡ false) shown → IsFree (front layout shown)
 free_front layout shown free =
-    let P : Cell → Type 0 = λ c. is_listed c.ch ≡ false in
-    free_written (separator_row layout.decor layout.gutter) 0 (drawn LineNumber shown) (free_separator_row layout.decor layout.gutter) (All-drawn P LineNumber shown free)
+    let P : Cell → Type 0 = IsFreeCell in
+    free_written (separator_row layout.decor layout.gutter) 0 (drawn LineNumber shown) (free_separator_row layout.decor layout.gutter) (free_drawn LineNumber shown free)
 
 -- the row of a line that has no text
 source_bare : (layout : Layout) (shown : List ℕ) → layout.gutter + 3 ≤ layout.code → length shown ≤ layout.gutter + 1 → All (λ c. is_listed c ≡ false) shown → IsSourceRow layout shown [] (front layout shown)
@@ -235,7 +237,7 @@ source_bare layout shown place short free =
 -- the row of a line that has a text
 source_full : (layout : Layout) (shown text : List ℕ) → layout.gutter + 3 ≤ layout.code → length shown ≤ layout.gutter + 1 → All (λ c. is_listed c ≡ false) shown → All (λ c. is_listed c ≡ false) text → IsSourceRow layout shown text (written SPACE (front layout shown) layout.code (drawn Quotation text))
 source_full layout shown text place short free_shown free_text =
-    let P : Cell → Type 0 = λ c. is_listed c.ch ≡ false in
+    let P : Cell → Type 0 = IsFreeCell in
     let start = front layout shown in
     let cells = drawn Quotation text in
     let row = written SPACE start layout.code cells in
@@ -249,7 +251,7 @@ source_full layout shown text place short free_shown free_text =
       };
       separator = before (layout.gutter + 1) (omega arith) ∙ bare.separator;
       blank = λ c behind other left. before c left ∙ bare.blank c behind other left;
-      free = free_written start layout.code cells bare.free (All-drawn P Quotation text free_text);
+      free = free_written start layout.code cells bare.free (free_drawn Quotation text free_text);
     }
 
 -- the row of a line, whether it has a text or not

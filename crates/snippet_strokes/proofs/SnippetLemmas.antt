@@ -12,6 +12,7 @@ use Rattle.snippet_style.specs.Grid.{Cell, SPACE, row_at}
 use Rattle.snippet_style.specs.Print.{row_text}
 use Rattle.snippet_style.proofs.GridLemmas.{length-drawn}
 use Rattle.snippet_text.specs.Normalized.{is_listed, norm}
+use Rattle.snippet_strokes.specs.Painting.{IsFreeCell}
 use Rattle.snippet_strokes.specs.declared.layout.Layout.{Layout}
 use Rattle.snippet_strokes.specs.Rows.{shown_number, first_row, HasNoNumber, IsFree, IsSourceRow, IsStrokeRow, IsHighlighted, AddsSourceRow, AddsStrokes}
 use Rattle.snippet_strokes.proofs.RowLemmas.{bare_row_left, free_first_row}
@@ -47,7 +48,7 @@ source_row_short layout shown text row is narrow short =
 -- highlighting puts no other character into a row
 highlighted_free : (code : ℕ) (es : List LineAnnotation) (plain row : List Cell) → IsHighlighted code es plain row → IsFree plain → IsFree row
 highlighted_free code es plain row is free =
-    let P : Cell → Type 0 = λ c. is_listed c.ch ≡ false in
+    let P : Cell → Type 0 = IsFreeCell in
     All-from_get_or P row SPACE (λ c within.
     let inside : c < length plain = omega (arith, is.width, within) in
     subst P (sym (is.cells c inside)) (All-get_or P plain c SPACE inside free))

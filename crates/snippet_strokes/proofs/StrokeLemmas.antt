@@ -17,7 +17,7 @@ use Rattle.snippet_text.specs.Normalized.{is_listed}
 use Rattle.snippet_strokes.specs.declared.layout.Layout.{Layout}
 use Rattle.snippet_strokes.specs.declared.positions.PlacedEntry.{PlacedEntry}
 use Rattle.snippet_strokes.specs.Entries.{EntryCovers, label_text, label_role}
-use Rattle.snippet_strokes.specs.Painting.{DrawsFrom, StandsFrom, AreMarked}
+use Rattle.snippet_strokes.specs.Painting.{IsFreeCell, DrawsFrom, StandsFrom, AreMarked}
 use Rattle.snippet_strokes.specs.Positions.{HasItsLabel, has_label, is_hung, positions, row_count, ArePlaced}
 use Rattle.snippet_strokes.specs.Rows.{separator_row, closing_row, bare_row, IsStrokeRow, AddsStrokes, ShowsMarks}
 use Rattle.snippet_strokes.proofs.DrawLemmas.{DrawsFrom-more}
@@ -173,14 +173,14 @@ module _ (layout : Layout) (closes : Bool) (es : List LineAnnotation) (placed : 
       ap (λ cells. slice_index_or cells c SPACE) (marked.painted.others (row + suc k) (λ here. omega (arith, here))) ∙ (drawn_from from all).left (row + suc k) c before ∙ ap (λ cells. slice_index_or cells c SPACE) (begun_at (suc k) within)
 
   abbrev P : Cell → Type 0
-  P cell = is_listed cell.ch ≡ false
+  P cell = IsFreeCell cell
 
   free_bare : (k c : ℕ) → P (slice_index_or (bare k) c SPACE)
   free_bare k c =
       elim (cases_lt c (length (bare k))) [
         | inl within ↦
             All-get_or P (bare k) c SPACE within (free_bare_row layout.decor layout.gutter (closes && k + 1 == row_count placed))
-        | inr past ↦ subst P (sym (get_or_past (bare k) c SPACE past)) refl
+        | inr past ↦ subst P (sym (get_or_past (bare k) c SPACE past)) (refl, refl)
       ]
 
   free_begun : (k : ℕ) → k < row_count placed → (c : ℕ) → P (cell_at begun (row + k) c)

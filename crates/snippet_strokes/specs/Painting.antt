@@ -1,5 +1,5 @@
 -- How the strokes of a line are drawn, one over another.
-use Rattle.std.specs.Prelude.{◌≡◌, ◌≢◌, ℕ, ◌+◌, ◌<◌, ◌≤◌, ◌==◌, ◌&&◌, max, false, true, List, [], ◌∷◌, All, IsPermutation, length, map, slice_index_or, if◌then◌else◌}
+use Rattle.std.specs.Prelude.{◌≡◌, ◌≢◌, ℕ, ◌+◌, ◌<◌, ◌≤◌, ◌==◌, ◌&&◌, max, false, true, List, [], ◌∷◌, All, None, IsPermutation, length, map, slice_index_or, if◌then◌else◌}
 use Rattle.snippet_parts.specs.declared.entries.LineAnnotation.{LineAnnotation}
 use Rattle.snippet_style.specs.Glyphs.{glyph_of, underline_role}
 use Rattle.snippet_style.specs.Grid.{Cell, cell_at, row_at, unlinked_cell}
@@ -9,11 +9,15 @@ use Rattle.snippet_strokes.specs.declared.positions.PlacedEntry.{PlacedEntry}
 use Rattle.snippet_strokes.specs.Entries.{EntryCovers, entry_width, is_primary}
 use Rattle.snippet_strokes.specs.Positions.{is_hung}
 
--- something was drawn: only in rows from `row` on, in cells from `from` on, and no listed character came into a row
+-- a cell that holds no listed character and belongs to no link
+abbrev pub IsFreeCell : Cell → Type 0
+IsFreeCell cell = (is_listed cell.ch ≡ false) × (cell.link ≡ None)
+
+-- something was drawn: only in rows from `row` on, in cells from `from` on, and no listed character and no link came into a row
 pub record DrawsFrom (row from : ℕ) (old new : List (List Cell)) : Type 0 where
   pub above : (r : ℕ) → r < row → row_at new r ≡ row_at old r
   pub left : (r c : ℕ) → c < from → cell_at new r c ≡ cell_at old r c
-  pub free : (r : ℕ) → ((c : ℕ) → is_listed (cell_at old r c).ch ≡ false) → (c : ℕ) → is_listed (cell_at new r c).ch ≡ false
+  pub free : (r : ℕ) → ((c : ℕ) → IsFreeCell (cell_at old r c)) → (c : ℕ) → IsFreeCell (cell_at new r c)
   pub count : length new ≡ length old
 
 -- an entry doesn't start left of this cell
@@ -65,7 +69,7 @@ pub record Painted (layout : Layout) (es : List PlacedEntry) (row : ℕ) (old ne
   pub marked : (k p : ℕ) (d : PlacedEntry) → k < length es → EntryCovers (slice_index_or es k d).entry p → ShowsFrom layout es k p d (cell_at new row (layout.code + p))
   pub unmarked : (p : ℕ) → All (λ e. EntryCovers e.entry p → ⊥) es → cell_at new row (layout.code + p) ≡ cell_at old row (layout.code + p)
   pub left : (c : ℕ) → All (λ e. c < layout.code + e.entry.start.display) es → cell_at new row c ≡ cell_at old row c
-  pub free : (c : ℕ) → is_listed (cell_at old row c).ch ≡ false → is_listed (cell_at new row c).ch ≡ false
+  pub free : (c : ℕ) → IsFreeCell (cell_at old row c) → IsFreeCell (cell_at new row c)
   pub others : (r : ℕ) → r ≢ row → row_at new r ≡ row_at old r
   pub count : row < length old → length new ≡ length old
   pub width : (e : PlacedEntry) → es ≡ e ∷ [] → e.entry.start.display < e.entry.end.display → length (row_at new row) ≡ max (length (row_at old row)) (layout.code + e.entry.end.display)

@@ -14,7 +14,7 @@ use Rattle.snippet_style.specs.Grid.{Cell, SPACE, drawn, unlinked_cell, row_at, 
 use Rattle.snippet_text.specs.Normalized.{is_listed}
 use Rattle.snippet_strokes.specs.declared.layout.Layout.{Layout}
 use Rattle.snippet_strokes.specs.Entries.{EntryCovers, is_primary, IsEntryMark, IsMarkCell, label_text, label_role}
-use Rattle.snippet_strokes.specs.Painting.{StandsFrom}
+use Rattle.snippet_strokes.specs.Painting.{IsFreeCell, StandsFrom}
 
 -- these digits at the right end of a field of this width, filled up with spaces
 abbrev pub set_right : ℕ → List ℕ → List ℕ
@@ -48,9 +48,10 @@ first_row Unicode first gutter = replicate gutter SPACE ++ drawn LineNumber (fil
 abbrev pub HasNoNumber : ℕ → List Cell → Type 0
 HasNoNumber gutter row = (c : ℕ) → c ≤ gutter → is_ascii_alphanumeric (slice_index_or row c SPACE).ch ≡ false
 
--- no cell of the row holds a listed character, which could change how a terminal shows the text around it
+-- no cell of the row holds a listed character, which could change how a terminal shows the text around it, and none
+-- belongs to a link
 abbrev pub IsFree : List Cell → Type 0
-IsFree row = All (λ c. is_listed c.ch ≡ false) row
+IsFree row = All IsFreeCell row
 
 -- the row begins with what the gutter shows, and from the code's cell to its end it holds this text, one cell for each character
 pub record ShowsSource (gutter from : ℕ) (shown text : List ℕ) (row : List Cell) : Type 0 where

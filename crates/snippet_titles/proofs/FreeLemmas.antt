@@ -1,9 +1,9 @@
 -- A title's rows hold no listed character where the level's name holds none.
-use Rattle.std.proofs.Common.{◌≡◌, ℕ, ◌+◌, ◌==◌, Bool, true, false, List, [], ◌∷◌, ◌++◌, map, replicate, codes, chars, All, refl, arith}
+use Rattle.std.proofs.Common.{◌≡◌, ℕ, ◌+◌, ◌==◌, Bool, true, false, List, [], ◌∷◌, ◌++◌, map, replicate, codes, chars, All, None, refl, arith}
 use Rattle.std.specs.List.{slice_split, onto_first, list_any}
 use Rattle.std.proofs.lemmas.List.Elements.{All-nil, All-cons, All-head, All-tail, All-append, All-map, All-replicate, All-weaker}
 use Rattle.std.proofs.lemmas.List.Splits.{slice_split-cons_yes, slice_split-cons_no}
-use Rattle.snippet_style.specs.Grid.{Cell, SPACE, drawn}
+use Rattle.snippet_style.specs.Grid.{Cell, SPACE, drawn, unlinked_cell}
 use Rattle.snippet_style.specs.declared.role.ElementStyle.{ElementStyle}
 use Rattle.snippet_style.specs.declared.role.ElementStyle.TheVariants as role
 use Rattle.snippet_text.specs.Normalized.{norm, is_listed}
@@ -13,12 +13,12 @@ use Rattle.snippet_model.specs.declared.level.Level.{Level}
 use Rattle.snippet_model.specs.Level.{name_of}
 use Rattle.snippet_titles.specs.Title.{first_row, further_row, rows_of_lines, title_lines, title_rows}
 
--- a character that isn't listed, and a cell that holds one
+-- a character that isn't listed, and a cell that holds one and belongs to no link
 abbrev pub IsFree : ℕ → Type 0
 IsFree c = is_listed c ≡ false
 
 abbrev pub IsFreeCell : Cell → Type 0
-IsFreeCell cell = is_listed cell.ch ≡ false
+IsFreeCell cell = (is_listed cell.ch ≡ false) × (cell.link ≡ None)
 
 -- where no element passes a test, each fails it
 fails_each : (p : ℕ → Bool) (xs : List ℕ) → list_any p xs ≡ false → All (λ x. p x ≡ false) xs
@@ -52,7 +52,8 @@ module _ (P : ℕ → Type 0) (p : ℕ → Bool) where
 
 -- cells drawn of characters that aren't listed
 pub drawn-free : (role : ElementStyle) (cs : List ℕ) → All IsFree cs → All IsFreeCell (drawn role cs)
-drawn-free role cs all = All-map IsFreeCell _ cs all
+drawn-free role cs all =
+    All-map IsFreeCell _ cs (All-weaker IsFree (λ c. IsFreeCell (unlinked_cell role c)) (λ c is. (is, refl)) cs all)
 
 -- the row of a first line, and that of a further one
 pub first_row-free : (level : Level) (line : List ℕ) → All IsFree (chars (name_of level)) → All IsFree line → All IsFreeCell (first_row level line)
@@ -64,7 +65,7 @@ first_row-free level line named all =
 pub further_row-free : (indent : ℕ) (line : List ℕ) → All IsFree line → All IsFreeCell (further_row indent line)
 unfolding further_row
 further_row-free indent line all =
-    All-append IsFreeCell (replicate indent SPACE) _ (All-replicate IsFreeCell indent SPACE refl) (drawn-free _ line all)
+    All-append IsFreeCell (replicate indent SPACE) _ (All-replicate IsFreeCell indent SPACE (refl, refl)) (drawn-free _ line all)
 
 -- the rows of lines
 pub rows_of_lines-free : (level : Level) (lines : List (List ℕ)) → All IsFree (chars (name_of level)) → All (All IsFree) lines → All (All IsFreeCell) (rows_of_lines level lines)
@@ -74,7 +75,7 @@ rows_of_lines-free level (line ∷ lines) named all =
     All-cons (All IsFreeCell) (first_row level line) (map (further_row indent) lines) (first_row-free level line named (All-head (All IsFree) line lines all)) (All-map (All IsFreeCell) (further_row indent) lines (All-weaker (All IsFree) (λ cs. All IsFreeCell (further_row indent cs)) (further_row-free indent) lines (All-tail (All IsFree) line lines all)))
 
 -- a title's rows hold no listed character where the level's name holds none
-pub title_rows-free : (level : Level) (text : List ℕ) → All (λ c. is_listed c ≡ false) (chars (name_of level)) → All (λ row. All (λ cell. is_listed cell.ch ≡ false) row) (title_rows level text)
+pub title_rows-free : (level : Level) (text : List ℕ) → All (λ c. is_listed c ≡ false) (chars (name_of level)) → All (All IsFreeCell) (title_rows level text)
 unfolding title_rows title_lines
 title_rows-free level text named =
     rows_of_lines-free level _ named (All-slice_split IsFree (λ c. c == 10) (norm (chars text)) (norm-free (chars text)))

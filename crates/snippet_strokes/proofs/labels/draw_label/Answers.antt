@@ -3,12 +3,12 @@ use Rattle.std.proofs.lemmas.Bool.{cases_lt}
 use Rattle.std.proofs.lemmas.List.{nil_from_length}
 use Rattle.std.proofs.lemmas.Result.{on_ok_weaker}
 use Rattle.snippet_style.specs.Grid.{Cell, drawn, cells_written}
-use Rattle.snippet_style.proofs.GridLemmas.{All-drawn, length-chars_le}
+use Rattle.snippet_style.proofs.GridLemmas.{length-chars_le}
 use Rattle.snippet_text.specs.Normalized.{is_listed}
 use Rattle.snippet_strokes.specs.Entries.{label_text}
-use Rattle.snippet_strokes.specs.Painting.{DrawsFrom}
+use Rattle.snippet_strokes.specs.Painting.{IsFreeCell, DrawsFrom}
 use Rattle.snippet_strokes.specs.Positions.{label_place}
-use Rattle.snippet_strokes.proofs.DrawLemmas.{DrawsFrom-none, DrawsFrom-writes}
+use Rattle.snippet_strokes.proofs.DrawLemmas.{DrawsFrom-none, DrawsFrom-writes, free_drawn}
 use Rattle.snippet_strokes.proofs.PositionLemmas.{label_stands, label_beside}
 use Rattle.snippet_strokes.proofs.TextLemmas.{free_label_text, bytes_some, bytes_none}
 use Rattle.snippet_strokes.proofs.labels.draw_label.Goals as goal
@@ -22,7 +22,7 @@ puts-requires-clause-end c =
 
 pub returns-clause-draws : goal.returns-clause-draws
 returns-clause-draws c =
-    let P : Cell → Type 0 = λ cell. is_listed cell.ch ≡ false in
+    let P : Cell → Type 0 = IsFreeCell in
     let text = c.as_str.result.now in
     let placed = c.args.placed.now in
     let text_is : chars text ≡ label_text placed.entry = ap chars c.as_str.ensures.value ∙ c.requires.label in
@@ -32,7 +32,7 @@ returns-clause-draws c =
     let at = c.args.layout.code + c.label_place-below.result.1 in
     let same_row : c.label_place-below.result.0 ≡ (label_place placed).0 = ap (λ (x : ℕ × ℕ). x.0) place in
     let same_column : c.label_place-below.result.1 ≡ (label_place placed).1 = ap (λ (x : ℕ × ℕ). x.1) place in
-    let free : All P (drawn c.label_role.result (chars text)) = All-drawn P c.label_role.result (chars text) (subst (λ cs. All (λ ch. is_listed ch ≡ false) cs) (sym text_is) (free_label_text placed.entry)) in
+    let free : All P (drawn c.label_role.result (chars text)) = free_drawn c.label_role.result (chars text) (subst (λ cs. All (λ ch. is_listed ch ≡ false) cs) (sym text_is) (free_label_text placed.entry)) in
     elim (cases_lt 0 (length text)) [
       | inl some ↦ on_ok_weaker c.puts.result (λ reads from right. DrawsFrom-writes c.args.row row from at c.args.buffer.now c.puts.new.self (drawn c.label_role.result (chars text)) (reads some) (omega arith) (omega (arith, stands.0, same_row)) (omega (arith, right, stands.1, same_column)) free) c.puts.ensures.reads
       | inr none ↦ on_ok_weaker c.puts.result (λ reads from right. subst (DrawsFrom c.args.row from c.args.buffer.now) (sym (c.puts.ensures.empty (nil_from_length text (omega arith)))) (DrawsFrom-none c.args.row from c.args.buffer.now)) c.puts.ensures.reads
