@@ -508,12 +508,16 @@ fn draws_in_unicode(rt: HostRuntime) -> Result<(), Fail> {
     Ok(())
 }
 
+/// The text of an error with this title and no element.
+fn title_text(alloc: Global, title: &str) -> Result<String, RenderError>
+    requires title { length title.now < 2 ^ 56 }
+{
+    let group = Group::with_title(alloc, ERROR.primary_title(title));
+    Renderer::plain().render(alloc, &[group])
+}
+
 #[test]
 fn draws_a_title_alone(rt: HostRuntime) -> Result<(), Fail> {
-    let group = Group::with_title(rt.alloc(), ERROR.primary_title("e"));
-    assert_eq!(rt;
-        Renderer::plain().render(rt.alloc(), &[group])?.as_str(),
-        "error: e"
-    );
+    assert_eq!(rt; title_text(rt.alloc(), "e")?.as_str(), "error: e");
     Ok(())
 }
