@@ -509,11 +509,12 @@ fn draws_in_unicode(rt: HostRuntime) -> Result<(), Fail> {
 }
 
 /// The text of an error with this title and no element.
-fn title_text(alloc: Global, title: &str) -> Result<String, RenderError>
+fn title_text<'a>(alloc: Global, title: &'a str) -> Result<String, RenderError>
     requires title { length title.now < 2 ^ 56 }
 {
-    let group = Group::with_title(alloc, ERROR.primary_title(title));
-    Renderer::plain().render(alloc, &[group])
+    let group: Group<'a> = Group::with_title(alloc, ERROR.primary_title(title));
+    let groups = [group];
+    Renderer::plain().render(alloc, &groups)
 }
 
 #[test]
