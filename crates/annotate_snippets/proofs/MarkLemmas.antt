@@ -2,7 +2,7 @@
 use Rattle.std.proofs.Common.{Option, Some, None, cond, ◌≡◌, ℕ, ◌+◌, ◌<◌, ◌≤◌, ◌==◌, ◌&&◌, max, Bool, true, false, List, [], ◌∷◌, map, length, get_or, refl, sym, ap, subst, ◌∙◌, arith, inl, inr}
 use Rattle.std.specs.List.{All, Contains, filter, list_any}
 use Rattle.std.proofs.lemmas.Bool.{and_parts, and_from, eqb-true, eq-eqb, cases_Bool}
-use Rattle.std.proofs.lemmas.List.{length-map, get_or-map}
+use Rattle.std.proofs.lemmas.List.{length-map}
 use Rattle.std.proofs.lemmas.List.Elements.{All-contains, All-contains_itself, All-filter, filter_passes, All-head, All-tail, Contains-get_or}
 use Rattle.snippet_model.specs.declared.snippet.Annotation.{Annotation}
 use Rattle.snippet_model.specs.declared.snippet.AnnotationKind.{AnnotationKind}
@@ -17,6 +17,7 @@ use Rattle.std.specs.Option.{option_copied}
 use Rattle.snippet_strokes.specs.Entries as entry
 use Rattle.annotate_snippets.specs.Shown.{shown_label, normalized_chars}
 use Rattle.snippet_strokes.specs.Entries.{EntryCovers, is_primary, IsEntryMark}
+use Rattle.snippet_strokes.proofs.MarkLemmas.{from_map}
 use Rattle.annotate_snippets.proofs.ListLemmas.{Contains-filter, Contains-map, Contains-head, Contains-tail}
 
 -- the start of an entry is its span's
@@ -71,14 +72,6 @@ entry_is s k a e marked single same =
       kind = ap (λ (x : Entry). x.kind) same;
       label = label_is e.label ∙ ap normalized_chars (ap (λ (x : Entry). x.label) same);
     }
-
--- what a mapped list contains
-from_map : {X Y : Type 0} (f : X → Y) (xs : List X) (y : Y) → Contains (map f xs) y → (x : X) × Contains xs x × (f x ≡ y)
-from_map f [] y (k, within, same) = absurd (omega arith)
-from_map f (x ∷ xs) y (k, within, same) =
-    let at : ℕ = k in
-    let inside : at < length (x ∷ xs) = omega (arith, within, length-map (x ∷ xs) f) in
-    (get_or (x ∷ xs) at x, Contains-get_or (x ∷ xs) at x inside, sym (get_or-map f (x ∷ xs) at x y inside) ∙ same)
 
 -- an element at which some test gives true
 rest_any : {X : Type 0} (q : X → Bool) (x : X) (xs : List X) → q x ≡ false → list_any q (x ∷ xs) ≡ true → list_any q xs ≡ true

@@ -89,7 +89,7 @@ mod tests {
     use super::*;
     use snippet_model::AnnotationKind;
     use snippet_parts::{LineAnnotation, LineAnnotationType, Loc};
-    use snippet_style::DecorStyle;
+    use snippet_style::{DecorStyle, LevelInner, Stylesheet};
     use std::test::Fail;
 
     /// The strokes of `let x = 1;`, of which column 4 is marked and labelled, in a group of this one snippet.
@@ -125,7 +125,7 @@ mod tests {
         };
         let mut buffer = StyledBuffer::new(rt.alloc());
         draw_snippet(rt.alloc(), &mut buffer, layout, true, true, true, &[marked])?;
-        let text = buffer.plain_text()?;
+        let text = buffer.render(LevelInner::Error, &Stylesheet::plain())?;
         assert_eq!(rt; text.as_str(), "  ╭▸ \n1 │ let x = 1;\n  ╰╴    ━ here");
         Ok(())
     }

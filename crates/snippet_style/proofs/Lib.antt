@@ -4,7 +4,6 @@ pub mod CodeLemmas
 pub mod CodeSteps
 pub mod GridLemmas
 pub mod GridSteps
-pub mod PrintLemmas
 pub mod PrintsOnce
 pub mod StyleLemmas
 pub mod WeaveLemmas

@@ -11,7 +11,6 @@ ghost use Rattle.snippet_style.specs.Print as spec;
 ghost use Rattle.snippet_style.specs.Stylesheet.{is_plain_sheet};
 ghost use Rattle.snippet_style.specs.Woven.{Prints, IsWoven, links_of};
 
-use crate::print::print_rows;
 use crate::restyle::{link_range, restyle_cell, restyle_range, row_len};
 use crate::role::{ElementStyle, LevelInner};
 use crate::stylesheet::Stylesheet;
@@ -215,7 +214,7 @@ impl<'a> StyledBuffer<'a> {
     }
 
     /// The rows, joined by line feeds, as they look under a sheet of styles in a group of this
-    /// level, with the codes of their links. The characters are those of `plain_text`, whatever the sheet.
+    /// level, with the codes of their links. The characters are the same under each sheet.
     ///
     /// # Errors
     ///
@@ -231,19 +230,6 @@ impl<'a> StyledBuffer<'a> {
     {
         let mut text = String::new(self.alloc);
         weave_rows(&mut text, &self.rows, level, sheet)?;
-        Ok(text)
-    }
-
-    /// The characters of the rows, joined by line feeds, without any style.
-    ///
-    /// # Errors
-    ///
-    /// There is no memory for the text.
-    pub fn plain_text(&self) -> Result<String, AllocError>
-        ensures text { IfOk result (λ t. string_bytes t ≡ encode_utf8_all (spec.plain_text self.now)) }
-    {
-        let mut text = String::new(self.alloc);
-        print_rows(&mut text, &self.rows)?;
         Ok(text)
     }
 }
@@ -316,8 +302,8 @@ fn open_row<'a>(
     Ok(())
 }
 
-/// How many characters a text has.
-fn char_count(text: &str) -> usize
+/// How many cells a text takes: one for each character.
+pub fn char_count(text: &str) -> usize
     ensures value { result ≡ length (chars text.now) }
 {
     text.chars().count()
@@ -439,7 +425,8 @@ mod tests {
         assert_eq!(rt; role_at(&buffer, 0, 1), Some(ElementStyle::Addition));
         assert_eq!(rt; role_at(&buffer, 0, 2), Some(ElementStyle::Addition));
         assert_eq!(rt; buffer.num_lines(), 1);
-        assert_eq!(rt; buffer.plain_text()?.as_str(), "ab c");
+        let text = buffer.render(LevelInner::Error, &Stylesheet::plain())?;
+        assert_eq!(rt; text.as_str(), "ab c");
         Ok(())
     }
 }

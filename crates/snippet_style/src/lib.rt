@@ -5,7 +5,6 @@ pub mod codes;
 pub mod defaults;
 pub mod glyphs;
 pub mod grid;
-mod print;
 mod restyle;
 pub mod role;
 pub mod style;
@@ -19,7 +18,7 @@ pub use defaults::{
     DEFAULT_NOTE_STYLE, DEFAULT_REMOVAL_STYLE, DEFAULT_WARNING_STYLE,
 };
 pub use glyphs::{DecorStyle, Underline};
-pub use grid::StyledBuffer;
+pub use grid::{StyledBuffer, char_count};
 pub use role::{ElementStyle, LevelInner};
 pub use style::{AnsiColor, Color, Effects, Style};
 pub use stylesheet::Stylesheet;

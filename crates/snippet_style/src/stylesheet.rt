@@ -1,7 +1,7 @@
 //! Which style each part of a report has.
 
 ghost use Rattle.std.specs.Prelude.{◌≡◌};
-ghost use Rattle.snippet_style.specs.Stylesheet.{plain_sheet, is_plain_sheet, default_sheet};
+ghost use Rattle.snippet_style.specs.Stylesheet.{plain_sheet, default_sheet};
 ghost use Rattle.snippet_style.specs.Stylesheet as spec;
 
 use crate::defaults::*;
@@ -104,23 +104,6 @@ impl Stylesheet {
             LevelInner::Note => self.note,
             LevelInner::Help => self.help,
         }
-    }
-
-    /// Whether each style of the sheet is plain.
-    pub fn is_plain(&self) -> bool
-        ensures value { result ≡ is_plain_sheet self.now }
-    {
-        self.error.is_plain()
-            && self.warning.is_plain()
-            && self.info.is_plain()
-            && self.note.is_plain()
-            && self.help.is_plain()
-            && self.line_num.is_plain()
-            && self.emphasis.is_plain()
-            && self.none.is_plain()
-            && self.context.is_plain()
-            && self.addition.is_plain()
-            && self.removal.is_plain()
     }
 }
 

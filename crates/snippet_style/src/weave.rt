@@ -165,7 +165,11 @@ mod tests {
         let expected =
             "a\u{1b}[31m\u{1b}]8;;u\u{1b}\\b\u{1b}]8;;\u{1b}\\\u{1b}[0m\u{1b}]8;;v\u{1b}\\c\u{1b}]8;;\u{1b}\\";
         assert_eq!(rt; text.as_str(), expected);
-        assert_eq!(rt; buffer.plain_text()?.as_str(), "abc");
+        let text = buffer.render(LevelInner::Error, &Stylesheet::plain())?;
+        assert_eq!(rt;
+            text.as_str(),
+            "a\u{1b}]8;;u\u{1b}\\b\u{1b}]8;;\u{1b}\\\u{1b}]8;;v\u{1b}\\c\u{1b}]8;;\u{1b}\\"
+        );
         Ok(())
     }
 }
