@@ -35,7 +35,7 @@ use Rattle.annotate_snippets.specs.Shown.{Frame, shown_label, number_text, place
 use Rattle.snippet_parts.specs.Mark.{end_column}
 use Rattle.annotate_snippets.proofs.ListLemmas.{Contains-head, Contains-tail}
 use Rattle.annotate_snippets.proofs.MarkLemmas.{AreShort, IsEntryOf, mark_of_entries, unmarked_by_entries, unlabelled_entries, lone_entry, some_entry}
-use Rattle.annotate_snippets.proofs.TitleLemmas.{row_text-drawn}
+use Rattle.snippet_titles.proofs.TextLemmas.{row_text-drawn}
 use Rattle.annotate_snippets.proofs.WindowLemmas.{IsWindowOf-whole}
 
 -- where the parts of a snippet's rows stand

@@ -19,19 +19,25 @@ use Rattle.snippet_style.specs.Grid.{Cell, SPACE}
 use Rattle.snippet_style.specs.declared.role.LevelInner.{LevelInner}
 use Rattle.snippet_style.specs.declared.stylesheet.Stylesheet.{Stylesheet}
 use Rattle.snippet_style.specs.Print.{row_text, further_text, plain_text}
-use Rattle.snippet_style.specs.Woven.{Prints, links_of}
+use Rattle.snippet_style.specs.Woven.{Prints, links_behind, links_of}
 use Rattle.snippet_style.proofs.WovenLemmas.{IsWoven-from_prints, links_of-unlinked, plain_woven}
 use Rattle.snippet_text.specs.Normalized.{is_listed}
 use Rattle.snippet_model.specs.Trusted.{trusted_texts}
-use Rattle.snippet_titles.specs.Title.{title_rows}
+use Rattle.std.specs.Option.{option_to_list}
+use Rattle.std.proofs.lemmas.Grind.{flat_map-append}
+use Rattle.snippet_text.specs.Normalized.{norm}
+use Rattle.snippet_model.specs.declared.snippet.Id.{Id}
+use Rattle.snippet_titles.specs.Title.{title_rows, text_links, id_links}
+use Rattle.snippet_titles.proofs.FreeLemmas.{IsFreeText}
+use Rattle.snippet_titles.proofs.LinkLemmas.{title_rows-links}
 use Rattle.snippet_parts.specs.Mark.{is_marking, is_single_line}
-use Rattle.snippet_strokes.specs.Rows.{IsFree}
+use Rattle.snippet_strokes.specs.Rows.{first_row, IsFree}
 use Rattle.snippet_strokes.proofs.SnippetLemmas.{free_from_AddsSnippet}
 use Rattle.annotate_snippets.specs.declared.renderer.Renderer.{Renderer}
 use Rattle.annotate_snippets.specs.Covered.{gutter_of, is_covered_annotation, is_covered_snippet, is_covered_title, is_covered_renderer, IsReportOf}
 use Rattle.annotate_snippets.specs.Drawn.{layout_of, numbered_source, AddsCause, IsDrawable, IsGridOf, IsGridOfReport}
 use Rattle.annotate_snippets.specs.Page.{NamedRow, cells_of, GroupPage, group_rows, ArePrinted, PrintsPage}
-use Rattle.annotate_snippets.specs.Shown.{Frame, gutter_of_report, ShowsTitle, ShowsElement, ShowsGroup, levels_of, SheetsShown, IsFreeBut, IsFreeUnder}
+use Rattle.annotate_snippets.specs.Shown.{Frame, gutter_of_report, ShowsTitle, ShowsElement, ShowsGroup, levels_of, report_links, SheetsShown, IsFreeBut, IsFreeUnder}
 use Rattle.std.specs.Borrow.{Bor}
 use Rattle.std.specs.Option.{option_copied}
 use Rattle.snippet_model.specs.Fits.{ReportFits}
@@ -72,7 +78,7 @@ gutter_is r group s plain elements =
 
 module _ (r : Renderer) (groups : List Group) (title : Title) (s : Snippet Annotation) (of : IsReportOf title (Some s) groups) (plain : r.anonymized_snippet_line_numbers ≡ false) (titled : is_covered_title title ≡ true) (covered : is_covered_snippet r.term_width s ≡ true) where
   abbrev titles : List (List Cell)
-  titles = title_rows title.level (cow_str_bytes title.text)
+  titles = title_rows r.hyperlink title
 
   -- the rows are those of a group that shows the report
   pub report_shown : (rows : List (List Cell)) → AddsCause r.decor_style s titles rows → (page : GroupPage) × (rows ≡ group_rows page) × AllZip (ShowsGroup r (gutter_of_report r groups)) groups (page ∷ [])
@@ -87,7 +93,7 @@ module _ (r : Renderer) (groups : List Group) (title : Title) (s : Snippet Annot
         gutter_is = gutter;
         code_from = omega (arith, gutter);
         code_is = λ _. ap (λ n. n + 3) gutter;
-        title = subst (λ t. ShowsTitle (gutter_of_report r (of.group ∷ [])) t titles) (sym of.title_is) (ShowsTitle-rows (gutter_of_report r (of.group ∷ [])) title titled);
+        title = subst (λ t. ShowsTitle r.hyperlink (gutter_of_report r (of.group ∷ [])) t titles) (sym of.title_is) (ShowsTitle-rows r.hyperlink (gutter_of_report r (of.group ∷ [])) title titled);
         elements = subst (λ es. AllZip (ShowsElement r (frame_of s)) es (part ∷ [])) (sym of.elements_are) (shown.2, tt);
       } in (
         group_page,
@@ -95,25 +101,30 @@ module _ (r : Renderer) (groups : List Group) (title : Title) (s : Snippet Annot
         subst (λ gs. AllZip (ShowsGroup r (gutter_of_report r gs)) gs (group_page ∷ [])) (sym of.groups_are) (group_shown, tt),
       )
 
-  -- no row holds a listed character
-  rows_free : (rows : List (List Cell)) → AddsCause r.decor_style s titles rows → All IsFree rows
-  rows_free rows drawn =
-      free_from_AddsSnippet (layout_of r.decor_style s) s.line_numbering true true drawn.infos titles rows drawn.rows (free_title title titled)
+  -- the rows below the title: none holds a listed character or links to anything
+  rows_below : (rows : List (List Cell)) (drawn : AddsCause r.decor_style s titles rows) → (below : List (List Cell)) × (rows ≡ titles ++ below) × All IsFree below
+  rows_below rows drawn =
+      let layout = layout_of r.decor_style s in (
+        first_row layout.decor true layout.gutter ∷ drawn.rows.rows,
+        drawn.rows.added,
+        free_from_AddsSnippet layout s.line_numbering true true drawn.infos titles rows drawn.rows,
+      )
+
+-- rows that hold no listed character
+free_texts : (rows : List (List Cell)) → All IsFree rows → All IsFreeText rows
+free_texts rows free =
+    All-weaker IsFree IsFreeText (λ row free_row. All-map (λ c. is_listed c ≡ false) (λ (cell : Cell). cell.ch) row (All-weaker IsFreeCell (λ cell. is_listed cell.ch ≡ false) (λ cell is. is.0) row free_row)) rows free
 
 -- the text of free rows is free
-row_free : (row : List Cell) → IsFree row → All (λ c. is_listed c ≡ false) (row_text row)
-row_free row free =
-    All-map (λ c. is_listed c ≡ false) (λ (cell : Cell). cell.ch) row (All-weaker IsFreeCell (λ cell. is_listed cell.ch ≡ false) (λ cell is. is.0) row free)
-
-further_free : (rows : List (List Cell)) → All IsFree rows → All (λ c. is_listed c ≡ false) (further_text rows)
+further_free : (rows : List (List Cell)) → All IsFreeText rows → All (λ c. is_listed c ≡ false) (further_text rows)
 further_free [] free = All-nil (λ c. is_listed c ≡ false)
 further_free (row ∷ rows) free =
-    All-append (λ c. is_listed c ≡ false) (10 ∷ row_text row) (further_text rows) (All-cons (λ c. is_listed c ≡ false) 10 (row_text row) refl (row_free row (All-head IsFree row rows free))) (further_free rows (All-tail IsFree row rows free))
+    All-append (λ c. is_listed c ≡ false) (10 ∷ row_text row) (further_text rows) (All-cons (λ c. is_listed c ≡ false) 10 (row_text row) refl (All-head IsFreeText row rows free)) (further_free rows (All-tail IsFreeText row rows free))
 
-text_free : (rows : List (List Cell)) → All IsFree rows → All (λ c. is_listed c ≡ false) (plain_text rows)
+text_free : (rows : List (List Cell)) → All IsFreeText rows → All (λ c. is_listed c ≡ false) (plain_text rows)
 text_free [] free = All-nil (λ c. is_listed c ≡ false)
 text_free (row ∷ rows) free =
-    All-append (λ c. is_listed c ≡ false) (row_text row) (further_text rows) (row_free row (All-head IsFree row rows free)) (further_free rows (All-tail IsFree row rows free))
+    All-append (λ c. is_listed c ≡ false) (row_text row) (further_text rows) (All-head IsFreeText row rows free) (further_free rows (All-tail IsFreeText row rows free))
 
 -- free rows have no links
 free_unlinked : (rows : List (List Cell)) → All IsFree rows → links_of rows ≡ []
@@ -129,6 +140,25 @@ free_unlinked rows free =
           | inl within ↦ (All-get_or IsFreeCell row c SPACE within free).1
           | inr past ↦ ap (λ (cell : Cell). cell.link) (get_or_past row c SPACE past)
         ]
+
+-- a report of one title links to what its id links to
+no_links : (id : Option Id) → id_links false id ≡ []
+no_links None = refl
+no_links (Some id) = of_text (flat_map (λ t. norm (chars (cow_str_bytes t))) (option_to_list id.id))
+  where
+    of_text : (shown : List ℕ) → text_links None shown ≡ []
+    of_text [] = refl
+    of_text (c ∷ cs) = refl
+
+links_of_report : (r : Renderer) (title : Title) (cause : Option (Snippet Annotation)) (groups : List Group) → IsReportOf title cause groups → report_links r groups ≡ id_links r.hyperlink title.id
+links_of_report r title cause groups of = by r.hyperlink refl
+  where
+    linked : flat_map (λ (g : Group). flat_map (λ (t : Title). id_links true t.id) (option_to_list g.title)) groups ≡ id_links true title.id
+    linked = rw (of.groups_are, of.title_is, append-nil (id_links true title.id)) (append-nil (id_links true title.id))
+
+    by : (hyperlink : Bool) → r.hyperlink ≡ hyperlink → report_links r groups ≡ id_links r.hyperlink title.id
+    by true is = rw is linked
+    by false is = rw is (sym (no_links title.id))
 
 -- free text has no listed characters but trusted ones
 free_but : (trusted : List (List ℕ)) (text : List ℕ) → All (λ c. is_listed c ≡ false) text → IsFreeBut trusted text
@@ -150,9 +180,9 @@ numbers_shown r covered =
     none_of false false c d off = refl
 
 -- a title alone is a page of its group
-bare_shown : (r : Renderer) (groups : List Group) (title : Title) (of : IsReportOf title None groups) → is_covered_title title ≡ true → AllZip (ShowsGroup r (gutter_of_report r groups)) groups (record { title = title_rows title.level (cow_str_bytes title.text); elements = [] } ∷ [])
+bare_shown : (r : Renderer) (groups : List Group) (title : Title) (of : IsReportOf title None groups) → is_covered_title title ≡ true → AllZip (ShowsGroup r (gutter_of_report r groups)) groups (record { title = title_rows r.hyperlink title; elements = [] } ∷ [])
 bare_shown r groups title of titled =
-    let titles : List (List Cell) = title_rows title.level (cow_str_bytes title.text) in
+    let titles : List (List Cell) = title_rows r.hyperlink title in
     let page : GroupPage = record { title = titles; elements = [] } in
     let gutter : ℕ = gutter_of_report r groups in
     let frame : Frame = record { gutter = gutter; code = gutter + 3 } in
@@ -161,33 +191,35 @@ bare_shown r groups title of titled =
       gutter_is = refl;
       code_from = omega arith;
       code_is = λ _. refl;
-      title = subst (λ t. ShowsTitle gutter t titles) (sym of.title_is) (ShowsTitle-rows gutter title titled);
+      title = subst (λ t. ShowsTitle r.hyperlink gutter t titles) (sym of.title_is) (ShowsTitle-rows r.hyperlink gutter title titled);
       elements = subst (λ es. AllZip (ShowsElement r frame) es []) (sym of.elements_are) tt;
     } in
     subst (λ gs. AllZip (ShowsGroup r gutter) gs (page ∷ [])) (sym of.groups_are) (shown, tt)
 
 -- the grid of a covered report is a page of it
-pub grid_of_report : (r : Renderer) (groups : List Group) (level : LevelInner) (title : Title) (cause : Option (Snippet Annotation)) → levels_of groups ≡ level ∷ [] → IsReportOf title cause groups → is_covered_renderer r ≡ true → is_covered_title title ≡ true → IfSome cause (λ s. is_covered_snippet r.term_width s ≡ true) → (rows : List (List Cell)) → IsGridOf r.decor_style title cause rows → IsGridOfReport r groups level rows
+pub grid_of_report : (r : Renderer) (groups : List Group) (level : LevelInner) (title : Title) (cause : Option (Snippet Annotation)) → levels_of groups ≡ level ∷ [] → IsReportOf title cause groups → is_covered_renderer r ≡ true → is_covered_title title ≡ true → IfSome cause (λ s. is_covered_snippet r.term_width s ≡ true) → (rows : List (List Cell)) → IsGridOf r.decor_style r.hyperlink title cause rows → IsGridOfReport r groups level rows
 grid_of_report r groups level title None leveled of drawing titled covered rows drawn =
-    let titles : List (List Cell) = title_rows title.level (cow_str_bytes title.text) in
+    let titles : List (List Cell) = title_rows r.hyperlink title in
     record {
       group = record { title = titles; elements = [] };
       rows_are = drawn ∙ sym (append-nil titles);
       level_is = leveled;
       shows = bare_shown r groups title of titled;
-      free = free_but (trusted_texts groups) (plain_text rows) (text_free rows (subst (All IsFree) (sym drawn) (free_title title titled)));
-      unlinked = free_unlinked rows (subst (All IsFree) (sym drawn) (free_title title titled));
+      free = free_but (trusted_texts groups) (plain_text rows) (text_free rows (subst (All IsFreeText) (sym drawn) (free_title r.hyperlink title titled)));
+      links = ap links_of drawn ∙ title_rows-links r.hyperlink title ∙ sym (links_of_report r title None groups of);
     }
 grid_of_report r groups level title (Some s) leveled of drawing titled covered rows drawn =
     let plain = numbers_shown r drawing in
     let shown = report_shown r groups title s of plain titled covered rows drawn in
+    let titles : List (List Cell) = title_rows r.hyperlink title in
+    let below = rows_below r groups title s of plain titled covered rows drawn in
     record {
       group = shown.0;
       rows_are = shown.1;
       level_is = leveled;
       shows = shown.2;
-      free = free_but (trusted_texts groups) (plain_text rows) (text_free rows (rows_free r groups title s of plain titled covered rows drawn));
-      unlinked = free_unlinked rows (rows_free r groups title s of plain titled covered rows drawn);
+      free = free_but (trusted_texts groups) (plain_text rows) (text_free rows (subst (All IsFreeText) (sym below.1) (All-append IsFreeText titles below.0 (free_title r.hyperlink title titled) (free_texts below.0 below.2))));
+      links = ap links_of below.1 ∙ flat_map-append (λ row. links_behind None row) titles below.0 ∙ ap (λ urls. links_of titles ++ urls) (free_unlinked below.0 below.2) ∙ append-nil (links_of titles) ∙ title_rows-links r.hyperlink title ∙ sym (links_of_report r title (Some s) groups of);
     }
 
 -- the snippet of a covered report can be drawn
@@ -246,8 +278,8 @@ module _ (r : Renderer) (groups : List Group) (level : LevelInner) (rows : List 
         shows = is.shows;
         printed = AllZip-weaker (λ sheet text. Prints sheet level rows text) (λ sheet text. PrintsPage sheet (levels_of groups) (is.group ∷ []) text) page_printed sheets texts printed;
         free = subst (λ rs. IsFreeBut (trusted_texts groups) (plain_text rs)) is.rows_are is.free;
-        links = λ _. append-nil (links_of (group_rows is.group)) ∙ ap links_of (sym is.rows_are) ∙ is.unlinked;
-        plain = λ _. AllZip-weaker (λ sheet text. Prints sheet level rows text) (λ sheet text. is_plain_sheet sheet ≡ true → text ≡ encode_utf8_all (plain_text (group_rows is.group))) (λ sheet text prints plain. plain_woven sheet text (plain_text rows) (links_of rows) plain is.unlinked (IsWoven-from_prints sheet level rows text prints) ∙ ap (λ rs. encode_utf8_all (plain_text rs)) is.rows_are) sheets texts printed;
+        links = append-nil (links_of (group_rows is.group)) ∙ ap links_of (sym is.rows_are) ∙ is.links;
+        plain = λ none. AllZip-weaker (λ sheet text. Prints sheet level rows text) (λ sheet text. is_plain_sheet sheet ≡ true → text ≡ encode_utf8_all (plain_text (group_rows is.group))) (λ sheet text prints plain. plain_woven sheet text (plain_text rows) (links_of rows) plain (is.links ∙ none) (IsWoven-from_prints sheet level rows text prints) ∙ ap (λ rs. encode_utf8_all (plain_text rs)) is.rows_are) sheets texts printed;
       }
 
   -- a text that prints the grid is free, but for its codes
@@ -265,11 +297,6 @@ pub IfOk-map_err : {T E D : Type 0} (P : T → Type 0) (R : E → D → Type 0) 
 IfOk-map_err P R (Ok x) q holds is = subst (λ z. IfOk z P) (sym is) holds
 IfOk-map_err P R (Err e) (Ok y) holds is = absurd is
 IfOk-map_err P R (Err e) (Err d) holds is = tt
-
--- and what follows from it
-pub IfOk-weaker : {T E : Type 0} (P Q : T → Type 0) → ((x : T) → P x → Q x) → (r : Result T E) → IfOk r P → IfOk r Q
-IfOk-weaker P Q weaker (Ok x) holds = weaker x holds
-IfOk-weaker P Q weaker (Err e) holds = tt
 
 -- what holds of an answer that is known holds of what it gives
 pub ok_had : {T E : Type 0} (P : T → Type 0) (r : Result T E) (x : T) → r ≡ Ok x → IfOk r P → P x

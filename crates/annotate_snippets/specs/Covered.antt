@@ -62,9 +62,9 @@ is_standard Standard = true
 is_standard Hidden = false
 is_standard (Own name) = false
 
--- a title that is drawn so far: a primary one of a standard level, without an id
+-- a title that is drawn so far: a primary one of a standard level
 abbrev pub is_covered_title : Title → Bool
-is_covered_title title = is_standard title.level.name && is_none title.id && not title.allows_styling
+is_covered_title title = is_standard title.level.name && not title.allows_styling
 
 -- a renderer that draws so far: one with no switch, of any width, strokes and stylesheet, with links or without
 abbrev pub is_covered_renderer : Renderer → Bool

@@ -1,6 +1,6 @@
 -- What the grid holds: a title, an annotated snippet below it, and with both a whole report.
 use Rattle.snippet_style.specs.Woven.{links_of}
-use Rattle.std.specs.Prelude.{◌≡◌, ◌+◌, ◌<◌, ◌^◌, All, length, true, List, [], ◌∷◌, Option, None, Some, map}
+use Rattle.std.specs.Prelude.{◌≡◌, ◌+◌, ◌<◌, ◌^◌, All, length, Bool, true, List, [], ◌∷◌, Option, None, Some, map}
 use Rattle.std.specs.List.{AllZip}
 use Rattle.std.specs.Cow.{cow_str_bytes}
 use Rattle.snippet_style.specs.Grid.{Cell}
@@ -23,7 +23,7 @@ use Rattle.snippet_strokes.specs.Snippet.{AddsSnippet}
 use Rattle.annotate_snippets.specs.declared.renderer.Renderer.{Renderer}
 use Rattle.annotate_snippets.specs.Covered.{gutter_of}
 use Rattle.annotate_snippets.specs.Page.{GroupPage, group_rows}
-use Rattle.annotate_snippets.specs.Shown.{gutter_of_report, levels_of, ShowsGroup, IsFreeBut}
+use Rattle.annotate_snippets.specs.Shown.{gutter_of_report, levels_of, report_links, ShowsGroup, IsFreeBut}
 
 -- where the parts of a snippet's rows stand, and the strokes that they are drawn with
 abbrev pub layout_of : DecorStyle → Snippet Annotation → Layout
@@ -48,17 +48,17 @@ pub record IsDrawable (s : Snippet Annotation) : Type 0 where
   pub spans : All (λ a. IsSpan (cow_str_bytes s.source) a.span.start a.span.end) s.markers.items
   pub labels : All AnnotationFits s.markers.items
 
--- the grid holds the rows of this title, and below them those of this snippet, if there is one
-abbrev pub IsGridOf : DecorStyle → Title → Option (Snippet Annotation) → List (List Cell) → Type 0
-IsGridOf decor title None rows = rows ≡ title_rows title.level (cow_str_bytes title.text)
-IsGridOf decor title (Some s) rows = AddsCause decor s (title_rows title.level (cow_str_bytes title.text)) rows
+-- the grid holds the rows of this title, with links or without, and below them those of this snippet, if there is one
+abbrev pub IsGridOf : DecorStyle → Bool → Title → Option (Snippet Annotation) → List (List Cell) → Type 0
+IsGridOf decor hyperlink title None rows = rows ≡ title_rows hyperlink title
+IsGridOf decor hyperlink title (Some s) rows = AddsCause decor s (title_rows hyperlink title) rows
 
 -- the grid of a report of one group, which is printed in this level: its rows are a page that shows the group, and each
--- listed character of them is one of a trusted text; no cell belongs to a link yet
+-- listed character of them is one of a trusted text; they link to what the report links to
 pub record IsGridOfReport (r : Renderer) (groups : List Group) (level : LevelInner) (rows : List (List Cell)) : Type 0 where
   pub group : GroupPage
   pub rows_are : rows ≡ group_rows group
   pub level_is : levels_of groups ≡ level ∷ []
   pub shows : AllZip (ShowsGroup r (gutter_of_report r groups)) groups (group ∷ [])
   pub free : IsFreeBut (trusted_texts groups) (plain_text rows)
-  pub unlinked : links_of rows ≡ []
+  pub links : links_of rows ≡ report_links r groups

@@ -1,11 +1,11 @@
 -- What the page of a report shows.
 use Rattle.snippet_style.specs.Stylesheet.{is_plain_sheet}
-use Rattle.std.specs.Prelude.{◌≡◌, ℕ, ◌+◌, ◌-◌, ◌<◌, ◌≤◌, ◌==◌, ◌&&◌, ◌||◌, max, Bool, true, false, not, List, [], ◌∷◌, ◌++◌, All, Contains, Option, Some, None, filter, is_none, length, map, take, drop, fold, replicate, chars, codes, if◌then◌else◌, encode_utf8_all}
+use Rattle.std.specs.Prelude.{◌≡◌, ℕ, ◌+◌, ◌-◌, ◌<◌, ◌≤◌, ◌==◌, ◌&&◌, ◌||◌, max, Bool, true, false, not, List, [], ◌∷◌, ◌++◌, All, Contains, Option, Some, None, IfSome, filter, is_none, length, map, take, drop, fold, replicate, chars, codes, if◌then◌else◌, encode_utf8_all}
 use Rattle.std.specs.List.{AllZip, flat_map, list_all, count_by, slice_split, slice_index_or}
 use Rattle.std.specs.Option.{option_map, option_to_list}
 use Rattle.std.specs.Char.{is_ascii_alphanumeric}
 use Rattle.std.specs.Cow.{cow_str_bytes}
-use Rattle.snippet_style.specs.Grid.{Cell, SPACE, row_at}
+use Rattle.snippet_style.specs.Grid.{Cell, SPACE, row_at, cell_at}
 use Rattle.snippet_style.specs.Print.{row_text}
 use Rattle.snippet_style.specs.Woven.{IsWoven}
 use Rattle.snippet_style.specs.declared.glyphs.DecorStyle.{DecorStyle}
@@ -30,6 +30,7 @@ use Rattle.snippet_parts.specs.Lines.{source_lines}
 use Rattle.snippet_parts.specs.Marked.{first_line, last_line}
 use Rattle.snippet_parts.specs.Mark.{is_marking, is_single_line, is_marked_on, is_wide, qualifies_for_marks, end_column, IsMarkedAt, IsMarkOf}
 use Rattle.snippet_parts.specs.Window.{chars_at, stands_whole, IsWindowOf}
+use Rattle.snippet_titles.specs.Title.{id_chars, id_address, id_links}
 use Rattle.snippet_strokes.specs.Entries.{IsMarkCell}
 use Rattle.snippet_strokes.specs.Rows.{shown_number, set_right, HasNoNumber}
 use Rattle.annotate_snippets.specs.declared.renderer.Renderer.{Renderer}
@@ -71,11 +72,22 @@ title_texts None = []
 title_texts (Some title) =
     texts_below (title_label title) (slice_split (λ c. c == 10) (drawn_text title))
 
--- the rows show a title, where there is one: its texts, row by row; and no further row holds a letter or digit in the
--- gutter, so that none can be taken for the row of a line
-pub record ShowsTitle (gutter : ℕ) (title : Option Title) (rows : List (List Cell)) : Type 0 where
+-- the cell of a title's first row at which the text of its id begins
+abbrev pub id_start : Title → ℕ
+id_start title =
+    length (norm (chars (name_of title.level))) + (if is_hidden title.level.name then 0 else 1)
+
+-- the text of a title's id links to the id's address, where links are on and it has one; nothing else in its rows links
+pub record LinksId (hyperlink : Bool) (title : Title) (rows : List (List Cell)) : Type 0 where
+  pub text : (c : ℕ) → c < length (id_chars title.id) → (cell_at rows 0 (id_start title + c)).link ≡ id_address hyperlink title.id
+  pub others : (i c : ℕ) → (i ≡ 0 → id_start title ≤ c → c < id_start title + length (id_chars title.id) → ⊥) → (cell_at rows i c).link ≡ None
+
+-- the rows show a title, where there is one: its texts, row by row, with the link of its id; and no further row holds a
+-- letter or digit in the gutter, so that none can be taken for the row of a line
+pub record ShowsTitle (hyperlink : Bool) (gutter : ℕ) (title : Option Title) (rows : List (List Cell)) : Type 0 where
   pub texts : (i : ℕ) → i < length (title_texts title) → row_text (row_at rows i) ≡ slice_index_or (title_texts title) i []
   pub further : (i : ℕ) → length (title_texts title) ≤ i → HasNoNumber gutter (row_at rows i)
+  pub links : IfSome title (λ t. LinksId hyperlink t rows)
 
 -- the width of the gutter: that of the greatest line number counted, or of `LL` in place of all
 abbrev pub gutter_of_element : ℕ → Element → ℕ
@@ -190,7 +202,7 @@ pub record ShowsGroup (r : Renderer) (gutter : ℕ) (g : Group) (page : GroupPag
   pub gutter_is : frame.gutter ≡ gutter
   pub code_from : gutter + 3 ≤ frame.code
   pub code_is : list_all has_no_bars g.elements.items ≡ true → frame.code ≡ gutter + 3
-  pub title : ShowsTitle gutter g.title page.title
+  pub title : ShowsTitle r.hyperlink gutter g.title page.title
   pub elements : AllZip (ShowsElement r frame) g.elements.items page.elements
 
 -- each listed character is one of a trusted text
@@ -201,16 +213,22 @@ IsFreeBut trusted text = All (λ c. is_listed c ≡ true → Contains (flat_map 
 abbrev pub levels_of : List Group → List LevelInner
 levels_of groups = map (λ g. g.level) groups
 
+-- the addresses that a report links to, in order: with hyperlinks, that of each title's id that has one and that shows
+-- anything
+abbrev pub report_links : Renderer → List Group → List (List ℕ)
+report_links r groups =
+    if r.hyperlink then flat_map (λ g. flat_map (λ (t : Title). id_links true t.id) (option_to_list g.title)) groups else []
+
 -- the texts show a report under these sheets, one text under each: all print one page, which shows each group, in order,
--- and each listed character of which is one of a trusted text. Without hyperlinks the page has no links, and under a plain
--- sheet the text is the page's characters
+-- and each listed character of which is one of a trusted text; it links to what the report links to. Without links, under a
+-- plain sheet, the text is the page's characters
 pub record SheetsShown (r : Renderer) (groups : List Group) (sheets : List Stylesheet) (texts : List (List ℕ)) : Type 0 where
   pub page : Page
   pub shows : AllZip (ShowsGroup r (gutter_of_report r groups)) groups page
   pub printed : AllZip (λ sheet text. PrintsPage sheet (levels_of groups) page text) sheets texts
   pub free : IsFreeBut (trusted_texts groups) (page_text page)
-  pub links : r.hyperlink ≡ false → page_links page ≡ []
-  pub plain : r.hyperlink ≡ false → AllZip (λ sheet text. is_plain_sheet sheet ≡ true → text ≡ encode_utf8_all (page_text page)) sheets texts
+  pub links : page_links page ≡ report_links r groups
+  pub plain : report_links r groups ≡ [] → AllZip (λ sheet text. is_plain_sheet sheet ≡ true → text ≡ encode_utf8_all (page_text page)) sheets texts
 
 -- the text shows a report under this sheet
 abbrev pub ShowsReport : Renderer → List Group → Stylesheet → List ℕ → Type 0

@@ -282,7 +282,8 @@ impl Renderer {
             return Err(RenderError::NotYet);
         };
         let decor = self.decor_style;
-        let grid = graphic::page(alloc, decor, title, cause).map_err(RenderError::Memory)?;
+        let links = self.hyperlink;
+        let grid = graphic::page(alloc, decor, links, title, cause).map_err(RenderError::Memory)?;
         Ok((level, grid))
     }
 }

@@ -152,9 +152,7 @@ free_from_AreLinesShown layout numbered closes [] rows none = All-same IsFree ro
 free_from_AreLinesShown layout numbered closes (info ∷ infos) rows shown =
     All-same IsFree rows (shown.0 ++ shown.1) shown.2 (All-append IsFree shown.0 shown.1 shown.3.free (free_from_AreLinesShown layout numbered closes infos shown.1 shown.4))
 
--- a snippet keeps a grid free of listed characters
-pub free_from_AddsSnippet : (layout : Layout) (numbered first closes : Bool) (infos : List AnnotatedLineInfo) (old new : List (List Cell)) → AddsSnippet layout numbered first closes infos old new → All IsFree old → All IsFree new
-free_from_AddsSnippet layout numbered first closes infos old new adds free_old =
-    let start = first_row layout.decor first layout.gutter in
-    let added : All IsFree (start ∷ adds.rows) = All-cons IsFree start adds.rows (free_first_row layout.decor first layout.gutter) (free_from_AreLinesShown layout numbered closes infos adds.rows adds.shown) in
-    All-same IsFree new (old ++ start ∷ adds.rows) adds.added (All-append IsFree old (start ∷ adds.rows) free_old added)
+-- no row that a snippet adds holds a listed character
+pub free_from_AddsSnippet : (layout : Layout) (numbered first closes : Bool) (infos : List AnnotatedLineInfo) (old new : List (List Cell)) → (adds : AddsSnippet layout numbered first closes infos old new) → All IsFree (first_row layout.decor first layout.gutter ∷ adds.rows)
+free_from_AddsSnippet layout numbered first closes infos old new adds =
+    All-cons IsFree (first_row layout.decor first layout.gutter) adds.rows (free_first_row layout.decor first layout.gutter) (free_from_AreLinesShown layout numbered closes infos adds.rows adds.shown)

@@ -1,5 +1,5 @@
 -- What normalising does to a text's width and to its listed characters.
-use Rattle.std.proofs.Common.{◌≡◌, ℕ, false, List, [], ◌∷◌, ◌++◌, refl, sym, ap, ◌∙◌, arith, encode_utf8_all, map, chars}
+use Rattle.std.proofs.Common.{◌≡◌, ℕ, ◌*◌, ◌≤◌, length, false, List, [], ◌∷◌, ◌++◌, refl, sym, ap, ◌∙◌, arith, encode_utf8_all, map, chars}
 use Rattle.std.specs.Str.{IsUtf8}
 use Rattle.std.proofs.lemmas.Str.{chars_from_encodes}
 use Rattle.std.proofs.lemmas.List.{map-id}
@@ -8,7 +8,7 @@ use Rattle.std.proofs.lemmas.List.Sums.{sum_by-append, sum_by-cons}
 use Rattle.std.specs.List.{flat_map, list_any}
 use Rattle.std.proofs.lemmas.Grind.{flat_map-append}
 use Rattle.std.proofs.lemmas.Bool.Decides.{nat_tests}
-use Rattle.std.proofs.lemmas.List.{append-nil}
+use Rattle.std.proofs.lemmas.List.{append-nil, length-append}
 use Rattle.snippet_text.specs.Normalized.{norm, shown, is_listed}
 use Rattle.snippet_text.specs.Width.{char_width, width_of}
 
@@ -34,6 +34,17 @@ pub width_of-norm : (cs : List ℕ) → width_of (norm cs) ≡ width_of cs
 unfolding norm
 width_of-norm [] = refl
 width_of-norm (c ∷ cs) = sum_by-append char_width (shown c) (flat_map shown cs) ∙ (let rest : width_of (flat_map shown cs) ≡ width_of cs = width_of-norm cs in rw (width_of-shown c, rest) (sym (sum_by-cons char_width c cs)))
+
+-- nor makes it a text longer than four times
+length-shown : (c : ℕ) → length (shown c) ≤ 4
+length-shown c = grind (arith, nat_tests)
+
+pub length-norm : (cs : List ℕ) → length (norm cs) ≤ 4 * length cs
+unfolding norm
+length-norm [] = omega arith
+length-norm (c ∷ cs) =
+    let rest : length (flat_map shown cs) ≤ 4 * length cs = length-norm cs in
+    omega (arith, rest, length-shown c, length-append (shown c) (flat_map shown cs))
 
 -- a normalised text holds no listed character
 pub list_any-norm : (cs : List ℕ) → list_any is_listed (norm cs) ≡ false

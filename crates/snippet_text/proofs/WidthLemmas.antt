@@ -7,3 +7,12 @@ use Rattle.snippet_text.specs.Width.{char_width, width_of}
 pub width_of-colon : width_of (codes ": ") ≡ 2
 unfolding char_width unicode_width
 width_of-colon = refl
+
+-- brackets
+pub width_of-opening : width_of (codes "[") ≡ 1
+unfolding char_width unicode_width
+width_of-opening = refl
+
+pub width_of-closing : width_of (codes "]") ≡ 1
+unfolding char_width unicode_width
+width_of-closing = refl

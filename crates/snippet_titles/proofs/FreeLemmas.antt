@@ -1,24 +1,23 @@
 -- A title's rows hold no listed character where the level's name holds none.
-use Rattle.std.proofs.Common.{◌≡◌, ℕ, ◌+◌, ◌==◌, Bool, true, false, List, [], ◌∷◌, ◌++◌, map, replicate, codes, chars, All, None, refl, arith}
+use Rattle.std.proofs.Common.{◌≡◌, ℕ, ◌==◌, Bool, true, false, List, [], ◌∷◌, ◌++◌, map, replicate, codes, chars, All, Option, None, Some, refl, sym, subst, arith}
 use Rattle.std.specs.List.{slice_split, onto_first, list_any}
 use Rattle.std.proofs.lemmas.List.Elements.{All-nil, All-cons, All-head, All-tail, All-append, All-map, All-replicate, All-weaker}
 use Rattle.std.proofs.lemmas.List.Splits.{slice_split-cons_yes, slice_split-cons_no}
-use Rattle.snippet_style.specs.Grid.{Cell, SPACE, drawn, unlinked_cell}
-use Rattle.snippet_style.specs.declared.role.ElementStyle.{ElementStyle}
-use Rattle.snippet_style.specs.declared.role.ElementStyle.TheVariants as role
+use Rattle.std.specs.Cow.{cow_str_bytes}
+use Rattle.std.specs.Option.{option_map}
+use Rattle.snippet_style.specs.Grid.{Cell}
+use Rattle.snippet_style.specs.Print.{row_text}
 use Rattle.snippet_text.specs.Normalized.{norm, is_listed}
-use Rattle.snippet_text.specs.Width.{width_of}
 use Rattle.snippet_text.proofs.NormLemmas.{list_any-norm}
-use Rattle.snippet_model.specs.declared.level.Level.{Level}
+use Rattle.snippet_model.specs.declared.snippet.Id.{Id}
+use Rattle.snippet_model.specs.declared.snippet.Title.{Title}
 use Rattle.snippet_model.specs.Level.{name_of}
-use Rattle.snippet_titles.specs.Title.{first_row, further_row, rows_of_lines, title_lines, title_rows}
+use Rattle.snippet_titles.specs.Title.{label_width, first_row, further_row, rows_of_lines, title_lines, title_rows}
+use Rattle.snippet_titles.proofs.TextLemmas.{bracketed_text, id_text, label_text, row_text-first, row_text-further}
 
--- a character that isn't listed, and a cell that holds one and belongs to no link
+-- a character that isn't listed
 abbrev pub IsFree : ℕ → Type 0
 IsFree c = is_listed c ≡ false
-
-abbrev pub IsFreeCell : Cell → Type 0
-IsFreeCell cell = (is_listed cell.ch ≡ false) × (cell.link ≡ None)
 
 -- where no element passes a test, each fails it
 fails_each : (p : ℕ → Bool) (xs : List ℕ) → list_any p xs ≡ false → All (λ x. p x ≡ false) xs
@@ -50,32 +49,41 @@ module _ (P : ℕ → Type 0) (p : ℕ → Bool) where
   All-slice_split (x ∷ xs) all =
       cut-more x xs (p x) refl (All-head P x xs all) (All-slice_split xs (All-tail P x xs all))
 
--- cells drawn of characters that aren't listed
-pub drawn-free : (role : ElementStyle) (cs : List ℕ) → All IsFree cs → All IsFreeCell (drawn role cs)
-drawn-free role cs all =
-    All-map IsFreeCell _ cs (All-weaker IsFree (λ c. IsFreeCell (unlinked_cell role c)) (λ c is. (is, refl)) cs all)
+-- the characters of an id in brackets, and of a label
+id_text-free : (id : Option Id) → All IsFree (id_text id)
+id_text-free None = All-nil IsFree
+id_text-free (Some id) = text_free (option_map cow_str_bytes id.id)
+  where
+    text_free : (text : Option (List ℕ)) → All IsFree (bracketed_text text)
+    text_free None = All-nil IsFree
+    text_free (Some text) =
+        All-append IsFree (codes "[" ++ norm (chars text)) (codes "]") (All-append IsFree (codes "[") (norm (chars text)) (All-cons IsFree 91 [] refl (All-nil IsFree)) (norm-free (chars text))) (All-cons IsFree 93 [] refl (All-nil IsFree))
 
--- the row of a first line, and that of a further one
-pub first_row-free : (level : Level) (line : List ℕ) → All IsFree (chars (name_of level)) → All IsFree line → All IsFreeCell (first_row level line)
-unfolding first_row
-first_row-free level line named all =
-    let colon : All IsFree (codes ": ") = All-cons IsFree 58 (32 ∷ []) refl (All-cons IsFree 32 [] refl (All-nil IsFree)) in
-    All-append IsFreeCell (drawn (role.Level level.kind) (chars (name_of level)) ++ drawn role.MainHeaderMsg (codes ": ")) _ (All-append IsFreeCell (drawn (role.Level level.kind) (chars (name_of level))) _ (drawn-free _ (chars (name_of level)) named) (drawn-free _ (codes ": ") colon)) (drawn-free _ line all)
+label_text-free : (title : Title) → All IsFree (chars (name_of title.level)) → All IsFree (label_text title)
+label_text-free title named =
+    All-append IsFree (chars (name_of title.level) ++ id_text title.id) (codes ": ") (All-append IsFree (chars (name_of title.level)) (id_text title.id) named (id_text-free title.id)) (All-cons IsFree 58 (32 ∷ []) refl (All-cons IsFree 32 [] refl (All-nil IsFree)))
 
-pub further_row-free : (indent : ℕ) (line : List ℕ) → All IsFree line → All IsFreeCell (further_row indent line)
-unfolding further_row
+-- a row none of whose cells holds a listed character
+abbrev pub IsFreeText : List Cell → Type 0
+IsFreeText row = All IsFree (row_text row)
+
+first_row-free : (hyperlink : Bool) (title : Title) (line : List ℕ) → All IsFree (chars (name_of title.level)) → All IsFree line → IsFreeText (first_row hyperlink title line)
+first_row-free hyperlink title line named all =
+    subst (All IsFree) (sym (row_text-first hyperlink title line)) (All-append IsFree (label_text title) line (label_text-free title named) all)
+
+further_row-free : (indent : ℕ) (line : List ℕ) → All IsFree line → IsFreeText (further_row indent line)
 further_row-free indent line all =
-    All-append IsFreeCell (replicate indent SPACE) _ (All-replicate IsFreeCell indent SPACE (refl, refl)) (drawn-free _ line all)
+    subst (All IsFree) (sym (row_text-further indent line)) (All-append IsFree (replicate indent 32) line (All-replicate IsFree indent 32 refl) all)
 
 -- the rows of lines
-pub rows_of_lines-free : (level : Level) (lines : List (List ℕ)) → All IsFree (chars (name_of level)) → All (All IsFree) lines → All (All IsFreeCell) (rows_of_lines level lines)
-rows_of_lines-free level [] named all = All-nil (All IsFreeCell)
-rows_of_lines-free level (line ∷ lines) named all =
-    let indent = width_of (chars (name_of level)) + 2 in
-    All-cons (All IsFreeCell) (first_row level line) (map (further_row indent) lines) (first_row-free level line named (All-head (All IsFree) line lines all)) (All-map (All IsFreeCell) (further_row indent) lines (All-weaker (All IsFree) (λ cs. All IsFreeCell (further_row indent cs)) (further_row-free indent) lines (All-tail (All IsFree) line lines all)))
+rows_of_lines-free : (hyperlink : Bool) (title : Title) (lines : List (List ℕ)) → All IsFree (chars (name_of title.level)) → All (All IsFree) lines → All IsFreeText (rows_of_lines hyperlink title lines)
+rows_of_lines-free hyperlink title [] named all = All-nil IsFreeText
+rows_of_lines-free hyperlink title (line ∷ lines) named all =
+    let indent = label_width title in
+    All-cons IsFreeText (first_row hyperlink title line) (map (further_row indent) lines) (first_row-free hyperlink title line named (All-head (All IsFree) line lines all)) (All-map IsFreeText (further_row indent) lines (All-weaker (All IsFree) (λ cs. IsFreeText (further_row indent cs)) (further_row-free indent) lines (All-tail (All IsFree) line lines all)))
 
 -- a title's rows hold no listed character where the level's name holds none
-pub title_rows-free : (level : Level) (text : List ℕ) → All (λ c. is_listed c ≡ false) (chars (name_of level)) → All (All IsFreeCell) (title_rows level text)
+pub title_rows-free : (hyperlink : Bool) (title : Title) → All IsFree (chars (name_of title.level)) → All IsFreeText (title_rows hyperlink title)
 unfolding title_rows title_lines
-title_rows-free level text named =
-    rows_of_lines-free level _ named (All-slice_split IsFree (λ c. c == 10) (norm (chars text)) (norm-free (chars text)))
+title_rows-free hyperlink title named =
+    rows_of_lines-free hyperlink title _ named (All-slice_split IsFree (λ c. c == 10) (norm (chars (cow_str_bytes title.text))) (norm-free (chars (cow_str_bytes title.text))))

@@ -96,11 +96,11 @@ fn is_covered_renderer(renderer: &Renderer) -> bool
         || renderer.no_graphics)
 }
 
-/// Whether a title is drawn so far: a primary one of a standard level, without an id.
+/// Whether a title is drawn so far: a primary one of a standard level.
 fn is_covered_title(title: &Title) -> bool
     ensures value { result ≡ spec.is_covered_title title.now }
 {
-    is_standard(&title.level.name) && title.id.is_none() && !title.allows_styling
+    is_standard(&title.level.name) && !title.allows_styling
 }
 
 /// Whether a level's name is that of its kind.

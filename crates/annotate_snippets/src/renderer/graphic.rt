@@ -9,7 +9,7 @@
 ghost use Rattle.std.specs.Prelude.{◌<◌, ◌^◌, length, IfSome, OnOk, IfOk, map, string_bytes};
 ghost use Rattle.std.specs.List.{AllZip};
 ghost use Rattle.std.specs.Option.{option_copied};
-ghost use Rattle.snippet_model.specs.Fits.{AnnotationFits};
+ghost use Rattle.snippet_model.specs.Fits.{AnnotationFits, TitleFits};
 ghost use Rattle.snippet_model.specs.Level.{name_of};
 ghost use Rattle.snippet_parts.specs.Lines.{source_lines};
 ghost use Rattle.snippet_parts.specs.Span.{IsSpan};
@@ -25,20 +25,22 @@ use snippet_style::{DecorStyle, LevelInner, StyledBuffer, Stylesheet};
 use snippet_titles::draw_title;
 use std::alloc::{AllocError, Global};
 
-/// The grid of a title and an annotated snippet below it, if there is one, drawn with these strokes.
+/// The grid of a title and an annotated snippet below it, if there is one, drawn with these strokes, and with links or
+/// without.
 pub fn page<'a>(
     alloc: Global,
     decor: DecorStyle,
-    title: &Title<'a>,
+    hyperlink: bool,
+    title: &'a Title<'a>,
     cause: Option<&Snippet<'a, Annotation<'a>>>,
 ) -> Result<StyledBuffer<'a>, AllocError>
     requires named { 0 < length (name_of title.now.level) }
-    requires name { length (name_of title.now.level) < 2 ^ 56 }
+    requires fits { TitleFits title.now }
     requires cause { IfSome cause (λ snippet. IsDrawable snippet.now) }
-    ensures drawn { IfOk result (λ grid. IsGridOf decor title.now (option_copied cause.entry) grid) }
+    ensures drawn { IfOk result (λ grid. IsGridOf decor hyperlink title.now (option_copied cause.entry) grid) }
 {
     let mut buffer = StyledBuffer::new(alloc);
-    draw_title(alloc, &mut buffer, title)?;
+    draw_title(alloc, &mut buffer, hyperlink, title)?;
     let Some(snippet) = cause else {
         return Ok(buffer);
     };

@@ -17,5 +17,6 @@ returns-clause-drawn c =
     let cause : Option (Snippet Annotation) = option_copied c.in-Some-covered.cause in
     let known = c.in-Some-covered.ensures in
     let decor = c.args.self.now.decor_style in
-    let drawn : IsGridOf decor title cause c.in_ok-grid.grid = ok_had (IsGridOf decor title cause) c.map_err.result c.in_ok-grid.grid c.in_ok-grid.was (IfOk-map_err (IsGridOf decor title cause) _ c.page.result c.map_err.result c.page.ensures.drawn c.map_err.ensures.cases) in
+    let links = c.args.self.now.hyperlink in
+    let drawn : IsGridOf decor links title cause c.in_ok-grid.grid = ok_had (IsGridOf decor links title cause) c.map_err.result c.in_ok-grid.grid c.in_ok-grid.was (IfOk-map_err (IsGridOf decor links title cause) _ c.page.result c.map_err.result c.page.ensures.drawn c.map_err.ensures.cases) in
     grid_of_report c.args.self.now c.args.groups.now c.in-Some-covered.level title cause known.level known.parts known.renderer known.title (covered_copied c.args.self.now.term_width c.in-Some-covered.cause known.snippet) c.in_ok-grid.grid drawn

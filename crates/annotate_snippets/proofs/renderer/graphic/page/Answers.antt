@@ -1,6 +1,5 @@
 use Rattle.std.proofs.Common.{◌∙◌, ◌++◌, ap, sym, subst, List, Option}
 use Rattle.std.specs.Borrow.{Bor}
-use Rattle.std.specs.Cow.{cow_str_bytes}
 use Rattle.std.specs.Option.{option_copied}
 use Rattle.snippet_model.specs.declared.snippet.Annotation.{Annotation}
 use Rattle.snippet_model.specs.declared.snippet.Snippet.{Snippet}
@@ -13,6 +12,6 @@ pub returns : goal.returns
 returns c =
     let rows : List (List Cell) = c.draw_cause.new.buffer in
     let title = c.args.title.now in
-    let titles : List (List Cell) = title_rows title.level (cow_str_bytes title.text) in
+    let titles : List (List Cell) = title_rows c.args.hyperlink title in
     let added = subst (λ old. AddsCause c.args.decor c.in-Some.snippet.now old rows) (c.in_ok-draw_title.ensures.rows ∙ ap (λ old. old ++ titles) c.new-buffer.ensures.empty) c.in_ok-draw_cause.ensures.added in
-    record { drawn = subst (λ (cause : Option (Bor (Snippet Annotation))). IsGridOf c.args.decor title (option_copied cause) rows) (sym c.in-Some.is) added }
+    record { drawn = subst (λ (cause : Option (Bor (Snippet Annotation))). IsGridOf c.args.decor c.args.hyperlink title (option_copied cause) rows) (sym c.in-Some.is) added }
