@@ -1,9 +1,9 @@
 //! A run of the program, over the bytes of a file and two writers.
-ghost use Rattle.std.specs.Prelude.{◌≡◌, ℕ, ◌≤◌, ◌↔◌, List, [], ◌∷◌, ◌++◌, if◌then◌else◌, unwrap_or, IsTrue, IsOk, IsNone, IfSome, IsSomeAnd, MatchOption, SomeIff, All};
+ghost use Rattle.std.specs.Prelude.{◌≡◌, ℕ, ◌≤◌, ◌↔◌, List, [], ◌∷◌, ◌++◌, IsTrue, IsOk, IsNone, IfOk, IfSome, IsSomeAnd, MatchOption, SomeIff, All, string_bytes};
 ghost use Rattle.std.specs.Bool.{OnTrue};
 ghost use Rattle.std.specs.Io.KnownBytes.{Appends};
 ghost use Rattle.std.specs.Option.{option_copied};
-ghost use Rattle.annotate_snippets.specs.Settings.{plain_settings, styled_settings};
+ghost use Rattle.snip.specs.Report.{settings_of, IsLabelOneRow, ShowsCommand};
 ghost use Rattle.snip.specs.Words.{words_at, IsCommandLine, IsCommandOf};
 ghost use Rattle.snip.specs.Text.{TextFits, IsShownText};
 
@@ -80,14 +80,7 @@ fn unreadable(alloc: Global, file: &str) -> Failure {
 
 /// The renderer that the options ask for.
 fn renderer_of(options: Options) -> Renderer
-    ensures unicode { result.decor_style ≡ (if options.unicode then DecorStyle.Unicode else DecorStyle.Ascii) }
-    ensures width { result.term_width ≡ unwrap_or options.width DEFAULT_TERM_WIDTH }
-
-    // All else is as `styled` or `plain` has it.
-    ensures styled { result ≡ record (if options.styled then styled_settings else plain_settings) {
-      decor_style = result.decor_style;
-      term_width = result.term_width;
-    } }
+    ensures settings { result ≡ settings_of options }
 {
     let renderer = if options.styled {
         Renderer::styled()
@@ -113,6 +106,8 @@ fn rendered<'a>(
     requires title { TextFits command.now.title.now }
     requires label { IfSome command.now.label (λ t. TextFits t.now) }
     requires source { TextFits source.now }
+    ensures shows { IsLabelOneRow command.now → IfOk result
+        (λ text. ShowsCommand command.now source.now (string_bytes text)) }
 {
     let renderer = renderer_of(command.options);
     let mark = AnnotationKind::Primary
