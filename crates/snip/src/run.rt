@@ -1,14 +1,15 @@
 //! A run of the program, over the bytes of a file and two writers.
-ghost use Rattle.std.specs.Prelude.{◌≡◌, ℕ, ◌≤◌, ◌↔◌, List, [], ◌∷◌, ◌++◌, IsTrue, IsOk, IsNone, IfSome, IsSomeAnd, MatchOption, SomeIff, All};
+ghost use Rattle.std.specs.Prelude.{◌≡◌, ℕ, ◌≤◌, ◌↔◌, List, [], ◌∷◌, ◌++◌, IsTrue, IsOk, IsNone, IfOk, IfSome, IsSomeAnd, MatchOption, SomeIff, All, string_bytes};
 ghost use Rattle.std.specs.Bool.{OnTrue};
 ghost use Rattle.std.specs.Io.KnownBytes.{Appends};
 ghost use Rattle.std.specs.Option.{option_copied};
+ghost use Rattle.snip.specs.Report.{settings_of, IsLabelOneRow, ShowsCommand};
 ghost use Rattle.snip.specs.Words.{words_at, IsCommandLine, IsCommandOf};
 ghost use Rattle.snip.specs.Text.{TextFits, IsShownText};
 
-use crate::words::{Command, command_of};
+use crate::words::{Command, Options, command_of};
 use annotate_snippets::level::ERROR;
-use annotate_snippets::renderer::RenderError;
+use annotate_snippets::renderer::{DEFAULT_TERM_WIDTH, DecorStyle, RenderError};
 use annotate_snippets::text::{normalize_untrusted_str, text_fits};
 use annotate_snippets::{AnnotationKind, Element, Group, OptionCow, Renderer, Snippet};
 use std::alloc::{AllocError, Global};
@@ -77,6 +78,25 @@ fn unreadable(alloc: Global, file: &str) -> Failure {
     }
 }
 
+/// The renderer that the options ask for.
+fn renderer_of(options: Options) -> Renderer
+    ensures settings { result ≡ settings_of options }
+{
+    let renderer = if options.styled {
+        Renderer::styled()
+    } else {
+        Renderer::plain()
+    };
+    let strokes = if options.unicode {
+        DecorStyle::Unicode
+    } else {
+        DecorStyle::Ascii
+    };
+    renderer
+        .decor_style(strokes)
+        .term_width(options.width.unwrap_or(DEFAULT_TERM_WIDTH))
+}
+
 /// The text of the report that the command asks for, over this source.
 fn rendered<'a>(
     alloc: Global,
@@ -86,11 +106,10 @@ fn rendered<'a>(
     requires title { TextFits command.now.title.now }
     requires label { IfSome command.now.label (λ t. TextFits t.now) }
     requires source { TextFits source.now }
+    ensures shows { IsLabelOneRow command.now → IfOk result
+        (λ text. ShowsCommand command.now source.now (string_bytes text)) }
 {
-    let renderer = match command.options.width {
-        Some(columns) => Renderer::plain().term_width(columns),
-        None => Renderer::plain(),
-    };
+    let renderer = renderer_of(command.options);
     let mark = AnnotationKind::Primary
         .span(command.start..command.end)
         .label(OptionCow::from(command.label));

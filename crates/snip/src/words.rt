@@ -48,11 +48,9 @@ struct Operands<'a> {
 impl Command<'_> {
     /// Whether the command asks for something that isn't done yet.
     pub fn is_unfinished(&self) -> bool
-        ensures value { result ≡ (self.now.options.unicode || self.now.options.text || self.now.options.short
-            || self.now.options.styled) }
+        ensures value { result ≡ (self.now.options.text || self.now.options.short) }
     {
-        let options = self.options;
-        options.unicode || options.text || options.short || options.styled
+        self.options.text || self.options.short
     }
 }
 

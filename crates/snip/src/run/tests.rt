@@ -48,13 +48,19 @@ fn tells_what_is_in_the_way(rt: HostRuntime) {
     let not_yet = "snip: not yet\n";
     let runs: [Run<'_>; 7] = [
         (
-            &["--styled", "a.rs", "0", "1", "t", "l"],
+            &["--short", "a.rs", "0", "1", "t", "l"],
             Some(SOURCE),
             1,
             "",
             not_yet,
         ),
-        (&["--unicode", "a.rs", "0", "1", "t"], None, 1, "", not_yet),
+        (
+            &["--unicode", "--text", "--styled", "a.rs", "0", "1", "t"],
+            None,
+            1,
+            "",
+            not_yet,
+        ),
         (
             &["a.rs", "0", "1", "t"],
             None,
@@ -113,6 +119,67 @@ fn prints_the_report(rt: HostRuntime) {
             Some(SOURCE),
             0,
             REPORT,
+            "",
+        ),
+    ];
+    for wanted in runs {
+        assert!(rt; does(rt.alloc(), wanted), "{wanted:?}");
+    }
+}
+
+#[test]
+fn draws_in_unicode_and_in_colours(rt: HostRuntime) {
+    let unicode = "error: unused\n  ╭▸ \n1 │ let x = 1;\n  ╰╴    ━ here\n";
+    let styled =
+        "\x1b[1m\x1b[91merror\x1b[0m\x1b[1m: unused\x1b[0m\n  \x1b[1m\x1b[94m|\x1b[0m\n\x1b[1m\x1b[94m1\x1b[0m \x1b[1m\x1b[94m|\x1b[0m let x = 1;\n  \x1b[1m\x1b[94m|\x1b[0m     \x1b[1m\x1b[91m^\x1b[0m \x1b[1m\x1b[91mhere\x1b[0m\n";
+    let both =
+        "\x1b[1m\x1b[91merror\x1b[0m\x1b[1m: unused\x1b[0m\n \x1b[1m\x1b[94m ╭▸ \x1b[0m\n\x1b[1m\x1b[94m1\x1b[0m \x1b[1m\x1b[94m│\x1b[0m let x = 1;\n  \x1b[1m\x1b[94m╰╴\x1b[0m    \x1b[1m\x1b[91m━\x1b[0m \x1b[1m\x1b[91mhere\x1b[0m\n";
+    let runs: [Run<'_>; 4] = [
+        (
+            &["--unicode", "a.rs", "4", "5", "unused", "here"],
+            Some(SOURCE),
+            0,
+            unicode,
+            "",
+        ),
+        (
+            &["--styled", "a.rs", "4", "5", "unused", "here"],
+            Some(SOURCE),
+            0,
+            styled,
+            "",
+        ),
+        (
+            &[
+                "--unicode",
+                "--width",
+                "80",
+                "a.rs",
+                "4",
+                "5",
+                "unused",
+                "here",
+            ],
+            Some(SOURCE),
+            0,
+            unicode,
+            "",
+        ),
+        (
+            &[
+                "--styled",
+                "--width",
+                "80",
+                "--unicode",
+                "a.rs",
+                "4",
+                "5",
+                "unused",
+                "here",
+            ],
+            Some(SOURCE),
+            0,
+            both,
             "",
         ),
     ];

@@ -1,0 +1,8 @@
+-- The levels that clauses name.
+use Rattle.snippet_style.specs.declared.role.LevelInner.TheVariants.{Error}
+use Rattle.snippet_model.specs.declared.level.Level.{Level}
+use Rattle.snippet_model.specs.declared.level.LevelName.TheVariants.{Standard}
+
+-- the level `ERROR`
+abbrev pub error_level : Level
+error_level = record { name = Standard; kind = Error }
