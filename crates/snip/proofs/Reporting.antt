@@ -17,7 +17,8 @@ use Rattle.annotate_snippets.specs.Shown.{is_graphic}
 use Rattle.annotate_snippets.specs.declared.renderer.Renderer.{Renderer}
 use Rattle.snip.specs.declared.words.Command.{Command}
 use Rattle.snip.specs.declared.words.Options.{Options}
-use Rattle.snip.specs.Report.{settings_of, IsTitleFor, IsSnippetFor, IsReportFor, IsLabelOneRow}
+use Rattle.snip.specs.Words.{Word, IsCommandOf}
+use Rattle.snip.specs.Report.{settings_of, IsTitleFor, IsSnippetFor, IsReportFor, IsLabelOneRow, ShowsCommand, ShowsWords}
 
 -- a command's report is drawn in the graphic form
 pub settings_of-graphic : (options : Options) → is_graphic (settings_of options) ≡ true
@@ -70,3 +71,9 @@ names_on_one_row command source groups is one =
     let cause : All IsElementOneRow (Cause is.snippet ∷ []) = All-cons IsElementOneRow (Cause is.snippet) [] (snippet_is_one_row command source is.snippet is.snippet_is one) (All-nil IsElementOneRow) in
     let elements : All IsElementOneRow group.elements.items = subst (All IsElementOneRow) (sym is.parts.elements_are) cause in
     subst AreNamesOneRow (sym is.parts.groups_are) (All-cons G group [] (title, elements) (All-nil G))
+
+-- a text that was printed shows the report of the command that the words are
+pub shows_words : (words : List Word) (command : Command) (file : Option (List ℕ)) (text : List ℕ) (Printed : List ℕ → Type 0) → IsCommandOf words command → IfSome file (λ source. IsLabelOneRow command → ShowsCommand command source text) → Printed text → IfSome file (λ source. (x : List ℕ) × Printed x × ShowsWords words source x)
+shows_words words command None text Printed of shows printed = tt
+shows_words words command (Some source) text Printed of shows printed =
+    (text, printed, record { command = command; command_is = of; shows = shows })

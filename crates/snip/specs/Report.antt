@@ -15,6 +15,7 @@ use Rattle.annotate_snippets.specs.Levels.{error_level}
 use Rattle.annotate_snippets.specs.Settings.{plain_settings, styled_settings}
 use Rattle.annotate_snippets.specs.Shown.{ShowsReport}
 use Rattle.annotate_snippets.specs.Trusted.{IsOneRow}
+use Rattle.snip.specs.Words.{Word, IsCommandOf}
 use Rattle.snip.specs.declared.words.Command.{Command}
 use Rattle.snip.specs.declared.words.Options.{Options}
 
@@ -69,3 +70,9 @@ pub record ShowsCommand (command : Command) (source text : List ℕ) : Type 0 wh
 -- the command's label stays on one row
 abbrev pub IsLabelOneRow : Command → Type 0
 IsLabelOneRow command = IfSome command.label (λ t. IsOneRow t.now)
+
+-- the text shows, over the source, the report of the command that the words are, if its label stays on one row
+pub record ShowsWords (words : List Word) (source text : List ℕ) : Type 0 where
+  pub command : Command
+  pub command_is : IsCommandOf words command
+  pub shows : IsLabelOneRow command → ShowsCommand command source text

@@ -3,7 +3,7 @@ ghost use Rattle.std.specs.Prelude.{◌≡◌, ℕ, ◌≤◌, ◌↔◌, List, 
 ghost use Rattle.std.specs.Bool.{OnTrue};
 ghost use Rattle.std.specs.Io.KnownBytes.{Appends};
 ghost use Rattle.std.specs.Option.{option_copied};
-ghost use Rattle.snip.specs.Report.{settings_of, IsLabelOneRow, ShowsCommand};
+ghost use Rattle.snip.specs.Report.{settings_of, IsLabelOneRow, ShowsCommand, ShowsWords};
 ghost use Rattle.snip.specs.Words.{words_at, IsCommandLine, IsCommandOf};
 ghost use Rattle.snip.specs.Text.{TextFits, IsShownText};
 
@@ -132,6 +132,8 @@ fn report_text<'a>(
 ) -> Result<String, Failure>
     requires command { IsCommandOf (words_at words.now) command.now }
     ensures read { IsOk result → IsSomeAnd (option_copied file.entry) IsShownText }
+    ensures shows { IfOk result (λ text. IfSome (option_copied file.entry) (λ source.
+        IsLabelOneRow command.now → ShowsCommand command.now source (string_bytes text))) }
 {
     if command.is_unfinished() {
         return Err(Failure::NotYet);
@@ -168,8 +170,9 @@ pub fn run<W: Write, V: Write>(
     ensures status { result ≤ 2 }
     ensures usage { (result ≡ 2) ↔ (IsCommandLine (words_at words.now) → ⊥) }
     ensures read { result ≡ 0 → IsSomeAnd (option_copied file.entry) IsShownText }
-    ensures printed { result ≡ 0 → (text : List ℕ)
-        × Appends (W.contents out.old) (W.contents out.new) (text ++ LINE_FEED ∷ []) }
+    ensures printed { result ≡ 0 → IfSome (option_copied file.entry) (λ source. (text : List ℕ)
+        × Appends (W.contents out.old) (W.contents out.new) (text ++ LINE_FEED ∷ [])
+        × ShowsWords (words_at words.now) source text) }
     ensures no_fault { result ≡ 0 → err.new ≡ err.old }
     ensures no_report { result ≡ 2 → out.new ≡ out.old }
 {
