@@ -1,0 +1,172 @@
+//! How a case becomes the library's renderer and groups, by the library's calls. Where the library has no call yet for what
+//! the case says, there is none: it is refused as `NotYet`.
+
+ghost use Rattle.std.specs.Prelude.{IfOk, IfSome, All};
+ghost use Rattle.snippet_model.specs.Fits.{ReportFits, GroupFits, TitleFits, LevelFits, ElementFits, AnnotationFits, SnippetFits};
+
+use crate::case;
+use crate::case::{LevelKind, LevelName, Mark, Settings, Source};
+use annotate_snippets::level::{ERROR, HELP, INFO, Level, NOTE, WARNING};
+use annotate_snippets::renderer::{DecorStyle, RenderError};
+use annotate_snippets::{Annotation, Element, Group, OptionCow, Renderer, Snippet, Title};
+use std::alloc::{AllocError, Global};
+
+/// The renderer of these settings.
+pub fn renderer_of(settings: Settings) -> Result<Renderer, RenderError> {
+    if settings.no_graphics
+        || settings.short_message
+        || settings.anonymized_snippet
+        || settings.anonymized_origin
+    {
+        return Err(RenderError::NotYet);
+    }
+    let decor = if settings.unicode {
+        DecorStyle::Unicode
+    } else {
+        DecorStyle::Ascii
+    };
+    Ok(Renderer::plain()
+        .term_width(settings.term_width)
+        .decor_style(decor)
+        .hyperlink(settings.hyperlink))
+}
+
+/// The groups of a report.
+pub fn groups_of<'v>(
+    alloc: Global,
+    groups: &[case::Group<'v>],
+) -> Result<Vec<Group<'v>>, RenderError>
+    ensures fits { IfOk result (λ built. ReportFits built.items) }
+{
+    let mut built = Vec::new(alloc);
+    for group in groups {
+        push(&mut built, group_of(alloc, group)?).map_err(RenderError::Memory)?;
+    }
+    Ok(built)
+}
+
+fn push<'v>(groups: &mut Vec<Group<'v>>, group: Group<'v>) -> Result<(), AllocError> {
+    groups.push(group)?;
+    Ok(())
+}
+
+/// A group.
+fn group_of<'v>(alloc: Global, group: &case::Group<'v>) -> Result<Group<'v>, RenderError>
+    ensures fits { IfOk result GroupFits }
+{
+    let case::Head::Titled(title) = group.head else {
+        return Err(RenderError::NotYet);
+    };
+    let title = title_of(title)?;
+    match group.elements.as_slice() {
+        [] => Ok(Group::with_title(alloc, title)),
+        [element] => title
+            .element(alloc, element_of(alloc, element)?)
+            .map_err(RenderError::Memory),
+        _ => Err(RenderError::NotYet),
+    }
+}
+
+/// A title.
+fn title_of<'v>(title: case::Title<'v>) -> Result<Title<'v>, RenderError>
+    ensures fits { IfOk result TitleFits }
+{
+    if !title.is_primary {
+        return Err(RenderError::NotYet);
+    }
+    let level = level_of(title.level)?;
+    let mut built = level.primary_title(title.text.text);
+    if let Some(id) = title.id {
+        built = built.id(id.text);
+    }
+    if let Some(url) = title.url {
+        built = built.id_url(url.text);
+    }
+    Ok(built)
+}
+
+/// A level.
+fn level_of<'v>(level: case::Level<'v>) -> Result<Level<'v>, RenderError>
+    ensures fits { IfOk result LevelFits }
+{
+    match level.name {
+        LevelName::Standard => Ok(standard_level(level.kind)),
+        LevelName::Hidden | LevelName::Own(_) => Err(RenderError::NotYet),
+    }
+}
+
+/// The level of a kind, under the name of its kind.
+fn standard_level(kind: LevelKind) -> Level<'static>
+    ensures fits { LevelFits result }
+{
+    match kind {
+        LevelKind::Error => ERROR,
+        LevelKind::Warning => WARNING,
+        LevelKind::Info => INFO,
+        LevelKind::Note => NOTE,
+        LevelKind::Help => HELP,
+    }
+}
+
+/// An element.
+fn element_of<'v>(
+    alloc: Global,
+    element: &case::Element<'v>,
+) -> Result<Element<'v>, RenderError>
+    ensures fits { IfOk result ElementFits }
+{
+    match element {
+        case::Element::Cause(source, marks) => {
+            let snippet = cause_of(alloc, source, marks)?;
+            Ok(Element::from(snippet))
+        }
+        _ => Err(RenderError::NotYet),
+    }
+}
+
+/// An annotated source.
+fn cause_of<'v>(
+    alloc: Global,
+    source: &Source<'v>,
+    marks: &[Mark<'v>],
+) -> Result<Snippet<'v, Annotation<'v>>, RenderError>
+    ensures fits { IfOk result (SnippetFits AnnotationFits) }
+{
+    if source.path.is_some() || !source.fold {
+        return Err(RenderError::NotYet);
+    }
+    let annotations = annotations_of(alloc, marks).map_err(RenderError::Memory)?;
+    Snippet::source(alloc, source.source.text)
+        .line_start(source.line_start)
+        .line_numbering(source.line_numbering)
+        .annotations(annotations)
+        .map_err(RenderError::Memory)
+}
+
+/// The annotations, in order.
+fn annotations_of<'v>(
+    alloc: Global,
+    marks: &[Mark<'v>],
+) -> Result<Vec<Annotation<'v>>, AllocError>
+    ensures fits { IfOk result (λ annotations. All AnnotationFits annotations.items) }
+{
+    let mut annotations = Vec::new(alloc);
+    for mark in marks {
+        annotations.push(annotation_of(mark))?;
+    }
+    Ok(annotations)
+}
+
+/// An annotation.
+fn annotation_of<'v>(mark: &Mark<'v>) -> Annotation<'v>
+    ensures fits { AnnotationFits result }
+{
+    let label = match mark.label {
+        Some(label) => OptionCow::from(label.text),
+        None => OptionCow(None),
+    };
+    mark.kind
+        .span(mark.start..mark.end)
+        .label(label)
+        .highlight_source(mark.highlight_source)
+}
