@@ -4,9 +4,9 @@ use crate::case::Case;
 use crate::fault::Fault;
 use crate::outcome::{Outcome, answer_of, outcome_of};
 use crate::read::case_of;
-use crate::trouble::Trouble;
+use crate::trouble::{Trouble, Unread};
 use serde_json::Value;
-use std::alloc::{AllocError, Global};
+use std::alloc::Global;
 use std::io;
 use std::io::{BufRead, Write};
 
@@ -30,7 +30,7 @@ pub fn answer_lines<B: BufRead + Drop, W: Write>(
     let mut number = 0u64;
     for line in input.lines(alloc) {
         number = number.saturating_add(1);
-        let value = value_of(alloc, line, number)?;
+        let value = value_of(alloc, line).map_err(|unread| unread.of_case(number))?;
         let case = case_of(alloc, &value).map_err(|fault| Trouble::Case(number, fault))?;
         match form {
             Form::Json => write_json(alloc, &case, out)?,
@@ -42,17 +42,13 @@ pub fn answer_lines<B: BufRead + Drop, W: Write>(
 }
 
 /// What a line holds.
-pub fn value_of(
-    alloc: Global,
-    line: io::Result<String>,
-    number: u64,
-) -> Result<Value, Trouble> {
+pub fn value_of(alloc: Global, line: io::Result<String>) -> Result<Value, Unread> {
     match line {
-        Ok(line) => json_of(alloc, line.as_str()).map_err(|fault| Trouble::Case(number, fault)),
+        Ok(line) => json_of(alloc, line.as_str()).map_err(Unread::Fault),
         Err(error) if error.kind() == io::ErrorKind::InvalidData => {
-            Err(Trouble::Case(number, Fault::NoText))
+            Err(Unread::Fault(Fault::NoText))
         }
-        Err(error) => Err(Trouble::Read(error)),
+        Err(error) => Err(Unread::Io(error)),
     }
 }
 
@@ -79,11 +75,11 @@ fn write_texts<W: Write>(
     if !is_first {
         out.writeln("").map_err(Trouble::Write)?;
     }
-    write_outcome(case.id, &outcome, out).map_err(Trouble::Write)
+    write_outcome(&outcome, out).map_err(Trouble::Write)
 }
 
 /// Writes each text, or what the refusal prints.
-fn write_outcome<W: Write>(id: &str, outcome: &Outcome, out: &mut W) -> io::Result<()> {
+pub fn write_outcome<W: Write>(outcome: &Outcome, out: &mut W) -> io::Result<()> {
     match outcome {
         Outcome::Texts(texts) => {
             for text in texts {
@@ -91,6 +87,6 @@ fn write_outcome<W: Write>(id: &str, outcome: &Outcome, out: &mut W) -> io::Resu
             }
             Ok(())
         }
-        Outcome::Refused(_, text) => out.writeln(format_args!("{id}: {text}")),
+        Outcome::Refused(_, text) => out.writeln(format_args!("refused: {text}")),
     }
 }

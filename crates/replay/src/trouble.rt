@@ -15,6 +15,8 @@ pub enum Trouble {
     Unpaired(u64),
     /// Input can't be read.
     Read(io::Error),
+    /// The clock can't be read.
+    Clock(io::Error),
     /// Output can't be written.
     Write(io::Error),
     /// A growth of memory was refused.
@@ -42,8 +44,36 @@ impl fmt::Display for Trouble {
                 write!(f, "line {line}: a case without an expected answer, or an answer without a case")
             }
             Trouble::Read(error) => write!(f, "cannot read: {error}"),
+            Trouble::Clock(error) => write!(f, "cannot read the clock: {error}"),
             Trouble::Write(error) => write!(f, "cannot write: {error}"),
             Trouble::Memory => write!(f, "out of memory"),
+        }
+    }
+}
+
+/// Why a line gives no JSON.
+#[derive(Debug, Drop)]
+pub enum Unread {
+    /// It can be read, and is none.
+    Fault(Fault),
+    /// It can't be read.
+    Io(io::Error),
+}
+
+impl Unread {
+    /// The same of the line of a case, by its number.
+    pub fn of_case(self, number: u64) -> Trouble {
+        match self {
+            Unread::Fault(fault) => Trouble::Case(number, fault),
+            Unread::Io(error) => Trouble::Read(error),
+        }
+    }
+
+    /// The same of the line of an expected answer, by its number.
+    pub fn of_answer(self, number: u64) -> Trouble {
+        match self {
+            Unread::Fault(fault) => Trouble::Expected(number, fault),
+            Unread::Io(error) => Trouble::Read(error),
         }
     }
 }
