@@ -4,6 +4,7 @@ use crate::case::Text;
 use crate::fault::{Fault, Place};
 use crate::node::{Node, Read};
 use crate::outcome::Outcome;
+use crate::shape::Shape;
 use serde_json::Value;
 use std::alloc::Global;
 use std::io;
@@ -44,10 +45,10 @@ pub fn expected_of<'v>(alloc: Global, line: &'v Value) -> Result<Expected<'v>, F
 /// What the answer's other fields want.
 fn wanted_of<'v>(answer: Node<'v, '_>) -> Result<Wanted<'v>, Fault> {
     if let Some(name) = answer.optional("refused")? {
-        answer.has_only(&["id", "refused", "text"])?;
+        answer.has_only(Shape::Refusal)?;
         return Ok(Wanted::Refused(name, answer.needed("text")?));
     }
-    answer.has_only(&["id", "ok"])?;
+    answer.has_only(Shape::Texts)?;
     Ok(Wanted::Texts(answer.needed("ok")?))
 }
 

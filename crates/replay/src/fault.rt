@@ -1,5 +1,6 @@
 //! What is wrong with a line, and where in it.
 
+use crate::shape::{Expectation, Shape};
 use std::alloc::{AllocError, AllocFailed, Global};
 use std::fmt;
 
@@ -17,10 +18,16 @@ pub enum Place<'p> {
 impl fmt::Display for Place<'_> {
     fn fmt<W: fmt::Write>(&self, f: &mut fmt::Formatter<W>) -> fmt::Result {
         match self {
-            Place::Line => write!(f, "the line"),
-            Place::Field(Place::Line, name) => write!(f, "{name}"),
-            Place::Field(object, name) => write!(f, "{object}.{name}"),
-            Place::Item(list, index) => write!(f, "{list}[{index}]"),
+            Place::Line => f.write_str("the line"),
+            Place::Field(Place::Line, name) => f.write_str(name),
+            Place::Field(object, name) => {
+                (*object).fmt(f)?;
+                write!(f, ".{name}")
+            }
+            Place::Item(list, index) => {
+                (*list).fmt(f)?;
+                write!(f, "[{index}]")
+            }
         }
     }
 }
@@ -33,11 +40,11 @@ pub enum Fault {
     /// It is no JSON.
     NoJson(serde_json::Error),
     /// A field, by its path, isn't what was expected.
-    Unexpected(String, &'static str),
+    Unexpected(String, Expectation),
     /// A field that has to be there isn't.
-    Missing(String, &'static str),
-    /// A field has a name that the format doesn't know.
-    Unknown(String, &'static [&'static str]),
+    Missing(String, Expectation),
+    /// A field has a name that its object has no field of.
+    Unknown(String, Shape),
     /// A growth of memory was refused.
     Memory,
 }
@@ -56,7 +63,7 @@ impl<T: Drop> From<AllocFailed<T>> for Fault {
 
 impl Fault {
     /// At `place` stands something else than what was expected.
-    pub fn unexpected(alloc: Global, place: &Place<'_>, expected: &'static str) -> Fault {
+    pub fn unexpected(alloc: Global, place: &Place<'_>, expected: Expectation) -> Fault {
         match format!(in alloc; "{place}") {
             Ok(path) => Fault::Unexpected(path, expected),
             Err(AllocError) => Fault::Memory,
@@ -64,21 +71,17 @@ impl Fault {
     }
 
     /// At `place` stands nothing.
-    pub fn missing(alloc: Global, place: &Place<'_>, expected: &'static str) -> Fault {
+    pub fn missing(alloc: Global, place: &Place<'_>, expected: Expectation) -> Fault {
         match format!(in alloc; "{place}") {
             Ok(path) => Fault::Missing(path, expected),
             Err(AllocError) => Fault::Memory,
         }
     }
 
-    /// At `place` stands a field where only fields of these names do.
-    pub fn unknown(
-        alloc: Global,
-        place: &Place<'_>,
-        names: &'static [&'static str],
-    ) -> Fault {
+    /// At `place` stands a field that an object of this shape doesn't have.
+    pub fn unknown(alloc: Global, place: &Place<'_>, shape: Shape) -> Fault {
         match format!(in alloc; "{place}") {
-            Ok(path) => Fault::Unknown(path, names),
+            Ok(path) => Fault::Unknown(path, shape),
             Err(AllocError) => Fault::Memory,
         }
     }
@@ -91,9 +94,9 @@ impl fmt::Display for Fault {
             Fault::NoJson(error) => write!(f, "no JSON: {error}"),
             Fault::Unexpected(path, expected) => write!(f, "{path}: expected {expected}"),
             Fault::Missing(path, expected) => write!(f, "{path}: missing, expected {expected}"),
-            Fault::Unknown(path, names) => {
-                write!(f, "{path}: unknown, expected one of")?;
-                for name in names.iter() {
+            Fault::Unknown(path, shape) => {
+                write!(f, "{path}: unknown, expected only")?;
+                for name in shape.names() {
                     write!(f, " {name}")?;
                 }
                 Ok(())

@@ -17,6 +17,7 @@ mod read_style;
 mod repeat;
 mod run;
 mod scalars;
+mod shape;
 mod trouble;
 
 use run::run;

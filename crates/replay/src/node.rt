@@ -1,11 +1,12 @@
 //! Values of JSON, where they stand, and what they are read as.
 
-ghost use Rattle.std.specs.Prelude.{◌≡◌, IfOk, MatchOption, Some, None, Unit};
+ghost use Rattle.std.specs.Prelude.{◌≡◌, IfOk, MatchOption, Some, None};
 ghost use Rattle.serde_json.specs.Data.{Data};
 ghost use Rattle.serde_json.specs.Find.{get};
 ghost use Rattle.serde_json.specs.View.{view};
 
 use crate::fault::{Fault, Place};
+use crate::shape::{Expectation, Shape};
 use serde_json::Value;
 use std::alloc::Global;
 
@@ -22,7 +23,7 @@ pub trait Read<'v> {
     ghost reads: { Data → Self → Type 0 } = { λ _ _. Unit {0} };
 
     /// What has to stand there.
-    const EXPECTED: &'static str;
+    const EXPECTED: Expectation;
 
     /// What the value is read as; a fault where it isn't what is expected.
     fn read(node: Node<'v, '_>) -> Result<Self, Fault>
@@ -31,19 +32,19 @@ pub trait Read<'v> {
 
 impl<'v> Node<'v, '_> {
     /// The fault that something else was expected.
-    pub fn unexpected(self, expected: &'static str) -> Fault {
+    pub fn unexpected(self, expected: Expectation) -> Fault {
         Fault::unexpected(self.alloc, self.place, expected)
     }
 
-    /// Nothing, if the value is an object whose fields have each one of these names.
-    pub fn has_only(self, names: &'static [&'static str]) -> Result<(), Fault> {
+    /// Nothing, if the value is an object and has only fields of this shape.
+    pub fn has_only(self, shape: Shape) -> Result<(), Fault> {
         let Some(fields) = self.value.as_object() else {
-            return Err(self.unexpected("an object"));
+            return Err(self.unexpected(Expectation::Object));
         };
         for name in fields.keys() {
-            if !is_among(names, name.as_str()) {
+            if !shape.has(name.as_str()) {
                 let place = Place::Field(self.place, name.as_str());
-                return Err(Fault::unknown(self.alloc, &place, names));
+                return Err(Fault::unknown(self.alloc, &place, shape));
             }
         }
         Ok(())
@@ -79,14 +80,4 @@ impl<'v> Node<'v, '_> {
             }
         }
     }
-}
-
-/// Whether a name is one of these.
-fn is_among(names: &[&str], name: &str) -> bool {
-    for known in names {
-        if *known == name {
-            return true;
-        }
-    }
-    false
 }

@@ -1,11 +1,8 @@
 //! What becomes of a case: texts or a refusal.
 
-ghost use Rattle.snippet_model.specs.Fits.{ReportFits};
-
 use crate::build::{groups_of, renderer_of};
 use crate::case::Case;
-use annotate_snippets::renderer::{RenderError, Stylesheet};
-use annotate_snippets::{Group, Renderer};
+use annotate_snippets::renderer::RenderError;
 use serde_json::{Value, json};
 use std::alloc::{AllocError, Global};
 
@@ -32,29 +29,9 @@ pub fn outcome_of(alloc: Global, case: &Case<'_>) -> Result<Outcome, AllocError>
 
 /// The texts of a case, one under each sheet.
 fn texts_of(alloc: Global, case: &Case<'_>) -> Result<Vec<String>, RenderError> {
-    Drawing::new(alloc, case)?.texts(alloc, &case.sheets)
-}
-
-/// A case as the library's renderer and groups.
-#[derive(Drop)]
-pub struct Drawing<'v> {
-    renderer: Renderer,
-    groups: Vec<Group<'v>>,
-    ghost fits: { ReportFits groups.items },
-}
-
-impl<'v> Drawing<'v> {
-    /// What the case asks for.
-    pub fn new(alloc: Global, case: &Case<'v>) -> Result<Drawing<'v>, RenderError> {
-        let renderer = renderer_of(case.settings)?;
-        let groups = groups_of(alloc, &case.groups)?;
-        Ok(Drawing { renderer, groups })
-    }
-
-    /// The texts, one under each of these sheets.
-    pub fn texts(&self, alloc: Global, sheets: &[Stylesheet]) -> Result<Vec<String>, RenderError> {
-        self.renderer.render_sheets(alloc, &self.groups, sheets)
-    }
+    let renderer = renderer_of(case.settings)?;
+    let groups = groups_of(alloc, &case.groups)?;
+    renderer.render_sheets(alloc, &groups, &case.sheets)
 }
 
 /// The name of a refusal.

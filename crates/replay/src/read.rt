@@ -7,12 +7,11 @@ use crate::case::{
 };
 use crate::fault::{Fault, Place};
 use crate::node::{Node, Read};
+use crate::shape::{Expectation, Shape};
 use annotate_snippets::AnnotationKind;
 use annotate_snippets::renderer::{DEFAULT_TERM_WIDTH, Stylesheet};
 use serde_json::Value;
 use std::alloc::Global;
-
-const AN_OBJECT: &str = "an object";
 
 /// The case that a line describes.
 pub fn case_of<'v>(alloc: Global, line: &'v Value) -> Result<Case<'v>, Fault> {
@@ -22,7 +21,7 @@ pub fn case_of<'v>(alloc: Global, line: &'v Value) -> Result<Case<'v>, Fault> {
         value: line,
         place: &place,
     };
-    case.has_only(&["id", "settings", "sheets", "groups"])?;
+    case.has_only(Shape::Case)?;
     let id: Text<'v> = case.needed("id")?;
     let settings = case.optional("settings")?;
     let sheets = match case.optional("sheets")? {
@@ -51,18 +50,10 @@ impl Settings {
 }
 
 impl<'v> Read<'v> for Settings {
-    const EXPECTED: &'static str = AN_OBJECT;
+    const EXPECTED: Expectation = Expectation::Object;
 
     fn read(node: Node<'v, '_>) -> Result<Self, Fault> {
-        node.has_only(&[
-            "no_graphics",
-            "short_message",
-            "term_width",
-            "unicode",
-            "anonymized_snippet",
-            "anonymized_origin",
-            "hyperlink",
-        ])?;
+        node.has_only(Shape::Settings)?;
         let term_width = node.optional("term_width")?;
         Ok(Settings {
             no_graphics: is_on(node, "no_graphics")?,
@@ -82,10 +73,10 @@ fn is_on(node: Node<'_, '_>, name: &str) -> Result<bool, Fault> {
 }
 
 impl<'v> Read<'v> for Group<'v> {
-    const EXPECTED: &'static str = AN_OBJECT;
+    const EXPECTED: Expectation = Expectation::Object;
 
     fn read(node: Node<'v, '_>) -> Result<Self, Fault> {
-        node.has_only(&["title", "level", "elements"])?;
+        node.has_only(Shape::Group)?;
         let Some(title) = node.needed("title")? else {
             let level: Level<'v> = node.needed("level")?;
             return Ok(Group {
@@ -102,7 +93,7 @@ impl<'v> Read<'v> for Group<'v> {
 
 /// `null`, or what stands there.
 impl<'v, T: Read<'v>> Read<'v> for Option<T> {
-    const EXPECTED: &'static str = "an object or null";
+    const EXPECTED: Expectation = Expectation::ObjectOrNull;
 
     fn read(node: Node<'v, '_>) -> Result<Self, Fault> {
         if node.value.is_null() {
@@ -113,10 +104,10 @@ impl<'v, T: Read<'v>> Read<'v> for Option<T> {
 }
 
 impl<'v> Read<'v> for Title<'v> {
-    const EXPECTED: &'static str = AN_OBJECT;
+    const EXPECTED: Expectation = Expectation::Object;
 
     fn read(node: Node<'v, '_>) -> Result<Self, Fault> {
-        node.has_only(&["level", "text", "primary", "id", "url"])?;
+        node.has_only(Shape::Title)?;
         Ok(Title {
             level: node.needed("level")?,
             text: node.needed("text")?,
@@ -128,10 +119,10 @@ impl<'v> Read<'v> for Title<'v> {
 }
 
 impl<'v> Read<'v> for Level<'v> {
-    const EXPECTED: &'static str = AN_OBJECT;
+    const EXPECTED: Expectation = Expectation::Object;
 
     fn read(node: Node<'v, '_>) -> Result<Self, Fault> {
-        node.has_only(&["kind", "name"])?;
+        node.has_only(Shape::Level)?;
         let name: Option<Option<Text<'v>>> = node.optional("name")?;
         let name = match name {
             None => LevelName::Standard,
@@ -146,7 +137,7 @@ impl<'v> Read<'v> for Level<'v> {
 }
 
 impl<'v> Read<'v> for LevelKind {
-    const EXPECTED: &'static str = "\"error\", \"warning\", \"info\", \"note\" or \"help\"";
+    const EXPECTED: Expectation = Expectation::LevelKind;
 
     fn read(node: Node<'v, '_>) -> Result<Self, Fault> {
         match node.value.as_str() {
@@ -161,11 +152,10 @@ impl<'v> Read<'v> for LevelKind {
 }
 
 impl<'v> Read<'v> for Element<'v> {
-    const EXPECTED: &'static str =
-        "one of the fields message, cause, suggestion, origin and padding";
+    const EXPECTED: Expectation = Expectation::Element;
 
     fn read(node: Node<'v, '_>) -> Result<Self, Fault> {
-        node.has_only(&["message", "cause", "suggestion", "origin", "padding"])?;
+        node.has_only(Shape::Element)?;
         match node.value.as_object() {
             Some(fields) if fields.len() == 1 => {}
             _ => return Err(node.unexpected(Self::EXPECTED)),
@@ -188,10 +178,10 @@ impl<'v> Read<'v> for Element<'v> {
 }
 
 impl<'v> Read<'v> for Message<'v> {
-    const EXPECTED: &'static str = AN_OBJECT;
+    const EXPECTED: Expectation = Expectation::Object;
 
     fn read(node: Node<'v, '_>) -> Result<Self, Fault> {
-        node.has_only(&["level", "text"])?;
+        node.has_only(Shape::Message)?;
         Ok(Message {
             level: node.needed("level")?,
             text: node.needed("text")?,
@@ -204,17 +194,10 @@ impl<'v> Read<'v> for Message<'v> {
 struct Cause<'v>(Source<'v>, Vec<Mark<'v>>);
 
 impl<'v> Read<'v> for Cause<'v> {
-    const EXPECTED: &'static str = AN_OBJECT;
+    const EXPECTED: Expectation = Expectation::Object;
 
     fn read(node: Node<'v, '_>) -> Result<Self, Fault> {
-        node.has_only(&[
-            "source",
-            "path",
-            "line_start",
-            "line_numbering",
-            "fold",
-            "annotations",
-        ])?;
+        node.has_only(Shape::Cause)?;
         Ok(Cause(source_of(node)?, node.needed("annotations")?))
     }
 }
@@ -224,17 +207,10 @@ impl<'v> Read<'v> for Cause<'v> {
 struct Suggestion<'v>(Source<'v>, Vec<Patch<'v>>);
 
 impl<'v> Read<'v> for Suggestion<'v> {
-    const EXPECTED: &'static str = AN_OBJECT;
+    const EXPECTED: Expectation = Expectation::Object;
 
     fn read(node: Node<'v, '_>) -> Result<Self, Fault> {
-        node.has_only(&[
-            "source",
-            "path",
-            "line_start",
-            "line_numbering",
-            "fold",
-            "patches",
-        ])?;
+        node.has_only(Shape::Suggestion)?;
         Ok(Suggestion(source_of(node)?, node.needed("patches")?))
     }
 }
@@ -254,10 +230,10 @@ fn source_of<'v>(node: Node<'v, '_>) -> Result<Source<'v>, Fault> {
 }
 
 impl<'v> Read<'v> for Mark<'v> {
-    const EXPECTED: &'static str = AN_OBJECT;
+    const EXPECTED: Expectation = Expectation::Object;
 
     fn read(node: Node<'v, '_>) -> Result<Self, Fault> {
-        node.has_only(&["kind", "start", "end", "label", "highlight_source"])?;
+        node.has_only(Shape::Annotation)?;
         Ok(Mark {
             kind: node.needed("kind")?,
             start: node.needed("start")?,
@@ -269,7 +245,7 @@ impl<'v> Read<'v> for Mark<'v> {
 }
 
 impl<'v> Read<'v> for AnnotationKind {
-    const EXPECTED: &'static str = "\"primary\", \"context\" or \"visible\"";
+    const EXPECTED: Expectation = Expectation::AnnotationKind;
 
     fn read(node: Node<'v, '_>) -> Result<Self, Fault> {
         match node.value.as_str() {
@@ -282,10 +258,10 @@ impl<'v> Read<'v> for AnnotationKind {
 }
 
 impl<'v> Read<'v> for Patch<'v> {
-    const EXPECTED: &'static str = AN_OBJECT;
+    const EXPECTED: Expectation = Expectation::Object;
 
     fn read(node: Node<'v, '_>) -> Result<Self, Fault> {
-        node.has_only(&["start", "end", "text"])?;
+        node.has_only(Shape::Patch)?;
         Ok(Patch {
             start: node.needed("start")?,
             end: node.needed("end")?,
@@ -295,10 +271,10 @@ impl<'v> Read<'v> for Patch<'v> {
 }
 
 impl<'v> Read<'v> for Origin<'v> {
-    const EXPECTED: &'static str = AN_OBJECT;
+    const EXPECTED: Expectation = Expectation::Object;
 
     fn read(node: Node<'v, '_>) -> Result<Self, Fault> {
-        node.has_only(&["path", "line", "column"])?;
+        node.has_only(Shape::Origin)?;
         Ok(Origin {
             path: node.needed("path")?,
             line: node.optional("line")?,
@@ -312,10 +288,10 @@ impl<'v> Read<'v> for Origin<'v> {
 struct Padding;
 
 impl<'v> Read<'v> for Padding {
-    const EXPECTED: &'static str = "an object without fields";
+    const EXPECTED: Expectation = Expectation::Object;
 
     fn read(node: Node<'v, '_>) -> Result<Self, Fault> {
-        node.has_only(&[])?;
+        node.has_only(Shape::Padding)?;
         Ok(Padding)
     }
 }

@@ -2,13 +2,11 @@
 
 use crate::fault::Fault;
 use crate::node::{Node, Read};
+use crate::shape::{Expectation, Shape};
 use annotate_snippets::renderer::{AnsiColor, Color, Effects, Style, Stylesheet};
 
-/// What a colour may be.
-const A_COLOR: &str = "the name of a colour, such as \"BrightRed\", or an object with ansi256 or rgb";
-
 impl<'v> Read<'v> for Stylesheet {
-    const EXPECTED: &'static str = "\"plain\", \"default\" or an object";
+    const EXPECTED: Expectation = Expectation::Sheet;
 
     fn read(node: Node<'v, '_>) -> Result<Self, Fault> {
         match node.value.as_str() {
@@ -25,19 +23,7 @@ fn own_sheet(node: Node<'_, '_>) -> Result<Stylesheet, Fault> {
     if !node.value.is_object() {
         return Err(node.unexpected(Stylesheet::EXPECTED));
     }
-    node.has_only(&[
-        "error",
-        "warning",
-        "info",
-        "note",
-        "help",
-        "line_num",
-        "emphasis",
-        "none",
-        "context",
-        "addition",
-        "removal",
-    ])?;
+    node.has_only(Shape::Sheet)?;
     Ok(Stylesheet {
         error: style(node, "error")?,
         warning: style(node, "warning")?,
@@ -59,10 +45,10 @@ fn style(node: Node<'_, '_>, name: &str) -> Result<Style, Fault> {
 }
 
 impl<'v> Read<'v> for Style {
-    const EXPECTED: &'static str = "an object";
+    const EXPECTED: Expectation = Expectation::Object;
 
     fn read(node: Node<'v, '_>) -> Result<Self, Fault> {
-        node.has_only(&["fg", "bg", "effects"])?;
+        node.has_only(Shape::Style)?;
         Ok(Style::new()
             .fg_color(node.optional("fg")?)
             .bg_color(node.optional("bg")?)
@@ -84,7 +70,7 @@ fn effects(node: Node<'_, '_>) -> Result<Effects, Fault> {
 
 /// One effect, by its name.
 impl<'v> Read<'v> for Effects {
-    const EXPECTED: &'static str = "the name of an effect, such as \"BOLD\"";
+    const EXPECTED: Expectation = Expectation::Effect;
 
     fn read(node: Node<'v, '_>) -> Result<Self, Fault> {
         match node.value.as_str() {
@@ -102,7 +88,7 @@ impl<'v> Read<'v> for Effects {
 }
 
 impl<'v> Read<'v> for Color {
-    const EXPECTED: &'static str = A_COLOR;
+    const EXPECTED: Expectation = Expectation::Color;
 
     fn read(node: Node<'v, '_>) -> Result<Self, Fault> {
         if node.value.is_string() {
@@ -112,7 +98,7 @@ impl<'v> Read<'v> for Color {
             Some(fields) if fields.len() == 1 => {}
             _ => return Err(node.unexpected(Self::EXPECTED)),
         }
-        node.has_only(&["ansi256", "rgb"])?;
+        node.has_only(Shape::Color)?;
         if let Some(index) = node.optional("ansi256")? {
             return Ok(Color::Ansi256(index));
         }
@@ -122,7 +108,7 @@ impl<'v> Read<'v> for Color {
 }
 
 impl<'v> Read<'v> for AnsiColor {
-    const EXPECTED: &'static str = A_COLOR;
+    const EXPECTED: Expectation = Expectation::Color;
 
     fn read(node: Node<'v, '_>) -> Result<Self, Fault> {
         match node.value.as_str() {
@@ -152,7 +138,7 @@ impl<'v> Read<'v> for AnsiColor {
 struct Rgb(u8, u8, u8);
 
 impl<'v> Read<'v> for Rgb {
-    const EXPECTED: &'static str = "a list of three numbers from 0 to 255";
+    const EXPECTED: Expectation = Expectation::Rgb;
 
     fn read(node: Node<'v, '_>) -> Result<Self, Fault> {
         let parts: Vec<u8> = Vec::read(node)?;
@@ -164,7 +150,7 @@ impl<'v> Read<'v> for Rgb {
 }
 
 impl<'v> Read<'v> for u8 {
-    const EXPECTED: &'static str = "a number from 0 to 255";
+    const EXPECTED: Expectation = Expectation::Byte;
 
     fn read(node: Node<'v, '_>) -> Result<Self, Fault> {
         match node.value.as_u64() {

@@ -1,8 +1,8 @@
 //! How long drawing takes.
 
+use crate::build::{groups_of, renderer_of};
 use crate::case::Case;
 use crate::lines::value_of;
-use crate::outcome::Drawing;
 use crate::read::case_of;
 use crate::trouble::Trouble;
 use annotate_snippets::renderer::RenderError;
@@ -38,7 +38,7 @@ pub fn repeat_lines<K: Clock, B: BufRead + Drop>(
     Ok(())
 }
 
-/// The tally with one case drawn this many times more. A case that is refused adds its time alone.
+/// The tally with one case drawn this many times more. A case that is refused adds nothing.
 fn repeat_case<K: Clock>(
     clock: &K,
     alloc: Global,
@@ -46,22 +46,31 @@ fn repeat_case<K: Clock>(
     times: u64,
     tally: Tally,
 ) -> Result<Tally, Trouble> {
-    let drawing = match Drawing::new(alloc, case) {
-        Ok(drawing) => drawing,
+    let start = Instant::now(clock).map_err(Trouble::Clock)?;
+    let mut drawn = match draw_often(alloc, case, times, tally) {
+        Ok(drawn) => drawn,
         Err(RenderError::Memory(refused)) => return Err(Trouble::from(refused)),
         Err(_) => return Ok(tally),
     };
-    let start = Instant::now(clock).map_err(Trouble::Clock)?;
-    let mut drawn = tally;
-    for _ in 0..times {
-        match drawing.texts(alloc, &case.sheets) {
-            Ok(texts) => drawn = with_texts(drawn, &texts),
-            Err(RenderError::Memory(refused)) => return Err(Trouble::from(refused)),
-            Err(_) => {}
-        }
-    }
     let taken = start.elapsed(clock).map_err(Trouble::Clock)?;
     drawn.time = drawn.time.saturating_add(taken);
+    Ok(drawn)
+}
+
+/// The tally with the texts of one case, built once and drawn this many times.
+fn draw_often(
+    alloc: Global,
+    case: &Case<'_>,
+    times: u64,
+    tally: Tally,
+) -> Result<Tally, RenderError> {
+    let renderer = renderer_of(case.settings)?;
+    let groups = groups_of(alloc, &case.groups)?;
+    let mut drawn = tally;
+    for _ in 0..times {
+        let texts = renderer.render_sheets(alloc, &groups, &case.sheets)?;
+        drawn = with_texts(drawn, &texts);
+    }
     Ok(drawn)
 }
 

@@ -6,18 +6,18 @@ ghost use Rattle.serde_json.specs.Find.{as_bool, as_number, as_str, as_u64};
 use crate::case::Text;
 use crate::fault::{Fault, Place};
 use crate::node::{Node, Read};
+use crate::shape::Expectation;
 use annotate_snippets::text::text_fits;
 
 impl<'v> Read<'v> for Text<'v> {
     ghost reads = { λ d t. as_str d ≡ Some t.text.now };
 
-    const EXPECTED: &'static str = "a text";
+    const EXPECTED: Expectation = Expectation::Text;
 
     fn read(node: Node<'v, '_>) -> Result<Self, Fault> {
         match node.value.as_str() {
             Some(text) if text_fits(text) => Ok(Text { text }),
-            Some(_) => Err(node.unexpected("a text of fewer than 2^56 bytes")),
-            None => Err(node.unexpected(Self::EXPECTED)),
+            _ => Err(node.unexpected(Self::EXPECTED)),
         }
     }
 }
@@ -25,7 +25,7 @@ impl<'v> Read<'v> for Text<'v> {
 impl<'v> Read<'v> for usize {
     ghost reads = { λ d n. option_and_then as_u64 (as_number d) ≡ Some n };
 
-    const EXPECTED: &'static str = "a whole number from 0 to 18446744073709551615";
+    const EXPECTED: Expectation = Expectation::Number;
 
     fn read(node: Node<'v, '_>) -> Result<Self, Fault> {
         match node.value.as_u64() {
@@ -38,7 +38,7 @@ impl<'v> Read<'v> for usize {
 impl<'v> Read<'v> for bool {
     ghost reads = { λ d b. as_bool d ≡ Some b };
 
-    const EXPECTED: &'static str = "true or false";
+    const EXPECTED: Expectation = Expectation::Flag;
 
     fn read(node: Node<'v, '_>) -> Result<Self, Fault> {
         match node.value.as_bool() {
@@ -49,7 +49,7 @@ impl<'v> Read<'v> for bool {
 }
 
 impl<'v, T: Read<'v> + Drop> Read<'v> for Vec<T> {
-    const EXPECTED: &'static str = "a list";
+    const EXPECTED: Expectation = Expectation::List;
 
     fn read(node: Node<'v, '_>) -> Result<Self, Fault> {
         let Some(values) = node.value.as_array() else {
