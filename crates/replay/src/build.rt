@@ -1,7 +1,7 @@
 //! How a case becomes the library's renderer and groups, by the library's calls. Where the library has no call yet for what
 //! the case says, there is none: it is refused as `NotYet`.
 
-ghost use Rattle.std.specs.Prelude.{IfOk, IfSome, All};
+ghost use Rattle.std.specs.Prelude.{◌≡◌, [], ◌∷◌, ◌++◌, IfOk, OnOk, All};
 ghost use Rattle.snippet_model.specs.Fits.{ReportFits, GroupFits, TitleFits, LevelFits, ElementFits, AnnotationFits, SnippetFits};
 
 use crate::case;
@@ -40,12 +40,18 @@ pub fn groups_of<'v>(
 {
     let mut built = Vec::new(alloc);
     for group in groups {
-        push(&mut built, group_of(alloc, group)?).map_err(RenderError::Memory)?;
+        let group = group_of(alloc, group)?;
+        if let Err(refused) = add_group(&mut built, group) {
+            return Err(RenderError::Memory(refused));
+        }
     }
     Ok(built)
 }
 
-fn push<'v>(groups: &mut Vec<Group<'v>>, group: Group<'v>) -> Result<(), AllocError> {
+/// One group more, behind the others.
+fn add_group<'v>(groups: &mut Vec<Group<'v>>, group: Group<'v>) -> Result<(), AllocError>
+    ensures added { OnOk result (groups.new.items ≡ groups.old.items ++ group.entry ∷ []) }
+{
     groups.push(group)?;
     Ok(())
 }
@@ -135,26 +141,29 @@ fn cause_of<'v>(
     if source.path.is_some() || !source.fold {
         return Err(RenderError::NotYet);
     }
-    let annotations = annotations_of(alloc, marks).map_err(RenderError::Memory)?;
-    Snippet::source(alloc, source.source.text)
+    let snippet = Snippet::source(alloc, source.source.text)
         .line_start(source.line_start)
-        .line_numbering(source.line_numbering)
-        .annotations(annotations)
-        .map_err(RenderError::Memory)
+        .line_numbering(source.line_numbering);
+    with_marks(snippet, marks).map_err(RenderError::Memory)
 }
 
-/// The annotations, in order.
-fn annotations_of<'v>(
-    alloc: Global,
+/// The snippet with these annotations, in order, behind those it has.
+#[tactic(auto, using(crate::proofs::Lists::all_push))]
+fn with_marks<'v>(
+    snippet: Snippet<'v, Annotation<'v>>,
     marks: &[Mark<'v>],
-) -> Result<Vec<Annotation<'v>>, AllocError>
-    ensures fits { IfOk result (λ annotations. All AnnotationFits annotations.items) }
+) -> Result<Snippet<'v, Annotation<'v>>, AllocError>
+    requires fits { SnippetFits AnnotationFits snippet }
+    ensures fits { IfOk result (SnippetFits AnnotationFits) }
 {
-    let mut annotations = Vec::new(alloc);
+    let mut marked = snippet;
     for mark in marks {
-        annotations.push(annotation_of(mark))?;
+        match marked.annotation(annotation_of(mark)) {
+            Ok(more) => marked = more,
+            Err(refused) => return Err(refused),
+        }
     }
-    Ok(annotations)
+    Ok(marked)
 }
 
 /// An annotation.
