@@ -1,5 +1,5 @@
 -- What the words of a command line ask for.
-use Rattle.std.specs.Prelude.{◌≡◌, ℕ, ◌+◌, ◌*◌, ◌^◌, ◌<◌, List, ◌∷◌, ◌++◌, codes, length, map, All}
+use Rattle.std.specs.Prelude.{◌≡◌, ℕ, ◌%◌, ◌^◌, ◌<◌, List, ◌∷◌, ◌++◌, codes, length, map, All}
 use Rattle.std.specs.Borrow.{Bor}
 use Rattle.std.specs.Str.Parse.{IsNumeral, digits_value}
 use Rattle.replay.specs.declared.command.Command.{Command}
@@ -28,7 +28,7 @@ IsNumber word = IsNumeral 10 word × (digits_value 10 word < 2 ^ 64)
 
 -- one pair or more
 abbrev pub ArePairs : List Word → Type 0
-ArePairs words = (count : ℕ) × (length words ≡ 2 * (count + 1))
+ArePairs words = (0 < length words) × (length words % 2 ≡ 0)
 
 -- the words ask for this command
 abbrev pub Asks : List Word → Command → Type 0
@@ -39,3 +39,17 @@ Asks words (Check files) =
     (words ≡ codes "--check" ∷ words_at files.now) × AreFiles (words_at files.now) × ArePairs (words_at files.now)
 Asks words (Repeat times files) =
     (digits : Word) × (words ≡ codes "--repeat" ∷ digits ∷ words_at files.now) × AreFiles (words_at files.now) × IsNumber digits × (times ≡ digits_value 10 digits)
+
+-- the words are of the form
+abbrev pub IsCommandLine : List Word → Type 0
+IsCommandLine words = (command : Command) × Asks words command
+
+-- the command compares answers with those that are expected
+abbrev pub IsComparison : Command → Type 0
+IsComparison (Answer form files) = ⊥
+IsComparison (Check files) = Unit {0}
+IsComparison (Repeat times files) = ⊥
+
+-- the words ask for a comparison
+abbrev pub Compares : List Word → Type 0
+Compares words = (command : Command) × Asks words command × IsComparison command

@@ -1,5 +1,7 @@
 //! Cases and what is expected of them, side by side.
 
+ghost use Rattle.std.specs.Prelude.{◌≡◌, ◌+◌, ◌^◌, ◌<◌, if◌then◌else◌};
+
 use crate::expected::{Expected, expected_of, write_wanted};
 use crate::lines::{value_of, write_outcome};
 use crate::outcome::{Outcome, outcome_of};
@@ -18,43 +20,59 @@ pub struct Counts {
 
 impl Counts {
     /// The counts with one case more.
-    pub fn with(self, passes: bool) -> Counts {
+    pub fn with(self, passes: bool) -> Counts
+        requires room { self.passed + self.failed + 1 < 2 ^ 64 }
+        ensures passed { result.passed ≡ self.passed + (if passes then 1 else 0) }
+        ensures failed { result.failed ≡ self.failed + (if passes then 0 else 1) }
+    {
         if passes {
             Counts {
-                passed: self.passed.saturating_add(1),
+                passed: self.passed + 1,
                 failed: self.failed,
             }
         } else {
             Counts {
                 passed: self.passed,
-                failed: self.failed.saturating_add(1),
+                failed: self.failed + 1,
             }
+        }
+    }
+
+    /// The counts of both together, as far as they can be told.
+    pub fn plus(self, more: Counts) -> Counts
+        ensures passed { self.passed + more.passed < 2 ^ 64 → result.passed ≡ self.passed + more.passed }
+        ensures failed { self.failed + more.failed < 2 ^ 64 → result.failed ≡ self.failed + more.failed }
+        ensures fault_stays { result.failed ≡ 0 → (self.failed ≡ 0) × (more.failed ≡ 0) }
+    {
+        Counts {
+            passed: self.passed.saturating_add(more.passed),
+            failed: self.failed.saturating_add(more.failed),
         }
     }
 }
 
-/// Compares each case with the answer that stands in the same line of `expected`, and writes those that differ.
+/// Compares each case with the answer that stands in the same line of `expected`, writes those that differ, and counts the
+/// cases.
 pub fn check_lines<B: BufRead + Drop, C: BufRead + Drop, W: Write>(
     alloc: Global,
     expected: B,
     cases: C,
-    counts: &mut Counts,
     out: &mut W,
-) -> Result<(), Trouble> {
+) -> Result<Counts, Trouble> {
     let mut answers = expected.lines(alloc);
-    let mut number = 0u64;
-    for line in cases.lines(alloc) {
-        number = number.saturating_add(1);
-        let Some(answer) = answers.next() else {
-            return Err(Trouble::Unpaired(number));
-        };
-        let passes = check_line(alloc, number, answer, line, out)?;
-        *counts = counts.with(passes);
+    let mut lines = cases.lines(alloc);
+    let mut counts = Counts::default();
+    for number in 1..u64::MAX {
+        match (answers.next(), lines.next()) {
+            (None, None) => break,
+            (Some(answer), Some(line)) => {
+                let passes = check_line(alloc, number, answer, line, out)?;
+                counts = counts.with(passes);
+            }
+            _ => return Err(Trouble::Unpaired(number)),
+        }
     }
-    match answers.next() {
-        None => Ok(()),
-        Some(_) => Err(Trouble::Unpaired(number.saturating_add(1))),
-    }
+    Ok(counts)
 }
 
 /// Whether a case became what is expected; if not, it is written.

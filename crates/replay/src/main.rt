@@ -18,6 +18,8 @@ mod repeat;
 mod run;
 mod scalars;
 mod shape;
+#[cfg(test)]
+mod tests;
 mod trouble;
 
 use run::run;

@@ -1,5 +1,9 @@
 //! A run of the program: what its words ask for is done, and the status tells how it went.
 
+ghost use Rattle.std.specs.Prelude.{◌≡◌, ◌≤◌, IfOk};
+ghost use Rattle.replay.specs.Words.{words_at, IsCommandLine, IsComparison, Compares};
+ghost use Rattle.replay.specs.declared.command.Command.{Command};
+
 use crate::check::{Counts, check_lines};
 use crate::command::{Command, command_of};
 use crate::lines::{Form, answer_lines};
@@ -44,7 +48,12 @@ pub fn run<R: Files + Input + Clock + AllocGlobal, W: Write, V: Write>(
     words: &[&str],
     out: &mut W,
     err: &mut V,
-) -> u8 {
+) -> u8
+    ensures status { result ≤ 2 }
+    ensures usage { (IsCommandLine (words_at words.now) → ⊥) → result ≡ 2 }
+    ensures no_answer { (IsCommandLine (words_at words.now) → ⊥) → out.new ≡ out.old }
+    ensures differs { result ≡ 1 → Compares (words_at words.now) }
+{
     let Some(command) = command_of(words) else {
         let _ = err.writeln(USAGE);
         return STOPPED;
@@ -84,7 +93,10 @@ fn do_command<'a, R: Files + Input + Clock + AllocGlobal, W: Write>(
     rt: &R,
     command: &Command<'a>,
     out: &mut W,
-) -> Result<u8, Stop<'a>> {
+) -> Result<u8, Stop<'a>>
+    ensures status { IfOk result (λ status. status ≤ 1) }
+    ensures differs { IfOk result (λ status. status ≡ 1 → IsComparison command.now) }
+{
     match *command {
         Command::Answer(form, files) => answer(rt, form, files, out),
         Command::Check(files) => check(rt, files, out),
@@ -101,7 +113,9 @@ fn answer<'a, R: Files + Input + AllocGlobal, W: Write>(
     form: Form,
     files: &[&'a str],
     out: &mut W,
-) -> Result<u8, Stop<'a>> {
+) -> Result<u8, Stop<'a>>
+    ensures status { IfOk result (λ status. status ≡ 0) }
+{
     let mut is_first = true;
     if files.is_empty() {
         answer_lines(rt.alloc(), rt.reader(), form, &mut is_first, out)
@@ -132,11 +146,14 @@ fn check<'a, R: Files + AllocGlobal, W: Write>(
     rt: &R,
     files: &[&'a str],
     out: &mut W,
-) -> Result<u8, Stop<'a>> {
+) -> Result<u8, Stop<'a>>
+    ensures status { IfOk result (λ status. status ≤ 1) }
+{
     let mut counts = Counts::default();
     for pair in files.chunks_exact(2) {
-        check_pair(rt, pair[0], pair[1], &mut counts, out)
+        let more = check_pair(rt, pair[0], pair[1], out)
             .map_err(|trouble| Stop { file: pair[1], trouble })?;
+        counts = counts.plus(more);
     }
     let (passed, failed) = (counts.passed, counts.failed);
     out.writeln(format_args!("{passed} passed, {failed} failed"))
@@ -152,14 +169,13 @@ fn check_pair<R: Files + AllocGlobal, W: Write>(
     rt: &R,
     expected: &str,
     cases: &str,
-    counts: &mut Counts,
     out: &mut W,
-) -> Result<(), Trouble> {
+) -> Result<Counts, Trouble> {
     let expected = fs::open(rt, expected).map_err(Trouble::Read)?;
     let expected = BufReader::new(rt.alloc(), expected).map_err(Trouble::Read)?;
     let cases = fs::open(rt, cases).map_err(Trouble::Read)?;
     let cases = BufReader::new(rt.alloc(), cases).map_err(Trouble::Read)?;
-    check_lines(rt.alloc(), expected, cases, counts, out)
+    check_lines(rt.alloc(), expected, cases, out)
 }
 
 /// Draws each case of the files, or of standard input, this many times, and prints how long it took.
@@ -168,7 +184,9 @@ fn repeat<'a, R: Files + Input + Clock + AllocGlobal, W: Write>(
     times: u64,
     files: &[&'a str],
     out: &mut W,
-) -> Result<u8, Stop<'a>> {
+) -> Result<u8, Stop<'a>>
+    ensures status { IfOk result (λ status. status ≡ 0) }
+{
     let mut tally = Tally::default();
     if files.is_empty() {
         repeat_lines(rt, rt.alloc(), rt.reader(), times, &mut tally)
