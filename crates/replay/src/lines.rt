@@ -1,5 +1,9 @@
 //! Lines of cases, answered one after another. Nothing of a line is kept behind it.
 
+ghost use Rattle.std.specs.Prelude.{[], ◌∷◌, ◌++◌, OnOk};
+ghost use Rattle.std.specs.Io.KnownBytes.{Appends};
+ghost use Rattle.replay.specs.Growth.{Grows};
+
 use crate::case::Case;
 use crate::fault::Fault;
 use crate::outcome::{Outcome, answer_of, outcome_of};
@@ -26,19 +30,32 @@ pub fn answer_lines<B: BufRead + Drop, W: Write>(
     form: Form,
     is_first: &mut bool,
     out: &mut W,
-) -> Result<(), Trouble> {
+) -> Result<(), Trouble>
+    ensures added { OnOk result (Grows (W.contents out.old) (W.contents out.new)) }
+{
     let mut number = 0u64;
     for line in input.lines(alloc) {
         number = number.saturating_add(1);
-        let value = value_of(alloc, line).map_err(|unread| unread.of_case(number))?;
-        let case = case_of(alloc, &value).map_err(|fault| Trouble::Case(number, fault))?;
-        match form {
-            Form::Json => write_json(alloc, &case, out)?,
-            Form::Texts => write_texts(alloc, &case, *is_first, out)?,
-        }
+        answer_line(alloc, line, number, form, *is_first, out)?;
         *is_first = false;
     }
     Ok(())
+}
+
+/// Answers the line of this number.
+fn answer_line<W: Write>(
+    alloc: Global,
+    line: io::Result<String>,
+    number: u64,
+    form: Form,
+    is_first: bool,
+    out: &mut W,
+) -> Result<(), Trouble>
+    ensures added { OnOk result (Grows (W.contents out.old) (W.contents out.new)) }
+{
+    let value = value_of(alloc, line).map_err(|unread| unread.of_case(number))?;
+    let case = case_of(alloc, &value).map_err(|fault| Trouble::Case(number, fault))?;
+    write_answer(alloc, &case, form, is_first, out)
 }
 
 /// What a line holds.
@@ -57,33 +74,63 @@ fn json_of(alloc: Global, line: &str) -> Result<Value, Fault> {
     Value::from_str(alloc, line).map_err(Fault::NoJson)
 }
 
-/// Writes the answer as a line of JSON.
-fn write_json<W: Write>(alloc: Global, case: &Case<'_>, out: &mut W) -> Result<(), Trouble> {
-    let outcome = outcome_of(alloc, case)?;
-    let line = answer_of(alloc, case.id, outcome)?.to_string(alloc)?;
-    out.writeln(line.as_str()).map_err(Trouble::Write)
-}
-
-/// Writes the texts of the answer, behind a blank line if they aren't the first.
-fn write_texts<W: Write>(
+/// Writes the answer to a case.
+fn write_answer<W: Write>(
     alloc: Global,
     case: &Case<'_>,
+    form: Form,
     is_first: bool,
     out: &mut W,
-) -> Result<(), Trouble> {
+) -> Result<(), Trouble>
+    ensures added { OnOk result (Grows (W.contents out.old) (W.contents out.new)) }
+{
     let outcome = outcome_of(alloc, case)?;
-    if !is_first {
-        out.writeln("").map_err(Trouble::Write)?;
+    let written = match form {
+        Form::Json => {
+            let line = answer_of(alloc, case.id, outcome)?.to_string(alloc)?;
+            write_line(line.as_str(), out)
+        }
+        Form::Texts => write_report(&outcome, is_first, out),
+    };
+    written.map_err(Trouble::Write)
+}
+
+/// Writes the texts of a report, behind a blank line if they aren't the first.
+fn write_report<W: Write>(outcome: &Outcome, is_first: bool, out: &mut W) -> io::Result<()>
+    ensures added { OnOk result (Grows (W.contents out.old) (W.contents out.new)) }
+{
+    write_gap(is_first, out)?;
+    write_outcome(outcome, out)?;
+    Ok(())
+}
+
+/// Writes a blank line, but not before the first report.
+fn write_gap<W: Write>(is_first: bool, out: &mut W) -> io::Result<()>
+    ensures added { OnOk result (Grows (W.contents out.old) (W.contents out.new)) }
+{
+    if is_first {
+        Ok(())
+    } else {
+        write_line("", out)
     }
-    write_outcome(&outcome, out).map_err(Trouble::Write)
+}
+
+/// Writes a line.
+fn write_line<W: Write>(line: &str, out: &mut W) -> io::Result<()>
+    ensures added { OnOk result (Grows (W.contents out.old) (W.contents out.new)) }
+    ensures line { OnOk result (Appends (W.contents out.old) (W.contents out.new) (line.now ++ 10 ∷ [])) }
+{
+    out.writeln(line)
 }
 
 /// Writes each text, or what the refusal prints.
-pub fn write_outcome<W: Write>(outcome: &Outcome, out: &mut W) -> io::Result<()> {
+pub fn write_outcome<W: Write>(outcome: &Outcome, out: &mut W) -> io::Result<()>
+    ensures added { OnOk result (Grows (W.contents out.old) (W.contents out.new)) }
+{
     match outcome {
         Outcome::Texts(texts) => {
             for text in texts {
-                out.writeln(text.as_str())?;
+                write_line(text.as_str(), out)?;
             }
             Ok(())
         }
