@@ -8,4 +8,3 @@ grows_twice (Some x) None c first then = absurd first.1
 grows_twice (Some x) (Some y) None first then = absurd then.1
 grows_twice (Some x) (Some y) (Some z) first then =
     (first.0 ++ then.0, then.1 ∙ ap (λ (l : List ℕ). l ++ then.0) first.1 ∙ append_assoc x first.0 then.0)
-

@@ -5,4 +5,3 @@ use Rattle.std.specs.Io.KnownBytes.{Appends}
 -- what it held, and a text behind it
 abbrev pub Grows : Option (List ℕ) → Option (List ℕ) → Type 0
 Grows old new = (text : List ℕ) × Appends old new text
-

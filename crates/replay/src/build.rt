@@ -25,10 +25,12 @@ pub fn renderer_of(settings: Settings) -> Result<Renderer, RenderError> {
     } else {
         DecorStyle::Ascii
     };
-    Ok(Renderer::plain()
-        .term_width(settings.term_width)
-        .decor_style(decor)
-        .hyperlink(settings.hyperlink))
+    Ok(
+        Renderer::plain()
+            .term_width(settings.term_width)
+            .decor_style(decor)
+            .hyperlink(settings.hyperlink),
+    )
 }
 
 /// The groups of a report.
@@ -115,10 +117,7 @@ fn standard_level(kind: LevelKind) -> Level<'static>
 }
 
 /// An element.
-fn element_of<'v>(
-    alloc: Global,
-    element: &case::Element<'v>,
-) -> Result<Element<'v>, RenderError>
+fn element_of<'v>(alloc: Global, element: &case::Element<'v>) -> Result<Element<'v>, RenderError>
     ensures fits { IfOk result ElementFits }
 {
     match element {

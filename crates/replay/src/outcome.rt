@@ -20,10 +20,7 @@ pub fn outcome_of(alloc: Global, case: &Case<'_>) -> Result<Outcome, AllocError>
     match texts_of(alloc, case) {
         Ok(texts) => Ok(Outcome::Texts(texts)),
         Err(RenderError::Memory(refused)) => Err(refused),
-        Err(refusal) => Ok(Outcome::Refused(
-            name_of(&refusal),
-            format!(in alloc; "{refusal}")?,
-        )),
+        Err(refusal) => Ok(Outcome::Refused(name_of(&refusal), format!(in alloc; "{refusal}")?)),
     }
 }
 

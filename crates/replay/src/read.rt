@@ -2,8 +2,8 @@
 //! are.
 
 use crate::case::{
-    Case, Element, Group, Head, Level, LevelKind, LevelName, Mark, Message, Origin, Patch, Settings,
-    Source, Text, Title,
+    Case, Element, Group, Head, Level, LevelKind, LevelName, Mark, Message, Origin, Patch,
+    Settings, Source, Text, Title,
 };
 use crate::fault::{Fault, Place};
 use crate::node::{Node, Read};

@@ -49,10 +49,12 @@ impl<'v> Read<'v> for Style {
 
     fn read(node: Node<'v, '_>) -> Result<Self, Fault> {
         node.has_only(Shape::Style)?;
-        Ok(Style::new()
-            .fg_color(node.optional("fg")?)
-            .bg_color(node.optional("bg")?)
-            .effects(effects(node)?))
+        Ok(
+            Style::new()
+                .fg_color(node.optional("fg")?)
+                .bg_color(node.optional("bg")?)
+                .effects(effects(node)?),
+        )
     }
 }
 

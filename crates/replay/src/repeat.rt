@@ -88,7 +88,5 @@ fn with_texts(tally: Tally, texts: &[String]) -> Tally {
 pub fn write_tally<W: Write>(tally: &Tally, out: &mut W) -> io::Result<()> {
     let Tally { texts, bytes, time } = *tally;
     let (seconds, thousandths) = (time.as_secs(), time.subsec_millis());
-    out.writeln(format_args!(
-        "{texts} texts, {bytes} bytes, {seconds}.{thousandths:03} seconds"
-    ))
+    out.writeln(format_args!("{texts} texts, {bytes} bytes, {seconds}.{thousandths:03} seconds"))
 }

@@ -118,12 +118,16 @@ fn answer<'a, R: Files + Input + AllocGlobal, W: Write>(
 {
     let mut is_first = true;
     if files.is_empty() {
-        answer_lines(rt.alloc(), rt.reader(), form, &mut is_first, out)
-            .map_err(|trouble| Stop { file: INPUT, trouble })?;
+        answer_lines(rt.alloc(), rt.reader(), form, &mut is_first, out).map_err(|trouble| Stop {
+            file: INPUT,
+            trouble,
+        })?;
     }
     for file in files {
-        answer_file(rt, form, file, &mut is_first, out)
-            .map_err(|trouble| Stop { file: *file, trouble })?;
+        answer_file(rt, form, file, &mut is_first, out).map_err(|trouble| Stop {
+            file: *file,
+            trouble,
+        })?;
     }
     Ok(DONE)
 }
@@ -151,13 +155,18 @@ fn check<'a, R: Files + AllocGlobal, W: Write>(
 {
     let mut counts = Counts::default();
     for pair in files.chunks_exact(2) {
-        let more = check_pair(rt, pair[0], pair[1], out)
-            .map_err(|trouble| Stop { file: pair[1], trouble })?;
+        let more = check_pair(rt, pair[0], pair[1], out).map_err(|trouble| Stop {
+            file: pair[1],
+            trouble,
+        })?;
         counts = counts.plus(more);
     }
     let (passed, failed) = (counts.passed, counts.failed);
     out.writeln(format_args!("{passed} passed, {failed} failed"))
-        .map_err(|error| Stop { file: OUTPUT, trouble: Trouble::Write(error) })?;
+        .map_err(|error| Stop {
+            file: OUTPUT,
+            trouble: Trouble::Write(error),
+        })?;
     Ok(if failed == 0 { DONE } else { DIFFERS })
 }
 
@@ -189,14 +198,21 @@ fn repeat<'a, R: Files + Input + Clock + AllocGlobal, W: Write>(
 {
     let mut tally = Tally::default();
     if files.is_empty() {
-        repeat_lines(rt, rt.alloc(), rt.reader(), times, &mut tally)
-            .map_err(|trouble| Stop { file: INPUT, trouble })?;
+        repeat_lines(rt, rt.alloc(), rt.reader(), times, &mut tally).map_err(|trouble| Stop {
+            file: INPUT,
+            trouble,
+        })?;
     }
     for file in files {
-        repeat_file(rt, file, times, &mut tally)
-            .map_err(|trouble| Stop { file: *file, trouble })?;
+        repeat_file(rt, file, times, &mut tally).map_err(|trouble| Stop {
+            file: *file,
+            trouble,
+        })?;
     }
-    write_tally(&tally, out).map_err(|error| Stop { file: OUTPUT, trouble: Trouble::Write(error) })?;
+    write_tally(&tally, out).map_err(|error| Stop {
+        file: OUTPUT,
+        trouble: Trouble::Write(error),
+    })?;
     Ok(DONE)
 }
 

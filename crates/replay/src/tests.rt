@@ -75,7 +75,6 @@ fn reads_each_field(rt: HostRuntime) -> Result<(), Fail> {
     Ok(())
 }
 
-
 #[test]
 fn answers_line_by_line(rt: HostRuntime) -> Result<(), Fail> {
     let rows: [(&str, &str, &str); 10] = [
@@ -86,7 +85,11 @@ fn answers_line_by_line(rt: HostRuntime) -> Result<(), Fail> {
             "line 2: id: missing, expected a text of fewer than 2^56 bytes",
         ),
         ("[]", "", "line 1: the line: expected an object"),
-        ("{\"id\": \"a\"", "", "line 1: no JSON: EOF while parsing at line 1 column 10"),
+        (
+            "{\"id\": \"a\"",
+            "",
+            "line 1: no JSON: EOF while parsing at line 1 column 10",
+        ),
         (
             "{\"id\": \"a\", \"groups\": [], \"sheets\": [{\"none\": {\"effects\": [\"BOLD\", \"bold\"]}}]}",
             "",
@@ -122,7 +125,13 @@ fn answers_line_by_line(rt: HostRuntime) -> Result<(), Fail> {
     for (lines, answered, told) in rows {
         let mut out = Vec::new(alloc);
         let mut is_first = true;
-        let said = match answer_lines(alloc, lines.as_bytes(), Form::Json, &mut is_first, &mut out) {
+        let said = match answer_lines(
+            alloc,
+            lines.as_bytes(),
+            Form::Json,
+            &mut is_first,
+            &mut out,
+        ) {
             Ok(()) => String::new(alloc),
             Err(trouble) => format!(in alloc; "{trouble}")?,
         };

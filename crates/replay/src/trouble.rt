@@ -41,7 +41,10 @@ impl fmt::Display for Trouble {
             Trouble::Case(line, fault) => write!(f, "line {line}: {fault}"),
             Trouble::Expected(line, fault) => write!(f, "line {line} of what is expected: {fault}"),
             Trouble::Unpaired(line) => {
-                write!(f, "line {line}: a case without an expected answer, or an answer without a case")
+                write!(
+                    f,
+                    "line {line}: a case without an expected answer, or an answer without a case"
+                )
             }
             Trouble::Read(error) => write!(f, "cannot read: {error}"),
             Trouble::Clock(error) => write!(f, "cannot read the clock: {error}"),
