@@ -1,3 +1,5 @@
+ghost use Rattle.snippet_model.specs.Fits.{AnnotationFits, SnippetFits};
+
 use crate::lines::{Form, answer_lines};
 use crate::outcome::{Outcome, outcome_of};
 use crate::read::case_of;
@@ -5,7 +7,7 @@ use annotate_snippets::level::WARNING;
 use annotate_snippets::renderer::{
     AnsiColor, Color, DecorStyle, Effects, RenderError, Style, Stylesheet,
 };
-use annotate_snippets::{AnnotationKind, Element, Group, OptionCow, Renderer, Snippet};
+use annotate_snippets::{Annotation, AnnotationKind, Element, Group, OptionCow, Renderer, Snippet};
 use serde_json::Value;
 use std::alloc::Global;
 use std::io;
@@ -36,29 +38,36 @@ fn own_sheet() -> Stylesheet {
     }
 }
 
-/// The texts of the same report, built by hand.
-fn built(alloc: Global) -> Result<Vec<String>, RenderError> {
+/// The texts of a report of this snippet, with the other parts of the same report.
+fn texts<'a>(
+    alloc: Global,
+    snippet: Snippet<'a, Annotation<'a>>,
+) -> Result<Vec<String>, RenderError>
+    requires snippet { SnippetFits AnnotationFits snippet }
+{
     let renderer = Renderer::plain()
         .term_width(100)
         .decor_style(DecorStyle::Unicode)
         .hyperlink(true);
-    let snippet = Snippet::source(alloc, "let x = 1;\nlet y = 2;\n")
-        .line_start(18446744073709551612)
-        .annotation(AnnotationKind::Context.span(15..16))
-        .map_err(RenderError::Memory)?
-        .annotation(
-            AnnotationKind::Primary
-                .span(4..5)
-                .label(OptionCow::from("here"))
-                .highlight_source(true),
-        )
-        .map_err(RenderError::Memory)?;
-    let group: Group<'static> = WARNING
+    let sheets = [Stylesheet::plain(), Stylesheet::styled(), own_sheet()];
+    let group: Group<'a> = WARNING
         .primary_title("unused é")
         .element(alloc, Element::from(snippet))
         .map_err(RenderError::Memory)?;
-    let sheets = [Stylesheet::plain(), Stylesheet::styled(), own_sheet()];
     renderer.render_sheets(alloc, &[group], &sheets)
+}
+
+/// The texts of the same report, built by hand.
+fn built(alloc: Global) -> Result<Vec<String>, Fail> {
+    let here = AnnotationKind::Primary
+        .span(4..5)
+        .label(OptionCow::from("here"))
+        .highlight_source(true);
+    let snippet = Snippet::source(alloc, "let x = 1;\nlet y = 2;\n")
+        .line_start(18446744073709551612)
+        .annotation(AnnotationKind::Context.span(15..16))?
+        .annotation(here)?;
+    Ok(texts(alloc, snippet)?)
 }
 
 #[test]
