@@ -1,0 +1,69 @@
+//! What becomes of a case: texts or a refusal.
+
+use crate::build::{groups_of, renderer_of};
+use crate::case::Case;
+use annotate_snippets::renderer::RenderError;
+use serde_json::{Value, json};
+use std::alloc::{AllocError, Global};
+
+/// What becomes of a case.
+#[derive(Debug, Drop)]
+pub enum Outcome {
+    /// A text under each sheet, in order.
+    Texts(Vec<String>),
+    /// The name of the refusal, and what it prints.
+    Refused(&'static str, String),
+}
+
+/// What becomes of a case.
+pub fn outcome_of(alloc: Global, case: &Case<'_>) -> Result<Outcome, AllocError> {
+    match texts_of(alloc, case) {
+        Ok(texts) => Ok(Outcome::Texts(texts)),
+        Err(RenderError::Memory(refused)) => Err(refused),
+        Err(refusal) => Ok(Outcome::Refused(name_of(&refusal), format!(in alloc; "{refusal}")?)),
+    }
+}
+
+/// The texts of a case, one under each sheet.
+fn texts_of(alloc: Global, case: &Case<'_>) -> Result<Vec<String>, RenderError> {
+    let renderer = renderer_of(case.settings)?;
+    let groups = groups_of(alloc, &case.groups)?;
+    renderer.render_sheets(alloc, &groups, &case.sheets)
+}
+
+/// The name of a refusal.
+fn name_of(refusal: &RenderError) -> &'static str {
+    match refusal {
+        RenderError::NoGroup => "NoGroup",
+        RenderError::NoTitle => "NoTitle",
+        RenderError::SpanReversed { .. } => "SpanReversed",
+        RenderError::SpanPastEnd { .. } => "SpanPastEnd",
+        RenderError::SpanOffBoundary { .. } => "SpanOffBoundary",
+        RenderError::PatchesOverlap { .. } => "PatchesOverlap",
+        RenderError::LineNumberTooLarge { .. } => "LineNumberTooLarge",
+        RenderError::Memory(_) => "Memory",
+        RenderError::NotYet => "NotYet",
+    }
+}
+
+/// The answer to a case, as JSON.
+pub fn answer_of(alloc: Global, id: &str, outcome: Outcome) -> Result<Value, AllocError> {
+    match outcome {
+        Outcome::Texts(texts) => {
+            let texts = values_of(alloc, texts)?;
+            json!(in alloc; {"id": id, "ok": texts})
+        }
+        Outcome::Refused(name, text) => {
+            json!(in alloc; {"id": id, "refused": name, "text": text})
+        }
+    }
+}
+
+/// The texts as values of JSON, in order.
+fn values_of(alloc: Global, texts: Vec<String>) -> Result<Vec<Value>, AllocError> {
+    let mut values = Vec::new(alloc);
+    for text in texts {
+        values.push(Value::String(text))?;
+    }
+    Ok(values)
+}

@@ -1,0 +1,92 @@
+//! How long drawing takes.
+
+use crate::build::{groups_of, renderer_of};
+use crate::case::Case;
+use crate::lines::value_of;
+use crate::read::case_of;
+use crate::trouble::Trouble;
+use annotate_snippets::renderer::RenderError;
+use std::alloc::Global;
+use std::io;
+use std::io::{BufRead, Write};
+use std::rt::Clock;
+use std::time::{Duration, Instant};
+
+/// What was drawn, and in which time.
+#[derive(Clone, Copy, Debug, Default, PartialEq, Eq)]
+pub struct Tally {
+    pub texts: u64,
+    pub bytes: u64,
+    pub time: Duration,
+}
+
+/// Draws each case this many times.
+pub fn repeat_lines<K: Clock, B: BufRead + Drop>(
+    clock: &K,
+    alloc: Global,
+    input: B,
+    times: u64,
+    tally: &mut Tally,
+) -> Result<(), Trouble> {
+    let mut number = 0u64;
+    for line in input.lines(alloc) {
+        number = number.saturating_add(1);
+        let value = value_of(alloc, line).map_err(|unread| unread.of_case(number))?;
+        let case = case_of(alloc, &value).map_err(|fault| Trouble::Case(number, fault))?;
+        *tally = repeat_case(clock, alloc, &case, times, *tally)?;
+    }
+    Ok(())
+}
+
+/// The tally with one case drawn this many times more. A case that is refused adds nothing.
+fn repeat_case<K: Clock>(
+    clock: &K,
+    alloc: Global,
+    case: &Case<'_>,
+    times: u64,
+    tally: Tally,
+) -> Result<Tally, Trouble> {
+    let start = Instant::now(clock).map_err(Trouble::Clock)?;
+    let mut drawn = match draw_often(alloc, case, times, tally) {
+        Ok(drawn) => drawn,
+        Err(RenderError::Memory(refused)) => return Err(Trouble::from(refused)),
+        Err(_) => return Ok(tally),
+    };
+    let taken = start.elapsed(clock).map_err(Trouble::Clock)?;
+    drawn.time = drawn.time.saturating_add(taken);
+    Ok(drawn)
+}
+
+/// The tally with the texts of one case, built once and drawn this many times.
+fn draw_often(
+    alloc: Global,
+    case: &Case<'_>,
+    times: u64,
+    tally: Tally,
+) -> Result<Tally, RenderError> {
+    let renderer = renderer_of(case.settings)?;
+    let groups = groups_of(alloc, &case.groups)?;
+    let mut drawn = tally;
+    for _ in 0..times {
+        let texts = renderer.render_sheets(alloc, &groups, &case.sheets)?;
+        drawn = with_texts(drawn, &texts);
+    }
+    Ok(drawn)
+}
+
+/// The tally with these texts more.
+fn with_texts(tally: Tally, texts: &[String]) -> Tally {
+    let mut with = tally;
+    for text in texts {
+        with.texts = with.texts.saturating_add(1);
+        with.bytes = with.bytes.saturating_add(text.len() as u64);
+    }
+    with
+}
+
+/// Prints what was drawn, and in which time.
+pub fn write_tally<W: Write>(tally: &Tally, out: &mut W) -> io::Result<()> {
+    let Tally { texts, bytes, time } = *tally;
+    let (seconds, thousandths) = (time.as_secs(), time.subsec_millis());
+    out.writeln(format_args!("{texts} texts, {bytes} bytes, {seconds}.{thousandths:03} seconds"))
+}

@@ -1,0 +1,138 @@
+//! The objects of the format, and what may stand where.
+
+use std::fmt;
+
+/// An object of the format, which has fields of its own names.
+#[derive(Clone, Copy, Debug, PartialEq, Eq)]
+pub enum Shape {
+    Case,
+    Settings,
+    Sheet,
+    Style,
+    Color,
+    Group,
+    Title,
+    Level,
+    Element,
+    Message,
+    Cause,
+    Suggestion,
+    Annotation,
+    Patch,
+    Origin,
+    Padding,
+    Texts,
+    Refusal,
+}
+
+impl Shape {
+    /// The names of its fields.
+    pub fn names(self) -> &'static [&'static str] {
+        match self {
+            Shape::Case => &["id", "settings", "sheets", "groups"],
+            Shape::Settings => &[
+                "no_graphics",
+                "short_message",
+                "term_width",
+                "unicode",
+                "anonymized_snippet",
+                "anonymized_origin",
+                "hyperlink",
+            ],
+            Shape::Sheet => &[
+                "error", "warning", "info", "note", "help", "line_num", "emphasis", "none",
+                "context", "addition", "removal",
+            ],
+            Shape::Style => &["fg", "bg", "effects"],
+            Shape::Color => &["ansi256", "rgb"],
+            Shape::Group => &["title", "level", "elements"],
+            Shape::Title => &["level", "text", "primary", "id", "url"],
+            Shape::Level => &["kind", "name"],
+            Shape::Element => &["message", "cause", "suggestion", "origin", "padding"],
+            Shape::Message => &["level", "text"],
+            Shape::Cause => &[
+                "source",
+                "path",
+                "line_start",
+                "line_numbering",
+                "fold",
+                "annotations",
+            ],
+            Shape::Suggestion => &[
+                "source",
+                "path",
+                "line_start",
+                "line_numbering",
+                "fold",
+                "patches",
+            ],
+            Shape::Annotation => &["kind", "start", "end", "label", "highlight_source"],
+            Shape::Patch => &["start", "end", "text"],
+            Shape::Origin => &["path", "line", "column"],
+            Shape::Padding => &[],
+            Shape::Texts => &["id", "ok"],
+            Shape::Refusal => &["id", "refused", "text"],
+        }
+    }
+
+    /// Whether it has a field of this name.
+    pub fn has(self, name: &str) -> bool {
+        for known in self.names() {
+            if *known == name {
+                return true;
+            }
+        }
+        false
+    }
+}
+
+/// What has to stand at a place.
+#[derive(Clone, Copy, Debug, PartialEq, Eq)]
+pub enum Expectation {
+    Text,
+    Number,
+    Byte,
+    Flag,
+    List,
+    Object,
+    ObjectOrNull,
+    LevelKind,
+    AnnotationKind,
+    Element,
+    Sheet,
+    Color,
+    Rgb,
+    Effect,
+}
+
+impl Expectation {
+    /// In words.
+    fn words(self) -> &'static str {
+        match self {
+            Expectation::Text => "a text of fewer than 2^56 bytes",
+            Expectation::Number => "a whole number from 0 to 18446744073709551615",
+            Expectation::Byte => "a whole number from 0 to 255",
+            Expectation::Flag => "true or false",
+            Expectation::List => "a list",
+            Expectation::Object => "an object",
+            Expectation::ObjectOrNull => "an object or null",
+            Expectation::LevelKind => "\"error\", \"warning\", \"info\", \"note\" or \"help\"",
+            Expectation::AnnotationKind => "\"primary\", \"context\" or \"visible\"",
+            Expectation::Element => {
+                "an object with one of message, cause, suggestion, origin and padding"
+            }
+            Expectation::Sheet => "\"plain\", \"default\" or an object",
+            Expectation::Color => {
+                "the name of a colour, as \"BrightRed\", or an object with ansi256 or rgb"
+            }
+            Expectation::Rgb => "a list of three whole numbers from 0 to 255",
+            Expectation::Effect => "the name of an effect, as \"BOLD\"",
+        }
+    }
+}
+
+impl fmt::Display for Expectation {
+    fn fmt<W: fmt::Write>(&self, f: &mut fmt::Formatter<W>) -> fmt::Result {
+        f.write_str(self.words())
+    }
+}
