@@ -58,16 +58,21 @@ pub fn run<R: Files + Input + Clock + AllocGlobal, W: Write, V: Write>(
         let _ = err.writeln(USAGE);
         return STOPPED;
     };
-    let done = do_command(rt, &command, out);
-    let flushed = out.flush();
-    match done {
-        Ok(status) if flushed.is_ok() => status,
-        Ok(_) => STOPPED,
+    let stop = match do_command(rt, &command, out) {
+        Ok(status) => match out.flush() {
+            Ok(()) => return status,
+            Err(error) => Stop {
+                file: OUTPUT,
+                trouble: Trouble::Write(error),
+            },
+        },
         Err(stop) => {
-            tell(rt.alloc(), &stop, err);
-            STOPPED
+            let _ = out.flush();
+            stop
         }
-    }
+    };
+    tell(rt.alloc(), &stop, err);
+    STOPPED
 }
 
 /// Writes what stopped the run, with nothing in it that could change how a terminal shows it.
@@ -118,7 +123,7 @@ fn answer<'a, R: Files + Input + AllocGlobal, W: Write>(
 {
     let mut is_first = true;
     if files.is_empty() {
-        answer_lines(rt.alloc(), rt.reader(), form, &mut is_first, out).map_err(|trouble| Stop {
+        answer_input(rt, form, &mut is_first, out).map_err(|trouble| Stop {
             file: INPUT,
             trouble,
         })?;
@@ -130,6 +135,17 @@ fn answer<'a, R: Files + Input + AllocGlobal, W: Write>(
         })?;
     }
     Ok(DONE)
+}
+
+/// Answers the cases of standard input.
+fn answer_input<R: Input + AllocGlobal, W: Write>(
+    rt: &R,
+    form: Form,
+    is_first: &mut bool,
+    out: &mut W,
+) -> Result<(), Trouble> {
+    let input = BufReader::new(rt.alloc(), rt.reader()).map_err(Trouble::Read)?;
+    answer_lines(rt.alloc(), input, form, is_first, out)
 }
 
 /// Answers the cases of one file.
@@ -198,7 +214,7 @@ fn repeat<'a, R: Files + Input + Clock + AllocGlobal, W: Write>(
 {
     let mut tally = Tally::default();
     if files.is_empty() {
-        repeat_lines(rt, rt.alloc(), rt.reader(), times, &mut tally).map_err(|trouble| Stop {
+        repeat_input(rt, times, &mut tally).map_err(|trouble| Stop {
             file: INPUT,
             trouble,
         })?;
@@ -214,6 +230,16 @@ fn repeat<'a, R: Files + Input + Clock + AllocGlobal, W: Write>(
         trouble: Trouble::Write(error),
     })?;
     Ok(DONE)
+}
+
+/// Draws each case of standard input this many times.
+fn repeat_input<R: Input + Clock + AllocGlobal>(
+    rt: &R,
+    times: u64,
+    tally: &mut Tally,
+) -> Result<(), Trouble> {
+    let input = BufReader::new(rt.alloc(), rt.reader()).map_err(Trouble::Read)?;
+    repeat_lines(rt, rt.alloc(), input, times, tally)
 }
 
 /// Draws each case of one file this many times.
