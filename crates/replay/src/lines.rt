@@ -23,7 +23,7 @@ pub enum Form {
     Texts,
 }
 
-/// Answers each line. `is_first` tells whether nothing was written before, and then whether that is still so.
+/// Answers each line before the next one is waited for. `is_first` tells whether nothing was written before, and then whether that is still so.
 pub fn answer_lines<B: BufRead + Drop, W: Write>(
     alloc: Global,
     input: B,
