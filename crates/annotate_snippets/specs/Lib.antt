@@ -5,7 +5,6 @@ pub mod Levels
 pub mod Page
 pub mod Settings
 pub mod Shown
-
 pub use Rattle.snippet_model.specs.Fits
 pub use Rattle.snippet_model.specs.Level
 pub use Rattle.snippet_model.specs.Trusted

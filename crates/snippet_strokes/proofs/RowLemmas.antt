@@ -11,7 +11,7 @@ use Rattle.snippet_style.specs.declared.glyphs.DecorStyle.TheVariants.{Ascii, Un
 use Rattle.snippet_style.specs.declared.role.ElementStyle.TheVariants.{LineNumber, Quotation}
 use Rattle.snippet_style.specs.Glyphs.{separator_of, closing_of, file_start_of}
 use Rattle.snippet_style.specs.Grid.{Cell, SPACE, drawn, unlinked_cell, written, cells_written}
-use Rattle.snippet_style.proofs.GridLemmas.{length-chars_le, length-drawn, length-written, drop-written, take-written_past, cells_written_below, cells_written_last, slice_index_or-written_before, slice_index_or-written_behind, All-drawn}
+use Rattle.snippet_style.proofs.GridLemmas.{length-chars_le, length-drawn, length-written, drop-written, take-written_past, cells_written_below, cells_written_last, slice_index_or-written_before, slice_index_or-written_behind}
 use Rattle.snippet_text.specs.Normalized.{is_listed}
 use Rattle.snippet_strokes.specs.Painting.{IsFreeCell}
 use Rattle.snippet_strokes.proofs.DrawLemmas.{free_drawn}

@@ -11,7 +11,7 @@ use Rattle.snippet_style.specs.declared.role.ElementStyle.TheVariants.{Quotation
 use Rattle.snippet_style.specs.Grid.{Cell, SPACE, row_at}
 use Rattle.snippet_style.specs.Print.{row_text}
 use Rattle.snippet_style.proofs.GridLemmas.{length-drawn}
-use Rattle.snippet_text.specs.Normalized.{is_listed, norm}
+use Rattle.snippet_text.specs.Normalized.{norm}
 use Rattle.snippet_strokes.specs.Painting.{IsFreeCell}
 use Rattle.snippet_strokes.specs.declared.layout.Layout.{Layout}
 use Rattle.snippet_strokes.specs.Rows.{shown_number, first_row, HasNoNumber, IsFree, IsSourceRow, IsStrokeRow, IsHighlighted, AddsSourceRow, AddsStrokes}

@@ -13,7 +13,6 @@ use Rattle.snippet_parts.specs.declared.entries.LineAnnotation.{LineAnnotation}
 use Rattle.snippet_parts.specs.Marked.{HasColumns}
 use Rattle.snippet_style.specs.Grid.{Cell, SPACE, cell_at, row_at, drawn, written, cells_written}
 use Rattle.snippet_style.proofs.GridLemmas.{length-written, take-written_past, drop-written, row_at-cells_written_same}
-use Rattle.snippet_text.specs.Normalized.{is_listed}
 use Rattle.snippet_strokes.specs.declared.layout.Layout.{Layout}
 use Rattle.snippet_strokes.specs.declared.positions.PlacedEntry.{PlacedEntry}
 use Rattle.snippet_strokes.specs.Entries.{EntryCovers, label_text, label_role}

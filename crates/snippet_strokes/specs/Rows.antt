@@ -11,7 +11,6 @@ use Rattle.snippet_style.specs.declared.role.ElementStyle.{ElementStyle}
 use Rattle.snippet_style.specs.declared.role.ElementStyle.TheVariants.{LineNumber, Quotation, UnderlinePrimary, UnderlineSecondary}
 use Rattle.snippet_style.specs.Glyphs.{separator_of, closing_of, file_start_of, underline_role}
 use Rattle.snippet_style.specs.Grid.{Cell, SPACE, drawn, unlinked_cell, row_at, cell_at, gives_way, restyled}
-use Rattle.snippet_text.specs.Normalized.{is_listed}
 use Rattle.snippet_strokes.specs.declared.layout.Layout.{Layout}
 use Rattle.snippet_strokes.specs.Entries.{EntryCovers, is_primary, IsEntryMark, IsMarkCell, label_text, label_role}
 use Rattle.snippet_strokes.specs.Painting.{IsFreeCell, StandsFrom}
