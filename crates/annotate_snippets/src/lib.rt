@@ -7,8 +7,6 @@
 pub mod level;
 pub mod renderer;
 pub mod snippet;
-#[cfg(test)]
-mod tests;
 pub mod text;
 
 pub use renderer::Renderer;

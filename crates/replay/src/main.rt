@@ -3,26 +3,7 @@
 //! `replay [--text] [FILE ..]`, `replay --check EXPECTED FILE [EXPECTED FILE ..]`, `replay --repeat N [FILE ..]`
 #![tactic(auto)]
 
-mod build;
-mod case;
-mod check;
-mod command;
-mod expected;
-mod fault;
-mod lines;
-mod node;
-mod outcome;
-mod read;
-mod read_style;
-mod repeat;
-mod run;
-mod scalars;
-mod shape;
-#[cfg(test)]
-mod tests;
-mod trouble;
-
-use run::run;
+use replay_run::run::run;
 use std::env;
 use std::io::{self, BufWriter};
 use std::process::ExitCode;

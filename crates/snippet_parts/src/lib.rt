@@ -11,8 +11,6 @@ pub mod place;
 pub mod prepare;
 pub mod source_map;
 pub mod span;
-#[cfg(test)]
-mod tests;
 pub mod window;
 
 pub use counts::{line_feed_count, newline_count_before};

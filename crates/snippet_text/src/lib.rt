@@ -4,8 +4,6 @@
 
 mod limit;
 mod normalize;
-#[cfg(test)]
-mod tests;
 mod width;
 
 pub use limit::text_fits;

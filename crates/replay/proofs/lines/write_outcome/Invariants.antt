@@ -1,5 +1,0 @@
-use Rattle.replay.specs.Growth.{Grows}
-use Rattle.replay.proofs.lines.write_outcome.Given as goal
-
-abbrev pub invariant-loop-text : goal.invariant-loop-text
-invariant-loop-text g l = Grows (g.W.Write.contents l.initial.out) (g.W.Write.contents l.out)

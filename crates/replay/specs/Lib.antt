@@ -1,2 +1,0 @@
-pub mod Growth
-pub mod Words

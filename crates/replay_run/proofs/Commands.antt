@@ -1,0 +1,48 @@
+-- Words ask for one command at most.
+use Rattle.std.proofs.Common.{◌≡◌, true, false, List, ◌∷◌, ◌++◌, refl, sym, ap, ◌∙◌, subst}
+use Rattle.std.specs.Prelude.{codes, bytes_eq}
+use Rattle.std.proofs.lemmas.Bool.{false≢true}
+use Rattle.std.proofs.lemmas.List.Elements.{All-head}
+use Rattle.replay_run.specs.declared.command.Command.{Command}
+use Rattle.replay_run.specs.declared.command.Command.TheVariants.{Answer, Check, Repeat}
+use Rattle.replay_run.specs.declared.lines.Form.TheVariants.{Json, Texts}
+use Rattle.replay_run.specs.Words.{Word, words_at, IsOption, AreFiles, ArePairs, IsNumber, Asks}
+
+-- lists that begin with two words that a test tells apart
+apart : (a b : Word) (xs ys : List Word) → bytes_eq a b ≡ false → bytes_eq b b ≡ true → a ∷ xs ≡ b ∷ ys → ⊥
+apart a b xs ys differ same e =
+    let head : a ≡ b = cc in
+    false≢true (sym differ ∙ ap (λ (w : Word). bytes_eq w b) head ∙ same)
+
+-- an option names no file
+no_file : (name : Word) (ws : List Word) → AreFiles ((codes "--" ++ name) ∷ ws) → ⊥
+no_file name ws files = All-head (λ w. IsOption w → ⊥) (codes "--" ++ name) ws files (name, refl)
+
+pub asks_texts : (ws : List Word) (c : Command) → Asks (codes "--text" ∷ ws) c → AreFiles ws
+asks_texts ws (Answer Json files) h = absurd (no_file (codes "text") ws h.1)
+asks_texts ws (Answer Texts files) h =
+    let rest : ws ≡ words_at files.now = cc h.0 in
+    subst AreFiles (sym rest) h.1
+asks_texts ws (Check files) h =
+    absurd (apart (codes "--text") (codes "--check") ws (words_at files.now) refl refl h.0)
+asks_texts ws (Repeat times files) h =
+    absurd (apart (codes "--text") (codes "--repeat") ws (h.0 ∷ words_at files.now) refl refl h.1)
+
+pub asks_check : (ws : List Word) (c : Command) → Asks (codes "--check" ∷ ws) c → AreFiles ws × ArePairs ws
+asks_check ws (Answer Json files) h = absurd (no_file (codes "check") ws h.1)
+asks_check ws (Answer Texts files) h =
+    absurd (apart (codes "--check") (codes "--text") ws (words_at files.now) refl refl h.0)
+asks_check ws (Check files) h =
+    let rest : ws ≡ words_at files.now = cc h.0 in
+    (subst AreFiles (sym rest) h.1, subst ArePairs (sym rest) h.2)
+asks_check ws (Repeat times files) h =
+    absurd (apart (codes "--check") (codes "--repeat") ws (h.0 ∷ words_at files.now) refl refl h.1)
+
+pub asks_repeat : (ws : List Word) (c : Command) → Asks (codes "--repeat" ∷ ws) c → (digits : Word) × (files : List Word) × (ws ≡ digits ∷ files) × IsNumber digits × AreFiles files
+asks_repeat ws (Answer Json files) h = absurd (no_file (codes "repeat") ws h.1)
+asks_repeat ws (Answer Texts files) h =
+    absurd (apart (codes "--repeat") (codes "--text") ws (words_at files.now) refl refl h.0)
+asks_repeat ws (Check files) h =
+    absurd (apart (codes "--repeat") (codes "--check") ws (words_at files.now) refl refl h.0)
+asks_repeat ws (Repeat times files) h =
+    (h.0, words_at files.now, cc h.1, h.3, h.2)

@@ -1,0 +1,55 @@
+-- What the words of a command line ask for.
+use Rattle.std.specs.Prelude.{◌≡◌, ℕ, ◌%◌, ◌^◌, ◌<◌, List, ◌∷◌, ◌++◌, codes, length, map, All}
+use Rattle.std.specs.Borrow.{Bor}
+use Rattle.std.specs.Str.Parse.{IsNumeral, digits_value}
+use Rattle.replay_run.specs.declared.command.Command.{Command}
+use Rattle.replay_run.specs.declared.command.Command.TheVariants.{Answer, Check, Repeat}
+use Rattle.replay_run.specs.declared.lines.Form.TheVariants.{Json, Texts}
+
+-- a word, by its bytes
+abbrev pub Word : Type 0
+Word = List ℕ
+
+-- the words that a list of references leads to
+abbrev pub words_at : List (Bor Word) → List Word
+words_at refs = map (λ (w : Bor Word). w.now) refs
+
+-- a word that begins as an option does
+abbrev pub IsOption : Word → Type 0
+IsOption word = (name : Word) × (word ≡ codes "--" ++ name)
+
+-- each word names a file: none begins as an option does
+abbrev pub AreFiles : List Word → Type 0
+AreFiles words = All (λ word. IsOption word → ⊥) words
+
+-- decimal digits alone, one or more, whose number fits in 64 bits
+abbrev pub IsNumber : Word → Type 0
+IsNumber word = IsNumeral 10 word × (digits_value 10 word < 2 ^ 64)
+
+-- one pair or more
+abbrev pub ArePairs : List Word → Type 0
+ArePairs words = (0 < length words) × (length words % 2 ≡ 0)
+
+-- the words ask for this command
+abbrev pub Asks : List Word → Command → Type 0
+Asks words (Answer Json files) = (words ≡ words_at files.now) × AreFiles words
+Asks words (Answer Texts files) =
+    (words ≡ codes "--text" ∷ words_at files.now) × AreFiles (words_at files.now)
+Asks words (Check files) =
+    (words ≡ codes "--check" ∷ words_at files.now) × AreFiles (words_at files.now) × ArePairs (words_at files.now)
+Asks words (Repeat times files) =
+    (digits : Word) × (words ≡ codes "--repeat" ∷ digits ∷ words_at files.now) × AreFiles (words_at files.now) × IsNumber digits × (times ≡ digits_value 10 digits)
+
+-- the words are of the form
+abbrev pub IsCommandLine : List Word → Type 0
+IsCommandLine words = (command : Command) × Asks words command
+
+-- the command compares answers with those that are expected
+abbrev pub IsComparison : Command → Type 0
+IsComparison (Answer form files) = ⊥
+IsComparison (Check files) = Unit {0}
+IsComparison (Repeat times files) = ⊥
+
+-- the words ask for a comparison
+abbrev pub Compares : List Word → Type 0
+Compares words = (command : Command) × Asks words command × IsComparison command

@@ -1,0 +1,111 @@
+//! What is expected of a case, as a line of JSON says it.
+
+ghost use Rattle.std.specs.Prelude.{◌≡◌, ◌↔◌, IsTrue, map, string_bytes};
+ghost use Rattle.replay_run.specs.Expected.{IsMet, IsWanted};
+
+use crate::case::Text;
+use crate::fault::{Fault, Place};
+use crate::node::{Node, Read};
+use crate::outcome::Outcome;
+use crate::shape::Shape;
+use serde_json::Value;
+use std::alloc::Global;
+use std::io;
+use std::io::Write;
+
+/// What is expected of a case.
+#[derive(Drop)]
+pub struct Expected<'v> {
+    /// The case's name.
+    pub id: &'v str,
+    pub wanted: Wanted<'v>,
+}
+
+/// What is to become of a case.
+#[derive(Drop)]
+pub enum Wanted<'v> {
+    /// These texts, in order.
+    Texts(Vec<Text<'v>>),
+    /// A refusal of this name, which prints this.
+    Refused(Text<'v>, Text<'v>),
+}
+
+/// The answer that a line expects.
+pub fn expected_of<'v>(alloc: Global, line: &'v Value) -> Result<Expected<'v>, Fault> {
+    let place = Place::Line;
+    let answer = Node {
+        alloc,
+        value: line,
+        place: &place,
+    };
+    let id: Text<'v> = answer.needed("id")?;
+    Ok(Expected {
+        id: id.text,
+        wanted: wanted_of(answer)?,
+    })
+}
+
+/// What the answer's other fields want.
+fn wanted_of<'v>(answer: Node<'v, '_>) -> Result<Wanted<'v>, Fault> {
+    if let Some(name) = answer.optional("refused")? {
+        answer.has_only(Shape::Refusal)?;
+        return Ok(Wanted::Refused(name, answer.needed("text")?));
+    }
+    answer.has_only(Shape::Texts)?;
+    Ok(Wanted::Texts(answer.needed("ok")?))
+}
+
+impl Expected<'_> {
+    /// Whether the case of this name became what is expected.
+    pub fn is_met_by(&self, id: &str, outcome: &Outcome) -> bool
+        ensures meets { IsTrue result ↔ IsMet self.now id.now outcome.now }
+    {
+        self.id == id && is_wanted(&self.wanted, outcome)
+    }
+}
+
+/// Whether an outcome is the wanted one.
+fn is_wanted(wanted: &Wanted<'_>, outcome: &Outcome) -> bool
+    ensures wanted { IsTrue result ↔ IsWanted wanted.now outcome.now }
+{
+    match outcome {
+        Outcome::Texts(texts) => match wanted {
+            Wanted::Texts(wanted) => are_equal(wanted, texts),
+            Wanted::Refused(_, _) => false,
+        },
+        Outcome::Refused(name, text) => match wanted {
+            Wanted::Texts(_) => false,
+            Wanted::Refused(wanted, words) => {
+                wanted.text == *name && words.text == text.as_str()
+            }
+        },
+    }
+}
+
+/// Whether the texts are equal, one by one.
+fn are_equal(wanted: &[Text<'_>], texts: &[String]) -> bool
+    ensures equal { IsTrue result ↔ (map (λ t. t.text.now) wanted.now ≡ map string_bytes texts.now) }
+{
+    if wanted.len() != texts.len() {
+        return false;
+    }
+    for i in 0..texts.len() {
+        if wanted[i].text != texts[i].as_str() {
+            return false;
+        }
+    }
+    true
+}
+
+/// Writes each text, or what the refusal prints.
+pub fn write_wanted<W: Write>(wanted: &Wanted<'_>, out: &mut W) -> io::Result<()> {
+    match wanted {
+        Wanted::Texts(texts) => {
+            for text in texts {
+                out.writeln(text.text)?;
+            }
+            Ok(())
+        }
+        Wanted::Refused(_, text) => out.writeln(text.text),
+    }
+}

@@ -1,0 +1,140 @@
+//! Lines of cases, answered one after another. Nothing of a line is kept behind it.
+
+ghost use Rattle.std.specs.Prelude.{[], ◌∷◌, ◌++◌, OnOk};
+ghost use Rattle.std.specs.Io.KnownBytes.{Appends};
+ghost use Rattle.replay_run.specs.Growth.{Grows};
+
+use crate::case::Case;
+use crate::fault::Fault;
+use crate::outcome::{Outcome, answer_of, outcome_of};
+use crate::read::case_of;
+use crate::trouble::{Trouble, Unread};
+use serde_json::Value;
+use std::alloc::Global;
+use std::io;
+use std::io::{BufRead, Write};
+
+/// How answers are written.
+#[derive(Clone, Copy, Debug, PartialEq, Eq)]
+pub enum Form {
+    /// As JSON, one a line.
+    Json,
+    /// As texts, with a blank line between reports.
+    Texts,
+}
+
+/// Answers each line before the next one is waited for. `is_first` tells whether nothing was written before, and then whether that is still so.
+pub fn answer_lines<B: BufRead + Drop, W: Write>(
+    alloc: Global,
+    input: B,
+    form: Form,
+    is_first: &mut bool,
+    out: &mut W,
+) -> Result<(), Trouble>
+    ensures added { OnOk result (Grows (W.contents out.old) (W.contents out.new)) }
+{
+    let mut number = 0u64;
+    for line in input.lines(alloc) {
+        number = number.saturating_add(1);
+        answer_line(alloc, line, number, form, *is_first, out)?;
+        out.flush().map_err(Trouble::Write)?;
+        *is_first = false;
+    }
+    Ok(())
+}
+
+/// Answers the line of this number.
+fn answer_line<W: Write>(
+    alloc: Global,
+    line: io::Result<String>,
+    number: u64,
+    form: Form,
+    is_first: bool,
+    out: &mut W,
+) -> Result<(), Trouble>
+    ensures added { OnOk result (Grows (W.contents out.old) (W.contents out.new)) }
+{
+    let value = value_of(alloc, line).map_err(|unread| unread.of_case(number))?;
+    let case = case_of(alloc, &value).map_err(|fault| Trouble::Case(number, fault))?;
+    write_answer(alloc, &case, form, is_first, out)
+}
+
+/// What a line holds.
+pub fn value_of(alloc: Global, line: io::Result<String>) -> Result<Value, Unread> {
+    match line {
+        Ok(line) => json_of(alloc, line.as_str()).map_err(Unread::Fault),
+        Err(error) if error.kind() == io::ErrorKind::InvalidData => {
+            Err(Unread::Fault(Fault::NoText))
+        }
+        Err(error) => Err(Unread::Io(error)),
+    }
+}
+
+/// The value that a line writes.
+fn json_of(alloc: Global, line: &str) -> Result<Value, Fault> {
+    Value::from_str(alloc, line).map_err(Fault::NoJson)
+}
+
+/// Writes the answer to a case.
+fn write_answer<W: Write>(
+    alloc: Global,
+    case: &Case<'_>,
+    form: Form,
+    is_first: bool,
+    out: &mut W,
+) -> Result<(), Trouble>
+    ensures added { OnOk result (Grows (W.contents out.old) (W.contents out.new)) }
+{
+    let outcome = outcome_of(alloc, case)?;
+    let written = match form {
+        Form::Json => {
+            let line = answer_of(alloc, case.id, outcome)?.to_string(alloc)?;
+            write_line(line.as_str(), out)
+        }
+        Form::Texts => write_report(&outcome, is_first, out),
+    };
+    written.map_err(Trouble::Write)
+}
+
+/// Writes the texts of a report, behind a blank line if they aren't the first.
+fn write_report<W: Write>(outcome: &Outcome, is_first: bool, out: &mut W) -> io::Result<()>
+    ensures added { OnOk result (Grows (W.contents out.old) (W.contents out.new)) }
+{
+    write_gap(is_first, out)?;
+    write_outcome(outcome, out)?;
+    Ok(())
+}
+
+/// Writes a blank line, but not before the first report.
+fn write_gap<W: Write>(is_first: bool, out: &mut W) -> io::Result<()>
+    ensures added { OnOk result (Grows (W.contents out.old) (W.contents out.new)) }
+{
+    if is_first {
+        Ok(())
+    } else {
+        write_line("", out)
+    }
+}
+
+/// Writes a line.
+fn write_line<W: Write>(line: &str, out: &mut W) -> io::Result<()>
+    ensures added { OnOk result (Grows (W.contents out.old) (W.contents out.new)) }
+    ensures line { OnOk result (Appends (W.contents out.old) (W.contents out.new) (line.now ++ 10 ∷ [])) }
+{
+    out.writeln(line)
+}
+
+/// Writes each text, or what the refusal prints.
+pub fn write_outcome<W: Write>(outcome: &Outcome, out: &mut W) -> io::Result<()>
+    ensures added { OnOk result (Grows (W.contents out.old) (W.contents out.new)) }
+{
+    match outcome {
+        Outcome::Texts(texts) => {
+            for text in texts {
+                write_line(text.as_str(), out)?;
+            }
+            Ok(())
+        }
+        Outcome::Refused(_, text) => out.writeln(format_args!("refused: {text}")),
+    }
+}

@@ -1,0 +1,255 @@
+//! A run of the program: what its words ask for is done, and the status tells how it went.
+
+ghost use Rattle.std.specs.Prelude.{◌≡◌, ◌≤◌, IfOk};
+ghost use Rattle.replay_run.specs.Words.{words_at, IsCommandLine, IsComparison, Compares};
+ghost use Rattle.replay_run.specs.declared.command.Command.{Command};
+
+use crate::check::{Counts, check_lines};
+use crate::command::{Command, command_of};
+use crate::lines::{Form, answer_lines};
+use crate::repeat::{Tally, repeat_lines, write_tally};
+use crate::trouble::Trouble;
+use annotate_snippets::text::normalize_untrusted_str;
+use std::alloc::{AllocError, Global};
+use std::io::{BufReader, Write};
+use std::rt::{Clock, Files};
+use std::{fmt, fs};
+
+/// How the words are to be written.
+const USAGE: &str = "usage: replay [--text] [FILE ..]
+       replay --check EXPECTED FILE [EXPECTED FILE ..]
+       replay --repeat N [FILE ..]";
+
+/// The status of a run that did all that was asked, and found nothing that differs.
+const DONE: u8 = 0;
+/// The status of a run that found cases that differ.
+const DIFFERS: u8 = 1;
+/// The status of a run that was stopped, or whose words aren't of the form.
+const STOPPED: u8 = 2;
+
+/// What stopped a run, and the file that was read.
+#[derive(Debug, Drop)]
+struct Stop<'a> {
+    file: &'a str,
+    trouble: Trouble,
+}
+
+impl fmt::Display for Stop<'_> {
+    fn fmt<W: fmt::Write>(&self, f: &mut fmt::Formatter<W>) -> fmt::Result {
+        let file = self.file;
+        let trouble = &self.trouble;
+        write!(f, "replay: {file}: {trouble}")
+    }
+}
+
+/// Runs what the words ask for, and answers the status to end with.
+pub fn run<R: Files + Input + Clock + AllocGlobal, W: Write, V: Write>(
+    rt: &R,
+    words: &[&str],
+    out: &mut W,
+    err: &mut V,
+) -> u8
+    ensures status { result ≤ 2 }
+    ensures usage { (IsCommandLine (words_at words.now) → ⊥) → result ≡ 2 }
+    ensures no_answer { (IsCommandLine (words_at words.now) → ⊥) → out.new ≡ out.old }
+    ensures differs { result ≡ 1 → Compares (words_at words.now) }
+{
+    let Some(command) = command_of(words) else {
+        let _ = err.writeln(USAGE);
+        return STOPPED;
+    };
+    let stop = match do_command(rt, &command, out) {
+        Ok(status) => match out.flush() {
+            Ok(()) => return status,
+            Err(error) => Stop {
+                file: OUTPUT,
+                trouble: Trouble::Write(error),
+            },
+        },
+        Err(stop) => {
+            let _ = out.flush();
+            stop
+        }
+    };
+    tell(rt.alloc(), &stop, err);
+    STOPPED
+}
+
+/// Writes what stopped the run, with nothing in it that could change how a terminal shows it.
+fn tell<V: Write>(alloc: Global, stop: &Stop<'_>, err: &mut V) {
+    match shown(alloc, stop) {
+        Ok(message) => {
+            let _ = err.writeln(message.as_str());
+        }
+        Err(AllocError) => {
+            let _ = err.writeln("replay: out of memory");
+        }
+    }
+}
+
+/// The message of what stopped the run, as it may be shown.
+fn shown(alloc: Global, stop: &Stop<'_>) -> Result<String, AllocError> {
+    let message = format!(in alloc; "{stop}")?;
+    normalize_untrusted_str(alloc, message.as_str())
+}
+
+/// Does what the command asks for, and answers the status that tells what was found.
+fn do_command<'a, R: Files + Input + Clock + AllocGlobal, W: Write>(
+    rt: &R,
+    command: &Command<'a>,
+    out: &mut W,
+) -> Result<u8, Stop<'a>>
+    ensures status { IfOk result (λ status. status ≤ 1) }
+    ensures differs { IfOk result (λ status. status ≡ 1 → IsComparison command.now) }
+{
+    match *command {
+        Command::Answer(form, files) => answer(rt, form, files, out),
+        Command::Check(files) => check(rt, files, out),
+        Command::Repeat(times, files) => repeat(rt, times, files, out),
+    }
+}
+
+/// The name that is shown for standard input.
+const INPUT: &str = "standard input";
+
+/// Answers the cases of the files, or of standard input where there are none.
+fn answer<'a, R: Files + Input + AllocGlobal, W: Write>(
+    rt: &R,
+    form: Form,
+    files: &[&'a str],
+    out: &mut W,
+) -> Result<u8, Stop<'a>>
+    ensures status { IfOk result (λ status. status ≡ 0) }
+{
+    let mut is_first = true;
+    if files.is_empty() {
+        answer_input(rt, form, &mut is_first, out).map_err(|trouble| Stop {
+            file: INPUT,
+            trouble,
+        })?;
+    }
+    for file in files {
+        answer_file(rt, form, file, &mut is_first, out).map_err(|trouble| Stop {
+            file: *file,
+            trouble,
+        })?;
+    }
+    Ok(DONE)
+}
+
+/// Answers the cases of standard input.
+fn answer_input<R: Input + AllocGlobal, W: Write>(
+    rt: &R,
+    form: Form,
+    is_first: &mut bool,
+    out: &mut W,
+) -> Result<(), Trouble> {
+    let input = BufReader::new(rt.alloc(), rt.reader()).map_err(Trouble::Read)?;
+    answer_lines(rt.alloc(), input, form, is_first, out)
+}
+
+/// Answers the cases of one file.
+fn answer_file<R: Files + AllocGlobal, W: Write>(
+    rt: &R,
+    form: Form,
+    file: &str,
+    is_first: &mut bool,
+    out: &mut W,
+) -> Result<(), Trouble> {
+    let input = fs::open(rt, file).map_err(Trouble::Read)?;
+    let input = BufReader::new(rt.alloc(), input).map_err(Trouble::Read)?;
+    answer_lines(rt.alloc(), input, form, is_first, out)
+}
+
+/// Compares each pair of files, and prints the counts.
+fn check<'a, R: Files + AllocGlobal, W: Write>(
+    rt: &R,
+    files: &[&'a str],
+    out: &mut W,
+) -> Result<u8, Stop<'a>>
+    ensures status { IfOk result (λ status. status ≤ 1) }
+{
+    let mut counts = Counts::default();
+    for pair in files.chunks_exact(2) {
+        let more = check_pair(rt, pair[0], pair[1], out).map_err(|trouble| Stop {
+            file: pair[1],
+            trouble,
+        })?;
+        counts = counts.plus(more);
+    }
+    let (passed, failed) = (counts.passed, counts.failed);
+    out.writeln(format_args!("{passed} passed, {failed} failed"))
+        .map_err(|error| Stop {
+            file: OUTPUT,
+            trouble: Trouble::Write(error),
+        })?;
+    Ok(if failed == 0 { DONE } else { DIFFERS })
+}
+
+/// The name that is shown for standard output.
+const OUTPUT: &str = "standard output";
+
+/// Compares the cases of one file with those that are expected.
+fn check_pair<R: Files + AllocGlobal, W: Write>(
+    rt: &R,
+    expected: &str,
+    cases: &str,
+    out: &mut W,
+) -> Result<Counts, Trouble> {
+    let expected = fs::open(rt, expected).map_err(Trouble::Read)?;
+    let expected = BufReader::new(rt.alloc(), expected).map_err(Trouble::Read)?;
+    let cases = fs::open(rt, cases).map_err(Trouble::Read)?;
+    let cases = BufReader::new(rt.alloc(), cases).map_err(Trouble::Read)?;
+    check_lines(rt.alloc(), expected, cases, out)
+}
+
+/// Draws each case of the files, or of standard input, this many times, and prints how long it took.
+fn repeat<'a, R: Files + Input + Clock + AllocGlobal, W: Write>(
+    rt: &R,
+    times: u64,
+    files: &[&'a str],
+    out: &mut W,
+) -> Result<u8, Stop<'a>>
+    ensures status { IfOk result (λ status. status ≡ 0) }
+{
+    let mut tally = Tally::default();
+    if files.is_empty() {
+        repeat_input(rt, times, &mut tally).map_err(|trouble| Stop {
+            file: INPUT,
+            trouble,
+        })?;
+    }
+    for file in files {
+        repeat_file(rt, file, times, &mut tally).map_err(|trouble| Stop {
+            file: *file,
+            trouble,
+        })?;
+    }
+    write_tally(&tally, out).map_err(|error| Stop {
+        file: OUTPUT,
+        trouble: Trouble::Write(error),
+    })?;
+    Ok(DONE)
+}
+
+/// Draws each case of standard input this many times.
+fn repeat_input<R: Input + Clock + AllocGlobal>(
+    rt: &R,
+    times: u64,
+    tally: &mut Tally,
+) -> Result<(), Trouble> {
+    let input = BufReader::new(rt.alloc(), rt.reader()).map_err(Trouble::Read)?;
+    repeat_lines(rt, rt.alloc(), input, times, tally)
+}
+
+/// Draws each case of one file this many times.
+fn repeat_file<R: Files + Clock + AllocGlobal>(
+    rt: &R,
+    file: &str,
+    times: u64,
+    tally: &mut Tally,
+) -> Result<(), Trouble> {
+    let input = fs::open(rt, file).map_err(Trouble::Read)?;
+    let input = BufReader::new(rt.alloc(), input).map_err(Trouble::Read)?;
+    repeat_lines(rt, rt.alloc(), input, times, tally)
+}

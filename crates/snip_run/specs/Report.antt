@@ -1,0 +1,78 @@
+-- The report that a command asks for.
+use Rattle.std.specs.Prelude.{◌≡◌, ℕ, true, false, List, [], ◌∷◌, Some, None, IfSome, unwrap_or, if◌then◌else◌}
+use Rattle.std.specs.Borrow.{Bor}
+use Rattle.std.specs.Cow.{cow_str_bytes}
+use Rattle.std.specs.Option.{option_map}
+use Rattle.annotate_snippets.specs.declared.renderer.DecorStyle.TheVariants.{Ascii, Unicode}
+use Rattle.annotate_snippets.specs.declared.renderer.Renderer.{Renderer}
+use Rattle.annotate_snippets.specs.declared.snippet.Annotation.{Annotation}
+use Rattle.annotate_snippets.specs.declared.snippet.AnnotationKind.TheVariants.{Primary}
+use Rattle.annotate_snippets.specs.declared.snippet.Group.{Group}
+use Rattle.annotate_snippets.specs.declared.snippet.Snippet.{Snippet}
+use Rattle.annotate_snippets.specs.declared.snippet.Title.{Title}
+use Rattle.annotate_snippets.specs.Covered.{IsReportOf}
+use Rattle.annotate_snippets.specs.Levels.{error_level}
+use Rattle.annotate_snippets.specs.Settings.{plain_settings, styled_settings}
+use Rattle.annotate_snippets.specs.Shown.{ShowsReport}
+use Rattle.annotate_snippets.specs.Trusted.{IsOneRow}
+use Rattle.snip_run.specs.Words.{Word, IsCommandOf}
+use Rattle.snip_run.specs.declared.words.Command.{Command}
+use Rattle.snip_run.specs.declared.words.Options.{Options}
+
+-- the settings that options ask for: those of `styled` or of `plain`, but for the strokes and the width
+abbrev pub settings_of : Options → Renderer
+settings_of options =
+    record (if options.styled then styled_settings else plain_settings) {
+      decor_style = if options.unicode then Unicode else Ascii;
+      term_width = unwrap_or options.width 140;
+    }
+
+-- the title of a command's report: an error with the text that the command gives
+pub record IsTitleFor (command : Command) (title : Title) : Type 0 where
+  pub level_is : title.level ≡ error_level
+  pub text : cow_str_bytes title.text ≡ command.title.now
+  pub id : title.id ≡ None
+  pub untrusted : title.allows_styling ≡ false
+
+-- the annotation: a primary one of the bytes that the command gives, with its label
+pub record IsMarkFor (command : Command) (mark : Annotation) : Type 0 where
+  pub kind : mark.kind ≡ Primary
+  pub start : mark.span.start ≡ command.start
+  pub end : mark.span.end ≡ command.end
+  pub label : option_map cow_str_bytes mark.label ≡ option_map (λ (t : Bor (List ℕ)). t.now) command.label
+
+-- the snippet: the whole source, from line 1, with the one annotation
+pub record IsSnippetFor (command : Command) (source : List ℕ) (snippet : Snippet Annotation) : Type 0 where
+  pub mark : Annotation
+  pub mark_is : IsMarkFor command mark
+  pub markers : snippet.markers.items ≡ mark ∷ []
+  pub source_is : cow_str_bytes snippet.source ≡ source
+  pub path : snippet.path ≡ None
+  pub line_start : snippet.line_start ≡ 1
+  pub line_numbering : snippet.line_numbering ≡ true
+  pub fold : snippet.fold ≡ true
+
+-- the report that a command asks for over a source: one group, of the title and the snippet, in the styles of an error
+pub record IsReportFor (command : Command) (source : List ℕ) (groups : List Group) : Type 0 where
+  pub title : Title
+  pub title_is : IsTitleFor command title
+  pub snippet : Snippet Annotation
+  pub snippet_is : IsSnippetFor command source snippet
+  pub parts : IsReportOf title (Some snippet) groups
+  pub kind : parts.group.level ≡ error_level.kind
+
+-- the text shows the command's report over the source, in the settings that its options ask for
+pub record ShowsCommand (command : Command) (source text : List ℕ) : Type 0 where
+  pub groups : List Group
+  pub report : IsReportFor command source groups
+  pub shows : ShowsReport (settings_of command.options) groups (settings_of command.options).stylesheet text
+
+-- the command's label stays on one row
+abbrev pub IsLabelOneRow : Command → Type 0
+IsLabelOneRow command = IfSome command.label (λ t. IsOneRow t.now)
+
+-- the text shows, over the source, the report of the command that the words are, if its label stays on one row
+pub record ShowsWords (words : List Word) (source text : List ℕ) : Type 0 where
+  pub command : Command
+  pub command_is : IsCommandOf words command
+  pub shows : IsLabelOneRow command → ShowsCommand command source text

@@ -1,0 +1,220 @@
+//! What `replay` reads, answers and compares, by texts and a writer in memory.
+ghost use Rattle.annotate_snippets.specs.Fits.{AnnotationFits, SnippetFits};
+
+use annotate_snippets::level::WARNING;
+use annotate_snippets::renderer::{
+    AnsiColor, Color, DecorStyle, Effects, RenderError, Style, Stylesheet,
+};
+use annotate_snippets::{Annotation, AnnotationKind, Element, Group, OptionCow, Renderer, Snippet};
+use replay_run::check::check_lines;
+use replay_run::lines::{Form, answer_lines};
+use replay_run::outcome::{Outcome, outcome_of};
+use replay_run::read::case_of;
+use serde_json::Value;
+use std::alloc::Global;
+use std::io;
+use std::io::Write;
+use std::test::Fail;
+
+/// A report with each field that the library has a call for.
+const FULL: &str = r#"{"id": "full",
+    "settings": {"term_width": 100, "unicode": true, "hyperlink": true, "no_graphics": false,
+        "short_message": false, "anonymized_snippet": false, "anonymized_origin": false},
+    "sheets": ["plain", "default", {"warning": {"fg": {"rgb": [1, 2, 255]}, "bg": {"ansi256": 7},
+        "effects": ["ITALIC", "UNDERLINE"]}, "context": {"fg": "BrightCyan"}}],
+    "groups": [{"title": {"level": {"kind": "warning"}, "text": "unused \u00e9", "primary": true,
+            "id": "W1", "url": "https://a.example/W1"},
+        "elements": [{"cause": {"source": "let x = 1;\nlet y = 2;\n", "line_start": 18446744073709551612,
+            "line_numbering": true, "fold": true, "annotations": [
+                {"kind": "context", "start": 15, "end": 16},
+                {"kind": "primary", "start": 4, "end": 5, "label": "here", "highlight_source": true}]}}]}]}"#;
+
+/// The sheet that is written out in it.
+fn own_sheet() -> Stylesheet {
+    Stylesheet {
+        warning: Style::new()
+            .fg_color(Some(Color::Rgb(1, 2, 255)))
+            .bg_color(Some(Color::Ansi256(7)))
+            .effects(Effects::ITALIC.insert(Effects::UNDERLINE)),
+        context: Style::new().fg_color(Some(Color::Ansi(AnsiColor::BrightCyan))),
+        ..Stylesheet::plain()
+    }
+}
+
+/// The texts of a report of this snippet, with the other parts of the same report.
+fn texts<'a>(
+    alloc: Global,
+    snippet: Snippet<'a, Annotation<'a>>,
+) -> Result<Vec<String>, RenderError>
+    requires snippet { SnippetFits AnnotationFits snippet }
+{
+    let renderer = Renderer::plain()
+        .term_width(100)
+        .decor_style(DecorStyle::Unicode)
+        .hyperlink(true);
+    let sheets = [Stylesheet::plain(), Stylesheet::styled(), own_sheet()];
+    let group: Group<'a> = WARNING
+        .primary_title("unused é")
+        .id("W1")
+        .id_url("https://a.example/W1")
+        .element(alloc, Element::from(snippet))
+        .map_err(RenderError::Memory)?;
+    renderer.render_sheets(alloc, &[group], &sheets)
+}
+
+/// The texts of the same report, built by hand.
+fn built(alloc: Global) -> Result<Vec<String>, Fail> {
+    let here = AnnotationKind::Primary
+        .span(4..5)
+        .label(OptionCow::from("here"))
+        .highlight_source(true);
+    let snippet = Snippet::source(alloc, "let x = 1;\nlet y = 2;\n")
+        .line_start(18446744073709551612)
+        .annotation(AnnotationKind::Context.span(15..16))?
+        .annotation(here)?;
+    Ok(texts(alloc, snippet)?)
+}
+
+#[test]
+fn reads_each_field(rt: HostRuntime) -> Result<(), Fail> {
+    let alloc = rt.alloc();
+    let value = Value::from_str(alloc, FULL)?;
+    let case = case_of(alloc, &value)?;
+    let wanted = built(alloc)?;
+    assert_eq!(rt; wanted.len(), 3);
+    let Outcome::Texts(texts) = outcome_of(alloc, &case)? else {
+        return Err(Fail::new("refused"));
+    };
+    assert_eq!(rt; texts.as_slice(), wanted.as_slice());
+    Ok(())
+}
+
+#[test]
+fn answers_line_by_line(rt: HostRuntime) -> Result<(), Fail> {
+    let rows: [(&str, &str, &str); 10] = [
+        ("", "", ""),
+        (
+            "{\"id\": \"a\", \"groups\": []}\n{}\n",
+            "{\"id\":\"a\",\"refused\":\"NotYet\",\"text\":\"not yet\"}\n",
+            "line 2: id: missing, expected a text of fewer than 2^56 bytes",
+        ),
+        ("[]", "", "line 1: the line: expected an object"),
+        (
+            "{\"id\": \"a\"",
+            "",
+            "line 1: no JSON: EOF while parsing at line 1 column 10",
+        ),
+        (
+            "{\"id\": \"a\", \"groups\": [], \"sheets\": [{\"none\": {\"effects\": [\"BOLD\", \"bold\"]}}]}",
+            "",
+            "line 1: sheets[0].none.effects[1]: expected the name of an effect, as \"BOLD\"",
+        ),
+        (
+            "{\"id\": \"a\", \"groups\": [], \"settings\": {\"term_width\": 18446744073709551616}}",
+            "",
+            "line 1: settings.term_width: expected a whole number from 0 to 18446744073709551615",
+        ),
+        (
+            "{\"id\": \"a\", \"groups\": [], \"settings\": {\"term_width\": 1.0}}",
+            "",
+            "line 1: settings.term_width: expected a whole number from 0 to 18446744073709551615",
+        ),
+        (
+            "{\"id\": \"a\", \"groups\": [{\"title\": null, \"level\": {\"kind\": \"hint\"}, \"elements\": []}]}",
+            "",
+            "line 1: groups[0].level.kind: expected \"error\", \"warning\", \"info\", \"note\" or \"help\"",
+        ),
+        (
+            "{\"id\": \"a\", \"groups\": [{\"title\": null, \"level\": {\"kind\": \"help\"}, \"elements\": [{\"padding\": {}, \"message\": {}}]}]}",
+            "",
+            "line 1: groups[0].elements[0]: expected an object with one of message, cause, suggestion, origin and padding",
+        ),
+        (
+            "{\"id\": \"a\", \"groups\": [{\"title\": null, \"level\": {\"kind\": \"help\"}, \"elements\": [{\"padding\": {}}, {\"cause\": {\"source\": \"\", \"annotations\": [{}]}}]}]}",
+            "",
+            "line 1: groups[0].elements[1].cause.annotations[0].kind: missing, expected \"primary\", \"context\" or \"visible\"",
+        ),
+    ];
+    let alloc = rt.alloc();
+    for (lines, answered, told) in rows {
+        let mut out = Vec::new(alloc);
+        let mut is_first = true;
+        let said = match answer_lines(
+            alloc,
+            lines.as_bytes(),
+            Form::Json,
+            &mut is_first,
+            &mut out,
+        ) {
+            Ok(()) => String::new(alloc),
+            Err(trouble) => format!(in alloc; "{trouble}")?,
+        };
+        assert_eq!(rt; said.as_str(), told);
+        assert_eq!(rt; out.as_slice(), answered.as_bytes());
+    }
+    Ok(())
+}
+
+/// A writer that takes nothing.
+#[derive(Drop)]
+struct Full;
+
+impl Write for Full {
+    fn write(&mut self, _buf: &[u8]) -> io::Result<usize> {
+        Err(io::Error::from(io::ErrorKind::Other))
+    }
+
+    fn flush(&mut self) -> io::Result<()> {
+        Ok(())
+    }
+}
+
+#[test]
+fn tells_a_failed_write(rt: HostRuntime) {
+    let line = "{\"id\": \"a\", \"groups\": []}";
+    for form in [Form::Json, Form::Texts] {
+        let mut is_first = true;
+        let answered = answer_lines(rt.alloc(), line.as_bytes(), form, &mut is_first, &mut Full);
+        assert!(rt; answered.is_err());
+    }
+}
+
+/// Two cases of one report: a title alone.
+const TITLES: &str = r#"{"id": "a", "groups": [{"title": {"level": {"kind": "error"}, "text": "e", "primary": true}, "elements": []}]}
+{"id": "b", "groups": [{"title": {"level": {"kind": "error"}, "text": "e", "primary": true}, "elements": []}]}
+"#;
+
+#[test]
+fn tells_the_cases_that_differ(rt: HostRuntime) -> Result<(), Fail> {
+    let rows: [(&str, u64, &str); 4] = [
+        ("{\"id\": \"b\", \"ok\": [\"error: e\"]}", 0, ""),
+        (
+            "{\"id\": \"b\", \"ok\": [\"error: f\"]}",
+            1,
+            "\"b\" differs\nexpected of \"b\":\nerror: f\nanswered:\nerror: e\n\n",
+        ),
+        (
+            "{\"id\": \"c\", \"ok\": [\"error: e\"]}",
+            1,
+            "\"b\" differs\nexpected of \"c\":\nerror: e\nanswered:\nerror: e\n\n",
+        ),
+        (
+            "{\"id\": \"b\", \"refused\": \"NotYet\", \"text\": \"not yet\"}",
+            1,
+            "\"b\" differs\nexpected of \"b\":\nnot yet\nanswered:\nerror: e\n\n",
+        ),
+    ];
+    let alloc = rt.alloc();
+    for (answer, failed, told) in rows {
+        let expected = format!(in alloc; "{{\"id\": \"a\", \"ok\": [\"error: e\"]}}\n{answer}\n")?;
+        let mut out = Vec::new(alloc);
+        let counts = match check_lines(alloc, expected.as_bytes(), TITLES.as_bytes(), &mut out) {
+            Ok(counts) => counts,
+            Err(_) => return Err(Fail::new("stopped")),
+        };
+        assert_eq!(rt; counts.passed + failed, 2);
+        assert_eq!(rt; counts.failed, failed);
+        assert_eq!(rt; out.as_slice(), told.as_bytes());
+    }
+    Ok(())
+}

@@ -1,0 +1,97 @@
+//! Reports of builder calls: two calls under two sheets, and what refusals say.
+ghost use Rattle.std.specs.Prelude.{IfOk};
+ghost use Rattle.snippet_model.specs.Fits.{GroupFits};
+
+use annotate_snippets::level::ERROR;
+use annotate_snippets::renderer::RenderError;
+use annotate_snippets::renderer::style::Stylesheet;
+use annotate_snippets::{AnnotationKind, Element, Group, OptionCow, Renderer, Snippet};
+use std::alloc::{AllocError, Global};
+use std::test::Fail;
+
+/// The report of an unused variable.
+fn unused_variable(alloc: Global) -> Result<Group<'static>, AllocError>
+    ensures fits { IfOk result GroupFits }
+{
+    let mark = AnnotationKind::Primary
+        .span(4..5)
+        .label(OptionCow::from("here"));
+    let snippet = Snippet::source(alloc, "let x = 1;\n").annotation(mark)?;
+    ERROR
+        .primary_title("unused")
+        .element(alloc, Element::from(snippet))
+}
+
+/// Its text without codes.
+const UNUSED: &str = "error: unused\n  |\n1 | let x = 1;\n  |     ^ here";
+
+/// Its text under the default sheet.
+const STYLED_UNUSED: &str =
+    "\u{1b}[1m\u{1b}[91merror\u{1b}[0m\u{1b}[1m: unused\u{1b}[0m\n  \u{1b}[1m\u{1b}[94m|\u{1b}[0m\n\u{1b}[1m\u{1b}[94m1\u{1b}[0m \u{1b}[1m\u{1b}[94m|\u{1b}[0m let x = 1;\n  \u{1b}[1m\u{1b}[94m|\u{1b}[0m     \u{1b}[1m\u{1b}[91m^\u{1b}[0m \u{1b}[1m\u{1b}[91mhere\u{1b}[0m";
+
+#[test]
+fn prints_under_the_sheet_of_the_renderer(rt: HostRuntime) -> Result<(), Fail> {
+    let groups = [unused_variable(rt.alloc())?];
+    let plain = Renderer::plain().render(rt.alloc(), &groups)?;
+    assert_eq!(rt; plain.as_str(), UNUSED);
+    let styled = Renderer::styled().render(rt.alloc(), &groups)?;
+    assert_eq!(rt; styled.as_str(), STYLED_UNUSED);
+    let sheets = [Stylesheet::plain(), Stylesheet::styled()];
+    let texts = Renderer::plain().render_sheets(rt.alloc(), &groups, &sheets)?;
+    assert_eq!(rt; texts.len(), 2);
+    assert_eq!(rt; texts[0].as_str(), plain.as_str());
+    assert_eq!(rt; texts[1].as_str(), styled.as_str());
+    Ok(())
+}
+
+#[test]
+fn says_why_a_report_is_refused(rt: HostRuntime) -> Result<(), Fail> {
+    let (group, element, marker) = (0, 1, 2);
+    let refusals = [
+        (RenderError::NoGroup, "a short message needs a group"),
+        (RenderError::NoTitle, "a short message needs a title"),
+        (
+            RenderError::SpanReversed {
+                group,
+                element,
+                marker,
+            },
+            "group 0, element 1, marker 2: span is reversed",
+        ),
+        (
+            RenderError::SpanPastEnd {
+                group,
+                element,
+                marker,
+            },
+            "group 0, element 1, marker 2: span ends past the source",
+        ),
+        (
+            RenderError::SpanOffBoundary {
+                group,
+                element,
+                marker,
+            },
+            "group 0, element 1, marker 2: span is off a character border",
+        ),
+        (
+            RenderError::PatchesOverlap {
+                group,
+                element,
+                first: 2,
+                second: 3,
+            },
+            "group 0, element 1: markers 2 and 3 overlap",
+        ),
+        (
+            RenderError::LineNumberTooLarge { group, element },
+            "group 0, element 1: line numbers are too large",
+        ),
+        (RenderError::Memory(AllocError), "out of memory"),
+        (RenderError::NotYet, "not yet"),
+    ];
+    for (refusal, text) in &refusals {
+        assert_eq!(rt; format!(in rt.alloc(); "{refusal}")?.as_str(), *text);
+    }
+    Ok(())
+}
