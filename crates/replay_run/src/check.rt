@@ -1,6 +1,7 @@
 //! Cases and what is expected of them, side by side.
 
-ghost use Rattle.std.specs.Prelude.{◌≡◌, ◌+◌, ◌^◌, ◌<◌, if◌then◌else◌};
+ghost use Rattle.std.specs.Prelude.{◌≡◌, ◌+◌, ◌^◌, ◌<◌, ◌↔◌, if◌then◌else◌, true, IsTrue, IfOk};
+ghost use Rattle.replay_run.specs.Expected.{IsMet};
 
 use crate::expected::{Expected, expected_of, write_wanted};
 use crate::lines::{value_of, write_outcome};
@@ -88,10 +89,23 @@ fn check_line<W: Write>(
     let value = value_of(alloc, line).map_err(|unread| unread.of_case(number))?;
     let case = case_of(alloc, &value).map_err(|fault| Trouble::Case(number, fault))?;
     let outcome = outcome_of(alloc, &case)?;
-    if expected.is_met_by(case.id, &outcome) {
+    judge_case(&expected, case.id, &outcome, out)
+}
+
+/// Whether the case of this name became what is expected; if not, it is written.
+pub fn judge_case<W: Write>(
+    expected: &Expected<'_>,
+    id: &str,
+    outcome: &Outcome,
+    out: &mut W,
+) -> Result<bool, Trouble>
+    ensures passes { IfOk result (λ passes. IsTrue passes ↔ IsMet expected.now id.now outcome.now) }
+    ensures silent { IfOk result (λ passes. passes ≡ true → out.new ≡ out.old) }
+{
+    if expected.is_met_by(id, outcome) {
         return Ok(true);
     }
-    write_difference(case.id, &expected, &outcome, out).map_err(Trouble::Write)?;
+    write_difference(id, expected, outcome, out).map_err(|error| Trouble::Write(error))?;
     Ok(false)
 }
 

@@ -90,11 +90,18 @@ fn are_equal(wanted: &[Text<'_>], texts: &[String]) -> bool
         return false;
     }
     for i in 0..texts.len() {
-        if wanted[i].text != texts[i].as_str() {
+        if !is_text(&wanted[i], &texts[i]) {
             return false;
         }
     }
     true
+}
+
+/// Whether a text is the wanted one.
+fn is_text(wanted: &Text<'_>, text: &String) -> bool
+    ensures value { IsTrue result ↔ (wanted.now.text.now ≡ string_bytes text.now) }
+{
+    wanted.text == text.as_str()
 }
 
 /// Writes each text, or what the refusal prints.

@@ -49,12 +49,10 @@ impl<'v> Read<'v> for Style {
 
     fn read(node: Node<'v, '_>) -> Result<Self, Fault> {
         node.has_only(Shape::Style)?;
-        Ok(
-            Style::new()
-                .fg_color(node.optional("fg")?)
-                .bg_color(node.optional("bg")?)
-                .effects(effects(node)?),
-        )
+        let fg = node.optional("fg")?;
+        let bg = node.optional("bg")?;
+        let effects = effects(node)?;
+        Ok(Style::new().fg_color(fg).bg_color(bg).effects(effects))
     }
 }
 
@@ -70,22 +68,57 @@ fn effects(node: Node<'_, '_>) -> Result<Effects, Fault> {
     Ok(effects)
 }
 
+/// Which effect is meant.
+#[derive(Clone, Copy)]
+enum EffectName {
+    Bold,
+    Dimmed,
+    Italic,
+    Underline,
+    Blink,
+    Invert,
+    Hidden,
+    Strikethrough,
+}
+
+/// The effects, by their names.
+const EFFECTS: [(&str, EffectName); 8] = [
+    ("BOLD", EffectName::Bold),
+    ("DIMMED", EffectName::Dimmed),
+    ("ITALIC", EffectName::Italic),
+    ("UNDERLINE", EffectName::Underline),
+    ("BLINK", EffectName::Blink),
+    ("INVERT", EffectName::Invert),
+    ("HIDDEN", EffectName::Hidden),
+    ("STRIKETHROUGH", EffectName::Strikethrough),
+];
+
+/// The effect that is meant, alone.
+fn effect_of(name: EffectName) -> Effects {
+    match name {
+        EffectName::Bold => Effects::BOLD,
+        EffectName::Dimmed => Effects::DIMMED,
+        EffectName::Italic => Effects::ITALIC,
+        EffectName::Underline => Effects::UNDERLINE,
+        EffectName::Blink => Effects::BLINK,
+        EffectName::Invert => Effects::INVERT,
+        EffectName::Hidden => Effects::HIDDEN,
+        EffectName::Strikethrough => Effects::STRIKETHROUGH,
+    }
+}
+
 /// One effect, by its name.
 impl<'v> Read<'v> for Effects {
     const EXPECTED: Expectation = Expectation::Effect;
 
     fn read(node: Node<'v, '_>) -> Result<Self, Fault> {
-        match node.value.as_str() {
-            Some("BOLD") => Ok(Effects::BOLD),
-            Some("DIMMED") => Ok(Effects::DIMMED),
-            Some("ITALIC") => Ok(Effects::ITALIC),
-            Some("UNDERLINE") => Ok(Effects::UNDERLINE),
-            Some("BLINK") => Ok(Effects::BLINK),
-            Some("INVERT") => Ok(Effects::INVERT),
-            Some("HIDDEN") => Ok(Effects::HIDDEN),
-            Some("STRIKETHROUGH") => Ok(Effects::STRIKETHROUGH),
-            _ => Err(node.unexpected(Self::EXPECTED)),
+        let name = node.value.as_str();
+        for (known, effect) in &EFFECTS {
+            if name == Some(*known) {
+                return Ok(effect_of(*effect));
+            }
         }
+        Err(node.unexpected(Self::EXPECTED))
     }
 }
 
@@ -109,29 +142,37 @@ impl<'v> Read<'v> for Color {
     }
 }
 
+/// The terminal's own colours, by their names.
+const COLORS: [(&str, AnsiColor); 16] = [
+    ("Black", AnsiColor::Black),
+    ("Red", AnsiColor::Red),
+    ("Green", AnsiColor::Green),
+    ("Yellow", AnsiColor::Yellow),
+    ("Blue", AnsiColor::Blue),
+    ("Magenta", AnsiColor::Magenta),
+    ("Cyan", AnsiColor::Cyan),
+    ("White", AnsiColor::White),
+    ("BrightBlack", AnsiColor::BrightBlack),
+    ("BrightRed", AnsiColor::BrightRed),
+    ("BrightGreen", AnsiColor::BrightGreen),
+    ("BrightYellow", AnsiColor::BrightYellow),
+    ("BrightBlue", AnsiColor::BrightBlue),
+    ("BrightMagenta", AnsiColor::BrightMagenta),
+    ("BrightCyan", AnsiColor::BrightCyan),
+    ("BrightWhite", AnsiColor::BrightWhite),
+];
+
 impl<'v> Read<'v> for AnsiColor {
     const EXPECTED: Expectation = Expectation::Color;
 
     fn read(node: Node<'v, '_>) -> Result<Self, Fault> {
-        match node.value.as_str() {
-            Some("Black") => Ok(AnsiColor::Black),
-            Some("Red") => Ok(AnsiColor::Red),
-            Some("Green") => Ok(AnsiColor::Green),
-            Some("Yellow") => Ok(AnsiColor::Yellow),
-            Some("Blue") => Ok(AnsiColor::Blue),
-            Some("Magenta") => Ok(AnsiColor::Magenta),
-            Some("Cyan") => Ok(AnsiColor::Cyan),
-            Some("White") => Ok(AnsiColor::White),
-            Some("BrightBlack") => Ok(AnsiColor::BrightBlack),
-            Some("BrightRed") => Ok(AnsiColor::BrightRed),
-            Some("BrightGreen") => Ok(AnsiColor::BrightGreen),
-            Some("BrightYellow") => Ok(AnsiColor::BrightYellow),
-            Some("BrightBlue") => Ok(AnsiColor::BrightBlue),
-            Some("BrightMagenta") => Ok(AnsiColor::BrightMagenta),
-            Some("BrightCyan") => Ok(AnsiColor::BrightCyan),
-            Some("BrightWhite") => Ok(AnsiColor::BrightWhite),
-            _ => Err(node.unexpected(Self::EXPECTED)),
+        let name = node.value.as_str();
+        for (known, color) in &COLORS {
+            if name == Some(*known) {
+                return Ok(*color);
+            }
         }
+        Err(node.unexpected(Self::EXPECTED))
     }
 }
 
