@@ -23,7 +23,7 @@ use Rattle.snippet_parts.proofs.PlaceLemmas.{HoldsByte-source, line_of-within}
 use Rattle.snippet_parts.proofs.MarkedLemmas.{length-marked_lines, marked_lines-number, greatest_line-within}
 use Rattle.snippet_strokes.specs.Rows.{shown_number}
 use Rattle.snippet_strokes.proofs.NumberLemmas.{length-decimal_monotone, length-decimal_more, length-decimal_last}
-use Rattle.annotate_snippets.specs.Covered.{gutter_of}
+use Rattle.annotate_snippets.specs.Gutter.{gutter_of}
 use Rattle.annotate_snippets.specs.Drawn.{numbered_source}
 
 -- how many line feeds some bytes hold

@@ -17,6 +17,7 @@ use Rattle.std.specs.Option.{option_copied}
 use Rattle.snippet_strokes.specs.Entries as entry
 use Rattle.annotate_snippets.specs.Shown.{shown_label, normalized_chars}
 use Rattle.snippet_strokes.specs.Entries.{EntryCovers, is_primary, IsEntryMark}
+use Rattle.snippet_strokes.specs.Painting.{StandsFrom}
 use Rattle.snippet_strokes.proofs.MarkLemmas.{from_map}
 use Rattle.annotate_snippets.proofs.ListLemmas.{Contains-filter, Contains-map, Contains-head, Contains-tail}
 
@@ -56,10 +57,10 @@ pub record IsEntryOf (s : Source) (k : ℕ) (a : Annotation) (e : LineAnnotation
   pub start : e.start.display ≡ start_column s.text a
   pub end : e.end.display ≡ end_column s.text a
   pub kind : e.kind ≡ a.kind
-  pub label : entry.shown_label e.label ≡ shown_label a
+  pub label : entry.label_chars e.label ≡ shown_label a
 
 -- an entry's label shows what its text does
-label_is : (label : Option (Bor (List ℕ))) → entry.shown_label label ≡ normalized_chars (option_copied label)
+label_is : (label : Option (Bor (List ℕ))) → entry.label_chars label ≡ normalized_chars (option_copied label)
 label_is None = refl
 label_is (Some l) = refl
 
@@ -150,6 +151,16 @@ module _ (s : Source) (marks : List Annotation) (short : AreShort s marks) (k : 
       let b : Annotation = theirs.0 in
       let isb : IsEntryOf s k b (get_or es i d) = theirs.2 in
       All-contains (λ a. IsMarkedAt s.text k p a → ⊥) marks b none theirs.1 (isb.marked, (omega (arith, isb.start, covers.0), omega (arith, isb.end, covers.1)))
+
+  -- where a column stands left of all spans of the line, every entry starts behind it
+  pub entries_behind : (code p : ℕ) → All (λ a. is_marked_on s.text k a ≡ true → p < start_column s.text a) marks → All (StandsFrom code (code + p + 1)) es
+  entries_behind code p right =
+      λ i d within.
+      let theirs = span_of_entry (get_or es i d) (Contains-get_or es i d within) in
+      let b : Annotation = theirs.0 in
+      let isb : IsEntryOf s k b (get_or es i d) = theirs.2 in
+      let behind : p < start_column s.text b = All-contains (λ a. is_marked_on s.text k a ≡ true → p < start_column s.text a) marks b right theirs.1 isb.marked in
+      omega (arith, isb.start, behind)
 
   -- a line that qualifies has an entry
   pub some_entry : list_any (is_marked_on s.text k) marks ≡ true → 0 < length es

@@ -1,13 +1,14 @@
 -- The rows of a covered report are a page that shows it.
-use Rattle.std.proofs.Common.{◌≡◌, ℕ, zero, suc, ◌+◌, ◌-◌, ◌<◌, ◌≤◌, ◌==◌, ◌&&◌, Bool, true, false, List, [], ◌∷◌, ◌++◌, map, length, take, drop, chars, get_or, refl, sym, ap, subst, ◌∙◌, arith, inl, inr}
+use Rattle.std.proofs.Common.{◌≡◌, ℕ, zero, suc, ◌+◌, ◌-◌, ◌<◌, ◌≤◌, ◌==◌, ◌&&◌, ◌⊎◌, replicate, Bool, true, false, List, [], ◌∷◌, ◌++◌, map, length, take, drop, chars, get_or, refl, sym, ap, subst, ◌∙◌, arith, inl, inr}
 use Rattle.std.specs.List.{All, Contains, filter, range_with_len}
 use Rattle.std.specs.Cow.{cow_str_bytes}
 use Rattle.std.proofs.lemmas.Bool.{and_parts, cases_lt, cases_eq, eqb-true}
-use Rattle.std.proofs.lemmas.List.{map-append, take-map, drop-map}
-use Rattle.std.proofs.lemmas.List.Elements.{All-head, All-tail}
+use Rattle.std.proofs.lemmas.Bool.Decides.{nat_tests}
+use Rattle.std.proofs.lemmas.List.{map-append, take-map, drop-map, get_or-append_right, get_or-map, length-replicate}
+use Rattle.std.proofs.lemmas.List.Elements.{All-get_or}
 use Rattle.snippet_model.specs.declared.snippet.Annotation.{Annotation}
 use Rattle.snippet_model.specs.declared.snippet.Snippet.{Snippet}
-use Rattle.snippet_style.specs.Grid.{Cell, SPACE, row_at}
+use Rattle.snippet_style.specs.Grid.{Cell, SPACE, row_at, drawn, unlinked_cell}
 use Rattle.snippet_style.specs.Print.{row_text}
 use Rattle.snippet_style.specs.declared.role.ElementStyle.TheVariants.{LineNumber, Quotation}
 use Rattle.snippet_text.specs.Normalized.{norm}
@@ -16,25 +17,25 @@ use Rattle.snippet_parts.specs.declared.entries.LineAnnotation.{LineAnnotation}
 use Rattle.snippet_parts.specs.Lines.{source_lines, text_at}
 use Rattle.snippet_parts.specs.Marked.{first_line, last_line, seen_entry, entry_of, seen_line, MarkedLine, marked_line, marked_lines, least_line, greatest_line}
 use Rattle.snippet_parts.specs.Window.{IsWindowOf, chars_at}
-use Rattle.snippet_strokes.specs.Entries.{IsMarkCell, label_role, label_text}
-use Rattle.snippet_strokes.specs.Rows.{shown_number, first_row, HasNoNumber, IsSourceRow, ShowsMarks}
+use Rattle.snippet_strokes.specs.Entries.{IsMarkCell, has_mark_role, label_role, label_text}
+use Rattle.snippet_strokes.specs.Rows.{shown_number, first_row, bare_row, HasNoNumber, IsSourceRow, IsStrokeRow, ShowsMarks}
 use Rattle.snippet_strokes.specs.declared.layout.Layout.{Layout}
 use Rattle.snippet_strokes.specs.Snippet as strokes
 use Rattle.snippet_strokes.proofs.SnippetLemmas.{highlighted_text}
-use Rattle.snippet_strokes.proofs.RowLemmas.{HasNoNumber-first_row}
+use Rattle.snippet_strokes.proofs.RowLemmas.{HasNoNumber-first_row, bare_row_right}
 use Rattle.snippet_parts.proofs.MarkedLemmas.{least_line-le, greatest_line-ge, greatest_line-within, least_line-le-greatest_line}
 use Rattle.snippet_style.specs.declared.glyphs.DecorStyle.TheVariants.{Ascii, Unicode}
 use Rattle.snippet_style.specs.declared.glyphs.DecorStyle.{DecorStyle}
-use Rattle.snippet_style.specs.Glyphs.{separator_of}
+use Rattle.snippet_style.specs.Glyphs.{separator_of, closing_of}
 use Rattle.std.specs.Char.{is_ascii_alphanumeric}
 use Rattle.annotate_snippets.specs.declared.renderer.Renderer.{Renderer}
-use Rattle.annotate_snippets.specs.Covered.{gutter_of}
+use Rattle.annotate_snippets.specs.Gutter.{gutter_of, number_text}
 use Rattle.annotate_snippets.specs.Drawn.{layout_of, numbered_source}
 use Rattle.annotate_snippets.specs.Page.{SourceRow, Other, NamedRow, lines_named, cells_of, cells_below, IsAscending}
-use Rattle.annotate_snippets.specs.Shown.{Frame, shown_label, number_text, placeholder_of, room_of, wide_spans, ShowsSourceLine, ShowsMarksOf, ShowsLineAndMarks, AreRowsOf, ShowsSnippet}
+use Rattle.annotate_snippets.specs.Shown.{Frame, shown_label, placeholder_of, room_of, wide_spans, ShowsSourceLine, ShowsMarksOf, ShowsLineAndMarks, HasStroke, IsRowBelow, AreRowsOf, ShowsSnippet}
 use Rattle.snippet_parts.specs.Mark.{end_column}
 use Rattle.annotate_snippets.proofs.ListLemmas.{Contains-head, Contains-tail}
-use Rattle.annotate_snippets.proofs.MarkLemmas.{AreShort, IsEntryOf, mark_of_entries, unmarked_by_entries, unlabelled_entries, lone_entry, some_entry}
+use Rattle.annotate_snippets.proofs.MarkLemmas.{AreShort, IsEntryOf, mark_of_entries, unmarked_by_entries, entries_behind, unlabelled_entries, lone_entry, some_entry}
 use Rattle.snippet_titles.proofs.TextLemmas.{row_text-drawn}
 use Rattle.annotate_snippets.proofs.WindowLemmas.{IsWindowOf-whole}
 
@@ -95,10 +96,50 @@ same_line r frame s k dropped plain row same shows =
     record {
       within = shows.within;
       number = taken (length number) ∙ shows.number;
+      separator = char_at row (frame.gutter + 1) ∙ ap (λ cs. get_or cs (frame.gutter + 1) 32) same ∙ sym (char_at plain (frame.gutter + 1)) ∙ shows.separator;
       beside = λ c right left. ap is_ascii_alphanumeric (char_at row c ∙ ap (λ cs. get_or cs c 32) same ∙ sym (char_at plain c)) ∙ shows.beside c right left;
       window = subst (IsWindowOf (placeholder_of r.decor_style) (room_of r frame) (wide_spans (room_of r frame) (length (placeholder_of r.decor_style)) s k) (norm (chars_at (cow_str_bytes s.source) k)) dropped) (sym (rest frame.code)) shows.window;
       whole = λ stands. ((shows.whole stands).0, rest frame.code ∙ (shows.whole stands).1);
     }
+
+-- the characters that a row begins with behind some spaces
+led_by : (n : ℕ) (cs : List ℕ) (c : ℕ) → c < length cs → (get_or (replicate n SPACE ++ drawn LineNumber cs) (n + c) SPACE).ch ≡ get_or cs c 32
+led_by n cs c within =
+    ap (λ (cell : Cell). cell.ch) (get_or-append_right (replicate n SPACE) (drawn LineNumber cs) n (n + c) SPACE (length-replicate n SPACE) (omega arith) ∙ ap (λ i. get_or (drawn LineNumber cs) i SPACE) (let back : n + c - n ≡ c = omega arith in back)) ∙ ap (λ (cell : Cell). cell.ch) (get_or-map (λ ch. unlinked_cell LineNumber ch) cs c 32 SPACE within)
+
+-- a row that is as a bare one left of the code has its stroke
+bare_stroke : (decor : DecorStyle) (gutter : ℕ) (closed : Bool) (row : List Cell) → ((c : ℕ) → c < gutter + 3 → get_or row c SPACE ≡ get_or (bare_row decor gutter closed) c SPACE) → HasStroke gutter (separator_of decor ∷ []) row ⊎ ((closed ≡ true) × HasStroke gutter (closing_of decor) row)
+bare_stroke decor gutter false row same =
+    inl (λ c within. ap (λ (cell : Cell). cell.ch) (same (gutter + 1 + c) (omega (arith, within))) ∙ led_by (gutter + 1) (separator_of decor ∷ []) c within)
+bare_stroke decor gutter true row same =
+    inr (refl, λ c within. ap (λ (cell : Cell). cell.ch) (same (gutter + 1 + c) (omega (arith, within, closing_short decor))) ∙ led_by (gutter + 1) (closing_of decor) c within)
+  where
+    closing_short : (decor : DecorStyle) → length (closing_of decor) ≤ 2
+    closing_short Ascii = omega arith
+    closing_short Unicode = omega arith
+
+-- a row of strokes is a row below a line
+row_below : (decor : DecorStyle) (gutter : ℕ) (closes : Bool) (es : List LineAnnotation) (rows : List (List Cell)) (i : ℕ) → i < length rows → All (HasNoNumber gutter) rows → IsStrokeRow (record { gutter = gutter; code = gutter + 3; decor = decor }) es (closes && i + 1 == length rows) (row_at rows i) → IsRowBelow decor gutter (closes && i + 1 == length rows) (row_at rows i)
+row_below decor gutter closes es rows i within unnumbered is =
+    record {
+      unnumbered = All-get_or (HasNoNumber gutter) rows i [] within unnumbered;
+      stroke = bare_stroke decor gutter (closes && i + 1 == length rows) (row_at rows i) (λ c left. is.left c (gutter + 3) left (λ k d inside. omega arith));
+    }
+
+-- where a row may close, it may
+IsRowBelow-more : (decor : DecorStyle) (gutter : ℕ) (may can : Bool) (row : List Cell) → (may ≡ true → can ≡ true) → IsRowBelow decor gutter may row → IsRowBelow decor gutter can row
+IsRowBelow-more decor gutter may can row more is =
+    record { unnumbered = is.unnumbered; stroke = elim is.stroke [ | inl parted ↦ inl parted | inr closed ↦ inr (more closed.0, closed.1) ] }
+
+-- no lines have no rows
+none_shown : (layout : Layout) (numbered closes : Bool) (infos : List AnnotatedLineInfo) (rows : List (List Cell)) → (true && length infos == 0) ≡ true → strokes.AreLinesShown layout numbered closes infos rows → rows ≡ []
+none_shown layout numbered closes [] rows last shown = shown
+none_shown layout numbered closes (info ∷ infos) rows last shown = absurd (omega (arith, eqb-true (length (info ∷ infos)) 0 last))
+
+-- rows with no cells at all are no rows
+no_cells : (part : List NamedRow) → cells_of part ≡ [] → part ≡ []
+no_cells [] none = refl
+no_cells (row ∷ part) none = cc
 
 -- numbers one after the other are ascending, and each between the first and the last is among them
 ascending : (from count : ℕ) → IsAscending (range_with_len from count)
@@ -134,18 +175,23 @@ module _ (r : Renderer) (plain : r.anonymized_snippet_line_numbers ≡ false) (s
       record {
         within = within;
         number = subst (λ shown. row_text (take (length shown) row) ≡ shown) same_number (ap row_text shows.number ∙ row_text-drawn LineNumber (shown_number s.line_numbering (gutter_of s) info.line_index));
+        separator = ap (λ (cell : Cell). cell.ch) is.separator;
         beside = λ c right left. beside_number (layout_of r.decor_style s) _ _ row c is (omega (arith, ap length same_number, right)) left;
         window = IsWindowOf-whole (placeholder_of r.decor_style) (room_of r (frame_of s)) (wide_spans (room_of r (frame_of s)) (length (placeholder_of r.decor_style)) s k) (norm (chars_at (cow_str_bytes s.source) k)) (row_text (drop (gutter_of s + 3) row)) code;
         whole = λ _. (refl, code);
       }
 
   -- the row below it has its marks
-  marks_of_line : (k : ℕ) (info : AnnotatedLineInfo) (row : List Cell) → seen_line info ≡ marked_line (numbered_source s) s.markers.items k → ShowsMarks (gutter_of s + 3) info.annotations.items row → ShowsMarksOf (frame_of s) s k 0 row
-  marks_of_line k info row seen shows =
+  marks_of_line : (k : ℕ) (info : AnnotatedLineInfo) (row : List Cell) → seen_line info ≡ marked_line (numbered_source s) s.markers.items k → ShowsMarks r.decor_style (gutter_of s + 3) info.annotations.items row → (closes : Bool) → IsStrokeRow (layout_of r.decor_style s) info.annotations.items closes row → ShowsMarksOf r.decor_style (frame_of s) s k 0 row
+  marks_of_line k info row seen shows closes strokes_row =
       let es : List LineAnnotation = info.annotations.items in
       let same : map seen_entry es ≡ map (entry_of (numbered_source s)) (filter (λ a. first_line (cow_str_bytes s.source) a == k) s.markers.items) = ap (λ (l : MarkedLine). l.entries) seen in
       record {
-        marks = λ p kind mark. subst (λ c. IsMarkCell kind (get_or row c SPACE)) (omega arith) (shows.marks p kind (mark_of_entries (numbered_source s) s.markers.items short k es same p kind mark));
+        marks = λ p kind mark. subst (λ c. IsMarkCell r.decor_style kind (get_or row c SPACE)) (omega arith) (shows.marks p kind (mark_of_entries (numbered_source s) s.markers.items short k es same p kind mark));
+        unmarked = λ p right none. subst (λ c. has_mark_role (get_or row c SPACE) ≡ false) (omega arith) (shows.unmarked p (unmarked_by_entries (numbered_source s) s.markers.items short k es same p none));
+        before = λ p right left.
+            let bare = strokes_row.left (gutter_of s + 3 + p) (gutter_of s + 3 + p + 1) (omega arith) (entries_behind (numbered_source s) s.markers.items short k es same (gutter_of s + 3) p left) ∙ bare_row_right r.decor_style (gutter_of s) closes (gutter_of s + 3 + p) (omega arith) in
+            subst (λ c. get_or row c SPACE ≡ SPACE) (omega arith) bare;
         spaces = λ unlabelled p right none. subst (λ c. get_or row c SPACE ≡ SPACE) (omega arith) (shows.spaces (unlabelled_entries (numbered_source s) s.markers.items short k es same unlabelled) p (unmarked_by_entries (numbered_source s) s.markers.items short k es same p none));
         lone = λ a alone shown.
             let own = lone_entry (numbered_source s) s.markers.items short k es same a alone in
@@ -166,14 +212,23 @@ module _ (r : Renderer) (plain : r.anonymized_snippet_line_numbers ≡ false) (s
         marks = λ qualifies.
             let some : 0 < length es = some_entry (numbered_source s) s.markers.items short k es same (and_parts _ _ (and_parts _ _ qualifies).0).0 in
             let there : 0 < length shows.below = shows.strokes.some some in
-            subst (λ row. ShowsMarksOf (frame_of s) s k 0 row) (sym (below-first shows.below more there)) (marks_of_line k info (row_at shows.below 0) seen shows.strokes.marks);
+            subst (λ row. ShowsMarksOf r.decor_style (frame_of s) s k 0 row) (sym (below-first shows.below more there)) (marks_of_line k info (row_at shows.below 0) seen shows.strokes.marks (closes && 0 + 1 == length shows.below) (shows.strokes.are 0 there));
       }
 
-  -- rows that aren't named by a line hold no number
-  others_are : (rows : List (List Cell)) (more : List NamedRow) → All (HasNoNumber (gutter_of s)) rows → AreRowsOf r (frame_of s) s more → AreRowsOf r (frame_of s) s (others rows ++ more)
-  others_are [] more unnumbered are = are
-  others_are (row ∷ rows) more unnumbered are =
-      (All-head (HasNoNumber (gutter_of s)) row rows unnumbered, others_are rows more (All-tail (HasNoNumber (gutter_of s)) row rows unnumbered) are)
+  -- rows below a line, of which the last may close
+  others_are : (closes : Bool) (rows : List (List Cell)) (more : List NamedRow) → (closes ≡ true → more ≡ []) → ((i : ℕ) → i < length rows → IsRowBelow r.decor_style (gutter_of s) (closes && i + 1 == length rows) (row_at rows i)) → AreRowsOf r (frame_of s) s more → AreRowsOf r (frame_of s) s (others rows ++ more)
+  others_are closes [] more ends below are = are
+  others_are closes (row ∷ rows) more ends below are =
+      let own : IsRowBelow r.decor_style (gutter_of s) (closes && 0 + 1 == length (row ∷ rows)) row = below 0 (omega arith) in
+      let further : (i : ℕ) → i < length rows → IsRowBelow r.decor_style (gutter_of s) (closes && i + 1 == length rows) (row_at rows i) = λ i within. subst (λ b. IsRowBelow r.decor_style (gutter_of s) (closes && b) (row_at rows i)) (shifted i (length rows)) (below (suc i) (omega (arith, within))) in
+      (IsRowBelow-more r.decor_style (gutter_of s) _ _ row (λ last. none_below rows (and_parts closes (0 + 1 == length (row ∷ rows)) last)) own, others_are closes rows more ends further are)
+    where
+      shifted : (i n : ℕ) → (suc i + 1 == suc n) ≡ (i + 1 == n)
+      shifted i n = grind (arith, nat_tests)
+
+      none_below : (rows : List (List Cell)) → (closes ≡ true) × ((0 + 1 == length (row ∷ rows)) ≡ true) → (length (others rows ++ more) == 0) ≡ true
+      none_below [] is = ap (λ (xs : List NamedRow). length xs == 0) (ends is.0)
+      none_below (x ∷ xs) is = absurd (omega (arith, eqb-true (0 + 1) (length (row ∷ x ∷ xs)) is.1))
 
   -- rows with names: those of some lines, one behind the other
   pub record AreNamed (from count : ℕ) (rows : List (List Cell)) : Type 0 where
@@ -193,25 +248,31 @@ module _ (r : Renderer) (plain : r.anonymized_snippet_line_numbers ≡ false) (s
       let closes : Bool = true && length infos == 0 in
       let shows : row_shows closes info shown.0 = shown.3 in
       let source_row : NamedRow = record { name = SourceRow from; cells = shows.source } in
+      let part_ends : (true && length infos == 0) ≡ true → rest.part ≡ [] = λ last. no_cells rest.part (rest.cells ∙ none_shown (layout_of r.decor_style s) s.line_numbering true infos shown.1 last shown.4) in
       record {
         part = source_row ∷ (others shows.below ++ rest.part);
         cells = ap (λ rs. shows.source ∷ rs) (cells_of-append (others shows.below) rest.part ∙ ap (λ rs. rs ++ cells_of rest.part) (cells_of-others shows.below) ∙ ap (λ rs. shows.below ++ rs) rest.cells) ∙ ap (λ rs. rs ++ shown.1) (sym shows.rows_are) ∙ sym shown.2;
         names = ap (λ ks. from ∷ ks) (lines_named-others shows.below rest.part ∙ rest.names);
-        are = (line_and_marks closes from info shown.0 rest.part (omega arith) here shows, others_are shows.below rest.part shows.unnumbered rest.are);
+        are = (line_and_marks closes from info shown.0 rest.part (omega arith) here shows, others_are closes shows.below rest.part part_ends (λ i inside. row_below r.decor_style (gutter_of s) closes info.annotations.items shows.below i inside shows.unnumbered (shows.strokes.are i inside)) rest.are);
       }
 
-  -- the rows of a snippet show it: a separator row, and the rows of its lines
-  pub snippet_shown : (infos : List AnnotatedLineInfo) (rows : List (List Cell)) → 0 < length s.markers.items → map seen_line infos ≡ marked_lines (numbered_source s) s.markers.items → strokes.AreLinesShown (layout_of r.decor_style s) s.line_numbering true infos rows → (part : List NamedRow) × (cells_of part ≡ first_row r.decor_style true (gutter_of s) ∷ rows) × ShowsSnippet r (frame_of s) s part
+  -- the rows of a snippet show it: the row that begins it, and the rows of its lines
+  pub snippet_shown : (infos : List AnnotatedLineInfo) (rows : List (List Cell)) → 0 < length s.markers.items → map seen_line infos ≡ marked_lines (numbered_source s) s.markers.items → strokes.AreLinesShown (layout_of r.decor_style s) s.line_numbering true infos rows → (part : List NamedRow) × (cells_of part ≡ first_row r.decor_style true (gutter_of s) ∷ rows) × ShowsSnippet r (frame_of s) true s part
   snippet_shown infos rows some lines shown =
       let text : List ℕ = cow_str_bytes s.source in
       let first : ℕ = least_line text s.markers.items in
       let last : ℕ = greatest_line text s.markers.items in
       let named : AreNamed first (last + 1 - first) rows = named_lines (last + 1 - first) first infos rows (omega (arith, greatest_line-within text s.markers.items, least_line-le-greatest_line text s.markers.items some)) lines shown in
-      let separator : NamedRow = record { name = Other; cells = first_row r.decor_style true (gutter_of s) } in
+      let opening : NamedRow = record { name = Other; cells = first_row r.decor_style true (gutter_of s) } in
       let among : (k : ℕ) → first ≤ k → k ≤ last → Contains (lines_named named.part) k = λ k from to. subst (λ ks. Contains ks k) (sym named.names) (in_range (last + 1 - first) first k from (omega arith)) in (
-        separator ∷ named.part,
+        opening ∷ named.part,
         ap (λ rs. first_row r.decor_style true (gutter_of s) ∷ rs) named.cells,
         record {
+          opening = first_row r.decor_style true (gutter_of s);
+          behind = named.part;
+          rows_are = refl;
+          opens = λ _ _. refl;
+          unnumbered = HasNoNumber-first_row r.decor_style true (gutter_of s);
           ends = λ i d within.
               let a : Annotation = get_or s.markers.items i d in
               let from : first ≤ first_line text a = least_line-le text s.markers.items i d within in
@@ -219,6 +280,6 @@ module _ (r : Renderer) (plain : r.anonymized_snippet_line_numbers ≡ false) (s
               let same : last_line text a ≡ first_line text a = eqb-true (last_line text a) (first_line text a) (short i d within).1 in
               (among (first_line text a) from to, among (last_line text a) (omega (arith, same, from)) (omega (arith, same, to)));
           ordered = subst IsAscending (sym named.names) (ascending first (last + 1 - first));
-          named = (HasNoNumber-first_row r.decor_style true (gutter_of s), named.are);
+          named = named.are;
         },
       )

@@ -19,7 +19,7 @@ use Rattle.snippet_style.specs.Grid.{Cell, SPACE}
 use Rattle.snippet_style.specs.declared.role.LevelInner.{LevelInner}
 use Rattle.snippet_style.specs.declared.stylesheet.Stylesheet.{Stylesheet}
 use Rattle.snippet_style.specs.Print.{row_text, further_text, plain_text}
-use Rattle.snippet_style.specs.Woven.{Prints, links_behind, links_of}
+use Rattle.snippet_style.specs.Woven.{Prints, IsWoven, links_behind, links_of}
 use Rattle.snippet_style.proofs.WovenLemmas.{IsWoven-from_prints, links_of-unlinked, plain_woven}
 use Rattle.snippet_text.specs.Normalized.{is_listed}
 use Rattle.snippet_model.specs.Trusted.{trusted_texts}
@@ -34,10 +34,11 @@ use Rattle.snippet_parts.specs.Mark.{is_marking, is_single_line}
 use Rattle.snippet_strokes.specs.Rows.{first_row, IsFree}
 use Rattle.snippet_strokes.proofs.SnippetLemmas.{free_from_AddsSnippet}
 use Rattle.annotate_snippets.specs.declared.renderer.Renderer.{Renderer}
-use Rattle.annotate_snippets.specs.Covered.{gutter_of, is_covered_annotation, is_covered_snippet, is_covered_title, is_covered_renderer, IsReportOf}
+use Rattle.annotate_snippets.specs.Covered.{is_covered_annotation, is_covered_snippet, is_covered_title, is_covered_renderer, IsReportOf}
+use Rattle.annotate_snippets.specs.Gutter.{gutter_of, gutter_of_report}
 use Rattle.annotate_snippets.specs.Drawn.{layout_of, numbered_source, AddsCause, IsDrawable, IsGridOf, IsGridOfReport}
 use Rattle.annotate_snippets.specs.Page.{NamedRow, cells_of, GroupPage, group_rows, ArePrinted, PrintsPage}
-use Rattle.annotate_snippets.specs.Shown.{Frame, gutter_of_report, ShowsTitle, ShowsElement, ShowsGroup, levels_of, report_links, SheetsShown, IsFreeBut, IsFreeUnder}
+use Rattle.annotate_snippets.specs.Shown.{Frame, ShowsTitle, AreElementsShown, ShowsGroup, levels_of, report_links, SheetsShown, IsFreeBut, IsFreeUnder}
 use Rattle.std.specs.Borrow.{Bor}
 use Rattle.std.specs.Option.{option_copied}
 use Rattle.snippet_model.specs.Fits.{ReportFits}
@@ -94,7 +95,7 @@ module _ (r : Renderer) (groups : List Group) (title : Title) (s : Snippet Annot
         code_from = omega (arith, gutter);
         code_is = λ _. ap (λ n. n + 3) gutter;
         title = subst (λ t. ShowsTitle r.hyperlink (gutter_of_report r (of.group ∷ [])) t titles) (sym of.title_is) (ShowsTitle-rows r.hyperlink (gutter_of_report r (of.group ∷ [])) title titled);
-        elements = subst (λ es. AllZip (ShowsElement r (frame_of s)) es (part ∷ [])) (sym of.elements_are) (shown.2, tt);
+        elements = subst (λ es. AreElementsShown r (frame_of s) true es (part ∷ [])) (sym of.elements_are) (shown.2, tt);
       } in (
         group_page,
         drawn.rows.added ∙ ap (λ rs. titles ++ rs) (sym shown.1 ∙ sym (append-nil (cells_of part))),
@@ -192,7 +193,7 @@ bare_shown r groups title of titled =
       code_from = omega arith;
       code_is = λ _. refl;
       title = subst (λ t. ShowsTitle r.hyperlink gutter t titles) (sym of.title_is) (ShowsTitle-rows r.hyperlink gutter title titled);
-      elements = subst (λ es. AllZip (ShowsElement r frame) es []) (sym of.elements_are) tt;
+      elements = subst (λ es. AreElementsShown r frame true es []) (sym of.elements_are) tt;
     } in
     subst (λ gs. AllZip (ShowsGroup r gutter) gs (page ∷ [])) (sym of.groups_are) (shown, tt)
 
@@ -283,12 +284,11 @@ module _ (r : Renderer) (groups : List Group) (level : LevelInner) (rows : List 
       }
 
   -- a text that prints the grid is free, but for its codes
-  pub text_is_free : (sheet : Stylesheet) (text : List ℕ) → Prints sheet level rows text → IsFreeUnder (trusted_texts groups) sheet text
+  pub text_is_free : (sheet : Stylesheet) (text : List ℕ) → Prints sheet level rows text → IsFreeUnder (trusted_texts groups) (report_links r groups) sheet text
   text_is_free sheet text prints =
       record {
         plain = plain_text rows;
-        links = links_of rows;
-        woven = IsWoven-from_prints sheet level rows text prints;
+        woven = subst (IsWoven sheet text (plain_text rows)) is.links (IsWoven-from_prints sheet level rows text prints);
         free = is.free;
       }
 

@@ -1,9 +1,10 @@
 -- A title's rows hold its text.
-use Rattle.std.proofs.Common.{◌≡◌, ℕ, suc, ◌+◌, ◌-◌, ◌<◌, ◌==◌, Bool, true, false, Option, None, Some, not, List, [], ◌∷◌, ◌++◌, map, length, replicate, codes, chars, get_or, refl, sym, ap, subst, ◌∙◌, arith, inl, inr}
+use Rattle.std.proofs.Common.{◌≡◌, ℕ, suc, ◌+◌, ◌-◌, ◌<◌, ◌≤◌, ◌==◌, ◌&&◌, nat_le, nat_lt, cond, Bool, true, false, Option, None, Some, not, List, [], ◌∷◌, ◌++◌, map, length, replicate, codes, chars, get_or, refl, sym, ap, subst, ◌∙◌, arith, inl, inr}
 use Rattle.std.specs.List.{All, slice_split, list_any}
 use Rattle.std.specs.Char.{is_ascii_alphanumeric}
 use Rattle.std.specs.Cow.{cow_str_bytes}
-use Rattle.std.proofs.lemmas.Bool.{and_parts, cases_lt, cases_eq}
+use Rattle.std.proofs.lemmas.Bool.{and_parts, cases_Bool, cases_lt, cases_eq, eqb-true, leb-true, ltb-true}
+use Rattle.std.proofs.lemmas.Bool.Decides.{nat_tests}
 use Rattle.std.proofs.lemmas.List.{append-nil, get_or-map, get_or_past, length-map}
 use Rattle.std.proofs.lemmas.Str.{chars-encodes}
 use Rattle.snippet_text.proofs.NormLemmas.{norm-unlisted}
@@ -25,9 +26,9 @@ use Rattle.snippet_model.specs.declared.level.LevelName.{LevelName}
 use Rattle.snippet_model.specs.declared.level.LevelName.TheVariants.{Standard, Hidden, Own}
 use Rattle.snippet_model.specs.declared.snippet.Id.{Id}
 use Rattle.snippet_model.specs.declared.snippet.Title.{Title}
-use Rattle.snippet_titles.specs.Title.{label_width, first_row, further_row, rows_of_lines, title_lines, title_rows}
+use Rattle.snippet_titles.specs.Title.{id_address, id_chars, label_width, first_row, further_row, rows_of_lines, title_lines, title_rows}
 use Rattle.annotate_snippets.specs.Covered.{is_standard, is_covered_title}
-use Rattle.annotate_snippets.specs.Shown.{drawn_text, is_hidden, bracketed, shown_id, title_label, texts_below, title_texts, id_start, LinksId, ShowsTitle}
+use Rattle.annotate_snippets.specs.Shown.{drawn_text, is_hidden, bracketed, shown_id, title_label, texts_below, title_texts, id_start, is_id_cell, LinksId, ShowsTitle}
 
 -- the characters of a standard name are its bytes, and none is listed
 name_chars : (kind : LevelInner) → chars (standard_name_of kind) ≡ standard_name_of kind
@@ -109,18 +110,38 @@ further_at indent lines k c =
       | inr past ↦ ap (λ (row : List Cell). (get_or row c SPACE).link) (get_or_past (map (further_row indent) lines) k [] (omega (arith, past, length-map lines (further_row indent))))
     ]
 
+-- what the test for a cell of the id says
+id_cell : (title : Title) (i c : ℕ) → is_id_cell title i c ≡ true → (i ≡ 0) × (id_start title ≤ c) × (c < id_start title + length (id_chars title.id))
+id_cell title i c is =
+    let parts = and_parts (i == 0 && nat_le (id_start title) c) (nat_lt c (id_start title + length (id_chars title.id))) is in
+    let front = and_parts (i == 0) (nat_le (id_start title) c) parts.0 in
+    (eqb-true i 0 front.0, leb-true (id_start title) c front.1, ltb-true c (id_start title + length (id_chars title.id)) parts.1)
+
+id_cell_from : (title : Title) (i c : ℕ) → i ≡ 0 → id_start title ≤ c → c < id_start title + length (id_chars title.id) → is_id_cell title i c ≡ true
+id_cell_from title i c first from to = grind (arith, nat_tests, first, from, to)
+
 LinksId-lines : (hyperlink : Bool) (title : Title) → is_covered_title title ≡ true → (lines : List (List ℕ)) → 0 < length lines → LinksId hyperlink title (rows_of_lines hyperlink title lines)
 LinksId-lines hyperlink title covered [] some = absurd (omega (arith, some))
 LinksId-lines hyperlink title covered (line ∷ lines) some =
     let places = first_row-places hyperlink title line in
     let start : id_start title ≡ length (chars (name_of title.level)) + 1 = start_is title covered in
-    record {
-      text = λ c within. ap (λ n. (get_or (first_row hyperlink title line) (n + c) SPACE).link) start ∙ places.0 c within;
-      others = λ i c outside. elim (cases_eq i 0) [
-        | inl first ↦ ap (λ n. (cell_at (rows_of_lines hyperlink title (line ∷ lines)) n c).link) first ∙ places.1 c (λ from to. outside first (omega (arith, from, start)) (omega (arith, to, start)))
-        | inr later ↦ (let below : i ≡ suc (i - 1) = omega (arith, later) in ap (λ n. (cell_at (rows_of_lines hyperlink title (line ∷ lines)) n c).link) below ∙ further_at (label_width title) lines (i - 1) c)
-      ];
-    }
+    λ i c. elim (cases_Bool (is_id_cell title i c)) [
+      | inl inside ↦
+          let parts = id_cell title i c inside in
+          let k : ℕ = c - id_start title in
+          let same : length (chars (name_of title.level)) + 1 + k ≡ c = omega (arith, parts.1, start) in
+          ap (λ n. (cell_at (rows_of_lines hyperlink title (line ∷ lines)) n c).link) parts.0 ∙ ap (λ n. (get_or (first_row hyperlink title line) n SPACE).link) (sym same) ∙ places.0 k (omega (arith, parts.2)) ∙ sym (ap (λ b. cond b (id_address hyperlink title.id) None) inside)
+      | inr outside ↦ elim (cases_eq i 0) [
+        | inl first ↦ ap (λ n. (cell_at (rows_of_lines hyperlink title (line ∷ lines)) n c).link) first ∙ places.1 c (λ from to. clash (is_id_cell title i c) outside (id_cell_from title i c first (omega (arith, from, start)) (omega (arith, to, start)))) ∙ sym (ap (λ b. cond b (id_address hyperlink title.id) None) outside)
+        | inr later ↦
+            let below : i ≡ suc (i - 1) = omega (arith, later) in
+            ap (λ n. (cell_at (rows_of_lines hyperlink title (line ∷ lines)) n c).link) below ∙ further_at (label_width title) lines (i - 1) c ∙ sym (ap (λ b. cond b (id_address hyperlink title.id) None) outside)
+      ]
+    ]
+  where
+    clash : (b : Bool) → b ≡ false → b ≡ true → ⊥
+    clash true is_false is_true = cc
+    clash false is_false is_true = cc
 
 LinksId-rows : (hyperlink : Bool) (title : Title) → is_covered_title title ≡ true → LinksId hyperlink title (title_rows hyperlink title)
 unfolding title_rows title_lines

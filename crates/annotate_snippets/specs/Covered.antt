@@ -2,7 +2,6 @@
 use Rattle.std.specs.Prelude.{◌≡◌, ℕ, ◌+◌, ◌-◌, ◌==◌, Bool, true, false, not, ◌&&◌, ◌||◌, nat_le, nat_lt, List, [], ◌∷◌, Option, Some, None, is_none, length, chars, if◌then◌else◌}
 use Rattle.std.specs.List.{list_all, list_any}
 use Rattle.std.specs.Cow.{cow_str_bytes}
-use Rattle.std.specs.Fmt.{decimal}
 use Rattle.snippet_text.specs.Width.{width_of}
 use Rattle.snippet_model.specs.declared.level.LevelName.{LevelName}
 use Rattle.snippet_model.specs.declared.level.LevelName.TheVariants.{Standard, Hidden, Own}
@@ -15,9 +14,9 @@ use Rattle.snippet_model.specs.declared.snippet.Element.TheVariants.{Message, Ca
 use Rattle.snippet_parts.specs.Lines.{source_lines, text_at, start_of}
 use Rattle.snippet_parts.specs.Mark.{is_marking, is_single_line}
 use Rattle.snippet_parts.specs.Place.{line_of, place_of}
-use Rattle.snippet_parts.specs.Prepare.{counted_number}
 use Rattle.snippet_parts.specs.Window.{leading_whitespace, is_near}
 use Rattle.annotate_snippets.specs.declared.renderer.Renderer.{Renderer}
+use Rattle.annotate_snippets.specs.Gutter.{gutter_of}
 
 -- the byte at which the line begins on which a byte stands
 abbrev pub line_begin : List ℕ → ℕ → ℕ
@@ -39,18 +38,14 @@ is_covered_annotation source marks a =
     is_marking a.kind && is_single_line source a && follows_on source marks a
 
 -- the marked lines aren't cut from the left: a span or a line begins within the first 26 columns, or all are blank
-abbrev pub is_near_left : List ℕ → List Annotation → Bool
-is_near_left source marks =
+abbrev pub are_marks_near : List ℕ → List Annotation → Bool
+are_marks_near source marks =
     list_any (λ a. nat_le (place_of source a.span.start).column 26) marks || list_any (λ a. is_near (leading_whitespace (line_chars source a.span.start))) marks || list_all (λ a. is_none (leading_whitespace (line_chars source a.span.start))) marks
 
 -- each marked line stands whole in a room of this many columns
 abbrev pub stand_whole : ℕ → List ℕ → List Annotation → Bool
 stand_whole room source marks =
-    list_all (λ a. nat_le (width_of (line_chars source a.span.start)) room) marks && is_near_left source marks
-
--- the gutter's width: that of the greatest line number counted, or 0 where lines aren't numbered
-abbrev pub gutter_of : Snippet Annotation → ℕ
-gutter_of s = if s.line_numbering then length (decimal (counted_number s)) else 0
+    list_all (λ a. nat_le (width_of (line_chars source a.span.start)) room) marks && are_marks_near source marks
 
 -- a snippet that is drawn so far: no path, folded, at least one mark, each covered, and all lines whole
 abbrev pub is_covered_snippet : ℕ → Snippet Annotation → Bool

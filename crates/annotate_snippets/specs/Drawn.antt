@@ -21,9 +21,9 @@ use Rattle.snippet_parts.specs.Marked.{seen_line, marked_lines}
 use Rattle.snippet_strokes.specs.declared.layout.Layout.{Layout}
 use Rattle.snippet_strokes.specs.Snippet.{AddsSnippet}
 use Rattle.annotate_snippets.specs.declared.renderer.Renderer.{Renderer}
-use Rattle.annotate_snippets.specs.Covered.{gutter_of}
+use Rattle.annotate_snippets.specs.Gutter.{gutter_of, gutter_of_report}
 use Rattle.annotate_snippets.specs.Page.{GroupPage, group_rows}
-use Rattle.annotate_snippets.specs.Shown.{gutter_of_report, levels_of, report_links, ShowsGroup, IsFreeBut}
+use Rattle.annotate_snippets.specs.Shown.{levels_of, report_links, ShowsGroup, IsFreeBut}
 
 -- where the parts of a snippet's rows stand, and the strokes that they are drawn with
 abbrev pub layout_of : DecorStyle → Snippet Annotation → Layout

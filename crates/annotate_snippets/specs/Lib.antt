@@ -1,6 +1,7 @@
 pub mod Covered
 pub mod Drawn
 pub mod Fault
+pub mod Gutter
 pub mod Levels
 pub mod Page
 pub mod Settings

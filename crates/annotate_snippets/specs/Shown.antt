@@ -1,6 +1,6 @@
 -- What the page of a report shows.
 use Rattle.snippet_style.specs.Stylesheet.{is_plain_sheet}
-use Rattle.std.specs.Prelude.{◌≡◌, ℕ, ◌+◌, ◌-◌, ◌<◌, ◌≤◌, ◌==◌, ◌&&◌, ◌||◌, max, Bool, true, false, not, List, [], ◌∷◌, ◌++◌, All, Contains, Option, Some, None, IfSome, filter, is_none, length, map, take, drop, fold, replicate, chars, codes, if◌then◌else◌, encode_utf8_all}
+use Rattle.std.specs.Prelude.{◌≡◌, ◌⊎◌, ℕ, ◌+◌, ◌-◌, ◌<◌, ◌≤◌, ◌==◌, ◌&&◌, ◌||◌, nat_le, nat_lt, Bool, true, false, not, List, [], ◌∷◌, ◌++◌, All, Contains, Option, Some, None, IfSome, filter, is_none, length, map, take, drop, replicate, chars, codes, if◌then◌else◌, encode_utf8_all}
 use Rattle.std.specs.List.{AllZip, flat_map, list_all, count_by, slice_split, slice_index_or}
 use Rattle.std.specs.Option.{option_map, option_to_list}
 use Rattle.std.specs.Char.{is_ascii_alphanumeric}
@@ -28,13 +28,14 @@ use Rattle.snippet_model.specs.declared.snippet.Element.{Element}
 use Rattle.snippet_model.specs.declared.snippet.Element.TheVariants.{Message, Cause, Suggestion, Origin, Padding}
 use Rattle.snippet_parts.specs.Lines.{source_lines}
 use Rattle.snippet_parts.specs.Marked.{first_line, last_line}
-use Rattle.snippet_parts.specs.Mark.{is_marking, is_single_line, is_marked_on, is_wide, qualifies_for_marks, end_column, IsMarkedAt, IsMarkOf}
+use Rattle.snippet_parts.specs.Mark.{is_marking, is_single_line, is_marked_on, is_wide, qualifies_for_marks, start_column, end_column, IsMarkedAt, IsMarkOf}
 use Rattle.snippet_parts.specs.Window.{chars_at, stands_whole, IsWindowOf}
 use Rattle.snippet_titles.specs.Title.{id_chars, id_address, id_links}
-use Rattle.snippet_strokes.specs.Entries.{IsMarkCell}
-use Rattle.snippet_strokes.specs.Rows.{shown_number, set_right, HasNoNumber}
+use Rattle.snippet_style.specs.Glyphs.{separator_of, closing_of}
+use Rattle.snippet_strokes.specs.Entries.{IsMarkCell, has_mark_role}
+use Rattle.snippet_strokes.specs.Rows.{first_row, HasNoNumber}
 use Rattle.annotate_snippets.specs.declared.renderer.Renderer.{Renderer}
-use Rattle.annotate_snippets.specs.Covered.{gutter_of}
+use Rattle.annotate_snippets.specs.Gutter.{gutter_of_report, number_text}
 use Rattle.annotate_snippets.specs.Page.{RowName, SourceRow, Other, NamedRow, lines_named, cells_below, GroupPage, Page, page_text, PrintsPage, IsAscending, page_links}
 
 -- the characters of a title's text as it is drawn: a trusted one as it is, any other normalised
@@ -77,10 +78,15 @@ abbrev pub id_start : Title → ℕ
 id_start title =
     length (norm (chars (name_of title.level))) + (if is_hidden title.level.name then 0 else 1)
 
+-- whether cell c of row i of a title is one of the text of its id
+abbrev pub is_id_cell : Title → ℕ → ℕ → Bool
+is_id_cell title i c =
+    i == 0 && nat_le (id_start title) c && nat_lt c (id_start title + length (id_chars title.id))
+
 -- the text of a title's id links to the id's address, where links are on and it has one; nothing else in its rows links
-pub record LinksId (hyperlink : Bool) (title : Title) (rows : List (List Cell)) : Type 0 where
-  pub text : (c : ℕ) → c < length (id_chars title.id) → (cell_at rows 0 (id_start title + c)).link ≡ id_address hyperlink title.id
-  pub others : (i c : ℕ) → (i ≡ 0 → id_start title ≤ c → c < id_start title + length (id_chars title.id) → ⊥) → (cell_at rows i c).link ≡ None
+abbrev pub LinksId : Bool → Title → List (List Cell) → Type 0
+LinksId hyperlink title rows =
+    (i c : ℕ) → (cell_at rows i c).link ≡ (if is_id_cell title i c then id_address hyperlink title.id else None)
 
 -- the rows show a title, where there is one: its texts, row by row, with the link of its id; and no further row holds a
 -- letter or digit in the gutter, so that none can be taken for the row of a line
@@ -88,23 +94,6 @@ pub record ShowsTitle (hyperlink : Bool) (gutter : ℕ) (title : Option Title) (
   pub texts : (i : ℕ) → i < length (title_texts title) → row_text (row_at rows i) ≡ slice_index_or (title_texts title) i []
   pub further : (i : ℕ) → length (title_texts title) ≤ i → HasNoNumber gutter (row_at rows i)
   pub links : IfSome title (λ t. LinksId hyperlink t rows)
-
--- the width of the gutter: that of the greatest line number counted, or of `LL` in place of all
-abbrev pub gutter_of_element : ℕ → Element → ℕ
-gutter_of_element gutter (Cause snippet) = max (gutter_of snippet) gutter
-gutter_of_element gutter (Suggestion snippet) = gutter
-gutter_of_element gutter (Message message) = gutter
-gutter_of_element gutter (Origin origin) = gutter
-gutter_of_element gutter (Padding padding) = gutter
-
-abbrev pub gutter_of_report : Renderer → List Group → ℕ
-gutter_of_report r groups =
-    if r.anonymized_snippet_line_numbers then 2 else fold gutter_of_element 0 (flat_map (λ g. g.elements.items) groups)
-
--- what stands in the gutter beside a line of this number: the number, `LL` in its place, or spaces
-abbrev pub number_text : Renderer → Bool → ℕ → ℕ → List ℕ
-number_text r numbered gutter number =
-    if r.anonymized_snippet_line_numbers && numbered then set_right gutter (codes "LL") else shown_number numbered gutter number
 
 -- what stands for a part of a line that is left out
 abbrev pub placeholder_of : DecorStyle → List ℕ
@@ -134,57 +123,89 @@ normalized_chars (Some text) = norm (chars text)
 abbrev pub shown_label : Annotation → List ℕ
 shown_label a = normalized_chars (option_map cow_str_bytes a.label)
 
--- the row shows line k: its number in the gutter with no letter or digit between it and the code, and from the code's
--- cell to its end a window of the line's normalised text, left of which so many columns are dropped; where the line
--- stands whole, all of it
+-- the cell of a column of the code, where so many columns are dropped from the line. No column that is marked is dropped, and
+-- the clauses below speak of columns that aren't: so the difference never stops at 0
+abbrev pub cell_of : Frame → ℕ → ℕ → ℕ
+cell_of frame dropped p = frame.code + p - dropped
+
+-- the row shows line k: its number in the gutter, the separator behind it and no letter or digit between them and the code,
+-- and from the code's cell to its end a window of the line's normalised text, left of which so many columns are dropped;
+-- where the line stands whole, all of it
 pub record ShowsSourceLine (r : Renderer) (frame : Frame) (s : Snippet Annotation) (k dropped : ℕ) (row : List Cell) : Type 0 where
   pub within : k < length (source_lines (cow_str_bytes s.source))
   pub number : let shown = number_text r s.line_numbering frame.gutter (s.line_start + k) in row_text (take (length shown) row) ≡ shown
+  pub separator : (slice_index_or row (frame.gutter + 1) SPACE).ch ≡ separator_of r.decor_style
   pub beside : (c : ℕ) → length (number_text r s.line_numbering frame.gutter (s.line_start + k)) ≤ c → c < frame.code → is_ascii_alphanumeric (slice_index_or row c SPACE).ch ≡ false
   pub window : IsWindowOf (placeholder_of r.decor_style) (room_of r frame) (wide_spans (room_of r frame) (length (placeholder_of r.decor_style)) s k) (norm (chars_at (cow_str_bytes s.source) k)) dropped (row_text (drop frame.code row))
   pub whole : stands_whole (room_of r frame) (length (placeholder_of r.decor_style)) s.fold (cow_str_bytes s.source) s.markers.items k ≡ true → (dropped ≡ 0) × (row_text (drop frame.code row) ≡ norm (chars_at (cow_str_bytes s.source) k))
 
--- the row has the marks of line k: below each column that has a mark it holds a glyph of the mark's kind in the role of
--- its strokes. Where no span on the line has a label that shows anything, every other cell from the code's cell on is a
--- space. Where the line has one span alone and it has such a label, the row goes on behind the span's last column with a
--- space and the label, and ends
-pub record ShowsMarksOf (frame : Frame) (s : Snippet Annotation) (k dropped : ℕ) (row : List Cell) : Type 0 where
-  pub marks : (p : ℕ) (kind : AnnotationKind) → IsMarkOf (cow_str_bytes s.source) s.markers.items k p kind → IsMarkCell kind (slice_index_or row (frame.code + p - dropped) SPACE)
-  pub spaces : All (λ a. is_marked_on (cow_str_bytes s.source) k a ≡ true → shown_label a ≡ []) s.markers.items → (p : ℕ) → dropped ≤ p → All (λ a. IsMarkedAt (cow_str_bytes s.source) k p a → ⊥) s.markers.items → slice_index_or row (frame.code + p - dropped) SPACE ≡ SPACE
-  pub lone : (a : Annotation) → filter (is_marked_on (cow_str_bytes s.source) k) s.markers.items ≡ a ∷ [] → 0 < length (shown_label a) → row_text (drop (frame.code + end_column (cow_str_bytes s.source) a - dropped) row) ≡ 32 ∷ shown_label a
+-- the row has the marks of line k: below each column that has a mark it holds a glyph of the mark's kind, as the decor draws
+-- it, in the role of its strokes; below any other column no cell is in the role of marks, and left of all spans of the line
+-- stand spaces. Where no span on the line has a label that shows anything, every cell that is no mark is a space, from the
+-- code's cell on. Where the line has one span alone and it has such a label, the row goes on behind the span's last column
+-- with a space and the label, and ends
+pub record ShowsMarksOf (decor : DecorStyle) (frame : Frame) (s : Snippet Annotation) (k dropped : ℕ) (row : List Cell) : Type 0 where
+  pub marks : (p : ℕ) (kind : AnnotationKind) → IsMarkOf (cow_str_bytes s.source) s.markers.items k p kind → IsMarkCell decor kind (slice_index_or row (cell_of frame dropped p) SPACE)
+  pub unmarked : (p : ℕ) → dropped ≤ p → All (λ a. IsMarkedAt (cow_str_bytes s.source) k p a → ⊥) s.markers.items → has_mark_role (slice_index_or row (cell_of frame dropped p) SPACE) ≡ false
+  pub before : (p : ℕ) → dropped ≤ p → All (λ a. is_marked_on (cow_str_bytes s.source) k a ≡ true → p < start_column (cow_str_bytes s.source) a) s.markers.items → slice_index_or row (cell_of frame dropped p) SPACE ≡ SPACE
+  pub spaces : All (λ a. is_marked_on (cow_str_bytes s.source) k a ≡ true → shown_label a ≡ []) s.markers.items → (p : ℕ) → dropped ≤ p → All (λ a. IsMarkedAt (cow_str_bytes s.source) k p a → ⊥) s.markers.items → slice_index_or row (cell_of frame dropped p) SPACE ≡ SPACE
+  pub lone : (a : Annotation) → filter (is_marked_on (cow_str_bytes s.source) k) s.markers.items ≡ a ∷ [] → 0 < length (shown_label a) → row_text (drop (cell_of frame dropped (end_column (cow_str_bytes s.source) a)) row) ≡ 32 ∷ shown_label a
 
 -- a source row of line k, with the row right below it: it shows the line, and where the line qualifies for the promise
 -- on marks the row below has its marks
 pub record ShowsLineAndMarks (r : Renderer) (frame : Frame) (s : Snippet Annotation) (k : ℕ) (row below : List Cell) : Type 0 where
   pub dropped : ℕ
   pub line : ShowsSourceLine r frame s k dropped row
-  pub marks : qualifies_for_marks (room_of r frame) (length (placeholder_of r.decor_style)) (cow_str_bytes s.source) s.markers.items k ≡ true → ShowsMarksOf frame s k dropped below
+  pub marks : qualifies_for_marks (room_of r frame) (length (placeholder_of r.decor_style)) (cow_str_bytes s.source) s.markers.items k ≡ true → ShowsMarksOf r.decor_style frame s k dropped below
 
--- a row is what its name says; one that isn't named by a line has no letter or digit in the gutter, so that it can't be
--- taken for the row of a line
-abbrev pub IsRowOf : Renderer → Frame → Snippet Annotation → RowName → List Cell → List Cell → Type 0
-IsRowOf r frame s (SourceRow k) row below = ShowsLineAndMarks r frame s k row below
-IsRowOf r frame s Other row below = HasNoNumber frame.gutter row
+-- a row has these characters behind the gutter, from the cell on at which separators stand
+abbrev pub HasStroke : ℕ → List ℕ → List Cell → Type 0
+HasStroke gutter text row =
+    (c : ℕ) → c < length text → (slice_index_or row (gutter + 1 + c) SPACE).ch ≡ slice_index_or text c 32
+
+-- a row below that of a line: no letter or digit in the gutter, so that it can't be taken for the row of a line, and behind it
+-- the separator, or in the element's last row the closing glyph
+pub record IsRowBelow (decor : DecorStyle) (gutter : ℕ) (last : Bool) (row : List Cell) : Type 0 where
+  pub unnumbered : HasNoNumber gutter row
+  pub stroke : HasStroke gutter (separator_of decor ∷ []) row ⊎ ((last ≡ true) × HasStroke gutter (closing_of decor) row)
+
+-- a row, with the rows below it, is what its name says
+abbrev pub IsRowOf : Renderer → Frame → Snippet Annotation → RowName → List Cell → List NamedRow → Type 0
+IsRowOf r frame s (SourceRow k) row rows = ShowsLineAndMarks r frame s k row (cells_below rows)
+IsRowOf r frame s Other row rows = IsRowBelow r.decor_style frame.gutter (length rows == 0) row
 
 -- each row is what its name says
 abbrev pub AreRowsOf : Renderer → Frame → Snippet Annotation → List NamedRow → Type 0
 AreRowsOf r frame s [] = Unit {0}
-AreRowsOf r frame s (row ∷ rows) = IsRowOf r frame s row.name row.cells (cells_below rows) × AreRowsOf r frame s rows
+AreRowsOf r frame s (row ∷ rows) = IsRowOf r frame s row.name row.cells rows × AreRowsOf r frame s rows
 
--- the rows show an annotated snippet: each line on which a span begins or ends has one source row, source rows of
--- greater lines stand lower, and each row is what its name says
-pub record ShowsSnippet (r : Renderer) (frame : Frame) (s : Snippet Annotation) (rows : List NamedRow) : Type 0 where
-  pub ends : All (λ a. Contains (lines_named rows) (first_line (cow_str_bytes s.source) a) × Contains (lines_named rows) (last_line (cow_str_bytes s.source) a)) s.markers.items
-  pub ordered : IsAscending (lines_named rows)
-  pub named : AreRowsOf r frame s rows
+-- the rows show an annotated snippet: behind the row that it begins with, each line on which a span begins or ends has one
+-- source row, source rows of greater lines stand lower, and each row is what its name says. Where the snippet is its group's
+-- first element and has no path, the first row is the one with which the decor begins a file
+pub record ShowsSnippet (r : Renderer) (frame : Frame) (first : Bool) (s : Snippet Annotation) (rows : List NamedRow) : Type 0 where
+  pub opening : List Cell
+  pub behind : List NamedRow
+  pub rows_are : rows ≡ record { name = Other; cells = opening } ∷ behind
+  pub opens : s.path ≡ None → first ≡ true → opening ≡ first_row r.decor_style true frame.gutter
+  pub unnumbered : HasNoNumber frame.gutter opening
+  pub ends : All (λ a. Contains (lines_named behind) (first_line (cow_str_bytes s.source) a) × Contains (lines_named behind) (last_line (cow_str_bytes s.source) a)) s.markers.items
+  pub ordered : IsAscending (lines_named behind)
+  pub named : AreRowsOf r frame s behind
 
--- the rows show an element. Only of annotated snippets is anything said yet
-abbrev pub ShowsElement : Renderer → Frame → Element → List NamedRow → Type 0
-ShowsElement r frame (Cause snippet) rows = ShowsSnippet r frame snippet rows
-ShowsElement r frame (Suggestion snippet) rows = Unit {0}
-ShowsElement r frame (Message message) rows = Unit {0}
-ShowsElement r frame (Origin origin) rows = Unit {0}
-ShowsElement r frame (Padding padding) rows = Unit {0}
+-- the rows show an element, which is the group's first or a later one. Only of annotated snippets is anything said yet
+abbrev pub ShowsElement : Renderer → Frame → Bool → Element → List NamedRow → Type 0
+ShowsElement r frame first (Cause snippet) rows = ShowsSnippet r frame first snippet rows
+ShowsElement r frame first (Suggestion snippet) rows = Unit {0}
+ShowsElement r frame first (Message message) rows = Unit {0}
+ShowsElement r frame first (Origin origin) rows = Unit {0}
+ShowsElement r frame first (Padding padding) rows = Unit {0}
+
+-- the parts of a group's page show its elements, one by one
+abbrev pub AreElementsShown : Renderer → Frame → Bool → List Element → List (List NamedRow) → Type 0
+AreElementsShown r frame first [] [] = Unit {0}
+AreElementsShown r frame first (e ∷ es) (rows ∷ parts) =
+    ShowsElement r frame first e rows × AreElementsShown r frame false es parts
+AreElementsShown r frame first es parts = ⊥
 
 -- whether an element has no spans of several lines, for which bars would stand left of the code
 abbrev pub has_no_bars : Element → Bool
@@ -203,7 +224,7 @@ pub record ShowsGroup (r : Renderer) (gutter : ℕ) (g : Group) (page : GroupPag
   pub code_from : gutter + 3 ≤ frame.code
   pub code_is : list_all has_no_bars g.elements.items ≡ true → frame.code ≡ gutter + 3
   pub title : ShowsTitle r.hyperlink gutter g.title page.title
-  pub elements : AllZip (ShowsElement r frame) g.elements.items page.elements
+  pub elements : AreElementsShown r frame true g.elements.items page.elements
 
 -- each listed character is one of a trusted text
 abbrev pub IsFreeBut : List (List ℕ) → List ℕ → Type 0
@@ -220,8 +241,8 @@ report_links r groups =
     if r.hyperlink then flat_map (λ g. flat_map (λ (t : Title). id_links true t.id) (option_to_list g.title)) groups else []
 
 -- the texts show a report under these sheets, one text under each: all print one page, which shows each group, in order,
--- and each listed character of which is one of a trusted text; it links to what the report links to. Without links, under a
--- plain sheet, the text is the page's characters
+-- and each listed character of which is one of a trusted text; it links to what the report links to. So without links, under a
+-- plain sheet, the text is the page's characters and nothing else (`plain` follows from `printed` and `links`)
 pub record SheetsShown (r : Renderer) (groups : List Group) (sheets : List Stylesheet) (texts : List (List ℕ)) : Type 0 where
   pub page : Page
   pub shows : AllZip (ShowsGroup r (gutter_of_report r groups)) groups page
@@ -234,14 +255,9 @@ pub record SheetsShown (r : Renderer) (groups : List Group) (sheets : List Style
 abbrev pub ShowsReport : Renderer → List Group → Stylesheet → List ℕ → Type 0
 ShowsReport r groups sheet text = SheetsShown r groups (sheet ∷ []) (text ∷ [])
 
--- the text under a sheet is a plain one with codes of the sheet and of links between its characters, and each listed
+-- the text under a sheet is a plain one with codes of the sheet and of these links between its characters, and each listed
 -- character of the plain text is one of a trusted text
-pub record IsFreeUnder (trusted : List (List ℕ)) (sheet : Stylesheet) (text : List ℕ) : Type 0 where
+pub record IsFreeUnder (trusted links : List (List ℕ)) (sheet : Stylesheet) (text : List ℕ) : Type 0 where
   pub plain : List ℕ
-  pub links : List (List ℕ)
   pub woven : IsWoven sheet text plain links
   pub free : IsFreeBut trusted plain
-
--- whether a renderer draws the graphic form
-abbrev pub is_graphic : Renderer → Bool
-is_graphic r = not (r.no_graphics || r.short_message)

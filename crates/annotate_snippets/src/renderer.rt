@@ -5,6 +5,7 @@ ghost use Rattle.std.specs.List.{AllZip};
 mod coverage;
 mod error;
 mod graphic;
+mod gutter;
 mod judge;
 pub mod parts;
 pub mod style;
@@ -51,9 +52,9 @@ impl Renderer {
     ghost use Rattle.annotate_snippets.specs.Fault.{first_fault, IsWithinBounds};
     ghost use Rattle.annotate_snippets.specs.Covered.{is_covered};
     ghost use Rattle.annotate_snippets.specs.Settings.{plain_settings, styled_settings};
-    ghost use Rattle.annotate_snippets.specs.Shown.{is_graphic, ShowsReport, SheetsShown, IsFreeUnder};
+    ghost use Rattle.annotate_snippets.specs.Shown.{report_links, ShowsReport, SheetsShown, IsFreeUnder};
     ghost use Rattle.annotate_snippets.specs.Drawn.{IsGridOfReport};
-    ghost use Rattle.snippet_model.specs.Trusted.{trusted_texts, AreNamesOneRow};
+    ghost use Rattle.snippet_model.specs.Trusted.{trusted_texts};
 
     /// A renderer that writes no style codes.
     pub fn plain() -> Renderer
@@ -213,12 +214,13 @@ impl Renderer {
 
         // The text prints a page that shows the report: its titles, each line on which a span begins or ends, once and in
         // order, and the marks below them. Each listed character of the page is one of a trusted text.
-        ensures shows { is_graphic self.now ≡ true → AreNamesOneRow groups.now
-            → IfOk result (λ text. ShowsReport self.now groups.now self.now.stylesheet (string_bytes text)) }
+        ensures shows { IfOk result (λ text.
+            ShowsReport self.now groups.now self.now.stylesheet (string_bytes text)) }
 
-        // Without the codes of the sheet and of links, each listed character of the text is one of a trusted text.
+        // Without the codes of the sheet and of the report's links, each listed character of the text is one of a trusted text.
+        // It follows from `shows`, in fewer words.
         ensures free { IfOk result (λ text.
-            IsFreeUnder (trusted_texts groups.now) self.now.stylesheet (string_bytes text)) }
+            IsFreeUnder (trusted_texts groups.now) (report_links self.now groups.now) self.now.stylesheet (string_bytes text)) }
     {
         let (level, grid) = self.page(alloc, groups)?;
         grid.render(level, &self.stylesheet)
@@ -250,12 +252,13 @@ impl Renderer {
 
         // All texts print one page, each under its sheet: a page that shows the report, and each listed character of which
         // is one of a trusted text.
-        ensures shows { is_graphic self.now ≡ true → AreNamesOneRow groups.now
-            → IfOk result (λ texts. SheetsShown self.now groups.now sheets.now (map string_bytes texts.items)) }
+        ensures shows { IfOk result (λ texts.
+            SheetsShown self.now groups.now sheets.now (map string_bytes texts.items)) }
 
-        // Without the codes of its sheet and of links, each listed character of a text is one of a trusted text.
-        ensures free { IfOk result (λ texts.
-            AllZip (λ sheet text. IsFreeUnder (trusted_texts groups.now) sheet text) sheets.now (map string_bytes texts.items)) }
+        // Without the codes of its sheet and of the report's links, each listed character of a text is one of a trusted text. It
+        // follows from `shows`, in fewer words.
+        ensures free { IfOk result (λ texts. AllZip (λ sheet text.
+            IsFreeUnder (trusted_texts groups.now) (report_links self.now groups.now) sheet text) sheets.now (map string_bytes texts.items)) }
     {
         let (level, grid) = self.page(alloc, groups)?;
         graphic::printed(alloc, &grid, level, sheets).map_err(RenderError::Memory)

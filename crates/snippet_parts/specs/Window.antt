@@ -7,7 +7,7 @@ use Rattle.snippet_model.specs.declared.snippet.Annotation.{Annotation}
 use Rattle.snippet_style.specs.Grid.{written}
 use Rattle.snippet_text.specs.Width.{char_width, width_of}
 use Rattle.snippet_parts.specs.Lines.{source_lines, text_at}
-use Rattle.snippet_parts.specs.Place.{place_of}
+use Rattle.snippet_parts.specs.Place.{end_location}
 use Rattle.snippet_parts.specs.Mark.{is_marking, is_single_line, is_marked_on, is_wide, start_column}
 use Rattle.snippet_parts.specs.Kept.{kept_lines}
 
@@ -100,10 +100,16 @@ abbrev pub is_near : Option ℕ → Bool
 is_near None = false
 is_near (Some columns) = nat_le columns 26
 
--- whether a span that is marked starts within those columns, or its last line's mark does
+-- the column of the mark at the end of a span of several lines: it is one column wide, and ends where the span does, which
+-- is one column farther right where the span ends behind the end of its line's text
+abbrev pub end_mark_column : List ℕ → Annotation → ℕ
+end_mark_column source a =
+    (end_location (record { text = source; first = 0 }) a.span.start a.span.end).display - 1
+
+-- whether a span that is marked starts within those columns, or the mark at its end does
 abbrev pub is_near_span : List ℕ → Annotation → Bool
 is_near_span source a =
-    is_marking a.kind && (nat_le (start_column source a) 26 || (not (is_single_line source a) && nat_le (place_of source a.span.end).column 27))
+    is_marking a.kind && (nat_le (start_column source a) 26 || (not (is_single_line source a) && nat_le (end_mark_column source a) 26))
 
 -- whether nothing is cut from the left of these lines: all are blank, or one begins behind its whitespace within those
 -- columns, or a span does, or none is marked

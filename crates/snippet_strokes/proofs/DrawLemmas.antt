@@ -1,11 +1,12 @@
 -- Drawing in rows from one on, and in cells from one on.
-use Rattle.std.proofs.Common.{◌≡◌, ℕ, ◌+◌, ◌-◌, ◌<◌, ◌≤◌, false, List, length, get_or, refl, sym, ◌∙◌, subst, arith, inl, inr, All}
+use Rattle.std.proofs.Common.{◌≡◌, ◌≢◌, ℕ, ◌+◌, ◌-◌, ◌<◌, ◌≤◌, false, List, [], ◌∷◌, length, get_or, refl, sym, ◌∙◌, subst, arith, inl, inr, All}
 use Rattle.std.proofs.lemmas.Bool.{cases_lt, cases_eq}
 use Rattle.snippet_style.specs.Grid.{Cell, SPACE, cell_at, WritesCells, drawn, unlinked_cell}
 use Rattle.snippet_style.specs.declared.role.ElementStyle.{ElementStyle}
 use Rattle.snippet_style.proofs.GridLemmas.{All-drawn}
 use Rattle.std.proofs.lemmas.List.Elements.{All-weaker}
 use Rattle.snippet_text.specs.Normalized.{is_listed}
+use Rattle.snippet_strokes.specs.Entries.{has_mark_role}
 use Rattle.snippet_strokes.specs.Painting.{IsFreeCell, DrawsFrom}
 
 -- nothing is drawn yet
@@ -75,3 +76,31 @@ DrawsFrom-writes row r from at old new cells writes lower within right all =
 pub free_drawn : (role : ElementStyle) (cs : List ℕ) → All (λ c. is_listed c ≡ false) cs → All IsFreeCell (drawn role cs)
 free_drawn role cs free =
     All-drawn IsFreeCell role cs (All-weaker (λ c. is_listed c ≡ false) (λ c. IsFreeCell (unlinked_cell role c)) (λ c is. (is, refl)) cs free)
+
+-- a write of cells that aren't in the role of marks brings none
+pub unmarked_writes : (old new : List (List Cell)) (row at : ℕ) (cells : List Cell) → WritesCells old new row at cells → All (λ cell. has_mark_role cell ≡ false) cells → (r c : ℕ) → has_mark_role (cell_at old r c) ≡ false → has_mark_role (cell_at new r c) ≡ false
+unmarked_writes old new row at cells writes all r c before =
+    let P : Cell → Type 0 = λ cell. has_mark_role cell ≡ false in
+    elim (cases_eq r row) [
+      | inl here ↦
+          subst (λ n. P (cell_at new n c)) (sym here) (written_cell P old new row at c cells writes all (subst (λ n. P (cell_at old n c)) here before))
+      | inr other ↦ subst (λ cs. P (get_or cs c SPACE)) (sym (writes.others r other)) before
+    ]
+
+-- a write of one cell brings nothing to the cells beside it
+pub unmarked_beside : (old new : List (List Cell)) (row at : ℕ) (cell : Cell) → WritesCells old new row at (cell ∷ []) → (r c : ℕ) → c ≢ at → has_mark_role (cell_at old r c) ≡ false → has_mark_role (cell_at new r c) ≡ false
+unmarked_beside old new row at cell writes r c beside before =
+    let P : Cell → Type 0 = λ cell. has_mark_role cell ≡ false in
+    elim (cases_eq r row) [
+      | inl here ↦ subst (λ n. P (cell_at new n c)) (sym here) (elim (cases_lt c at) [
+        | inl left ↦ subst P (sym (writes.before c left)) (subst (λ n. P (cell_at old n c)) here before)
+        | inr after ↦
+            subst P (sym (writes.behind c (omega (arith, after, beside)))) (subst (λ n. P (cell_at old n c)) here before)
+      ])
+      | inr other ↦ subst (λ cs. P (get_or cs c SPACE)) (sym (writes.others r other)) before
+    ]
+
+-- characters drawn in a role that isn't that of marks
+pub unmarked_drawn : (role : ElementStyle) (cs : List ℕ) → has_mark_role (unlinked_cell role 32) ≡ false → All (λ cell. has_mark_role cell ≡ false) (drawn role cs)
+unmarked_drawn role cs unmarked =
+    All-drawn (λ cell. has_mark_role cell ≡ false) role cs (λ k d within. unmarked)

@@ -10,6 +10,7 @@ use Rattle.snippet_model.specs.declared.snippet.AnnotationKind.TheVariants.{Prim
 use Rattle.snippet_parts.specs.declared.entries.LineAnnotation.{LineAnnotation}
 use Rattle.snippet_style.specs.Glyphs.{IsMarkGlyph, underline_role}
 use Rattle.snippet_style.specs.Grid.{Cell, cell_at}
+use Rattle.snippet_style.specs.declared.glyphs.DecorStyle.{DecorStyle}
 use Rattle.snippet_strokes.specs.declared.layout.Layout.{Layout}
 use Rattle.snippet_strokes.specs.declared.positions.PlacedEntry.{PlacedEntry}
 use Rattle.snippet_strokes.specs.Entries.{EntryCovers, entry_width, is_primary, IsEntryMark, IsMarkCell}
@@ -23,9 +24,9 @@ primary_only Context is = cc
 primary_only Visible is = cc
 
 -- two kinds that are drawn alike have the same mark cells
-same_mark : (kind other : AnnotationKind) (cell : Cell) → is_primary other ≡ is_primary kind → IsMarkCell other cell → IsMarkCell kind cell
-same_mark kind other cell alike is =
-    subst (λ (primary : Bool). IsMarkGlyph primary cell.ch × (cell.role ≡ underline_role primary)) alike is
+same_mark : (decor : DecorStyle) (kind other : AnnotationKind) (cell : Cell) → is_primary other ≡ is_primary kind → IsMarkCell decor other cell → IsMarkCell decor kind cell
+same_mark decor kind other cell alike is =
+    subst (λ (primary : Bool). IsMarkGlyph decor primary cell.ch × (cell.role ≡ underline_role primary)) alike is
 
 -- an entry that stands in front of the mark's entry, and covers the column too, is drawn as the mark is
 drawn_alike : (es : List LineAnnotation) (p : ℕ) (kind : AnnotationKind) (mark : IsEntryMark es p kind) (top : LineAnnotation) → Contains es top → EntryCovers top p → CoversOver mark.entry top → is_primary top.kind ≡ is_primary kind
@@ -53,7 +54,7 @@ from_map f (x ∷ xs) y (k, within, same) =
     (get_or (x ∷ xs) at x, Contains-get_or (x ∷ xs) at x inside, sym (get_or-map f (x ∷ xs) at x y inside) ∙ same)
 
 -- the cell below a column with a mark holds it
-pub mark_shown : (layout : Layout) (es : List LineAnnotation) (placed : List PlacedEntry) (row : ℕ) (old new : List (List Cell)) → IsPermutation es (map (λ (e : PlacedEntry). e.entry) placed) → AreMarked layout placed row old new → (p : ℕ) (kind : AnnotationKind) → IsEntryMark es p kind → IsMarkCell kind (cell_at new row (layout.code + p))
+pub mark_shown : (layout : Layout) (es : List LineAnnotation) (placed : List PlacedEntry) (row : ℕ) (old new : List (List Cell)) → IsPermutation es (map (λ (e : PlacedEntry). e.entry) placed) → AreMarked layout placed row old new → (p : ℕ) (kind : AnnotationKind) → IsEntryMark es p kind → IsMarkCell layout.decor kind (cell_at new row (layout.code + p))
 mark_shown layout es placed row old new same marked p kind mark =
     let f : PlacedEntry → LineAnnotation = λ e. e.entry in
     let order : List PlacedEntry = marked.order in
@@ -71,7 +72,7 @@ mark_shown layout es placed row old new same marked p kind mark =
     let among : Contains es top.entry = Contains-permutation sorted es top.entry (IsPermutation-sym es sorted all) (subst (Contains sorted) (read shows.at shows.within) (Contains-get_or sorted shows.at mark.entry inside)) in
     let over : CoversOver mark.entry top.entry = subst (λ e. CoversOver e top.entry) (read k found.1.1 ∙ is) (subst (CoversOver (get_or sorted k mark.entry)) (read shows.at shows.within) (marked.ordered k shows.at mark.entry shows.later inside)) in
     let alike = drawn_alike es p kind mark top.entry among shows.covers over in
-    same_mark kind top.entry.kind (cell_at new row (layout.code + p)) alike (subst (IsMarkCell top.entry.kind) (sym shows.holds) (IsMarkCell-mark_cell layout top (layout.code + p)))
+    same_mark layout.decor kind top.entry.kind (cell_at new row (layout.code + p)) alike (subst (IsMarkCell layout.decor top.entry.kind) (sym shows.holds) (IsMarkCell-mark_cell layout top (layout.code + p)))
 
 -- a kind that isn't drawn as primary, and is marked, is Context
 context_only : (kind : AnnotationKind) → kind ≢ Visible → is_primary kind ≡ false → kind ≡ Context

@@ -1,5 +1,5 @@
 -- The rows of a line's strokes, once all are drawn.
-use Rattle.std.proofs.Common.{◌≡◌, ℕ, zero, suc, ◌+◌, ◌-◌, ◌<◌, ◌≤◌, ◌==◌, ◌&&◌, max, not, Bool, if◌then◌else◌, true, false, List, [], ◌∷◌, ◌++◌, length, map, take, drop, replicate, get_or, refl, sym, ap, ◌∙◌, subst, arith, inl, inr, All, Contains, chars}
+use Rattle.std.proofs.Common.{◌≡◌, ◌≢◌, ℕ, zero, suc, ◌+◌, ◌-◌, ◌<◌, ◌≤◌, ◌==◌, ◌&&◌, max, not, Bool, if◌then◌else◌, true, false, List, [], ◌∷◌, ◌++◌, length, map, take, drop, replicate, get_or, refl, sym, ap, ◌∙◌, subst, arith, inl, inr, All, Contains, chars}
 use Rattle.std.specs.List.{slice_index_or}
 use Rattle.std.specs.List.Sorted.{IsPermutation}
 use Rattle.std.specs.Cow.{cow_str_bytes}
@@ -15,8 +15,8 @@ use Rattle.snippet_style.specs.Grid.{Cell, SPACE, cell_at, row_at, drawn, writte
 use Rattle.snippet_style.proofs.GridLemmas.{length-written, take-written_past, drop-written, row_at-cells_written_same}
 use Rattle.snippet_strokes.specs.declared.layout.Layout.{Layout}
 use Rattle.snippet_strokes.specs.declared.positions.PlacedEntry.{PlacedEntry}
-use Rattle.snippet_strokes.specs.Entries.{EntryCovers, label_text, label_role}
-use Rattle.snippet_strokes.specs.Painting.{IsFreeCell, DrawsFrom, StandsFrom, AreMarked}
+use Rattle.snippet_strokes.specs.Entries.{EntryCovers, label_text, label_role, has_mark_role}
+use Rattle.snippet_strokes.specs.Painting.{IsFreeCell, DrawsFrom, MarksStarts, StandsFrom, AreMarked}
 use Rattle.snippet_strokes.specs.Positions.{HasItsLabel, has_label, is_hung, positions, row_count, ArePlaced}
 use Rattle.snippet_strokes.specs.Rows.{separator_row, closing_row, bare_row, IsStrokeRow, AddsStrokes, ShowsMarks}
 use Rattle.snippet_strokes.proofs.DrawLemmas.{DrawsFrom-more}
@@ -101,6 +101,8 @@ module _ (layout : Layout) (closes : Bool) (es : List LineAnnotation) (placed : 
     (stems : (from : ℕ) → All (λ (e : PlacedEntry). StandsFrom layout.code from e.entry) placed → DrawsFrom row from begun stemmed)
     (no_stems : All (λ e. is_hung e ≡ false) placed → stemmed ≡ begun)
     (labels : (from : ℕ) → All (λ (e : PlacedEntry). StandsFrom layout.code from e.entry) placed → DrawsFrom row from stemmed labelled)
+    (stem_starts : MarksStarts layout.code placed begun stemmed)
+    (label_starts : MarksStarts layout.code [] stemmed labelled)
     (no_labels : All (λ e. has_label e ≡ false) placed → labelled ≡ stemmed)
     (lone_label : (e : PlacedEntry) → placed ≡ e ∷ [] → e.position ≡ 0 → has_label e ≡ true → labelled ≡ cells_written stemmed row (layout.code + e.entry.end.display + 1) (drawn (label_role e.entry.kind) (label_text e.entry)))
     (marked : AreMarked layout placed row labelled new) where
@@ -286,10 +288,21 @@ module _ (layout : Layout) (closes : Bool) (es : List LineAnnotation) (placed : 
           let none : N q = λ covers. omega (arith, covers.1, right, ap (λ (x : LineAnnotation). x.end.display) entry) in
           subst (λ n. cell_at new row n ≡ cell_at labelled row n) here (marked.painted.unmarked p (subst (All N) (sym (lone_order q one)) (All-cons N q [] none (All-nil N))))
 
-  shows_marks : ShowsMarks layout.code es (row_at rows_below 0)
+  -- what was there below a column that no entry covers is no mark
+  unmarked : (p : ℕ) → All (λ e. EntryCovers e p → ⊥) es → has_mark_role (cell_at new row (layout.code + p)) ≡ false
+  unmarked p uncovered =
+      let N : LineAnnotation → Type 0 = λ e. layout.code + p ≢ layout.code + e.start.display in
+      let beside : All N es = λ k d within here. uncovered k d within (omega (arith, here), omega (arith, here, (columns k d within).0)) in
+      let bare_space : has_mark_role (cell_at begun row (layout.code + p)) ≡ false = ap (λ cells. has_mark_role (slice_index_or cells (layout.code + p) SPACE)) first_begun ∙ ap has_mark_role (space_at p) in
+      let stems_done = stem_starts row (layout.code + p) (entries_all N es placed is.same beside) bare_space in
+      let labels_done = label_starts row (layout.code + p) (All-nil (λ (e : PlacedEntry). layout.code + p ≢ layout.code + e.entry.start.display)) stems_done in
+      ap has_mark_role (marked.painted.unmarked p (ordered_all (λ e. EntryCovers e p → ⊥) uncovered)) ∙ labels_done
+
+  shows_marks : ShowsMarks layout.decor layout.code es (row_at rows_below 0)
   shows_marks =
-      subst (ShowsMarks layout.code es) (sym marks_row) (record {
+      subst (ShowsMarks layout.decor layout.code es) (sym marks_row) (record {
         marks = mark_shown layout es placed row labelled new is.same marked;
+        unmarked = unmarked;
         spaces = λ none p uncovered.
             marked.painted.unmarked p (ordered_all (λ e. EntryCovers e p → ⊥) uncovered) ∙ ap (λ rows. cell_at rows row (layout.code + p)) (unhung none) ∙ ap (λ cells. slice_index_or cells (layout.code + p) SPACE) first_begun ∙ space_at p;
         lone = lone;
@@ -330,6 +343,7 @@ strokes_none layout closes es old new place none adds =
         bare = λ _. short closes;
         marks = record {
           marks = λ p kind mark. absurd (omega (arith, mark.among.1, none));
+          unmarked = λ p none_covers. ap has_mark_role (space closes p);
           spaces = λ _ p none_covers. space closes p;
           lone = λ e one some shown. absurd (omega (arith, none, ap length one));
         };

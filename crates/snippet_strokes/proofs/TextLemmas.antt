@@ -3,7 +3,7 @@ use Rattle.std.proofs.Common.{◌≡◌, ◌==◌, Bool, true, not, refl, sym, a
 use Rattle.std.proofs.lemmas.Str.{chars-nil, encodes-chars}
 use Rattle.snippet_parts.specs.declared.entries.LineAnnotation.{LineAnnotation}
 use Rattle.snippet_text.proofs.NormLemmas.{list_any-norm}
-use Rattle.snippet_strokes.specs.Entries.{shown_label, label_text}
+use Rattle.snippet_strokes.specs.Entries.{label_chars, label_text}
 use Rattle.std.specs.List.{flat_map, list_any}
 use Rattle.std.specs.Str.{chars, chars_after, continuation_len, lead_bits}
 use Rattle.std.proofs.lemmas.Bool.Decides.{nat_tests}
@@ -83,7 +83,7 @@ is_empty-chars bytes utf8 =
 pub free_label_text : (e : LineAnnotation) → All (λ c. is_listed c ≡ false) (label_text e)
 free_label_text e = text_free e.label
   where
-    text_free : (label : Option (Bor (List ℕ))) → All (λ c. is_listed c ≡ false) (shown_label label)
+    text_free : (label : Option (Bor (List ℕ))) → All (λ c. is_listed c ≡ false) (label_chars label)
     text_free None = All-nil (λ c. is_listed c ≡ false)
     text_free (Some label) = All-from_none (norm (chars label.now)) (list_any-norm (chars label.now))
 

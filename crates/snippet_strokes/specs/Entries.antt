@@ -6,8 +6,9 @@ use Rattle.snippet_model.specs.declared.snippet.AnnotationKind.TheVariants.{Prim
 use Rattle.snippet_parts.specs.declared.entries.LineAnnotation.{LineAnnotation}
 use Rattle.snippet_style.specs.Glyphs.{IsMarkGlyph, underline_role}
 use Rattle.snippet_style.specs.Grid.{Cell}
+use Rattle.snippet_style.specs.declared.glyphs.DecorStyle.{DecorStyle}
 use Rattle.snippet_style.specs.declared.role.ElementStyle.{ElementStyle}
-use Rattle.snippet_style.specs.declared.role.ElementStyle.TheVariants.{LabelPrimary, LabelSecondary}
+use Rattle.snippet_style.specs.declared.role.ElementStyle.TheVariants.{UnderlinePrimary, UnderlineSecondary, LabelPrimary, LabelSecondary}
 use Rattle.snippet_text.specs.Normalized.{norm}
 
 -- the entry covers this column
@@ -41,13 +42,24 @@ label_role Context = LabelSecondary
 label_role Visible = LabelSecondary
 
 -- the characters that a label shows: normalised, and none where there is no label
-abbrev pub shown_label : Option (Bor (List ℕ)) → List ℕ
-shown_label None = []
-shown_label (Some label) = norm (chars label.now)
+abbrev pub label_chars : Option (Bor (List ℕ)) → List ℕ
+label_chars None = []
+label_chars (Some label) = norm (chars label.now)
 
 abbrev pub label_text : LineAnnotation → List ℕ
-label_text e = shown_label e.label
+label_text e = label_chars e.label
 
--- the cell holds a mark of this kind, in the role of its strokes
-abbrev pub IsMarkCell : AnnotationKind → Cell → Type 0
-IsMarkCell kind cell = IsMarkGlyph (is_primary kind) cell.ch × (cell.role ≡ underline_role (is_primary kind))
+-- the cell holds a mark of this kind, drawn as this decor draws it, in the role of its strokes
+abbrev pub IsMarkCell : DecorStyle → AnnotationKind → Cell → Type 0
+IsMarkCell decor kind cell =
+    IsMarkGlyph decor (is_primary kind) cell.ch × (cell.role ≡ underline_role (is_primary kind))
+
+-- whether a role is that of marks, primary ones or those for context
+abbrev pub is_mark_role : ElementStyle → Bool
+is_mark_role UnderlinePrimary = true
+is_mark_role UnderlineSecondary = true
+is_mark_role other = false
+
+-- whether a cell is in such a role
+abbrev pub has_mark_role : Cell → Bool
+has_mark_role cell = is_mark_role cell.role

@@ -6,7 +6,7 @@ use Rattle.snippet_style.specs.Grid.{Cell, cell_at, row_at, unlinked_cell}
 use Rattle.snippet_text.specs.Normalized.{is_listed}
 use Rattle.snippet_strokes.specs.declared.layout.Layout.{Layout}
 use Rattle.snippet_strokes.specs.declared.positions.PlacedEntry.{PlacedEntry}
-use Rattle.snippet_strokes.specs.Entries.{EntryCovers, entry_width, is_primary}
+use Rattle.snippet_strokes.specs.Entries.{EntryCovers, entry_width, is_primary, has_mark_role}
 use Rattle.snippet_strokes.specs.Positions.{is_hung}
 
 -- a cell that holds no listed character and belongs to no link
@@ -19,6 +19,11 @@ pub record DrawsFrom (row from : ℕ) (old new : List (List Cell)) : Type 0 wher
   pub left : (r c : ℕ) → c < from → cell_at new r c ≡ cell_at old r c
   pub free : (r : ℕ) → ((c : ℕ) → IsFreeCell (cell_at old r c)) → (c : ℕ) → IsFreeCell (cell_at new r c)
   pub count : length new ≡ length old
+
+-- something was drawn, and nothing of it in the role of marks but below the first columns of these entries
+abbrev pub MarksStarts : ℕ → List PlacedEntry → List (List Cell) → List (List Cell) → Type 0
+MarksStarts code es old new =
+    (r c : ℕ) → All (λ e. c ≢ code + e.entry.start.display) es → has_mark_role (cell_at old r c) ≡ false → has_mark_role (cell_at new r c) ≡ false
 
 -- an entry doesn't start left of this cell
 abbrev pub StandsFrom : ℕ → ℕ → LineAnnotation → Type 0

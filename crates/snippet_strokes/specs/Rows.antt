@@ -12,7 +12,7 @@ use Rattle.snippet_style.specs.declared.role.ElementStyle.TheVariants.{LineNumbe
 use Rattle.snippet_style.specs.Glyphs.{separator_of, closing_of, file_start_of, underline_role}
 use Rattle.snippet_style.specs.Grid.{Cell, SPACE, drawn, unlinked_cell, row_at, cell_at, gives_way, restyled}
 use Rattle.snippet_strokes.specs.declared.layout.Layout.{Layout}
-use Rattle.snippet_strokes.specs.Entries.{EntryCovers, is_primary, IsEntryMark, IsMarkCell, label_text, label_role}
+use Rattle.snippet_strokes.specs.Entries.{EntryCovers, is_primary, IsEntryMark, IsMarkCell, has_mark_role, label_text, label_role}
 use Rattle.snippet_strokes.specs.Painting.{IsFreeCell, StandsFrom}
 
 -- these digits at the right end of a field of this width, filled up with spaces
@@ -57,10 +57,12 @@ pub record ShowsSource (gutter from : ℕ) (shown text : List ℕ) (row : List C
   pub number : take (length shown) row ≡ drawn LineNumber shown
   pub code : drop from row ≡ drawn Quotation text
 
--- below each column that has a mark the row holds it. Where no entry has a label that shows anything, below each column
--- that no entry covers stands a space; behind the mark of a line's one entry stand a space and its label, and nothing more
-pub record ShowsMarks (code : ℕ) (es : List LineAnnotation) (row : List Cell) : Type 0 where
-  pub marks : (p : ℕ) (kind : AnnotationKind) → IsEntryMark es p kind → IsMarkCell kind (slice_index_or row (code + p) SPACE)
+-- below each column that has a mark the row holds it, and below each column that no entry covers no cell is in the role of
+-- marks. Where no entry has a label that shows anything, a space stands there; behind the mark of a line's one entry stand
+-- a space and its label, and nothing more
+pub record ShowsMarks (decor : DecorStyle) (code : ℕ) (es : List LineAnnotation) (row : List Cell) : Type 0 where
+  pub marks : (p : ℕ) (kind : AnnotationKind) → IsEntryMark es p kind → IsMarkCell decor kind (slice_index_or row (code + p) SPACE)
+  pub unmarked : (p : ℕ) → All (λ e. EntryCovers e p → ⊥) es → has_mark_role (slice_index_or row (code + p) SPACE) ≡ false
   pub spaces : All (λ e. label_text e ≡ []) es → (p : ℕ) → All (λ e. EntryCovers e p → ⊥) es → slice_index_or row (code + p) SPACE ≡ SPACE
   pub lone : (e : LineAnnotation) → es ≡ e ∷ [] → e.start.display < e.end.display → 0 < length (label_text e) → drop (code + e.end.display) row ≡ SPACE ∷ drawn (label_role e.kind) (label_text e)
 
@@ -85,7 +87,7 @@ pub record AreStrokes (layout : Layout) (es : List LineAnnotation) (closes : Boo
   pub some : 0 < length es → 0 < length rows
   pub lone : length es ≡ 1 → length rows ≡ 1
   pub bare : All (λ e. label_text e ≡ []) es → length rows ≤ 1
-  pub marks : ShowsMarks layout.code es (row_at rows 0)
+  pub marks : ShowsMarks layout.decor layout.code es (row_at rows 0)
   pub are : (k : ℕ) → k < length rows → IsStrokeRow layout es (closes && k + 1 == length rows) (row_at rows k)
 
 -- one source row was added below the rows that are there

@@ -3,7 +3,7 @@ ghost use Rattle.std.specs.Prelude.{◌≡◌, ◌+◌, ◌^◌, ◌<◌, ◌≤
 ghost use Rattle.snippet_style.specs.Grid.{cells_written, drawn};
 ghost use Rattle.snippet_parts.specs.Marked.{HasColumns};
 ghost use Rattle.snippet_strokes.specs.Entries.{label_role, label_text};
-ghost use Rattle.snippet_strokes.specs.Painting.{DrawsFrom, HasRows, StandsFrom};
+ghost use Rattle.snippet_strokes.specs.Painting.{DrawsFrom, HasRows, MarksStarts, StandsFrom};
 ghost use Rattle.snippet_strokes.specs.Positions as spec;
 ghost use Rattle.snippet_strokes.specs.Positions.{HasItsLabel};
 ghost use Rattle.snippet_strokes.specs.declared.positions.PlacedEntry.{PlacedEntry};
@@ -38,6 +38,7 @@ pub(crate) fn draw_labels(
     requires labels { All HasItsLabel placed.now }
     ensures draws { OnOk result ((from : ℕ) → All (λ e. StandsFrom layout.code from e.entry) placed.now
         → DrawsFrom row from buffer.old buffer.new) }
+    ensures starts { OnOk result (MarksStarts layout.code [] buffer.old buffer.new) }
     ensures none { OnOk result (All (λ e. spec.has_label e ≡ false) placed.now → buffer.new ≡ buffer.old) }
     ensures lone { OnOk result ((e : PlacedEntry) → placed.now ≡ e ∷ [] → e.position ≡ 0 → spec.has_label e ≡ true
         → buffer.new ≡ cells_written buffer.old row (layout.code + e.entry.end.display + 1)
@@ -63,6 +64,7 @@ fn draw_label(
     requires label { HasItsLabel placed.now }
     ensures draws { OnOk result ((from : ℕ) → StandsFrom layout.code from placed.now.entry
         → DrawsFrom row from buffer.old buffer.new) }
+    ensures starts { OnOk result (MarksStarts layout.code [] buffer.old buffer.new) }
     ensures none { OnOk result (spec.has_label placed.now ≡ false → buffer.new ≡ buffer.old) }
     ensures behind { OnOk result (placed.now.position ≡ 0 → spec.has_label placed.now ≡ true
         → buffer.new ≡ cells_written buffer.old row (layout.code + placed.now.entry.end.display + 1)

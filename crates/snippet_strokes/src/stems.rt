@@ -1,7 +1,7 @@
 //! The stems that lead from marks down to their labels.
-ghost use Rattle.std.specs.Prelude.{◌≡◌, ◌+◌, ◌^◌, ◌<◌, ◌≤◌, All, OnOk, false, length, ℕ};
+ghost use Rattle.std.specs.Prelude.{◌≡◌, ◌+◌, ◌^◌, ◌<◌, ◌≤◌, ◌∷◌, [], All, OnOk, false, length, ℕ};
 ghost use Rattle.snippet_parts.specs.Marked.{HasColumns};
-ghost use Rattle.snippet_strokes.specs.Painting.{DrawsFrom, HasRows, StandsFrom};
+ghost use Rattle.snippet_strokes.specs.Painting.{DrawsFrom, HasRows, MarksStarts, StandsFrom};
 ghost use Rattle.snippet_strokes.specs.Positions as spec;
 
 use crate::layout::Layout;
@@ -34,6 +34,7 @@ pub(crate) fn draw_stems(
     requires rows { All (HasRows row (length buffer.old)) placed.now }
     ensures draws { OnOk result ((from : ℕ) → All (λ e. StandsFrom layout.code from e.entry) placed.now
         → DrawsFrom row from buffer.old buffer.new) }
+    ensures starts { OnOk result (MarksStarts layout.code placed.now buffer.old buffer.new) }
     ensures none { OnOk result (All (λ e. spec.is_hung e ≡ false) placed.now → buffer.new ≡ buffer.old) }
 {
     for entry in placed {
@@ -55,6 +56,7 @@ fn draw_stem(
     requires rows { HasRows row (length buffer.old) placed.now }
     ensures draws { OnOk result ((from : ℕ) → StandsFrom layout.code from placed.now.entry
         → DrawsFrom row from buffer.old buffer.new) }
+    ensures starts { OnOk result (MarksStarts layout.code (placed.now ∷ []) buffer.old buffer.new) }
     ensures none { OnOk result (spec.is_hung placed.now ≡ false → buffer.new ≡ buffer.old) }
 {
     if !placed.is_hung() {

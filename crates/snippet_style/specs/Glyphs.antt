@@ -26,16 +26,13 @@ abbrev pub underline_role : Bool → ElementStyle
 underline_role true = UnderlinePrimary
 underline_role false = UnderlineSecondary
 
--- a character with which a mark is drawn: '^', '━' or '┯' if it is primary, and '-', '─' or '┬' if it is for
--- context. No character is of both kinds, so a mark shows which kind it is
-abbrev pub IsMarkGlyph : Bool → ℕ → Type 0
-IsMarkGlyph true ch = (ch ≡ 94) ⊎ ((ch ≡ 0x2501) ⊎ (ch ≡ 0x252F))
-IsMarkGlyph false ch = (ch ≡ 45) ⊎ ((ch ≡ 0x2500) ⊎ (ch ≡ 0x252C))
-
--- the one character with which a mark is drawn in ASCII: '^' if it is primary, and '-' if it is for context
-abbrev pub ascii_mark : Bool → ℕ
-ascii_mark true = 94
-ascii_mark false = 45
+-- a character with which a mark is drawn: in ASCII '^' if it is primary and '-' if it is for context, in Unicode '━' or
+-- '┯' if it is primary and '─' or '┬' if it is for context. No character is of two kinds, so a mark shows which kind it is
+abbrev pub IsMarkGlyph : DecorStyle → Bool → ℕ → Type 0
+IsMarkGlyph Ascii true ch = ch ≡ 94
+IsMarkGlyph Ascii false ch = ch ≡ 45
+IsMarkGlyph Unicode true ch = (ch ≡ 0x2501) ⊎ (ch ≡ 0x252F)
+IsMarkGlyph Unicode false ch = (ch ≡ 0x2500) ⊎ (ch ≡ 0x252C)
 
 -- one of the four glyphs of a stroke, which a line of the table gives in this order: ASCII for primary strokes, ASCII
 -- for context, Unicode for primary strokes, Unicode for context

@@ -1,8 +1,7 @@
 //! The characters that the strokes of a report are drawn with.
 
 ghost use Rattle.std.specs.Prelude.{◌≡◌, chars};
-ghost use Rattle.snippet_style.specs.declared.glyphs.DecorStyle.TheVariants.{Ascii};
-ghost use Rattle.snippet_style.specs.Glyphs.{IsMarkGlyph, ascii_mark, closing_of, file_start_of, glyph_of, separator_of, underline_role};
+ghost use Rattle.snippet_style.specs.Glyphs.{IsMarkGlyph, closing_of, file_start_of, glyph_of, separator_of, underline_role};
 
 use crate::role::ElementStyle;
 
@@ -90,10 +89,8 @@ impl DecorStyle {
         ensures style { result.style ≡ underline_role primary }
 
         // The marks of the two kinds of span differ.
-        ensures mark { IsMarkGlyph primary result.underline }
-        ensures label_mark { IsMarkGlyph primary result.label_start }
-        ensures ascii_mark { self ≡ Ascii → result.underline ≡ ascii_mark primary }
-        ensures ascii_label_mark { self ≡ Ascii → result.label_start ≡ ascii_mark primary }
+        ensures mark { IsMarkGlyph self primary result.underline }
+        ensures label_mark { IsMarkGlyph self primary result.label_start }
 
         // The table: ASCII for primary strokes and for context, then Unicode for both.
         ensures underline { result.underline ≡ glyph_of self primary 94 45 0x2501 0x2500 }

@@ -116,7 +116,7 @@ impl<'a> StyledBuffer<'a> {
         text: &str,
         role: ElementStyle,
     ) -> Result<(), AllocError>
-        requires row { row + 1 < 2 ^ 64 }
+        requires row { 0 < length text.now → row + 1 < 2 ^ 64 }
         requires end { cell + length (chars text.now) < 2 ^ 64 }
         ensures ok { OnOk result (0 < length text.now
             → self.new ≡ cells_written self.old row cell (drawn role (chars text.now))) }
@@ -139,7 +139,7 @@ impl<'a> StyledBuffer<'a> {
     ///
     /// There is no memory for the row or its cells.
     pub fn append(&mut self, row: usize, text: &str, role: ElementStyle) -> Result<(), AllocError>
-        requires row { row + 1 < 2 ^ 64 }
+        requires row { 0 < length text.now → row + 1 < 2 ^ 64 }
         ensures ok { OnOk result (0 < length text.now
             → (let end = length (row_at self.old row) in
             self.new ≡ cells_written self.old row end (drawn role (chars text.now)))) }

@@ -21,12 +21,12 @@ ghost use Rattle.snippet_model.specs.declared.snippet.Snippet.{Snippet};
 ghost use Rattle.snippet_model.specs.declared.snippet.Annotation.{Annotation};
 
 use crate::renderer::Renderer;
+use crate::renderer::gutter::gutter_of;
 use snippet_model::level::LevelName;
 use snippet_model::snippet::{Annotation, Element, Group, Snippet, Title};
 use snippet_parts as parts;
 use snippet_parts::line_bounds::{line_bounds, line_text};
-use snippet_parts::{column_of, counted_number, is_marking};
-use snippet_strokes::gutter_width;
+use snippet_parts::{column_of, is_marking};
 use snippet_style::LevelInner;
 use snippet_text::str_width;
 
@@ -130,19 +130,6 @@ fn is_covered_snippet(width: usize, snippet: &Snippet<Annotation>) -> bool
             source,
             &snippet.markers,
         )
-}
-
-/// The gutter's width, in cells: that of the greatest line number counted, or 0 where lines aren't numbered.
-pub fn gutter_of(snippet: &Snippet<Annotation>) -> usize
-    requires numbers { snippet.now.line_start + length (source_lines (cow_str_bytes snippet.now.source)) < 2 ^ 64 }
-    ensures value { result ≡ spec.gutter_of snippet.now }
-    ensures small { result ≤ 20 }
-{
-    if snippet.line_numbering {
-        gutter_width(counted_number(snippet))
-    } else {
-        0
-    }
 }
 
 /// Whether each annotation is drawn so far.

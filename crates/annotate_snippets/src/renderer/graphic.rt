@@ -16,7 +16,7 @@ ghost use Rattle.snippet_parts.specs.Span.{IsSpan};
 ghost use Rattle.annotate_snippets.specs.Drawn.{AddsCause, IsDrawable, IsGridOf};
 ghost use Rattle.snippet_style.specs.Woven.{Prints};
 
-use crate::renderer::coverage::gutter_of;
+use crate::renderer::gutter::gutter_of;
 use snippet_model::snippet::{Annotation, Snippet, Title};
 use snippet_parts::SourceMap;
 use snippet_parts::marked_lines::marked_lines;

@@ -1,14 +1,16 @@
-use Rattle.std.proofs.Common.{◌≡◌, ◌∙◌, ◌==◌, ◌+◌, ◌<◌, ℕ, not, false, All, ap, sym, subst, arith, inl, inr, length, chars}
+use Rattle.std.proofs.Common.{refl, ◌≡◌, ◌∙◌, ◌==◌, ◌+◌, ◌<◌, ℕ, not, false, All, ap, sym, subst, arith, inl, inr, length, chars}
 use Rattle.std.proofs.lemmas.Bool.{cases_lt}
 use Rattle.std.proofs.lemmas.List.{nil_from_length}
 use Rattle.std.proofs.lemmas.Result.{on_ok_weaker}
-use Rattle.snippet_style.specs.Grid.{Cell, drawn, cells_written}
+use Rattle.snippet_style.specs.Grid.{Cell, cell_at, drawn, cells_written, unlinked_cell}
 use Rattle.snippet_style.proofs.GridLemmas.{length-chars_le}
+use Rattle.snippet_model.specs.declared.snippet.AnnotationKind.{AnnotationKind}
+use Rattle.snippet_model.specs.declared.snippet.AnnotationKind.TheVariants.{Primary, Context, Visible}
 use Rattle.snippet_text.specs.Normalized.{is_listed}
-use Rattle.snippet_strokes.specs.Entries.{label_text}
+use Rattle.snippet_strokes.specs.Entries.{label_text, label_role, has_mark_role}
 use Rattle.snippet_strokes.specs.Painting.{IsFreeCell, DrawsFrom}
 use Rattle.snippet_strokes.specs.Positions.{label_place}
-use Rattle.snippet_strokes.proofs.DrawLemmas.{DrawsFrom-none, DrawsFrom-writes, free_drawn}
+use Rattle.snippet_strokes.proofs.DrawLemmas.{DrawsFrom-none, DrawsFrom-writes, free_drawn, unmarked_drawn, unmarked_writes}
 use Rattle.snippet_strokes.proofs.PositionLemmas.{label_stands, label_beside}
 use Rattle.snippet_strokes.proofs.TextLemmas.{free_label_text, bytes_some, bytes_none}
 use Rattle.snippet_strokes.proofs.labels.draw_label.Goals as goal
@@ -53,3 +55,20 @@ returns-clause-behind c =
     let row : c.args.row + c.label_place-below.result.0 ≡ c.args.row = omega (arith, ap (λ (x : ℕ × ℕ). x.0) place) in
     let at : c.args.layout.code + c.label_place-below.result.1 ≡ c.args.layout.code + placed.entry.end.display + 1 = omega (arith, ap (λ (x : ℕ × ℕ). x.1) place) in
     ok some ∙ ap (λ r. cells_written c.args.buffer.now r (c.args.layout.code + c.label_place-below.result.1) (drawn c.label_role.result (chars text))) row ∙ ap (λ n. cells_written c.args.buffer.now c.args.row n (drawn c.label_role.result (chars text))) at ∙ ap (λ cs. cells_written c.args.buffer.now c.args.row (c.args.layout.code + placed.entry.end.display + 1) (drawn c.label_role.result cs)) text_is ∙ ap (λ role. cells_written c.args.buffer.now c.args.row (c.args.layout.code + placed.entry.end.display + 1) (drawn role (label_text placed.entry))) c.label_role.ensures.value) c.puts.ensures.ok
+
+-- a label is in no role of marks
+label_unmarked : (kind : AnnotationKind) → has_mark_role (unlinked_cell (label_role kind) 32) ≡ false
+label_unmarked Primary = refl
+label_unmarked Context = refl
+label_unmarked Visible = refl
+
+pub returns-clause-starts : goal.returns-clause-starts
+returns-clause-starts c =
+    let text = c.as_str.result.now in
+    let row = c.args.row + c.label_place-below.result.0 in
+    let at = c.args.layout.code + c.label_place-below.result.1 in
+    let unmarked = unmarked_drawn c.label_role.result (chars text) (ap (λ role. has_mark_role (unlinked_cell role 32)) c.label_role.ensures.value ∙ label_unmarked c.args.placed.now.entry.kind) in
+    elim (cases_lt 0 (length text)) [
+      | inl some ↦ on_ok_weaker c.puts.result (λ reads r k _ before. unmarked_writes c.args.buffer.now c.puts.new.self row at (drawn c.label_role.result (chars text)) (reads some) unmarked r k before) c.puts.ensures.reads
+      | inr none ↦ on_ok_weaker c.puts.result (λ reads r k _ before. subst (λ rows. has_mark_role (cell_at rows r k) ≡ false) (sym (c.puts.ensures.empty (nil_from_length text (omega arith)))) before) c.puts.ensures.reads
+    ]

@@ -27,6 +27,7 @@ loop-entry-preserved c =
       λ from all. DrawsFrom-more c.args.row from old mid new (c.loop-entry.invariant.0 from all) (c.in_ok-draw_label.ensures.draws from (subst (λ (x : PlacedEntry). StandsFrom code from x.entry) (sym is_item) (all i item c.loop-entry-test.true))),
       λ none. c.in_ok-draw_label.ensures.none (subst (λ x. has_label x ≡ false) (sym is_item) (none i item c.loop-entry-test.true)) ∙ c.loop-entry.invariant.1 none,
       λ never. absurd (omega (arith, never)),
+      λ r k beside before. c.in_ok-draw_label.ensures.starts r k beside (c.loop-entry.invariant.3 r k beside before),
       λ e one zero shown first.
           let start : i ≡ 0 = omega (arith, first) in
           let same : item ≡ e = is_item ∙ ap (λ xs. get_or xs i item) one ∙ ap (λ n. get_or (e ∷ []) n item) start in

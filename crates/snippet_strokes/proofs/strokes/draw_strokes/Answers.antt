@@ -4,7 +4,7 @@ use Rattle.std.proofs.lemmas.List.{length-append, length-replicate, length_push}
 use Rattle.snippet_parts.specs.Marked.{HasColumns}
 use Rattle.snippet_parts.specs.declared.entries.LineAnnotation.{LineAnnotation}
 use Rattle.snippet_strokes.specs.declared.positions.PlacedEntry.{PlacedEntry}
-use Rattle.snippet_strokes.specs.Painting.{HasRows, StandsFrom, DrawsFrom}
+use Rattle.snippet_strokes.specs.Painting.{HasRows, MarksStarts, StandsFrom, DrawsFrom}
 use Rattle.snippet_strokes.specs.Positions.{HasItsLabel, has_label, is_hung, row_count}
 use Rattle.snippet_style.specs.Grid.{Cell, cells_written, drawn}
 use Rattle.snippet_strokes.specs.Entries.{label_role, label_text}
@@ -89,8 +89,9 @@ returns c =
     let stems = subst (λ ps. (from : ℕ) → All (λ (e : PlacedEntry). StandsFrom layout.code from e.entry) ps → DrawsFrom row from begun stemmed) c.deref-2.ensures.value c.in_ok-draw_stems.ensures.draws in
     let no_stems = subst (λ ps. All (λ e. is_hung e ≡ false) ps → stemmed ≡ begun) c.deref-2.ensures.value c.in_ok-draw_stems.ensures.none in
     let labels = subst (λ ps. (from : ℕ) → All (λ (e : PlacedEntry). StandsFrom layout.code from e.entry) ps → DrawsFrom row from stemmed labelled) c.deref-3.ensures.value c.in_ok-draw_labels.ensures.draws in
+    let stem_starts = subst (λ ps. MarksStarts layout.code ps begun stemmed) c.deref-2.ensures.value c.in_ok-draw_stems.ensures.starts in
     let no_labels = subst (λ ps. All (λ e. has_label e ≡ false) ps → labelled ≡ stemmed) c.deref-3.ensures.value c.in_ok-draw_labels.ensures.none in
     let lone = subst (λ ps. (e : PlacedEntry) → ps ≡ e ∷ [] → e.position ≡ 0 → has_label e ≡ true → labelled ≡ cells_written stemmed row (layout.code + e.entry.end.display + 1) (drawn (label_role e.entry.kind) (label_text e.entry))) c.deref-3.ensures.value c.in_ok-draw_labels.ensures.lone in
     record {
-      added = on_ok_weaker c.draw_marks.result (λ marked. strokes_added layout c.args.closes es placed c.args.buffer.now begun stemmed labelled c.draw_marks.new.buffer row c.requires.place c.requires.columns c.in_ok-placed.ensures.placed c.in_ok-row.ensures.row begins stems no_stems labels no_labels lone marked some) c.draw_marks.ensures.marked;
+      added = on_ok_weaker c.draw_marks.result (λ marked. strokes_added layout c.args.closes es placed c.args.buffer.now begun stemmed labelled c.draw_marks.new.buffer row c.requires.place c.requires.columns c.in_ok-placed.ensures.placed c.in_ok-row.ensures.row begins stems no_stems labels stem_starts c.in_ok-draw_labels.ensures.starts no_labels lone marked some) c.draw_marks.ensures.marked;
     }

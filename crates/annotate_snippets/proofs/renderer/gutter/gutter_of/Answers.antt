@@ -1,6 +1,6 @@
 use Rattle.std.proofs.Common.{arith}
 use Rattle.std.proofs.lemmas.Fmt.{length-decimal-le}
-use Rattle.annotate_snippets.proofs.renderer.coverage.gutter_of.Goals as goal
+use Rattle.annotate_snippets.proofs.renderer.gutter.gutter_of.Goals as goal
 
 pub returns-then-snippet-clause-small : goal.returns-then-snippet-clause-small
 returns-then-snippet-clause-small c =

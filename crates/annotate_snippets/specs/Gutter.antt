@@ -1,0 +1,34 @@
+-- The gutter: how wide it is, and what stands in it beside a line.
+use Rattle.std.specs.Prelude.{ℕ, ◌&&◌, max, Bool, List, length, fold, codes, if◌then◌else◌}
+use Rattle.std.specs.List.{flat_map}
+use Rattle.std.specs.Fmt.{decimal}
+use Rattle.snippet_model.specs.declared.snippet.Group.{Group}
+use Rattle.snippet_model.specs.declared.snippet.Snippet.{Snippet}
+use Rattle.snippet_model.specs.declared.snippet.Annotation.{Annotation}
+use Rattle.snippet_model.specs.declared.snippet.Element.{Element}
+use Rattle.snippet_model.specs.declared.snippet.Element.TheVariants.{Message, Cause, Suggestion, Origin, Padding}
+use Rattle.snippet_parts.specs.Prepare.{counted_number}
+use Rattle.snippet_strokes.specs.Rows.{shown_number, set_right}
+use Rattle.annotate_snippets.specs.declared.renderer.Renderer.{Renderer}
+
+-- the width that an annotated snippet wants: that of the greatest line number counted, or 0 where lines aren't numbered
+abbrev pub gutter_of : Snippet Annotation → ℕ
+gutter_of s = if s.line_numbering then length (decimal (counted_number s)) else 0
+
+-- the width that is wanted by some elements and by one more
+abbrev pub gutter_of_element : ℕ → Element → ℕ
+gutter_of_element gutter (Cause snippet) = max (gutter_of snippet) gutter
+gutter_of_element gutter (Suggestion snippet) = gutter
+gutter_of_element gutter (Message message) = gutter
+gutter_of_element gutter (Origin origin) = gutter
+gutter_of_element gutter (Padding padding) = gutter
+
+-- the width of a report's gutter: the greatest that is wanted, or that of `LL` where it stands in place of all numbers
+abbrev pub gutter_of_report : Renderer → List Group → ℕ
+gutter_of_report r groups =
+    if r.anonymized_snippet_line_numbers then 2 else fold gutter_of_element 0 (flat_map (λ g. g.elements.items) groups)
+
+-- what stands in the gutter beside a line of this number: the number, `LL` in its place, or spaces
+abbrev pub number_text : Renderer → Bool → ℕ → ℕ → List ℕ
+number_text r numbered gutter number =
+    if r.anonymized_snippet_line_numbers && numbered then set_right gutter (codes "LL") else shown_number numbered gutter number
