@@ -29,18 +29,36 @@ const UNUSED: &str = "error: unused\n  |\n1 | let x = 1;\n  |     ^ here";
 const STYLED_UNUSED: &str =
     "\u{1b}[1m\u{1b}[91merror\u{1b}[0m\u{1b}[1m: unused\u{1b}[0m\n  \u{1b}[1m\u{1b}[94m|\u{1b}[0m\n\u{1b}[1m\u{1b}[94m1\u{1b}[0m \u{1b}[1m\u{1b}[94m|\u{1b}[0m let x = 1;\n  \u{1b}[1m\u{1b}[94m|\u{1b}[0m     \u{1b}[1m\u{1b}[91m^\u{1b}[0m \u{1b}[1m\u{1b}[91mhere\u{1b}[0m";
 
+/// The text of a report of one group.
+fn text(alloc: Global, renderer: &Renderer, group: Group<'_>) -> Result<String, RenderError>
+    requires fits { GroupFits group }
+{
+    renderer.render(alloc, &[group])
+}
+
+/// Its texts under these sheets.
+fn texts(
+    alloc: Global,
+    group: Group<'_>,
+    sheets: &[Stylesheet],
+) -> Result<Vec<String>, RenderError>
+    requires fits { GroupFits group }
+{
+    Renderer::plain().render_sheets(alloc, &[group], sheets)
+}
+
 #[test]
 fn prints_under_the_sheet_of_the_renderer(rt: HostRuntime) -> Result<(), Fail> {
-    let groups = [unused_variable(rt.alloc())?];
-    let plain = Renderer::plain().render(rt.alloc(), &groups)?;
+    let alloc = rt.alloc();
+    let plain = text(alloc, &Renderer::plain(), unused_variable(alloc)?)?;
     assert_eq!(rt; plain.as_str(), UNUSED);
-    let styled = Renderer::styled().render(rt.alloc(), &groups)?;
+    let styled = text(alloc, &Renderer::styled(), unused_variable(alloc)?)?;
     assert_eq!(rt; styled.as_str(), STYLED_UNUSED);
     let sheets = [Stylesheet::plain(), Stylesheet::styled()];
-    let texts = Renderer::plain().render_sheets(rt.alloc(), &groups, &sheets)?;
-    assert_eq!(rt; texts.len(), 2);
-    assert_eq!(rt; texts[0].as_str(), plain.as_str());
-    assert_eq!(rt; texts[1].as_str(), styled.as_str());
+    let both = texts(alloc, unused_variable(alloc)?, &sheets)?;
+    assert_eq!(rt; both.len(), 2);
+    assert_eq!(rt; both[0].as_str(), plain.as_str());
+    assert_eq!(rt; both[1].as_str(), styled.as_str());
     Ok(())
 }
 

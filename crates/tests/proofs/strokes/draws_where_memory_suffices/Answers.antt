@@ -1,0 +1,17 @@
+use Rattle.std.proofs.Common.{◌≤◌, ◌+◌, true, All, [], ◌∷◌, length, sym, arith}
+use Rattle.std.proofs.lemmas.List.Elements.{All-cons, All-nil}
+use Rattle.snippet_parts.specs.declared.entries.AnnotatedLineInfo.{AnnotatedLineInfo}
+use Rattle.snippet_strokes.specs.Rows.{shown_number}
+use Rattle.snippet_strokes.proofs.NumberLemmas.{length-decimal_last, shown_numbers_fit}
+use Rattle.tests.proofs.strokes.draws_where_memory_suffices.Goals as goal
+
+-- a line of number 1 alone
+one : (info : AnnotatedLineInfo) → info.line_index ≤ 1 → All (λ line. length (shown_number true 1 line.line_index) ≤ 1 + 1) (info ∷ [])
+one info is =
+    let P : AnnotatedLineInfo → Type 0 = λ line. line.line_index ≤ 1 in
+    shown_numbers_fit true 1 1 (info ∷ []) (sym (length-decimal_last 1 (omega arith) (omega arith))) (omega arith) (All-cons P info [] is (All-nil P))
+
+pub draw_snippet-requires-clause-numbers : goal.draw_snippet-requires-clause-numbers
+draw_snippet-requires-clause-numbers g c =
+    let same : 1 ≤ 1 = omega arith in
+    one record { line = _; line_index = 1; annotations = _; keep = _ } same
