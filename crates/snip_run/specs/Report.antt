@@ -14,7 +14,6 @@ use Rattle.annotate_snippets.specs.Covered.{IsReportOf}
 use Rattle.annotate_snippets.specs.Levels.{error_level}
 use Rattle.annotate_snippets.specs.Settings.{plain_settings, styled_settings}
 use Rattle.annotate_snippets.specs.Shown.{ShowsReport}
-use Rattle.annotate_snippets.specs.Trusted.{IsOneRow}
 use Rattle.snip_run.specs.Words.{Word, IsCommandOf}
 use Rattle.snip_run.specs.declared.words.Command.{Command}
 use Rattle.snip_run.specs.declared.words.Options.{Options}
@@ -67,12 +66,8 @@ pub record ShowsCommand (command : Command) (source text : List ℕ) : Type 0 wh
   pub report : IsReportFor command source groups
   pub shows : ShowsReport (settings_of command.options) groups (settings_of command.options).stylesheet text
 
--- the command's label stays on one row
-abbrev pub IsLabelOneRow : Command → Type 0
-IsLabelOneRow command = IfSome command.label (λ t. IsOneRow t.now)
-
--- the text shows, over the source, the report of the command that the words are, if its label stays on one row
+-- the text shows, over the source, the report of the command that the words are
 pub record ShowsWords (words : List Word) (source text : List ℕ) : Type 0 where
   pub command : Command
   pub command_is : IsCommandOf words command
-  pub shows : IsLabelOneRow command → ShowsCommand command source text
+  pub shows : ShowsCommand command source text

@@ -3,7 +3,7 @@ ghost use Rattle.std.specs.Prelude.{◌≡◌, ℕ, ◌≤◌, ◌↔◌, List, 
 ghost use Rattle.std.specs.Bool.{OnTrue};
 ghost use Rattle.std.specs.Io.KnownBytes.{Appends};
 ghost use Rattle.std.specs.Option.{option_copied};
-ghost use Rattle.snip_run.specs.Report.{settings_of, IsLabelOneRow, ShowsCommand, ShowsWords};
+ghost use Rattle.snip_run.specs.Report.{settings_of, ShowsCommand, ShowsWords};
 ghost use Rattle.snip_run.specs.Words.{words_at, IsCommandLine, IsCommandOf};
 ghost use Rattle.snip_run.specs.Text.{TextFits, IsShownText};
 
@@ -106,8 +106,7 @@ fn rendered<'a>(
     requires title { TextFits command.now.title.now }
     requires label { IfSome command.now.label (λ t. TextFits t.now) }
     requires source { TextFits source.now }
-    ensures shows { IsLabelOneRow command.now → IfOk result
-        (λ text. ShowsCommand command.now source.now (string_bytes text)) }
+    ensures shows { IfOk result (λ text. ShowsCommand command.now source.now (string_bytes text)) }
 {
     let renderer = renderer_of(command.options);
     let mark = AnnotationKind::Primary
@@ -132,8 +131,8 @@ fn report_text<'a>(
 ) -> Result<String, Failure>
     requires command { IsCommandOf (words_at words.now) command.now }
     ensures read { IsOk result → IsSomeAnd (option_copied file.entry) IsShownText }
-    ensures shows { IfOk result (λ text. IfSome (option_copied file.entry) (λ source.
-        IsLabelOneRow command.now → ShowsCommand command.now source (string_bytes text))) }
+    ensures shows { IfOk result (λ text. IfSome (option_copied file.entry)
+        (λ source. ShowsCommand command.now source (string_bytes text))) }
 {
     if command.is_unfinished() {
         return Err(Failure::NotYet);

@@ -8,11 +8,10 @@ use Rattle.annotate_snippets.specs.declared.snippet.Element.{Element}
 use Rattle.annotate_snippets.specs.declared.snippet.Group.{Group}
 use Rattle.annotate_snippets.specs.declared.snippet.Snippet.{Snippet}
 use Rattle.annotate_snippets.specs.declared.snippet.Title.{Title}
-use Rattle.annotate_snippets.specs.Shown.{is_graphic, ShowsReport}
+use Rattle.annotate_snippets.specs.Shown.{ShowsReport}
 use Rattle.annotate_snippets.proofs.ReportLemmas.{IfOk-map_err, ok_had}
 use Rattle.snip_run.specs.declared.words.Command.{Command}
 use Rattle.snip_run.specs.Report.{IsMarkFor, IsReportFor, IsSnippetFor, IsTitleFor, ShowsCommand}
-use Rattle.snip_run.proofs.Reporting.{names_on_one_row, settings_of-graphic}
 use Rattle.snip_run.proofs.run.rendered.Goals as goal
 
 pub returns : goal.returns
@@ -68,7 +67,6 @@ returns c =
       kind = grouped (λ g. g.level ≡ title.level.kind) c.element.ensures.level ∙ ap (λ l. l.kind) c.primary_title.ensures.level;
     } in
     let settings = c.renderer_of-renderer.ensures.settings in
-    let graphic : is_graphic made ≡ true = ap is_graphic settings ∙ settings_of-graphic command.options in
     record {
-      shows = λ one_row. IfOk-weaker c.render.result (λ text. ShowsReport made (group ∷ []) made.stylesheet (string_bytes text)) (λ text. ShowsCommand command source (string_bytes text)) (λ text shown. record { groups = group ∷ []; report = report; shows = subst (λ (r : Renderer). ShowsReport r (group ∷ []) r.stylesheet (string_bytes text)) settings shown }) (c.render.ensures.shows graphic (names_on_one_row command source (group ∷ []) report one_row));
+      shows = IfOk-weaker c.render.result (λ text. ShowsReport made (group ∷ []) made.stylesheet (string_bytes text)) (λ text. ShowsCommand command source (string_bytes text)) (λ text shown. record { groups = group ∷ []; report = report; shows = subst (λ (r : Renderer). ShowsReport r (group ∷ []) r.stylesheet (string_bytes text)) settings shown }) c.render.ensures.shows;
     }
