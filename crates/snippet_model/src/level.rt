@@ -76,6 +76,7 @@ fn standard_name(kind: LevelInner) -> &'static str
 
 impl<'a> Level<'a> {
     ghost use Rattle.snippet_model.specs.Level.{name_of};
+    ghost use Rattle.snippet_model.specs.declared.level.LevelName.TheVariants.{Standard};
 
     /// The constant [`ERROR`].
     pub const ERROR: Level<'static> = ERROR;
@@ -87,6 +88,19 @@ impl<'a> Level<'a> {
     pub const NOTE: Level<'static> = NOTE;
     /// The constant [`HELP`].
     pub const HELP: Level<'static> = HELP;
+
+    /// The level of this kind, shown by the name of the kind: one of the five constants.
+    pub fn standard(kind: LevelInner) -> Level<'static>
+        ensures level { result ≡ record { name = Standard; kind = kind } }
+    {
+        match kind {
+            LevelInner::Error => Level::ERROR,
+            LevelInner::Warning => Level::WARNING,
+            LevelInner::Info => Level::INFO,
+            LevelInner::Note => Level::NOTE,
+            LevelInner::Help => Level::HELP,
+        }
+    }
 
     /// The name that is shown: that of the kind, an own one, or the empty text where it is hidden.
     pub fn as_str(&self) -> &str

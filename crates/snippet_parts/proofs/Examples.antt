@@ -10,10 +10,10 @@ use Rattle.snippet_model.specs.declared.snippet.AnnotationKind.TheVariants.{Prim
 use Rattle.snippet_parts.specs.declared.lines.EndLine.TheVariants.{Eof, Lf, Crlf}
 use Rattle.snippet_parts.specs.declared.span.SpanFault.TheVariants.{Reversed, PastEnd, OffBoundary}
 use Rattle.snippet_parts.specs.Lines.{source_lines, start_of}
-use Rattle.snippet_parts.specs.Place.{line_of, place_of}
+use Rattle.snippet_parts.specs.Place.{line_of, place_of, location_of, end_location, steps_behind_text}
 use Rattle.snippet_parts.specs.Span.{span_fault}
 use Rattle.snippet_parts.specs.Kept.{is_weak, kept_lines}
-use Rattle.snippet_parts.specs.Window.{window}
+use Rattle.snippet_parts.specs.Window.{window, end_mark_column, is_near_span}
 
 -- ---- lines
 
@@ -131,3 +131,19 @@ stands_whole = refl
 cut_at_the_right : window (codes "...") 8 0 8 (codes "abcdefghij") ≡ codes "abcde..."
 unfolding char_width unicode_width written
 cut_at_the_right = refl
+
+-- ---- nothing is cut from the left
+
+-- thirty spaces and a letter, a line feed, and 27 spaces: a span from the letter to behind the end of the second line. The mark
+-- at its end is in column 27, one before that of the corrected end
+a_mark_behind_the_end : end_mark_column (replicate 30 32 ++ 97 ∷ 10 ∷ replicate 27 32) (record { span = record { start = 30; end = 60 }; label = None; kind = Primary; highlight_source = false }) ≡ 27
+unfolding place_of location_of end_location steps_behind_text line_of start_of char_width unicode_width lib.Utf8.encode
+a_mark_behind_the_end = refl
+
+is_too_far_right : is_near_span (replicate 30 32 ++ 97 ∷ 10 ∷ replicate 27 32) (record { span = record { start = 30; end = 60 }; label = None; kind = Primary; highlight_source = false }) ≡ false
+unfolding place_of location_of end_location steps_behind_text line_of start_of char_width unicode_width lib.Utf8.encode
+is_too_far_right = refl
+
+and_one_less_is_near : is_near_span (replicate 30 32 ++ 97 ∷ 10 ∷ replicate 26 32) (record { span = record { start = 30; end = 59 }; label = None; kind = Primary; highlight_source = false }) ≡ true
+unfolding place_of location_of end_location steps_behind_text line_of start_of char_width unicode_width lib.Utf8.encode
+and_one_less_is_near = refl

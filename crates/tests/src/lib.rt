@@ -7,6 +7,8 @@ mod codes;
 #[cfg(test)]
 mod grid;
 #[cfg(test)]
+mod model;
+#[cfg(test)]
 mod replay;
 #[cfg(test)]
 mod report;
