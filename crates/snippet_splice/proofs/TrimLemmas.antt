@@ -198,3 +198,29 @@ pub sandwich-none : (o r : List ℕ) → ((a : ℕ) (m : List ℕ) (b : ℕ) →
 unfolding sandwich
 sandwich-none o r none =
     ap (option_map _) (kept_before-none o r (λ k. false_from_ne_true (is_sandwiched o r k) (λ t. none k _ _ (test-true o r k t))))
+
+kept_before-passes : (o r : List ℕ) (a : ℕ) → kept_before o r ≡ Some a → is_sandwiched o r a ≡ true
+unfolding kept_before
+kept_before-passes o r a e =
+    let p : ℕ → Bool = is_sandwiched o r in
+    let rest : Option ℕ = cond (p 0) (Some 0) (greatest p (length o)) in
+    ⊎_elim (λ t. let same : Some (length o) ≡ Some a = sym (cond-true (p (length o)) (Some (length o)) rest t) ∙ e in let at : length o ≡ a = cc in subst (λ k. p k ≡ true) at t)
+    (λ f. let e2 : rest ≡ Some a = sym (cond-false (p (length o)) (Some (length o)) rest f) ∙ e in
+        ⊎_elim (λ t. let same : Some 0 ≡ Some a = sym (cond-true (p 0) (Some 0) (greatest p (length o)) t) ∙ e2 in let at : 0 ≡ a = cc in subst (λ k. p k ≡ true) at t)
+        (λ g. greatest-passes p (length o) a (sym (cond-false (p 0) (Some 0) (greatest p (length o)) g) ∙ e2)) (cases_Bool (p 0)))
+    (cases_Bool (p (length o)))
+
+-- what is computed is a sandwich
+pub sandwich-sandwiched : (o r : List ℕ) (a : ℕ) (m : List ℕ) (b : ℕ) → sandwich o r ≡ Some (a, m, b) → IsSandwiched o r a m b
+unfolding sandwich
+sandwich-sandwiched o r a m b e = of_kept (kept_before o r) refl e
+  where
+    of_kept : (k : Option ℕ) → kept_before o r ≡ k → option_map {U = ℕ × List ℕ × ℕ} (λ n. (n, slice_range r n (length r - (length o - n)), length o - n)) k ≡ Some (a, m, b) → IsSandwiched o r a m b
+    of_kept None is same = absurd (cc)
+    of_kept (Some n) is same =
+        let t : ◌≡◌ {A = ℕ × List ℕ × ℕ} (n, slice_range r n (length r - (length o - n)), length o - n) (a, m, b) = cc in
+        let e1 : n ≡ a = ap (λ p. p.0) t in
+        let e2 : slice_range r n (length r - (length o - n)) ≡ m = ap (λ p. p.1) t in
+        let e3 : length o - n ≡ b = ap (λ p. p.2) t in
+        let here : IsSandwiched o r n (slice_range r n (length r - (length o - n))) (length o - n) = test-true o r n (kept_before-passes o r n is) in
+        subst (λ k. IsSandwiched o r k m b) e1 (subst (λ l. IsSandwiched o r n l b) e2 (subst (λ k. IsSandwiched o r n (slice_range r n (length r - (length o - n))) k) e3 here))
