@@ -2,4 +2,6 @@ pub mod EditLemmas
 pub mod OrderLemmas
 pub mod OverlapLemmas
 pub mod SeenLemmas
+pub mod ShownLemmas
 pub mod TrimLemmas
+pub mod WriteLemmas

@@ -74,5 +74,6 @@ fn push_with_line_feeds(out: &mut String, text: &str) -> Result<(), AllocError>
         }
         rest = behind;
     }
-    out.push_str(rest)
+    out.push_str(rest)?;
+    Ok(())
 }

@@ -1,7 +1,7 @@
 //! The part of a source that is shown with patches applied.
-ghost use Rattle.std.specs.Prelude.{◌≡◌, ◌↔◌, [], ◌++◌, map, All, IfOk, IfSome, IsNone, length, take};
+ghost use Rattle.std.specs.Prelude.{◌≡◌, ◌↔◌, ◌==◌, [], ◌++◌, map, All, IfOk, IfSome, IsNone, length, take};
 ghost use Rattle.std.specs.String.{string_bytes};
-ghost use Rattle.snippet_parts.specs.Lines.{source_lines, text_at};
+ghost use Rattle.snippet_parts.specs.Lines.{source_lines, text_at, last_byte};
 ghost use Rattle.snippet_parts.specs.Span.{IsSpan, IsSpanBorder};
 ghost use Rattle.snippet_splice.specs.Edits.{edit_of, trimmed_edit_of, trimmed_edits, AreApart};
 ghost use Rattle.snippet_splice.specs.Overlap.{AreDisjoint};
@@ -87,9 +87,16 @@ fn closes_line(patches: &[TrimmedPatch<'_>]) -> bool
     ensures value { result ≡ closes_line (map trimmed_edit_of patches.now) }
 {
     match patches {
-        [.., last] => last.replacement.ends_with('\n'),
+        [.., last] => ends_with_line_feed(last.replacement),
         [] => false,
     }
+}
+
+/// Whether a line feed ends a text.
+fn ends_with_line_feed(text: &str) -> bool
+    ensures value { result ≡ (last_byte text.now == 10) }
+{
+    text.ends_with('\n')
 }
 
 /// What is shown of the source behind the last patch.
@@ -116,11 +123,11 @@ fn first_line(text: &str) -> &str
 }
 
 /// What was written with the rest behind it, without the line feeds that end it.
-fn shown_text(written: String, rest: &str) -> Result<String, AllocError>
+fn shown_text(front: String, rest: &str) -> Result<String, AllocError>
     ensures value { IfOk result
-        (λ t. string_bytes t ≡ without_final_line_feeds (string_bytes written.entry ++ rest.now)) }
+        (λ t. string_bytes t ≡ without_final_line_feeds (string_bytes front ++ rest.now)) }
 {
-    let mut text = written;
+    let mut text = front;
     text.push_str(rest)?;
     let kept = without_final_line_feeds(text.as_str()).len();
     text.truncate(kept);
@@ -140,6 +147,7 @@ fn without_final_line_feeds(text: &str) -> &str
 }
 
 /// What is written for patches, from a byte of the source on.
+#[derive(Drop)]
 struct Written {
     text: String,
     /// For each patch the lines of the text on which its replacement stands.
