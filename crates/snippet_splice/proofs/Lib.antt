@@ -1,6 +1,7 @@
 pub mod EditLemmas
 pub mod OrderLemmas
 pub mod OverlapLemmas
+pub mod RangeLemmas
 pub mod SeenLemmas
 pub mod ShownLemmas
 pub mod SpliceLemmas

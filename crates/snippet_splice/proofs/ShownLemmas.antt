@@ -80,3 +80,9 @@ shown-value fold source es ts first start end closed text rest of_ts of_first of
     let left : drop (min end (length source)) source ≡ drop (end_from s0 ts0) source = drop_min end source ∙ ap (λ n. drop n source) behind in
     let back : rest ≡ shown_rest fold (closes_line ts0) (drop (end_from s0 ts0) source) = of_rest ∙ ap (λ b. shown_rest fold b (drop (min end (length source)) source)) (of_closed ∙ ap closes_line of_ts) ∙ ap (shown_rest fold (closes_line ts0)) left in
     ap (λ t. without_final_line_feeds (t ++ rest)) front ∙ ap (λ t. without_final_line_feeds (written source s0 ts0 ++ t)) back
+
+-- where a patch was given an edit is left
+pub some-trimmed : (ts : List TrimmedPatch) (es : List Edit) (t : TrimmedPatch) → map trimmed_edit_of ts ≡ es → slice_get ts 0 ≡ Some t → es ≢ []
+some-trimmed [] es t same some = absurd (cc)
+some-trimmed (s ∷ ts) [] t same some = absurd (cc)
+some-trimmed (s ∷ ts) (e ∷ es) t same some = λ e. cc

@@ -40,7 +40,7 @@ slice-min s a b low =
     (λ inside. let e : min b n - min a n ≡ b - a = omega arith in ap (λ k. take k (drop a s)) e)
     (λ past. take_all (min b n - min a n) (drop a s) (omega (arith, length-drop a s)) ∙ sym (take_all (b - a) (drop a s) (omega (arith, length-drop a s)))) (cases_lt b n)
 
-copied-same : (source : List ℕ) (a b : ℕ) → HasNoCr source → a ≤ b → IsBeforeFinalLf source b → copied source a b ≡ slice_range source a b
+pub copied-same : (source : List ℕ) (a b : ℕ) → HasNoCr source → a ≤ b → IsBeforeFinalLf source b → copied source a b ≡ slice_range source a b
 copied-same source a b none low before =
     let from : in_text source a ≡ min a (length source) = in_text-same source a none (λ e. omega (arith, before e)) in
     let to : in_text source b ≡ min b (length source) = in_text-same source b none before in

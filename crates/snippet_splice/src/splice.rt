@@ -6,7 +6,8 @@ ghost use Rattle.snippet_parts.specs.Span.{IsSpan, IsSpanBorder};
 ghost use Rattle.snippet_splice.specs.Edits.{edit_of, trimmed_edit_of, trimmed_edits, AreApart};
 ghost use Rattle.snippet_splice.specs.Overlap.{AreDisjoint};
 ghost use Rattle.snippet_splice.specs.Copied.{written, written_ranges, end_from};
-ghost use Rattle.snippet_splice.specs.Shown.{closes_line, shown_start, shown_rest, without_final_line_feeds, shown_text};
+ghost use Rattle.snippet_splice.specs.Spliced.{HasNoCr, IsBeforeFinalLf, spliced_text, line_ranges, ranges_from};
+ghost use Rattle.snippet_splice.specs.Shown.{closes_line, shown_line, shown_start, shown_rest, without_final_line_feeds, shown_text};
 
 use crate::copy::push_copied;
 use crate::patches::{TrimmedPatch, trimmed_patches};
@@ -55,6 +56,14 @@ pub fn spliced_lines<'a>(
     // The text, also of sources with carriage returns.
     ensures value { IfOk result (λ t. IfSome t
         (λ s. string_bytes s.complete ≡ shown_text fold source.now (map edit_of patches.now))) }
+    // Without carriage returns in the source, and where no trimmed patch starts behind a final line feed.
+    ensures text { let es = map edit_of patches.now in
+        HasNoCr source.now → All (λ e. IsBeforeFinalLf source.now e.start) (trimmed_edits source.now es)
+        → IfOk result (λ t. IfSome t (λ s. string_bytes s.complete ≡ spliced_text fold source.now es)) }
+    ensures ranges { let es = map edit_of patches.now in
+        HasNoCr source.now → All (λ e. IsBeforeFinalLf source.now e.start) (trimmed_edits source.now es)
+        → IfOk result (λ t. IfSome t (λ s.
+            ranges_from (shown_line fold source.now es) s.ranges.items ≡ line_ranges source.now es)) }
 {
     let patches = trimmed_patches(alloc, source, patches)?;
     let Some(first) = patches.first() else {

@@ -5,10 +5,13 @@ use Rattle.std.specs.String.{string_bytes}
 use Rattle.snippet_parts.specs.Span.{IsSpanBorder}
 use Rattle.snippet_splice.specs.declared.patches.TrimmedPatch.{TrimmedPatch}
 use Rattle.snippet_splice.specs.Edits.{Edit, edit_of, trimmed_edit_of, trimmed_edits, in_order, AreApart}
-use Rattle.snippet_splice.specs.Copied.{written, end_from}
-use Rattle.snippet_splice.specs.Shown.{first_start, shown_start, shown_rest, closes_line, without_final_line_feeds, shown_text}
+use Rattle.snippet_splice.specs.Copied.{written, written_ranges, end_from}
+use Rattle.snippet_splice.specs.Spliced.{ranges_from}
+use Rattle.snippet_splice.specs.Shown.{first_start, shown_line, shown_start, shown_rest, closes_line, without_final_line_feeds, shown_text}
 use Rattle.snippet_splice.proofs.OverlapLemmas.{apart-in_order, ordered-spans}
-use Rattle.snippet_splice.proofs.ShownLemmas.{none-given, first-given, shown_start-border, shown-apart, shown-value}
+use Rattle.snippet_splice.proofs.ShownLemmas.{none-given, first-given, shown_start-border, shown-apart, shown-value, some-trimmed}
+use Rattle.snippet_splice.proofs.SpliceLemmas.{IsShownPart, shown-part}
+use Rattle.snippet_splice.proofs.RangeLemmas.{written-ranges}
 use Rattle.snippet_splice.proofs.splice.spliced_lines.Goals as goal
 
 pub returns-in_default-clause-none : goal.returns-in_default-clause-none
@@ -42,3 +45,21 @@ returns-clause-value c =
     let closed : c.closes_line.result ≡ closes_line (map trimmed_edit_of c.deref-2.result.now) = c.closes_line.ensures.value ∙ ap closes_line same in
     let rest : c.shown_rest-rest.result.now ≡ shown_rest c.args.fold c.closes_line.result (drop (min c.in_ok-written.written.end (length source)) source) = c.shown_rest-rest.ensures.value ∙ ap (shown_rest c.args.fold c.closes_line.result) (c.range_from.ensures.value ∙ ap (λ n. drop n source) c.min.ensures) in
     c.in_ok-complete.ensures.value ∙ shown-value c.args.fold source es (map trimmed_edit_of c.deref-2.result.now) c.in-Some.first.now.original_span.start c.shown_start-start.result c.in_ok-written.written.end c.closes_line.result (string_bytes c.in_ok-written.written.text) c.shown_rest-rest.result.now edits first c.shown_start-start.ensures.value c.in_ok-written.ensures.text c.in_ok-written.ensures.end closed rest
+
+pub returns-clause-text : goal.returns-clause-text
+returns-clause-text c = λ none before.
+    let source : List ℕ = c.args.source.now in
+    let es : List Edit = map edit_of c.args.patches.now in
+    let some : trimmed_edits source es ≢ [] = some-trimmed c.in_ok-patches.patches.items (trimmed_edits source es) c.in-Some.first.now c.in_ok-patches.ensures.edits (sym (c.in-Some.ensures.value ∙ ap (λ l. slice_get l 0) c.deref.ensures.value)) in
+    let part : IsShownPart c.args.fold source es = shown-part c.args.fold source es none before (apart-in_order es (ordered-spans source c.args.patches.now c.requires.spans) c.requires.disjoint) some in
+    returns-clause-value c ∙ part.text ∙ sym part.spliced
+
+pub returns-clause-ranges : goal.returns-clause-ranges
+returns-clause-ranges c = λ none before.
+    let source : List ℕ = c.args.source.now in
+    let es : List Edit = map edit_of c.args.patches.now in
+    let edits : map trimmed_edit_of c.deref-2.result.now ≡ trimmed_edits source es = ap (map trimmed_edit_of) c.deref-2.ensures.value ∙ c.in_ok-patches.ensures.edits in
+    let first : c.in-Some.first.now.original_span.start ≡ first_start (in_order es) = first-given c.in_ok-patches.patches.items (in_order es) c.in-Some.first.now c.in_ok-patches.ensures.originals (sym (c.in-Some.ensures.value ∙ ap (λ l. slice_get l 0) c.deref.ensures.value)) in
+    let begin : c.shown_start-start.result ≡ shown_start c.args.fold source (first_start (in_order es)) = c.shown_start-start.ensures.value ∙ ap (shown_start c.args.fold source) first in
+    let ranges : c.in_ok-written.written.ranges.items ≡ written_ranges source 0 (shown_start c.args.fold source (first_start (in_order es))) (trimmed_edits source es) = c.in_ok-written.ensures.ranges ∙ ap (λ n. written_ranges source 0 n (map trimmed_edit_of c.deref-2.result.now)) begin ∙ ap (written_ranges source 0 (shown_start c.args.fold source (first_start (in_order es)))) edits in
+    ap (ranges_from (shown_line c.args.fold source es)) ranges ∙ written-ranges c.args.fold source es none before (apart-in_order es (ordered-spans source c.args.patches.now c.requires.spans) c.requires.disjoint)
