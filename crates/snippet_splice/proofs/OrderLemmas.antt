@@ -67,7 +67,7 @@ same_rise {X} lt o (x ∷ xs) (y ∷ ys) a b same =
 
 -- ---- the list put in order
 
-All-put_in : {X : Type 0} (lt : X → X → Bool) (P : X → Type 0) (x : X) (ys : List X) → P x → All P ys → All P (put_in lt x ys)
+pub All-put_in : {X : Type 0} (lt : X → X → Bool) (P : X → Type 0) (x : X) (ys : List X) → P x → All P ys → All P (put_in lt x ys)
 All-put_in lt P x [] here all = All-cons P x [] here all
 All-put_in lt P x (y ∷ ys) here all =
     ⊎_elim (λ t. subst (All P) (sym (cond-true (lt y x) (y ∷ put_in lt x ys) (x ∷ y ∷ ys) t)) (All-cons P y (put_in lt x ys) (All-head P y ys all) (All-put_in lt P x ys here (All-tail P y ys all))))

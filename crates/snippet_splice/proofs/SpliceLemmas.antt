@@ -150,7 +150,7 @@ front-size fold source first =
 
 -- ---- how the last text ends
 
-last_byte-append : (xs ys : List ℕ) → last_byte ys ≡ 10 → last_byte (xs ++ ys) ≡ 10
+pub last_byte-append : (xs ys : List ℕ) → last_byte ys ≡ 10 → last_byte (xs ++ ys) ≡ 10
 last_byte-append xs [] e = absurd (cc)
 last_byte-append [] (y ∷ ys) e = e
 last_byte-append (x ∷ xs) (y ∷ ys) e =

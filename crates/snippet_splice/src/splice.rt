@@ -1,12 +1,12 @@
 //! The part of a source that is shown with patches applied.
 ghost use Rattle.std.specs.Prelude.{◌≡◌, ◌↔◌, ◌==◌, [], ◌++◌, map, All, IfOk, IfSome, IsNone, length, take};
 ghost use Rattle.std.specs.String.{string_bytes};
-ghost use Rattle.snippet_parts.specs.Lines.{source_lines, text_at, last_byte};
+ghost use Rattle.snippet_parts.specs.Lines.{lines_of, source_lines, text_at, last_byte};
 ghost use Rattle.snippet_parts.specs.Span.{IsSpan, IsSpanBorder};
-ghost use Rattle.snippet_splice.specs.Edits.{edit_of, trimmed_edit_of, trimmed_edits, AreApart};
+ghost use Rattle.snippet_splice.specs.Edits.{edit_of, patched, trimmed_edit_of, trimmed_edits, AreApart};
 ghost use Rattle.snippet_splice.specs.Overlap.{AreDisjoint};
 ghost use Rattle.snippet_splice.specs.Copied.{written, written_ranges, end_from};
-ghost use Rattle.snippet_splice.specs.Spliced.{HasNoCr, IsBeforeFinalLf, spliced_text, line_ranges, ranges_from};
+ghost use Rattle.snippet_splice.specs.Spliced.{HasNoCr, IsBeforeFinalLf, texts_of, AreFrom, spliced_text, line_ranges, ranges_from};
 ghost use Rattle.snippet_splice.specs.Shown.{closes_line, shown_line, shown_start, shown_rest, without_final_line_feeds, shown_text};
 
 use crate::copy::push_copied;
@@ -64,6 +64,12 @@ pub fn spliced_lines<'a>(
         HasNoCr source.now → All (λ e. IsBeforeFinalLf source.now e.start) (trimmed_edits source.now es)
         → IfOk result (λ t. IfSome t (λ s.
             ranges_from (shown_line fold source.now es) s.ranges.items ≡ line_ranges source.now es)) }
+    // Its lines are lines of the patched source, one behind the other from the first that is shown on.
+    ensures lines { let es = map edit_of patches.now in
+        HasNoCr source.now → All (λ e. HasNoCr e.text) es
+        → All (λ e. IsBeforeFinalLf source.now e.start) (trimmed_edits source.now es)
+        → IfOk result (λ t. IfSome t (λ s. AreFrom (shown_line fold source.now es)
+            (texts_of (lines_of (string_bytes s.complete))) (texts_of (source_lines (patched source.now es))))) }
 {
     let patches = trimmed_patches(alloc, source, patches)?;
     let Some(first) = patches.first() else {

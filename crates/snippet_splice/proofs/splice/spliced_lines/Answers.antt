@@ -2,15 +2,16 @@ use Rattle.std.proofs.Common.{◌≡◌, ◌≢◌, ℕ, List, [], ◌++◌, Boo
 use Rattle.std.specs.List.{slice_get}
 use Rattle.std.specs.Str.{IsCharBoundary}
 use Rattle.std.specs.String.{string_bytes}
-use Rattle.snippet_parts.specs.Span.{IsSpanBorder}
+use Rattle.snippet_parts.specs.Lines.{lines_of, source_lines}
 use Rattle.snippet_splice.specs.declared.patches.TrimmedPatch.{TrimmedPatch}
-use Rattle.snippet_splice.specs.Edits.{Edit, edit_of, trimmed_edit_of, trimmed_edits, in_order, AreApart}
+use Rattle.snippet_splice.specs.Edits.{Edit, edit_of, trimmed_edit_of, trimmed_edits, in_order, patched, AreApart}
 use Rattle.snippet_splice.specs.Copied.{written, written_ranges, end_from}
-use Rattle.snippet_splice.specs.Spliced.{ranges_from}
+use Rattle.snippet_splice.specs.Spliced.{ranges_from, texts_of, AreFrom}
 use Rattle.snippet_splice.specs.Shown.{first_start, shown_line, shown_start, shown_rest, closes_line, without_final_line_feeds, shown_text}
 use Rattle.snippet_splice.proofs.OverlapLemmas.{apart-in_order, ordered-spans}
 use Rattle.snippet_splice.proofs.ShownLemmas.{none-given, first-given, shown_start-border, shown-apart, shown-value, some-trimmed}
 use Rattle.snippet_splice.proofs.SpliceLemmas.{IsShownPart, shown-part}
+use Rattle.snippet_splice.proofs.LineLemmas.{shown-lines}
 use Rattle.snippet_splice.proofs.RangeLemmas.{written-ranges}
 use Rattle.snippet_splice.proofs.splice.spliced_lines.Goals as goal
 
@@ -63,3 +64,11 @@ returns-clause-ranges c = λ none before.
     let begin : c.shown_start-start.result ≡ shown_start c.args.fold source (first_start (in_order es)) = c.shown_start-start.ensures.value ∙ ap (shown_start c.args.fold source) first in
     let ranges : c.in_ok-written.written.ranges.items ≡ written_ranges source 0 (shown_start c.args.fold source (first_start (in_order es))) (trimmed_edits source es) = c.in_ok-written.ensures.ranges ∙ ap (λ n. written_ranges source 0 n (map trimmed_edit_of c.deref-2.result.now)) begin ∙ ap (written_ranges source 0 (shown_start c.args.fold source (first_start (in_order es)))) edits in
     ap (ranges_from (shown_line c.args.fold source es)) ranges ∙ written-ranges c.args.fold source es none before (apart-in_order es (ordered-spans source c.args.patches.now c.requires.spans) c.requires.disjoint)
+
+pub returns-clause-lines : goal.returns-clause-lines
+returns-clause-lines c = λ none texts_none before.
+    let source : List ℕ = c.args.source.now in
+    let es : List Edit = map edit_of c.args.patches.now in
+    let some : trimmed_edits source es ≢ [] = some-trimmed c.in_ok-patches.patches.items (trimmed_edits source es) c.in-Some.first.now c.in_ok-patches.ensures.edits (sym (c.in-Some.ensures.value ∙ ap (λ l. slice_get l 0) c.deref.ensures.value)) in
+    let part : IsShownPart c.args.fold source es = shown-part c.args.fold source es none before (apart-in_order es (ordered-spans source c.args.patches.now c.requires.spans) c.requires.disjoint) some in
+    subst (λ t. AreFrom (shown_line c.args.fold source es) (texts_of (lines_of t)) (texts_of (source_lines (patched source es)))) (sym (returns-clause-value c ∙ part.text)) (shown-lines c.args.fold source es none texts_none part)
