@@ -31,9 +31,8 @@ pub(crate) fn push_copied(
 
 /// A byte of a source, moved out of the line end that it stands in, or that it stands behind at the source's end.
 pub(crate) fn text_place(source: &str, byte: usize) -> usize
-    requires border { IsSpanBorder source.now byte }
     ensures value { result ≡ in_text source.now byte }
-    ensures border { IsCharBoundary source.now result }
+    ensures border { IsSpanBorder source.now byte → IsCharBoundary source.now result }
 {
     let bytes = source.as_bytes();
     let at = byte.min(text_end(bytes));

@@ -5,9 +5,11 @@ pub mod copy;
 pub mod overlap;
 pub mod patches;
 pub mod splice;
+pub mod stretches;
 pub mod trim;
 
 pub use overlap::check_patches;
 pub use patches::TrimmedPatch;
 pub use splice::{LineRange, SplicedLines, spliced_lines};
+pub use stretches::SubstitutionHighlight;
 pub use trim::as_substr;

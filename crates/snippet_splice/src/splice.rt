@@ -9,12 +9,13 @@ ghost use Rattle.snippet_splice.specs.Copied.{written, written_ranges, end_from}
 ghost use Rattle.snippet_splice.specs.Spliced.{HasNoCr, IsBeforeFinalLf, texts_of, AreFrom, spliced_text, line_ranges, ranges_from};
 ghost use Rattle.snippet_splice.specs.Shown.{closes_line, shown_line, shown_start, shown_rest, without_final_line_feeds, shown_text};
 
-use crate::copy::push_copied;
+use crate::copy::{push_copied, text_place};
 use crate::patches::{TrimmedPatch, trimmed_patches};
 use snippet_model::Patch;
+use crate::stretches::{SubstitutionHighlight, new_stretches, patch_places, replaced_stretches};
 use snippet_parts::CursorLines;
 use snippet_parts::line_bounds::line_bounds;
-use snippet_parts::line_feed_count;
+use snippet_parts::{line_feed_count, newline_count};
 use std::alloc::{AllocError, Global};
 
 /// Lines of a text, from the first to the last, both counted.
@@ -35,6 +36,10 @@ pub struct SplicedLines<'a> {
     pub patches: Vec<TrimmedPatch<'a>>,
     /// For each of them the lines of the text on which its replacement stands, counted from 0.
     pub ranges: Vec<LineRange>,
+    /// By lines of the text the stretches that the replacements write anew.
+    pub highlights: Vec<Vec<SubstitutionHighlight>>,
+    /// By lines of the source, from the first that is shown on, the stretches that are replaced.
+    pub replaced_highlights: Vec<Vec<SubstitutionHighlight>>,
 }
 
 /// The part of a source that is shown with these patches applied; `None` exactly where there are none.
@@ -77,13 +82,35 @@ pub fn spliced_lines<'a>(
     };
     let start = shown_start(source, first.original_span.start, fold);
     let written = write_patches(alloc, source, start, &patches)?;
-    let rest = shown_rest(&source[written.end.min(source.len())..], fold, closes_line(&patches));
+    let behind = &source[written.end.min(source.len())..];
+    let rest = shown_rest(behind, fold, closes_line(&patches));
     let complete = shown_text(written.text, rest)?;
+    let places = patch_places(alloc, source, start, &patches)?;
+    let more = if fold { 0 } else { line_feed_count(behind) };
+    let lines = source_lines_shown(source, start, &patches, fold);
+    let highlights = new_stretches(alloc, &patches, &places, more)?;
+    let replaced_highlights = replaced_stretches(alloc, source, &patches, &places, lines)?;
     Ok(Some(SplicedLines {
         complete,
         patches,
         ranges: written.ranges,
+        highlights,
+        replaced_highlights,
     }))
+}
+
+/// How many lines of the source the shown part replaces: folded from the byte `start` to the greatest end of a patch as
+/// it was given, unfolded all.
+fn source_lines_shown(source: &str, start: usize, patches: &[TrimmedPatch<'_>], fold: bool) -> usize {
+    if !fold {
+        return newline_count(source).saturating_add(1);
+    }
+    let mut end = start;
+    for patch in patches {
+        end = end.max(patch.original_span.end);
+    }
+    let text = source.get(start..text_place(source, end)).unwrap_or("");
+    line_feed_count(text).saturating_add(1)
 }
 
 /// The byte from which on the patched source is shown, if the first patch starts at `first`.

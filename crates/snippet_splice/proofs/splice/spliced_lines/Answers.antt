@@ -44,7 +44,7 @@ returns-clause-value c =
     let first : c.in-Some.first.now.original_span.start ≡ first_start (in_order es) = first-given c.in_ok-patches.patches.items (in_order es) c.in-Some.first.now c.in_ok-patches.ensures.originals (sym (c.in-Some.ensures.value ∙ ap (λ l. slice_get l 0) c.deref.ensures.value)) in
     let same : map trimmed_edit_of c.deref-3.result.now ≡ map trimmed_edit_of c.deref-2.result.now = ap (map trimmed_edit_of) (c.deref-3.ensures.value ∙ sym c.deref-2.ensures.value) in
     let closed : c.closes_line.result ≡ closes_line (map trimmed_edit_of c.deref-2.result.now) = c.closes_line.ensures.value ∙ ap closes_line same in
-    let rest : c.shown_rest-rest.result.now ≡ shown_rest c.args.fold c.closes_line.result (drop (min c.in_ok-written.written.end (length source)) source) = c.shown_rest-rest.ensures.value ∙ ap (shown_rest c.args.fold c.closes_line.result) (c.range_from.ensures.value ∙ ap (λ n. drop n source) c.min.ensures) in
+    let rest : c.shown_rest-rest.result.now ≡ shown_rest c.args.fold c.closes_line.result (drop (min c.in_ok-written.written.end (length source)) source) = c.shown_rest-rest.ensures.value ∙ ap (shown_rest c.args.fold c.closes_line.result) (c.range_from-behind.ensures.value ∙ ap (λ n. drop n source) c.min.ensures) in
     c.in_ok-complete.ensures.value ∙ shown-value c.args.fold source es (map trimmed_edit_of c.deref-2.result.now) c.in-Some.first.now.original_span.start c.shown_start-start.result c.in_ok-written.written.end c.closes_line.result (string_bytes c.in_ok-written.written.text) c.shown_rest-rest.result.now edits first c.shown_start-start.ensures.value c.in_ok-written.ensures.text c.in_ok-written.ensures.end closed rest
 
 pub returns-clause-text : goal.returns-clause-text
