@@ -6,5 +6,6 @@ pub mod RangeLemmas
 pub mod SeenLemmas
 pub mod ShownLemmas
 pub mod SpliceLemmas
+pub mod TouchLemmas
 pub mod TrimLemmas
 pub mod WriteLemmas

@@ -1,7 +1,7 @@
 -- The lines of the text that is shown are lines of the patched source, one behind the other.
 use Rattle.std.proofs.Common.{◌≡◌, ◌≢◌, ℕ, zero, suc, ◌+◌, ◌-◌, ◌<◌, ◌≤◌, ◌⊎◌, inl, inr, Bool, true, false, cond, eqb, List, [], ◌∷◌, ◌++◌, All, length, map, take, drop, get_or, refl, sym, ap, subst, ◌∙◌, ⊎_elim, arith, append_assoc}
 use Rattle.std.proofs.lemmas.List.{append-nil, length-append, length-map, length-take-le, take_at, drop_at, map-append}
-use Rattle.std.proofs.lemmas.List.Elements.{All-head, All-tail, All-take, All-drop, All-append}
+use Rattle.std.proofs.lemmas.List.Elements.{All-nil, All-cons, All-same, All-head, All-tail, All-take, All-drop, All-append}
 use Rattle.std.proofs.lemmas.Bool.{cases_Bool, cond-true, cond-false, eqb-true, eqb-false, ne_eqb}
 use Rattle.std.specs.List.{slice_range}
 use Rattle.snippet_parts.specs.declared.lines.EndLine.{EndLine}
@@ -70,21 +70,23 @@ pub record Shortens (xs ws : List ℕ) : Type 0 where
   pub tail : List ℕ
   pub whole : xs ≡ ws ++ tail
   pub stops : Stops tail
+  pub feeds : All (λ b. b ≡ 10) tail
   pub unclosed : (ws ≡ []) ⊎ (last_byte ws ≢ 10)
 
 Shortens-cons : (b : ℕ) (bs ws : List ℕ) → Shortens bs ws → Shortens (b ∷ bs) (unless_lone_line_feed b ws)
 Shortens-cons b bs [] h =
-    ⊎_elim (λ t. subst (Shortens (b ∷ bs)) (sym (cond-true (is_lf b) [] (b ∷ []) t)) (record { tail = b ∷ bs; whole = refl; stops = inr (bs, ap (λ c. c ∷ bs) (eqb-true b 10 t)); unclosed = inl refl }))
-    (λ f. subst (Shortens (b ∷ bs)) (sym (cond-false (is_lf b) [] (b ∷ []) f)) (record { tail = h.tail; whole = ap (λ l. b ∷ l) h.whole; stops = h.stops; unclosed = inr (eqb-false b 10 f) })) (cases_Bool (is_lf b))
+    ⊎_elim (λ t. subst (Shortens (b ∷ bs)) (sym (cond-true (is_lf b) [] (b ∷ []) t)) (record { tail = b ∷ bs; whole = refl; stops = inr (bs, ap (λ c. c ∷ bs) (eqb-true b 10 t)); feeds = All-cons (λ c. c ≡ 10) b bs (eqb-true b 10 t) (All-same (λ c. c ≡ 10) bs h.tail h.whole h.feeds); unclosed = inl refl }))
+    (λ f. subst (Shortens (b ∷ bs)) (sym (cond-false (is_lf b) [] (b ∷ []) f)) (record { tail = h.tail; whole = ap (λ l. b ∷ l) h.whole; stops = h.stops; feeds = h.feeds; unclosed = inr (eqb-false b 10 f) })) (cases_Bool (is_lf b))
 Shortens-cons b bs (c ∷ cs) h = record {
   tail = h.tail;
   whole = ap (λ l. b ∷ l) h.whole;
   stops = h.stops;
+  feeds = h.feeds;
   unclosed = inr (⊎_elim (λ e. absurd (cc)) (λ other e. other (sym (last_byte-cons b c cs) ∙ e)) h.unclosed);
 }
 
 pub Shortens-final : (xs : List ℕ) → Shortens xs (without_final_line_feeds xs)
-Shortens-final [] = record { tail = []; whole = refl; stops = inl refl; unclosed = inl refl }
+Shortens-final [] = record { tail = []; whole = refl; stops = inl refl; feeds = All-nil (λ b. b ≡ 10); unclosed = inl refl }
 Shortens-final (b ∷ bs) = Shortens-cons b bs (without_final_line_feeds bs) (Shortens-final bs)
 
 -- what stands behind the text that is shown: nothing, or an LF

@@ -127,6 +127,7 @@ pub record IsShownPart (fold : Bool) (source : List ℕ) (es : List Edit) : Type
   pub before : front ≡ slice_range source 0 (shown_start fold source (first_start (in_order es)))
   pub size : length front ≡ shown_start fold source (first_start (in_order es))
   pub stops : Stops rest ⊎ (last_byte part ≡ 10)
+  pub closes : Stops rest ⊎ (0 < length (last_text (trimmed_edits source es)))
   pub ends : length front + length (written source (shown_start fold source (first_start (in_order es))) (trimmed_edits source es)) ≤ length front + length part
   pub text : shown_text fold source es ≡ without_final_line_feeds part
   pub spliced : spliced_text fold source es ≡ without_final_line_feeds part
@@ -157,6 +158,10 @@ last_byte-append (x ∷ xs) (y ∷ ys) e =
     let n : length ((x ∷ xs) ++ (y ∷ ys)) - 1 ≡ suc (length (xs ++ (y ∷ ys)) - 1) = omega (arith, length-append xs (y ∷ ys)) in
     ap (λ k. get_or ((x ∷ xs) ++ (y ∷ ys)) k 0) n ∙ last_byte-append xs (y ∷ ys) e
 
+some-bytes : (xs : List ℕ) → last_byte xs ≡ 10 → 0 < length xs
+some-bytes [] e = absurd (cc)
+some-bytes (x ∷ xs) e = omega arith
+
 last-written : (source : List ℕ) (at : ℕ) (ts : List Edit) → last_byte (last_text ts) ≡ 10 → last_byte (written source at ts) ≡ 10
 last-written source at [] e = absurd (cc)
 last-written source at (t ∷ []) e =
@@ -180,7 +185,7 @@ first-split xs =
 -- ---- the parts
 
 -- where the last text ends
-last-end : (source : List ℕ) (s : ℕ) (t : Edit) (ts : List Edit) → HasNoCr source → AreBeforeFinalLf source (t ∷ ts) → AreApart s (t ∷ ts) → length (slice_range source 0 s) ≡ s → last_end 0 (stands source (t ∷ ts)) ≡ s + length (written source s (t ∷ ts))
+pub last-end : (source : List ℕ) (s : ℕ) (t : Edit) (ts : List Edit) → HasNoCr source → AreBeforeFinalLf source (t ∷ ts) → AreApart s (t ∷ ts) → length (slice_range source 0 s) ≡ s → last_end 0 (stands source (t ∷ ts)) ≡ s + length (written source s (t ∷ ts))
 last-end source s t ts none before apart size =
     ap (last_end 0) (stands_from-earlier source 0 s 0 t ts (omega arith) apart.0) ∙ last_end-written source s (0 + length (slice_range source 0 s)) (t ∷ ts) none before apart ∙ omega (arith, size)
 
@@ -209,6 +214,7 @@ shown-part false source es none before apart some =
       before = refl;
       size = refl;
       stops = inl (inl refl);
+      closes = inl (inl refl);
       ends = omega (arith, length-append w r);
       text = refl;
       spliced = ap without_final_line_feeds whole;
@@ -235,6 +241,7 @@ shown-part true source es none before apart some =
           before = refl;
           size = size;
           stops = inr (last-written source s ts (eqb-true (last_byte (last_text ts)) 10 t));
+          closes = inr (some-bytes (last_text ts) (eqb-true (last_byte (last_text ts)) 10 t));
           ends = omega arith;
           text = ap (λ l. without_final_line_feeds (w ++ l)) (cond-true (closes_line ts) [] (text_at (source_lines r) 0) t) ∙ ap without_final_line_feeds (append-nil w);
           spliced = ap without_final_line_feeds (ap (slice_range (patched source es) s) end ∙ ap (λ d. slice_range d s (s + length w + 0)) whole ∙ cut-part f w r s 0 size ∙ append-nil w);
@@ -251,6 +258,7 @@ shown-part true source es none before apart some =
           before = refl;
           size = size;
           stops = inl (first-stops r);
+          closes = inl (first-stops r);
           ends = omega (arith, length-append w l);
           text = ap (λ x. without_final_line_feeds (w ++ x)) (cond-false (closes_line ts) [] (text_at (source_lines r) 0) t ∙ first-line r clean);
           spliced = ap without_final_line_feeds (ap (slice_range (patched source es) s) end ∙ ap (λ d. slice_range d s (s + length w + length l)) whole ∙ cut-part f w r s (length l) size ∙ ap (λ x. w ++ x) front_of);

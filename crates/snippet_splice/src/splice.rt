@@ -1,12 +1,12 @@
 //! The part of a source that is shown with patches applied.
-ghost use Rattle.std.specs.Prelude.{◌≡◌, ◌↔◌, ◌==◌, [], ◌++◌, map, All, IfOk, IfSome, IsNone, length, take};
+ghost use Rattle.std.specs.Prelude.{◌≡◌, ◌≢◌, ◌↔◌, ◌==◌, ℕ, ◌+◌, ◌<◌, ◌≤◌, [], ◌++◌, map, All, IfOk, IfSome, IsNone, length, take};
 ghost use Rattle.std.specs.String.{string_bytes};
 ghost use Rattle.snippet_parts.specs.Lines.{lines_of, source_lines, text_at, last_byte};
 ghost use Rattle.snippet_parts.specs.Span.{IsSpan, IsSpanBorder};
 ghost use Rattle.snippet_splice.specs.Edits.{edit_of, patched, trimmed_edit_of, trimmed_edits, AreApart};
 ghost use Rattle.snippet_splice.specs.Overlap.{AreDisjoint};
 ghost use Rattle.snippet_splice.specs.Copied.{written, written_ranges, end_from};
-ghost use Rattle.snippet_splice.specs.Spliced.{HasNoCr, IsBeforeFinalLf, texts_of, AreFrom, spliced_text, line_ranges, ranges_from};
+ghost use Rattle.snippet_splice.specs.Spliced.{HasNoCr, IsBeforeFinalLf, IsTouched, texts_of, AreFrom, spliced_text, line_ranges, ranges_from};
 ghost use Rattle.snippet_splice.specs.Shown.{closes_line, shown_line, shown_start, shown_rest, without_final_line_feeds, shown_text};
 
 use crate::copy::{push_copied, text_place};
@@ -75,6 +75,13 @@ pub fn spliced_lines<'a>(
         → All (λ e. IsBeforeFinalLf source.now e.start) (trimmed_edits source.now es)
         → IfOk result (λ t. IfSome t (λ s. AreFrom (shown_line fold source.now es)
             (texts_of (lines_of (string_bytes s.complete))) (texts_of (source_lines (patched source.now es))))) }
+    // Each line of the patched source that an edit touches is among them, if it isn't empty.
+    ensures touched { let es = map edit_of patches.now in
+        HasNoCr source.now → All (λ e. IsBeforeFinalLf source.now e.start) (trimmed_edits source.now es)
+        → IfOk result (λ t. IfSome t (λ s. (j : ℕ) → IsTouched source.now es j
+            → text_at (source_lines (patched source.now es)) j ≢ []
+            → (shown_line fold source.now es ≤ j)
+                × (j < shown_line fold source.now es + length (lines_of (string_bytes s.complete))))) }
 {
     let patches = trimmed_patches(alloc, source, patches)?;
     let Some(first) = patches.first() else {
