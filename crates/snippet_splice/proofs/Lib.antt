@@ -1,4 +1,5 @@
 pub mod EditLemmas
+pub mod Examples
 pub mod LineLemmas
 pub mod OrderLemmas
 pub mod OverlapLemmas

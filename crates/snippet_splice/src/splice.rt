@@ -3,7 +3,7 @@ ghost use Rattle.std.specs.Prelude.{◌≡◌, ◌≢◌, ◌↔◌, ◌==◌, �
 ghost use Rattle.std.specs.String.{string_bytes};
 ghost use Rattle.snippet_parts.specs.Lines.{lines_of, source_lines, text_at, last_byte};
 ghost use Rattle.snippet_parts.specs.Span.{IsSpan, IsSpanBorder};
-ghost use Rattle.snippet_splice.specs.Edits.{edit_of, patched, trimmed_edit_of, trimmed_edits, AreApart};
+ghost use Rattle.snippet_splice.specs.Edits.{edit_of, in_order, bounds_of, original_bounds_of, edited_from, patched, trimmed_edit_of, trimmed_edits, AreApart};
 ghost use Rattle.snippet_splice.specs.Overlap.{AreDisjoint};
 ghost use Rattle.snippet_splice.specs.Copied.{written, written_ranges, end_from};
 ghost use Rattle.snippet_splice.specs.Spliced.{HasNoCr, IsBeforeFinalLf, IsTouched, texts_of, AreFrom, spliced_text, line_ranges, ranges_from};
@@ -58,6 +58,13 @@ pub fn spliced_lines<'a>(
     ensures none { IfOk result (λ t. IsNone t ↔ (patches.now ≡ [])) }
     ensures edits { IfOk result (λ t. IfSome t
         (λ s. map trimmed_edit_of s.patches.items ≡ trimmed_edits source.now (map edit_of patches.now))) }
+    ensures originals { IfOk result (λ t. IfSome t (λ s.
+        map original_bounds_of s.patches.items ≡ map bounds_of (in_order (map edit_of patches.now)))) }
+    ensures spans { IfOk result (λ t. IfSome t
+        (λ s. All (λ p. IsSpan source.now p.span.start p.span.end) s.patches.items)) }
+    // The trimmed patches, applied as they stand, give the patched source.
+    ensures law { let es = map edit_of patches.now in IfOk result (λ t. IfSome t (λ s.
+        edited_from source.now 0 (map trimmed_edit_of s.patches.items) ≡ patched source.now es)) }
     // The text, also of sources with carriage returns.
     ensures value { IfOk result (λ t. IfSome t
         (λ s. string_bytes s.complete ≡ shown_text fold source.now (map edit_of patches.now))) }

@@ -82,3 +82,7 @@ returns-clause-touched c = λ none before j touched filled.
     let some : trimmed_edits source es ≢ [] = some-trimmed c.in_ok-patches.patches.items (trimmed_edits source es) c.in-Some.first.now c.in_ok-patches.ensures.edits (sym (c.in-Some.ensures.value ∙ ap (λ l. slice_get l 0) c.deref.ensures.value)) in
     let part : IsShownPart c.args.fold source es = shown-part c.args.fold source es none before apart some in
     subst (λ t. (shown_line c.args.fold source es ≤ j) × (j < shown_line c.args.fold source es + length (lines_of t))) (sym (returns-clause-value c ∙ part.text)) (shown-touched c.args.fold source es none before apart part j touched filled)
+
+pub returns-clause-law : goal.returns-clause-law
+returns-clause-law c =
+    c.in_ok-patches.ensures.law (apart-in_order (map edit_of c.args.patches.now) (ordered-spans c.args.source.now c.args.patches.now c.requires.spans) c.requires.disjoint)
