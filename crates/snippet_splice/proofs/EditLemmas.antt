@@ -1,9 +1,8 @@
 -- Laws of trimmed edits and of the patched source.
-use Rattle.std.proofs.Common.{◌≡◌, ℕ, suc, ◌+◌, ◌-◌, ◌<◌, ◌≤◌, ◌⊎◌, Bool, true, false, cond, ◌&&◌, ltb, leb, Option, Some, None, List, [], ◌∷◌, ◌++◌, length, map, take, drop, get_or, refl, sym, ap, subst, ◌∙◌, ⊎_elim, arith, append_assoc}
-use Rattle.std.proofs.lemmas.List.{append-nil, length-append, length-take-le, length-drop, take_all, drop_all, take-append-drop, take-take, drop-drop, drop-take, get_or-take, get_or-drop}
-use Rattle.std.proofs.lemmas.Bool.{cases_Bool, cond-true, cond-false, cond_both, and_parts, ltb-true, leb-true}
+use Rattle.std.proofs.Common.{◌≡◌, ℕ, ◌+◌, ◌-◌, ◌≤◌, ◌&&◌, ltb, leb, Option, Some, None, List, [], ◌∷◌, ◌++◌, length, map, take, drop, refl, sym, ap, ◌∙◌, arith, append_assoc}
+use Rattle.std.proofs.lemmas.List.{append-nil, length-take-le, length-drop, take-append-drop, take-take, drop-drop, drop-take}
+use Rattle.std.proofs.lemmas.Bool.{cond_both, and_parts, leb-true}
 use Rattle.std.specs.List.{slice_range}
-use Rattle.std.specs.Str.{IsCharBoundary}
 use Rattle.snippet_splice.specs.Trim.{IsSandwiched, sandwich}
 use Rattle.snippet_splice.specs.Edits.{Edit, shrunk, trimmed_edit, edited_from, AreApart}
 use Rattle.snippet_splice.proofs.TrimLemmas.{sandwich-sandwiched}
@@ -43,6 +42,7 @@ unchanged source e ordered = record {
   where
     nothing : (a : ℕ) → slice_range source a a ≡ []
     nothing a = let n : a - a ≡ 0 = omega arith in ap (λ k. take k (drop a source)) n
+
     nothing-around : (a b : ℕ) (t : List ℕ) → t ≡ slice_range source a a ++ (t ++ slice_range source b b)
     nothing-around a b t = sym (ap (λ l. l ++ (t ++ slice_range source b b)) (nothing a) ∙ ap (λ l. t ++ l) (nothing b) ∙ append-nil t)
 

@@ -1,10 +1,10 @@
 -- The definitions, computed on small inputs. In these `a` is 97, LF is 10 and CR is 13.
-use Rattle.std.proofs.Common.{◌≡◌, ℕ, Bool, true, false, Option, Some, None, List, [], ◌∷◌, refl}
+use Rattle.std.proofs.Common.{◌≡◌, ℕ, true, false, Some, None, List, [], ◌∷◌, refl}
 use Rattle.snippet_splice.specs.Trim.{kept_before, sandwich}
-use Rattle.snippet_splice.specs.Edits.{Edit, trimmed_edit, trimmed_edits, in_order, patched}
+use Rattle.snippet_splice.specs.Edits.{Edit, trimmed_edit, trimmed_edits, patched}
 use Rattle.snippet_splice.specs.Overlap.{overlap}
 use Rattle.snippet_splice.specs.Shown.{shown_text}
-use Rattle.snippet_splice.specs.Spliced.{Stand, stands, last_line_reached, spliced_text, line_ranges}
+use Rattle.snippet_splice.specs.Spliced.{last_line_reached, spliced_text, line_ranges}
 use Rattle.snippet_parts.specs.Lines.{start_of}
 use Rattle.snippet_parts.specs.Place.{line_of}
 

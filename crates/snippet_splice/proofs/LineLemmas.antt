@@ -1,16 +1,16 @@
 -- The lines of the text that is shown are lines of the patched source, one behind the other.
-use Rattle.std.proofs.Common.{◌≡◌, ◌≢◌, ℕ, zero, suc, ◌+◌, ◌-◌, ◌<◌, ◌≤◌, ◌⊎◌, inl, inr, Bool, true, false, cond, eqb, List, [], ◌∷◌, ◌++◌, All, length, map, take, drop, get_or, refl, sym, ap, subst, ◌∙◌, ⊎_elim, arith, append_assoc}
+use Rattle.std.proofs.Common.{◌≡◌, ◌≢◌, ℕ, zero, suc, ◌-◌, ◌<◌, ◌⊎◌, inl, inr, Bool, true, false, cond, eqb, List, [], ◌∷◌, ◌++◌, All, length, take, drop, refl, sym, ap, subst, ◌∙◌, ⊎_elim, arith, append_assoc}
 use Rattle.std.proofs.lemmas.List.{append-nil, length-append, length-map, length-take-le, take_at, drop_at, map-append}
 use Rattle.std.proofs.lemmas.List.Elements.{All-nil, All-cons, All-same, All-head, All-tail, All-take, All-drop, All-append}
 use Rattle.std.proofs.lemmas.Bool.{cases_Bool, cond-true, cond-false, eqb-true, eqb-false, ne_eqb}
 use Rattle.std.specs.List.{slice_range}
 use Rattle.snippet_parts.specs.declared.lines.EndLine.{EndLine}
 use Rattle.snippet_parts.specs.declared.lines.EndLine.TheVariants.{Eof, Lf, Crlf}
-use Rattle.snippet_parts.specs.Lines.{Line, IsLine, AreLines, AreLinesOf, line_bytes, end_bytes, joined, lines_of, with_first_byte, source_lines, start_of, last_byte, is_lf}
+use Rattle.snippet_parts.specs.Lines.{Line, AreLines, line_bytes, end_bytes, joined, lines_of, with_first_byte, source_lines, start_of, last_byte, is_lf}
 use Rattle.snippet_parts.specs.Place.{line_of}
 use Rattle.snippet_parts.proofs.LinesLemmas.{AreLinesOf-source_lines, lines_of-append, lines_of-joined, last_byte-cons}
 use Rattle.snippet_parts.proofs.PlaceLemmas.{line_of-within}
-use Rattle.snippet_splice.specs.Edits.{Edit, precedes, put_in, in_order, trimmed_edits, edited_from, patched}
+use Rattle.snippet_splice.specs.Edits.{Edit, precedes, in_order, edited_from, patched}
 use Rattle.snippet_splice.specs.Shown.{first_start, shown_start, shown_line, unless_lone_line_feed, without_final_line_feeds}
 use Rattle.snippet_splice.specs.Spliced.{HasNoCr, texts_of, AreFrom}
 use Rattle.snippet_splice.proofs.OrderLemmas.{All-put_in}
@@ -95,9 +95,9 @@ behind-shown part ws rest h stops =
     let joint : part ++ rest ≡ ws ++ (h.tail ++ rest) = ap (λ l. l ++ rest) h.whole ∙ append_assoc ws h.tail rest in
     ⊎_elim
     (λ none. ⊎_elim
-        (λ stop. (rest, joint ∙ ap (λ l. ws ++ (l ++ rest)) none, stop))
-        (λ closed. let same : part ≡ ws = h.whole ∙ ap (λ l. ws ++ l) none ∙ append-nil ws in
-            absurd (⊎_elim (λ nil. let e : last_byte [] ≡ 10 = ap last_byte (sym (same ∙ nil)) ∙ closed in cc) (λ other. other (ap last_byte (sym same) ∙ closed)) h.unclosed)) stops)
+    (λ stop. (rest, joint ∙ ap (λ l. ws ++ (l ++ rest)) none, stop))
+    (λ closed. let same : part ≡ ws = h.whole ∙ ap (λ l. ws ++ l) none ∙ append-nil ws in
+    absurd (⊎_elim (λ nil. let e : last_byte [] ≡ 10 = ap last_byte (sym (same ∙ nil)) ∙ closed in cc) (λ other. other (ap last_byte (sym same) ∙ closed)) h.unclosed)) stops)
     (λ (y, e). (h.tail ++ rest, joint, inr (y ++ rest, ap (λ l. l ++ rest) e))) h.stops
 
 texts-front : (ws z : List ℕ) → Stops z → (ws ≡ []) ⊎ (last_byte ws ≢ 10) → (ts : List (List ℕ)) × (texts (ws ++ z) ≡ texts ws ++ ts)
@@ -130,6 +130,7 @@ closed-joined (l ∷ ls) (suc k) are within some =
     ends Eof ended = absurd (ended refl)
     ends Lf ended = refl
     ends Crlf ended = refl
+
     behind : (rest : List ℕ) → (0 < length rest → last_byte rest ≡ 10) → last_byte (line_bytes l) ≡ 10 → last_byte (line_bytes l ++ rest) ≡ 10
     behind [] closed here = ap last_byte (append-nil (line_bytes l)) ∙ here
     behind (b ∷ bs) closed here = last_byte-append (line_bytes l) (b ∷ bs) (closed (omega arith))
@@ -144,7 +145,7 @@ lines-front source k within =
     let ls : List Line = source_lines source in
     subst (λ f. IsLinesFront f k) (sym (front-lines source k)) (⊎_elim
     (λ one. let e : k ≡ 0 = omega (arith, ap length one) in
-        subst (λ n. IsLinesFront (joined (take n ls)) n) (sym e) (record { closed = λ some. absurd (omega arith); count = refl }))
+    subst (λ n. IsLinesFront (joined (take n ls)) n) (sym e) (record { closed = λ some. absurd (omega arith); count = refl }))
     (λ (some, are). record { closed = closed-joined ls k are within; count = ap length (lines_of-joined (take k ls) (AreLines-take ls k are)) ∙ length-take-le k ls (omega arith) })
     (AreLinesOf-source_lines source).lines)
 

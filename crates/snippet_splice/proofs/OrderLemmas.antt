@@ -1,6 +1,6 @@
 -- A stable sort has one answer: the list put in order.
-use Rattle.std.proofs.Common.{◌≡◌, ◌≢◌, ℕ, zero, suc, ◌+◌, ◌<◌, ◌≤◌, ◌⊎◌, inl, inr, Bool, true, false, cond, not, ◌&&◌, ◌||◌, eqb, ltb, List, [], ◌∷◌, ◌++◌, map, filter, All, length, get_or, refl, sym, ap, subst, ◌∙◌, ⊎_elim, arith}
-use Rattle.std.proofs.lemmas.Bool.{cases_Bool, cond-true, cond-false, and_from, and_parts, both_ways, false_from_ne_true, not-true, not_from_false, true≢false}
+use Rattle.std.proofs.Common.{◌≡◌, ℕ, suc, ◌+◌, Bool, true, false, cond, not, ◌&&◌, ◌||◌, eqb, ltb, List, [], ◌∷◌, map, filter, All, get_or, refl, sym, ap, subst, ◌∙◌, ⊎_elim, arith}
+use Rattle.std.proofs.lemmas.Bool.{cases_Bool, cond-true, cond-false, and_from, and_parts, both_ways, false_from_ne_true, not-true, not_from_false}
 use Rattle.std.proofs.lemmas.Bool.Decides.{nat_tests}
 use Rattle.std.proofs.lemmas.List.Elements.{All-nil, All-cons, All-head, All-tail}
 use Rattle.std.proofs.lemmas.List.Sorted.{sorted_far}
@@ -59,9 +59,9 @@ same_rise {X} lt o (x ∷ xs) (y ∷ ys) a b same =
     let found : x ∷ filter (ties lt x) xs ≡ y ∷ filter (ties lt x) ys = sym (finds-itself lt o x xs) ∙ same x ∙ cond-true (ties lt x y) (y ∷ filter (ties lt x) ys) (filter (ties lt x) ys) (ties-from lt x y down up) in
     let head : x ≡ y = cc in
     let rest : (w : X) → filter (ties lt w) xs ≡ filter (ties lt w) ys = λ w. ⊎_elim
-        (λ t. let e : x ∷ filter (ties lt w) xs ≡ y ∷ filter (ties lt w) ys = sym (cond-true (ties lt w x) (x ∷ filter (ties lt w) xs) (filter (ties lt w) xs) t) ∙ same w ∙ cond-true (ties lt w y) (y ∷ filter (ties lt w) ys) (filter (ties lt w) ys) (subst (λ z. ties lt w z ≡ true) head t) in cc)
-        (λ f. sym (cond-false (ties lt w x) (x ∷ filter (ties lt w) xs) (filter (ties lt w) xs) f) ∙ same w ∙ cond-false (ties lt w y) (y ∷ filter (ties lt w) ys) (filter (ties lt w) ys) (subst (λ z. ties lt w z ≡ false) head f))
-        (cases_Bool (ties lt w x)) in
+    (λ t. let e : x ∷ filter (ties lt w) xs ≡ y ∷ filter (ties lt w) ys = sym (cond-true (ties lt w x) (x ∷ filter (ties lt w) xs) (filter (ties lt w) xs) t) ∙ same w ∙ cond-true (ties lt w y) (y ∷ filter (ties lt w) ys) (filter (ties lt w) ys) (subst (λ z. ties lt w z ≡ true) head t) in cc)
+    (λ f. sym (cond-false (ties lt w x) (x ∷ filter (ties lt w) xs) (filter (ties lt w) xs) f) ∙ same w ∙ cond-false (ties lt w y) (y ∷ filter (ties lt w) ys) (filter (ties lt w) ys) (subst (λ z. ties lt w z ≡ false) head f))
+    (cases_Bool (ties lt w x)) in
     let tail : xs ≡ ys = same_rise lt o xs ys a.1 b.1 rest in
     cc
 
@@ -91,13 +91,13 @@ filter-put_in {X} lt o w x (y ∷ ys) =
     let kept : List X = filter p ys in
     ⊎_elim
     (λ t. let step : filter p (put_in lt x (y ∷ ys)) ≡ cond (p y) (y ∷ filter p (put_in lt x ys)) (filter p (put_in lt x ys)) = ap (filter p) (cond-true (lt y x) (y ∷ put_in lt x ys) (x ∷ y ∷ ys) t) in
-        let in_rest : filter p (put_in lt x ys) ≡ cond (p x) (x ∷ kept) kept = filter-put_in lt o w x ys in
-        step ∙ ⊎_elim
-        (λ ty. let not_x : p x ≡ false = false_from_ne_true (p x) (λ tx. both_ways (lt y x) (o.chain y w x (ties-parts lt w y ty).1 (ties-parts lt w x tx).0) t) in
-            cond-true (p y) (y ∷ filter p (put_in lt x ys)) (filter p (put_in lt x ys)) ty ∙ ap (λ l. y ∷ l) (in_rest ∙ cond-false (p x) (x ∷ kept) kept not_x) ∙ sym (cond-true (p y) (y ∷ kept) kept ty) ∙ sym (cond-false (p x) (x ∷ cond (p y) (y ∷ kept) kept) (cond (p y) (y ∷ kept) kept) not_x))
-        (λ fy. let same : cond (p y) (y ∷ kept) kept ≡ kept = cond-false (p y) (y ∷ kept) kept fy in
-            cond-false (p y) (y ∷ filter p (put_in lt x ys)) (filter p (put_in lt x ys)) fy ∙ in_rest ∙ ap (λ l. cond (p x) (x ∷ l) l) (sym same))
-        (cases_Bool (p y)))
+    let in_rest : filter p (put_in lt x ys) ≡ cond (p x) (x ∷ kept) kept = filter-put_in lt o w x ys in
+    step ∙ ⊎_elim
+    (λ ty. let not_x : p x ≡ false = false_from_ne_true (p x) (λ tx. both_ways (lt y x) (o.chain y w x (ties-parts lt w y ty).1 (ties-parts lt w x tx).0) t) in
+    cond-true (p y) (y ∷ filter p (put_in lt x ys)) (filter p (put_in lt x ys)) ty ∙ ap (λ l. y ∷ l) (in_rest ∙ cond-false (p x) (x ∷ kept) kept not_x) ∙ sym (cond-true (p y) (y ∷ kept) kept ty) ∙ sym (cond-false (p x) (x ∷ cond (p y) (y ∷ kept) kept) (cond (p y) (y ∷ kept) kept) not_x))
+    (λ fy. let same : cond (p y) (y ∷ kept) kept ≡ kept = cond-false (p y) (y ∷ kept) kept fy in
+    cond-false (p y) (y ∷ filter p (put_in lt x ys)) (filter p (put_in lt x ys)) fy ∙ in_rest ∙ ap (λ l. cond (p x) (x ∷ l) l) (sym same))
+    (cases_Bool (p y)))
     (λ f. ap (filter p) (cond-false (lt y x) (y ∷ put_in lt x ys) (x ∷ y ∷ ys) f))
     (cases_Bool (lt y x))
 
@@ -108,11 +108,10 @@ filter-ordered_by {X} lt o w (x ∷ xs) =
 
 Rises-from_sorted : {X : Type 0} (lt : X → X → Bool) → IsStrictWeakOrder lt → (xs : List X) → IsSortedBy lt xs → Rises lt xs
 Rises-from_sorted lt o [] up = tt
-Rises-from_sorted {X} lt o (x ∷ xs) up =
-    (
-      λ k d within. sorted_far lt o (x ∷ xs) up 0 (suc k) d (omega arith) (omega arith),
-      Rises-from_sorted lt o xs (λ k d low high. let e : suc k + 1 ≡ suc (k + 1) = omega arith in subst (λ n. lt (get_or (x ∷ xs) n d) (get_or xs k d) ≡ false) e (up (suc k) d (omega arith) (omega arith))),
-    )
+Rises-from_sorted {X} lt o (x ∷ xs) up = (
+  λ k d within. sorted_far lt o (x ∷ xs) up 0 (suc k) d (omega arith) (omega arith),
+  Rises-from_sorted lt o xs (λ k d low high. let e : suc k + 1 ≡ suc (k + 1) = omega arith in subst (λ n. lt (get_or (x ∷ xs) n d) (get_or xs k d) ≡ false) e (up (suc k) d (omega arith) (omega arith))),
+)
 
 -- what a stable sort makes of a list is the list put in order
 pub sorted-only : {X : Type 0} (lt : X → X → Bool) → IsStrictWeakOrder lt → (xs ys : List X) → IsSortedBy lt ys → IsStableBy lt xs ys → ys ≡ ordered_by lt xs
@@ -147,5 +146,6 @@ pair-order f g = record {
   where
     one_way : (a b c d : ℕ) → pair_lt a b c d ≡ true → pair_lt c d a b ≡ false
     one_way a b c d h = grind (arith, nat_tests)
+
     chain : (a b c d e f : ℕ) → pair_lt a b c d ≡ false → pair_lt c d e f ≡ false → pair_lt a b e f ≡ false
     chain a b c d e f h k = grind (arith, nat_tests)

@@ -1,8 +1,8 @@
 -- Laws of edits that overlap.
-use Rattle.std.proofs.Common.{◌≡◌, ℕ, zero, suc, ◌+◌, ◌-◌, ◌<◌, ◌≤◌, Bool, true, false, cond, ◌&&◌, ◌||◌, eqb, ltb, List, [], ◌∷◌, length, map, get_or, All, refl, sym, ap, subst, ◌∙◌, ⊎_elim, arith}
-use Rattle.std.proofs.lemmas.List.{get_or-map, length-map}
+use Rattle.std.proofs.Common.{◌≡◌, ℕ, zero, suc, ◌+◌, ◌-◌, ◌<◌, ◌≤◌, false, cond, ◌&&◌, ◌||◌, eqb, ltb, List, [], ◌∷◌, length, map, get_or, All, sym, ap, subst, ◌∙◌, ⊎_elim, arith}
+use Rattle.std.proofs.lemmas.List.{get_or-map}
 use Rattle.std.proofs.lemmas.List.Elements.{All-from_get_or, All-cons, All-head, All-tail, All-map}
-use Rattle.std.proofs.lemmas.Bool.{cases_eq, cases_Bool, cond-true, cond-false, ltb-false, both_ways}
+use Rattle.std.proofs.lemmas.Bool.{cases_Bool, cond-true, cond-false, ltb-false}
 use Rattle.std.proofs.lemmas.Bool.Decides.{nat_tests}
 use Rattle.snippet_model.specs.declared.snippet.Patch.{Patch}
 use Rattle.snippet_parts.specs.Span.{IsSpan}
@@ -54,9 +54,9 @@ put-apart at e (d ∷ ds) low ordered apart clear =
     let here : ClearOf e d = clear 0 d (omega arith) in
     ⊎_elim
     (λ t. let behind : d.end ≤ e.start = ltb-false e.start d.end (sym (cond-true (precedes d e) (ltb e.start d.end) (ltb d.start e.end) t) ∙ here) in
-        subst (AreApart at) (sym (cond-true (precedes d e) (d ∷ put_in precedes e ds) (e ∷ d ∷ ds) t)) (apart.0, apart.1, put-apart d.end e ds behind ordered apart.2 (λ k x within. clear (suc k) x (omega arith))))
+    subst (AreApart at) (sym (cond-true (precedes d e) (d ∷ put_in precedes e ds) (e ∷ d ∷ ds) t)) (apart.0, apart.1, put-apart d.end e ds behind ordered apart.2 (λ k x within. clear (suc k) x (omega arith))))
     (λ f. let before : e.end ≤ d.start = ltb-false d.start e.end (sym (cond-false (precedes d e) (ltb e.start d.end) (ltb d.start e.end) f) ∙ here) in
-        subst (AreApart at) (sym (cond-false (precedes d e) (d ∷ put_in precedes e ds) (e ∷ d ∷ ds) f)) (low, ordered, (before, apart.1, apart.2)))
+    subst (AreApart at) (sym (cond-false (precedes d e) (d ∷ put_in precedes e ds) (e ∷ d ∷ ds) f)) (low, ordered, (before, apart.1, apart.2)))
     (cases_Bool (precedes d e))
 
 pub apart-in_order : (es : List Edit) → All (λ e. e.start ≤ e.end) es → AreDisjoint es → AreApart 0 (in_order es)
@@ -70,6 +70,7 @@ apart-in_order (e ∷ es) ordered disjoint =
     clear-put d (c ∷ ds) here all =
         ⊎_elim (λ t. subst (All (ClearOf e)) (sym (cond-true (precedes c d) (c ∷ put_in precedes d ds) (d ∷ c ∷ ds) t)) (All-cons (ClearOf e) c (put_in precedes d ds) (All-head (ClearOf e) c ds all) (clear-put d ds here (All-tail (ClearOf e) c ds all))))
         (λ f. subst (All (ClearOf e)) (sym (cond-false (precedes c d) (c ∷ put_in precedes d ds) (d ∷ c ∷ ds) f)) (All-cons (ClearOf e) d (c ∷ ds) here all)) (cases_Bool (precedes c d))
+
     clear-in_order : (ds : List Edit) → All (ClearOf e) ds → All (ClearOf e) (in_order ds)
     clear-in_order [] all = all
     clear-in_order (d ∷ ds) all =

@@ -1,22 +1,21 @@
 -- On which lines of the patched source the texts of edits stand.
-use Rattle.std.proofs.Common.{◌≡◌, ◌≢◌, ℕ, zero, suc, ◌+◌, ◌-◌, ◌<◌, ◌≤◌, ◌⊎◌, Bool, true, false, cond, List, [], ◌∷◌, ◌++◌, All, length, map, take, drop, get_or, count_by, refl, sym, ap, subst, ◌∙◌, ⊎_elim, arith, append_assoc}
-use Rattle.std.proofs.lemmas.List.{append-nil, length-append, take_at, take-append-drop}
+use Rattle.std.proofs.Common.{◌≡◌, ◌≢◌, ℕ, zero, suc, ◌+◌, ◌-◌, ◌<◌, Bool, true, false, cond, List, [], ◌∷◌, ◌++◌, All, length, map, take, drop, count_by, refl, sym, ap, ◌∙◌, ⊎_elim, arith, append_assoc}
+use Rattle.std.proofs.lemmas.List.{length-append, take_at, take-append-drop}
 use Rattle.std.proofs.lemmas.List.Sums.{sum_by-append, sum_by-cons}
 use Rattle.std.proofs.lemmas.List.Concat.{flat_map-append}
 use Rattle.std.proofs.lemmas.List.Elements.{All-head, All-tail}
-use Rattle.std.proofs.lemmas.Bool.{cond-false, cond_both, ne_eqb}
+use Rattle.std.proofs.lemmas.Bool.{cond-false, ne_eqb}
 use Rattle.std.specs.List.{slice_range}
 use Rattle.snippet_parts.specs.declared.lines.EndLine.{EndLine}
 use Rattle.snippet_parts.specs.declared.lines.EndLine.TheVariants.{Eof, Lf, Crlf}
-use Rattle.snippet_parts.specs.Lines.{Line, IsLine, AreLines, AreLinesOf, line_bytes, end_bytes, joined, source_lines, start_of, is_lf}
+use Rattle.snippet_parts.specs.Lines.{Line, IsLine, AreLines, line_bytes, end_bytes, joined, source_lines, start_of, is_lf}
 use Rattle.snippet_parts.specs.Place.{line_of}
 use Rattle.snippet_parts.proofs.LinesLemmas.{AreLinesOf-source_lines, joined-source_lines}
 use Rattle.snippet_parts.proofs.PlaceLemmas.{line_of-within}
-use Rattle.snippet_splice.specs.declared.splice.LineRange.{LineRange}
 use Rattle.snippet_splice.specs.Edits.{Edit, in_order, trimmed_edits, edited_from, patched, AreApart}
 use Rattle.snippet_splice.specs.Copied.{copied, written_ranges}
 use Rattle.snippet_splice.specs.Shown.{first_start, shown_start, shown_line}
-use Rattle.snippet_splice.specs.Spliced.{Stand, stands_from, stands, lines_of_stand, line_ranges, ranges_from, HasNoCr, IsBeforeFinalLf}
+use Rattle.snippet_splice.specs.Spliced.{stands_from, stands, lines_of_stand, line_ranges, ranges_from, HasNoCr, IsBeforeFinalLf}
 use Rattle.snippet_splice.proofs.EditLemmas.{edited_from-earlier, edited_from-trimmed}
 use Rattle.snippet_splice.proofs.ShownLemmas.{shown-apart}
 use Rattle.snippet_splice.proofs.SpliceLemmas.{AreBeforeFinalLf, copied-same, stands_from-earlier, front-size}

@@ -1,6 +1,6 @@
 -- Laws of the text that is shown, as it is written.
-use Rattle.std.proofs.Common.{◌≡◌, ◌≢◌, ℕ, zero, suc, ◌+◌, ◌-◌, ◌<◌, ◌≤◌, ◌⊎◌, Bool, true, false, cond, min, Option, Some, None, List, [], ◌∷◌, ◌++◌, All, length, map, take, drop, get_or, refl, sym, ap, subst, ◌∙◌, ⊎_elim, inl, arith}
-use Rattle.std.proofs.lemmas.Bool.{cases_Bool, cond-true, cond-false, cond_both}
+use Rattle.std.proofs.Common.{◌≡◌, ◌≢◌, ℕ, ◌≤◌, Bool, min, Some, None, List, [], ◌∷◌, ◌++◌, length, map, drop, refl, sym, ap, ◌∙◌, arith}
+use Rattle.std.proofs.lemmas.Bool.{cond_both}
 use Rattle.std.proofs.lemmas.List.{drop_min}
 use Rattle.std.proofs.lemmas.Str.{IsCharBoundary-start}
 use Rattle.std.specs.List.{slice_get}
@@ -11,12 +11,10 @@ use Rattle.snippet_parts.specs.Place.{line_of}
 use Rattle.snippet_parts.proofs.PlaceLemmas.{HoldsByte-source}
 use Rattle.snippet_parts.proofs.BoundsLemmas.{IsCharBoundary-start_of}
 use Rattle.snippet_splice.specs.declared.patches.TrimmedPatch.{TrimmedPatch}
-use Rattle.snippet_splice.specs.Edits.{Edit, edit_of, trimmed_edit_of, trimmed_edit, trimmed_edits, put_in, ordered_by, in_order, precedes, bounds_of, original_bounds_of, AreApart}
-use Rattle.snippet_splice.specs.Overlap.{AreDisjoint}
+use Rattle.snippet_splice.specs.Edits.{Edit, edit_of, trimmed_edit_of, trimmed_edit, trimmed_edits, put_in, in_order, precedes, bounds_of, original_bounds_of, AreApart}
 use Rattle.snippet_splice.specs.Shown.{first_start, closes_line, shown_start, shown_rest, without_final_line_feeds, shown_text}
 use Rattle.snippet_splice.specs.Copied.{written, end_from}
 use Rattle.snippet_splice.proofs.EditLemmas.{AreApart-earlier, trimmed-apart}
-use Rattle.snippet_splice.proofs.OverlapLemmas.{apart-in_order}
 
 put_in-some : {X : Type 0} (lt : X → X → Bool) (x : X) (ys : List X) → put_in lt x ys ≢ []
 put_in-some lt x [] = λ e. cc

@@ -1,19 +1,19 @@
 -- Where no CR is copied and no edit stands behind a final LF, the text that is shown is the spliced text.
-use Rattle.std.proofs.Common.{◌≡◌, ◌≢◌, ℕ, zero, suc, ◌+◌, ◌-◌, ◌<◌, ◌≤◌, ◌⊎◌, inl, inr, Bool, true, false, cond, not, ◌&&◌, eqb, ltb, min, List, [], ◌∷◌, ◌++◌, All, length, map, take, drop, get_or, count_by, refl, sym, ap, subst, ◌∙◌, ⊎_elim, arith, append_assoc}
-use Rattle.std.proofs.lemmas.List.{append-nil, length-append, length-take, length-take-le, length-drop, take_at, drop_at, take_all, take_min, drop_min, get_or_past, take-append-drop}
+use Rattle.std.proofs.Common.{◌≡◌, ◌≢◌, ℕ, suc, ◌+◌, ◌-◌, ◌<◌, ◌≤◌, ◌⊎◌, inl, inr, Bool, true, false, not, ◌&&◌, eqb, ltb, min, List, [], ◌∷◌, ◌++◌, All, length, take, drop, get_or, refl, sym, ap, subst, ◌∙◌, ⊎_elim, arith, append_assoc}
+use Rattle.std.proofs.lemmas.List.{append-nil, length-append, length-take, length-take-le, length-drop, drop_at, take_all, take_min, drop_min, get_or_past, take-append-drop}
 use Rattle.std.proofs.Math.Seq.{take-append-add}
 use Rattle.std.proofs.lemmas.List.Elements.{All-take, All-drop, All-head, All-tail}
-use Rattle.std.proofs.lemmas.Bool.{cases_Bool, cases_lt, cases_eq, cond-true, cond-false, cond_both, and_right, ne_eqb, eq-eqb, eqb-true}
+use Rattle.std.proofs.lemmas.Bool.{cases_Bool, cases_lt, cond-true, cond-false, cond_both, and_right, ne_eqb, eqb-true}
 use Rattle.std.specs.List.{slice_range, before_first, position_or_len}
 use Rattle.snippet_parts.specs.declared.lines.EndLine.{EndLine}
 use Rattle.snippet_parts.specs.declared.lines.EndLine.TheVariants.{Eof, Lf, Crlf}
 use Rattle.snippet_parts.specs.Lines.{Line, lines_of, line_with_byte, with_first_byte, source_lines, start_of, text_at, last_byte, is_lf}
 use Rattle.snippet_parts.specs.Place.{line_of}
 use Rattle.snippet_parts.proofs.PlaceLemmas.{line_of-within, text_at-end}
-use Rattle.snippet_splice.specs.Edits.{Edit, in_order, trimmed_edit, trimmed_edits, edited_from, patched, AreApart}
+use Rattle.snippet_splice.specs.Edits.{Edit, in_order, trimmed_edits, edited_from, patched, AreApart}
 use Rattle.snippet_splice.specs.Copied.{is_inside_line_end, text_end, in_text, with_line_feeds, copied, written, end_from}
-use Rattle.snippet_splice.specs.Shown.{first_start, last_text, closes_line, shown_start, shown_rest, without_final_line_feeds, shown_text}
-use Rattle.snippet_splice.specs.Spliced.{Stand, stands_from, stands, last_end, spliced_end, spliced_text, HasNoCr, IsBeforeFinalLf}
+use Rattle.snippet_splice.specs.Shown.{first_start, last_text, closes_line, shown_start, without_final_line_feeds, shown_text}
+use Rattle.snippet_splice.specs.Spliced.{stands_from, stands, last_end, spliced_end, spliced_text, HasNoCr, IsBeforeFinalLf}
 use Rattle.snippet_splice.proofs.EditLemmas.{slice_split, edited_from-earlier, edited_from-trimmed}
 use Rattle.snippet_splice.proofs.WriteLemmas.{with_line_feeds-none}
 use Rattle.snippet_splice.proofs.ShownLemmas.{shown-apart}
@@ -30,7 +30,7 @@ in_text-same source b none before =
     let outside : is_inside_line_end source at ≡ false = and_right (ltb 0 at && ltb at (length source) && eqb (get_or source at 0) 10) (eqb (get_or source (at - 1) 0) 13) (ne_eqb (get_or source (at - 1) 0) 13 (no-cr-at source (at - 1) none)) in
     cond-false (is_inside_line_end source at) (at - 1) at outside ∙ ⊎_elim
     (λ t. let e : text_end source ≡ length source - 1 = cond-true (eqb (last_byte source) 10) (length source - 1) (length source) t in
-        let short : b < length source = before (eqb-true (last_byte source) 10 t) in omega (arith, e))
+    let short : b < length source = before (eqb-true (last_byte source) 10 t) in omega (arith, e))
     (λ f. ap (min b) (cond-false (eqb (last_byte source) 10) (length source - 1) (length source) f)) (cases_Bool (eqb (last_byte source) 10))
 
 slice-min : (s : List ℕ) (a b : ℕ) → a ≤ b → slice_range s (min a (length s)) (min b (length s)) ≡ slice_range s a b
@@ -233,36 +233,36 @@ shown-part true source es none before apart some =
     let left : drop (last_end 0 (stands source ts)) (edited_from source 0 ts) ≡ r = ap (λ n. drop n (edited_from source 0 ts)) to ∙ ap (drop (s + length w)) same ∙ drop-part f w r s size in
     ⊎_elim
     (λ t. let end : spliced_end source ts ≡ s + length w + 0 = cond-true (closes_line ts) (last_end 0 (stands source ts)) (last_end 0 (stands source ts) + length (before_first is_lf (drop (last_end 0 (stands source ts)) (edited_from source 0 ts)))) t ∙ to ∙ omega arith in
-        record {
-          front = f;
-          part = w;
-          rest = r;
-          whole = whole;
-          before = refl;
-          size = size;
-          stops = inr (last-written source s ts (eqb-true (last_byte (last_text ts)) 10 t));
-          closes = inr (some-bytes (last_text ts) (eqb-true (last_byte (last_text ts)) 10 t));
-          ends = omega arith;
-          text = ap (λ l. without_final_line_feeds (w ++ l)) (cond-true (closes_line ts) [] (text_at (source_lines r) 0) t) ∙ ap without_final_line_feeds (append-nil w);
-          spliced = ap without_final_line_feeds (ap (slice_range (patched source es) s) end ∙ ap (λ d. slice_range d s (s + length w + 0)) whole ∙ cut-part f w r s 0 size ∙ append-nil w);
-        })
+    record {
+      front = f;
+      part = w;
+      rest = r;
+      whole = whole;
+      before = refl;
+      size = size;
+      stops = inr (last-written source s ts (eqb-true (last_byte (last_text ts)) 10 t));
+      closes = inr (some-bytes (last_text ts) (eqb-true (last_byte (last_text ts)) 10 t));
+      ends = omega arith;
+      text = ap (λ l. without_final_line_feeds (w ++ l)) (cond-true (closes_line ts) [] (text_at (source_lines r) 0) t) ∙ ap without_final_line_feeds (append-nil w);
+      spliced = ap without_final_line_feeds (ap (slice_range (patched source es) s) end ∙ ap (λ d. slice_range d s (s + length w + 0)) whole ∙ cut-part f w r s 0 size ∙ append-nil w);
+    })
     (λ t. let l : List ℕ = before_first is_lf r in
-        let clean : HasNoCr r = All-drop (λ c. c ≢ 13) (end_from s ts) source none in
-        let end : spliced_end source ts ≡ s + length w + length l = cond-false (closes_line ts) (last_end 0 (stands source ts)) (last_end 0 (stands source ts) + length (before_first is_lf (drop (last_end 0 (stands source ts)) (edited_from source 0 ts)))) t ∙ ap (λ n. n + length (before_first is_lf (drop (last_end 0 (stands source ts)) (edited_from source 0 ts)))) to ∙ ap (λ x. s + length w + length (before_first is_lf x)) left in
-        let front_of : take (length l) r ≡ l = ap (λ n. take n r) (length-take (position_or_len is_lf r) r) ∙ take_min (position_or_len is_lf r) r in
-        record {
-          front = f;
-          part = w ++ l;
-          rest = drop (length l) r;
-          whole = whole ∙ ap (λ x. f ++ (w ++ x)) (first-split r) ∙ ap (λ x. f ++ x) (sym (append_assoc w l (drop (length l) r)));
-          before = refl;
-          size = size;
-          stops = inl (first-stops r);
-          closes = inl (first-stops r);
-          ends = omega (arith, length-append w l);
-          text = ap (λ x. without_final_line_feeds (w ++ x)) (cond-false (closes_line ts) [] (text_at (source_lines r) 0) t ∙ first-line r clean);
-          spliced = ap without_final_line_feeds (ap (slice_range (patched source es) s) end ∙ ap (λ d. slice_range d s (s + length w + length l)) whole ∙ cut-part f w r s (length l) size ∙ ap (λ x. w ++ x) front_of);
-        })
+    let clean : HasNoCr r = All-drop (λ c. c ≢ 13) (end_from s ts) source none in
+    let end : spliced_end source ts ≡ s + length w + length l = cond-false (closes_line ts) (last_end 0 (stands source ts)) (last_end 0 (stands source ts) + length (before_first is_lf (drop (last_end 0 (stands source ts)) (edited_from source 0 ts)))) t ∙ ap (λ n. n + length (before_first is_lf (drop (last_end 0 (stands source ts)) (edited_from source 0 ts)))) to ∙ ap (λ x. s + length w + length (before_first is_lf x)) left in
+    let front_of : take (length l) r ≡ l = ap (λ n. take n r) (length-take (position_or_len is_lf r) r) ∙ take_min (position_or_len is_lf r) r in
+    record {
+      front = f;
+      part = w ++ l;
+      rest = drop (length l) r;
+      whole = whole ∙ ap (λ x. f ++ (w ++ x)) (first-split r) ∙ ap (λ x. f ++ x) (sym (append_assoc w l (drop (length l) r)));
+      before = refl;
+      size = size;
+      stops = inl (first-stops r);
+      closes = inl (first-stops r);
+      ends = omega (arith, length-append w l);
+      text = ap (λ x. without_final_line_feeds (w ++ x)) (cond-false (closes_line ts) [] (text_at (source_lines r) 0) t ∙ first-line r clean);
+      spliced = ap without_final_line_feeds (ap (slice_range (patched source es) s) end ∙ ap (λ d. slice_range d s (s + length w + length l)) whole ∙ cut-part f w r s (length l) size ∙ ap (λ x. w ++ x) front_of);
+    })
     (cases_Bool (closes_line ts))
   where
     last-of : (ts : List Edit) → ts ≢ [] → AreBeforeFinalLf source ts → AreApart (shown_start true source (first_start (in_order es))) ts → length (slice_range source 0 (shown_start true source (first_start (in_order es)))) ≡ shown_start true source (first_start (in_order es)) → last_end 0 (stands source ts) ≡ shown_start true source (first_start (in_order es)) + length (written source (shown_start true source (first_start (in_order es))) ts)

@@ -1,13 +1,13 @@
 -- Each touched line that isn't empty is among the lines that are shown.
-use Rattle.std.proofs.Common.{◌≡◌, ◌≢◌, ℕ, zero, suc, ◌+◌, ◌-◌, ◌<◌, ◌≤◌, ◌⊎◌, inl, inr, Bool, true, false, cond, List, [], ◌∷◌, ◌++◌, All, Contains, length, map, take, drop, get_or, count_by, refl, sym, ap, subst, ◌∙◌, ⊎_elim, arith, append_assoc}
-use Rattle.std.proofs.lemmas.List.{append-nil, length-append, length-take-le, length-drop, take_at, take_all, take-take, take-append-le, take-append-drop, drop-append-le, get_or-take, get_or-drop, get_or-append_right, get_or_append_left, nil_from_length}
+use Rattle.std.proofs.Common.{◌≡◌, ◌≢◌, ℕ, ◌+◌, ◌-◌, ◌<◌, ◌≤◌, ◌⊎◌, inl, inr, Bool, cond, List, [], ◌∷◌, ◌++◌, All, Contains, length, take, drop, get_or, refl, sym, ap, subst, ◌∙◌, ⊎_elim, arith, append_assoc}
+use Rattle.std.proofs.lemmas.List.{append-nil, length-append, length-drop, take_at, take_all, take-take, take-append-le, take-append-drop, get_or-take, get_or-drop, get_or-append_right, get_or_append_left, nil_from_length}
 use Rattle.std.proofs.Math.Seq.{take-add}
 use Rattle.std.proofs.lemmas.List.Sums.{sum_by-take-le}
 use Rattle.std.proofs.lemmas.List.Elements.{All-nil, All-cons, All-take, All-push, All-same, All-weaker, All-contains}
 use Rattle.std.proofs.lemmas.Bool.{cases_lt}
 use Rattle.std.specs.List.{slice_range}
 use Rattle.snippet_parts.specs.declared.lines.EndLine.TheVariants.{Eof}
-use Rattle.snippet_parts.specs.Lines.{Line, line_bytes, lines_of, source_lines, start_of, text_at, last_byte, is_lf, newline_count, IsOneLine}
+use Rattle.snippet_parts.specs.Lines.{Line, line_bytes, lines_of, source_lines, start_of, text_at, last_byte, is_lf, IsOneLine}
 use Rattle.snippet_parts.proofs.LinesLemmas.{text_at-stands, start_of-next, start_of-end, joined-source_lines, split_last, newline_count-open, length-source_lines, source_lines-some, last_byte-push}
 use Rattle.snippet_parts.proofs.PlaceLemmas.{text_at-end}
 use Rattle.snippet_parts.proofs.BoundsLemmas.{line_bytes-slice, IsLine-at, IsOneLine-line}
@@ -15,7 +15,6 @@ use Rattle.snippet_splice.specs.Edits.{Edit, in_order, trimmed_edits, patched, A
 use Rattle.snippet_splice.specs.Copied.{written}
 use Rattle.snippet_splice.specs.Shown.{first_start, last_text, shown_start, shown_line, without_final_line_feeds}
 use Rattle.snippet_splice.specs.Spliced.{Stand, stands_from, stands, last_end, IsInLine, IsTouchedBy, IsTouched, HasNoCr}
-use Rattle.snippet_splice.proofs.EditLemmas.{drop_split}
 use Rattle.snippet_splice.proofs.ShownLemmas.{shown-apart}
 use Rattle.snippet_splice.proofs.RangeLemmas.{feeds, feeds-append, feeds-none, feeds-front, feeds-shown}
 use Rattle.snippet_splice.proofs.SpliceLemmas.{AreBeforeFinalLf, Stops, IsShownPart, last-end, front-size, stands_from-earlier}
@@ -34,8 +33,8 @@ line-empty d j within at =
     let stands : t ≡ take (length t) (drop b d) = text_at-stands d j within in
     ⊎_elim
     (λ some. let inside : b < length d = omega (arith, text_at-end d j within) in
-        let first : get_or t 0 0 ≡ get_or d b 0 = ap (λ l. get_or l 0 0) stands ∙ get_or-take (length t) (drop b d) 0 0 some ∙ get_or-drop b d 0 0 ∙ (let e : b + 0 ≡ b = omega arith in ap (λ n. get_or d n 0) e) in
-        absurd ((IsLine-at d j within).no_lf 0 0 some (first ∙ at inside)))
+    let first : get_or t 0 0 ≡ get_or d b 0 = ap (λ l. get_or l 0 0) stands ∙ get_or-take (length t) (drop b d) 0 0 some ∙ get_or-drop b d 0 0 ∙ (let e : b + 0 ≡ b = omega arith in ap (λ n. get_or d n 0) e) in
+    absurd ((IsLine-at d j within).no_lf 0 0 some (first ∙ at inside)))
     (λ none. nil_from_length t (omega (arith, none))) (cases_lt 0 (length t))
 
 -- ---- the LF before a place of a line are as many as the lines before it
@@ -60,15 +59,15 @@ in-line-feeds d j p h =
     let line : take (length l) (drop b d) ≡ l = ap (λ k. take k (drop b d)) (sym n) ∙ line_bytes-slice d j h.within in
     let one : IsOneLine l = IsOneLine-line (get_or ls j ([], Eof)) (IsLine-at d j h.within) in
     let none : All (λ c. c ≢ 10) (slice_range d b p) = ⊎_elim
-        (λ before. let short : p - b ≤ length l - 1 = omega (arith, h.from) in
-            let part : slice_range d b p ≡ take (p - b) (take (length l - 1) l) = sym (take-take (p - b) (length l) (drop b d) (omega arith)) ∙ ap (take (p - b)) line ∙ sym (take-take (p - b) (length l - 1) l short) in
-            All-same (λ c. c ≢ 10) (slice_range d b p) (take (p - b) (take (length l - 1) l)) part (All-take (λ c. c ≢ 10) (p - b) (take (length l - 1) l) one))
-        (λ (final, at_end, open_end). let whole : start_of ls (j + 1) ≡ length d = start_of-end ls (j + 1) (omega arith) ∙ ap length (joined-source_lines d) in
-            let size : p - b ≡ length l = omega arith in
-            let part : slice_range d b p ≡ l = ap (λ k. take k (drop b d)) size ∙ line in
-            let tail : drop b d ≡ l = sym (take_all (length l) (drop b d) (omega (arith, length-drop b d))) ∙ line in
-            All-same (λ c. c ≢ 10) (slice_range d b p) l part (no-feeds l one (λ some e. open_end (sym (last_byte-drop b d (omega (arith, some))) ∙ ap last_byte tail ∙ e))))
-        h.to in
+    (λ before. let short : p - b ≤ length l - 1 = omega (arith, h.from) in
+    let part : slice_range d b p ≡ take (p - b) (take (length l - 1) l) = sym (take-take (p - b) (length l) (drop b d) (omega arith)) ∙ ap (take (p - b)) line ∙ sym (take-take (p - b) (length l - 1) l short) in
+    All-same (λ c. c ≢ 10) (slice_range d b p) (take (p - b) (take (length l - 1) l)) part (All-take (λ c. c ≢ 10) (p - b) (take (length l - 1) l) one))
+    (λ (final, at_end, open_end). let whole : start_of ls (j + 1) ≡ length d = start_of-end ls (j + 1) (omega arith) ∙ ap length (joined-source_lines d) in
+    let size : p - b ≡ length l = omega arith in
+    let part : slice_range d b p ≡ l = ap (λ k. take k (drop b d)) size ∙ line in
+    let tail : drop b d ≡ l = sym (take_all (length l) (drop b d) (omega (arith, length-drop b d))) ∙ line in
+    All-same (λ c. c ≢ 10) (slice_range d b p) l part (no-feeds l one (λ some e. open_end (sym (last_byte-drop b d (omega (arith, some))) ∙ ap last_byte tail ∙ e))))
+    h.to in
     let split : take p d ≡ take b d ++ slice_range d b p = front-split d b p h.from in
     ap feeds split ∙ feeds-append (take b d) (slice_range d b p) ∙ omega (arith, feeds-front d j h.within, feeds-none (slice_range d b p) none)
   where
@@ -153,22 +152,22 @@ touched-in d f part rest ws k j s whole short closed counted stops within touche
     let size_g : length g ≡ length f + length ws = length-append f ws in
     let empty_line : (x < length d → get_or d x 0 ≡ 10) → ⊥ = λ at. some (line-empty d j line.within at) in
     let high : k + m ≤ j → ⊥ = λ past. ⊎_elim
-        (λ inside. let same : take x d ≡ take x g = ap (take x) parts ∙ take-append-le x g (short.tail ++ rest) (omega (arith, inside)) in
-            let many : feeds (take x g) ≡ j = ap feeds (sym same) ∙ feeds-front d j line.within in
-            few ws f x k j counted closed short.unclosed inside past many)
-        (λ behind. ⊎_elim
-            (λ inside. empty_line (λ _. let e : get_or d x 0 ≡ get_or (short.tail ++ rest) (x - length g) 0 = ap (λ l. get_or l x 0) parts ∙ get_or-append_right g (short.tail ++ rest) (length g) x 0 refl behind in
-                let low_tail : x - length g < length short.tail = omega (arith, inside, behind, size, size_g) in
-                e ∙ get_or_append_left short.tail rest 0 (x - length g) low_tail ∙ short.feeds (x - length g) 0 low_tail))
-            (λ past_part. ⊎_elim (λ before. absurd (omega (arith, before, line.from, past_part, within.to)))
-                (λ (same, at). let at_end : x ≡ length f + length part = omega (arith, at, line.from, past_part, within.to) in
-                    ⊎_elim
-                    (λ stop. empty_line (λ inside. let e : get_or d x 0 ≡ get_or rest 0 0 = ap (λ l. get_or l x 0) (whole ∙ sym (append_assoc f part rest)) ∙ get_or-append_right (f ++ part) rest (length f + length part) x 0 (length-append f part) (omega (arith, at_end)) ∙ (let z : x - (length f + length part) ≡ 0 = omega (arith, at_end) in ap (λ n. get_or rest n 0) z) in
-                        ⊎_elim (λ nil. absurd (omega (arith, inside, at_end, ap length whole, length-append f (part ++ rest), length-append part rest, ap length nil))) (λ (y, lf). e ∙ ap (λ l. get_or l 0 0) lf) stop))
-                    (λ ends. absurd (omega (arith, ends same, at, line.from, past_part))) stops)
-                touched.to)
-            (cases_lt x (length f + length part)))
-        (cases_lt x (length g)) in
+    (λ inside. let same : take x d ≡ take x g = ap (take x) parts ∙ take-append-le x g (short.tail ++ rest) (omega (arith, inside)) in
+    let many : feeds (take x g) ≡ j = ap feeds (sym same) ∙ feeds-front d j line.within in
+    few ws f x k j counted closed short.unclosed inside past many)
+    (λ behind. ⊎_elim
+    (λ inside. empty_line (λ _. let e : get_or d x 0 ≡ get_or (short.tail ++ rest) (x - length g) 0 = ap (λ l. get_or l x 0) parts ∙ get_or-append_right g (short.tail ++ rest) (length g) x 0 refl behind in
+    let low_tail : x - length g < length short.tail = omega (arith, inside, behind, size, size_g) in
+    e ∙ get_or_append_left short.tail rest 0 (x - length g) low_tail ∙ short.feeds (x - length g) 0 low_tail))
+    (λ past_part. ⊎_elim (λ before. absurd (omega (arith, before, line.from, past_part, within.to)))
+    (λ (same, at). let at_end : x ≡ length f + length part = omega (arith, at, line.from, past_part, within.to) in
+    ⊎_elim
+    (λ stop. empty_line (λ inside. let e : get_or d x 0 ≡ get_or rest 0 0 = ap (λ l. get_or l x 0) (whole ∙ sym (append_assoc f part rest)) ∙ get_or-append_right (f ++ part) rest (length f + length part) x 0 (length-append f part) (omega (arith, at_end)) ∙ (let z : x - (length f + length part) ≡ 0 = omega (arith, at_end) in ap (λ n. get_or rest n 0) z) in
+    ⊎_elim (λ nil. absurd (omega (arith, inside, at_end, ap length whole, length-append f (part ++ rest), length-append part rest, ap length nil))) (λ (y, lf). e ∙ ap (λ l. get_or l 0 0) lf) stop))
+    (λ ends. absurd (omega (arith, ends same, at, line.from, past_part))) stops)
+    touched.to)
+    (cases_lt x (length f + length part)))
+    (cases_lt x (length g)) in
     (low, ⊎_elim (λ ok. ok) (λ past. absurd (high past)) (cases_lt j (k + m)))
   where
     few : (ws f : List ℕ) (x k j : ℕ) → feeds f ≡ k → (0 < length f → last_byte f ≡ 10) → (ws ≡ []) ⊎ (last_byte ws ≢ 10) → x < length (f ++ ws) → k + length (lines_of ws) ≤ j → feeds (take x (f ++ ws)) ≡ j → ⊥
@@ -197,8 +196,7 @@ shown-touched fold source es none before apart h j touched some =
         let size : length (slice_range source 0 first) ≡ first = front-size fold source (first_start (in_order es)) in
         let same : stands source (t ∷ ts) ≡ stands_from source first first (t ∷ ts) = stands_from-earlier source 0 first 0 t ts (omega arith) behind.0 ∙ (let e : 0 + length (slice_range source 0 first) ≡ first = omega (arith, size) in ap (λ n. stands_from source first n (t ∷ ts)) e) in
         let end : last_end first (stands_from source first first (t ∷ ts)) ≡ first + length (written source first (t ∷ ts)) = sym (ap (last_end 0) same) ∙ last-end source first t ts none before behind size in
-        let there : Contains (stands_from source first first (t ∷ ts)) s = subst (λ l. Contains l s) same among in
-        (
+        let there : Contains (stands_from source first first (t ∷ ts)) s = subst (λ l. Contains l s) same among in (
           All-contains (IsWithin first (first + length (written source first (t ∷ ts)))) (stands_from source first first (t ∷ ts)) s (subst (λ n. All (IsWithin first n) (stands_from source first first (t ∷ ts))) end (stands-within source first first (t ∷ ts))) there,
           λ more. All-contains (EndsBefore (first + length (written source first (t ∷ ts)))) (stands_from source first first (t ∷ ts)) s (subst (λ n. All (EndsBefore n) (stands_from source first first (t ∷ ts))) end (stands-before source first first (t ∷ ts) more)) there,
         )

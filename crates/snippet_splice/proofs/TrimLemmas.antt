@@ -1,14 +1,13 @@
 -- Laws of what a replacement keeps.
-use Rattle.std.proofs.Common.{◌≡◌, ◌≢◌, ℕ, zero, suc, ◌+◌, ◌-◌, ◌<◌, ◌≤◌, ◌⊎◌, inl, inr, Bool, true, false, cond, ◌&&◌, ◌||◌, eqb, ltb, leb, Option, Some, None, List, [], ◌∷◌, ◌++◌, length, take, drop, get_or, refl, sym, ap, subst, ◌∙◌, ⊎_elim, arith, append_assoc, le_refl}
+use Rattle.std.proofs.Common.{◌≡◌, ◌≢◌, ℕ, zero, suc, ◌+◌, ◌-◌, ◌<◌, ◌≤◌, Bool, true, false, cond, ◌||◌, ltb, leb, Option, Some, None, List, ◌++◌, length, take, drop, get_or, refl, sym, ap, subst, ◌∙◌, ⊎_elim, arith, append_assoc, le_refl}
 use Rattle.std.proofs.lemmas.List.{append-nil, length-append, length-take-le, length-drop, take_at, drop_at, take_all, drop_all, take-append-drop, drop-drop, drop-append-le, get_or_past}
 use Rattle.std.proofs.lemmas.Bool.{cases_Bool, cases_eq, cases_lt, ltb-true, lt-ltb, or_cases, or_left, or_right, cond-true, cond-false, and_parts, and_from, false_from_ne_true, le-leb, leb-true, both_ways}
-use Rattle.std.proofs.lemmas.Bool.Decides.{Decides-and}
 use Rattle.std.proofs.lemmas.Slice.Eq.{bytes_eq-Decides}
 use Rattle.std.proofs.lemmas.Str.{IsCharBoundary-end, IsCharBoundary-start}
 use Rattle.std.specs.Bool.{Decides}
 use Rattle.std.specs.List.{slice_range}
 use Rattle.std.specs.Option.{option_map}
-use Rattle.std.specs.Str.{IsUtf8, IsCharBoundary, bytes_eq}
+use Rattle.std.specs.Str.{IsUtf8, IsCharBoundary}
 use Rattle.snippet_parts.specs.Span.{is_character_border}
 use Rattle.snippet_splice.specs.Trim.{IsSandwiched, IsSandwich, is_sandwiched, greatest, kept_before, sandwich}
 
@@ -106,12 +105,11 @@ sandwiched-parts o r n rest tail common of_o of_r none =
 -- ---- the test
 
 border-test : (o : List ℕ) (a : ℕ) → Decides (is_character_border o a) (IsCharBoundary o a)
-border-test o a =
-    (
-      λ t. let p = and_parts (leb a (length o)) (ltb (get_or o a 0) 128 || leb 192 (get_or o a 0)) t in
-          (leb-true a (length o) p.0, λ inside high. ⊎_elim (λ low. absurd (omega (arith, ltb-true (get_or o a 0) 128 low))) (λ lead. leb-true 192 (get_or o a 0) lead) (or_cases (ltb (get_or o a 0) 128) (leb 192 (get_or o a 0)) p.1)),
-      λ h. and_from (leb a (length o)) (ltb (get_or o a 0) 128 || leb 192 (get_or o a 0)) (le-leb a (length o) h.0) (⊎_elim (λ low. or_left (ltb (get_or o a 0) 128) (leb 192 (get_or o a 0)) (lt-ltb (get_or o a 0) 128 low)) (λ high. ⊎_elim (λ inside. or_right (ltb (get_or o a 0) 128) (leb 192 (get_or o a 0)) (le-leb 192 (get_or o a 0) (h.1 inside high))) (λ past. absurd (omega (arith, get_or_past o a 0 past))) (cases_lt a (length o))) (cases_lt (get_or o a 0) 128)),
-    )
+border-test o a = (
+  λ t. let p = and_parts (leb a (length o)) (ltb (get_or o a 0) 128 || leb 192 (get_or o a 0)) t in
+      (leb-true a (length o) p.0, λ inside high. ⊎_elim (λ low. absurd (omega (arith, ltb-true (get_or o a 0) 128 low))) (λ lead. leb-true 192 (get_or o a 0) lead) (or_cases (ltb (get_or o a 0) 128) (leb 192 (get_or o a 0)) p.1)),
+  λ h. and_from (leb a (length o)) (ltb (get_or o a 0) 128 || leb 192 (get_or o a 0)) (le-leb a (length o) h.0) (⊎_elim (λ low. or_left (ltb (get_or o a 0) 128) (leb 192 (get_or o a 0)) (lt-ltb (get_or o a 0) 128 low)) (λ high. ⊎_elim (λ inside. or_right (ltb (get_or o a 0) 128) (leb 192 (get_or o a 0)) (le-leb 192 (get_or o a 0) (h.1 inside high))) (λ past. absurd (omega (arith, get_or_past o a 0 past))) (cases_lt a (length o))) (cases_lt (get_or o a 0) 128)),
+)
 
 test-true : (o r : List ℕ) (a : ℕ) → is_sandwiched o r a ≡ true → IsSandwiched o r a (slice_range r a (length r - (length o - a))) (length o - a)
 test-true o r a t =
@@ -167,16 +165,16 @@ kept_before-is o r a m b h =
     let rest : Option ℕ = cond (p 0) (Some 0) (greatest p (length o)) in
     ⊎_elim
     (λ t. let parts : length o - length o ≡ 0 = omega arith in
-        let at : a ≡ length o = h.all_before _ (subst (λ n. IsSandwiched o r (length o) (slice_range r (length o) (length r - (length o - length o))) n) parts (test-true o r (length o) t)) in
-        cond-true (p (length o)) (Some (length o)) rest t ∙ ap Some (sym at))
+    let at : a ≡ length o = h.all_before _ (subst (λ n. IsSandwiched o r (length o) (slice_range r (length o) (length r - (length o - length o))) n) parts (test-true o r (length o) t)) in
+    cond-true (p (length o)) (Some (length o)) rest t ∙ ap Some (sym at))
     (λ f. let below : a < length o = ⊎_elim (λ at. absurd (both_ways (p a) (ap p at ∙ f) here)) (λ other. omega (arith, h.is.border.0)) (cases_eq a (length o)) in
-        cond-false (p (length o)) (Some (length o)) rest f ∙ ⊎_elim
-        (λ t. let parts : length o - 0 ≡ length o = omega arith in
-            let at : a ≡ 0 = h.all_behind below _ (subst (λ n. IsSandwiched o r 0 (slice_range r 0 (length r - (length o - 0))) n) parts (test-true o r 0 t)) in
-            cond-true (p 0) (Some 0) (greatest p (length o)) t ∙ ap Some (sym at))
-        (λ g. let some : 0 < a = ⊎_elim (λ at. absurd (both_ways (p a) (ap p at ∙ g) here)) (λ other. omega arith) (cases_eq a 0) in
-            cond-false (p 0) (Some 0) (greatest p (length o)) g ∙ greatest-is p (length o) a h.is.border.0 here (λ k low high. false_from_ne_true (p k) (λ t. absurd (omega (arith, h.longest some k _ _ (test-true o r k t))))))
-        (cases_Bool (p 0)))
+    cond-false (p (length o)) (Some (length o)) rest f ∙ ⊎_elim
+    (λ t. let parts : length o - 0 ≡ length o = omega arith in
+    let at : a ≡ 0 = h.all_behind below _ (subst (λ n. IsSandwiched o r 0 (slice_range r 0 (length r - (length o - 0))) n) parts (test-true o r 0 t)) in
+    cond-true (p 0) (Some 0) (greatest p (length o)) t ∙ ap Some (sym at))
+    (λ g. let some : 0 < a = ⊎_elim (λ at. absurd (both_ways (p a) (ap p at ∙ g) here)) (λ other. omega arith) (cases_eq a 0) in
+    cond-false (p 0) (Some 0) (greatest p (length o)) g ∙ greatest-is p (length o) a h.is.border.0 here (λ k low high. false_from_ne_true (p k) (λ t. absurd (omega (arith, h.longest some k _ _ (test-true o r k t))))))
+    (cases_Bool (p 0)))
     (cases_Bool (p (length o)))
 
 -- the way that is taken is the one that the definition computes
@@ -206,8 +204,8 @@ kept_before-passes o r a e =
     let rest : Option ℕ = cond (p 0) (Some 0) (greatest p (length o)) in
     ⊎_elim (λ t. let same : Some (length o) ≡ Some a = sym (cond-true (p (length o)) (Some (length o)) rest t) ∙ e in let at : length o ≡ a = cc in subst (λ k. p k ≡ true) at t)
     (λ f. let e2 : rest ≡ Some a = sym (cond-false (p (length o)) (Some (length o)) rest f) ∙ e in
-        ⊎_elim (λ t. let same : Some 0 ≡ Some a = sym (cond-true (p 0) (Some 0) (greatest p (length o)) t) ∙ e2 in let at : 0 ≡ a = cc in subst (λ k. p k ≡ true) at t)
-        (λ g. greatest-passes p (length o) a (sym (cond-false (p 0) (Some 0) (greatest p (length o)) g) ∙ e2)) (cases_Bool (p 0)))
+    ⊎_elim (λ t. let same : Some 0 ≡ Some a = sym (cond-true (p 0) (Some 0) (greatest p (length o)) t) ∙ e2 in let at : 0 ≡ a = cc in subst (λ k. p k ≡ true) at t)
+    (λ g. greatest-passes p (length o) a (sym (cond-false (p 0) (Some 0) (greatest p (length o)) g) ∙ e2)) (cases_Bool (p 0)))
     (cases_Bool (p (length o)))
 
 -- what is computed is a sandwich

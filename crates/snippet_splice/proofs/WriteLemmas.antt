@@ -1,13 +1,11 @@
 -- Laws of what is written for edits, and of the end of the text that is shown.
-use Rattle.std.proofs.Common.{◌≡◌, ◌≢◌, ℕ, zero, suc, ◌+◌, ◌-◌, ◌<◌, ◌≤◌, ◌⊎◌, Bool, true, false, cond, ◌&&◌, eqb, ltb, min, List, [], ◌∷◌, ◌++◌, All, length, map, take, drop, get_or, count_by, refl, sym, ap, subst, ◌∙◌, ⊎_elim, arith, append_assoc, zero-add}
-use Rattle.std.proofs.lemmas.List.{append-nil, length-append, take_at, take_all, take-take, length-take-le, drop_at, get_or_at, length_push}
+use Rattle.std.proofs.Common.{◌≡◌, ◌≢◌, ℕ, suc, ◌+◌, ◌-◌, ◌<◌, ◌≤◌, Bool, false, cond, ◌&&◌, eqb, min, List, [], ◌∷◌, ◌++◌, length, map, take, drop, get_or, count_by, refl, sym, ap, subst, ◌∙◌, ⊎_elim, arith, append_assoc, zero-add}
+use Rattle.std.proofs.lemmas.List.{length-append, take_at, take-take, drop_at, get_or_at, length_push}
 use Rattle.std.proofs.lemmas.Str.{IsUtf8-take, IsUtf8-drop, IsCharBoundary-before_ascii, IsCharBoundary-after_ascii}
 use Rattle.std.specs.Str.{IsUtf8}
 use Rattle.std.proofs.lemmas.List.Sums.{sum_by-append, sum_by-cons}
-use Rattle.std.proofs.lemmas.Bool.{cases_Bool, cases_eq, cond-true, cond-false, and_parts, and_left, and_from, eqb-true, eq-eqb, ne_eqb, cond_both}
-use Rattle.std.specs.Bool.{Decides}
-use Rattle.std.specs.List.{slice_range}
-use Rattle.snippet_parts.specs.Lines.{is_lf, last_byte}
+use Rattle.std.proofs.lemmas.Bool.{cases_Bool, cases_eq, cond-true, cond-false, and_parts, and_left, eqb-true, ne_eqb, cond_both}
+use Rattle.snippet_parts.specs.Lines.{is_lf}
 use Rattle.snippet_parts.specs.Span.{IsSpanBorder}
 use Rattle.snippet_splice.specs.declared.splice.LineRange.{LineRange}
 use Rattle.snippet_splice.specs.declared.patches.TrimmedPatch.{TrimmedPatch}
@@ -35,8 +33,8 @@ pub with_line_feeds-step : (old rest front behind more : List ℕ) → rest ≡ 
 with_line_feeds-step old rest front behind more e none added =
     let t : Bool = eqb (get_or behind 0 0) 10 in
     let tail : more ++ with_line_feeds behind ≡ cond t (with_line_feeds behind) (13 ∷ with_line_feeds behind) = ⊎_elim
-        (λ yes_it. ap (λ l. l ++ with_line_feeds behind) (added ∙ cond-true t [] (13 ∷ []) yes_it) ∙ sym (cond-true t (with_line_feeds behind) (13 ∷ with_line_feeds behind) yes_it))
-        (λ no_it. ap (λ l. l ++ with_line_feeds behind) (added ∙ cond-false t [] (13 ∷ []) no_it) ∙ sym (cond-false t (with_line_feeds behind) (13 ∷ with_line_feeds behind) no_it)) (cases_Bool t) in
+    (λ yes_it. ap (λ l. l ++ with_line_feeds behind) (added ∙ cond-true t [] (13 ∷ []) yes_it) ∙ sym (cond-true t (with_line_feeds behind) (13 ∷ with_line_feeds behind) yes_it))
+    (λ no_it. ap (λ l. l ++ with_line_feeds behind) (added ∙ cond-false t [] (13 ∷ []) no_it) ∙ sym (cond-false t (with_line_feeds behind) (13 ∷ with_line_feeds behind) no_it)) (cases_Bool t) in
     append_assoc (old ++ front) more (with_line_feeds behind) ∙ append_assoc old front (more ++ with_line_feeds behind) ∙ ap (λ l. old ++ (front ++ l)) tail ∙ ap (λ l. old ++ l) (sym (ap with_line_feeds e ∙ with_line_feeds-split front behind none))
 
 -- what stands before and behind an ASCII character is text
@@ -61,8 +59,8 @@ count-with_line_feeds (x ∷ xs) =
     let one : ℕ → ℕ = λ b. cond (is_lf b) 1 0 in
     ⊎_elim
     (λ yes_it. let cr : x ≡ 13 = eqb-true x 13 (and_parts (eqb x 13) (eqb (get_or xs 0 0) 10) yes_it).0 in
-        let none : one x ≡ 0 = ap one cr in
-        ap (count_by is_lf) (cond-true t (with_line_feeds xs) (x ∷ with_line_feeds xs) yes_it) ∙ count-with_line_feeds xs ∙ sym (sum_by-cons one x xs ∙ ap (λ n. n + count_by is_lf xs) none ∙ zero-add (count_by is_lf xs)))
+    let none : one x ≡ 0 = ap one cr in
+    ap (count_by is_lf) (cond-true t (with_line_feeds xs) (x ∷ with_line_feeds xs) yes_it) ∙ count-with_line_feeds xs ∙ sym (sum_by-cons one x xs ∙ ap (λ n. n + count_by is_lf xs) none ∙ zero-add (count_by is_lf xs)))
     (λ no_it. ap (count_by is_lf) (cond-false t (with_line_feeds xs) (x ∷ with_line_feeds xs) no_it) ∙ sum_by-cons one x (with_line_feeds xs) ∙ ap (λ n. one x + n) (count-with_line_feeds xs) ∙ sym (sum_by-cons one x xs)) (cases_Bool t)
 
 -- ---- places of a text
@@ -75,6 +73,7 @@ in_text-mono source a b low =
   where
     high : (n : ℕ) → cond (is_inside_line_end source n) (n - 1) n ≤ n
     high n = cond_both (is_inside_line_end source n) (n - 1) n (λ k. k ≤ n) (λ _. omega arith) (λ _. omega arith)
+
     low_end : (n : ℕ) → n ≤ cond (is_inside_line_end source n) (n - 1) n + 1
     low_end n = cond_both (is_inside_line_end source n) (n - 1) n (λ k. n ≤ k + 1) (λ _. omega arith) (λ _. omega arith)
 

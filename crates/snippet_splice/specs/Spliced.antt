@@ -1,5 +1,5 @@
 -- The spliced text: the part of the patched source that is shown, and the lines of it that are touched.
-use Rattle.std.specs.Prelude.{◌≡◌, ◌≢◌, ℕ, ◌+◌, ◌-◌, ◌<◌, ◌≤◌, ◌⊎◌, ◌==◌, max, Bool, List, [], ◌∷◌, ◌++◌, All, Contains, length, map, take, drop, count_by, fold, if◌then◌else◌}
+use Rattle.std.specs.Prelude.{◌≡◌, ◌≢◌, ℕ, ◌+◌, ◌<◌, ◌≤◌, ◌⊎◌, max, Bool, List, [], ◌∷◌, All, Contains, length, map, take, drop, count_by, fold, if◌then◌else◌}
 use Rattle.std.specs.List.{slice_range, before_first}
 use Rattle.snippet_parts.specs.Lines.{Line, source_lines, start_of, last_byte, is_lf}
 use Rattle.snippet_parts.specs.Place.{line_of}

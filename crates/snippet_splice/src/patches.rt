@@ -1,11 +1,13 @@
 //! Patches trimmed to what they change, in order.
 ghost use Rattle.std.specs.Prelude.{◌≡◌, List, map, All, IfOk};
+ghost use Rattle.std.specs.Ordering.{nat_cmp, ordering_then};
 ghost use Rattle.snippet_parts.specs.Span.{IsSpan};
 ghost use Rattle.snippet_splice.specs.Edits.{Edit, edit_of, trimmed_edit_of, trimmed_edit, trimmed_edits, in_order, bounds_of, original_bounds_of, edited_from, patched, AreApart};
 
 use crate::trim::as_substr;
 use snippet_model::Patch;
 use std::alloc::{AllocError, Global};
+use std::cmp::Ordering;
 use std::ops::Range;
 
 /// A patch trimmed to what it changes.
@@ -41,13 +43,21 @@ pub fn trimmed_patches<'a>(
     for patch in patches {
         trimmed.push(trim_patch(source, patch))?;
     }
-    trimmed.sort_by(|a, b| {
-        a.original_span
-            .start
-            .cmp(&b.original_span.start)
-            .then(a.original_span.end.cmp(&b.original_span.end))
-    })?;
+    trimmed.sort_by(|a, b| compare_untrimmed(a, b))?;
     Ok(trimmed)
+}
+
+/// Which of two trimmed patches comes first: by start of the untrimmed ones, then by end.
+fn compare_untrimmed(a: &TrimmedPatch<'_>, b: &TrimmedPatch<'_>) -> Ordering
+    ensures value { let first = a.now.original_span in let second = b.now.original_span in
+        result ≡ ordering_then (nat_cmp first.start second.start) (nat_cmp first.end second.end) }
+{
+    let first = &a.original_span;
+    let second = &b.original_span;
+    first
+        .start
+        .cmp(&second.start)
+        .then(first.end.cmp(&second.end))
 }
 
 /// A patch trimmed to what it changes. One whose text is empty or whose span reaches behind the source stays.

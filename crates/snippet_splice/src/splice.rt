@@ -11,11 +11,10 @@ ghost use Rattle.snippet_splice.specs.Shown.{closes_line, shown_line, shown_star
 
 use crate::copy::{push_copied, text_place};
 use crate::patches::{TrimmedPatch, trimmed_patches};
-use snippet_model::Patch;
 use crate::stretches::{SubstitutionHighlight, new_stretches, patch_places, replaced_stretches};
-use snippet_parts::CursorLines;
+use snippet_model::Patch;
 use snippet_parts::line_bounds::line_bounds;
-use snippet_parts::{line_feed_count, newline_count};
+use snippet_parts::{CursorLines, line_feed_count, newline_count};
 use std::alloc::{AllocError, Global};
 
 /// Lines of a text, from the first to the last, both counted.
@@ -75,20 +74,20 @@ pub fn spliced_lines<'a>(
     ensures ranges { let es = map edit_of patches.now in
         HasNoCr source.now → All (λ e. IsBeforeFinalLf source.now e.start) (trimmed_edits source.now es)
         → IfOk result (λ t. IfSome t (λ s.
-            ranges_from (shown_line fold source.now es) s.ranges.items ≡ line_ranges source.now es)) }
+        ranges_from (shown_line fold source.now es) s.ranges.items ≡ line_ranges source.now es)) }
     // Its lines are lines of the patched source, one behind the other from the first that is shown on.
     ensures lines { let es = map edit_of patches.now in
         HasNoCr source.now → All (λ e. HasNoCr e.text) es
         → All (λ e. IsBeforeFinalLf source.now e.start) (trimmed_edits source.now es)
         → IfOk result (λ t. IfSome t (λ s. AreFrom (shown_line fold source.now es)
-            (texts_of (lines_of (string_bytes s.complete))) (texts_of (source_lines (patched source.now es))))) }
+        (texts_of (lines_of (string_bytes s.complete))) (texts_of (source_lines (patched source.now es))))) }
     // Each line of the patched source that an edit touches is among them, if it isn't empty.
     ensures touched { let es = map edit_of patches.now in
         HasNoCr source.now → All (λ e. IsBeforeFinalLf source.now e.start) (trimmed_edits source.now es)
         → IfOk result (λ t. IfSome t (λ s. (j : ℕ) → IsTouched source.now es j
-            → text_at (source_lines (patched source.now es)) j ≢ []
-            → (shown_line fold source.now es ≤ j)
-                × (j < shown_line fold source.now es + length (lines_of (string_bytes s.complete))))) }
+        → text_at (source_lines (patched source.now es)) j ≢ []
+        → (shown_line fold source.now es ≤ j)
+        × (j < shown_line fold source.now es + length (lines_of (string_bytes s.complete))))) }
 {
     let patches = trimmed_patches(alloc, source, patches)?;
     let Some(first) = patches.first() else {
@@ -115,7 +114,12 @@ pub fn spliced_lines<'a>(
 
 /// How many lines of the source the shown part replaces: folded from the byte `start` to the greatest end of a patch as
 /// it was given, unfolded all.
-fn source_lines_shown(source: &str, start: usize, patches: &[TrimmedPatch<'_>], fold: bool) -> usize {
+fn source_lines_shown(
+    source: &str,
+    start: usize,
+    patches: &[TrimmedPatch<'_>],
+    fold: bool,
+) -> usize {
     if !fold {
         return newline_count(source).saturating_add(1);
     }

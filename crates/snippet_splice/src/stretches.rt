@@ -114,7 +114,11 @@ pub(crate) fn new_stretches(
             end
         };
     }
-    open_lines(alloc, &mut lines, line.saturating_add(feeds).saturating_add(1))?;
+    open_lines(
+        alloc,
+        &mut lines,
+        line.saturating_add(feeds).saturating_add(1),
+    )?;
     Ok(lines)
 }
 

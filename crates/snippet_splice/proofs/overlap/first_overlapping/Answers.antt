@@ -1,10 +1,9 @@
-use Rattle.std.proofs.Common.{◌≡◌, ◌+◌, ◌-◌, ◌<◌, ◌≤◌, ℕ, List, Bool, true, false, length, map, get_or, refl, sym, ap, subst, ◌∙◌, ⊎_elim, arith}
+use Rattle.std.proofs.Common.{◌≡◌, List, false, map, sym, subst, ◌∙◌, ⊎_elim, arith}
 use Rattle.std.proofs.lemmas.Bool.{cases_eq}
-use Rattle.std.proofs.lemmas.List.{get_or-map, length-map, take_all}
 use Rattle.snippet_model.specs.declared.snippet.Patch.{Patch}
-use Rattle.snippet_splice.specs.Edits.{Edit, edit_of}
-use Rattle.snippet_splice.specs.Overlap.{overlap, overlap_at, no_edit, AreDisjoint}
-use Rattle.snippet_splice.proofs.OverlapLemmas.{edit-at, overlap-seen, disjoint-in_order}
+use Rattle.snippet_splice.specs.Edits.{edit_of}
+use Rattle.snippet_splice.specs.Overlap.{overlap_at}
+use Rattle.snippet_splice.proofs.OverlapLemmas.{overlap-seen}
 use Rattle.snippet_splice.proofs.overlap.first_overlapping.Goals as goal
 
 pub loop-second-preserved : goal.loop-second-preserved

@@ -1,10 +1,9 @@
-use Rattle.std.proofs.Common.{◌≡◌, ◌+◌, ◌-◌, ◌<◌, ◌≤◌, ℕ, List, Bool, true, false, length, map, get_or, refl, sym, ap, subst, ◌∙◌, ⊎_elim, arith}
+use Rattle.std.proofs.Common.{◌≡◌, ◌+◌, ◌-◌, ◌<◌, ◌≤◌, ℕ, List, length, map, get_or, sym, ap, subst, ⊎_elim, arith}
 use Rattle.std.proofs.lemmas.Bool.{cases_eq}
-use Rattle.std.proofs.lemmas.List.{get_or-map, length-map, take_all}
 use Rattle.snippet_model.specs.declared.snippet.Patch.{Patch}
 use Rattle.snippet_splice.specs.Edits.{Edit, edit_of}
-use Rattle.snippet_splice.specs.Overlap.{overlap, overlap_at, no_edit, AreDisjoint}
-use Rattle.snippet_splice.proofs.OverlapLemmas.{edit-at, overlap-seen, disjoint-in_order}
+use Rattle.snippet_splice.specs.Overlap.{no_edit}
+use Rattle.snippet_splice.proofs.OverlapLemmas.{edit-at}
 use Rattle.snippet_splice.proofs.overlap.stand_apart.Goals as goal
 
 pub loop-i-preserved : goal.loop-i-preserved
@@ -18,5 +17,5 @@ loop-i-preserved c = λ k within.
     let ends : c.index-patches-i-in-loop-i.result.span.end ≤ c.index-patches-i.result.span.start = omega (arith, c.if-patches-i.false, ap (λ p. p.span.end) c.index-patches-i-in-loop-i.is, ap (λ p. p.span.start) c.index-patches-i.is) in
     ⊎_elim
     (λ at. let first : k ≡ i - 1 = omega arith in
-        subst (λ n. (get_or es k no_edit).end ≤ (get_or es n no_edit).start) (sym at) (subst (λ n. (get_or es n no_edit).end ≤ (get_or es i no_edit).start) (sym first) (omega (arith, ends, ap (λ e. e.end) before, ap (λ e. e.start) here))))
+    subst (λ n. (get_or es k no_edit).end ≤ (get_or es n no_edit).start) (sym at) (subst (λ n. (get_or es n no_edit).end ≤ (get_or es i no_edit).start) (sym first) (omega (arith, ends, ap (λ e. e.end) before, ap (λ e. e.start) here))))
     (λ other. c.loop-i.invariant k (omega arith)) (cases_eq (k + 1) i)

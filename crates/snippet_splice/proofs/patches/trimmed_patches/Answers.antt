@@ -1,12 +1,10 @@
-use Rattle.std.proofs.Common.{◌≡◌, ◌≤◌, ℕ, List, length, map, take, All, refl, sym, ap, subst, ◌∙◌, arith, rules}
+use Rattle.std.proofs.Common.{◌≡◌, map, take, ap, subst, ◌∙◌, arith, rules}
 use Rattle.std.proofs.lemmas.List.{take_all}
-use Rattle.std.proofs.lemmas.List.Elements.{All-map}
 use Rattle.std.proofs.lemmas.List.Sorted.{answers_always, All-permutation}
 use Rattle.std.specs.List.Sorted.{IsSortedBy, IsStableBy}
-use Rattle.snippet_model.specs.declared.snippet.Patch.{Patch}
 use Rattle.snippet_parts.specs.Span.{IsSpan}
 use Rattle.snippet_splice.specs.declared.patches.TrimmedPatch.{TrimmedPatch}
-use Rattle.snippet_splice.specs.Edits.{Edit, edit_of, in_order, trimmed_edit_of, edited_from}
+use Rattle.snippet_splice.specs.Edits.{edit_of, in_order, edited_from}
 use Rattle.snippet_splice.proofs.EditLemmas.{edited_from-trimmed}
 use Rattle.snippet_splice.proofs.OrderLemmas.{pair-order, pair-tells}
 use Rattle.snippet_splice.proofs.SeenLemmas.{seen, seen_edit, AreTrimmed, before, sorted-seen, sorted-edits, sorted-bounds}

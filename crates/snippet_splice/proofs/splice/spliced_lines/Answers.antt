@@ -1,13 +1,12 @@
-use Rattle.std.proofs.Common.{◌≡◌, ◌≢◌, ◌+◌, ◌<◌, ◌≤◌, ℕ, List, [], ◌++◌, Bool, map, drop, min, length, refl, sym, ap, subst, ◌∙◌, inl, arith}
+use Rattle.std.proofs.Common.{◌≡◌, ◌≢◌, ◌+◌, ◌<◌, ◌≤◌, ℕ, List, [], map, drop, min, length, refl, sym, ap, subst, ◌∙◌, inl}
 use Rattle.std.specs.List.{slice_get}
 use Rattle.std.specs.Str.{IsCharBoundary}
 use Rattle.std.specs.String.{string_bytes}
 use Rattle.snippet_parts.specs.Lines.{lines_of, source_lines}
-use Rattle.snippet_splice.specs.declared.patches.TrimmedPatch.{TrimmedPatch}
 use Rattle.snippet_splice.specs.Edits.{Edit, edit_of, trimmed_edit_of, trimmed_edits, in_order, patched, AreApart}
-use Rattle.snippet_splice.specs.Copied.{written, written_ranges, end_from}
+use Rattle.snippet_splice.specs.Copied.{written_ranges}
 use Rattle.snippet_splice.specs.Spliced.{ranges_from, texts_of, AreFrom}
-use Rattle.snippet_splice.specs.Shown.{first_start, shown_line, shown_start, shown_rest, closes_line, without_final_line_feeds, shown_text}
+use Rattle.snippet_splice.specs.Shown.{first_start, shown_line, shown_start, shown_rest, closes_line}
 use Rattle.snippet_splice.proofs.OverlapLemmas.{apart-in_order, ordered-spans}
 use Rattle.snippet_splice.proofs.ShownLemmas.{none-given, first-given, shown_start-border, shown-apart, shown-value, some-trimmed}
 use Rattle.snippet_splice.proofs.SpliceLemmas.{IsShownPart, shown-part}

@@ -1,8 +1,8 @@
-use Rattle.std.proofs.Common.{◌≡◌, ◌<◌, ◌+◌, ℕ, List, [], ◌∷◌, ◌++◌, map, drop, get_or, length, count_by, refl, sym, ap, subst, ◌∙◌, arith}
+use Rattle.std.proofs.Common.{◌≡◌, ◌<◌, ◌+◌, ℕ, List, [], ◌∷◌, ◌++◌, map, drop, get_or, length, count_by, sym, ap, subst}
 use Rattle.std.proofs.lemmas.List.{drop_more}
 use Rattle.std.specs.String.{string_bytes}
 use Rattle.snippet_splice.specs.declared.patches.TrimmedPatch.{TrimmedPatch}
-use Rattle.snippet_splice.specs.Edits.{Edit, trimmed_edit_of}
+use Rattle.snippet_splice.specs.Edits.{trimmed_edit_of}
 use Rattle.snippet_parts.specs.Lines.{is_lf}
 use Rattle.snippet_splice.specs.Copied.{copied}
 use Rattle.snippet_splice.proofs.WriteLemmas.{Writes, Writes-more}

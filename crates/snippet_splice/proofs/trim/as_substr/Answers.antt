@@ -1,4 +1,4 @@
-use Rattle.std.proofs.Common.{◌≡◌, ◌≢◌, ◌+◌, ℕ, List, ◌++◌, length, take, drop, sym, ap, subst, ◌∙◌, arith}
+use Rattle.std.proofs.Common.{◌≡◌, ℕ, List, ◌++◌, length, sym, ap, ◌∙◌}
 use Rattle.snippet_splice.specs.Trim.{IsSandwiched, IsSandwich}
 use Rattle.snippet_splice.proofs.TrimLemmas.{IsSandwich-begins, IsSandwich-ends, IsCommonPrefix, IsSandwich-parts, sandwiched-parts, sandwich-is, sandwich-none}
 use Rattle.snippet_splice.proofs.trim.as_substr.Goals as goal
