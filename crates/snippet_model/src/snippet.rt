@@ -179,6 +179,16 @@ impl<'a> From<Snippet<'a, Annotation<'a>>> for Element<'a> {
     }
 }
 
+impl<'a> From<Snippet<'a, Patch<'a>>> for Element<'a> {
+    ghost use Rattle.snippet_model.specs.declared.snippet.Element.TheVariants.{Suggestion};
+
+    ghost from_gives = { λ snippet element. element ≡ Suggestion snippet };
+
+    fn from(snippet: Snippet<'a, Patch<'a>>) -> Element<'a> {
+        Element::Suggestion(snippet)
+    }
+}
+
 /// A trusted text: drawn as it is, with any style codes that it holds.
 #[derive(Clone, Debug, Drop)]
 pub struct Message<'a> {
@@ -317,6 +327,41 @@ impl<'a> Snippet<'a, Annotation<'a>> {
     }
 }
 
+impl<'a> Snippet<'a, Patch<'a>> {
+    /// The snippet with one more patch behind those it has. The one error is want of memory.
+    pub fn patch(mut self, patch: Patch<'a>) -> Result<Snippet<'a, Patch<'a>>, AllocError>
+        ensures patches { IfOk result
+            (λ s. s.markers.items ≡ self.entry.markers.items ++ patch.entry ∷ []) }
+        ensures source { IfOk result (λ s. s.source ≡ self.entry.source) }
+        ensures path { IfOk result (λ s. s.path ≡ self.entry.path) }
+        ensures line_start { IfOk result (λ s. s.line_start ≡ self.entry.line_start) }
+        ensures line_numbering { IfOk result (λ s. s.line_numbering ≡ self.entry.line_numbering) }
+        ensures fold { IfOk result (λ s. s.fold ≡ self.entry.fold) }
+    {
+        self.markers.push(patch)?;
+        Ok(self)
+    }
+
+    /// The snippet with these patches behind those it has, in their order. The one error is want of memory.
+    pub fn patches<I: IntoIterator<Item = Patch<'a>>>(
+        mut self,
+        patches: I,
+    ) -> Result<Snippet<'a, Patch<'a>>, AllocError>
+        requires ends { IsFiniteIterable I.into_iter_gives I.IntoIter.can_next I.IntoIter.remaining patches }
+        ensures patches { IfOk result (λ s. (it : I.IntoIter) × (xs : List Patch)
+            × I.into_iter_gives patches it × Drains I.IntoIter.next_gives it xs
+            × (s.markers.items ≡ self.entry.markers.items ++ xs)) }
+        ensures source { IfOk result (λ s. s.source ≡ self.entry.source) }
+        ensures path { IfOk result (λ s. s.path ≡ self.entry.path) }
+        ensures line_start { IfOk result (λ s. s.line_start ≡ self.entry.line_start) }
+        ensures line_numbering { IfOk result (λ s. s.line_numbering ≡ self.entry.line_numbering) }
+        ensures fold { IfOk result (λ s. s.fold ≡ self.entry.fold) }
+    {
+        self.markers.extend(patches)?;
+        Ok(self)
+    }
+}
+
 /// A marked span of a source.
 #[derive(Clone, Debug, Drop)]
 pub struct Annotation<'a> {
@@ -391,6 +436,24 @@ pub struct Patch<'a> {
     pub span: Range<usize>,
     /// What stands in their place.
     pub replacement: CowStr<'a>,
+}
+
+impl<'a> Patch<'a> {
+    /// The edit that puts this text in place of the bytes of this span.
+    pub fn new(span: Range<usize>, replacement: &'a str) -> Patch<'a>
+        ensures span { result.span ≡ span }
+        ensures replacement { result.replacement ≡ Borrowed replacement.entry }
+    {
+        Patch::new_cow(span, CowStr::Borrowed(replacement))
+    }
+
+    /// The same of a text that may be owned.
+    pub fn new_cow(span: Range<usize>, replacement: CowStr<'a>) -> Patch<'a>
+        ensures span { result.span ≡ span }
+        ensures replacement { result.replacement ≡ replacement.entry }
+    {
+        Patch { span, replacement }
+    }
 }
 
 impl<'a> Marker for Patch<'a> {

@@ -1,0 +1,110 @@
+-- Laws of trimmed edits and of the patched source.
+use Rattle.std.proofs.Common.{◌≡◌, ℕ, ◌+◌, ◌-◌, ◌≤◌, ◌&&◌, ltb, leb, Option, Some, None, List, [], ◌∷◌, ◌++◌, length, map, take, drop, refl, sym, ap, ◌∙◌, arith, append_assoc}
+use Rattle.std.proofs.lemmas.List.{append-nil, length-take-le, length-drop, take-append-drop, take-take, drop-drop, drop-take}
+use Rattle.std.proofs.lemmas.Bool.{cond_both, and_parts, leb-true}
+use Rattle.std.specs.List.{slice_range}
+use Rattle.snippet_splice.specs.Trim.{IsSandwiched, sandwich}
+use Rattle.snippet_splice.specs.Edits.{Edit, shrunk, trimmed_edit, edited_from, AreApart}
+use Rattle.snippet_splice.proofs.TrimLemmas.{sandwich-sandwiched}
+
+-- ---- parts of a list
+
+-- a part is the part up to a place in it and the part from there on
+pub slice_split : (s : List ℕ) (a b c : ℕ) → a ≤ b → b ≤ c → slice_range s a c ≡ slice_range s a b ++ slice_range s b c
+slice_split s a b c low high =
+    let rest : take (c - a) (drop a s) ≡ take (b - a) (take (c - a) (drop a s)) ++ drop (b - a) (take (c - a) (drop a s)) = sym (take-append-drop (b - a) (take (c - a) (drop a s))) in
+    let front : take (b - a) (take (c - a) (drop a s)) ≡ slice_range s a b = take-take (b - a) (c - a) (drop a s) (omega arith) in
+    let n : c - a ≡ (b - a) + (c - b) = omega arith in
+    let back : drop (b - a) (take (c - a) (drop a s)) ≡ slice_range s b c = ap (λ k. drop (b - a) (take k (drop a s))) n ∙ drop-take (b - a) (c - b) (drop a s) ∙ ap (take (c - b)) (drop-drop (b - a) a s ∙ ap (λ k. drop k s) (omega arith)) in
+    rest ∙ ap (λ l. l ++ drop (b - a) (take (c - a) (drop a s))) front ∙ ap (λ l. slice_range s a b ++ l) back
+
+-- the rest of a list is the part up to a place and the rest from there on
+pub drop_split : (s : List ℕ) (a b : ℕ) → a ≤ b → drop a s ≡ slice_range s a b ++ drop b s
+drop_split s a b low =
+    sym (take-append-drop (b - a) (drop a s)) ∙ ap (λ l. slice_range s a b ++ l) (drop-drop (b - a) a s ∙ ap (λ k. drop k s) (omega arith))
+
+-- ---- an edit that leaves alone what another writes anew as it was
+
+-- an edit shrunk by what its text keeps of the source
+pub record IsShrunk (source : List ℕ) (e t : Edit) : Type 0 where
+  pub start : e.start ≤ t.start
+  pub ordered : t.start ≤ t.end
+  pub end : t.end ≤ e.end
+  pub text : e.text ≡ slice_range source e.start t.start ++ (t.text ++ slice_range source t.end e.end)
+
+unchanged : (source : List ℕ) (e : Edit) → e.start ≤ e.end → IsShrunk source e e
+unchanged source e ordered = record {
+  start = omega arith;
+  ordered = ordered;
+  end = omega arith;
+  text = nothing-around (e.start) (e.end) (e.text);
+}
+  where
+    nothing : (a : ℕ) → slice_range source a a ≡ []
+    nothing a = let n : a - a ≡ 0 = omega arith in ap (λ k. take k (drop a source)) n
+
+    nothing-around : (a b : ℕ) (t : List ℕ) → t ≡ slice_range source a a ++ (t ++ slice_range source b b)
+    nothing-around a b t = sym (ap (λ l. l ++ (t ++ slice_range source b b)) (nothing a) ∙ ap (λ l. t ++ l) (nothing b) ∙ append-nil t)
+
+-- what is kept of a replaced text: the parts of it before and behind
+pub shrunk-by : (source : List ℕ) (e : Edit) (a : ℕ) (m : List ℕ) (b : ℕ) → e.start ≤ e.end → e.end ≤ length source → IsSandwiched (slice_range source e.start e.end) e.text a m b → IsShrunk source e (shrunk e (Some (a, m, b)))
+shrunk-by source e a m b ordered within h =
+    let o : List ℕ = slice_range source e.start e.end in
+    let size : length o ≡ e.end - e.start = length-take-le (e.end - e.start) (drop e.start source) (omega (arith, length-drop e.start source)) in
+    let parts : a + b ≡ e.end - e.start = h.parts ∙ size in
+    let before : take a o ≡ slice_range source e.start (e.start + a) = take-take a (e.end - e.start) (drop e.start source) (omega arith) ∙ ap (λ k. take k (drop e.start source)) (omega arith) in
+    let n : e.end - e.start ≡ a + b = sym parts in
+    let back : drop a o ≡ slice_range source (e.end - b) e.end = ap (λ k. drop a (take k (drop e.start source))) n ∙ drop-take a b (drop e.start source) ∙ ap (take b) (drop-drop a e.start source ∙ ap (λ k. drop k source) (omega arith)) ∙ ap (λ k. take k (drop (e.end - b) source)) (omega arith) in
+    record {
+      start = omega arith;
+      ordered = omega arith;
+      end = omega arith;
+      text = h.whole ∙ append_assoc (take a o) m (drop a o) ∙ ap (λ l. l ++ (m ++ drop a o)) before ∙ ap (λ l. slice_range source e.start (e.start + a) ++ (m ++ l)) back;
+    }
+
+pub trimmed_edit-shrunk : (source : List ℕ) (e : Edit) → e.start ≤ e.end → IsShrunk source e (trimmed_edit source e)
+unfolding trimmed_edit
+trimmed_edit-shrunk source e ordered =
+    cond_both (ltb 0 (length e.text) && leb e.end (length source)) (shrunk e (sandwich (slice_range source e.start e.end) e.text)) e (IsShrunk source e)
+    (λ t. kept (sandwich (slice_range source e.start e.end) e.text) (leb-true e.end (length source) (and_parts (ltb 0 (length e.text)) (leb e.end (length source)) t).1) refl)
+    (λ f. unchanged source e ordered)
+  where
+    kept : (r : Option (ℕ × List ℕ × ℕ)) → e.end ≤ length source → sandwich (slice_range source e.start e.end) e.text ≡ r → IsShrunk source e (shrunk e r)
+    kept None within is = unchanged source e ordered
+    kept (Some k) within is =
+        shrunk-by source e k.0 k.1 k.2 ordered within (sandwich-sandwiched (slice_range source e.start e.end) e.text k.0 k.1 k.2 is)
+
+-- ---- the patched source
+
+-- from an earlier byte on: the source between comes first
+pub edited_from-earlier : (source : List ℕ) (a b : ℕ) (es : List Edit) → a ≤ b → AreApart b es → edited_from source a es ≡ slice_range source a b ++ edited_from source b es
+edited_from-earlier source a b [] low apart = drop_split source a b low
+edited_from-earlier source a b (e ∷ es) low apart =
+    ap (λ l. l ++ (e.text ++ edited_from source e.end es)) (slice_split source a b e.start low apart.0) ∙ append_assoc (slice_range source a b) (slice_range source b e.start) (e.text ++ edited_from source e.end es)
+
+pub AreApart-earlier : (a b : ℕ) (es : List Edit) → a ≤ b → AreApart b es → AreApart a es
+AreApart-earlier a b [] low apart = tt
+AreApart-earlier a b (e ∷ es) low apart = (omega (arith, apart.0), apart.1, apart.2)
+
+-- trimmed edits stand apart as the untrimmed ones do
+pub trimmed-apart : (source : List ℕ) (at : ℕ) (es : List Edit) → AreApart at es → AreApart at (map (trimmed_edit source) es)
+trimmed-apart source at [] apart = tt
+trimmed-apart source at (e ∷ es) apart =
+    let h : IsShrunk source e (trimmed_edit source e) = trimmed_edit-shrunk source e apart.1 in
+    (omega (arith, h.start, apart.0), h.ordered, AreApart-earlier (trimmed_edit source e).end e.end (map (trimmed_edit source) es) h.end (trimmed-apart source e.end es apart.2))
+
+-- trimmed edits give what the untrimmed ones do
+pub edited_from-trimmed : (source : List ℕ) (at : ℕ) (es : List Edit) → AreApart at es → edited_from source at (map (trimmed_edit source) es) ≡ edited_from source at es
+edited_from-trimmed source at [] apart = refl
+edited_from-trimmed source at (e ∷ es) apart =
+    let t : Edit = trimmed_edit source e in
+    let h : IsShrunk source e t = trimmed_edit-shrunk source e apart.1 in
+    let rest : List ℕ = edited_from source e.end es in
+    let later : edited_from source t.end (map (trimmed_edit source) es) ≡ slice_range source t.end e.end ++ rest = edited_from-earlier source t.end e.end (map (trimmed_edit source) es) h.end (trimmed-apart source e.end es apart.2) ∙ ap (λ l. slice_range source t.end e.end ++ l) (edited_from-trimmed source e.end es apart.2) in
+    let x : List ℕ = slice_range source at e.start in
+    let y : List ℕ = slice_range source e.start t.start in
+    let z : List ℕ = slice_range source t.end e.end in
+    ap (λ l. slice_range source at t.start ++ (t.text ++ l)) later ∙ ap (λ l. l ++ (t.text ++ (z ++ rest))) (slice_split source at e.start t.start apart.0 h.start) ∙ regroup x y t.text z rest ∙ ap (λ l. x ++ (l ++ rest)) (sym h.text)
+  where
+    regroup : (x y m z rest : List ℕ) → (x ++ y) ++ (m ++ (z ++ rest)) ≡ x ++ ((y ++ (m ++ z)) ++ rest)
+    regroup x y m z rest = simp append_assoc

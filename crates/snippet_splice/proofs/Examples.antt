@@ -1,0 +1,92 @@
+-- The definitions, computed on small inputs. In these `a` is 97, LF is 10 and CR is 13.
+use Rattle.std.proofs.Common.{◌≡◌, ℕ, true, false, Some, None, List, [], ◌∷◌, refl}
+use Rattle.snippet_splice.specs.Trim.{kept_before, sandwich}
+use Rattle.snippet_splice.specs.Edits.{Edit, trimmed_edit, trimmed_edits, patched}
+use Rattle.snippet_splice.specs.Overlap.{overlap}
+use Rattle.snippet_splice.specs.Shown.{shown_text}
+use Rattle.snippet_splice.specs.Spliced.{last_line_reached, spliced_text, line_ranges}
+use Rattle.snippet_parts.specs.Lines.{start_of}
+use Rattle.snippet_parts.specs.Place.{line_of}
+
+-- `AABBCC` in place of `AACC` puts `BB` behind two bytes and before two
+a_text_put_in : sandwich (65 ∷ 65 ∷ 67 ∷ 67 ∷ []) (65 ∷ 65 ∷ 66 ∷ 66 ∷ 67 ∷ 67 ∷ []) ≡ Some (2, 66 ∷ 66 ∷ [], 2)
+unfolding sandwich kept_before
+a_text_put_in = refl
+
+-- `b` in place of `a` keeps nothing
+nothing_kept : sandwich (97 ∷ []) (98 ∷ []) ≡ None
+unfolding sandwich kept_before
+nothing_kept = refl
+
+abbrev edit : ℕ → ℕ → List ℕ → Edit
+edit start end text = record { start = start; end = end; text = text }
+
+-- `abcx` in place of `abc` is `x` behind it; an empty text stays as it is
+trimmed_to_its_end : trimmed_edit (97 ∷ 98 ∷ 99 ∷ []) (edit 0 3 (97 ∷ 98 ∷ 99 ∷ 120 ∷ [])) ≡ edit 3 3 (120 ∷ [])
+unfolding trimmed_edit sandwich kept_before
+trimmed_to_its_end = refl
+
+deletion_stays : trimmed_edit (97 ∷ []) (edit 0 1 []) ≡ edit 0 1 []
+unfolding trimmed_edit
+deletion_stays = refl
+
+-- an insertion comes before a replacement that starts where it does, given before it or not
+insertion_first : patched (97 ∷ []) (edit 0 1 (98 ∷ []) ∷ edit 0 0 (120 ∷ []) ∷ []) ≡ 120 ∷ 98 ∷ []
+insertion_first = refl
+
+-- trimmed edits keep the order of the untrimmed ones, here 0..3 before 3..3
+untrimmed_order : trimmed_edits (97 ∷ 98 ∷ 99 ∷ []) (edit 3 3 (121 ∷ []) ∷ edit 0 3 (97 ∷ 98 ∷ 99 ∷ 120 ∷ []) ∷ []) ≡ edit 3 3 (120 ∷ []) ∷ edit 3 3 (121 ∷ []) ∷ []
+unfolding trimmed_edit sandwich kept_before
+untrimmed_order = refl
+
+-- 0..2 and 1..3 overlap, in either order; 0..1 and 1..3 don't
+overlapping : overlap (edit 0 2 []) (edit 1 3 []) ≡ true
+overlapping = refl
+
+overlapping_swapped : overlap (edit 1 3 []) (edit 0 2 []) ≡ true
+overlapping_swapped = refl
+
+beside : overlap (edit 1 3 []) (edit 0 1 []) ≡ false
+beside = refl
+
+-- `x` put before the `b` of `a` LF `b`: folded the one line `xb`, unfolded all
+folded : spliced_text true (97 ∷ 10 ∷ 98 ∷ []) (edit 2 2 (120 ∷ []) ∷ []) ≡ 120 ∷ 98 ∷ []
+unfolding spliced_text trimmed_edit sandwich kept_before start_of line_of
+folded = refl
+
+unfolded : spliced_text false (97 ∷ 10 ∷ 98 ∷ []) (edit 2 2 (120 ∷ []) ∷ []) ≡ 97 ∷ 10 ∷ 120 ∷ 98 ∷ []
+unfolding spliced_text start_of line_of
+unfolded = refl
+
+-- a text that ends with LF closes its line: of `a` LF with `x` LF put first only `x` is shown, folded
+closed_line : spliced_text true (97 ∷ 10 ∷ []) (edit 0 0 (120 ∷ 10 ∷ []) ∷ []) ≡ 120 ∷ []
+unfolding spliced_text trimmed_edit sandwich kept_before start_of line_of
+closed_line = refl
+
+-- a deletion closes none: of `a` LF `bc` with `x` put first and `b` deleted both lines are shown
+deleted_behind : spliced_text true (97 ∷ 10 ∷ 98 ∷ 99 ∷ []) (edit 0 0 (120 ∷ []) ∷ edit 2 3 [] ∷ []) ≡ 120 ∷ 97 ∷ 10 ∷ 99 ∷ []
+unfolding spliced_text trimmed_edit sandwich kept_before start_of line_of
+deleted_behind = refl
+
+-- the texts of these stand on lines 0 and 1 of the patched source, and the source is reached up to its line 1
+ranges : line_ranges (97 ∷ 10 ∷ 98 ∷ 99 ∷ []) (edit 0 0 (120 ∷ []) ∷ edit 2 3 [] ∷ []) ≡ record { first = 0; last = 0 } ∷ record { first = 1; last = 1 } ∷ []
+unfolding trimmed_edit sandwich kept_before
+ranges = refl
+
+reached : last_line_reached (97 ∷ 10 ∷ 98 ∷ 99 ∷ []) (edit 0 0 (120 ∷ []) ∷ edit 2 3 [] ∷ []) ≡ 1
+unfolding last_line_reached trimmed_edit sandwich kept_before line_of
+reached = refl
+
+-- an insertion behind a final LF is joined to the last line, and one inside CR LF loses the CR
+joined_to_last : shown_text true (97 ∷ 10 ∷ []) (edit 2 2 (120 ∷ []) ∷ []) ≡ 97 ∷ 120 ∷ []
+unfolding shown_text trimmed_edit sandwich kept_before start_of line_of
+joined_to_last = refl
+
+inside_line_end : shown_text true (97 ∷ 13 ∷ 10 ∷ 98 ∷ []) (edit 2 2 (120 ∷ []) ∷ []) ≡ 97 ∷ 120 ∷ []
+unfolding shown_text trimmed_edit sandwich kept_before start_of line_of
+inside_line_end = refl
+
+-- line ends that are copied before the last edit are LF, those behind it stay in an unfolded text
+line_ends : shown_text false (97 ∷ 13 ∷ 10 ∷ 98 ∷ 13 ∷ 10 ∷ 99 ∷ []) (edit 3 3 (120 ∷ []) ∷ []) ≡ 97 ∷ 10 ∷ 120 ∷ 98 ∷ 13 ∷ 10 ∷ 99 ∷ []
+unfolding shown_text trimmed_edit sandwich kept_before start_of line_of
+line_ends = refl

@@ -1,0 +1,12 @@
+pub mod EditLemmas
+pub mod Examples
+pub mod LineLemmas
+pub mod OrderLemmas
+pub mod OverlapLemmas
+pub mod RangeLemmas
+pub mod SeenLemmas
+pub mod ShownLemmas
+pub mod SpliceLemmas
+pub mod TouchLemmas
+pub mod TrimLemmas
+pub mod WriteLemmas

@@ -1,0 +1,128 @@
+-- On which lines of the patched source the texts of edits stand.
+use Rattle.std.proofs.Common.{◌≡◌, ◌≢◌, ℕ, zero, suc, ◌+◌, ◌-◌, ◌<◌, Bool, true, false, cond, List, [], ◌∷◌, ◌++◌, All, length, map, take, drop, count_by, refl, sym, ap, ◌∙◌, ⊎_elim, arith, append_assoc}
+use Rattle.std.proofs.lemmas.List.{length-append, take_at, take-append-drop}
+use Rattle.std.proofs.lemmas.List.Sums.{sum_by-append, sum_by-cons}
+use Rattle.std.proofs.lemmas.List.Concat.{flat_map-append}
+use Rattle.std.proofs.lemmas.List.Elements.{All-head, All-tail}
+use Rattle.std.proofs.lemmas.Bool.{cond-false, ne_eqb}
+use Rattle.std.specs.List.{slice_range}
+use Rattle.snippet_parts.specs.declared.lines.EndLine.{EndLine}
+use Rattle.snippet_parts.specs.declared.lines.EndLine.TheVariants.{Eof, Lf, Crlf}
+use Rattle.snippet_parts.specs.Lines.{Line, IsLine, AreLines, line_bytes, end_bytes, joined, source_lines, start_of, is_lf}
+use Rattle.snippet_parts.specs.Place.{line_of}
+use Rattle.snippet_parts.proofs.LinesLemmas.{AreLinesOf-source_lines, joined-source_lines}
+use Rattle.snippet_parts.proofs.PlaceLemmas.{line_of-within}
+use Rattle.snippet_splice.specs.Edits.{Edit, in_order, trimmed_edits, edited_from, patched, AreApart}
+use Rattle.snippet_splice.specs.Copied.{copied, written_ranges}
+use Rattle.snippet_splice.specs.Shown.{first_start, shown_start, shown_line}
+use Rattle.snippet_splice.specs.Spliced.{stands_from, stands, lines_of_stand, line_ranges, ranges_from, HasNoCr, IsBeforeFinalLf}
+use Rattle.snippet_splice.proofs.EditLemmas.{edited_from-earlier, edited_from-trimmed}
+use Rattle.snippet_splice.proofs.ShownLemmas.{shown-apart}
+use Rattle.snippet_splice.proofs.SpliceLemmas.{AreBeforeFinalLf, copied-same, stands_from-earlier, front-size}
+
+-- how many LF some bytes hold
+abbrev pub feeds : List ℕ → ℕ
+feeds bytes = count_by is_lf bytes
+
+pub feeds-append : (xs ys : List ℕ) → feeds (xs ++ ys) ≡ feeds xs + feeds ys
+feeds-append xs ys = sum_by-append (λ b. cond (is_lf b) 1 0) xs ys
+
+pub feeds-none : (xs : List ℕ) → All (λ b. b ≢ 10) xs → feeds xs ≡ 0
+feeds-none [] none = refl
+feeds-none (x ∷ xs) none =
+    let one : ℕ → ℕ = λ b. cond (is_lf b) 1 0 in
+    let here : one x ≡ 0 = cond-false (is_lf x) 1 0 (ne_eqb x 10 (All-head (λ b. b ≢ 10) x xs none)) in
+    let rest : feeds xs ≡ 0 = feeds-none xs (All-tail (λ b. b ≢ 10) x xs none) in
+    sum_by-cons one x xs ∙ omega (arith, here, rest)
+
+-- ---- the LF before a line of a source are as many as the lines before it
+
+feeds-line : (l : Line) → IsLine l → l.1 ≢ Eof → feeds (line_bytes l) ≡ 1
+feeds-line l is ended =
+    feeds-append l.0 (end_bytes l.1) ∙ omega (arith, feeds-none l.0 is.no_lf, one l.1 ended)
+  where
+    one : (ending : EndLine) → ending ≢ Eof → feeds (end_bytes ending) ≡ 1
+    one Eof ended = absurd (ended refl)
+    one Lf ended = refl
+    one Crlf ended = refl
+
+feeds-lines : (ls : List Line) (k : ℕ) → AreLines ls → k < length ls → feeds (joined (take k ls)) ≡ k
+feeds-lines ls zero are within = refl
+feeds-lines [] (suc k) are within = absurd (omega arith)
+feeds-lines (l ∷ ls) (suc k) are within =
+    let ended : l.1 ≢ Eof = λ eof. let none : ls ≡ [] = (are.1 eof).1 in absurd (omega (arith, ap length none)) in
+    feeds-append (line_bytes l) (joined (take k ls)) ∙ omega (arith, feeds-line l are.0 ended, feeds-lines ls k are.2 (omega arith))
+
+-- the front of a source before line k
+pub front-lines : (source : List ℕ) (k : ℕ) → take (start_of (source_lines source) k) source ≡ joined (take k (source_lines source))
+unfolding start_of
+front-lines source k =
+    let ls : List Line = source_lines source in
+    let whole : source ≡ joined (take k ls) ++ joined (drop k ls) = sym (joined-source_lines source) ∙ ap joined (sym (take-append-drop k ls)) ∙ flat_map-append line_bytes (take k ls) (drop k ls) in
+    ap (take (length (joined (take k ls)))) whole ∙ take_at (joined (take k ls)) (joined (drop k ls)) (length (joined (take k ls))) refl
+
+pub feeds-front : (source : List ℕ) (k : ℕ) → k < length (source_lines source) → feeds (take (start_of (source_lines source) k) source) ≡ k
+feeds-front source k within =
+    let ls : List Line = source_lines source in
+    ap feeds (front-lines source k) ∙ ⊎_elim
+    (λ one. let e : k ≡ 0 = omega (arith, ap length one) in ap (λ n. feeds (joined (take n ls))) e ∙ sym e)
+    (λ (some, are). feeds-lines ls k are within) (AreLinesOf-source_lines source).lines
+
+-- the LF before what is shown are as many as the lines before it
+pub feeds-shown : (fold : Bool) (source : List ℕ) (es : List Edit) → feeds (slice_range source 0 (shown_start fold source (first_start (in_order es)))) ≡ shown_line fold source es
+feeds-shown false source es = refl
+feeds-shown true source es =
+    let k : ℕ = line_of (source_lines source) (first_start (in_order es)) in
+    let e : start_of (source_lines source) k - 0 ≡ start_of (source_lines source) k = omega arith in
+    ap (λ n. feeds (take n source)) e ∙ feeds-front source k (line_of-within source (first_start (in_order es)))
+
+-- ---- the lines of the texts
+
+-- the texts of the edits behind a front of the patched source
+pub ranges-stands : (source d front : List ℕ) (at now count : ℕ) (ts : List Edit) → HasNoCr source → AreBeforeFinalLf source ts → AreApart at ts → d ≡ front ++ edited_from source at ts → now ≡ length front → count ≡ feeds front → map (lines_of_stand d) (stands_from source at now ts) ≡ written_ranges source count at ts
+ranges-stands source d front at now count [] none before apart whole size counted = refl
+ranges-stands source d front at now count (t ∷ ts) none before apart whole size counted =
+    let between : List ℕ = slice_range source at t.start in
+    let here : copied source at t.start ≡ between = copied-same source at t.start none apart.0 (All-head (λ t. IsBeforeFinalLf source t.start) t ts before) in
+    let rest : List ℕ = edited_from source t.end ts in
+    let from : ℕ = now + length between in
+    let to : ℕ = from + length t.text in
+    let first : ℕ = count + feeds (copied source at t.start) in
+    let last : ℕ = first + feeds t.text in
+    let parts : d ≡ (front ++ between) ++ (t.text ++ rest) = whole ∙ sym (append_assoc front between (t.text ++ rest)) in
+    let parts2 : d ≡ ((front ++ between) ++ t.text) ++ rest = parts ∙ sym (append_assoc (front ++ between) t.text rest) in
+    let size1 : length (front ++ between) ≡ from = omega (arith, length-append front between, size) in
+    let size2 : length ((front ++ between) ++ t.text) ≡ to = omega (arith, length-append (front ++ between) t.text, size1) in
+    let begins : feeds (take from d) ≡ first = ap feeds (ap (take from) parts ∙ take_at (front ++ between) (t.text ++ rest) from size1) ∙ feeds-append front between ∙ omega (arith, counted, ap feeds here) in
+    let ends : feeds (take to d) ≡ last = ap feeds (ap (take to) parts2 ∙ take_at ((front ++ between) ++ t.text) rest to size2) ∙ feeds-append (front ++ between) t.text ∙ omega (arith, feeds-append front between, counted, ap feeds here) in
+    let counted2 : last ≡ feeds ((front ++ between) ++ t.text) = sym (feeds-append (front ++ between) t.text ∙ omega (arith, feeds-append front between, counted, ap feeds here)) in
+    let more : map (lines_of_stand d) (stands_from source t.end to ts) ≡ written_ranges source last t.end ts = ranges-stands source d ((front ++ between) ++ t.text) t.end to last ts none (All-tail (λ t. IsBeforeFinalLf source t.start) t ts before) apart.2 parts2 (sym size2) counted2 in
+    ap (λ n. record { first = n; last = feeds (take to d) } ∷ map (lines_of_stand d) (stands_from source t.end to ts)) begins ∙ ap (λ n. record { first = first; last = n } ∷ map (lines_of_stand d) (stands_from source t.end to ts)) ends ∙ ap (λ rs. record { first = first; last = last } ∷ rs) more
+
+-- ranges counted from a later line on
+ranges-shift : (source : List ℕ) (base n at : ℕ) (ts : List Edit) → ranges_from base (written_ranges source n at ts) ≡ written_ranges source (base + n) at ts
+ranges-shift source base n at [] = refl
+ranges-shift source base n at (t ∷ ts) =
+    let c : ℕ = feeds (copied source at t.start) in
+    let e1 : base + (n + c) ≡ base + n + c = omega arith in
+    let e2 : base + (n + c + feeds t.text) ≡ base + n + c + feeds t.text = omega arith in
+    ap (λ k. record { first = k; last = base + (n + c + feeds t.text) } ∷ ranges_from base (written_ranges source (n + c + feeds t.text) t.end ts)) e1 ∙ ap (λ k. record { first = base + n + c; last = k } ∷ ranges_from base (written_ranges source (n + c + feeds t.text) t.end ts)) e2 ∙ ap (λ rs. record { first = base + n + c; last = base + n + c + feeds t.text } ∷ rs) (ranges-shift source base (n + c + feeds t.text) t.end ts ∙ ap (λ k. written_ranges source k t.end ts) e2)
+
+-- the ranges that are counted while the text is written are those of the texts in the patched source
+pub written-ranges : (fold : Bool) (source : List ℕ) (es : List Edit) → HasNoCr source → AreBeforeFinalLf source (trimmed_edits source es) → AreApart 0 (in_order es) → ranges_from (shown_line fold source es) (written_ranges source 0 (shown_start fold source (first_start (in_order es))) (trimmed_edits source es)) ≡ line_ranges source es
+written-ranges fold source es none before apart =
+    let s : ℕ = shown_start fold source (first_start (in_order es)) in
+    let ts : List Edit = trimmed_edits source es in
+    let f : List ℕ = slice_range source 0 s in
+    let behind : AreApart s ts = shown-apart fold source es apart in
+    let size : length f ≡ s = front-size fold source (first_start (in_order es)) in
+    let whole : patched source es ≡ f ++ edited_from source s ts = sym (edited_from-trimmed source 0 (in_order es) apart) ∙ edited_from-earlier source 0 s ts (omega arith) behind in
+    let e : shown_line fold source es + 0 ≡ shown_line fold source es = omega arith in
+    ranges-shift source (shown_line fold source es) 0 s ts ∙ ap (λ n. written_ranges source n s ts) e ∙ sym (ranges-stands source (patched source es) f s s (shown_line fold source es) ts none before behind whole (sym size) (sym (feeds-shown fold source es))) ∙ ap (map (lines_of_stand (patched source es))) (sym (stands-at ts behind size))
+  where
+    stands-at : (ts : List Edit) → AreApart (shown_start fold source (first_start (in_order es))) ts → length (slice_range source 0 (shown_start fold source (first_start (in_order es)))) ≡ shown_start fold source (first_start (in_order es)) → stands source ts ≡ stands_from source (shown_start fold source (first_start (in_order es))) (shown_start fold source (first_start (in_order es))) ts
+    stands-at [] apart size = refl
+    stands-at (t ∷ ts) apart size =
+        let s : ℕ = shown_start fold source (first_start (in_order es)) in
+        let e : 0 + length (slice_range source 0 s) ≡ s = omega (arith, size) in
+        stands_from-earlier source 0 s 0 t ts (omega arith) apart.0 ∙ ap (λ n. stands_from source s n (t ∷ ts)) e

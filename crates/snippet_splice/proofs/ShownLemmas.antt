@@ -1,0 +1,86 @@
+-- Laws of the text that is shown, as it is written.
+use Rattle.std.proofs.Common.{◌≡◌, ◌≢◌, ℕ, ◌≤◌, Bool, min, Some, None, List, [], ◌∷◌, ◌++◌, length, map, drop, refl, sym, ap, ◌∙◌, arith}
+use Rattle.std.proofs.lemmas.Bool.{cond_both}
+use Rattle.std.proofs.lemmas.List.{drop_min}
+use Rattle.std.proofs.lemmas.Str.{IsCharBoundary-start}
+use Rattle.std.specs.List.{slice_get}
+use Rattle.std.specs.Str.{IsUtf8, IsCharBoundary}
+use Rattle.snippet_model.specs.declared.snippet.Patch.{Patch}
+use Rattle.snippet_parts.specs.Lines.{source_lines, start_of}
+use Rattle.snippet_parts.specs.Place.{line_of}
+use Rattle.snippet_parts.proofs.PlaceLemmas.{HoldsByte-source}
+use Rattle.snippet_parts.proofs.BoundsLemmas.{IsCharBoundary-start_of}
+use Rattle.snippet_splice.specs.declared.patches.TrimmedPatch.{TrimmedPatch}
+use Rattle.snippet_splice.specs.Edits.{Edit, edit_of, trimmed_edit_of, trimmed_edit, trimmed_edits, put_in, in_order, precedes, bounds_of, original_bounds_of, AreApart}
+use Rattle.snippet_splice.specs.Shown.{first_start, closes_line, shown_start, shown_rest, without_final_line_feeds, shown_text}
+use Rattle.snippet_splice.specs.Copied.{written, end_from}
+use Rattle.snippet_splice.proofs.EditLemmas.{AreApart-earlier, trimmed-apart}
+
+put_in-some : {X : Type 0} (lt : X → X → Bool) (x : X) (ys : List X) → put_in lt x ys ≢ []
+put_in-some lt x [] = λ e. cc
+put_in-some lt x (y ∷ ys) =
+    cond_both (lt y x) (y ∷ put_in lt x ys) (x ∷ y ∷ ys) (λ l. l ≢ []) (λ _ e. cc) (λ _ e. cc)
+
+-- where nothing is left there was nothing
+pub none-given : (source : List ℕ) (ps : List Patch) (ts : List TrimmedPatch) → map trimmed_edit_of ts ≡ trimmed_edits source (map edit_of ps) → slice_get ts 0 ≡ None → ps ≡ []
+none-given source [] ts same none = refl
+none-given source (p ∷ ps) [] same none =
+    absurd (map-some (put_in precedes (edit_of p) (in_order (map edit_of ps))) (put_in-some precedes (edit_of p) (in_order (map edit_of ps))) (sym same))
+  where
+    map-some : (es : List Edit) → es ≢ [] → map (trimmed_edit source) es ≡ [] → ⊥
+    map-some [] some e = some refl
+    map-some (d ∷ es) some e = cc
+none-given source (p ∷ ps) (t ∷ ts) same none = absurd (cc)
+
+-- where nothing was given nothing is left
+pub some-given : (source : List ℕ) (ps : List Patch) (ts : List TrimmedPatch) (t : TrimmedPatch) → map trimmed_edit_of ts ≡ trimmed_edits source (map edit_of ps) → slice_get ts 0 ≡ Some t → ps ≢ []
+some-given source [] [] t same some = λ _. cc
+some-given source [] (s ∷ ts) t same some = λ _. cc
+some-given source (p ∷ ps) ts t same some = λ e. cc
+
+-- the first trimmed patch was the first in order
+pub first-given : (ts : List TrimmedPatch) (os : List Edit) (t : TrimmedPatch) → map original_bounds_of ts ≡ map bounds_of os → slice_get ts 0 ≡ Some t → t.original_span.start ≡ first_start os
+first-given [] os t same some = absurd (cc)
+first-given (s ∷ ts) [] t same some = absurd (cc)
+first-given (s ∷ ts) (o ∷ os) t same some =
+    let pair : ◌≡◌ {A = ℕ × ℕ} (original_bounds_of s) (bounds_of o) = cc in
+    let one : s ≡ t = cc in
+    ap (λ u. u.original_span.start) (sym one) ∙ ap (λ p. p.0) pair
+
+-- the text that is shown begins where a character does, and by the start of the first edit
+pub shown_start-border : (fold : Bool) (source : List ℕ) (first : ℕ) → IsUtf8 source → IsCharBoundary source (shown_start fold source first)
+shown_start-border fold source first utf8 =
+    cond_both fold (start_of (source_lines source) (line_of (source_lines source) first)) 0 (IsCharBoundary source) (λ _. IsCharBoundary-start_of source (line_of (source_lines source) first) utf8) (λ _. IsCharBoundary-start source utf8)
+
+pub shown_start-le : (fold : Bool) (source : List ℕ) (first : ℕ) → shown_start fold source first ≤ first
+shown_start-le fold source first =
+    cond_both fold (start_of (source_lines source) (line_of (source_lines source) first)) 0 (λ n. n ≤ first) (λ _. (HoldsByte-source source first).from) (λ _. omega arith)
+
+apart-first : (es : List Edit) → AreApart 0 es → AreApart (first_start es) es
+apart-first [] apart = tt
+apart-first (e ∷ es) apart = (omega arith, apart.1, apart.2)
+
+-- trimmed edits stand apart from where the text that is shown begins
+pub shown-apart : (fold : Bool) (source : List ℕ) (es : List Edit) → AreApart 0 (in_order es) → AreApart (shown_start fold source (first_start (in_order es))) (trimmed_edits source es)
+shown-apart fold source es apart =
+    let first : ℕ = first_start (in_order es) in
+    AreApart-earlier (shown_start fold source first) first (trimmed_edits source es) (shown_start-le fold source first) (trimmed-apart source first (in_order es) (apart-first (in_order es) apart))
+
+-- what is written is the text that is shown
+pub shown-value : (fold : Bool) (source : List ℕ) (es ts : List Edit) (first start end : ℕ) (closed : Bool) (text rest : List ℕ) → ts ≡ trimmed_edits source es → first ≡ first_start (in_order es) → start ≡ shown_start fold source first → text ≡ written source start ts → end ≡ end_from start ts → closed ≡ closes_line ts → rest ≡ shown_rest fold closed (drop (min end (length source)) source) → without_final_line_feeds (text ++ rest) ≡ shown_text fold source es
+unfolding shown_text
+shown-value fold source es ts first start end closed text rest of_ts of_first of_start of_text of_end of_closed of_rest =
+    let ts0 : List Edit = trimmed_edits source es in
+    let s0 : ℕ = shown_start fold source (first_start (in_order es)) in
+    let begin : start ≡ s0 = of_start ∙ ap (shown_start fold source) of_first in
+    let front : text ≡ written source s0 ts0 = of_text ∙ ap (λ n. written source n ts) begin ∙ ap (written source s0) of_ts in
+    let behind : end ≡ end_from s0 ts0 = of_end ∙ ap (λ n. end_from n ts) begin ∙ ap (end_from s0) of_ts in
+    let left : drop (min end (length source)) source ≡ drop (end_from s0 ts0) source = drop_min end source ∙ ap (λ n. drop n source) behind in
+    let back : rest ≡ shown_rest fold (closes_line ts0) (drop (end_from s0 ts0) source) = of_rest ∙ ap (λ b. shown_rest fold b (drop (min end (length source)) source)) (of_closed ∙ ap closes_line of_ts) ∙ ap (shown_rest fold (closes_line ts0)) left in
+    ap (λ t. without_final_line_feeds (t ++ rest)) front ∙ ap (λ t. without_final_line_feeds (written source s0 ts0 ++ t)) back
+
+-- where a patch was given an edit is left
+pub some-trimmed : (ts : List TrimmedPatch) (es : List Edit) (t : TrimmedPatch) → map trimmed_edit_of ts ≡ es → slice_get ts 0 ≡ Some t → es ≢ []
+some-trimmed [] es t same some = absurd (cc)
+some-trimmed (s ∷ ts) [] t same some = absurd (cc)
+some-trimmed (s ∷ ts) (e ∷ es) t same some = λ e. cc

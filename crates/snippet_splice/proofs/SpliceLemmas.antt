@@ -1,0 +1,271 @@
+-- Where no CR is copied and no edit stands behind a final LF, the text that is shown is the spliced text.
+use Rattle.std.proofs.Common.{◌≡◌, ◌≢◌, ℕ, suc, ◌+◌, ◌-◌, ◌<◌, ◌≤◌, ◌⊎◌, inl, inr, Bool, true, false, not, ◌&&◌, eqb, ltb, min, List, [], ◌∷◌, ◌++◌, All, length, take, drop, get_or, refl, sym, ap, subst, ◌∙◌, ⊎_elim, arith, append_assoc}
+use Rattle.std.proofs.lemmas.List.{append-nil, length-append, length-take, length-take-le, length-drop, drop_at, take_all, take_min, drop_min, get_or_past, take-append-drop}
+use Rattle.std.proofs.Math.Seq.{take-append-add}
+use Rattle.std.proofs.lemmas.List.Elements.{All-take, All-drop, All-head, All-tail}
+use Rattle.std.proofs.lemmas.Bool.{cases_Bool, cases_lt, cond-true, cond-false, cond_both, and_right, ne_eqb, eqb-true}
+use Rattle.std.specs.List.{slice_range, before_first, position_or_len}
+use Rattle.snippet_parts.specs.declared.lines.EndLine.{EndLine}
+use Rattle.snippet_parts.specs.declared.lines.EndLine.TheVariants.{Eof, Lf, Crlf}
+use Rattle.snippet_parts.specs.Lines.{Line, lines_of, line_with_byte, with_first_byte, source_lines, start_of, text_at, last_byte, is_lf}
+use Rattle.snippet_parts.specs.Place.{line_of}
+use Rattle.snippet_parts.proofs.PlaceLemmas.{line_of-within, text_at-end}
+use Rattle.snippet_splice.specs.Edits.{Edit, in_order, trimmed_edits, edited_from, patched, AreApart}
+use Rattle.snippet_splice.specs.Copied.{is_inside_line_end, text_end, in_text, with_line_feeds, copied, written, end_from}
+use Rattle.snippet_splice.specs.Shown.{first_start, last_text, closes_line, shown_start, without_final_line_feeds, shown_text}
+use Rattle.snippet_splice.specs.Spliced.{stands_from, stands, last_end, spliced_end, spliced_text, HasNoCr, IsBeforeFinalLf}
+use Rattle.snippet_splice.proofs.EditLemmas.{slice_split, edited_from-earlier, edited_from-trimmed}
+use Rattle.snippet_splice.proofs.WriteLemmas.{with_line_feeds-none}
+use Rattle.snippet_splice.proofs.ShownLemmas.{shown-apart}
+
+-- ---- without CR, bytes are copied as they are
+
+no-cr-at : (source : List ℕ) (i : ℕ) → HasNoCr source → get_or source i 0 ≢ 13
+no-cr-at source i none =
+    ⊎_elim (λ within. none i 0 within) (λ past e. absurd (omega (arith, get_or_past source i 0 past))) (cases_lt i (length source))
+
+in_text-same : (source : List ℕ) (b : ℕ) → HasNoCr source → IsBeforeFinalLf source b → in_text source b ≡ min b (length source)
+in_text-same source b none before =
+    let at : ℕ = min b (text_end source) in
+    let outside : is_inside_line_end source at ≡ false = and_right (ltb 0 at && ltb at (length source) && eqb (get_or source at 0) 10) (eqb (get_or source (at - 1) 0) 13) (ne_eqb (get_or source (at - 1) 0) 13 (no-cr-at source (at - 1) none)) in
+    cond-false (is_inside_line_end source at) (at - 1) at outside ∙ ⊎_elim
+    (λ t. let e : text_end source ≡ length source - 1 = cond-true (eqb (last_byte source) 10) (length source - 1) (length source) t in
+    let short : b < length source = before (eqb-true (last_byte source) 10 t) in omega (arith, e))
+    (λ f. ap (min b) (cond-false (eqb (last_byte source) 10) (length source - 1) (length source) f)) (cases_Bool (eqb (last_byte source) 10))
+
+slice-min : (s : List ℕ) (a b : ℕ) → a ≤ b → slice_range s (min a (length s)) (min b (length s)) ≡ slice_range s a b
+slice-min s a b low =
+    let n : ℕ = length s in
+    ap (take (min b n - min a n)) (drop_min a s) ∙ ⊎_elim
+    (λ inside. let e : min b n - min a n ≡ b - a = omega arith in ap (λ k. take k (drop a s)) e)
+    (λ past. take_all (min b n - min a n) (drop a s) (omega (arith, length-drop a s)) ∙ sym (take_all (b - a) (drop a s) (omega (arith, length-drop a s)))) (cases_lt b n)
+
+pub copied-same : (source : List ℕ) (a b : ℕ) → HasNoCr source → a ≤ b → IsBeforeFinalLf source b → copied source a b ≡ slice_range source a b
+copied-same source a b none low before =
+    let from : in_text source a ≡ min a (length source) = in_text-same source a none (λ e. omega (arith, before e)) in
+    let to : in_text source b ≡ min b (length source) = in_text-same source b none before in
+    let part : slice_range source (in_text source a) (in_text source b) ≡ slice_range source a b = ap (λ n. slice_range source n (in_text source b)) from ∙ ap (slice_range source (min a (length source))) to ∙ slice-min source a b low in
+    let clean : All (λ c. c ≢ 13) (slice_range source a b) = All-take (λ c. c ≢ 13) (b - a) (drop a source) (All-drop (λ c. c ≢ 13) a source none) in
+    ap with_line_feeds part ∙ with_line_feeds-none (slice_range source a b) (λ i within. clean i 0 within)
+
+-- no edit starts behind a final LF
+abbrev pub AreBeforeFinalLf : List ℕ → List Edit → Type 0
+AreBeforeFinalLf source ts = All (λ t. IsBeforeFinalLf source t.start) ts
+
+-- what is written is the patched source up to the last edit
+pub edited_from-written : (source : List ℕ) (at : ℕ) (ts : List Edit) → HasNoCr source → AreBeforeFinalLf source ts → AreApart at ts → edited_from source at ts ≡ written source at ts ++ drop (end_from at ts) source
+edited_from-written source at [] none before apart = refl
+edited_from-written source at (t ∷ ts) none before apart =
+    let here : slice_range source at t.start ≡ copied source at t.start = sym (copied-same source at t.start none apart.0 (All-head (λ t. IsBeforeFinalLf source t.start) t ts before)) in
+    let rest : edited_from source t.end ts ≡ written source t.end ts ++ drop (end_from t.end ts) source = edited_from-written source t.end ts none (All-tail (λ t. IsBeforeFinalLf source t.start) t ts before) apart.2 in
+    let behind : List ℕ = drop (end_from t.end ts) source in
+    ap (λ l. l ++ (t.text ++ edited_from source t.end ts)) here ∙ ap (λ l. copied source at t.start ++ (t.text ++ l)) rest ∙ ap (λ l. copied source at t.start ++ l) (sym (append_assoc t.text (written source t.end ts) behind)) ∙ sym (append_assoc (copied source at t.start) (t.text ++ written source t.end ts) behind)
+
+-- ---- where the last text ends
+
+last_end-written : (source : List ℕ) (at now : ℕ) (ts : List Edit) → HasNoCr source → AreBeforeFinalLf source ts → AreApart at ts → last_end now (stands_from source at now ts) ≡ now + length (written source at ts)
+last_end-written source at now [] none before apart = omega arith
+last_end-written source at now (t ∷ ts) none before apart =
+    let here : slice_range source at t.start ≡ copied source at t.start = sym (copied-same source at t.start none apart.0 (All-head (λ t. IsBeforeFinalLf source t.start) t ts before)) in
+    let from : ℕ = now + length (slice_range source at t.start) in
+    last_end-written source t.end (from + length t.text) ts none (All-tail (λ t. IsBeforeFinalLf source t.start) t ts before) apart.2 ∙ omega (arith, ap length here, length-append (copied source at t.start) (t.text ++ written source t.end ts), length-append t.text (written source t.end ts))
+
+-- texts stand where they do when the source before them is given first
+pub stands_from-earlier : (source : List ℕ) (a b now : ℕ) (t : Edit) (ts : List Edit) → a ≤ b → b ≤ t.start → stands_from source a now (t ∷ ts) ≡ stands_from source b (now + length (slice_range source a b)) (t ∷ ts)
+stands_from-earlier source a b now t ts low high =
+    let n : length (slice_range source a t.start) ≡ length (slice_range source a b) + length (slice_range source b t.start) = ap length (slice_split source a b t.start low high) ∙ length-append (slice_range source a b) (slice_range source b t.start) in
+    let e : now + length (slice_range source a t.start) ≡ now + length (slice_range source a b) + length (slice_range source b t.start) = omega (arith, n) in
+    ap (λ k. record { from = k; to = k + length t.text } ∷ stands_from source t.end (k + length t.text) ts) e
+
+-- ---- the first line of a text
+
+prefix-first : (b : ℕ) (bs : List ℕ) → is_lf b ≡ false → before_first is_lf (b ∷ bs) ≡ b ∷ before_first is_lf bs
+prefix-first b bs no_lf = ap (λ n. take n (b ∷ bs)) (step b bs no_lf)
+  where
+    step : (b : ℕ) (bs : List ℕ) → is_lf b ≡ false → position_or_len is_lf (b ∷ bs) ≡ suc (position_or_len is_lf bs)
+    step b bs no_lf = cond-true (not (is_lf b)) (1 + position_or_len is_lf bs) 0 (ap not no_lf) ∙ omega arith
+
+prefix-none : (b : ℕ) (bs : List ℕ) → is_lf b ≡ true → before_first is_lf (b ∷ bs) ≡ []
+prefix-none b bs lf =
+    ap (λ n. take n (b ∷ bs)) (cond-false (not (is_lf b)) (1 + position_or_len is_lf bs) 0 (ap not lf))
+
+pub line_with_byte-other : (b : ℕ) (text : List ℕ) (ending : EndLine) → b ≢ 13 → (line_with_byte b text ending).0 ≡ b ∷ text
+line_with_byte-other b [] Eof other = refl
+line_with_byte-other b [] Lf other =
+    ap (λ (l : Line). l.0) (cond-false {A = Line} (eqb b 13) ([], Crlf) (b ∷ [], Lf) (ne_eqb b 13 other))
+line_with_byte-other b [] Crlf other = refl
+line_with_byte-other b (c ∷ text) Eof other = refl
+line_with_byte-other b (c ∷ text) Lf other = refl
+line_with_byte-other b (c ∷ text) Crlf other = refl
+
+first-text : (b : ℕ) (ls : List Line) → b ≢ 13 → text_at (with_first_byte b ls) 0 ≡ b ∷ text_at ls 0
+first-text b [] other = refl
+first-text b (l ∷ ls) other = line_with_byte-other b l.0 l.1 other
+
+first-line-of : (xs : List ℕ) → HasNoCr xs → text_at (lines_of xs) 0 ≡ before_first is_lf xs
+first-line-of [] none = refl
+first-line-of (b ∷ bs) none =
+    ⊎_elim (λ t. ap (λ (ls : List Line). text_at ls 0) (cond-true {A = List Line} (eqb b 10) (([], Lf) ∷ lines_of bs) (with_first_byte b (lines_of bs)) t) ∙ sym (prefix-none b bs t))
+    (λ f. ap (λ (ls : List Line). text_at ls 0) (cond-false {A = List Line} (eqb b 10) (([], Lf) ∷ lines_of bs) (with_first_byte b (lines_of bs)) f) ∙ first-text b (lines_of bs) (none 0 0 (omega arith)) ∙ ap (λ l. b ∷ l) (first-line-of bs (All-tail (λ c. c ≢ 13) b bs none)) ∙ sym (prefix-first b bs f)) (cases_Bool (eqb b 10))
+
+pub first-line : (xs : List ℕ) → HasNoCr xs → text_at (source_lines xs) 0 ≡ before_first is_lf xs
+first-line [] none = refl
+first-line (b ∷ bs) none = first-line-of (b ∷ bs) none
+
+-- ---- the part of the patched source that is shown
+
+-- what is behind a part is cut off where a line ends, or the part closes its line
+abbrev pub Stops : List ℕ → Type 0
+Stops rest = (rest ≡ []) ⊎ ((y : List ℕ) × (rest ≡ 10 ∷ y))
+
+-- the part of the patched source that is shown, what stands before it and what stands behind it
+pub record IsShownPart (fold : Bool) (source : List ℕ) (es : List Edit) : Type 0 where
+  pub front : List ℕ
+  pub part : List ℕ
+  pub rest : List ℕ
+  pub whole : patched source es ≡ front ++ (part ++ rest)
+  pub before : front ≡ slice_range source 0 (shown_start fold source (first_start (in_order es)))
+  pub size : length front ≡ shown_start fold source (first_start (in_order es))
+  pub stops : Stops rest ⊎ (last_byte part ≡ 10)
+  pub closes : Stops rest ⊎ (0 < length (last_text (trimmed_edits source es)))
+  pub ends : length front + length (written source (shown_start fold source (first_start (in_order es))) (trimmed_edits source es)) ≤ length front + length part
+  pub text : shown_text fold source es ≡ without_final_line_feeds part
+  pub spliced : spliced_text fold source es ≡ without_final_line_feeds part
+
+start-within : (fold : Bool) (source : List ℕ) (first : ℕ) → shown_start fold source first ≤ length source
+start-within fold source first =
+    cond_both fold (start_of (source_lines source) (line_of (source_lines source) first)) 0 (λ n. n ≤ length source) (λ _. omega (arith, text_at-end source (line_of (source_lines source) first) (line_of-within source first))) (λ _. omega arith)
+
+pub shown-whole : (fold : Bool) (source : List ℕ) (es : List Edit) → HasNoCr source → AreBeforeFinalLf source (trimmed_edits source es) → AreApart 0 (in_order es) → let s = shown_start fold source (first_start (in_order es)) in let ts = trimmed_edits source es in patched source es ≡ slice_range source 0 s ++ (written source s ts ++ drop (end_from s ts) source)
+shown-whole fold source es none before apart =
+    let s : ℕ = shown_start fold source (first_start (in_order es)) in
+    let ts : List Edit = trimmed_edits source es in
+    let behind : AreApart s ts = shown-apart fold source es apart in
+    sym (edited_from-trimmed source 0 (in_order es) apart) ∙ edited_from-earlier source 0 s ts (omega arith) behind ∙ ap (λ l. slice_range source 0 s ++ l) (edited_from-written source s ts none before behind)
+
+pub front-size : (fold : Bool) (source : List ℕ) (first : ℕ) → length (slice_range source 0 (shown_start fold source first)) ≡ shown_start fold source first
+front-size fold source first =
+    let s : ℕ = shown_start fold source first in
+    let e : s - 0 ≡ s = omega arith in
+    ap (λ n. length (take n source)) e ∙ length-take-le s source (start-within fold source first)
+
+-- ---- how the last text ends
+
+pub last_byte-append : (xs ys : List ℕ) → last_byte ys ≡ 10 → last_byte (xs ++ ys) ≡ 10
+last_byte-append xs [] e = absurd (cc)
+last_byte-append [] (y ∷ ys) e = e
+last_byte-append (x ∷ xs) (y ∷ ys) e =
+    let n : length ((x ∷ xs) ++ (y ∷ ys)) - 1 ≡ suc (length (xs ++ (y ∷ ys)) - 1) = omega (arith, length-append xs (y ∷ ys)) in
+    ap (λ k. get_or ((x ∷ xs) ++ (y ∷ ys)) k 0) n ∙ last_byte-append xs (y ∷ ys) e
+
+some-bytes : (xs : List ℕ) → last_byte xs ≡ 10 → 0 < length xs
+some-bytes [] e = absurd (cc)
+some-bytes (x ∷ xs) e = omega arith
+
+last-written : (source : List ℕ) (at : ℕ) (ts : List Edit) → last_byte (last_text ts) ≡ 10 → last_byte (written source at ts) ≡ 10
+last-written source at [] e = absurd (cc)
+last-written source at (t ∷ []) e =
+    last_byte-append (copied source at t.start) (t.text ++ []) (ap last_byte (append-nil t.text) ∙ e)
+last-written source at (t ∷ u ∷ ts) e =
+    last_byte-append (copied source at t.start) (t.text ++ written source t.end (u ∷ ts)) (last_byte-append t.text (written source t.end (u ∷ ts)) (last-written source t.end (u ∷ ts) e))
+
+-- behind the first line of a text stands its LF, or nothing
+first-stops : (xs : List ℕ) → Stops (drop (length (before_first is_lf xs)) xs)
+first-stops [] = inl refl
+first-stops (b ∷ bs) =
+    ⊎_elim (λ t. inr (bs, ap (λ (l : List ℕ). drop (length l) (b ∷ bs)) (prefix-none b bs t) ∙ ap (λ c. c ∷ bs) (eqb-true b 10 t)))
+    (λ f. subst Stops (sym (ap (λ (l : List ℕ). drop (length l) (b ∷ bs)) (prefix-first b bs f))) (first-stops bs)) (cases_Bool (is_lf b))
+
+first-split : (xs : List ℕ) → xs ≡ before_first is_lf xs ++ drop (length (before_first is_lf xs)) xs
+first-split xs =
+    let n : ℕ = position_or_len is_lf xs in
+    let e : drop (length (take n xs)) xs ≡ drop n xs = ap (λ k. drop k xs) (length-take n xs) ∙ drop_min n xs in
+    sym (ap (λ l. take n xs ++ l) e ∙ take-append-drop n xs)
+
+-- ---- the parts
+
+-- where the last text ends
+pub last-end : (source : List ℕ) (s : ℕ) (t : Edit) (ts : List Edit) → HasNoCr source → AreBeforeFinalLf source (t ∷ ts) → AreApart s (t ∷ ts) → length (slice_range source 0 s) ≡ s → last_end 0 (stands source (t ∷ ts)) ≡ s + length (written source s (t ∷ ts))
+last-end source s t ts none before apart size =
+    ap (last_end 0) (stands_from-earlier source 0 s 0 t ts (omega arith) apart.0) ∙ last_end-written source s (0 + length (slice_range source 0 s)) (t ∷ ts) none before apart ∙ omega (arith, size)
+
+cut-part : (f w r : List ℕ) (s n : ℕ) → length f ≡ s → slice_range (f ++ (w ++ r)) s (s + length w + n) ≡ w ++ take n r
+cut-part f w r s n size =
+    let e : s + length w + n - s ≡ length w + n = omega arith in
+    ap (take (s + length w + n - s)) (drop_at f (w ++ r) s size) ∙ ap (λ k. take k (w ++ r)) e ∙ take-append-add w r n
+
+drop-part : (f w r : List ℕ) (s : ℕ) → length f ≡ s → drop (s + length w) (f ++ (w ++ r)) ≡ r
+drop-part f w r s size =
+    ap (drop (s + length w)) (sym (append_assoc f w r)) ∙ drop_at (f ++ w) r (s + length w) (omega (arith, length-append f w, size))
+
+-- without CR in the source, and no edit behind a final LF, the text that is shown is the spliced text
+pub shown-part : (fold : Bool) (source : List ℕ) (es : List Edit) → HasNoCr source → AreBeforeFinalLf source (trimmed_edits source es) → AreApart 0 (in_order es) → trimmed_edits source es ≢ [] → IsShownPart fold source es
+unfolding shown_text spliced_text
+shown-part false source es none before apart some =
+    let ts : List Edit = trimmed_edits source es in
+    let w : List ℕ = written source 0 ts in
+    let r : List ℕ = drop (end_from 0 ts) source in
+    let whole : patched source es ≡ w ++ r = shown-whole false source es none before apart in
+    record {
+      front = [];
+      part = w ++ r;
+      rest = [];
+      whole = whole ∙ sym (append-nil (w ++ r));
+      before = refl;
+      size = refl;
+      stops = inl (inl refl);
+      closes = inl (inl refl);
+      ends = omega (arith, length-append w r);
+      text = refl;
+      spliced = ap without_final_line_feeds whole;
+    }
+shown-part true source es none before apart some =
+    let ts : List Edit = trimmed_edits source es in
+    let s : ℕ = shown_start true source (first_start (in_order es)) in
+    let f : List ℕ = slice_range source 0 s in
+    let w : List ℕ = written source s ts in
+    let r : List ℕ = drop (end_from s ts) source in
+    let behind : AreApart s ts = shown-apart true source es apart in
+    let size : length f ≡ s = front-size true source (first_start (in_order es)) in
+    let whole : patched source es ≡ f ++ (w ++ r) = shown-whole true source es none before apart in
+    let same : edited_from source 0 ts ≡ f ++ (w ++ r) = edited_from-trimmed source 0 (in_order es) apart ∙ whole in
+    let to : last_end 0 (stands source ts) ≡ s + length w = last-of ts some before behind size in
+    let left : drop (last_end 0 (stands source ts)) (edited_from source 0 ts) ≡ r = ap (λ n. drop n (edited_from source 0 ts)) to ∙ ap (drop (s + length w)) same ∙ drop-part f w r s size in
+    ⊎_elim
+    (λ t. let end : spliced_end source ts ≡ s + length w + 0 = cond-true (closes_line ts) (last_end 0 (stands source ts)) (last_end 0 (stands source ts) + length (before_first is_lf (drop (last_end 0 (stands source ts)) (edited_from source 0 ts)))) t ∙ to ∙ omega arith in
+    record {
+      front = f;
+      part = w;
+      rest = r;
+      whole = whole;
+      before = refl;
+      size = size;
+      stops = inr (last-written source s ts (eqb-true (last_byte (last_text ts)) 10 t));
+      closes = inr (some-bytes (last_text ts) (eqb-true (last_byte (last_text ts)) 10 t));
+      ends = omega arith;
+      text = ap (λ l. without_final_line_feeds (w ++ l)) (cond-true (closes_line ts) [] (text_at (source_lines r) 0) t) ∙ ap without_final_line_feeds (append-nil w);
+      spliced = ap without_final_line_feeds (ap (slice_range (patched source es) s) end ∙ ap (λ d. slice_range d s (s + length w + 0)) whole ∙ cut-part f w r s 0 size ∙ append-nil w);
+    })
+    (λ t. let l : List ℕ = before_first is_lf r in
+    let clean : HasNoCr r = All-drop (λ c. c ≢ 13) (end_from s ts) source none in
+    let end : spliced_end source ts ≡ s + length w + length l = cond-false (closes_line ts) (last_end 0 (stands source ts)) (last_end 0 (stands source ts) + length (before_first is_lf (drop (last_end 0 (stands source ts)) (edited_from source 0 ts)))) t ∙ ap (λ n. n + length (before_first is_lf (drop (last_end 0 (stands source ts)) (edited_from source 0 ts)))) to ∙ ap (λ x. s + length w + length (before_first is_lf x)) left in
+    let front_of : take (length l) r ≡ l = ap (λ n. take n r) (length-take (position_or_len is_lf r) r) ∙ take_min (position_or_len is_lf r) r in
+    record {
+      front = f;
+      part = w ++ l;
+      rest = drop (length l) r;
+      whole = whole ∙ ap (λ x. f ++ (w ++ x)) (first-split r) ∙ ap (λ x. f ++ x) (sym (append_assoc w l (drop (length l) r)));
+      before = refl;
+      size = size;
+      stops = inl (first-stops r);
+      closes = inl (first-stops r);
+      ends = omega (arith, length-append w l);
+      text = ap (λ x. without_final_line_feeds (w ++ x)) (cond-false (closes_line ts) [] (text_at (source_lines r) 0) t ∙ first-line r clean);
+      spliced = ap without_final_line_feeds (ap (slice_range (patched source es) s) end ∙ ap (λ d. slice_range d s (s + length w + length l)) whole ∙ cut-part f w r s (length l) size ∙ ap (λ x. w ++ x) front_of);
+    })
+    (cases_Bool (closes_line ts))
+  where
+    last-of : (ts : List Edit) → ts ≢ [] → AreBeforeFinalLf source ts → AreApart (shown_start true source (first_start (in_order es))) ts → length (slice_range source 0 (shown_start true source (first_start (in_order es)))) ≡ shown_start true source (first_start (in_order es)) → last_end 0 (stands source ts) ≡ shown_start true source (first_start (in_order es)) + length (written source (shown_start true source (first_start (in_order es))) ts)
+    last-of [] some before apart size = absurd (some refl)
+    last-of (t ∷ ts) some before apart size =
+        last-end source (shown_start true source (first_start (in_order es))) t ts none before apart size

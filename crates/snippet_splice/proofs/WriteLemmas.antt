@@ -1,0 +1,133 @@
+-- Laws of what is written for edits, and of the end of the text that is shown.
+use Rattle.std.proofs.Common.{◌≡◌, ◌≢◌, ℕ, suc, ◌+◌, ◌-◌, ◌<◌, ◌≤◌, Bool, false, cond, ◌&&◌, eqb, min, List, [], ◌∷◌, ◌++◌, length, map, take, drop, get_or, count_by, refl, sym, ap, subst, ◌∙◌, ⊎_elim, arith, append_assoc, zero-add}
+use Rattle.std.proofs.lemmas.List.{length-append, take_at, take-take, drop_at, get_or_at, length_push}
+use Rattle.std.proofs.lemmas.Str.{IsUtf8-take, IsUtf8-drop, IsCharBoundary-before_ascii, IsCharBoundary-after_ascii}
+use Rattle.std.specs.Str.{IsUtf8}
+use Rattle.std.proofs.lemmas.List.Sums.{sum_by-append, sum_by-cons}
+use Rattle.std.proofs.lemmas.Bool.{cases_Bool, cases_eq, cond-true, cond-false, and_parts, and_left, eqb-true, ne_eqb, cond_both}
+use Rattle.snippet_parts.specs.Lines.{is_lf}
+use Rattle.snippet_parts.specs.Span.{IsSpanBorder}
+use Rattle.snippet_splice.specs.declared.splice.LineRange.{LineRange}
+use Rattle.snippet_splice.specs.declared.patches.TrimmedPatch.{TrimmedPatch}
+use Rattle.snippet_splice.specs.Edits.{Edit, trimmed_edit_of, AreApart}
+use Rattle.snippet_splice.specs.Copied.{is_inside_line_end, text_end, in_text, with_line_feeds, copied, written, written_ranges, end_from}
+use Rattle.snippet_splice.specs.Shown.{last_text, unless_lone_line_feed, without_final_line_feeds}
+
+-- ---- an LF in place of each CR LF
+
+-- up to the first CR a text stays
+pub with_line_feeds-split : (xs ys : List ℕ) → ((i : ℕ) → i < length xs → get_or xs i 0 ≢ 13) → with_line_feeds (xs ++ 13 ∷ ys) ≡ xs ++ cond (eqb (get_or ys 0 0) 10) (with_line_feeds ys) (13 ∷ with_line_feeds ys)
+with_line_feeds-split [] ys none = refl
+with_line_feeds-split (x ∷ xs) ys none =
+    let other : (eqb x 13 && eqb (get_or (xs ++ 13 ∷ ys) 0 0) 10) ≡ false = and_left (eqb x 13) (eqb (get_or (xs ++ 13 ∷ ys) 0 0) 10) (ne_eqb x 13 (none 0 (omega arith))) in
+    cond-false (eqb x 13 && eqb (get_or (xs ++ 13 ∷ ys) 0 0) 10) (with_line_feeds (xs ++ 13 ∷ ys)) (x ∷ with_line_feeds (xs ++ 13 ∷ ys)) other ∙ ap (λ l. x ∷ l) (with_line_feeds-split xs ys (λ i within. none (suc i) (omega arith)))
+
+pub with_line_feeds-none : (xs : List ℕ) → ((i : ℕ) → i < length xs → get_or xs i 0 ≢ 13) → with_line_feeds xs ≡ xs
+with_line_feeds-none [] none = refl
+with_line_feeds-none (x ∷ xs) none =
+    let other : (eqb x 13 && eqb (get_or xs 0 0) 10) ≡ false = and_left (eqb x 13) (eqb (get_or xs 0 0) 10) (ne_eqb x 13 (none 0 (omega arith))) in
+    cond-false (eqb x 13 && eqb (get_or xs 0 0) 10) (with_line_feeds xs) (x ∷ with_line_feeds xs) other ∙ ap (λ l. x ∷ l) (with_line_feeds-none xs (λ i within. none (suc i) (omega arith)))
+
+-- a step of the loop that adds a text: the front up to a CR was added, and the CR where no LF follows
+pub with_line_feeds-step : (old rest front behind more : List ℕ) → rest ≡ front ++ 13 ∷ behind → ((i : ℕ) → i < length front → get_or front i 0 ≢ 13) → more ≡ cond (eqb (get_or behind 0 0) 10) [] (13 ∷ []) → ((old ++ front) ++ more) ++ with_line_feeds behind ≡ old ++ with_line_feeds rest
+with_line_feeds-step old rest front behind more e none added =
+    let t : Bool = eqb (get_or behind 0 0) 10 in
+    let tail : more ++ with_line_feeds behind ≡ cond t (with_line_feeds behind) (13 ∷ with_line_feeds behind) = ⊎_elim
+    (λ yes_it. ap (λ l. l ++ with_line_feeds behind) (added ∙ cond-true t [] (13 ∷ []) yes_it) ∙ sym (cond-true t (with_line_feeds behind) (13 ∷ with_line_feeds behind) yes_it))
+    (λ no_it. ap (λ l. l ++ with_line_feeds behind) (added ∙ cond-false t [] (13 ∷ []) no_it) ∙ sym (cond-false t (with_line_feeds behind) (13 ∷ with_line_feeds behind) no_it)) (cases_Bool t) in
+    append_assoc (old ++ front) more (with_line_feeds behind) ∙ append_assoc old front (more ++ with_line_feeds behind) ∙ ap (λ l. old ++ (front ++ l)) tail ∙ ap (λ l. old ++ l) (sym (ap with_line_feeds e ∙ with_line_feeds-split front behind none))
+
+-- what stands before and behind an ASCII character is text
+pub utf8-behind : (rest front behind : List ℕ) (b : ℕ) → IsUtf8 rest → b < 128 → rest ≡ front ++ b ∷ behind → IsUtf8 behind
+utf8-behind rest front behind b utf8 ascii e =
+    let at : get_or rest (length front) 0 ≡ b = ap (λ l. get_or l (length front) 0) e ∙ get_or_at front b behind 0 (length front) refl in
+    let within : length front < length rest = omega (arith, ap length e, length-append front (b ∷ behind)) in
+    let cut : drop (length front + 1) rest ≡ behind = ap (drop (length front + 1)) (e ∙ sym (append_assoc front (b ∷ []) behind)) ∙ drop_at (front ++ b ∷ []) behind (length front + 1) (length_push front b) in
+    subst IsUtf8 cut (IsUtf8-drop rest (length front + 1) utf8 (IsCharBoundary-after_ascii rest (length front) utf8 within (omega (arith, at))))
+
+pub utf8-front : (rest front behind : List ℕ) (b : ℕ) → IsUtf8 rest → b < 128 → rest ≡ front ++ b ∷ behind → IsUtf8 front
+utf8-front rest front behind b utf8 ascii e =
+    let at : get_or rest (length front) 0 ≡ b = ap (λ l. get_or l (length front) 0) e ∙ get_or_at front b behind 0 (length front) refl in
+    let within : length front < length rest = omega (arith, ap length e, length-append front (b ∷ behind)) in
+    subst IsUtf8 (ap (take (length front)) e ∙ take_at front (b ∷ behind) (length front) refl) (IsUtf8-take rest (length front) utf8 (IsCharBoundary-before_ascii rest (length front) within (omega (arith, at))))
+
+-- it keeps the number of LF
+pub count-with_line_feeds : (xs : List ℕ) → count_by is_lf (with_line_feeds xs) ≡ count_by is_lf xs
+count-with_line_feeds [] = refl
+count-with_line_feeds (x ∷ xs) =
+    let t : Bool = eqb x 13 && eqb (get_or xs 0 0) 10 in
+    let one : ℕ → ℕ = λ b. cond (is_lf b) 1 0 in
+    ⊎_elim
+    (λ yes_it. let cr : x ≡ 13 = eqb-true x 13 (and_parts (eqb x 13) (eqb (get_or xs 0 0) 10) yes_it).0 in
+    let none : one x ≡ 0 = ap one cr in
+    ap (count_by is_lf) (cond-true t (with_line_feeds xs) (x ∷ with_line_feeds xs) yes_it) ∙ count-with_line_feeds xs ∙ sym (sum_by-cons one x xs ∙ ap (λ n. n + count_by is_lf xs) none ∙ zero-add (count_by is_lf xs)))
+    (λ no_it. ap (count_by is_lf) (cond-false t (with_line_feeds xs) (x ∷ with_line_feeds xs) no_it) ∙ sum_by-cons one x (with_line_feeds xs) ∙ ap (λ n. one x + n) (count-with_line_feeds xs) ∙ sym (sum_by-cons one x xs)) (cases_Bool t)
+
+-- ---- places of a text
+
+pub in_text-mono : (source : List ℕ) (a b : ℕ) → a ≤ b → in_text source a ≤ in_text source b
+in_text-mono source a b low =
+    let e : ℕ = text_end source in
+    ⊎_elim (λ same. let eq : in_text source a ≡ in_text source b = ap (λ n. cond (is_inside_line_end source n) (n - 1) n) same in omega (arith, eq))
+    (λ other. omega (arith, high (min a e), low_end (min b e))) (cases_eq (min a e) (min b e))
+  where
+    high : (n : ℕ) → cond (is_inside_line_end source n) (n - 1) n ≤ n
+    high n = cond_both (is_inside_line_end source n) (n - 1) n (λ k. k ≤ n) (λ _. omega arith) (λ _. omega arith)
+
+    low_end : (n : ℕ) → n ≤ cond (is_inside_line_end source n) (n - 1) n + 1
+    low_end n = cond_both (is_inside_line_end source n) (n - 1) n (λ k. n ≤ k + 1) (λ _. omega arith) (λ _. omega arith)
+
+-- ---- what is written
+
+pub record Writes (source : List ℕ) (from : ℕ) (es : List Edit) (out : List ℕ) (ranges : List LineRange) (feeds end : ℕ) (left : List Edit) : Type 0 where
+  pub bytes : out ++ written source end left ≡ written source from es
+  pub lines : ranges ++ written_ranges source feeds end left ≡ written_ranges source 0 from es
+  pub counted : feeds ≡ count_by is_lf out
+  pub apart : AreApart end left
+  pub last : end_from end left ≡ end_from from es
+  pub border : IsSpanBorder source end
+
+pub Writes-more : (source : List ℕ) (from : ℕ) (es : List Edit) (out : List ℕ) (ranges : List LineRange) (feeds end : ℕ) (e : Edit) (left : List Edit) (out2 out3 : List ℕ) (between : ℕ) → Writes source from es out ranges feeds end (e ∷ left) → out2 ≡ out ++ copied source end e.start → between ≡ count_by is_lf (copied source end e.start) → out3 ≡ out2 ++ e.text → IsSpanBorder source e.end → Writes source from es out3 (ranges ++ record { first = feeds + between; last = feeds + between + count_by is_lf e.text } ∷ []) (feeds + between + count_by is_lf e.text) e.end left
+Writes-more source from es out ranges feeds end e left out2 out3 between h one n two border =
+    let c : List ℕ = copied source end e.start in
+    let rest : List ℕ = written source e.end left in
+    let all : out3 ≡ (out ++ c) ++ e.text = two ∙ ap (λ l. l ++ e.text) one in
+    let last : ℕ = feeds + between + count_by is_lf e.text in
+    let r : LineRange = record { first = feeds + between; last = last } in
+    let lines : written_ranges source feeds end (e ∷ left) ≡ r ∷ written_ranges source last e.end left = ap (λ k. record { first = feeds + k; last = feeds + k + count_by is_lf e.text } ∷ written_ranges source (feeds + k + count_by is_lf e.text) e.end left) (sym n) in
+    record {
+      bytes = ap (λ l. l ++ rest) all ∙ append_assoc (out ++ c) e.text rest ∙ append_assoc out c (e.text ++ rest) ∙ h.bytes;
+      lines = append_assoc ranges (r ∷ []) (written_ranges source last e.end left) ∙ ap (λ l. ranges ++ l) (sym lines) ∙ h.lines;
+      counted = sym (ap (count_by is_lf) all ∙ sum_by-append (λ b. cond (is_lf b) 1 0) (out ++ c) e.text ∙ ap (λ k. k + count_by is_lf e.text) (sum_by-append (λ b. cond (is_lf b) 1 0) out c ∙ ap (λ k. count_by is_lf out + k) (sym n) ∙ ap (λ k. k + between) (sym h.counted)));
+      apart = h.apart.2;
+      last = h.last;
+      border = border;
+    }
+
+-- ---- the end of a text
+
+pub last_text-at : (ps : List TrimmedPatch) (d : TrimmedPatch) → 0 < length ps → last_text (map trimmed_edit_of ps) ≡ (get_or ps (length ps - 1) d).replacement.now
+last_text-at [] d some = absurd (omega arith)
+last_text-at (p ∷ []) d some = refl
+last_text-at (p ∷ q ∷ ps) d some =
+    let e : length (p ∷ q ∷ ps) - 1 ≡ suc (length (q ∷ ps) - 1) = omega arith in
+    last_text-at (q ∷ ps) d (omega arith) ∙ ap (λ k. (get_or (p ∷ q ∷ ps) k d).replacement.now) (sym e)
+
+-- an LF behind a text is none of it
+pub without_final-push : (xs : List ℕ) → without_final_line_feeds (xs ++ 10 ∷ []) ≡ without_final_line_feeds xs
+without_final-push [] = refl
+without_final-push (x ∷ xs) = ap (unless_lone_line_feed x) (without_final-push xs)
+
+-- a text that no LF ends stays
+pub without_final-stays : (xs : List ℕ) → ((front : List ℕ) → xs ≢ front ++ 10 ∷ []) → without_final_line_feeds xs ≡ xs
+without_final-stays [] unclosed = refl
+without_final-stays (b ∷ []) unclosed =
+    cond-false (is_lf b) [] (b ∷ []) (ne_eqb b 10 (λ e. unclosed [] (ap (λ c. c ∷ []) e)))
+without_final-stays (b ∷ c ∷ cs) unclosed =
+    ap (unless_lone_line_feed b) (without_final-stays (c ∷ cs) (λ front e. unclosed (b ∷ front) (ap (λ l. b ∷ l) e)))
+
+-- a front of a front is a front
+pub front-shorter : (rest text front : List ℕ) → rest ≡ take (length rest) text → rest ≡ front ++ 10 ∷ [] → front ≡ take (length front) text
+front-shorter rest text front is cut =
+    let short : length front ≤ length rest = omega (arith, ap length cut, length-append front (10 ∷ [])) in
+    sym (ap (take (length front)) cut ∙ take_at front (10 ∷ []) (length front) refl) ∙ ap (take (length front)) is ∙ take-take (length front) (length rest) text short

@@ -1,0 +1,14 @@
+use Rattle.std.proofs.Common.{◌≡◌, ◌++◌, length}
+use denote.Text.{Utf8}
+use denote.Shadow.{shadow}
+use Rattle.std.specs.String.{string_bytes}
+use Rattle.snippet_splice.specs.Copied.{with_line_feeds}
+use Rattle.snippet_splice.proofs.copy.push_with_line_feeds.Given as goal
+
+-- what is left completes what is to be added
+abbrev pub invariant-loop-front : goal.invariant-loop-front
+invariant-loop-front l =
+    shadow (Utf8 l.rest) × (string_bytes l.out ++ with_line_feeds l.rest ≡ string_bytes l.fn.out ++ with_line_feeds l.text)
+
+abbrev pub decreases-loop-front : goal.decreases-loop-front
+decreases-loop-front l = length l.rest

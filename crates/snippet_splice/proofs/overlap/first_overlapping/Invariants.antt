@@ -1,0 +1,9 @@
+use Rattle.std.proofs.Common.{◌≡◌, ◌<◌, ℕ, false, map}
+use Rattle.snippet_splice.specs.Edits.{edit_of}
+use Rattle.snippet_splice.specs.Overlap.{overlap_at}
+use Rattle.snippet_splice.proofs.overlap.first_overlapping.Given as goal
+
+-- no later patch so far overlaps
+abbrev pub invariant-loop-second : goal.invariant-loop-second
+invariant-loop-second l =
+    (k : ℕ) → l.first < k → k < l.second → overlap_at (map edit_of l.patches) l.first k ≡ false

@@ -1,0 +1,9 @@
+use Rattle.std.proofs.Common.{◌<◌, eqb, length, sym, ap, ◌∙◌, arith}
+use Rattle.snippet_parts.specs.Lines.{last_byte}
+use Rattle.snippet_splice.proofs.WriteLemmas.{last_text-at}
+use Rattle.snippet_splice.proofs.splice.closes_line.Goals as goal
+
+pub returns-in-len1-up : goal.returns-in-len1-up
+returns-in-len1-up c =
+    let some : 0 < length c.args.patches.now = omega arith in
+    record { value = c.ends_with_line_feed.ensures.value ∙ ap (λ t. eqb (last_byte t) 10) (sym (last_text-at c.args.patches.now _ some)) }

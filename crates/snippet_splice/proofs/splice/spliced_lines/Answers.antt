@@ -1,0 +1,87 @@
+use Rattle.std.proofs.Common.{◌≡◌, ◌≢◌, ◌+◌, ◌<◌, ◌≤◌, ℕ, List, [], map, drop, min, length, refl, sym, ap, subst, ◌∙◌, inl}
+use Rattle.std.specs.List.{slice_get}
+use Rattle.std.specs.Str.{IsCharBoundary}
+use Rattle.std.specs.String.{string_bytes}
+use Rattle.snippet_parts.specs.Lines.{lines_of, source_lines}
+use Rattle.snippet_splice.specs.Edits.{Edit, edit_of, trimmed_edit_of, trimmed_edits, in_order, patched, AreApart}
+use Rattle.snippet_splice.specs.Copied.{written_ranges}
+use Rattle.snippet_splice.specs.Spliced.{ranges_from, texts_of, AreFrom}
+use Rattle.snippet_splice.specs.Shown.{first_start, shown_line, shown_start, shown_rest, closes_line}
+use Rattle.snippet_splice.proofs.OverlapLemmas.{apart-in_order, ordered-spans}
+use Rattle.snippet_splice.proofs.ShownLemmas.{none-given, first-given, shown_start-border, shown-apart, shown-value, some-trimmed}
+use Rattle.snippet_splice.proofs.SpliceLemmas.{IsShownPart, shown-part}
+use Rattle.snippet_splice.proofs.LineLemmas.{shown-lines}
+use Rattle.snippet_splice.proofs.TouchLemmas.{shown-touched}
+use Rattle.snippet_splice.proofs.RangeLemmas.{written-ranges}
+use Rattle.snippet_splice.proofs.splice.spliced_lines.Goals as goal
+
+pub returns-in_default-clause-none : goal.returns-in_default-clause-none
+returns-in_default-clause-none c =
+    (λ _. none-given c.args.source.now c.args.patches.now c.in_ok-patches.patches.items c.in_ok-patches.ensures.edits (sym (c.in_default.ensures.value ∙ ap (λ l. slice_get l 0) c.deref.ensures.value)), λ _. refl)
+
+pub write_patches-requires-clause-from : goal.write_patches-requires-clause-from
+write_patches-requires-clause-from c =
+    inl (subst (IsCharBoundary c.args.source.now) (sym c.shown_start-start.ensures.value) (shown_start-border c.args.fold c.args.source.now c.in-Some.first.now.original_span.start c.utf8.source))
+
+first_is : (c : goal.After-deref-2) → c.in-Some.first.now.original_span.start ≡ first_start (in_order (map edit_of c.args.patches.now))
+first_is c =
+    first-given c.in_ok-patches.patches.items (in_order (map edit_of c.args.patches.now)) c.in-Some.first.now c.in_ok-patches.ensures.originals (sym (c.in-Some.ensures.value ∙ ap (λ l. slice_get l 0) c.deref.ensures.value))
+
+pub write_patches-requires-clause-apart : goal.write_patches-requires-clause-apart
+write_patches-requires-clause-apart c =
+    let source : List ℕ = c.args.source.now in
+    let es : List Edit = map edit_of c.args.patches.now in
+    let apart : AreApart (shown_start c.args.fold source (first_start (in_order es))) (trimmed_edits source es) = shown-apart c.args.fold source es (apart-in_order es (ordered-spans source c.args.patches.now c.requires.spans) c.requires.disjoint) in
+    let begin : c.shown_start-start.result ≡ shown_start c.args.fold source (first_start (in_order es)) = c.shown_start-start.ensures.value ∙ ap (shown_start c.args.fold source) (first_is c) in
+    let edits : map trimmed_edit_of c.deref-2.result.now ≡ trimmed_edits source es = ap (map trimmed_edit_of) c.deref-2.ensures.value ∙ c.in_ok-patches.ensures.edits in
+    subst (λ n. AreApart n (map trimmed_edit_of c.deref-2.result.now)) (sym begin) (subst (AreApart (shown_start c.args.fold source (first_start (in_order es)))) (sym edits) apart)
+
+pub returns-clause-value : goal.returns-clause-value
+returns-clause-value c =
+    let source : List ℕ = c.args.source.now in
+    let es : List Edit = map edit_of c.args.patches.now in
+    let edits : map trimmed_edit_of c.deref-2.result.now ≡ trimmed_edits source es = ap (map trimmed_edit_of) c.deref-2.ensures.value ∙ c.in_ok-patches.ensures.edits in
+    let first : c.in-Some.first.now.original_span.start ≡ first_start (in_order es) = first-given c.in_ok-patches.patches.items (in_order es) c.in-Some.first.now c.in_ok-patches.ensures.originals (sym (c.in-Some.ensures.value ∙ ap (λ l. slice_get l 0) c.deref.ensures.value)) in
+    let same : map trimmed_edit_of c.deref-3.result.now ≡ map trimmed_edit_of c.deref-2.result.now = ap (map trimmed_edit_of) (c.deref-3.ensures.value ∙ sym c.deref-2.ensures.value) in
+    let closed : c.closes_line.result ≡ closes_line (map trimmed_edit_of c.deref-2.result.now) = c.closes_line.ensures.value ∙ ap closes_line same in
+    let rest : c.shown_rest-rest.result.now ≡ shown_rest c.args.fold c.closes_line.result (drop (min c.in_ok-written.written.end (length source)) source) = c.shown_rest-rest.ensures.value ∙ ap (shown_rest c.args.fold c.closes_line.result) (c.range_from-behind.ensures.value ∙ ap (λ n. drop n source) c.min.ensures) in
+    c.in_ok-complete.ensures.value ∙ shown-value c.args.fold source es (map trimmed_edit_of c.deref-2.result.now) c.in-Some.first.now.original_span.start c.shown_start-start.result c.in_ok-written.written.end c.closes_line.result (string_bytes c.in_ok-written.written.text) c.shown_rest-rest.result.now edits first c.shown_start-start.ensures.value c.in_ok-written.ensures.text c.in_ok-written.ensures.end closed rest
+
+pub returns-clause-text : goal.returns-clause-text
+returns-clause-text c = λ none before.
+    let source : List ℕ = c.args.source.now in
+    let es : List Edit = map edit_of c.args.patches.now in
+    let some : trimmed_edits source es ≢ [] = some-trimmed c.in_ok-patches.patches.items (trimmed_edits source es) c.in-Some.first.now c.in_ok-patches.ensures.edits (sym (c.in-Some.ensures.value ∙ ap (λ l. slice_get l 0) c.deref.ensures.value)) in
+    let part : IsShownPart c.args.fold source es = shown-part c.args.fold source es none before (apart-in_order es (ordered-spans source c.args.patches.now c.requires.spans) c.requires.disjoint) some in
+    returns-clause-value c ∙ part.text ∙ sym part.spliced
+
+pub returns-clause-ranges : goal.returns-clause-ranges
+returns-clause-ranges c = λ none before.
+    let source : List ℕ = c.args.source.now in
+    let es : List Edit = map edit_of c.args.patches.now in
+    let edits : map trimmed_edit_of c.deref-2.result.now ≡ trimmed_edits source es = ap (map trimmed_edit_of) c.deref-2.ensures.value ∙ c.in_ok-patches.ensures.edits in
+    let first : c.in-Some.first.now.original_span.start ≡ first_start (in_order es) = first-given c.in_ok-patches.patches.items (in_order es) c.in-Some.first.now c.in_ok-patches.ensures.originals (sym (c.in-Some.ensures.value ∙ ap (λ l. slice_get l 0) c.deref.ensures.value)) in
+    let begin : c.shown_start-start.result ≡ shown_start c.args.fold source (first_start (in_order es)) = c.shown_start-start.ensures.value ∙ ap (shown_start c.args.fold source) first in
+    let ranges : c.in_ok-written.written.ranges.items ≡ written_ranges source 0 (shown_start c.args.fold source (first_start (in_order es))) (trimmed_edits source es) = c.in_ok-written.ensures.ranges ∙ ap (λ n. written_ranges source 0 n (map trimmed_edit_of c.deref-2.result.now)) begin ∙ ap (written_ranges source 0 (shown_start c.args.fold source (first_start (in_order es)))) edits in
+    ap (ranges_from (shown_line c.args.fold source es)) ranges ∙ written-ranges c.args.fold source es none before (apart-in_order es (ordered-spans source c.args.patches.now c.requires.spans) c.requires.disjoint)
+
+pub returns-clause-lines : goal.returns-clause-lines
+returns-clause-lines c = λ none texts_none before.
+    let source : List ℕ = c.args.source.now in
+    let es : List Edit = map edit_of c.args.patches.now in
+    let some : trimmed_edits source es ≢ [] = some-trimmed c.in_ok-patches.patches.items (trimmed_edits source es) c.in-Some.first.now c.in_ok-patches.ensures.edits (sym (c.in-Some.ensures.value ∙ ap (λ l. slice_get l 0) c.deref.ensures.value)) in
+    let part : IsShownPart c.args.fold source es = shown-part c.args.fold source es none before (apart-in_order es (ordered-spans source c.args.patches.now c.requires.spans) c.requires.disjoint) some in
+    subst (λ t. AreFrom (shown_line c.args.fold source es) (texts_of (lines_of t)) (texts_of (source_lines (patched source es)))) (sym (returns-clause-value c ∙ part.text)) (shown-lines c.args.fold source es none texts_none part)
+
+pub returns-clause-touched : goal.returns-clause-touched
+returns-clause-touched c = λ none before j touched filled.
+    let source : List ℕ = c.args.source.now in
+    let es : List Edit = map edit_of c.args.patches.now in
+    let apart : AreApart 0 (in_order es) = apart-in_order es (ordered-spans source c.args.patches.now c.requires.spans) c.requires.disjoint in
+    let some : trimmed_edits source es ≢ [] = some-trimmed c.in_ok-patches.patches.items (trimmed_edits source es) c.in-Some.first.now c.in_ok-patches.ensures.edits (sym (c.in-Some.ensures.value ∙ ap (λ l. slice_get l 0) c.deref.ensures.value)) in
+    let part : IsShownPart c.args.fold source es = shown-part c.args.fold source es none before apart some in
+    subst (λ t. (shown_line c.args.fold source es ≤ j) × (j < shown_line c.args.fold source es + length (lines_of t))) (sym (returns-clause-value c ∙ part.text)) (shown-touched c.args.fold source es none before apart part j touched filled)
+
+pub returns-clause-law : goal.returns-clause-law
+returns-clause-law c =
+    c.in_ok-patches.ensures.law (apart-in_order (map edit_of c.args.patches.now) (ordered-spans c.args.source.now c.args.patches.now c.requires.spans) c.requires.disjoint)

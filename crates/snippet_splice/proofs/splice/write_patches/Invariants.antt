@@ -1,0 +1,10 @@
+use Rattle.std.proofs.Common.{drop, map}
+use Rattle.std.specs.String.{string_bytes}
+use Rattle.snippet_splice.specs.Edits.{trimmed_edit_of}
+use Rattle.snippet_splice.proofs.WriteLemmas.{Writes}
+use Rattle.snippet_splice.proofs.splice.write_patches.Given as goal
+
+-- what is left completes what is to be written
+abbrev pub invariant-loop-patch : goal.invariant-loop-patch
+invariant-loop-patch l =
+    Writes l.source l.from (map trimmed_edit_of l.patches) (string_bytes l.text) l.ranges.items l.feeds l.end (map trimmed_edit_of (drop l.patch-index l.patches))

@@ -1,0 +1,6 @@
+pub mod Copied
+pub mod Edits
+pub mod Overlap
+pub mod Shown
+pub mod Spliced
+pub mod Trim

@@ -1,0 +1,50 @@
+-- The text that is shown of the patched source, as it is written.
+use Rattle.std.specs.Prelude.{ℕ, ◌==◌, Bool, List, [], ◌∷◌, ◌++◌, drop, if◌then◌else◌}
+use Rattle.snippet_parts.specs.Lines.{source_lines, start_of, text_at, last_byte, is_lf}
+use Rattle.snippet_parts.specs.Place.{line_of}
+use Rattle.snippet_splice.specs.Edits.{Edit, in_order, trimmed_edits}
+use Rattle.snippet_splice.specs.Copied.{written, end_from}
+
+-- where the first of some edits starts
+abbrev pub first_start : List Edit → ℕ
+first_start [] = 0
+first_start (e ∷ es) = e.start
+
+-- the text of the last of some edits
+abbrev pub last_text : List Edit → List ℕ
+last_text [] = []
+last_text (e ∷ []) = e.text
+last_text (e ∷ d ∷ es) = last_text (d ∷ es)
+
+-- whether the last of some edits closes its line: its text ends with LF
+abbrev pub closes_line : List Edit → Bool
+closes_line es = last_byte (last_text es) == 10
+
+-- the line of the source, from 0, from which on the patched source is shown: folded the one on which the first edit
+-- starts; and the byte at which that line starts
+abbrev pub shown_line : Bool → List ℕ → List Edit → ℕ
+shown_line fold source es = if fold then line_of (source_lines source) (first_start (in_order es)) else 0
+
+abbrev pub shown_start : Bool → List ℕ → ℕ → ℕ
+shown_start fold source first =
+    if fold then start_of (source_lines source) (line_of (source_lines source) first) else 0
+
+-- what is shown of the source behind the last edit: folded the rest of its line, if the edit doesn't close it
+abbrev pub shown_rest : Bool → Bool → List ℕ → List ℕ
+shown_rest fold closed rest = if fold then (if closed then [] else text_at (source_lines rest) 0) else rest
+
+-- a text without the LF that end it
+abbrev pub unless_lone_line_feed : ℕ → List ℕ → List ℕ
+unless_lone_line_feed b [] = if is_lf b then [] else b ∷ []
+unless_lone_line_feed b (c ∷ cs) = b ∷ c ∷ cs
+
+abbrev pub without_final_line_feeds : List ℕ → List ℕ
+without_final_line_feeds [] = []
+without_final_line_feeds (b ∷ bs) = unless_lone_line_feed b (without_final_line_feeds bs)
+
+-- the text that is shown
+unfoldable pub shown_text : Bool → List ℕ → List Edit → List ℕ
+shown_text fold source es =
+    let ts = trimmed_edits source es in
+    let start = shown_start fold source (first_start (in_order es)) in
+    without_final_line_feeds (written source start ts ++ shown_rest fold (closes_line ts) (drop (end_from start ts) source))

@@ -1,0 +1,78 @@
+//! How source is copied beside patches: by the text of its lines, with a line feed for each line end.
+ghost use Rattle.std.specs.Prelude.{◌≡◌, ◌<◌, ◌≤◌, ◌++◌, IfOk, length, count_by, true};
+ghost use Rattle.std.specs.String.{string_bytes};
+ghost use Rattle.std.specs.Str.{IsCharBoundary};
+ghost use Rattle.snippet_parts.specs.Lines.{is_lf};
+ghost use Rattle.snippet_parts.specs.Span.{IsSpanBorder};
+ghost use Rattle.snippet_splice.specs.Copied.{is_inside_line_end, text_end, in_text, with_line_feeds, copied};
+
+use snippet_parts::line_feed_count;
+use std::alloc::AllocError;
+
+/// Adds what stands from one byte of a source to another, with a line feed for each line end, and counts the line feeds.
+///
+/// A byte inside a line end counts as one before it, and one behind a final line end too.
+pub(crate) fn push_copied(
+    out: &mut String,
+    source: &str,
+    from: usize,
+    to: usize,
+) -> Result<usize, AllocError>
+    requires from { IsSpanBorder source.now from }
+    requires to { IsSpanBorder source.now to }
+    requires ordered { from ≤ to }
+    ensures written { IfOk result (λ _. string_bytes out.new ≡ string_bytes out.old ++ copied source.now from to) }
+    ensures feeds { IfOk result (λ n. n ≡ count_by is_lf (copied source.now from to)) }
+{
+    let between = &source[text_place(source, from)..text_place(source, to)];
+    push_with_line_feeds(out, between)?;
+    Ok(line_feed_count(between))
+}
+
+/// A byte of a source, moved out of the line end that it stands in, or that it stands behind at the source's end.
+pub(crate) fn text_place(source: &str, byte: usize) -> usize
+    ensures value { result ≡ in_text source.now byte }
+    ensures border { IsSpanBorder source.now byte → IsCharBoundary source.now result }
+{
+    let bytes = source.as_bytes();
+    let at = byte.min(text_end(bytes));
+    if is_inside_line_end(bytes, at) {
+        at - 1
+    } else {
+        at
+    }
+}
+
+/// The end of a source, before a line feed that ends it.
+fn text_end(bytes: &[u8]) -> usize
+    ensures value { result ≡ text_end bytes.now }
+{
+    match bytes {
+        [.., b'\n'] => bytes.len() - 1,
+        _ => bytes.len(),
+    }
+}
+
+/// Whether a byte stands between the carriage return and the line feed of a line end.
+fn is_inside_line_end(bytes: &[u8], at: usize) -> bool
+    ensures value { result ≡ is_inside_line_end bytes.now at }
+    ensures behind { result ≡ true → 0 < at }
+{
+    0 < at && at < bytes.len() && bytes[at] == b'\n' && bytes[at - 1] == b'\r'
+}
+
+/// Adds a text with a line feed in place of each carriage return and line feed.
+fn push_with_line_feeds(out: &mut String, text: &str) -> Result<(), AllocError>
+    ensures written { IfOk result (λ _. string_bytes out.new ≡ string_bytes out.old ++ with_line_feeds text.now) }
+{
+    let mut rest = text;
+    while let Some((front, behind)) = rest.split_once('\r') {
+        out.push_str(front)?;
+        if !behind.starts_with('\n') {
+            out.push('\r')?;
+        }
+        rest = behind;
+    }
+    out.push_str(rest)?;
+    Ok(())
+}

@@ -1,0 +1,249 @@
+//! The part of a source that is shown with patches applied.
+ghost use Rattle.std.specs.Prelude.{◌≡◌, ◌≢◌, ◌↔◌, ◌==◌, ℕ, ◌+◌, ◌<◌, ◌≤◌, [], ◌++◌, map, All, IfOk, IfSome, IsNone, length, take};
+ghost use Rattle.std.specs.String.{string_bytes};
+ghost use Rattle.snippet_parts.specs.Lines.{lines_of, source_lines, text_at, last_byte};
+ghost use Rattle.snippet_parts.specs.Span.{IsSpan, IsSpanBorder};
+ghost use Rattle.snippet_splice.specs.Edits.{edit_of, in_order, bounds_of, original_bounds_of, edited_from, patched, trimmed_edit_of, trimmed_edits, AreApart};
+ghost use Rattle.snippet_splice.specs.Overlap.{AreDisjoint};
+ghost use Rattle.snippet_splice.specs.Copied.{written, written_ranges, end_from};
+ghost use Rattle.snippet_splice.specs.Spliced.{HasNoCr, IsBeforeFinalLf, IsTouched, texts_of, AreFrom, spliced_text, line_ranges, ranges_from};
+ghost use Rattle.snippet_splice.specs.Shown.{closes_line, shown_line, shown_start, shown_rest, without_final_line_feeds, shown_text};
+
+use crate::copy::{push_copied, text_place};
+use crate::patches::{TrimmedPatch, trimmed_patches};
+use crate::stretches::{SubstitutionHighlight, new_stretches, patch_places, replaced_stretches};
+use snippet_model::Patch;
+use snippet_parts::line_bounds::line_bounds;
+use snippet_parts::{CursorLines, line_feed_count, newline_count};
+use std::alloc::{AllocError, Global};
+
+/// Lines of a text, from the first to the last, both counted.
+#[derive(Clone, Copy, Debug, PartialEq, Eq)]
+pub struct LineRange {
+    /// The first of them, counted from 0.
+    pub first: usize,
+    /// The last of them.
+    pub last: usize,
+}
+
+/// The part of a source that is shown with patches applied.
+#[derive(Debug, Drop)]
+pub struct SplicedLines<'a> {
+    /// Its text, without the line feeds that end it.
+    pub complete: String,
+    /// The trimmed patches, in the order of the untrimmed ones: by start, then end, else as given.
+    pub patches: Vec<TrimmedPatch<'a>>,
+    /// For each of them the lines of the text on which its replacement stands, counted from 0.
+    pub ranges: Vec<LineRange>,
+    /// By lines of the text the stretches that the replacements write anew.
+    pub highlights: Vec<Vec<SubstitutionHighlight>>,
+    /// By lines of the source, from the first that is shown on, the stretches that are replaced.
+    pub replaced_highlights: Vec<Vec<SubstitutionHighlight>>,
+}
+
+/// The part of a source that is shown with these patches applied; `None` exactly where there are none.
+///
+/// Folded it goes from the line on which the first patch starts to the end of the line on which the last one ends, or
+/// to the end of the last trimmed replacement, if that ends with a line feed. Unfolded it is the whole patched source.
+/// Line ends that are copied before the last patch are written as line feeds. The one error is want of memory.
+pub fn spliced_lines<'a>(
+    alloc: Global,
+    source: &str,
+    patches: &'a [Patch<'_>],
+    fold: bool,
+) -> Result<Option<SplicedLines<'a>>, AllocError>
+    requires spans { All (λ p. IsSpan source.now p.span.start p.span.end) patches.now }
+    requires disjoint { AreDisjoint (map edit_of patches.now) }
+    ensures none { IfOk result (λ t. IsNone t ↔ (patches.now ≡ [])) }
+    ensures edits { IfOk result (λ t. IfSome t
+        (λ s. map trimmed_edit_of s.patches.items ≡ trimmed_edits source.now (map edit_of patches.now))) }
+    ensures originals { IfOk result (λ t. IfSome t (λ s.
+        map original_bounds_of s.patches.items ≡ map bounds_of (in_order (map edit_of patches.now)))) }
+    ensures spans { IfOk result (λ t. IfSome t
+        (λ s. All (λ p. IsSpan source.now p.span.start p.span.end) s.patches.items)) }
+    // The trimmed patches, applied as they stand, give the patched source.
+    ensures law { let es = map edit_of patches.now in IfOk result (λ t. IfSome t (λ s.
+        edited_from source.now 0 (map trimmed_edit_of s.patches.items) ≡ patched source.now es)) }
+    // The text, also of sources with carriage returns.
+    ensures value { IfOk result (λ t. IfSome t
+        (λ s. string_bytes s.complete ≡ shown_text fold source.now (map edit_of patches.now))) }
+    // Without carriage returns in the source, and where no trimmed patch starts behind a final line feed.
+    ensures text { let es = map edit_of patches.now in
+        HasNoCr source.now → All (λ e. IsBeforeFinalLf source.now e.start) (trimmed_edits source.now es)
+        → IfOk result (λ t. IfSome t (λ s. string_bytes s.complete ≡ spliced_text fold source.now es)) }
+    ensures ranges { let es = map edit_of patches.now in
+        HasNoCr source.now → All (λ e. IsBeforeFinalLf source.now e.start) (trimmed_edits source.now es)
+        → IfOk result (λ t. IfSome t (λ s.
+        ranges_from (shown_line fold source.now es) s.ranges.items ≡ line_ranges source.now es)) }
+    // Its lines are lines of the patched source, one behind the other from the first that is shown on.
+    ensures lines { let es = map edit_of patches.now in
+        HasNoCr source.now → All (λ e. HasNoCr e.text) es
+        → All (λ e. IsBeforeFinalLf source.now e.start) (trimmed_edits source.now es)
+        → IfOk result (λ t. IfSome t (λ s. AreFrom (shown_line fold source.now es)
+        (texts_of (lines_of (string_bytes s.complete))) (texts_of (source_lines (patched source.now es))))) }
+    // Each line of the patched source that an edit touches is among them, if it isn't empty.
+    ensures touched { let es = map edit_of patches.now in
+        HasNoCr source.now → All (λ e. IsBeforeFinalLf source.now e.start) (trimmed_edits source.now es)
+        → IfOk result (λ t. IfSome t (λ s. (j : ℕ) → IsTouched source.now es j
+        → text_at (source_lines (patched source.now es)) j ≢ []
+        → (shown_line fold source.now es ≤ j)
+        × (j < shown_line fold source.now es + length (lines_of (string_bytes s.complete))))) }
+{
+    let patches = trimmed_patches(alloc, source, patches)?;
+    let Some(first) = patches.first() else {
+        return Ok(None);
+    };
+    let start = shown_start(source, first.original_span.start, fold);
+    let written = write_patches(alloc, source, start, &patches)?;
+    let behind = &source[written.end.min(source.len())..];
+    let rest = shown_rest(behind, fold, closes_line(&patches));
+    let complete = shown_text(written.text, rest)?;
+    let places = patch_places(alloc, source, start, &patches)?;
+    let more = if fold { 0 } else { line_feed_count(behind) };
+    let lines = source_lines_shown(source, start, &patches, fold);
+    let highlights = new_stretches(alloc, &patches, &places, more)?;
+    let replaced_highlights = replaced_stretches(alloc, source, &patches, &places, lines)?;
+    Ok(Some(SplicedLines {
+        complete,
+        patches,
+        ranges: written.ranges,
+        highlights,
+        replaced_highlights,
+    }))
+}
+
+/// How many lines of the source the shown part replaces: folded from the byte `start` to the greatest end of a patch as
+/// it was given, unfolded all.
+fn source_lines_shown(
+    source: &str,
+    start: usize,
+    patches: &[TrimmedPatch<'_>],
+    fold: bool,
+) -> usize {
+    if !fold {
+        return newline_count(source).saturating_add(1);
+    }
+    let mut end = start;
+    for patch in patches {
+        end = end.max(patch.original_span.end);
+    }
+    let text = source.get(start..text_place(source, end)).unwrap_or("");
+    line_feed_count(text).saturating_add(1)
+}
+
+/// The byte from which on the patched source is shown, if the first patch starts at `first`.
+fn shown_start(source: &str, first: usize, fold: bool) -> usize
+    ensures value { result ≡ shown_start fold source.now first }
+{
+    if fold {
+        line_bounds(source, first).start
+    } else {
+        0
+    }
+}
+
+/// Whether the last of some patches closes its line: its replacement ends with a line feed.
+fn closes_line(patches: &[TrimmedPatch<'_>]) -> bool
+    ensures value { result ≡ closes_line (map trimmed_edit_of patches.now) }
+{
+    match patches {
+        [.., last] => ends_with_line_feed(last.replacement),
+        [] => false,
+    }
+}
+
+/// Whether a line feed ends a text.
+fn ends_with_line_feed(text: &str) -> bool
+    ensures value { result ≡ (last_byte text.now == 10) }
+{
+    text.ends_with('\n')
+}
+
+/// What is shown of the source behind the last patch.
+fn shown_rest(rest: &str, fold: bool, closed: bool) -> &str
+    ensures value { result.now ≡ shown_rest fold closed rest.now }
+{
+    if !fold {
+        return rest;
+    }
+    if closed {
+        return "";
+    }
+    first_line(rest)
+}
+
+/// The text of the first line of a text.
+fn first_line(text: &str) -> &str
+    ensures value { result.now ≡ text_at (source_lines text.now) 0 }
+{
+    match CursorLines::new(text).next() {
+        Some((line, _)) => line,
+        None => "",
+    }
+}
+
+/// What was written with the rest behind it, without the line feeds that end it.
+fn shown_text(front: String, rest: &str) -> Result<String, AllocError>
+    ensures value { IfOk result
+        (λ t. string_bytes t ≡ without_final_line_feeds (string_bytes front ++ rest.now)) }
+{
+    let mut text = front;
+    text.push_str(rest)?;
+    let kept = without_final_line_feeds(text.as_str()).len();
+    text.truncate(kept);
+    Ok(text)
+}
+
+/// A text without the line feeds that end it.
+fn without_final_line_feeds(text: &str) -> &str
+    ensures value { result.now ≡ without_final_line_feeds text.now }
+    ensures front { result.now ≡ take (length result.now) text.now }
+{
+    let mut rest = text;
+    while let Some(front) = rest.strip_suffix('\n') {
+        rest = front;
+    }
+    rest
+}
+
+/// What is written for patches, from a byte of the source on.
+#[derive(Drop)]
+struct Written {
+    text: String,
+    /// For each patch the lines of the text on which its replacement stands.
+    ranges: Vec<LineRange>,
+    /// The byte of the source behind the last patch.
+    end: usize,
+}
+
+/// Writes the source from a byte on with these patches applied, up to the last of them.
+fn write_patches(
+    alloc: Global,
+    source: &str,
+    from: usize,
+    patches: &[TrimmedPatch<'_>],
+) -> Result<Written, AllocError>
+    requires from { IsSpanBorder source.now from }
+    requires spans { All (λ t. IsSpan source.now t.span.start t.span.end) patches.now }
+    requires apart { AreApart from (map trimmed_edit_of patches.now) }
+    ensures text { IfOk result
+        (λ w. string_bytes w.text ≡ written source.now from (map trimmed_edit_of patches.now)) }
+    ensures ranges { IfOk result
+        (λ w. w.ranges.items ≡ written_ranges source.now 0 from (map trimmed_edit_of patches.now)) }
+    ensures end { IfOk result (λ w. w.end ≡ end_from from (map trimmed_edit_of patches.now)) }
+    ensures border { IfOk result (λ w. IsSpanBorder source.now w.end) }
+{
+    let mut text = String::new(alloc);
+    let mut ranges = Vec::new(alloc);
+    let mut feeds = 0;
+    let mut end = from;
+    for patch in patches {
+        let between = push_copied(&mut text, source, end, patch.span.start)?;
+        text.push_str(patch.replacement)?;
+        let first = feeds + between;
+        feeds = first + line_feed_count(patch.replacement);
+        ranges.push(LineRange { first, last: feeds })?;
+        end = patch.span.end;
+    }
+    Ok(Written { text, ranges, end })
+}
