@@ -4,13 +4,15 @@
 //! or below the last row, makes the row longer and adds rows, as far as needed and no farther.
 
 ghost use Rattle.std.specs.Prelude.{◌≡◌, ℕ, true, ◌+◌, ◌-◌, ◌^◌, ◌<◌, ◌≤◌, List, [], ◌∷◌, ◌++◌, length, replicate, IfOk, OnOk, OnErr, IsOk, vec_len, string_bytes, encode_utf8_all};
-ghost use Rattle.snippet_style.specs.Grid.{SPACE, drawn, written, row_at, cells_written, WritesCells, cells_restyled, RestylesCells, cells_linked, LinksCells};
+ghost use Rattle.snippet_style.specs.Grid.{SPACE, drawn, written, row_at, cells_written, WritesCells, cells_restyled, RestylesCells, cells_linked, LinksCells, cells_replaced, ReplacesCells};
+ghost use Rattle.snippet_style.specs.declared.role.ElementStyle.TheVariants.{LineNumber};
 ghost use Rattle.std.specs.Str.{chars};
 ghost use Rattle.snippet_style.specs.GridView.{cell_of, cells_of, rows_of, lengthened};
 ghost use Rattle.snippet_style.specs.Print as spec;
 ghost use Rattle.snippet_style.specs.Stylesheet.{is_plain_sheet};
 ghost use Rattle.snippet_style.specs.Woven.{Prints, IsWoven, links_of};
 
+use crate::replace::replace_range;
 use crate::restyle::{link_range, restyle_cell, restyle_range, row_len};
 use crate::role::{ElementStyle, LevelInner};
 use crate::stylesheet::Stylesheet;
@@ -152,6 +154,30 @@ impl<'a> StyledBuffer<'a> {
     {
         let end = row_len(&self.rows, row);
         self.puts(row, end, text, role)
+    }
+
+    /// Puts a text of role `LineNumber` in place of the cells of this row from `start` to before `end`; the cells behind
+    /// them move. Nothing happens where `start` is not below `end`, or where the row has no such cells. The new cells
+    /// belong to no link.
+    ///
+    /// # Errors
+    ///
+    /// There is no memory for the row.
+    pub fn replace(
+        &mut self,
+        row: usize,
+        start: usize,
+        end: usize,
+        text: &str,
+    ) -> Result<(), AllocError>
+        ensures ok { OnOk result
+            (self.new ≡ cells_replaced self.old row start end (drawn LineNumber (chars text.now))) }
+        ensures reads { OnOk result
+            (ReplacesCells self.old self.new row start end (drawn LineNumber (chars text.now))) }
+        ensures err { OnErr result (self.new ≡ self.old) }
+    {
+        let role = ElementStyle::LineNumber;
+        replace_range(self.alloc, &mut self.rows, row, start, end, text, role)
     }
 
     /// Gives the cell of this row and number another role, if there is such a cell, and if
