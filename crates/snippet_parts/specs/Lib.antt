@@ -1,6 +1,7 @@
 pub mod Kept
 pub mod LineTable
 pub mod Lines
+pub mod Margin
 pub mod Mark
 pub mod Marked
 pub mod Place
