@@ -3,6 +3,7 @@
 
 pub mod counts;
 pub mod entries;
+pub mod extent;
 pub mod line_bounds;
 pub mod lines;
 pub mod margin;
@@ -18,6 +19,7 @@ pub mod window;
 
 pub use counts::{line_feed_count, newline_count_before};
 pub use entries::{AnnotatedLineInfo, LineAnnotation, LineAnnotationType};
+pub use extent::margin_for;
 pub use lines::{CursorLines, EndLine, newline_count};
 pub use margin::Margin;
 pub use mark::{is_marking, mark_of};
