@@ -8,7 +8,7 @@ use Rattle.std.proofs.lemmas.List.Sums.{sum_by-cons, fold_push}
 use Rattle.std.proofs.lemmas.Bool.{le-leb}
 use Rattle.std.proofs.lemmas.Bool.Decides.{nat_tests}
 use Rattle.snippet_text.specs.Width.{char_width, width_of}
-use Rattle.snippet_parts.specs.Window.{reaching, fitting, reaching_last, bytes_of, uncovered_part}
+use Rattle.snippet_parts.specs.Window.{reaching, fitting, reaching_last, bytes_of, window_left, dropped_part, uncovered_part}
 
 -- the scalars of a list's two parts
 scalars_back : (xs ys : List ℕ) → scalars (xs ++ ys) ≡ true → scalars ys ≡ true
@@ -219,3 +219,9 @@ cells_few None left placeholder inner shown n count few is short n_is count_is =
     omega (arith, ap length is, uncovered_short left placeholder inner)
 cells_few (Some s) left placeholder inner shown n count few is short n_is count_is =
     omega (arith, few, ap length is, uncovered_short left placeholder inner)
+
+-- nothing is dropped where the window begins at column 0
+pub dropped_none : (left dropped : ℕ) (cs : List ℕ) → left ≡ 0 → dropped ≡ width_of (dropped_part left cs) → dropped ≡ 0
+dropped_none left dropped cs none is =
+    let start : window_left left cs ≡ 0 = omega arith in
+    is ∙ ap (λ n. width_of (take (reaching n cs) cs)) start ∙ ap (λ n. width_of (take n cs)) (reaching-none cs)

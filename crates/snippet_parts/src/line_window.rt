@@ -42,6 +42,9 @@ pub fn window_of<'a>(
     requires short { length (chars text.now) < 2 ^ 60 }
     requires placeholder { length placeholder.now < 2 ^ 56 }
     ensures dropped { result.dropped ≡ width_of (dropped_part (bounds_of margin).left (chars text.now)) }
+    // Few more columns are dropped than are left of the bound, and none where the bound is 0.
+    ensures near { result.dropped < (bounds_of margin).left + 4 }
+    ensures uncut { (bounds_of margin).left ≡ 0 → result.dropped ≡ 0 }
     ensures start { let bounds = bounds_of margin in let cs = chars text.now in
         result.start ≡ covered_columns bounds.left (chars placeholder.now)
         (inner_part margin.term_width bounds.left bounds.right cs) }
@@ -93,7 +96,7 @@ fn uncovered<'a>(margin: Margin, columns: usize, inner: &'a str) -> (Option<usiz
 fn behind_columns(text: &str, columns: usize) -> (usize, &str)
     requires few { columns < 2 ^ 60 }
     ensures width { let cs = chars text.now in result.0 ≡ width_of (take (reaching columns cs) cs) }
-    ensures bound { result.0 < 2 ^ 61 }
+    ensures near { result.0 < columns + 4 }
     ensures rest { let cs = chars text.now in chars result.1.now ≡ drop (reaching columns cs) cs }
 {
     let (at, width) = reaching_end(text, columns);
@@ -105,7 +108,7 @@ fn reaching_end(text: &str, columns: usize) -> (usize, usize)
     requires few { columns < 2 ^ 60 }
     ensures bytes { let cs = chars text.now in result.0 ≡ bytes_of (take (reaching columns cs) cs) }
     ensures width { let cs = chars text.now in result.1 ≡ width_of (take (reaching columns cs) cs) }
-    ensures bound { result.1 < 2 ^ 61 }
+    ensures near { result.1 < columns + 4 }
 {
     let mut at = 0;
     let mut width = 0;
