@@ -214,11 +214,17 @@ part_short n k cs rest inner rest_is inner_is =
     omega (arith, ap length rest_is, ap length inner_is, length-take k rest, length-drop n cs)
 
 -- what a line's window begins with and what stands behind it are few cells
-pub cells_few : (start : Option ℕ) (left : ℕ) (placeholder inner shown : List ℕ) (n count : ℕ) → IfSome start (λ s. s < 2 ^ 61) → shown ≡ uncovered_part left placeholder inner → length inner < 2 ^ 60 → n ≡ unwrap_or start 0 → count ≡ length shown → n + count < 2 ^ 64
-cells_few None left placeholder inner shown n count few is short n_is count_is =
-    omega (arith, ap length is, uncovered_short left placeholder inner)
-cells_few (Some s) left placeholder inner shown n count few is short n_is count_is =
-    omega (arith, few, ap length is, uncovered_short left placeholder inner)
+pub start_few : (start : Option ℕ) (columns : ℕ) → columns < 2 ^ 58 + 1 → IfSome start (λ s. s < columns + 4) → unwrap_or start 0 < 2 ^ 59
+start_few None columns narrow few = omega arith
+start_few (Some s) columns narrow few = omega (arith, narrow, few)
+
+pub start_is_few : (start : Option ℕ) (columns : ℕ) → columns < 2 ^ 58 + 1 → IfSome start (λ s. s < columns + 4) → IfSome start (λ s. s < 2 ^ 59)
+start_is_few None columns narrow few = few
+start_is_few (Some s) columns narrow few = omega (arith, narrow, few)
+
+pub cells_few : (start : Option ℕ) (columns left : ℕ) (placeholder inner shown : List ℕ) (n count : ℕ) → columns < 2 ^ 58 + 1 → IfSome start (λ s. s < columns + 4) → shown ≡ uncovered_part left placeholder inner → length inner < 2 ^ 60 → n ≡ unwrap_or start 0 → count ≡ length shown → n + count < 2 ^ 61
+cells_few start columns left placeholder inner shown n count narrow few is short n_is count_is =
+    omega (arith, start_few start columns narrow few, ap length is, uncovered_short left placeholder inner)
 
 -- nothing is dropped where the window begins at column 0
 pub dropped_none : (left dropped : ℕ) (cs : List ℕ) → left ≡ 0 → dropped ≡ width_of (dropped_part left cs) → dropped ≡ 0

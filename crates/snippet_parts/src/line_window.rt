@@ -45,6 +45,8 @@ pub fn window_of<'a>(
     // Few more columns are dropped than are left of the bound, and none where the bound is 0.
     ensures near { result.dropped < (bounds_of margin).left + 4 }
     ensures uncut { (bounds_of margin).left ≡ 0 → result.dropped ≡ 0 }
+    ensures few_start { IfSome result.start (λ start. start < 2 ^ 59) }
+    ensures few_end { IfSome result.end (λ end. end < 2 ^ 61) }
     ensures start { let bounds = bounds_of margin in let cs = chars text.now in
         result.start ≡ covered_columns bounds.left (chars placeholder.now)
         (inner_part margin.term_width bounds.left bounds.right cs) }
@@ -80,7 +82,7 @@ fn uncovered<'a>(margin: Margin, columns: usize, inner: &'a str) -> (Option<usiz
     requires few { columns < 2 ^ 60 }
     ensures start { (placeholder : List ℕ) → columns ≡ width_of placeholder
         → result.0 ≡ covered_columns (bounds_of margin).left placeholder (chars inner.now) }
-    ensures bound { IfSome result.0 (λ start. start < 2 ^ 61) }
+    ensures bound { IfSome result.0 (λ start. start < columns + 4) }
     ensures text { (placeholder : List ℕ) → columns ≡ width_of placeholder
         → chars result.1.now ≡ uncovered_part (bounds_of margin).left placeholder (chars inner.now) }
 {
