@@ -2,6 +2,8 @@ pub mod BoundsLemmas
 pub mod CountLemmas
 pub mod CursorLemmas
 pub mod Examples
+pub mod ExtentLemmas
+pub mod LineWindowLemmas
 pub mod LinesLemmas
 pub mod MarkLemmas
 pub mod MarkedLemmas

@@ -1,8 +1,11 @@
+pub mod Extent
 pub mod Kept
 pub mod LineTable
 pub mod Lines
+pub mod Margin
 pub mod Mark
 pub mod Marked
+pub mod Measures
 pub mod Place
 pub mod Prepare
 pub mod Span

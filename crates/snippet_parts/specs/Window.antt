@@ -1,5 +1,5 @@
 -- The window of a line: the part of it that is shown.
-use Rattle.std.specs.Prelude.{◌≡◌, ℕ, ◌+◌, ◌-◌, ◌≤◌, ◌==◌, ◌&&◌, ◌||◌, ◌⊎◌, nat_lt, nat_le, min, zero, suc, Bool, false, not, List, [], ◌∷◌, ◌++◌, Option, Some, None, is_none, chars, length, take, drop, reverse, replicate, if◌then◌else◌}
+use Rattle.std.specs.Prelude.{◌≡◌, ℕ, ◌+◌, ◌-◌, ◌≤◌, ◌==◌, ◌&&◌, ◌||◌, ◌⊎◌, nat_lt, nat_le, min, zero, suc, Bool, false, not, List, [], ◌∷◌, ◌++◌, Option, Some, None, is_none, chars, unwrap_or, encode_utf8_all, length, take, drop, if◌then◌else◌}
 use Rattle.std.specs.List.{list_all, list_any}
 use Rattle.std.specs.Option.{option_map}
 use Rattle.std.specs.Char.{is_whitespace}
@@ -31,6 +31,10 @@ abbrev pub fitting : ℕ → List ℕ → ℕ
 fitting columns [] = 0
 fitting columns (c ∷ cs) = if nat_le (char_width c) columns then fitting (columns - char_width c) cs + 1 else 0
 
+-- how many bytes some characters have
+abbrev pub bytes_of : List ℕ → ℕ
+bytes_of cs = length (encode_utf8_all cs)
+
 -- where the window of a text begins, and where it ends, in columns, in a room of so many: at these bounds, but a text
 -- that fits behind its beginning isn't cut at the right
 abbrev pub window_left : ℕ → List ℕ → ℕ
@@ -49,24 +53,48 @@ inner_part room left right text =
     let rest = drop (reaching (window_left left text) text) text in
     take (fitting (window_right room left right text - window_left left text) rest) rest
 
--- a text whose first characters are covered by the placeholder, as many as reach its width; where they are wider the
--- columns that are left over stay empty
-abbrev pub covered_left : List ℕ → List ℕ → List ℕ
-covered_left placeholder text =
-    let gone = reaching (width_of placeholder) text in
-    placeholder ++ replicate (width_of (take gone text) - width_of placeholder) 32 ++ drop gone text
+-- how many characters, up to the last one, reach so many columns: the fewest, or all
+abbrev pub reaching_last : ℕ → List ℕ → ℕ
+reaching_last columns [] = 0
+reaching_last columns (c ∷ cs) =
+    if nat_le columns (width_of cs) then reaching_last columns cs else length cs + 1
 
--- a text whose last characters are covered by the placeholder, as many as reach its width
-abbrev pub covered_right : List ℕ → List ℕ → List ℕ
-covered_right placeholder text =
-    written 32 text (length text - reaching (width_of placeholder) (reverse text)) placeholder
+-- where lines are cut on the left, the first characters in the window, as many as reach the width of the placeholder, give
+-- their place to it: these are the columns that they take, and the characters behind them
+abbrev pub covered_columns : ℕ → List ℕ → List ℕ → Option ℕ
+covered_columns left placeholder inner =
+    if left == 0 then None else Some (width_of (take (reaching (width_of placeholder) inner) inner))
+
+abbrev pub uncovered_part : ℕ → List ℕ → List ℕ → List ℕ
+uncovered_part left placeholder inner =
+    if left == 0 then inner else drop (reaching (width_of placeholder) inner) inner
+
+-- where the line is cut on the right, the cell from which on the placeholder covers its last characters, as many as reach
+-- its width
+abbrev pub covered_end : ℕ → ℕ → ℕ → List ℕ → List ℕ → Option ℕ
+covered_end room left right placeholder text =
+    let inner = inner_part room left right text in
+    let at = unwrap_or (covered_columns left placeholder inner) 0 + length (uncovered_part left placeholder inner) in
+    if nat_lt (window_right room left right text) (width_of text) then Some (at - reaching_last (width_of placeholder) inner) else None
+
+-- a text, which stands behind as many columns, if lines are cut on the left, with the placeholder at their beginning. If
+-- nothing stands behind them, there is the placeholder alone
+abbrev pub begun_with : List ℕ → Option ℕ → List ℕ → List ℕ
+begun_with placeholder None text = text
+begun_with placeholder (Some columns) text =
+    if length text == 0 then placeholder else written 32 placeholder columns text
+
+-- a text with the placeholder over its end, from this cell on, if there is one
+abbrev pub ended_with : List ℕ → Option ℕ → List ℕ → List ℕ
+ended_with placeholder None text = text
+ended_with placeholder (Some at) text = written 32 text at placeholder
 
 -- the window of a text between these bounds: what stands in it, with the placeholder over each end that is cut
 abbrev pub window : List ℕ → ℕ → ℕ → ℕ → List ℕ → List ℕ
 window placeholder room left right text =
     let inner = inner_part room left right text in
-    let begun = if left == 0 then inner else covered_left placeholder inner in
-    if nat_lt (window_right room left right text) (width_of text) then covered_right placeholder begun else begun
+    let begun = begun_with placeholder (covered_columns left placeholder inner) (uncovered_part left placeholder inner) in
+    ended_with placeholder (covered_end room left right placeholder text) begun
 
 -- one stretch of a text is replaced by the placeholder
 pub record IsReplaced (placeholder before after : List ℕ) : Type 0 where

@@ -3,8 +3,11 @@
 
 pub mod counts;
 pub mod entries;
+pub mod extent;
 pub mod line_bounds;
+pub mod line_window;
 pub mod lines;
+pub mod margin;
 pub mod mark;
 pub mod marked_lines;
 pub mod place;
@@ -15,7 +18,10 @@ pub mod window;
 
 pub use counts::{line_feed_count, newline_count_before};
 pub use entries::{AnnotatedLineInfo, LineAnnotation, LineAnnotationType};
+pub use extent::margin_for;
+pub use line_window::{LineWindow, window_of};
 pub use lines::{CursorLines, EndLine, newline_count};
+pub use margin::Margin;
 pub use mark::{is_marking, mark_of};
 pub use place::Loc;
 pub use prepare::counted_number;

@@ -3,8 +3,10 @@ pub mod RowLemmas
 pub mod TextLemmas
 pub mod OrderLemmas
 pub mod PositionLemmas
+pub mod CellLemmas
 pub mod DrawLemmas
 pub mod MarkLemmas
+pub mod ShiftLemmas
 pub mod StrokeLemmas
 pub mod SnippetLemmas
 pub mod PaintLemmas

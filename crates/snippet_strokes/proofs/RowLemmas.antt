@@ -8,7 +8,7 @@ use Rattle.std.proofs.lemmas.List.Elements.{All-append, All-take, All-drop, All-
 use Rattle.std.proofs.lemmas.Str.{chars-nil}
 use Rattle.snippet_style.specs.declared.glyphs.DecorStyle.{DecorStyle}
 use Rattle.snippet_style.specs.declared.glyphs.DecorStyle.TheVariants.{Ascii, Unicode}
-use Rattle.snippet_style.specs.declared.role.ElementStyle.TheVariants.{LineNumber, Quotation}
+use Rattle.snippet_style.specs.declared.role.ElementStyle.TheVariants.{LineNumber}
 use Rattle.snippet_style.specs.Glyphs.{separator_of, closing_of, file_start_of}
 use Rattle.snippet_style.specs.Grid.{Cell, SPACE, drawn, unlinked_cell, written, cells_written}
 use Rattle.snippet_style.proofs.GridLemmas.{length-chars_le, length-drawn, length-written, drop-written, take-written_past, cells_written_below, cells_written_last, slice_index_or-written_before, slice_index_or-written_behind}
@@ -16,7 +16,7 @@ use Rattle.snippet_text.specs.Normalized.{is_listed}
 use Rattle.snippet_strokes.specs.Painting.{IsFreeCell}
 use Rattle.snippet_strokes.proofs.DrawLemmas.{free_drawn}
 use Rattle.snippet_strokes.specs.declared.layout.Layout.{Layout}
-use Rattle.snippet_strokes.specs.Rows.{separator_row, closing_row, bare_row, first_row, HasNoNumber, IsFree, IsSourceRow, AddsSourceRow}
+use Rattle.snippet_strokes.specs.Rows.{separator_row, closing_row, bare_row, first_row, HasNoNumber, IsFree, IsSourceRow, AddsSourceRow, with_cells}
 
 -- writing into an empty row
 written-nil : (at : ℕ) (cells : List Cell) → written SPACE [] at cells ≡ replicate at SPACE ++ cells
@@ -194,7 +194,7 @@ HasNoNumber-first_row Ascii first gutter c left =
 HasNoNumber-first_row Unicode first gutter c left = ap is_ascii_alphanumeric (first_row_left first gutter c left)
 
 -- a write of free cells keeps a row free
-free_written : (row : List Cell) (at : ℕ) (cells : List Cell) → IsFree row → IsFree cells → IsFree (written SPACE row at cells)
+pub free_written : (row : List Cell) (at : ℕ) (cells : List Cell) → IsFree row → IsFree cells → IsFree (written SPACE row at cells)
 unfolding written
 free_written row at cells free_row free_cells =
     let P : Cell → Type 0 = IsFreeCell in
@@ -234,12 +234,10 @@ source_bare layout shown place short free =
       free = free_front layout shown free;
     }
 
--- the row of a line that has a text
-source_full : (layout : Layout) (shown text : List ℕ) → layout.gutter + 3 ≤ layout.code → length shown ≤ layout.gutter + 1 → All (λ c. is_listed c ≡ false) shown → All (λ c. is_listed c ≡ false) text → IsSourceRow layout shown text (written SPACE (front layout shown) layout.code (drawn Quotation text))
-source_full layout shown text place short free_shown free_text =
-    let P : Cell → Type 0 = IsFreeCell in
+-- the row of a line of which some cells are shown
+source_full : (layout : Layout) (shown : List ℕ) (cells : List Cell) → layout.gutter + 3 ≤ layout.code → length shown ≤ layout.gutter + 1 → All (λ c. is_listed c ≡ false) shown → IsFree cells → IsSourceRow layout shown cells (written SPACE (front layout shown) layout.code cells)
+source_full layout shown cells place short free_shown free_cells =
     let start = front layout shown in
-    let cells = drawn Quotation text in
     let row = written SPACE start layout.code cells in
     let ends : length start ≤ layout.code = omega (arith, length-front layout shown short) in
     let bare = source_bare layout shown place short free_shown in
@@ -251,27 +249,34 @@ source_full layout shown text place short free_shown free_text =
       };
       separator = before (layout.gutter + 1) (omega arith) ∙ bare.separator;
       blank = λ c behind other left. before c left ∙ bare.blank c behind other left;
-      free = free_written start layout.code cells bare.free (free_drawn Quotation text free_text);
+      free = free_written start layout.code cells bare.free free_cells;
     }
 
--- the row of a line, whether it has a text or not
-source_texted : (layout : Layout) (shown bytes : List ℕ) → layout.gutter + 3 ≤ layout.code → length shown ≤ layout.gutter + 1 → All (λ c. is_listed c ≡ false) shown → All (λ c. is_listed c ≡ false) (chars bytes) → IsSourceRow layout shown (chars bytes) (texted bytes (front layout shown) layout.code (drawn Quotation (chars bytes)))
-source_texted layout shown [] place short free_shown free_text =
-    subst (λ text. IsSourceRow layout shown text (front layout shown)) (sym chars-nil) (source_bare layout shown place short free_shown)
-source_texted layout shown (b ∷ bs) place short free_shown free_text =
-    source_full layout shown (chars (b ∷ bs)) place short free_shown free_text
+-- the row of a line, whether any of its cells are shown or not
+source_celled : (layout : Layout) (shown : List ℕ) (cells : List Cell) → layout.gutter + 3 ≤ layout.code → length shown ≤ layout.gutter + 1 → All (λ c. is_listed c ≡ false) shown → IsFree cells → IsSourceRow layout shown cells (with_cells layout.code cells (front layout shown))
+source_celled layout shown [] place short free_shown free_cells = source_bare layout shown place short free_shown
+source_celled layout shown (cell ∷ cells) place short free_shown free_cells =
+    source_full layout shown (cell ∷ cells) place short free_shown free_cells
 
--- the three writes of a source row add it
-pub source_row_added : (layout : Layout) (number text : List ℕ) (old begun mid new : List (List Cell)) (row : ℕ) → layout.gutter + 3 ≤ layout.code → length (chars number) ≤ layout.gutter + 1 → All (λ c. is_listed c ≡ false) (chars number) → All (λ c. is_listed c ≡ false) (chars text) → row ≡ length old → begun ≡ old ++ separator_row layout.decor layout.gutter ∷ [] → (0 < length number → mid ≡ cells_written begun row 0 (drawn LineNumber (chars number))) → (number ≡ [] → mid ≡ begun) → (0 < length text → new ≡ cells_written mid row layout.code (drawn Quotation (chars text))) → (text ≡ [] → new ≡ mid) → AddsSourceRow layout (chars number) (chars text) old new
-source_row_added layout number text old begun mid new row place short free_number free_text last begins numbers number_stays quotes text_stays =
-    let numbered = text_put old begun mid (separator_row layout.decor layout.gutter) row 0 number (drawn LineNumber (chars number)) begins last numbers number_stays ∙ ap (λ r. old ++ r ∷ []) (texted_start number (separator_row layout.decor layout.gutter)) in
+-- the number is written
+pub number_written : (layout : Layout) (number : List ℕ) (old begun mid : List (List Cell)) (row : ℕ) → row ≡ length old → begun ≡ old ++ separator_row layout.decor layout.gutter ∷ [] → (0 < length number → mid ≡ cells_written begun row 0 (drawn LineNumber (chars number))) → (number ≡ [] → mid ≡ begun) → mid ≡ old ++ front layout (chars number) ∷ []
+number_written layout number old begun mid row last begins numbers number_stays =
+    text_put old begun mid (separator_row layout.decor layout.gutter) row 0 number (drawn LineNumber (chars number)) begins last numbers number_stays ∙ ap (λ r. old ++ r ∷ []) (texted_start number (separator_row layout.decor layout.gutter))
+
+-- the row that has its number ends left of the code
+pub front_short : (layout : Layout) (shown : List ℕ) → layout.gutter + 3 ≤ layout.code → length shown ≤ layout.gutter + 1 → length (front layout shown) ≤ layout.code
+front_short layout shown place short = omega (arith, length-front layout shown short)
+
+-- the number and the cells of the window make the source row
+pub source_row_added : (layout : Layout) (number : List ℕ) (cells : List Cell) (old new : List (List Cell)) → layout.gutter + 3 ≤ layout.code → length (chars number) ≤ layout.gutter + 1 → All (λ c. is_listed c ≡ false) (chars number) → IsFree cells → new ≡ old ++ with_cells layout.code cells (front layout (chars number)) ∷ [] → AddsSourceRow layout (chars number) cells old new
+source_row_added layout number cells old new place short free_number free_cells writes =
     record {
-      row = texted text (front layout (chars number)) layout.code (drawn Quotation (chars text));
-      added = text_put old mid new (front layout (chars number)) row layout.code text (drawn Quotation (chars text)) numbered last quotes text_stays;
-      is = source_texted layout (chars number) text place short free_number free_text;
+      row = with_cells layout.code cells (front layout (chars number));
+      added = writes;
+      is = source_celled layout (chars number) cells place short free_number free_cells;
     }
 
--- a source row of the same number and text
-pub AddsSourceRow-same : (layout : Layout) (shown shown_here text text_here : List ℕ) (old new : List (List Cell)) → shown ≡ shown_here → text ≡ text_here → AddsSourceRow layout shown text old new → AddsSourceRow layout shown_here text_here old new
-AddsSourceRow-same layout shown shown_here text text_here old new same_shown same_text adds =
-    subst (λ s. AddsSourceRow layout s text_here old new) same_shown (subst (λ t. AddsSourceRow layout shown t old new) same_text adds)
+-- a source row of the same number and cells
+pub AddsSourceRow-same : (layout : Layout) (shown shown_here : List ℕ) (cells cells_here : List Cell) (old new : List (List Cell)) → shown ≡ shown_here → cells ≡ cells_here → AddsSourceRow layout shown cells old new → AddsSourceRow layout shown_here cells_here old new
+AddsSourceRow-same layout shown shown_here cells cells_here old new same_shown same_cells adds =
+    subst (λ s. AddsSourceRow layout s cells_here old new) same_shown (subst (λ t. AddsSourceRow layout shown t old new) same_cells adds)

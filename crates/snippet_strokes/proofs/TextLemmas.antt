@@ -59,7 +59,7 @@ free_stem Unicode true = refl
 free_stem Unicode false = refl
 
 -- a text that has a byte has a character
-chars_some : (bytes : List ℕ) → IsUtf8 bytes → 0 < length bytes → 0 < length (chars bytes)
+pub chars_some : (bytes : List ℕ) → IsUtf8 bytes → 0 < length bytes → 0 < length (chars bytes)
 chars_some bytes utf8 some = by_chars (chars bytes) (encodes-chars bytes utf8)
   where
     by_chars : (cs : List ℕ) → encode_utf8_all cs ≡ bytes → 0 < length cs

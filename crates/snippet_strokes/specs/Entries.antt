@@ -15,6 +15,11 @@ use Rattle.snippet_text.specs.Normalized.{norm}
 abbrev pub EntryCovers : LineAnnotation → ℕ → Type 0
 EntryCovers e p = (e.start.display ≤ p) × (p < e.end.display)
 
+-- an entry on a line of which so many columns are dropped on the left
+abbrev pub shifted : ℕ → LineAnnotation → LineAnnotation
+shifted dropped e =
+    record e { start = record e.start { display = e.start.display - dropped }; end = record e.end { display = e.end.display - dropped } }
+
 -- how many columns an entry covers
 abbrev pub entry_width : LineAnnotation → ℕ
 entry_width e = e.end.display - e.start.display

@@ -1,16 +1,19 @@
 -- The rows of a line that is shown: its source row, and the rows of its strokes below it.
-use Rattle.std.specs.Prelude.{◌≡◌, ℕ, ◌≢◌, ◌+◌, ◌-◌, ◌<◌, ◌≤◌, ◌==◌, ◌&&◌, nat_le, nat_lt, Bool, true, false, List, [], ◌∷◌, ◌++◌, All, length, take, drop, replicate, if◌then◌else◌}
+use Rattle.std.specs.Prelude.{◌≡◌, ℕ, ◌≢◌, ◌+◌, ◌-◌, ◌<◌, ◌≤◌, ◌==◌, ◌&&◌, nat_le, nat_lt, Bool, true, false, Option, None, Some, List, [], ◌∷◌, ◌++◌, All, length, take, drop, replicate, if◌then◌else◌}
 use Rattle.std.specs.Char.{is_ascii_alphanumeric}
 use Rattle.std.specs.Fmt.{decimal}
 use Rattle.std.specs.List.{slice_index_or, list_any}
 use Rattle.snippet_model.specs.declared.snippet.AnnotationKind.{AnnotationKind}
 use Rattle.snippet_parts.specs.declared.entries.LineAnnotation.{LineAnnotation}
+use Rattle.snippet_parts.specs.declared.margin.Margin.{Margin}
+use Rattle.snippet_parts.specs.Margin.{bounds_of}
+use Rattle.snippet_parts.specs.Window.{inner_part, covered_columns, uncovered_part, covered_end}
 use Rattle.snippet_style.specs.declared.glyphs.DecorStyle.{DecorStyle}
 use Rattle.snippet_style.specs.declared.glyphs.DecorStyle.TheVariants.{Ascii, Unicode}
 use Rattle.snippet_style.specs.declared.role.ElementStyle.{ElementStyle}
 use Rattle.snippet_style.specs.declared.role.ElementStyle.TheVariants.{LineNumber, Quotation, UnderlinePrimary, UnderlineSecondary}
-use Rattle.snippet_style.specs.Glyphs.{separator_of, closing_of, file_start_of, underline_role}
-use Rattle.snippet_style.specs.Grid.{Cell, SPACE, drawn, unlinked_cell, row_at, cell_at, gives_way, restyled}
+use Rattle.snippet_style.specs.Glyphs.{separator_of, closing_of, file_start_of, placeholder_of, underline_role}
+use Rattle.snippet_style.specs.Grid.{Cell, SPACE, drawn, written, unlinked_cell, row_at, cell_at, gives_way, restyled}
 use Rattle.snippet_strokes.specs.declared.layout.Layout.{Layout}
 use Rattle.snippet_strokes.specs.Entries.{EntryCovers, is_primary, IsEntryMark, IsMarkCell, has_mark_role, label_text, label_role}
 use Rattle.snippet_strokes.specs.Painting.{IsFreeCell, StandsFrom}
@@ -52,10 +55,41 @@ HasNoNumber gutter row = (c : ℕ) → c ≤ gutter → is_ascii_alphanumeric (s
 abbrev pub IsFree : List Cell → Type 0
 IsFree row = All IsFreeCell row
 
--- the row begins with what the gutter shows, and from the code's cell to its end it holds this text, one cell for each character
-pub record ShowsSource (gutter from : ℕ) (shown text : List ℕ) (row : List Cell) : Type 0 where
+-- the cells of a text with the placeholder before it, if lines are cut on the left: then the text stands behind as many
+-- columns. If there is none, the placeholder stands alone
+abbrev pub begun_cells : DecorStyle → Option ℕ → List ℕ → List Cell
+begun_cells decor None text = drawn Quotation text
+begun_cells decor (Some columns) text =
+    let placeholder = drawn LineNumber (placeholder_of decor) in
+    if length text == 0 then placeholder else written SPACE placeholder columns (drawn Quotation text)
+
+-- the same cells with the placeholder over their end, from this one on, if the line is cut on the right
+abbrev pub ended_cells : DecorStyle → Option ℕ → List Cell → List Cell
+ended_cells decor None cells = cells
+ended_cells decor (Some at) cells = written SPACE cells at (drawn LineNumber (placeholder_of decor))
+
+abbrev pub shown_cells : DecorStyle → Option ℕ → List ℕ → Option ℕ → List Cell
+shown_cells decor start text end = ended_cells decor end (begun_cells decor start text)
+
+-- the cells of the window of a text between the bounds of a margin: placeholders have the role of line numbers, the text
+-- has that of a quotation
+abbrev pub window_cells : DecorStyle → Margin → List ℕ → List Cell
+window_cells decor margin text =
+    let placeholder = placeholder_of decor in
+    let left = (bounds_of margin).left in
+    let right = (bounds_of margin).right in
+    let inner = inner_part margin.term_width left right text in
+    shown_cells decor (covered_columns left placeholder inner) (uncovered_part left placeholder inner) (covered_end margin.term_width left right placeholder text)
+
+-- a row with these cells from this one on, if there are any; a row without any stays
+abbrev pub with_cells : ℕ → List Cell → List Cell → List Cell
+with_cells code [] row = row
+with_cells code (cell ∷ cells) row = written SPACE row code (cell ∷ cells)
+
+-- the row begins with what the gutter shows, and from the code's cell to its end it holds these cells
+pub record ShowsSource (gutter from : ℕ) (shown : List ℕ) (cells row : List Cell) : Type 0 where
   pub number : take (length shown) row ≡ drawn LineNumber shown
-  pub code : drop from row ≡ drawn Quotation text
+  pub code : drop from row ≡ cells
 
 -- below each column that has a mark the row holds it, and below each column that no entry covers no cell is in the role of
 -- marks. Where no entry has a label that shows anything, a space stands there; behind the mark of a line's one entry stand
@@ -67,8 +101,8 @@ pub record ShowsMarks (decor : DecorStyle) (code : ℕ) (es : List LineAnnotatio
   pub lone : (e : LineAnnotation) → es ≡ e ∷ [] → e.start.display < e.end.display → 0 < length (label_text e) → drop (code + e.end.display) row ≡ SPACE ∷ drawn (label_role e.kind) (label_text e)
 
 -- a source row: what ShowsSource says, the separator, and else spaces left of the code
-pub record IsSourceRow (layout : Layout) (shown text : List ℕ) (row : List Cell) : Type 0 where
-  pub shows : ShowsSource layout.gutter layout.code shown text row
+pub record IsSourceRow (layout : Layout) (shown : List ℕ) (cells row : List Cell) : Type 0 where
+  pub shows : ShowsSource layout.gutter layout.code shown cells row
   pub separator : slice_index_or row (layout.gutter + 1) SPACE ≡ unlinked_cell LineNumber (separator_of layout.decor)
   pub blank : (c : ℕ) → length shown ≤ c → c ≢ layout.gutter + 1 → c < layout.code → slice_index_or row c SPACE ≡ SPACE
   pub free : IsFree row
@@ -91,10 +125,10 @@ pub record AreStrokes (layout : Layout) (es : List LineAnnotation) (closes : Boo
   pub are : (k : ℕ) → k < length rows → IsStrokeRow layout es (closes && k + 1 == length rows) (row_at rows k)
 
 -- one source row was added below the rows that are there
-pub record AddsSourceRow (layout : Layout) (shown text : List ℕ) (old new : List (List Cell)) : Type 0 where
+pub record AddsSourceRow (layout : Layout) (shown : List ℕ) (cells : List Cell) (old new : List (List Cell)) : Type 0 where
   pub row : List Cell
   pub added : new ≡ old ++ row ∷ []
-  pub is : IsSourceRow layout shown text row
+  pub is : IsSourceRow layout shown cells row
 
 -- the rows of a line's strokes were added below the rows that are there
 pub record AddsStrokes (layout : Layout) (es : List LineAnnotation) (closes : Bool) (old new : List (List Cell)) : Type 0 where
@@ -102,27 +136,27 @@ pub record AddsStrokes (layout : Layout) (es : List LineAnnotation) (closes : Bo
   pub added : new ≡ old ++ rows
   pub are : AreStrokes layout es closes rows
 
--- whether an entry asks to highlight the character at this cell
-abbrev pub highlights : ℕ → ℕ → LineAnnotation → Bool
-highlights code c e =
-    e.highlight_source && nat_le (code + e.start.char) c && nat_lt c (code + e.end.char)
+-- whether an entry asks to highlight the character at this cell, where so many columns are dropped
+abbrev pub highlights : ℕ → ℕ → ℕ → LineAnnotation → Bool
+highlights code dropped c e =
+    e.highlight_source && nat_le (code + e.start.char - dropped) c && nat_lt c (code + e.end.char - dropped)
 
 -- the role of a cell of a source row, one which has this role, with what entries highlight: that of primary marks where a
 -- primary entry asks for it, else that of marks for context where an entry asks and the cell's role gives way
-abbrev pub role_in_source : ℕ → List LineAnnotation → ℕ → ElementStyle → ElementStyle
-role_in_source code es c role =
-    if list_any (λ e. is_primary e.kind && highlights code c e) es then UnderlinePrimary else (if list_any (highlights code c) es && gives_way role then UnderlineSecondary else role)
+abbrev pub role_in_source : ℕ → ℕ → List LineAnnotation → ℕ → ElementStyle → ElementStyle
+role_in_source code dropped es c role =
+    if list_any (λ e. is_primary e.kind && highlights code dropped c e) es then UnderlinePrimary else (if list_any (highlights code dropped c) es && gives_way role then UnderlineSecondary else role)
 
 -- the row is this source row, with the characters highlighted that entries ask for
-pub record IsHighlighted (code : ℕ) (es : List LineAnnotation) (plain row : List Cell) : Type 0 where
+pub record IsHighlighted (code dropped : ℕ) (es : List LineAnnotation) (plain row : List Cell) : Type 0 where
   pub width : length row ≡ length plain
-  pub cells : (c : ℕ) → c < length plain → slice_index_or row c SPACE ≡ (let cell = slice_index_or plain c SPACE in record cell { role = role_in_source code es c cell.role })
+  pub cells : (c : ℕ) → c < length plain → slice_index_or row c SPACE ≡ (let cell = slice_index_or plain c SPACE in record cell { role = role_in_source code dropped es c cell.role })
 
 -- the characters of a row that one entry asks to highlight have the role of its marks, where it is primary or their own
 -- gives way, and nothing else changed
-pub record Restyled (code : ℕ) (e : LineAnnotation) (row : ℕ) (old new : List (List Cell)) : Type 0 where
-  pub asked : (c : ℕ) → c < length (row_at old row) → nat_le (code + e.start.char) c && nat_lt c (code + e.end.char) ≡ true → cell_at new row c ≡ restyled (underline_role (is_primary e.kind)) (is_primary e.kind) (cell_at old row c)
-  pub unasked : (c : ℕ) → nat_le (code + e.start.char) c && nat_lt c (code + e.end.char) ≡ false → cell_at new row c ≡ cell_at old row c
+pub record Restyled (code dropped : ℕ) (e : LineAnnotation) (row : ℕ) (old new : List (List Cell)) : Type 0 where
+  pub asked : (c : ℕ) → c < length (row_at old row) → nat_le (code + e.start.char - dropped) c && nat_lt c (code + e.end.char - dropped) ≡ true → cell_at new row c ≡ restyled (underline_role (is_primary e.kind)) (is_primary e.kind) (cell_at old row c)
+  pub unasked : (c : ℕ) → nat_le (code + e.start.char - dropped) c && nat_lt c (code + e.end.char - dropped) ≡ false → cell_at new row c ≡ cell_at old row c
   pub others : (r : ℕ) → r ≢ row → row_at new r ≡ row_at old r
   pub width : length (row_at new row) ≡ length (row_at old row)
   pub count : length new ≡ length old

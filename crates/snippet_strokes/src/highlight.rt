@@ -9,8 +9,8 @@ use snippet_parts::LineAnnotation;
 use snippet_style::StyledBuffer;
 use std::alloc::AllocError;
 
-/// Gives the characters of a source row that entries ask to highlight the role of these entries' marks, primary ones over
-/// those for context.
+/// Gives the characters of a source row, of which so many columns are dropped on the left, that entries ask to highlight the
+/// role of these entries' marks, primary ones over those for context.
 ///
 /// # Errors
 ///
@@ -18,18 +18,20 @@ use std::alloc::AllocError;
 pub(crate) fn highlight_source(
     buffer: &mut StyledBuffer,
     layout: Layout,
+    dropped: usize,
     row: usize,
     entries: &[LineAnnotation],
 ) -> Result<(), AllocError>
     requires narrow { layout.code < 2 ^ 32 }
     requires short { length (row_at buffer.old row) < 2 ^ 62 }
-    ensures highlighted { OnOk result (IsHighlighted layout.code entries.now (row_at buffer.old row) (row_at buffer.new row)) }
+    requires near { dropped < 2 ^ 62 }
+    ensures highlighted { OnOk result (IsHighlighted layout.code dropped entries.now (row_at buffer.old row) (row_at buffer.new row)) }
     ensures others { OnOk result ((r : ℕ) → r ≢ row → row_at buffer.new r ≡ row_at buffer.old r) }
     ensures count { OnOk result (length buffer.new ≡ length buffer.old) }
 {
     for entry in entries {
         if entry.highlight_source {
-            highlight_entry(buffer, layout, row, entry)?;
+            highlight_entry(buffer, layout, dropped, row, entry)?;
         }
     }
     Ok(())
@@ -39,18 +41,26 @@ pub(crate) fn highlight_source(
 fn highlight_entry(
     buffer: &mut StyledBuffer,
     layout: Layout,
+    dropped: usize,
     row: usize,
     entry: &LineAnnotation,
 ) -> Result<(), AllocError>
     requires narrow { layout.code < 2 ^ 32 }
     requires short { length (row_at buffer.old row) < 2 ^ 62 }
-    ensures restyled { OnOk result (Restyled layout.code entry.now row buffer.old buffer.new) }
+    requires near { dropped < 2 ^ 62 }
+    ensures restyled { OnOk result (Restyled layout.code dropped entry.now row buffer.old buffer.new) }
 {
     let primary = is_primary(entry.kind);
     buffer.set_style_range(
         row,
-        layout.code.saturating_add(entry.start.char),
-        layout.code.saturating_add(entry.end.char),
+        layout
+            .code
+            .saturating_add(entry.start.char)
+            .saturating_sub(dropped),
+        layout
+            .code
+            .saturating_add(entry.end.char)
+            .saturating_sub(dropped),
         layout.decor.underline(primary).style,
         primary,
     )

@@ -4,9 +4,9 @@ ghost use Rattle.std.specs.List.{list_any};
 ghost use Rattle.std.specs.Cow.{cow_str_bytes};
 ghost use Rattle.snippet_strokes.specs.Positions as spec;
 ghost use Rattle.snippet_strokes.specs.Positions.{ArePlaced, HasItsLabel};
-ghost use Rattle.snippet_strokes.specs.Entries.{label_text};
+ghost use Rattle.snippet_strokes.specs.Entries.{label_text, shifted};
 
-use snippet_parts::LineAnnotation;
+use snippet_parts::{LineAnnotation, Loc};
 use snippet_text::normalized;
 use std::alloc::{AllocError, Global};
 use std::borrow::CowStr;
@@ -42,7 +42,8 @@ impl<'a> PlacedEntry<'a> {
     }
 }
 
-/// The entries of a line from right to left, each with the place of its label.
+/// The entries of a line from right to left, each with the place of its label, where so many columns of the line are
+/// dropped on the left.
 ///
 /// ```text
 ///       | --^^--         the label of the entry farthest right may stand behind its mark, at position 0
@@ -56,12 +57,13 @@ impl<'a> PlacedEntry<'a> {
 /// There is no memory for the list or a label.
 pub(crate) fn placed_entries<'a>(
     alloc: Global,
+    dropped: usize,
     entries: &[LineAnnotation<'a>],
 ) -> Result<Vec<PlacedEntry<'a>>, AllocError>
     requires columns { All (λ e. e.end.display < 2 ^ 60) entries.now }
-    ensures placed { IfOk result (λ placed. ArePlaced entries.now placed.items) }
+    ensures placed { IfOk result (λ placed. ArePlaced (map (shifted dropped) entries.now) placed.items) }
 {
-    let mut placed = labelled_entries(alloc, entries)?;
+    let mut placed = labelled_entries(alloc, dropped, entries)?;
     placed.sort_by_key(|p| Reverse((p.entry.start.display, p.entry.start.char)))?;
     let positions = label_positions(alloc, &placed)?;
     set_positions(&mut placed, &positions);
@@ -75,21 +77,41 @@ pub(crate) fn placed_entries<'a>(
 /// There is no memory for the list or a label.
 fn labelled_entries<'a>(
     alloc: Global,
+    dropped: usize,
     entries: &[LineAnnotation<'a>],
 ) -> Result<Vec<PlacedEntry<'a>>, AllocError>
-    ensures entries { IfOk result (λ labelled. map (λ e. e.entry) labelled.items ≡ entries.now) }
+    ensures entries { IfOk result (λ labelled. map (λ e. e.entry) labelled.items ≡ map (shifted dropped) entries.now) }
     ensures labels { IfOk result (λ labelled. All HasItsLabel labelled.items) }
 {
     let mut labelled = Vec::new(alloc);
     for entry in entries {
         let label = shown_label(alloc, entry)?;
         labelled.push(PlacedEntry {
-            entry: *entry,
+            entry: shifted(entry, dropped),
             label,
             position: 0,
         })?;
     }
     Ok(labelled)
+}
+
+/// An entry, where so many columns of its line are dropped on the left.
+fn shifted<'a>(entry: &LineAnnotation<'a>, dropped: usize) -> LineAnnotation<'a>
+    ensures value { result ≡ shifted dropped entry.now }
+{
+    let start = Loc {
+        display: entry.start.display.saturating_sub(dropped),
+        ..entry.start
+    };
+    let end = Loc {
+        display: entry.end.display.saturating_sub(dropped),
+        ..entry.end
+    };
+    LineAnnotation {
+        start,
+        end,
+        ..*entry
+    }
 }
 
 /// What an entry's label shows: its text, normalised, or nothing.

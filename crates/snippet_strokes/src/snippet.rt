@@ -2,14 +2,15 @@
 ghost use Rattle.std.specs.Prelude.{◌+◌, ◌^◌, ◌<◌, ◌≤◌, All, IfSome, OnOk, length};
 ghost use Rattle.snippet_parts.specs.Marked.{HasColumns};
 ghost use Rattle.snippet_strokes.specs.Rows.{shown_number};
-ghost use Rattle.snippet_strokes.specs.Snippet.{AddsLine, AddsSnippet};
+ghost use Rattle.snippet_strokes.specs.Snippet.{AddsLine, AddsSnippet, StandsBehind};
+ghost use Rattle.snippet_parts.specs.Margin.{bounds_of};
 
 use crate::highlight::highlight_source;
 use crate::layout::Layout;
 use crate::row::begin_first_row;
 use crate::source_row::draw_source_row;
 use crate::strokes::draw_strokes;
-use snippet_parts::AnnotatedLineInfo;
+use snippet_parts::{AnnotatedLineInfo, Margin};
 use snippet_style::StyledBuffer;
 use std::alloc::{AllocError, Global};
 
@@ -25,6 +26,9 @@ use std::alloc::{AllocError, Global};
 ///       |                        ╰╴
 /// ```
 ///
+/// Of each line the part between the bounds of the margin is shown, and its strokes are drawn as far left as columns of the
+/// line are dropped. No entry may stand left of the padding of the left bound.
+///
 /// Where lines aren't numbered, spaces stand in place of the numbers. A line with no entries has no strokes. Each entry is
 /// drawn as one that begins and ends on its line.
 ///
@@ -35,6 +39,7 @@ pub fn draw_snippet(
     alloc: Global,
     buffer: &mut StyledBuffer,
     layout: Layout,
+    margin: Margin,
     numbered: bool,
     first: bool,
     closes: bool,
@@ -46,13 +51,15 @@ pub fn draw_snippet(
         infos.now }
     requires texts { All (λ info. length info.line.now < 2 ^ 56) infos.now }
     requires columns { All (λ info. All (λ e. HasColumns e.start e.end) info.annotations.items) infos.now }
+    requires bounds { (bounds_of margin).left < 2 ^ 60 }
+    requires clear { All (λ info. All (StandsBehind margin) info.annotations.items) infos.now }
     requires labels { All (λ info. All (λ e. IfSome e.label (λ t. length t.now < 2 ^ 56)) info.annotations.items) infos.now }
-    ensures added { OnOk result (AddsSnippet layout numbered first closes infos.now buffer.old buffer.new) }
+    ensures added { OnOk result (AddsSnippet layout margin numbered first closes infos.now buffer.old buffer.new) }
 {
     begin_first_row(buffer, layout, first)?;
     for i in 0..infos.len() {
         let closes = closes && i + 1 == infos.len();
-        draw_line(alloc, buffer, layout, numbered, closes, &infos[i])?;
+        draw_line(alloc, buffer, layout, margin, numbered, closes, &infos[i])?;
     }
     Ok(())
 }
@@ -67,6 +74,7 @@ fn draw_line(
     alloc: Global,
     buffer: &mut StyledBuffer,
     layout: Layout,
+    margin: Margin,
     numbered: bool,
     closes: bool,
     info: &AnnotatedLineInfo,
@@ -76,10 +84,12 @@ fn draw_line(
     requires number { length (shown_number numbered layout.gutter info.now.line_index) ≤ layout.gutter + 1 }
     requires text { length info.now.line.now < 2 ^ 56 }
     requires columns { All (λ e. HasColumns e.start e.end) info.now.annotations.items }
+    requires bounds { (bounds_of margin).left < 2 ^ 60 }
+    requires clear { All (StandsBehind margin) info.now.annotations.items }
     requires labels { All (λ e. IfSome e.label (λ t. length t.now < 2 ^ 56)) info.now.annotations.items }
-    ensures added { OnOk result (AddsLine layout numbered closes info.now buffer.old buffer.new) }
+    ensures added { OnOk result (AddsLine layout margin numbered closes info.now buffer.old buffer.new) }
 {
-    let row = draw_source_row(alloc, buffer, layout, numbered, info)?;
-    highlight_source(buffer, layout, row, &info.annotations)?;
-    draw_strokes(alloc, buffer, layout, closes, &info.annotations)
+    let (row, dropped) = draw_source_row(alloc, buffer, layout, numbered, margin, info)?;
+    highlight_source(buffer, layout, dropped, row, &info.annotations)?;
+    draw_strokes(alloc, buffer, layout, closes, dropped, &info.annotations)
 }

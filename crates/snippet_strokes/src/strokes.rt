@@ -1,5 +1,6 @@
 //! All that stands below the source row of a line.
-ghost use Rattle.std.specs.Prelude.{◌≡◌, ◌+◌, ◌^◌, ◌<◌, ◌≤◌, ◌++◌, ◌∷◌, [], if◌then◌else◌, All, IfSome, OnOk, length};
+ghost use Rattle.std.specs.Prelude.{◌≡◌, ◌+◌, ◌^◌, ◌<◌, ◌≤◌, ◌++◌, ◌∷◌, [], if◌then◌else◌, All, IfSome, OnOk, length, map};
+ghost use Rattle.snippet_strokes.specs.Entries.{shifted};
 ghost use Rattle.snippet_parts.specs.Marked.{HasColumns};
 ghost use Rattle.snippet_strokes.specs.Positions as spec;
 ghost use Rattle.snippet_strokes.specs.Rows.{AddsStrokes, closing_row};
@@ -14,7 +15,7 @@ use snippet_parts::LineAnnotation;
 use snippet_style::StyledBuffer;
 use std::alloc::{AllocError, Global};
 
-/// Draws the strokes of a line below all that stands in the grid: none if the line has no entries, and else the row of
+/// Draws the strokes of a line, of which so many columns are dropped on the left, below all that stands in the grid: none if the line has no entries, and else the row of
 /// its marks and the rows of the labels that hang from them. Where the window closes with the line, its last row begins
 /// with the closing glyph; a line with no entries then has a row for it.
 ///
@@ -35,18 +36,20 @@ pub(crate) fn draw_strokes(
     buffer: &mut StyledBuffer,
     layout: Layout,
     closes: bool,
+    dropped: usize,
     entries: &[LineAnnotation],
 ) -> Result<(), AllocError>
     requires place { layout.gutter + 3 ≤ layout.code }
     requires narrow { layout.code < 2 ^ 32 }
     requires columns { All (λ e. HasColumns e.start e.end) entries.now }
+    requires clear { All (λ e. dropped ≤ e.start.display) entries.now }
     requires labels { All (λ e. IfSome e.label (λ t. length t.now < 2 ^ 56)) entries.now }
-    ensures added { OnOk result (AddsStrokes layout entries.now closes buffer.old buffer.new) }
+    ensures added { OnOk result (AddsStrokes layout (map (shifted dropped) entries.now) closes buffer.old buffer.new) }
 {
     if entries.is_empty() {
         return close_below(buffer, layout, closes);
     }
-    let mut placed = placed_entries(alloc, entries)?;
+    let mut placed = placed_entries(alloc, dropped, entries)?;
     let row = begin_rows(buffer, layout, closes, row_count(&placed))?;
     draw_stems(buffer, layout, row, &placed)?;
     draw_labels(buffer, layout, row, &placed)?;

@@ -21,3 +21,12 @@ chars-bar = chars-encodes (codes "|") refl
 pub chars-end : chars (226 ∷ 149 ∷ 176 ∷ 226 ∷ 149 ∷ 180 ∷ []) ≡ codes "╰╴"
 unfolding lib.Utf8.encode
 chars-end = chars-encodes (codes "╰╴") refl
+
+-- the placeholders, as characters
+pub chars-dots : chars (46 ∷ 46 ∷ 46 ∷ []) ≡ codes "..."
+unfolding lib.Utf8.encode
+chars-dots = chars-encodes (codes "...") refl
+
+pub chars-ellipsis : chars (226 ∷ 128 ∷ 166 ∷ []) ≡ codes "…"
+unfolding lib.Utf8.encode
+chars-ellipsis = chars-encodes (codes "…") refl

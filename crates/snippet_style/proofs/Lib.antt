@@ -5,6 +5,7 @@ pub mod CodeSteps
 pub mod GridLemmas
 pub mod GridSteps
 pub mod PrintsOnce
+pub mod ReplaceLemmas
 pub mod StyleLemmas
 pub mod WeaveLemmas
 pub mod WovenLemmas

@@ -21,6 +21,11 @@ abbrev pub closing_of : DecorStyle → List ℕ
 closing_of Ascii = codes "|"
 closing_of Unicode = codes "╰╴"
 
+-- what stands in place of a part of a line that isn't shown: '...', or '…' in Unicode
+abbrev pub placeholder_of : DecorStyle → List ℕ
+placeholder_of Ascii = codes "..."
+placeholder_of Unicode = codes "…"
+
 -- the role of a stroke: primary, or else for context
 abbrev pub underline_role : Bool → ElementStyle
 underline_role true = UnderlinePrimary

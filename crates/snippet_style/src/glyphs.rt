@@ -1,7 +1,7 @@
 //! The characters that the strokes of a report are drawn with.
 
-ghost use Rattle.std.specs.Prelude.{◌≡◌, chars};
-ghost use Rattle.snippet_style.specs.Glyphs.{IsMarkGlyph, closing_of, file_start_of, glyph_of, separator_of, underline_role};
+ghost use Rattle.std.specs.Prelude.{◌≡◌, ◌≤◌, chars, length};
+ghost use Rattle.snippet_style.specs.Glyphs.{IsMarkGlyph, closing_of, file_start_of, glyph_of, placeholder_of, separator_of, underline_role};
 
 use crate::role::ElementStyle;
 
@@ -81,6 +81,17 @@ impl DecorStyle {
         match self {
             DecorStyle::Ascii => "|",
             DecorStyle::Unicode => "╰╴",
+        }
+    }
+
+    /// What stands in place of a part of a line that isn't shown.
+    pub fn placeholder(self) -> &'static str
+        ensures value { chars result.now ≡ placeholder_of self }
+        ensures short { length result.now ≤ 3 }
+    {
+        match self {
+            DecorStyle::Ascii => "...",
+            DecorStyle::Unicode => "…",
         }
     }
 

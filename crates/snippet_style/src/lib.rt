@@ -5,6 +5,7 @@ pub mod codes;
 pub mod defaults;
 pub mod glyphs;
 pub mod grid;
+mod replace;
 mod restyle;
 pub mod role;
 pub mod style;

@@ -4,6 +4,8 @@ use Rattle.std.proofs.lemmas.List.Sorted.{IsPermutation-map}
 use Rattle.snippet_parts.specs.declared.entries.LineAnnotation.{LineAnnotation}
 use Rattle.snippet_strokes.specs.declared.positions.PlacedEntry.{PlacedEntry}
 use Rattle.snippet_strokes.proofs.PositionLemmas.{length-positions, entries_all, written_back, ArePlaced-from}
+use Rattle.snippet_strokes.specs.Entries.{shifted}
+use Rattle.snippet_strokes.proofs.ShiftLemmas.{shifted_narrow}
 use Rattle.snippet_strokes.specs.Positions.{ArePlaced, positions, unplaced}
 use Rattle.std.proofs.lemmas.List.Sorted.{answers_always}
 use Rattle.snippet_strokes.proofs.OrderLemmas.{place_key, from_right_from_sort}
@@ -14,7 +16,7 @@ label_positions-requires c =
     let Q : LineAnnotation → Type 0 = λ e. e.end.display < 2 ^ 60 in
     let sorted = c.sort_by_key.new.self.items in
     let same = subst (λ es. IsPermutation es (map (λ (e : PlacedEntry). e.entry) sorted)) c.in_ok-placed.ensures.entries (IsPermutation-map (λ (e : PlacedEntry). e.entry) _ _ c.in_ok-sort_by_key.ensures.permutation) in
-    record { columns = subst (λ (ps : _). All (λ (e : PlacedEntry). Q e.entry) ps) (sym c.deref.ensures.value) (entries_all Q c.args.entries.now sorted same c.requires.columns) }
+    record { columns = subst (λ (ps : _). All (λ (e : PlacedEntry). Q e.entry) ps) (sym c.deref.ensures.value) (entries_all Q (map (shifted c.args.dropped) c.args.entries.now) sorted same (shifted_narrow c.args.dropped c.args.entries.now c.requires.columns)) }
 
 pub set_positions-requires : goal.set_positions-requires
 set_positions-requires c =
@@ -22,7 +24,7 @@ set_positions-requires c =
 
 pub returns : goal.returns
 returns c =
-    let es = c.args.entries.now in
+    let es = map (shifted c.args.dropped) c.args.entries.now in
     let sorted = c.sort_by_key.new.self in
     let placed = c.set_positions.new.entries in
     let kept = c.set_positions.ensures.kept ∙ ap (map unplaced) c.deref_mut.ensures.value in
