@@ -8,5 +8,6 @@ pub mod DrawLemmas
 pub mod MarkLemmas
 pub mod ShiftLemmas
 pub mod StrokeLemmas
+pub mod WholeLemmas
 pub mod SnippetLemmas
 pub mod PaintLemmas

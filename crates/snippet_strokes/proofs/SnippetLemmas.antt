@@ -18,6 +18,7 @@ use Rattle.snippet_parts.specs.Window.{dropped_part}
 use Rattle.snippet_text.specs.Width.{width_of}
 use Rattle.snippet_strokes.specs.Entries.{shifted}
 use Rattle.snippet_strokes.proofs.CellLemmas.{row_text-window_cells}
+use Rattle.snippet_strokes.proofs.WholeLemmas.{window_cells-whole}
 use Rattle.snippet_strokes.specs.Rows.{window_cells, shown_number, first_row, HasNoNumber, IsFree, IsSourceRow, IsStrokeRow, IsHighlighted, AddsSourceRow, AddsStrokes}
 use Rattle.snippet_strokes.proofs.RowLemmas.{bare_row_left, free_first_row}
 use Rattle.snippet_strokes.specs.Snippet.{ShowsLine, AreLinesShown, AddsLine, AddsSnippet}
@@ -87,6 +88,7 @@ line_added layout margin numbered closes info dropped old mid high new row place
         plain = source.row;
         shows = source.is;
         text = ap row_text source.is.shows.code ∙ row_text-window_cells layout.decor margin text;
+        whole = λ uncut fits. source.is.shows.code ∙ window_cells-whole layout.decor margin text uncut fits;
         dropped = dropped;
         dropped_is = dropped_is;
         highlighted = is;

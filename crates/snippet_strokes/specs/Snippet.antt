@@ -7,7 +7,8 @@ use Rattle.snippet_parts.specs.Margin.{bounds_of}
 use Rattle.snippet_parts.specs.Window.{dropped_part, window}
 use Rattle.snippet_strokes.specs.declared.layout.Layout.{Layout}
 use Rattle.snippet_style.specs.Glyphs.{placeholder_of}
-use Rattle.snippet_style.specs.Grid.{Cell}
+use Rattle.snippet_style.specs.Grid.{Cell, drawn}
+use Rattle.snippet_style.specs.declared.role.ElementStyle.TheVariants.{Quotation}
 use Rattle.snippet_style.specs.Print.{row_text}
 use Rattle.snippet_text.specs.Normalized.{norm}
 use Rattle.snippet_text.specs.Width.{width_of}
@@ -18,7 +19,8 @@ use Rattle.snippet_strokes.specs.Rows.{shown_number, first_row, HasNoNumber, IsF
 abbrev pub StandsBehind : Margin → LineAnnotation → Type 0
 StandsBehind margin e = 0 < (bounds_of margin).left → (bounds_of margin).left + 6 ≤ e.start.display
 
--- the rows show this line: the first its number and the window of its source, normalised, with what its entries highlight,
+-- the rows show this line: the first its number and the window of its source, normalised, with what its entries highlight
+-- (all of the line, if lines aren't cut on the left and the room holds it),
 -- the others its strokes, with which the window may close, as far left as columns of the line are dropped; none but the
 -- first can be taken for a source row, and none holds a listed character
 pub record ShowsLine (layout : Layout) (margin : Margin) (numbered closes : Bool) (info : AnnotatedLineInfo) (rows : List (List Cell)) : Type 0 where
@@ -28,6 +30,7 @@ pub record ShowsLine (layout : Layout) (margin : Margin) (numbered closes : Bool
   pub plain : List Cell
   pub shows : IsSourceRow layout (shown_number numbered layout.gutter info.line_index) (window_cells layout.decor margin (norm (chars info.line.now))) plain
   pub text : row_text (drop layout.code plain) ≡ window (placeholder_of layout.decor) margin.term_width (bounds_of margin).left (bounds_of margin).right (norm (chars info.line.now))
+  pub whole : (bounds_of margin).left ≡ 0 → width_of (norm (chars info.line.now)) ≤ margin.term_width → drop layout.code plain ≡ drawn Quotation (norm (chars info.line.now))
   pub dropped : ℕ
   pub dropped_is : dropped ≡ width_of (dropped_part (bounds_of margin).left (norm (chars info.line.now)))
   pub highlighted : IsHighlighted layout.code dropped info.annotations.items plain source

@@ -1,0 +1,65 @@
+-- A line that fits the room is shown as it is, where lines aren't cut on the left.
+use Rattle.std.proofs.Common.{◌≡◌, ℕ, ◌+◌, ◌-◌, ◌≤◌, min, cond, leb, ltb, true, false, None, Some, List, [], ◌∷◌, length, refl, ap, ◌∙◌, arith, unwrap_or}
+use Rattle.std.proofs.lemmas.Bool.{le-leb}
+use Rattle.std.proofs.lemmas.List.{take_all}
+use Rattle.std.proofs.lemmas.List.Sums.{sum_by-cons}
+use Rattle.snippet_parts.specs.declared.margin.Margin.{Margin}
+use Rattle.snippet_parts.specs.Margin.{bounds_of}
+use Rattle.snippet_parts.specs.Window.{reaching, fitting, reaching_last, window_left, window_right, inner_part, covered_columns, uncovered_part, covered_end}
+use Rattle.snippet_style.specs.declared.glyphs.DecorStyle.{DecorStyle}
+use Rattle.snippet_style.specs.declared.role.ElementStyle.TheVariants.{Quotation}
+use Rattle.snippet_style.specs.Glyphs.{placeholder_of}
+use Rattle.snippet_style.specs.Grid.{Cell, drawn}
+use Rattle.snippet_text.specs.Width.{char_width, width_of}
+use Rattle.snippet_strokes.specs.Rows.{shown_cells, window_cells}
+
+reaching-none : (text : List ℕ) → reaching 0 text ≡ 0
+reaching-none [] = refl
+reaching-none (c ∷ cs) = refl
+
+width-cons : (c : ℕ) (cs : List ℕ) → width_of (c ∷ cs) ≡ char_width c + width_of cs
+width-cons c cs = sum_by-cons char_width c cs
+
+-- a text fits in as many columns as it has
+fitting-all : (columns : ℕ) (text : List ℕ) → width_of text ≤ columns → fitting columns text ≡ length text
+fitting-all columns [] wide = refl
+fitting-all columns (c ∷ cs) wide =
+    let fits : leb (char_width c) columns ≡ true = le-leb (char_width c) columns (omega (arith, width-cons c cs, wide)) in
+    let rest : fitting (columns - char_width c) cs ≡ length cs = fitting-all (columns - char_width c) cs (omega (arith, width-cons c cs, wide)) in
+    rw (fits, rest) (omega arith)
+
+left-none : (text : List ℕ) → window_left 0 text ≡ 0
+left-none text = omega arith
+
+right-whole : (room right : ℕ) (text : List ℕ) → width_of text ≤ room → window_right room 0 right text ≡ width_of text
+right-whole room right text fits =
+    ap (λ b. cond b (width_of text) (min (width_of text) right)) (le-leb (width_of text - window_left 0 text) room (omega arith))
+
+inner-whole : (room right : ℕ) (text : List ℕ) → width_of text ≤ room → inner_part room 0 right text ≡ text
+inner-whole room right text fits =
+    rw (right-whole room right text fits, left-none text, reaching-none text, fitting-all (width_of text - 0) text (omega arith)) (take_all (length text) text (omega arith))
+
+not_less : (n : ℕ) → ltb n n ≡ false
+not_less n = grind arith
+
+end-none : (room right : ℕ) (placeholder text : List ℕ) → width_of text ≤ room → covered_end room 0 right placeholder text ≡ None
+end-none room right placeholder text fits =
+    let at = unwrap_or (covered_columns 0 placeholder (inner_part room 0 right text)) 0 + length (uncovered_part 0 placeholder (inner_part room 0 right text)) in
+    ap (λ n. cond (ltb n (width_of text)) (Some (at - reaching_last (width_of placeholder) (inner_part room 0 right text))) None) (right-whole room right text fits) ∙ ap (λ b. cond b (Some (at - reaching_last (width_of placeholder) (inner_part room 0 right text))) None) (not_less (width_of text))
+
+-- the cells between any bounds
+cells_between : DecorStyle → ℕ → ℕ → ℕ → List ℕ → List Cell
+cells_between decor room left right text =
+    let placeholder = placeholder_of decor in
+    let inner = inner_part room left right text in
+    shown_cells decor (covered_columns left placeholder inner) (uncovered_part left placeholder inner) (covered_end room left right placeholder text)
+
+whole_between : (decor : DecorStyle) (room right : ℕ) (text : List ℕ) → width_of text ≤ room → cells_between decor room 0 right text ≡ drawn Quotation text
+unfolding cells_between
+whole_between decor room right text fits =
+    ap (λ e. shown_cells decor None (inner_part room 0 right text) e) (end-none room right (placeholder_of decor) text fits) ∙ ap (drawn Quotation) (inner-whole room right text fits)
+
+pub window_cells-whole : (decor : DecorStyle) (margin : Margin) (text : List ℕ) → (bounds_of margin).left ≡ 0 → width_of text ≤ margin.term_width → window_cells decor margin text ≡ drawn Quotation text
+unfolding cells_between
+window_cells-whole decor margin text uncut fits =
+    ap (λ left. cells_between decor margin.term_width left (bounds_of margin).right text) uncut ∙ whole_between decor margin.term_width (bounds_of margin).right text fits
