@@ -5,7 +5,7 @@ use Rattle.std.specs.Cow.{cow_str_bytes}
 use Rattle.std.proofs.lemmas.Bool.{and_parts, cases_lt, cases_eq, eqb-true}
 use Rattle.std.proofs.lemmas.Bool.Decides.{nat_tests}
 use Rattle.std.proofs.lemmas.List.{map-append, take-map, drop-map, get_or-append_right, get_or-map, length-replicate}
-use Rattle.std.proofs.lemmas.List.Elements.{All-get_or}
+use Rattle.std.proofs.lemmas.List.Elements.{All-get_or, All-head, All-tail}
 use Rattle.snippet_model.specs.declared.snippet.Annotation.{Annotation}
 use Rattle.snippet_model.specs.declared.snippet.Snippet.{Snippet}
 use Rattle.snippet_style.specs.Grid.{Cell, SPACE, row_at, drawn, unlinked_cell}
@@ -16,9 +16,13 @@ use Rattle.snippet_parts.specs.declared.entries.AnnotatedLineInfo.{AnnotatedLine
 use Rattle.snippet_parts.specs.declared.entries.LineAnnotation.{LineAnnotation}
 use Rattle.snippet_parts.specs.Lines.{source_lines, text_at}
 use Rattle.snippet_parts.specs.Marked.{first_line, last_line, seen_entry, entry_of, seen_line, MarkedLine, marked_line, marked_lines, least_line, greatest_line}
-use Rattle.snippet_parts.specs.Window.{IsWindowOf, chars_at}
-use Rattle.snippet_strokes.specs.Entries.{IsMarkCell, has_mark_role, label_role, label_text}
-use Rattle.snippet_strokes.specs.Rows.{shown_number, first_row, bare_row, HasNoNumber, IsSourceRow, IsStrokeRow, ShowsMarks}
+use Rattle.snippet_parts.specs.Window.{IsWindowOf, chars_at, dropped_part}
+use Rattle.snippet_parts.specs.Margin.{bounds_of}
+use Rattle.snippet_parts.specs.declared.margin.Margin.{Margin}
+use Rattle.snippet_text.specs.Width.{width_of}
+use Rattle.snippet_text.proofs.NormLemmas.{width_of-norm}
+use Rattle.snippet_strokes.specs.Entries.{IsMarkCell, has_mark_role, label_role, label_text, shifted}
+use Rattle.snippet_strokes.specs.Rows.{shown_number, first_row, bare_row, HasNoNumber, AreStrokes, IsSourceRow, IsStrokeRow, ShowsMarks}
 use Rattle.snippet_strokes.specs.declared.layout.Layout.{Layout}
 use Rattle.snippet_strokes.specs.Snippet as strokes
 use Rattle.snippet_strokes.proofs.SnippetLemmas.{highlighted_text}
@@ -26,18 +30,18 @@ use Rattle.snippet_strokes.proofs.RowLemmas.{HasNoNumber-first_row, bare_row_rig
 use Rattle.snippet_parts.proofs.MarkedLemmas.{least_line-le, greatest_line-ge, greatest_line-within, least_line-le-greatest_line}
 use Rattle.snippet_style.specs.declared.glyphs.DecorStyle.TheVariants.{Ascii, Unicode}
 use Rattle.snippet_style.specs.declared.glyphs.DecorStyle.{DecorStyle}
-use Rattle.snippet_style.specs.Glyphs.{separator_of, closing_of}
+use Rattle.snippet_style.specs.Glyphs.{separator_of, closing_of, placeholder_of}
 use Rattle.std.specs.Char.{is_ascii_alphanumeric}
 use Rattle.annotate_snippets.specs.declared.renderer.Renderer.{Renderer}
 use Rattle.annotate_snippets.specs.Gutter.{gutter_of, number_text}
 use Rattle.annotate_snippets.specs.Drawn.{layout_of, numbered_source}
 use Rattle.annotate_snippets.specs.Page.{SourceRow, Other, NamedRow, lines_named, cells_of, cells_below, IsAscending}
-use Rattle.annotate_snippets.specs.Shown.{Frame, shown_label, placeholder_of, room_of, wide_spans, ShowsSourceLine, ShowsMarksOf, ShowsLineAndMarks, HasStroke, IsRowBelow, AreRowsOf, ShowsSnippet}
+use Rattle.annotate_snippets.specs.Shown.{Frame, shown_label, room_of, wide_spans, ShowsSourceLine, ShowsMarksOf, ShowsLineAndMarks, HasStroke, IsRowBelow, AreRowsOf, ShowsSnippet}
 use Rattle.snippet_parts.specs.Mark.{end_column}
 use Rattle.annotate_snippets.proofs.ListLemmas.{Contains-head, Contains-tail}
 use Rattle.annotate_snippets.proofs.MarkLemmas.{AreShort, IsEntryOf, mark_of_entries, unmarked_by_entries, entries_behind, unlabelled_entries, lone_entry, some_entry}
 use Rattle.snippet_titles.proofs.TextLemmas.{row_text-drawn}
-use Rattle.annotate_snippets.proofs.WindowLemmas.{IsWindowOf-whole}
+use Rattle.annotate_snippets.proofs.WindowLemmas.{IsWindowOf-whole, dropped-none}
 
 -- where the parts of a snippet's rows stand
 abbrev pub frame_of : Snippet Annotation → Frame
@@ -70,8 +74,8 @@ tail_same : {X : Type 0} (x y : X) (xs ys : List X) → x ∷ xs ≡ y ∷ ys �
 tail_same x y xs ys same = cc
 
 -- between a line's number and its code stand the separator and spaces
-beside_number : (layout : Layout) (shown text : List ℕ) (row : List Cell) (c : ℕ) → IsSourceRow layout shown text row → length shown ≤ c → c < layout.code → is_ascii_alphanumeric (get_or row c SPACE).ch ≡ false
-beside_number layout shown text row c is right left =
+beside_number : (layout : Layout) (shown : List ℕ) (cells row : List Cell) (c : ℕ) → IsSourceRow layout shown cells row → length shown ≤ c → c < layout.code → is_ascii_alphanumeric (get_or row c SPACE).ch ≡ false
+beside_number layout shown cells row c is right left =
     elim (cases_eq c (layout.gutter + 1)) [
       | inl at ↦ ap (λ (cell : Cell). is_ascii_alphanumeric cell.ch) (ap (λ n. get_or row n SPACE) at ∙ is.separator) ∙ no_letter layout.decor
       | inr other ↦ ap (λ (cell : Cell). is_ascii_alphanumeric cell.ch) (is.blank c right other left)
@@ -131,10 +135,28 @@ IsRowBelow-more : (decor : DecorStyle) (gutter : ℕ) (may can : Bool) (row : Li
 IsRowBelow-more decor gutter may can row more is =
     record { unnumbered = is.unnumbered; stroke = elim is.stroke [ | inl parted ↦ inl parted | inr closed ↦ inr (more closed.0, closed.1) ] }
 
+-- where nothing is dropped, entries stand where they stood
+unshifted : (dropped : ℕ) (es : List LineAnnotation) → dropped ≡ 0 → map (shifted dropped) es ≡ es
+unshifted dropped es none = ap (λ d. map (shifted d) es) none ∙ each es
+  where
+    same : (e : LineAnnotation) → shifted 0 e ≡ e
+    same e =
+        let start : e.start.display - 0 ≡ e.start.display = omega arith in
+        let end : e.end.display - 0 ≡ e.end.display = omega arith in
+        ap (λ n. at n (e.end.display - 0)) start ∙ ap (at e.start.display) end
+      where
+        at : ℕ → ℕ → LineAnnotation
+        at from to =
+            record e { start = record e.start { display = from }; end = record e.end { display = to } }
+
+    each : (es : List LineAnnotation) → map (shifted 0) es ≡ es
+    each [] = refl
+    each (e ∷ es) = ap (λ x. x ∷ map (shifted 0) es) (same e) ∙ ap (λ xs. e ∷ xs) (each es)
+
 -- no lines have no rows
-none_shown : (layout : Layout) (numbered closes : Bool) (infos : List AnnotatedLineInfo) (rows : List (List Cell)) → (true && length infos == 0) ≡ true → strokes.AreLinesShown layout numbered closes infos rows → rows ≡ []
-none_shown layout numbered closes [] rows last shown = shown
-none_shown layout numbered closes (info ∷ infos) rows last shown = absurd (omega (arith, eqb-true (length (info ∷ infos)) 0 last))
+none_shown : (layout : Layout) (margin : Margin) (numbered closes : Bool) (infos : List AnnotatedLineInfo) (rows : List (List Cell)) → (true && length infos == 0) ≡ true → strokes.AreLinesShown layout margin numbered closes infos rows → rows ≡ []
+none_shown layout margin numbered closes [] rows last shown = shown
+none_shown layout margin numbered closes (info ∷ infos) rows last shown = absurd (omega (arith, eqb-true (length (info ∷ infos)) 0 last))
 
 -- rows with no cells at all are no rows
 no_cells : (part : List NamedRow) → cells_of part ≡ [] → part ≡ []
@@ -155,23 +177,23 @@ in_range (suc count) from k low high =
       | inr equal ↦ subst (λ n. Contains (range_with_len from (suc count)) n) (omega arith) (Contains-head from (range_with_len (from + 1) count))
     ]
 
-module _ (r : Renderer) (plain : r.anonymized_snippet_line_numbers ≡ false) (s : Snippet Annotation) (short : AreShort (numbered_source s) s.markers.items) where
+module _ (r : Renderer) (plain : r.anonymized_snippet_line_numbers ≡ false) (s : Snippet Annotation) (short : AreShort (numbered_source s) s.markers.items) (margin : Margin) (uncut : (bounds_of margin).left ≡ 0) where
   abbrev own_lines : ℕ
   own_lines = length (source_lines (cow_str_bytes s.source))
 
   abbrev row_shows : Bool → AnnotatedLineInfo → List (List Cell) → Type 0
-  row_shows closes info rows = strokes.ShowsLine (layout_of r.decor_style s) s.line_numbering closes info rows
+  row_shows closes info rows = strokes.ShowsLine (layout_of r.decor_style s) margin s.line_numbering closes info rows
 
   number_plain : (number : ℕ) → number_text r s.line_numbering (gutter_of s) number ≡ shown_number s.line_numbering (gutter_of s) number
   number_plain number = rw plain refl
 
   -- a source row shows its line
-  source_line : (k : ℕ) (info : AnnotatedLineInfo) (row : List Cell) → k < own_lines → seen_line info ≡ marked_line (numbered_source s) s.markers.items k → IsSourceRow (layout_of r.decor_style s) (shown_number s.line_numbering (gutter_of s) info.line_index) (norm (chars info.line.now)) row → ShowsSourceLine r (frame_of s) s k 0 row
-  source_line k info row within seen is =
+  source_line : (k : ℕ) (info : AnnotatedLineInfo) (row : List Cell) → k < own_lines → seen_line info ≡ marked_line (numbered_source s) s.markers.items k → (cells : List Cell) → IsSourceRow (layout_of r.decor_style s) (shown_number s.line_numbering (gutter_of s) info.line_index) cells row → drop (gutter_of s + 3) row ≡ drawn Quotation (norm (chars info.line.now)) → ShowsSourceLine r (frame_of s) s k 0 row
+  source_line k info row within seen cells is whole =
       let shows = is.shows in
       let same_number : shown_number s.line_numbering (gutter_of s) info.line_index ≡ number_text r s.line_numbering (gutter_of s) (s.line_start + k) = ap (λ n. shown_number s.line_numbering (gutter_of s) n) (ap (λ (l : MarkedLine). l.number) seen) ∙ sym (number_plain (s.line_start + k)) in
       let text_is : info.line.now ≡ text_at (source_lines (cow_str_bytes s.source)) k = ap (λ (l : MarkedLine). l.text) seen in
-      let code : row_text (drop (gutter_of s + 3) row) ≡ norm (chars_at (cow_str_bytes s.source) k) = ap row_text shows.code ∙ row_text-drawn Quotation (norm (chars info.line.now)) ∙ ap (λ bytes. norm (chars bytes)) text_is in
+      let code : row_text (drop (gutter_of s + 3) row) ≡ norm (chars_at (cow_str_bytes s.source) k) = ap row_text whole ∙ row_text-drawn Quotation (norm (chars info.line.now)) ∙ ap (λ bytes. norm (chars bytes)) text_is in
       record {
         within = within;
         number = subst (λ shown. row_text (take (length shown) row) ≡ shown) same_number (ap row_text shows.number ∙ row_text-drawn LineNumber (shown_number s.line_numbering (gutter_of s) info.line_index));
@@ -202,17 +224,21 @@ module _ (r : Renderer) (plain : r.anonymized_snippet_line_numbers ≡ false) (s
       }
 
   -- the rows of a line show it
-  line_and_marks : (closes : Bool) (k : ℕ) (info : AnnotatedLineInfo) (rows : List (List Cell)) (more : List NamedRow) → k < own_lines → seen_line info ≡ marked_line (numbered_source s) s.markers.items k → (shows : row_shows closes info rows) → ShowsLineAndMarks r (frame_of s) s k shows.source (cells_below (others shows.below ++ more))
-  line_and_marks closes k info rows more within seen shows =
+  line_and_marks : (closes : Bool) (k : ℕ) (info : AnnotatedLineInfo) (rows : List (List Cell)) (more : List NamedRow) → width_of (chars info.line.now) ≤ margin.term_width → k < own_lines → seen_line info ≡ marked_line (numbered_source s) s.markers.items k → (shows : row_shows closes info rows) → ShowsLineAndMarks r (frame_of s) s k shows.source (cells_below (others shows.below ++ more))
+  line_and_marks closes k info rows more fits within seen shows =
+      let none : shows.dropped ≡ 0 = shows.dropped_is ∙ ap (λ left. width_of (dropped_part left (norm (chars info.line.now)))) uncut ∙ dropped-none (norm (chars info.line.now)) in
+      let whole = shows.whole uncut (omega (arith, width_of-norm (chars info.line.now), fits)) in
+      let entries : map (shifted shows.dropped) info.annotations.items ≡ info.annotations.items = unshifted shows.dropped info.annotations.items none in
+      let strokes_are : AreStrokes (layout_of r.decor_style s) info.annotations.items closes shows.below = subst (λ es. AreStrokes (layout_of r.decor_style s) es closes shows.below) entries shows.strokes in
       let es : List LineAnnotation = info.annotations.items in
       let same : map seen_entry es ≡ map (entry_of (numbered_source s)) (filter (λ a. first_line (cow_str_bytes s.source) a == k) s.markers.items) = ap (λ (l : MarkedLine). l.entries) seen in
       record {
         dropped = 0;
-        line = same_line r (frame_of s) s k 0 shows.plain shows.source (highlighted_text (gutter_of s + 3) es shows.plain shows.source shows.highlighted) (source_line k info shows.plain within seen shows.shows);
+        line = same_line r (frame_of s) s k 0 shows.plain shows.source (highlighted_text (gutter_of s + 3) shows.dropped es shows.plain shows.source shows.highlighted) (source_line k info shows.plain within seen _ shows.shows whole);
         marks = λ qualifies.
             let some : 0 < length es = some_entry (numbered_source s) s.markers.items short k es same (and_parts _ _ (and_parts _ _ qualifies).0).0 in
-            let there : 0 < length shows.below = shows.strokes.some some in
-            subst (λ row. ShowsMarksOf r.decor_style (frame_of s) s k 0 row) (sym (below-first shows.below more there)) (marks_of_line k info (row_at shows.below 0) seen shows.strokes.marks (closes && 0 + 1 == length shows.below) (shows.strokes.are 0 there));
+            let there : 0 < length shows.below = strokes_are.some some in
+            subst (λ row. ShowsMarksOf r.decor_style (frame_of s) s k 0 row) (sym (below-first shows.below more there)) (marks_of_line k info (row_at shows.below 0) seen strokes_are.marks (closes && 0 + 1 == length shows.below) (strokes_are.are 0 there));
       }
 
   -- rows below a line, of which the last may close
@@ -237,32 +263,32 @@ module _ (r : Renderer) (plain : r.anonymized_snippet_line_numbers ≡ false) (s
     pub names : lines_named part ≡ range_with_len from count
     pub are : AreRowsOf r (frame_of s) s part
 
-  pub named_lines : (count from : ℕ) (infos : List AnnotatedLineInfo) (rows : List (List Cell)) → from + count ≤ own_lines → map seen_line infos ≡ map (marked_line (numbered_source s) s.markers.items) (range_with_len from count) → strokes.AreLinesShown (layout_of r.decor_style s) s.line_numbering true infos rows → AreNamed from count rows
-  named_lines zero from [] rows within lines shown = record { part = []; cells = sym shown; names = refl; are = tt }
-  named_lines zero from (info ∷ infos) rows within lines shown = cc
-  named_lines (suc count) from [] rows within lines shown = cc
-  named_lines (suc count) from (info ∷ infos) rows within lines shown =
+  pub named_lines : (count from : ℕ) (infos : List AnnotatedLineInfo) (rows : List (List Cell)) → from + count ≤ own_lines → map seen_line infos ≡ map (marked_line (numbered_source s) s.markers.items) (range_with_len from count) → All (λ info. width_of (chars info.line.now) ≤ margin.term_width) infos → strokes.AreLinesShown (layout_of r.decor_style s) margin s.line_numbering true infos rows → AreNamed from count rows
+  named_lines zero from [] rows within lines fit shown = record { part = []; cells = sym shown; names = refl; are = tt }
+  named_lines zero from (info ∷ infos) rows within lines fit shown = cc
+  named_lines (suc count) from [] rows within lines fit shown = cc
+  named_lines (suc count) from (info ∷ infos) rows within lines fit shown =
       let here = head_same (seen_line info) (marked_line (numbered_source s) s.markers.items from) (map seen_line infos) (map (marked_line (numbered_source s) s.markers.items) (range_with_len (from + 1) count)) lines in
       let further = tail_same (seen_line info) (marked_line (numbered_source s) s.markers.items from) (map seen_line infos) (map (marked_line (numbered_source s) s.markers.items) (range_with_len (from + 1) count)) lines in
-      let rest : AreNamed (from + 1) count shown.1 = named_lines count (from + 1) infos shown.1 (omega arith) further shown.4 in
+      let rest : AreNamed (from + 1) count shown.1 = named_lines count (from + 1) infos shown.1 (omega arith) further (All-tail (λ (i : AnnotatedLineInfo). width_of (chars i.line.now) ≤ margin.term_width) info infos fit) shown.4 in
       let closes : Bool = true && length infos == 0 in
       let shows : row_shows closes info shown.0 = shown.3 in
       let source_row : NamedRow = record { name = SourceRow from; cells = shows.source } in
-      let part_ends : (true && length infos == 0) ≡ true → rest.part ≡ [] = λ last. no_cells rest.part (rest.cells ∙ none_shown (layout_of r.decor_style s) s.line_numbering true infos shown.1 last shown.4) in
+      let part_ends : (true && length infos == 0) ≡ true → rest.part ≡ [] = λ last. no_cells rest.part (rest.cells ∙ none_shown (layout_of r.decor_style s) margin s.line_numbering true infos shown.1 last shown.4) in
       record {
         part = source_row ∷ (others shows.below ++ rest.part);
         cells = ap (λ rs. shows.source ∷ rs) (cells_of-append (others shows.below) rest.part ∙ ap (λ rs. rs ++ cells_of rest.part) (cells_of-others shows.below) ∙ ap (λ rs. shows.below ++ rs) rest.cells) ∙ ap (λ rs. rs ++ shown.1) (sym shows.rows_are) ∙ sym shown.2;
         names = ap (λ ks. from ∷ ks) (lines_named-others shows.below rest.part ∙ rest.names);
-        are = (line_and_marks closes from info shown.0 rest.part (omega arith) here shows, others_are closes shows.below rest.part part_ends (λ i inside. row_below r.decor_style (gutter_of s) closes info.annotations.items shows.below i inside shows.unnumbered (shows.strokes.are i inside)) rest.are);
+        are = (line_and_marks closes from info shown.0 rest.part (All-head (λ (i : AnnotatedLineInfo). width_of (chars i.line.now) ≤ margin.term_width) info infos fit) (omega arith) here shows, others_are closes shows.below rest.part part_ends (λ i inside. row_below r.decor_style (gutter_of s) closes (map (shifted shows.dropped) info.annotations.items) shows.below i inside shows.unnumbered (shows.strokes.are i inside)) rest.are);
       }
 
   -- the rows of a snippet show it: the row that begins it, and the rows of its lines
-  pub snippet_shown : (infos : List AnnotatedLineInfo) (rows : List (List Cell)) → 0 < length s.markers.items → map seen_line infos ≡ marked_lines (numbered_source s) s.markers.items → strokes.AreLinesShown (layout_of r.decor_style s) s.line_numbering true infos rows → (part : List NamedRow) × (cells_of part ≡ first_row r.decor_style true (gutter_of s) ∷ rows) × ShowsSnippet r (frame_of s) true s part
-  snippet_shown infos rows some lines shown =
+  pub snippet_shown : (infos : List AnnotatedLineInfo) (rows : List (List Cell)) → 0 < length s.markers.items → map seen_line infos ≡ marked_lines (numbered_source s) s.markers.items → All (λ info. width_of (chars info.line.now) ≤ margin.term_width) infos → strokes.AreLinesShown (layout_of r.decor_style s) margin s.line_numbering true infos rows → (part : List NamedRow) × (cells_of part ≡ first_row r.decor_style true (gutter_of s) ∷ rows) × ShowsSnippet r (frame_of s) true s part
+  snippet_shown infos rows some lines fit shown =
       let text : List ℕ = cow_str_bytes s.source in
       let first : ℕ = least_line text s.markers.items in
       let last : ℕ = greatest_line text s.markers.items in
-      let named : AreNamed first (last + 1 - first) rows = named_lines (last + 1 - first) first infos rows (omega (arith, greatest_line-within text s.markers.items, least_line-le-greatest_line text s.markers.items some)) lines shown in
+      let named : AreNamed first (last + 1 - first) rows = named_lines (last + 1 - first) first infos rows (omega (arith, greatest_line-within text s.markers.items, least_line-le-greatest_line text s.markers.items some)) lines fit shown in
       let opening : NamedRow = record { name = Other; cells = first_row r.decor_style true (gutter_of s) } in
       let among : (k : ℕ) → first ≤ k → k ≤ last → Contains (lines_named named.part) k = λ k from to. subst (λ ks. Contains ks k) (sym named.names) (in_range (last + 1 - first) first k from (omega arith)) in (
         opening ∷ named.part,

@@ -85,7 +85,7 @@ module _ (r : Renderer) (groups : List Group) (title : Title) (s : Snippet Annot
   pub report_shown : (rows : List (List Cell)) → AddsCause r.decor_style s titles rows → (page : GroupPage) × (rows ≡ group_rows page) × AllZip (ShowsGroup r (gutter_of_report r groups)) groups (page ∷ [])
   report_shown rows drawn =
       let is : IsShortSnippet s = short_snippet r.term_width s covered in
-      let shown = snippet_shown r plain s is.short drawn.infos drawn.rows.rows is.some drawn.lines drawn.rows.shown in
+      let shown = snippet_shown r plain s is.short drawn.margin drawn.uncut drawn.infos drawn.rows.rows is.some drawn.lines drawn.room drawn.rows.shown in
       let part : List NamedRow = shown.0 in
       let group_page : GroupPage = record { title = titles; elements = part ∷ [] } in
       let gutter : gutter_of s ≡ gutter_of_report r (of.group ∷ []) = gutter_is r of.group s plain of.elements_are in
@@ -108,7 +108,7 @@ module _ (r : Renderer) (groups : List Group) (title : Title) (s : Snippet Annot
       let layout = layout_of r.decor_style s in (
         first_row layout.decor true layout.gutter ∷ drawn.rows.rows,
         drawn.rows.added,
-        free_from_AddsSnippet layout s.line_numbering true true drawn.infos titles rows drawn.rows,
+        free_from_AddsSnippet layout drawn.margin s.line_numbering true true drawn.infos titles rows drawn.rows,
       )
 
 -- rows that hold no listed character

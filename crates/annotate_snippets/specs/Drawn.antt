@@ -1,6 +1,6 @@
 -- What the grid holds: a title, an annotated snippet below it, and with both a whole report.
 use Rattle.snippet_style.specs.Woven.{links_of}
-use Rattle.std.specs.Prelude.{◌≡◌, ◌+◌, ◌<◌, ◌^◌, All, length, Bool, true, List, [], ◌∷◌, Option, None, Some, map}
+use Rattle.std.specs.Prelude.{◌≡◌, ◌+◌, ◌<◌, ◌≤◌, ◌^◌, All, chars, length, Bool, true, List, [], ◌∷◌, Option, None, Some, map}
 use Rattle.std.specs.List.{AllZip}
 use Rattle.std.specs.Cow.{cow_str_bytes}
 use Rattle.snippet_style.specs.Grid.{Cell}
@@ -16,6 +16,9 @@ use Rattle.snippet_model.specs.declared.snippet.Annotation.{Annotation}
 use Rattle.snippet_parts.specs.declared.entries.AnnotatedLineInfo.{AnnotatedLineInfo}
 use Rattle.snippet_parts.specs.Lines.{Source, source_lines}
 use Rattle.snippet_parts.specs.Span.{IsSpan}
+use Rattle.snippet_parts.specs.Margin.{bounds_of}
+use Rattle.snippet_parts.specs.declared.margin.Margin.{Margin}
+use Rattle.snippet_text.specs.Width.{width_of}
 use Rattle.snippet_model.specs.Fits.{AnnotationFits}
 use Rattle.snippet_parts.specs.Marked.{seen_line, marked_lines}
 use Rattle.snippet_strokes.specs.declared.layout.Layout.{Layout}
@@ -33,12 +36,15 @@ layout_of decor s = record { gutter = gutter_of s; code = gutter_of s + 3; decor
 abbrev pub numbered_source : Snippet Annotation → Source
 numbered_source s = record { text = cow_str_bytes s.source; first = s.line_start }
 
--- the rows of a snippet's marked lines are added below the rows that are there; it is its group's one element, and so the
--- first and the one with which the window closes
+-- the rows of a snippet's marked lines are added below the rows that are there, each line whole; it is its group's one
+-- element, and so the first and the one with which the window closes
 pub record AddsCause (decor : DecorStyle) (s : Snippet Annotation) (old new : List (List Cell)) : Type 0 where
   pub infos : List AnnotatedLineInfo
   pub lines : map seen_line infos ≡ marked_lines (numbered_source s) s.markers.items
-  pub rows : AddsSnippet (layout_of decor s) s.line_numbering true true infos old new
+  pub margin : Margin
+  pub uncut : (bounds_of margin).left ≡ 0
+  pub room : All (λ info. width_of (chars info.line.now) ≤ margin.term_width) infos
+  pub rows : AddsSnippet (layout_of decor s) margin s.line_numbering true true infos old new
 
 -- what drawing a snippet asks of it: that its texts and its line numbers fit, and that it has spans, each of which is one
 pub record IsDrawable (s : Snippet Annotation) : Type 0 where

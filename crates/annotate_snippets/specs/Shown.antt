@@ -9,7 +9,6 @@ use Rattle.snippet_style.specs.Grid.{Cell, SPACE, row_at, cell_at}
 use Rattle.snippet_style.specs.Print.{row_text}
 use Rattle.snippet_style.specs.Woven.{IsWoven}
 use Rattle.snippet_style.specs.declared.glyphs.DecorStyle.{DecorStyle}
-use Rattle.snippet_style.specs.declared.glyphs.DecorStyle.TheVariants.{Ascii, Unicode}
 use Rattle.snippet_style.specs.declared.role.LevelInner.{LevelInner}
 use Rattle.snippet_style.specs.declared.stylesheet.Stylesheet.{Stylesheet}
 use Rattle.snippet_text.specs.Normalized.{is_listed, norm}
@@ -31,7 +30,7 @@ use Rattle.snippet_parts.specs.Marked.{first_line, last_line}
 use Rattle.snippet_parts.specs.Mark.{is_marking, is_single_line, is_marked_on, is_wide, qualifies_for_marks, start_column, end_column, IsMarkedAt, IsMarkOf}
 use Rattle.snippet_parts.specs.Window.{chars_at, stands_whole, IsWindowOf}
 use Rattle.snippet_titles.specs.Title.{id_chars, id_address, id_links}
-use Rattle.snippet_style.specs.Glyphs.{separator_of, closing_of}
+use Rattle.snippet_style.specs.Glyphs.{separator_of, closing_of, placeholder_of}
 use Rattle.snippet_strokes.specs.Entries.{IsMarkCell, has_mark_role}
 use Rattle.snippet_strokes.specs.Rows.{first_row, HasNoNumber}
 use Rattle.annotate_snippets.specs.declared.renderer.Renderer.{Renderer}
@@ -94,11 +93,6 @@ pub record ShowsTitle (hyperlink : Bool) (gutter : ℕ) (title : Option Title) (
   pub texts : (i : ℕ) → i < length (title_texts title) → row_text (row_at rows i) ≡ slice_index_or (title_texts title) i []
   pub further : (i : ℕ) → length (title_texts title) ≤ i → HasNoNumber gutter (row_at rows i)
   pub links : IfSome title (λ t. LinksId hyperlink t rows)
-
--- what stands for a part of a line that is left out
-abbrev pub placeholder_of : DecorStyle → List ℕ
-placeholder_of Ascii = 46 ∷ 46 ∷ 46 ∷ []
-placeholder_of Unicode = 0x2026 ∷ []
 
 -- where the rows of a report's snippets have their parts: the gutter's width, and the code's cell
 pub record Frame : Type 0 where

@@ -6,7 +6,7 @@
 //! 1 | let x = 1;
 //!   |     ^
 //! ```
-ghost use Rattle.std.specs.Prelude.{◌<◌, ◌^◌, length, IfSome, OnOk, IfOk, map, string_bytes};
+ghost use Rattle.std.specs.Prelude.{◌≡◌, ◌≤◌, ◌<◌, ◌^◌, All, chars, length, IfSome, OnOk, IfOk, map, string_bytes};
 ghost use Rattle.std.specs.List.{AllZip};
 ghost use Rattle.std.specs.Option.{option_copied};
 ghost use Rattle.snippet_model.specs.Fits.{AnnotationFits, TitleFits};
@@ -14,14 +14,17 @@ ghost use Rattle.snippet_model.specs.Level.{name_of};
 ghost use Rattle.snippet_parts.specs.Lines.{source_lines};
 ghost use Rattle.snippet_parts.specs.Span.{IsSpan};
 ghost use Rattle.annotate_snippets.specs.Drawn.{AddsCause, IsDrawable, IsGridOf};
+ghost use Rattle.snippet_parts.specs.Margin.{bounds_of};
 ghost use Rattle.snippet_style.specs.Woven.{Prints};
+ghost use Rattle.snippet_text.specs.Width.{width_of};
 
 use crate::renderer::gutter::gutter_of;
 use snippet_model::snippet::{Annotation, Snippet, Title};
-use snippet_parts::SourceMap;
+use snippet_parts::{AnnotatedLineInfo, Margin, SourceMap};
 use snippet_parts::marked_lines::marked_lines;
 use snippet_strokes::{Layout, draw_snippet};
 use snippet_style::{DecorStyle, LevelInner, StyledBuffer, Stylesheet};
+use snippet_text::str_width;
 use snippet_titles::draw_title;
 use std::alloc::{AllocError, Global};
 
@@ -77,6 +80,7 @@ fn draw_cause(
 {
     let source = SourceMap::new(alloc, snippet.source.as_str(), snippet.line_start)?;
     let lines = marked_lines(alloc, &source, &snippet.markers)?;
+    let margin = uncut_margin(&lines);
     let gutter = gutter_of(snippet);
     let layout = Layout {
         gutter,
@@ -87,10 +91,27 @@ fn draw_cause(
         alloc,
         buffer,
         layout,
+        margin,
         snippet.line_numbering,
         true,
         true,
         &lines,
     )?;
     Ok(())
+}
+
+/// The margin of lines that all stand whole: the room is as wide as the widest of them.
+fn uncut_margin(lines: &[AnnotatedLineInfo]) -> Margin
+    requires texts { All (λ info. length info.line.now < 2 ^ 56) lines.now }
+    ensures left { (bounds_of result).left ≡ 0 }
+    ensures room { All (λ info. width_of (chars info.line.now) ≤ result.term_width) lines.now }
+{
+    let mut widest = 0;
+    for info in lines {
+        let width = str_width(info.line);
+        if width > widest {
+            widest = width;
+        }
+    }
+    Margin::new(0, 0, 0, 0, widest, widest)
 }
