@@ -1,6 +1,7 @@
 pub mod BoundsLemmas
 pub mod CountLemmas
 pub mod CursorLemmas
+pub mod DepthLemmas
 pub mod Examples
 pub mod LinesLemmas
 pub mod MarkLemmas

@@ -1,3 +1,4 @@
+pub mod Depths
 pub mod Kept
 pub mod LineTable
 pub mod Lines

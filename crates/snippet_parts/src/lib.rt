@@ -2,6 +2,7 @@
 #![tactic(auto)]
 
 pub mod counts;
+pub mod depths;
 pub mod entries;
 pub mod line_bounds;
 pub mod lines;
