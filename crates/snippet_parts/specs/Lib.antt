@@ -1,10 +1,14 @@
+pub mod Annotated
 pub mod Depths
 pub mod Kept
 pub mod LineTable
 pub mod Lines
+pub mod LongSpans
 pub mod Mark
 pub mod Marked
 pub mod Place
 pub mod Prepare
 pub mod Span
+pub mod Stretches
+pub mod Weak
 pub mod Window

@@ -90,7 +90,7 @@ fn raw_depth(place: LongPlace, later: &[LongPlace], raws: &[usize]) -> usize
 }
 
 /// How many of some places start on a line or above.
-fn starting_by(places: &[LongPlace], line: usize) -> usize
+pub(crate) fn starting_by(places: &[LongPlace], line: usize) -> usize
     requires ordered { IsNonDecreasingBy (λ p. p.first) places.now }
     ensures within { result ≤ length places.now }
     ensures by { AllWithin (λ p. p.first ≤ line) places.now 0 result }

@@ -1,11 +1,17 @@
 //! The parts of a snippet: the lines of a source, and the places in it.
 #![tactic(auto)]
 
+mod all_entries;
+mod annotated_lines;
+mod bars;
 pub mod counts;
 pub mod depths;
 pub mod entries;
+mod kept;
 pub mod line_bounds;
 pub mod lines;
+mod long_spans;
+mod made_entries;
 pub mod mark;
 pub mod marked_lines;
 pub mod place;
@@ -14,6 +20,7 @@ pub mod source_map;
 pub mod span;
 #[cfg(test)]
 mod tests;
+mod weak_lines;
 pub mod window;
 
 pub use counts::{line_feed_count, newline_count_before};
