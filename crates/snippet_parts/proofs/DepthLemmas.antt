@@ -428,6 +428,10 @@ raw-apart (r ∷ ps) p q in-p in-q share same =
 any-contains : (ps : List LongPlace) (p : LongPlace) → Contains ps p → list_any (same_place p) ps ≡ true
 any-contains ps p among = subst (λ (q : LongPlace). list_any (same_place q) ps ≡ true) among.2 (any-at ps among.0 p among.1)
 
+-- the same of places that stand among those of the spans
+pub distinct-places : (ps : List LongPlace) (p q : LongPlace) → list_any (same_place p) ps ≡ true → list_any (same_place q) ps ≡ true → share_line p q ≡ true → depth_among ps p ≡ depth_among ps q → p ≡ q
+distinct-places ps p q in-p in-q share same = raw-apart ps p q in-p in-q share (omega (arith, same, among-most (places_of ps) p, among-most (places_of ps) q))
+
 pub depths-distinct : (ps : List LongPlace) (p q : LongPlace) → Contains ps p → Contains ps q → share_line p q ≡ true → depth_among ps p ≡ depth_among ps q → p ≡ q
 depths-distinct ps p q among-p among-q share same =
     raw-apart ps p q (any-contains ps p among-p) (any-contains ps q among-q) share (omega (arith, same, among-most (places_of ps) p, among-most (places_of ps) q))

@@ -1,9 +1,9 @@
 -- The lines that are kept, each with its entries.
 use Rattle.std.proofs.Common.{None, ◌≡◌, ℕ, zero, suc, ◌+◌, ◌-◌, ◌<◌, ◌≤◌, Bool, true, false, ◌&&◌, ◌||◌, cond, not, eqb, leb, ltb, List, [], ◌∷◌, ◌++◌, map, length, take, drop, get_or, inl, inr, ◌⊎◌, refl, sym, ap, subst, ◌∙◌, arith}
-use Rattle.std.specs.List.{filter, list_any, range_with_len}
+use Rattle.std.specs.List.{Contains, filter, list_any, range_with_len}
 use Rattle.std.specs.List.Sorted.{IsStableByKey, IsNonDecreasingBy, ties}
 use Rattle.std.specs.Ordering.{is_lt, nat_cmp}
-use Rattle.std.proofs.lemmas.Bool.{cases_Bool, cases_lt, cond-true, cond-false, eq-eqb, ne_eqb}
+use Rattle.std.proofs.lemmas.Bool.{cases_Bool, cases_lt, or_left, or_right, cond-true, cond-false, eq-eqb, ne_eqb}
 use Rattle.std.proofs.lemmas.Bool.Decides.{nat_tests}
 use Rattle.std.proofs.lemmas.List.{map-append, map-id, map_push, append-nil}
 use Rattle.std.proofs.lemmas.List.Elements.{filter-append, filter_agree}
@@ -14,10 +14,12 @@ use Rattle.snippet_parts.specs.declared.entries.AnnotatedLineInfo.{AnnotatedLine
 use Rattle.snippet_parts.specs.declared.entries.LineAnnotation.{LineAnnotation}
 use Rattle.snippet_parts.specs.declared.entries.LineAnnotationType.TheVariants.{Singleline}
 use Rattle.snippet_parts.specs.declared.place.Loc.{Loc}
-use Rattle.snippet_parts.specs.Annotated.{PartEntry, seen_part, made_parts, parts_on, KeptLine, seen_kept, kept_line, annotated_lines}
+use Rattle.snippet_parts.specs.Annotated.{put_in, in_order, is_long, long_entry, long_place, long_places, long_spans, stands_before, depth_of, PartEntry, seen_part, made_parts, parts_on, KeptLine, seen_kept, kept_line, annotated_lines}
 use Rattle.snippet_parts.specs.Kept.{keeps, kept_lines}
 use Rattle.snippet_parts.specs.Lines.{Source, source_lines, text_at}
+use Rattle.snippet_parts.specs.Depths.{same_place, share_line}
 use Rattle.snippet_parts.specs.Stretches.{is_seen}
+use Rattle.snippet_parts.proofs.DepthLemmas.{same-refl, distinct-places}
 
 pub filter-map : {X Y : Type 0} (p : Y → Bool) (f : X → Y) (xs : List X) → filter p (map f xs) ≡ map f (filter (λ x. p (f x)) xs)
 filter-map p f [] = refl
@@ -84,3 +86,49 @@ from-to xs n from to within below behind =
       | inr le ↦ le
       | inl less ↦ absurd (omega (arith, below to (at-line 0) less (omega arith), behind to (at-line 0) (omega arith) (omega arith)))
     ]
+
+-- ---- depths of annotations
+
+any-put : {X : Type 0} (before : X → X → Bool) (q : X → Bool) (x : X) (ys : List X) → list_any q (put_in before x ys) ≡ (q x || list_any q ys)
+any-put before q x [] = refl
+any-put before q x (y ∷ ys) =
+    elim (cases_Bool (before y x)) [
+      | inl t ↦ ap (list_any q) (cond-true (before y x) (y ∷ put_in before x ys) (x ∷ y ∷ ys) t) ∙ ap (λ b. q y || b) (any-put before q x ys) ∙ swapped (q y) (q x) (list_any q ys)
+      | inr f ↦ ap (list_any q) (cond-false (before y x) (y ∷ put_in before x ys) (x ∷ y ∷ ys) f)
+    ]
+  where
+    swapped : (a b c : Bool) → (a || (b || c)) ≡ (b || (a || c))
+    swapped true true c = refl
+    swapped true false c = refl
+    swapped false true c = refl
+    swapped false false c = refl
+
+any-order : {X : Type 0} (before : X → X → Bool) (q : X → Bool) (xs : List X) → list_any q (in_order before xs) ≡ list_any q xs
+any-order before q [] = refl
+any-order before q (x ∷ xs) = any-put before q x (in_order before xs) ∙ ap (λ b. q x || b) (any-order before q xs)
+
+any-map : {X Y : Type 0} (q : Y → Bool) (f : X → Y) (xs : List X) → list_any q (map f xs) ≡ list_any (λ x. q (f x)) xs
+any-map q f [] = refl
+any-map q f (x ∷ xs) = ap (λ b. q (f x) || b) (any-map q f xs)
+
+any-filter : {X : Type 0} (q p : X → Bool) (xs : List X) (k : ℕ) (d : X) → k < length xs → p (get_or xs k d) ≡ true → q (get_or xs k d) ≡ true → list_any q (filter p xs) ≡ true
+any-filter q p [] k d within pass hit = absurd (omega arith)
+any-filter q p (x ∷ xs) zero d within pass hit = ap (list_any q) (cond-true (p x) (x ∷ filter p xs) (filter p xs) pass) ∙ or_left (q x) (list_any q (filter p xs)) hit
+any-filter q p (x ∷ xs) (suc k) d within pass hit =
+    elim (cases_Bool (p x)) [
+      | inl t ↦ ap (list_any q) (cond-true (p x) (x ∷ filter p xs) (filter p xs) t) ∙ or_right (q x) (list_any q (filter p xs)) (any-filter q p xs k d (omega arith) pass hit)
+      | inr f ↦ ap (list_any q) (cond-false (p x) (x ∷ filter p xs) (filter p xs) f) ∙ any-filter q p xs k d (omega arith) pass hit
+    ]
+
+-- the place of a span of several lines stands among the places
+place-among : (s : Source) (marks : List Annotation) (a : Annotation) → Contains marks a → is_long s.text a ≡ true → list_any (same_place (long_place (long_entry s a))) (long_places s marks) ≡ true
+place-among s marks a among long =
+    any-map (same_place (long_place (long_entry s a))) long_place (long_spans s marks)
+    ∙ any-order stands_before (λ e. same_place (long_place (long_entry s a)) (long_place e)) (map (long_entry s) (filter (is_long s.text) marks))
+    ∙ any-map (λ e. same_place (long_place (long_entry s a)) (long_place e)) (long_entry s) (filter (is_long s.text) marks)
+    ∙ any-filter (λ b. same_place (long_place (long_entry s a)) (long_place (long_entry s b))) (is_long s.text) marks among.0 a among.1 (ap (is_long s.text) among.2 ∙ long) (ap (λ b. same_place (long_place (long_entry s a)) (long_place (long_entry s b))) among.2 ∙ same-refl (long_place (long_entry s a)))
+
+-- spans of several lines that share a line and have one depth have one place
+pub annotations-distinct : (s : Source) (marks : List Annotation) (a b : Annotation) → Contains marks a → Contains marks b → is_long s.text a ≡ true → is_long s.text b ≡ true → share_line (long_place (long_entry s a)) (long_place (long_entry s b)) ≡ true → depth_of s marks a ≡ depth_of s marks b → long_place (long_entry s a) ≡ long_place (long_entry s b)
+annotations-distinct s marks a b among-a among-b long-a long-b share same =
+    distinct-places (long_places s marks) (long_place (long_entry s a)) (long_place (long_entry s b)) (place-among s marks a among-a long-a) (place-among s marks b among-b long-b) share same

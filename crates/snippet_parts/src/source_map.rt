@@ -1,5 +1,5 @@
 //! A source whose lines are known by number and by byte.
-ghost use Rattle.std.specs.Prelude.{◌≡◌, ℕ, List, ◌+◌, ◌-◌, ◌^◌, ◌<◌, ◌≤◌, All, map, length, IfOk, IfSome};
+ghost use Rattle.std.specs.Prelude.{◌≡◌, ℕ, List, ◌+◌, ◌-◌, ◌^◌, ◌<◌, ◌≤◌, true, All, Contains, map, length, IfOk, IfSome};
 ghost use Rattle.std.specs.Option.{option_copied};
 ghost use Rattle.std.specs.List.{HoldsAt};
 ghost use Rattle.std.specs.List.Sorted.{IsNonDecreasingBy};
@@ -9,6 +9,8 @@ ghost use Rattle.snippet_parts.specs.Place.{line_of, location_of, steps_behind_t
 ghost use Rattle.snippet_parts.specs.Span.{IsSpan, IsSpanBorder};
 ghost use Rattle.snippet_parts.specs.Annotated as spec;
 ghost use Rattle.snippet_parts.specs.Annotated.{seen_kept};
+ghost use Rattle.snippet_parts.specs.Depths.{places_of, share_line, IsLongestChain};
+ghost use Rattle.snippet_model.specs.declared.snippet.Annotation.{Annotation};
 
 use crate::annotated_lines::annotated_lines;
 use crate::entries::AnnotatedLineInfo;
@@ -121,6 +123,14 @@ impl<'a> SourceMap<'a> {
         // a span keeps it without marking it.
         ensures lines { IfOk result (λ drawn. map seen_kept drawn.1.items ≡ spec.annotated_lines fold self.now annotations.now) }
         ensures deepest { IfOk result (λ drawn. drawn.0 ≡ spec.deepest self.now annotations.now) }
+        // The greatest depth is the length of a longest list of places, each of which shares a line with the next.
+        ensures longest { IfOk result (λ drawn. IsLongestChain (places_of (spec.long_places self.now annotations.now)) drawn.0) }
+        // Two spans of several lines that share a line and have one depth start and end at the same bytes.
+        ensures distinct { (a b : Annotation) → Contains annotations.now a → Contains annotations.now b
+            → spec.is_long self.now.text a ≡ true → spec.is_long self.now.text b ≡ true
+            → share_line (spec.long_place (spec.long_entry self.now a)) (spec.long_place (spec.long_entry self.now b)) ≡ true
+            → spec.depth_of self.now annotations.now a ≡ spec.depth_of self.now annotations.now b
+            → spec.long_place (spec.long_entry self.now a) ≡ spec.long_place (spec.long_entry self.now b) }
     {
         annotated_lines(*self.lines.allocator(), self, annotations, fold)
     }
