@@ -31,6 +31,7 @@ any-fewer p i k m le none =
         there : (a b : Bool) → (a || b) ≡ true → a ≡ false → b ≡ true
         there true b any other = cc
         there false b any other = any
+
     clash : (p : ℕ → Bool) (from n at : ℕ) → from ≤ at → at < from + n → p at ≡ true → list_any p (range_with_len from n) ≡ false → ⊥
     clash p from n at low high hit none = let t : list_any p (range_with_len from n) ≡ true = any-hit p from n at low high hit in cc
 

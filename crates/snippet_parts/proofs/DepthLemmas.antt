@@ -76,17 +76,18 @@ greatest-is (p ∷ ps) =
     let h : greatest_depth ps ≡ max_of (raw_depths ps) = greatest-is ps in
     elim (cases_Bool (list_any (same_place p) ps)) [
       | inl holds ↦
-        let e : greatest_depth (p ∷ ps) ≡ greatest_depth ps = ap greatest_raw_depth (places-again p ps holds) in
-        let f : raw_depth_among (places_of (p ∷ ps)) p ≡ raw_depth_among (places_of ps) p = ap (λ qs. raw_depth_among qs p) (places-again p ps holds) in
-        let g : raw_depth_among (places_of ps) p ≤ greatest_depth ps = among-most (places_of ps) p in
-        e ∙ join (greatest_depth ps) (raw_depth_among (places_of (p ∷ ps)) p) (max_of (raw_depths ps)) h (omega arith)
+          let e : greatest_depth (p ∷ ps) ≡ greatest_depth ps = ap greatest_raw_depth (places-again p ps holds) in
+          let f : raw_depth_among (places_of (p ∷ ps)) p ≡ raw_depth_among (places_of ps) p = ap (λ qs. raw_depth_among qs p) (places-again p ps holds) in
+          let g : raw_depth_among (places_of ps) p ≤ greatest_depth ps = among-most (places_of ps) p in
+          e ∙ join (greatest_depth ps) (raw_depth_among (places_of (p ∷ ps)) p) (max_of (raw_depths ps)) h (omega arith)
       | inr fails ↦
-        let e : greatest_depth (p ∷ ps) ≡ max (raw_depth p (places_of ps)) (greatest_depth ps) = ap greatest_raw_depth (places-new p ps fails) in
-        e ∙ both (raw_depth p (places_of ps)) (raw_depth_among (places_of (p ∷ ps)) p) (greatest_depth ps) (max_of (raw_depths ps)) (sym (among-new p ps fails)) h
+          let e : greatest_depth (p ∷ ps) ≡ max (raw_depth p (places_of ps)) (greatest_depth ps) = ap greatest_raw_depth (places-new p ps fails) in
+          e ∙ both (raw_depth p (places_of ps)) (raw_depth_among (places_of (p ∷ ps)) p) (greatest_depth ps) (max_of (raw_depths ps)) (sym (among-new p ps fails)) h
     ]
   where
     join : (a b c : ℕ) → a ≡ c → b ≤ a → a ≡ max b c
     join a b c e f = omega arith
+
     both : (a b c d : ℕ) → a ≡ b → c ≡ d → max a c ≡ max b d
     both a b c d e f = omega arith
 
@@ -137,14 +138,14 @@ near_max-behind p q [] share again = cc
 near_max-behind p q (r ∷ ps) share again =
     elim (cases_Bool (list_any (same_place q) ps)) [
       | inl holds ↦
-        let h : raw_depth_among (places_of ps) q ≤ near_max p ps = near_max-behind p q ps share holds in
-        let e : raw_depth_among (places_of (r ∷ ps)) q ≡ raw_depth_among (places_of ps) q = among-behind r q ps holds in
-        omega arith
+          let h : raw_depth_among (places_of ps) q ≤ near_max p ps = near_max-behind p q ps share holds in
+          let e : raw_depth_among (places_of (r ∷ ps)) q ≡ raw_depth_among (places_of ps) q = among-behind r q ps holds in
+          omega arith
       | inr fails ↦
-        let same : q ≡ r = same-true q r (here (same_place q r) (list_any (same_place q) ps) again fails) in
-        let e : cond (share_line p r) (raw_depth_among (places_of (r ∷ ps)) r) 0 ≡ raw_depth_among (places_of (r ∷ ps)) r = cond-true (share_line p r) (raw_depth_among (places_of (r ∷ ps)) r) 0 (subst (λ (x : LongPlace). share_line p x ≡ true) same share) in
-        let f : raw_depth_among (places_of (r ∷ ps)) q ≡ raw_depth_among (places_of (r ∷ ps)) r = ap (λ x. raw_depth_among (places_of (r ∷ ps)) x) same in
-        omega arith
+          let same : q ≡ r = same-true q r (here (same_place q r) (list_any (same_place q) ps) again fails) in
+          let e : cond (share_line p r) (raw_depth_among (places_of (r ∷ ps)) r) 0 ≡ raw_depth_among (places_of (r ∷ ps)) r = cond-true (share_line p r) (raw_depth_among (places_of (r ∷ ps)) r) 0 (subst (λ (x : LongPlace). share_line p x ≡ true) same share) in
+          let f : raw_depth_among (places_of (r ∷ ps)) q ≡ raw_depth_among (places_of (r ∷ ps)) r = ap (λ x. raw_depth_among (places_of (r ∷ ps)) x) same in
+          omega arith
     ]
   where
     here : (a b : Bool) → (a || b) ≡ true → b ≡ false → a ≡ true
@@ -162,26 +163,26 @@ raw_depth-near p (q ∷ ps) =
     let h : raw_depth p (places_of ps) ≡ near_max p ps + 1 = raw_depth-near p ps in
     elim (cases_Bool (list_any (same_place q) ps)) [
       | inl holds ↦
-        ap (raw_depth p) (places-again q ps holds) ∙ h ∙ elim (cases_Bool (share_line p q)) [
-          | inl share ↦
-            let le : raw_depth_among (places_of ps) q ≤ near_max p ps = near_max-behind p q ps share holds in
-            let e : cond (share_line p q) (raw_depth_among (places_of (q ∷ ps)) q) 0 ≡ raw_depth_among (places_of ps) q = cond-true (share_line p q) (raw_depth_among (places_of (q ∷ ps)) q) 0 share ∙ among-behind q q ps holds in
-            omega arith
-          | inr apart ↦
-            let e : cond (share_line p q) (raw_depth_among (places_of (q ∷ ps)) q) 0 ≡ 0 = cond-false (share_line p q) (raw_depth_among (places_of (q ∷ ps)) q) 0 apart in
-            omega arith
-        ]
+          ap (raw_depth p) (places-again q ps holds) ∙ h ∙ elim (cases_Bool (share_line p q)) [
+            | inl share ↦
+                let le : raw_depth_among (places_of ps) q ≤ near_max p ps = near_max-behind p q ps share holds in
+                let e : cond (share_line p q) (raw_depth_among (places_of (q ∷ ps)) q) 0 ≡ raw_depth_among (places_of ps) q = cond-true (share_line p q) (raw_depth_among (places_of (q ∷ ps)) q) 0 share ∙ among-behind q q ps holds in
+                omega arith
+            | inr apart ↦
+                let e : cond (share_line p q) (raw_depth_among (places_of (q ∷ ps)) q) 0 ≡ 0 = cond-false (share_line p q) (raw_depth_among (places_of (q ∷ ps)) q) 0 apart in
+                omega arith
+          ]
       | inr fails ↦
-        ap (raw_depth p) (places-new q ps fails) ∙ elim (cases_Bool (share_line p q)) [
-          | inl share ↦
-            let e : cond (share_line p q) (raw_depth_among (places_of (q ∷ ps)) q) 0 ≡ raw_depth q (places_of ps) = cond-true (share_line p q) (raw_depth_among (places_of (q ∷ ps)) q) 0 share ∙ among-new q ps fails in
-            let f : cond (share_line p q) (raw_depth q (places_of ps) + 1) 1 ≡ raw_depth q (places_of ps) + 1 = cond-true (share_line p q) (raw_depth q (places_of ps) + 1) 1 share in
-            omega arith
-          | inr apart ↦
-            let e : cond (share_line p q) (raw_depth_among (places_of (q ∷ ps)) q) 0 ≡ 0 = cond-false (share_line p q) (raw_depth_among (places_of (q ∷ ps)) q) 0 apart in
-            let f : cond (share_line p q) (raw_depth q (places_of ps) + 1) 1 ≡ 1 = cond-false (share_line p q) (raw_depth q (places_of ps) + 1) 1 apart in
-            omega arith
-        ]
+          ap (raw_depth p) (places-new q ps fails) ∙ elim (cases_Bool (share_line p q)) [
+            | inl share ↦
+                let e : cond (share_line p q) (raw_depth_among (places_of (q ∷ ps)) q) 0 ≡ raw_depth q (places_of ps) = cond-true (share_line p q) (raw_depth_among (places_of (q ∷ ps)) q) 0 share ∙ among-new q ps fails in
+                let f : cond (share_line p q) (raw_depth q (places_of ps) + 1) 1 ≡ raw_depth q (places_of ps) + 1 = cond-true (share_line p q) (raw_depth q (places_of ps) + 1) 1 share in
+                omega arith
+            | inr apart ↦
+                let e : cond (share_line p q) (raw_depth_among (places_of (q ∷ ps)) q) 0 ≡ 0 = cond-false (share_line p q) (raw_depth_among (places_of (q ∷ ps)) q) 0 apart in
+                let f : cond (share_line p q) (raw_depth q (places_of ps) + 1) 1 ≡ 1 = cond-false (share_line p q) (raw_depth q (places_of ps) + 1) 1 apart in
+                omega arith
+          ]
     ]
 
 -- where no place is near, none is in the way
@@ -220,8 +221,8 @@ search-same p (suc k) deepest (q ∷ ps) own near again =
     elim (cases_Bool (same_place p q)) [
       | inl same ↦ cond-true (same_place p q) (raw_depth_among (places_of (q ∷ ps)) q) (search_from (max (raw_depth_among (places_of (q ∷ ps)) q) deepest) p (take k ps) (raw_depths ps)) same ∙ ap (raw_depth_among (places_of (q ∷ ps))) (sym (same-true p q same))
       | inr other ↦
-        let behind : list_any (same_place p) ps ≡ true = there (same_place p q) (list_any (same_place p) ps) again other in
-        cond-false (same_place p q) (raw_depth_among (places_of (q ∷ ps)) q) (search_from (max (raw_depth_among (places_of (q ∷ ps)) q) deepest) p (take k ps) (raw_depths ps)) other ∙ search-same p k (max (raw_depth_among (places_of (q ∷ ps)) q) deepest) ps own near.1 behind ∙ sym (among-behind q p ps behind)
+          let behind : list_any (same_place p) ps ≡ true = there (same_place p q) (list_any (same_place p) ps) again other in
+          cond-false (same_place p q) (raw_depth_among (places_of (q ∷ ps)) q) (search_from (max (raw_depth_among (places_of (q ∷ ps)) q) deepest) p (take k ps) (raw_depths ps)) other ∙ search-same p k (max (raw_depth_among (places_of (q ∷ ps)) q) deepest) ps own near.1 behind ∙ sym (among-behind q p ps behind)
     ]
   where
     there : (a b : Bool) → (a || b) ≡ true → a ≡ false → b ≡ true
@@ -242,6 +243,7 @@ search-new p (suc k) deepest (q ∷ ps) near new =
     neither : (a b : Bool) → (a || b) ≡ false → (a ≡ false) × (b ≡ false)
     neither true b none = cc
     neither false b none = (refl, none)
+
     regroup : (n d m r : ℕ) → m ≡ n → max (max n d) r + 1 ≡ max d (max m r) + 1
     regroup n d m r e = omega arith
 
@@ -379,9 +381,9 @@ among-some (q ∷ ps) p stands =
     elim (cases_Bool (list_any (same_place p) ps)) [
       | inl again ↦ omega (arith, among-behind q p ps again, among-some ps p again)
       | inr fails ↦
-        let same : p ≡ q = same-true p q (here (same_place p q) (list_any (same_place p) ps) stands fails) in
-        let e : raw_depth_among (places_of (q ∷ ps)) p ≡ raw_depth p (places_of ps) = ap (λ x. raw_depth_among (places_of (x ∷ ps)) p) (sym same) ∙ among-new p ps fails in
-        omega (arith, raw_depth-some p (places_of ps))
+          let same : p ≡ q = same-true p q (here (same_place p q) (list_any (same_place p) ps) stands fails) in
+          let e : raw_depth_among (places_of (q ∷ ps)) p ≡ raw_depth p (places_of ps) = ap (λ x. raw_depth_among (places_of (x ∷ ps)) p) (sym same) ∙ among-new p ps fails in
+          omega (arith, raw_depth-some p (places_of ps))
     ]
   where
     here : (a b : Bool) → (a || b) ≡ true → b ≡ false → a ≡ true
@@ -406,19 +408,19 @@ raw-apart [] p q in-p in-q share same = cc
 raw-apart (r ∷ ps) p q in-p in-q share same =
     elim (cases_Bool (list_any (same_place p) ps)) [
       | inl p-again ↦ elim (cases_Bool (list_any (same_place q) ps)) [
-          | inl q-again ↦ raw-apart ps p q p-again q-again share (sym (among-behind r p ps p-again) ∙ same ∙ among-behind r q ps q-again)
-          | inr q-new ↦
+        | inl q-again ↦ raw-apart ps p q p-again q-again share (sym (among-behind r p ps p-again) ∙ same ∙ among-behind r q ps q-again)
+        | inr q-new ↦
             let is : q ≡ r = same-true q r (here (same_place q r) (list_any (same_place q) ps) in-q q-new) in
             let e : raw_depth_among (places_of (r ∷ ps)) q ≡ raw_depth q (places_of ps) = ap (λ x. raw_depth_among (places_of (x ∷ ps)) q) (sym is) ∙ among-new q ps q-new in
             absurd (omega (arith, e, same, among-behind r p ps p-again, raw_depth-near q ps, near_max-behind q p ps (share-swap p q share) p-again))
-        ]
+      ]
       | inr p-new ↦
-        let is : p ≡ r = same-true p r (here (same_place p r) (list_any (same_place p) ps) in-p p-new) in
-        let e : raw_depth_among (places_of (r ∷ ps)) p ≡ raw_depth p (places_of ps) = ap (λ x. raw_depth_among (places_of (x ∷ ps)) p) (sym is) ∙ among-new p ps p-new in
-        elim (cases_Bool (list_any (same_place q) ps)) [
-          | inl q-again ↦ absurd (omega (arith, e, same, among-behind r q ps q-again, raw_depth-near p ps, near_max-behind p q ps share q-again))
-          | inr q-new ↦ is ∙ sym (same-true q r (here (same_place q r) (list_any (same_place q) ps) in-q q-new))
-        ]
+          let is : p ≡ r = same-true p r (here (same_place p r) (list_any (same_place p) ps) in-p p-new) in
+          let e : raw_depth_among (places_of (r ∷ ps)) p ≡ raw_depth p (places_of ps) = ap (λ x. raw_depth_among (places_of (x ∷ ps)) p) (sym is) ∙ among-new p ps p-new in
+          elim (cases_Bool (list_any (same_place q) ps)) [
+            | inl q-again ↦ absurd (omega (arith, e, same, among-behind r q ps q-again, raw_depth-near p ps, near_max-behind p q ps share q-again))
+            | inr q-new ↦ is ∙ sym (same-true q r (here (same_place q r) (list_any (same_place q) ps) in-q q-new))
+          ]
     ]
   where
     here : (a b : Bool) → (a || b) ≡ true → b ≡ false → a ≡ true
@@ -442,7 +444,7 @@ depths-distinct ps p q among-p among-q share same =
 chain-short : (p : LongPlace) (ps chain : List LongPlace) → IsChainOf ps chain → SharesWithFirst p chain → length chain + 1 ≤ raw_depth p ps
 chain-short p [] chain is linked = omega (arith, ap length is)
 chain-short p (q ∷ ps) chain (inl is) linked = omega (arith, chain-short p ps chain is linked)
-chain-short p (q ∷ ps) chain (inr (rest , begins , first , is)) linked =
+chain-short p (q ∷ ps) chain (inr (rest, begins, first, is)) linked =
     let share : share_line p q ≡ true = subst (SharesWithFirst p) begins linked in
     let e : cond (share_line p q) (raw_depth q ps + 1) 1 ≡ raw_depth q ps + 1 = cond-true (share_line p q) (raw_depth q ps + 1) 1 share in
     omega (arith, ap length begins, chain-short q ps rest is first)
@@ -450,7 +452,7 @@ chain-short p (q ∷ ps) chain (inr (rest , begins , first , is)) linked =
 any-chain-short : (ps chain : List LongPlace) → IsChainOf ps chain → length chain ≤ greatest_raw_depth ps
 any-chain-short [] chain is = omega (arith, ap length is)
 any-chain-short (p ∷ ps) chain (inl is) = omega (arith, any-chain-short ps chain is)
-any-chain-short (p ∷ ps) chain (inr (rest , begins , first , is)) = omega (arith, ap length begins, chain-short p ps rest is first)
+any-chain-short (p ∷ ps) chain (inr (rest, begins, first, is)) = omega (arith, ap length begins, chain-short p ps rest is first)
 
 -- a chain that goes on from a place, as long as its raw depth says
 record IsRest (p : LongPlace) (ps : List LongPlace) : Type 0 where
@@ -466,14 +468,14 @@ rest-of p (q ∷ ps) =
     let there : IsRest q ps = rest-of q ps in
     elim (cases_Bool (share_line p q)) [
       | inl share ↦
-        let e : cond (share_line p q) (raw_depth q ps + 1) 1 ≡ raw_depth q ps + 1 = cond-true (share_line p q) (raw_depth q ps + 1) 1 share in
-        elim (cases_lt (raw_depth q ps) (raw_depth p ps)) [
-          | inl less ↦ record { chain = here.chain; is = inl here.is; linked = here.linked; long = omega (arith, here.long) }
-          | inr more ↦ record { chain = q ∷ there.chain; is = inr (there.chain, refl, there.linked, there.is); linked = share; long = omega (arith, there.long) }
-        ]
+          let e : cond (share_line p q) (raw_depth q ps + 1) 1 ≡ raw_depth q ps + 1 = cond-true (share_line p q) (raw_depth q ps + 1) 1 share in
+          elim (cases_lt (raw_depth q ps) (raw_depth p ps)) [
+            | inl less ↦ record { chain = here.chain; is = inl here.is; linked = here.linked; long = omega (arith, here.long) }
+            | inr more ↦ record { chain = q ∷ there.chain; is = inr (there.chain, refl, there.linked, there.is); linked = share; long = omega (arith, there.long) }
+          ]
       | inr apart ↦
-        let e : cond (share_line p q) (raw_depth q ps + 1) 1 ≡ 1 = cond-false (share_line p q) (raw_depth q ps + 1) 1 apart in
-        record { chain = here.chain; is = inl here.is; linked = here.linked; long = omega (arith, here.long, raw_depth-some p ps) }
+          let e : cond (share_line p q) (raw_depth q ps + 1) 1 ≡ 1 = cond-false (share_line p q) (raw_depth q ps + 1) 1 apart in
+          record { chain = here.chain; is = inl here.is; linked = here.linked; long = omega (arith, here.long, raw_depth-some p ps) }
     ]
 
 pub longest-chain : (ps : List LongPlace) → IsLongestChain ps (greatest_raw_depth ps)

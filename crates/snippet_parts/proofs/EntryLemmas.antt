@@ -30,13 +30,14 @@ filter-upto p u from (suc n) m same within is =
     elim (cases_lt u from) [
       | inl past ↦ filter-behind p u from (suc n) same past ∙ sym (none m (omega arith))
       | inr upto ↦
-        cond-true (p from) (from ∷ filter p (range_with_len (from + 1) n)) (filter p (range_with_len (from + 1) n)) (sym (same from (omega arith)) ∙ le-leb from u upto)
-        ∙ ap (λ xs. from ∷ xs) (filter-upto p u (from + 1) n ((u + 1) - (from + 1)) (λ k le. same k (omega arith)) (omega arith) refl)
-        ∙ sym (some m (omega arith))
+          cond-true (p from) (from ∷ filter p (range_with_len (from + 1) n)) (filter p (range_with_len (from + 1) n)) (sym (same from (omega arith)) ∙ le-leb from u upto)
+          ∙ ap (λ xs. from ∷ xs) (filter-upto p u (from + 1) n ((u + 1) - (from + 1)) (λ k le. same k (omega arith)) (omega arith) refl)
+          ∙ sym (some m (omega arith))
     ]
   where
     none : (m : ℕ) → m ≡ 0 → range_with_len from m ≡ []
     none m e = ap (range_with_len from) e
+
     some : (m : ℕ) → m ≡ suc ((u + 1) - (from + 1)) → range_with_len from m ≡ from ∷ range_with_len (from + 1) ((u + 1) - (from + 1))
     some m e = ap (range_with_len from) e
 

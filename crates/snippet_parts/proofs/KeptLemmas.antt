@@ -21,29 +21,32 @@ pub covered-set : (reach : List ℕ) (s : Stretch) (k v : ℕ) → s.first < len
 covered-set reach s k v within is =
     elim (cases_lt k s.first) [
       | inl before ↦
-        ap (λ xs. ltb k (furthest xs)) (take-set-le (k + 1) reach s.first v (omega arith)) ∙ sym (ap (λ b. is_covered reach k || (b && leb k s.last)) (lt-leb s.first k before) ∙ plain (is_covered reach k))
+          ap (λ xs. ltb k (furthest xs)) (take-set-le (k + 1) reach s.first v (omega arith)) ∙ sym (ap (λ b. is_covered reach k || (b && leb k s.last)) (lt-leb s.first k before) ∙ plain (is_covered reach k))
       | inr behind ↦
-        ap (λ n. ltb k n) (reach-below reach s.first (k + 1) v within (omega arith) (omega arith) ∙ old behind) ∙ both (furthest (take (k + 1) reach)) k s.last ∙ sym (ap (λ b. is_covered reach k || (b && leb k s.last)) (le-leb s.first k behind))
+          ap (λ n. ltb k n) (reach-below reach s.first (k + 1) v within (omega arith) (omega arith) ∙ old behind) ∙ both (furthest (take (k + 1) reach)) k s.last ∙ sym (ap (λ b. is_covered reach k || (b && leb k s.last)) (le-leb s.first k behind))
     ]
   where
     plain : (b : Bool) → (b || false) ≡ b
     plain true = refl
     plain false = refl
+
     at-most : (xs : List ℕ) (f n : ℕ) → f < length xs → f < n → get_or xs f 0 ≤ furthest (take n xs)
     at-most [] f n a b = absurd (omega arith)
     at-most (x ∷ xs) f zero a b = absurd (omega arith)
     at-most (x ∷ xs) zero (suc n) a b = omega arith
     at-most (x ∷ xs) (suc f) (suc n) a b = let h : get_or xs f 0 ≤ furthest (take n xs) = at-most xs f n (omega arith) (omega arith) in omega arith
+
     old : s.first ≤ k → max (furthest (take (k + 1) reach)) v ≡ max (furthest (take (k + 1) reach)) (s.last + 1)
     old behind = omega (arith, at-most reach s.first (k + 1) within (omega arith))
+
     both : (a k l : ℕ) → ltb k (max a (l + 1)) ≡ (ltb k a || leb k l)
     both a k l =
         elim (cases_lt k a) [
           | inl in-a ↦ lt-ltb k (max a (l + 1)) (omega arith) ∙ sym (or_left (ltb k a) (leb k l) (lt-ltb k a in-a))
           | inr past ↦ elim (cases_lt l k) [
-              | inl out ↦ le-ltb k (max a (l + 1)) (omega arith) ∙ sym (or_from (ltb k a) (leb k l) (le-ltb k a past) (lt-leb k l out))
-              | inr in-l ↦ lt-ltb k (max a (l + 1)) (omega arith) ∙ sym (or_right (ltb k a) (leb k l) (le-leb k l in-l))
-            ]
+            | inl out ↦ le-ltb k (max a (l + 1)) (omega arith) ∙ sym (or_from (ltb k a) (leb k l) (le-ltb k a past) (lt-leb k l out))
+            | inr in-l ↦ lt-ltb k (max a (l + 1)) (omega arith) ∙ sym (or_right (ltb k a) (leb k l) (le-leb k l in-l))
+          ]
         ]
 
 furthest-push : (xs : List ℕ) (n : ℕ) → furthest (xs ++ n ∷ []) ≡ max n (furthest xs)
@@ -79,26 +82,30 @@ or-same false = refl
 -- a span of one line, or one that isn't marked, keeps all its lines
 pub keeps-all : (f l k : ℕ) (marked bar : Bool) → (f ≡ l) ⊎ (marked ≡ false) → ((leb f k && leb k l) || (leb f k && leb k l)) ≡ (leb f k && leb k l && (eqb k f || eqb k l || not marked || bar))
 keeps-all f l k marked bar why = or-same (leb f k && leb k l) ∙ sym (elim (cases_lt k f) [
-      | inl before ↦ ap (λ b. b && leb k l && (eqb k f || eqb k l || not marked || bar)) (lt-leb f k before) ∙ sym (ap (λ b. b && leb k l) (lt-leb f k before))
-      | inr from ↦ elim (cases_lt l k) [
-          | inl behind ↦ ap (λ b. leb f k && b && (eqb k f || eqb k l || not marked || bar)) (lt-leb k l behind) ∙ none (leb f k) (eqb k f || eqb k l || not marked || bar) ∙ sym (ap (λ b. leb f k && b) (lt-leb k l behind) ∙ none' (leb f k))
-          | inr to ↦ ap (λ b. leb f k && leb k l && b) (why-kept why from to) ∙ all (leb f k && leb k l)
-        ]
-    ])
+  | inl before ↦ ap (λ b. b && leb k l && (eqb k f || eqb k l || not marked || bar)) (lt-leb f k before) ∙ sym (ap (λ b. b && leb k l) (lt-leb f k before))
+  | inr from ↦ elim (cases_lt l k) [
+    | inl behind ↦ ap (λ b. leb f k && b && (eqb k f || eqb k l || not marked || bar)) (lt-leb k l behind) ∙ none (leb f k) (eqb k f || eqb k l || not marked || bar) ∙ sym (ap (λ b. leb f k && b) (lt-leb k l behind) ∙ none' (leb f k))
+    | inr to ↦ ap (λ b. leb f k && leb k l && b) (why-kept why from to) ∙ all (leb f k && leb k l)
+  ]
+])
   where
     none : (a b : Bool) → (a && false && b) ≡ false
     none true b = refl
     none false b = refl
+
     none' : (a : Bool) → (a && false) ≡ false
     none' true = refl
     none' false = refl
+
     all : (a : Bool) → (a && true) ≡ a
     all true = refl
     all false = refl
+
     third : (a b c d : Bool) → c ≡ true → (a || b || c || d) ≡ true
     third true b c d is = refl
     third false true c d is = refl
     third false false c d is = ap (λ x. x || d) is
+
     why-kept : (f ≡ l) ⊎ (marked ≡ false) → f ≤ k → k ≤ l → (eqb k f || eqb k l || not marked || bar) ≡ true
     why-kept (inl one) from to = ap (λ b. b || eqb k l || not marked || bar) (eq-eqb k f (omega arith))
     why-kept (inr unmarked) from to = third (eqb k f) (eqb k l) (not marked) bar (ap not unmarked)
@@ -109,21 +116,21 @@ keeps-ends f l u t k marked shown last_bar ordered from to is bars ends apart tl
     elim (cases_lt k f) [
       | inl before ↦ outside (leb f k) (leb k u) (leb t k) (leb k l) (eqb k f || eqb k l || not marked || (ltb f k && (shown || last_bar))) (inl (lt-leb f k before, lt-leb t k (omega arith)))
       | inr behind ↦ elim (cases_lt f k) [
-          | inr first ↦
+        | inr first ↦
             let same : k ≡ f = omega arith in
             kept-first (leb f k) (leb k u) (leb t k && leb k l) (leb k l) (eqb k f) (eqb k l) (not marked) (ltb f k && (shown || last_bar)) (le-leb f k behind) (le-leb k u (omega arith)) (le-leb k l (omega arith)) (eq-eqb k f same)
-          | inl past ↦ elim (cases_lt l k) [
-              | inl over ↦ outside (leb f k) (leb k u) (leb t k) (leb k l) (eqb k f || eqb k l || not marked || (ltb f k && (shown || last_bar))) (inr (lt-leb k u (omega arith), lt-leb k l over))
-              | inr upto ↦ elim (cases_lt k l) [
-                  | inr end ↦ kept-last (leb f k && leb k u) (leb t k) (leb f k) (leb k l) (eqb k f) (eqb k l) (not marked) (ltb f k && (shown || last_bar)) (le-leb t k (omega arith)) (le-leb f k behind) (le-leb k l upto) (eq-eqb k l (omega arith))
-                  | inl inner ↦
-                    between (leb f k) (leb k u) (leb t k) (leb k l) (eqb k f) (eqb k l) marked (ltb f k) shown last_bar (le-leb f k behind) (le-leb k l upto) (ne_eqb k f (λ e. omega arith)) (ne_eqb k l (λ e. omega arith)) is (lt-ltb f k past) (bars past) (elim (cases_eq (k + 1) l) [
-                      | inl next ↦ ends next
-                      | inr far ↦ lt-leb t k (omega arith) ∙ sym (apart far)
-                    ])
-                ]
-            ]
+        | inl past ↦ elim (cases_lt l k) [
+          | inl over ↦ outside (leb f k) (leb k u) (leb t k) (leb k l) (eqb k f || eqb k l || not marked || (ltb f k && (shown || last_bar))) (inr (lt-leb k u (omega arith), lt-leb k l over))
+          | inr upto ↦ elim (cases_lt k l) [
+            | inr end ↦ kept-last (leb f k && leb k u) (leb t k) (leb f k) (leb k l) (eqb k f) (eqb k l) (not marked) (ltb f k && (shown || last_bar)) (le-leb t k (omega arith)) (le-leb f k behind) (le-leb k l upto) (eq-eqb k l (omega arith))
+            | inl inner ↦
+                between (leb f k) (leb k u) (leb t k) (leb k l) (eqb k f) (eqb k l) marked (ltb f k) shown last_bar (le-leb f k behind) (le-leb k l upto) (ne_eqb k f (λ e. omega arith)) (ne_eqb k l (λ e. omega arith)) is (lt-ltb f k past) (bars past) (elim (cases_eq (k + 1) l) [
+                  | inl next ↦ ends next
+                  | inr far ↦ lt-leb t k (omega arith) ∙ sym (apart far)
+                ])
+          ]
         ]
+      ]
     ]
   where
     outside : (a b c d r : Bool) → ((a ≡ false) × (c ≡ false)) ⊎ ((b ≡ false) × (d ≡ false)) → ((a && b) || (c && d)) ≡ (a && d && r)
@@ -136,14 +143,17 @@ keeps-ends f l u t k marked shown last_bar ordered from to is bars ends apart tl
     outside true false false false r (inr out) = refl
     outside false false true false r (inr out) = refl
     outside false false false false r (inr out) = refl
+
     kept-first : (a b x d e g m y : Bool) → a ≡ true → b ≡ true → d ≡ true → e ≡ true → ((a && b) || x) ≡ (a && d && (e || g || m || y))
     kept-first a b x d e g m y p q r t = ap (λ z. (z && b) || x) p ∙ ap (λ z. z || x) q ∙ sym (ap (λ z. z && d && (e || g || m || y)) p ∙ ap (λ z. z && (e || g || m || y)) r ∙ ap (λ z. z || g || m || y) t)
+
     kept-last : (x c a d e g m y : Bool) → c ≡ true → a ≡ true → d ≡ true → g ≡ true → (x || (c && d)) ≡ (a && d && (e || g || m || y))
     kept-last x c a d e g m y p q r t = ap (λ z. x || (z && d)) p ∙ ap (λ z. x || z) r ∙ last x ∙ sym (ap (λ z. z && d && (e || g || m || y)) q ∙ ap (λ z. z && (e || g || m || y)) r ∙ ap (λ z. e || z || m || y) t ∙ ap (λ z. z || m || y) (last e))
       where
         last : (z : Bool) → (z || true) ≡ true
         last true = refl
         last false = refl
+
     between : (a b c d e g m x s q : Bool) → a ≡ true → d ≡ true → e ≡ false → g ≡ false → m ≡ true → x ≡ true → b ≡ s → c ≡ q → ((a && b) || (c && d)) ≡ (a && d && (e || g || not m || (x && (s || q))))
     between a b c d e g m x s q pa pd pe pg pm px pb pc =
         ap (λ z. (z && b) || (c && d)) pa ∙ ap (λ z. b || (c && z)) pd ∙ ap (λ z. b || z) (unit c) ∙ ap (λ z. z || c) pb ∙ ap (λ z. s || z) pc

@@ -107,12 +107,12 @@ put-filter before o w x [] = refl
 put-filter before o w x (y ∷ ys) =
     elim (cases_Bool (before y x)) [
       | inl t ↦ ap (filter (ties before w)) (cond-true (before y x) (y ∷ put_in before x ys) (x ∷ y ∷ ys) t) ∙ elim (cases_Bool (ties before w y)) [
-          | inl wy ↦
+        | inl wy ↦
             let wx : ties before w x ≡ false = not-both before o w x y t wy in
             filter-here (ties before w) y (put_in before x ys) wy ∙ ap (λ zs. y ∷ zs) (put-filter before o w x ys ∙ filter-past (ties before w) x ys wx) ∙ sym (filter-past (ties before w) x (y ∷ ys) wx ∙ filter-here (ties before w) y ys wy)
-          | inr out ↦
+        | inr out ↦
             filter-past (ties before w) y (put_in before x ys) out ∙ put-filter before o w x ys ∙ sym (ap (λ zs. cond (ties before w x) (x ∷ zs) zs) (filter-past (ties before w) y ys out))
-        ]
+      ]
       | inr f ↦ ap (filter (ties before w)) (cond-false (before y x) (y ∷ put_in before x ys) (x ∷ y ∷ ys) f)
     ]
 

@@ -23,13 +23,13 @@ indent-push [] c = refl
 indent-push (x ∷ xs) c =
     elim (cases_Bool (is_whitespace x)) [
       | inl blank ↦
-        cond-true (is_whitespace x) (without_indent (xs ++ c ∷ [])) (x ∷ xs ++ c ∷ []) blank ∙ indent-push xs c
-        ∙ ap (λ ys. cond (is_blank xs) (without_indent (c ∷ [])) (ys ++ c ∷ [])) (sym (cond-true (is_whitespace x) (without_indent xs) (x ∷ xs) blank))
-        ∙ ap (λ b. cond (b && is_blank xs) (without_indent (c ∷ [])) (without_indent (x ∷ xs) ++ c ∷ [])) (sym blank)
+          cond-true (is_whitespace x) (without_indent (xs ++ c ∷ [])) (x ∷ xs ++ c ∷ []) blank ∙ indent-push xs c
+          ∙ ap (λ ys. cond (is_blank xs) (without_indent (c ∷ [])) (ys ++ c ∷ [])) (sym (cond-true (is_whitespace x) (without_indent xs) (x ∷ xs) blank))
+          ∙ ap (λ b. cond (b && is_blank xs) (without_indent (c ∷ [])) (without_indent (x ∷ xs) ++ c ∷ [])) (sym blank)
       | inr other ↦
-        cond-false (is_whitespace x) (without_indent (xs ++ c ∷ [])) (x ∷ xs ++ c ∷ []) other
-        ∙ ap (λ ys. ys ++ c ∷ []) (sym (cond-false (is_whitespace x) (without_indent xs) (x ∷ xs) other))
-        ∙ ap (λ b. cond (b && is_blank xs) (without_indent (c ∷ [])) (without_indent (x ∷ xs) ++ c ∷ [])) (sym other)
+          cond-false (is_whitespace x) (without_indent (xs ++ c ∷ [])) (x ∷ xs ++ c ∷ []) other
+          ∙ ap (λ ys. ys ++ c ∷ []) (sym (cond-false (is_whitespace x) (without_indent xs) (x ∷ xs) other))
+          ∙ ap (λ b. cond (b && is_blank xs) (without_indent (c ∷ [])) (without_indent (x ∷ xs) ++ c ∷ [])) (sym other)
     ]
 
 blank-push : (xs : List ℕ) (c : ℕ) → is_blank (xs ++ c ∷ []) ≡ (is_whitespace c && is_blank xs)
@@ -85,9 +85,9 @@ tail-cases : (c : ℕ) (cs : List ℕ) → (without_tail (c ∷ cs) ≡ []) ⊎ 
 tail-cases c cs =
     elim (cases_Bool (is_whitespace c)) [
       | inl white ↦ elim (cases_Bool (is_blank cs)) [
-          | inl blank ↦ inl (tail-more c cs ∙ cond-true (is_blank cs) (reverse (without_indent (c ∷ []))) (c ∷ without_tail cs) blank ∙ ap reverse (cond-true (is_whitespace c) [] (c ∷ []) white))
-          | inr some ↦ inr (tail-more c cs ∙ cond-false (is_blank cs) (reverse (without_indent (c ∷ []))) (c ∷ without_tail cs) some)
-        ]
+        | inl blank ↦ inl (tail-more c cs ∙ cond-true (is_blank cs) (reverse (without_indent (c ∷ []))) (c ∷ without_tail cs) blank ∙ ap reverse (cond-true (is_whitespace c) [] (c ∷ []) white))
+        | inr some ↦ inr (tail-more c cs ∙ cond-false (is_blank cs) (reverse (without_indent (c ∷ []))) (c ∷ without_tail cs) some)
+      ]
       | inr other ↦ inr (tail-other c cs other)
     ]
 
@@ -131,13 +131,13 @@ tail-length [] = refl
 tail-length (c ∷ cs) =
     elim (cases_Bool (is_blank cs)) [
       | inl blank ↦
-        ap (λ xs. eqb (length xs) 0) (tail-more c cs ∙ cond-true (is_blank cs) (reverse (without_indent (c ∷ []))) (c ∷ without_tail cs) blank)
-        ∙ elim (cases_Bool (is_whitespace c)) [
-          | inl white ↦ ap (λ xs. eqb (length (reverse xs)) 0) (cond-true (is_whitespace c) [] (c ∷ []) white) ∙ sym (ap (λ b. b && is_blank cs) white ∙ blank)
-          | inr other ↦ ap (λ xs. eqb (length (reverse xs)) 0) (cond-false (is_whitespace c) [] (c ∷ []) other) ∙ sym (ap (λ b. b && is_blank cs) other)
-        ]
+          ap (λ xs. eqb (length xs) 0) (tail-more c cs ∙ cond-true (is_blank cs) (reverse (without_indent (c ∷ []))) (c ∷ without_tail cs) blank)
+          ∙ elim (cases_Bool (is_whitespace c)) [
+            | inl white ↦ ap (λ xs. eqb (length (reverse xs)) 0) (cond-true (is_whitespace c) [] (c ∷ []) white) ∙ sym (ap (λ b. b && is_blank cs) white ∙ blank)
+            | inr other ↦ ap (λ xs. eqb (length (reverse xs)) 0) (cond-false (is_whitespace c) [] (c ∷ []) other) ∙ sym (ap (λ b. b && is_blank cs) other)
+          ]
       | inr some ↦
-        ap (λ xs. eqb (length xs) 0) (tail-more c cs ∙ cond-false (is_blank cs) (reverse (without_indent (c ∷ []))) (c ∷ without_tail cs) some) ∙ some-length (length (without_tail cs)) ∙ sym (ap (λ b. is_whitespace c && b) some ∙ nothing (is_whitespace c))
+          ap (λ xs. eqb (length xs) 0) (tail-more c cs ∙ cond-false (is_blank cs) (reverse (without_indent (c ∷ []))) (c ∷ without_tail cs) some) ∙ some-length (length (without_tail cs)) ∙ sym (ap (λ b. is_whitespace c && b) some ∙ nothing (is_whitespace c))
     ]
   where
     nothing : (b : Bool) → (b && false) ≡ false
@@ -182,17 +182,17 @@ step-nothing c cs =
     elim (cases_Bool (is_whitespace c)) [
       | inl white ↦ weak-is (c ∷ cs) (trimmed cs) (trimmed-white c cs white) ∙ sym (weak-is cs (trimmed cs) refl) ∙ ap (λ s. weak_after s cs) (sym (cond-true (is_whitespace c) Nothing (cond (is_bracket (c ∷ [])) Bracket (cond (eqb c 47) Slash Strong)) white))
       | inr other ↦
-        let past : step Nothing c ≡ cond (is_bracket (c ∷ [])) Bracket (cond (eqb c 47) Slash Strong) = cond-false (is_whitespace c) Nothing (cond (is_bracket (c ∷ [])) Bracket (cond (eqb c 47) Slash Strong)) other in
-        let text : is_weak (c ∷ cs) ≡ weak_trimmed (c ∷ without_tail cs) = weak-is (c ∷ cs) (c ∷ without_tail cs) (trimmed-other c cs other) in
-        elim (cases_Bool (is_bracket (c ∷ []))) [
-          | inl bracket ↦ text ∙ weak-bracket c (without_tail cs) (bracket-no-slash c bracket) bracket ∙ tail-length cs ∙ ap (λ s. weak_after s cs) (sym (past ∙ cond-true (is_bracket (c ∷ [])) Bracket (cond (eqb c 47) Slash Strong) bracket))
-          | inr plain ↦
-            let more : step Nothing c ≡ cond (eqb c 47) Slash Strong = past ∙ cond-false (is_bracket (c ∷ [])) Bracket (cond (eqb c 47) Slash Strong) plain in
-            elim (cases_Bool (eqb c 47)) [
-              | inl slash ↦ ap (λ x. is_weak (x ∷ cs)) (eqb-true c 47 slash) ∙ ap (λ s. weak_after s cs) (sym (more ∙ cond-true (eqb c 47) Slash Strong slash))
-              | inr strong ↦ text ∙ weak-strong c (without_tail cs) strong plain ∙ ap (λ s. weak_after s cs) (sym (more ∙ cond-false (eqb c 47) Slash Strong strong))
-            ]
-        ]
+          let past : step Nothing c ≡ cond (is_bracket (c ∷ [])) Bracket (cond (eqb c 47) Slash Strong) = cond-false (is_whitespace c) Nothing (cond (is_bracket (c ∷ [])) Bracket (cond (eqb c 47) Slash Strong)) other in
+          let text : is_weak (c ∷ cs) ≡ weak_trimmed (c ∷ without_tail cs) = weak-is (c ∷ cs) (c ∷ without_tail cs) (trimmed-other c cs other) in
+          elim (cases_Bool (is_bracket (c ∷ []))) [
+            | inl bracket ↦ text ∙ weak-bracket c (without_tail cs) (bracket-no-slash c bracket) bracket ∙ tail-length cs ∙ ap (λ s. weak_after s cs) (sym (past ∙ cond-true (is_bracket (c ∷ [])) Bracket (cond (eqb c 47) Slash Strong) bracket))
+            | inr plain ↦
+                let more : step Nothing c ≡ cond (eqb c 47) Slash Strong = past ∙ cond-false (is_bracket (c ∷ [])) Bracket (cond (eqb c 47) Slash Strong) plain in
+                elim (cases_Bool (eqb c 47)) [
+                  | inl slash ↦ ap (λ x. is_weak (x ∷ cs)) (eqb-true c 47 slash) ∙ ap (λ s. weak_after s cs) (sym (more ∙ cond-true (eqb c 47) Slash Strong slash))
+                  | inr strong ↦ text ∙ weak-strong c (without_tail cs) strong plain ∙ ap (λ s. weak_after s cs) (sym (more ∙ cond-false (eqb c 47) Slash Strong strong))
+                ]
+          ]
     ]
 
 step-slash : (c : ℕ) (cs : List ℕ) → is_weak (47 ∷ c ∷ cs) ≡ weak_after (step Slash c) cs
@@ -201,12 +201,12 @@ step-slash c cs =
     elim (cases_Bool (eqb c 47)) [
       | inl slash ↦ ap (λ x. is_weak (47 ∷ x ∷ cs)) (eqb-true c 47 slash) ∙ ap (λ s. weak_after s cs) (sym (cond-true (eqb c 47) Slashes Strong slash))
       | inr other ↦
-        weak-is (47 ∷ c ∷ cs) (47 ∷ without_tail (c ∷ cs)) (trimmed-other 47 (c ∷ cs) refl)
-        ∙ elim (tail-cases c cs) [
-          | inl none ↦ ap (λ ts. weak_trimmed (47 ∷ ts)) none
-          | inr some ↦ ap (λ ts. weak_trimmed (47 ∷ ts)) some ∙ slash-other c (without_tail cs) other
-        ]
-        ∙ ap (λ s. weak_after s cs) (sym (cond-false (eqb c 47) Slashes Strong other))
+          weak-is (47 ∷ c ∷ cs) (47 ∷ without_tail (c ∷ cs)) (trimmed-other 47 (c ∷ cs) refl)
+          ∙ elim (tail-cases c cs) [
+            | inl none ↦ ap (λ ts. weak_trimmed (47 ∷ ts)) none
+            | inr some ↦ ap (λ ts. weak_trimmed (47 ∷ ts)) some ∙ slash-other c (without_tail cs) other
+          ]
+          ∙ ap (λ s. weak_after s cs) (sym (cond-false (eqb c 47) Slashes Strong other))
     ]
 
 step-slashes : (c : ℕ) (cs : List ℕ) → is_weak (47 ∷ 47 ∷ c ∷ cs) ≡ weak_after (step Slashes c) cs
@@ -216,11 +216,11 @@ step-slashes c cs =
     elim (cases_Bool (eqb c 47 || eqb c 33)) [
       | inl third ↦ text ∙ ap (λ ts. weak_trimmed (47 ∷ 47 ∷ ts)) (tail-other c cs (black c third)) ∙ slashes-third c (without_tail cs) true third ∙ ap (λ s. weak_after s cs) (sym (cond-true (eqb c 47 || eqb c 33) Strong Comment third))
       | inr other ↦
-        text ∙ elim (tail-cases c cs) [
-          | inl none ↦ ap (λ ts. weak_trimmed (47 ∷ 47 ∷ ts)) none
-          | inr some ↦ ap (λ ts. weak_trimmed (47 ∷ 47 ∷ ts)) some ∙ slashes-third c (without_tail cs) false other
-        ]
-        ∙ ap (λ s. weak_after s cs) (sym (cond-false (eqb c 47 || eqb c 33) Strong Comment other))
+          text ∙ elim (tail-cases c cs) [
+            | inl none ↦ ap (λ ts. weak_trimmed (47 ∷ 47 ∷ ts)) none
+            | inr some ↦ ap (λ ts. weak_trimmed (47 ∷ 47 ∷ ts)) some ∙ slashes-third c (without_tail cs) false other
+          ]
+          ∙ ap (λ s. weak_after s cs) (sym (cond-false (eqb c 47 || eqb c 33) Strong Comment other))
     ]
   where
     black : (c : ℕ) → (eqb c 47 || eqb c 33) ≡ true → is_whitespace c ≡ false

@@ -74,10 +74,11 @@ fn annotated_line<'a>(
     requires within { index < length (source_lines source.now.text) }
     requires sorted { IsNonDecreasingBy (λ e. e.start.line) entries.now }
     ensures value { IfOk result (λ info. seen_kept info ≡ record {
-        number = source.now.first + index;
-        text = text_at (source_lines source.now.text) index;
-        parts = filter (λ p. p.entry.start.line == source.now.first + index) (map seen_part entries.now);
-        keep = keep }) }
+      number = source.now.first + index;
+      text = text_at (source_lines source.now.text) index;
+      parts = filter (λ p. p.entry.start.line == source.now.first + index) (map seen_part entries.now);
+      keep = keep;
+    }) }
 {
     let number = source.line_number_of(index);
     Ok(AnnotatedLineInfo {

@@ -86,8 +86,7 @@ pub(crate) fn is_long(source: &SourceMap<'_>, annotation: &Annotation<'_>) -> bo
     ensures value { result ≡ spec.is_long source.now.text annotation.now }
 {
     is_marking(annotation.kind)
-        && source.line_index_of(annotation.span.end)
-            != source.line_index_of(annotation.span.start)
+        && source.line_index_of(annotation.span.end) != source.line_index_of(annotation.span.start)
 }
 
 /// A span, from its start to its end.

@@ -41,8 +41,7 @@ fn is_short(source: &SourceMap<'_>, annotation: &Annotation<'_>) -> bool
     ensures value { result ≡ spec.is_short source.now.text annotation.now }
 {
     is_marking(annotation.kind)
-        && source.line_index_of(annotation.span.end)
-            == source.line_index_of(annotation.span.start)
+        && source.line_index_of(annotation.span.end) == source.line_index_of(annotation.span.start)
 }
 
 /// Adds the entries of a span of several lines: where it stands again, the one at its end alone.
@@ -77,7 +76,7 @@ fn push_bars<'a>(
     requires fit { HasFit source.now span }
     ensures value { OnOk result (map seen_part entries.new.items ≡ map seen_part entries.old.items
         ++ map (λ k. spec.bar_part (seen_long span.entry) depth (source.now.first + k))
-            (spec.bar_lines source.now.text (span.entry.start.line - source.now.first) (span.entry.end.line - source.now.first))) }
+        (spec.bar_lines source.now.text (span.entry.start.line - source.now.first) (span.entry.end.line - source.now.first))) }
 {
     let first = span.start.line - source.line_start();
     let last = span.end.line - source.line_start();
