@@ -19,7 +19,7 @@ use Rattle.snippet_parts.proofs.PlaceLemmas.{start_location-line, start_location
 -- ---- the locations of a span
 
 -- a span ends on the line of its end, empty or not
-end-line : (s : Source) (start end : ℕ) → (locations_of s start end).1.line ≡ s.first + line_of (source_lines s.text) end
+pub end-line : (s : Source) (start end : ℕ) → (locations_of s start end).1.line ≡ s.first + line_of (source_lines s.text) end
 unfolding locations_of
 end-line s start end =
     cond_both (eqb start end) (start_location s start) (end_location s start end) (λ (l : Loc). l.line ≡ s.first + line_of (source_lines s.text) end)
@@ -34,7 +34,7 @@ end-column s start end one =
     (λ same. start_location-column s start ∙ ap (λ b. (place_of s.text b).column) (eqb-true start end same))
     (λ _. end_location-column s start end one)
 
-start-line : (s : Source) (start end : ℕ) → (locations_of s start end).0.line ≡ s.first + line_of (source_lines s.text) start
+pub start-line : (s : Source) (start end : ℕ) → (locations_of s start end).0.line ≡ s.first + line_of (source_lines s.text) start
 unfolding locations_of
 start-line s start end = start_location-line s start
 

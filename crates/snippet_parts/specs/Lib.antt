@@ -1,7 +1,10 @@
+pub mod Annotated
+pub mod Depths
 pub mod Extent
 pub mod Kept
 pub mod LineTable
 pub mod Lines
+pub mod LongSpans
 pub mod Margin
 pub mod Mark
 pub mod Marked
@@ -9,4 +12,6 @@ pub mod Measures
 pub mod Place
 pub mod Prepare
 pub mod Span
+pub mod Stretches
+pub mod Weak
 pub mod Window

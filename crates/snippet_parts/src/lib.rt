@@ -1,12 +1,19 @@
 //! The parts of a snippet: the lines of a source, and the places in it.
 #![tactic(auto)]
 
+mod all_entries;
+mod annotated_lines;
+mod bars;
 pub mod counts;
+pub mod depths;
 pub mod entries;
+mod kept;
 pub mod extent;
 pub mod line_bounds;
 pub mod line_window;
 pub mod lines;
+mod long_spans;
+mod made_entries;
 pub mod margin;
 pub mod mark;
 pub mod marked_lines;
@@ -14,6 +21,7 @@ pub mod place;
 pub mod prepare;
 pub mod source_map;
 pub mod span;
+mod weak_lines;
 pub mod window;
 
 pub use counts::{line_feed_count, newline_count_before};

@@ -57,7 +57,10 @@ fn entries<'a>(
 }
 
 /// The entry of an annotation that stands on one line: at least one column wide.
-fn entry<'a>(source: &SourceMap<'a>, annotation: &'a Annotation<'a>) -> LineAnnotation<'a>
+pub(crate) fn entry<'a>(
+    source: &SourceMap<'a>,
+    annotation: &'a Annotation<'a>,
+) -> LineAnnotation<'a>
     requires span { IsSpan source.now.text annotation.now.span.start annotation.now.span.end }
     ensures value { seen_entry result ≡ entry_of source.now annotation.now }
     ensures bound { HasColumns result.start result.end }

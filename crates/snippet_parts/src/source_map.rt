@@ -1,15 +1,22 @@
 //! A source whose lines are known by number and by byte.
-ghost use Rattle.std.specs.Prelude.{◌≡◌, ℕ, List, ◌+◌, ◌-◌, ◌^◌, ◌<◌, ◌≤◌, map, length, IfOk, IfSome};
+ghost use Rattle.std.specs.Prelude.{◌≡◌, ℕ, List, ◌+◌, ◌-◌, ◌^◌, ◌<◌, ◌≤◌, true, All, Contains, map, length, IfOk, IfSome};
 ghost use Rattle.std.specs.Option.{option_copied};
 ghost use Rattle.std.specs.List.{HoldsAt};
 ghost use Rattle.std.specs.List.Sorted.{IsNonDecreasingBy};
-ghost use Rattle.snippet_parts.specs.Lines.{Line, AreLinesOf, line_at, source_lines, start_of, newline_count, StandsAt};
+ghost use Rattle.snippet_parts.specs.Lines.{Line, AreLinesOf, line_at, source_lines, text_at, start_of, newline_count, StandsAt};
 ghost use Rattle.snippet_parts.specs.LineTable.{entry_of, entry_at, entries_from};
 ghost use Rattle.snippet_parts.specs.Place.{line_of, location_of, steps_behind_text, locations_of};
 ghost use Rattle.snippet_parts.specs.Span.{IsSpan, IsSpanBorder};
+ghost use Rattle.snippet_parts.specs.Annotated as spec;
+ghost use Rattle.snippet_parts.specs.Annotated.{seen_kept};
+ghost use Rattle.snippet_parts.specs.Depths.{places_of, share_line, IsLongestChain};
+ghost use Rattle.snippet_model.specs.declared.snippet.Annotation.{Annotation};
 
+use crate::annotated_lines::annotated_lines;
+use crate::entries::AnnotatedLineInfo;
 use crate::lines::CursorLines;
 use crate::place::Loc;
+use snippet_model::snippet::Annotation;
 use std::alloc::{AllocError, Global};
 use std::marker::Model;
 use std::ops::Range;
@@ -103,6 +110,31 @@ impl<'a> SourceMap<'a> {
         Some(info.line)
     }
 
+    /// The greatest depth of spans of several lines, and the lines that are kept, each with its entries.
+    ///
+    /// The one error is want of memory.
+    pub fn annotated_lines(
+        &self,
+        annotations: &'a [Annotation<'a>],
+        fold: bool,
+    ) -> Result<(usize, Vec<AnnotatedLineInfo<'a>>), AllocError>
+        requires spans { All (λ a. IsSpan self.now.text a.span.start a.span.end) annotations.now }
+        // The lines that are kept, ascending, each with its number, its text, its entries in the order made, and whether
+        // a span keeps it without marking it.
+        ensures lines { IfOk result (λ drawn. map seen_kept drawn.1.items ≡ spec.annotated_lines fold self.now annotations.now) }
+        ensures deepest { IfOk result (λ drawn. drawn.0 ≡ spec.deepest self.now annotations.now) }
+        // The greatest depth is the length of a longest list of places, each of which shares a line with the next.
+        ensures longest { IfOk result (λ drawn. IsLongestChain (places_of (spec.long_places self.now annotations.now)) drawn.0) }
+        // Two spans of several lines that share a line and have one depth start and end at the same bytes.
+        ensures distinct { (a b : Annotation) → Contains annotations.now a → Contains annotations.now b
+            → spec.is_long self.now.text a ≡ true → spec.is_long self.now.text b ≡ true
+            → share_line (spec.long_place (spec.long_entry self.now a)) (spec.long_place (spec.long_entry self.now b)) ≡ true
+            → spec.depth_of self.now annotations.now a ≡ spec.depth_of self.now annotations.now b
+            → spec.long_place (spec.long_entry self.now a) ≡ spec.long_place (spec.long_entry self.now b) }
+    {
+        annotated_lines(*self.lines.allocator(), self, annotations, fold)
+    }
+
     /// Where a span of bytes starts and ends.
     ///
     /// The end of an empty span is its start. A start behind the end of its line's text, at the line end, counts one
@@ -114,6 +146,7 @@ impl<'a> SourceMap<'a> {
         ensures value { result ≡ locations_of self.now span.start span.end }
         ensures start_bound { result.0.display < 2 ^ 58 }
         ensures end_bound { result.1.display ≤ 2 ^ 58 }
+        ensures start_char { result.0.char ≤ 2 ^ 56 }
     {
         let (mut start, start_steps) = self.locate(span.start);
         start.char += start_steps;
@@ -141,6 +174,29 @@ impl<'a> SourceMap<'a> {
         let location = Loc::on_line(info.line, info.line_index, info.start_byte, byte);
         let steps = usize::from(info.start_byte + info.line.len() < byte);
         (location, steps)
+    }
+
+    /// The line that holds a byte, from 0.
+    pub(crate) fn line_index_of(&self, byte: usize) -> usize
+        ensures value { result ≡ line_of (source_lines self.now.text) byte }
+    {
+        self.line_holding(byte).line_index - self.line_start
+    }
+
+    /// The text of line `index`, from 0, without its end.
+    pub(crate) fn text_of_line(&self, index: usize) -> &'a str
+        requires within { index < length (source_lines self.now.text) }
+        ensures value { result.now ≡ text_at (source_lines self.now.text) index }
+    {
+        self.lines[index].line
+    }
+
+    /// The number of line `index`, from 0.
+    pub(crate) fn line_number_of(&self, index: usize) -> usize
+        requires within { index < length (source_lines self.now.text) }
+        ensures value { result ≡ self.now.first + index }
+    {
+        self.line_start + index
     }
 
     /// The line that holds a byte.

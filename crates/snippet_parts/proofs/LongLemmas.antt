@@ -1,0 +1,66 @@
+-- Spans of several lines, in their order.
+use Rattle.std.proofs.Common.{◌≡◌, ℕ, ◌+◌, ◌^◌, ◌<◌, ◌≤◌, Bool, true, false, ◌&&◌, ◌||◌, cond, not, eqb, ltb, List, [], ◌∷◌, ◌++◌, map, length, take, get_or, inl, inr, ◌⊎◌, refl, sym, ap, subst, ◌∙◌, arith}
+use Rattle.std.specs.Cmp.{IsStrictWeakOrder}
+use Rattle.std.specs.List.{All, filter}
+use Rattle.std.specs.List.Sorted.{IsNonDecreasingBy, IsSortedBy}
+use Rattle.std.specs.Ordering.{is_lt, ordering_then, nat_cmp}
+use Rattle.std.proofs.lemmas.Bool.Decides.{nat_tests}
+use Rattle.snippet_parts.specs.declared.depths.LongPlace.{LongPlace}
+use Rattle.snippet_parts.specs.declared.long_spans.LongSpan.{LongSpan}
+use Rattle.snippet_parts.specs.Annotated.{in_order, long_entry, long_place, is_long, stands_before, long_spans}
+use Rattle.snippet_parts.specs.Depths.{comes_before}
+use Rattle.snippet_parts.specs.LongSpans.{seen_long, HasFit}
+use Rattle.snippet_parts.specs.Lines.{Source, source_lines}
+use Rattle.snippet_parts.specs.Mark.{is_marking}
+use Rattle.snippet_parts.specs.Marked.{Entry, first_line, last_line}
+use Rattle.snippet_model.specs.declared.snippet.Annotation.{Annotation}
+use Rattle.std.proofs.lemmas.Bool.{cases_eq, cases_lt, eqb-false, ltb-false, not-true, and_parts, or_parts}
+use Rattle.snippet_parts.proofs.MarkLemmas.{start-line, end-line}
+use Rattle.snippet_parts.proofs.PlaceLemmas.{line_of-mono, line_of-within}
+use Rattle.snippet_parts.proofs.SortLemmas.{order-map}
+use Rattle.std.proofs.lemmas.List.Sorted.{sorted_far}
+
+-- which of two spans of several lines comes first
+abbrev pub long_before : LongSpan → LongSpan → Bool
+long_before a b = stands_before (seen_long a) (seen_long b)
+
+pub before-tells : (a b c d : ℕ) → is_lt (ordering_then (nat_cmp a c) (nat_cmp d b)) ≡ (ltb a c || eqb a c && ltb d b)
+before-tells a b c d = grind (arith, nat_tests)
+
+one_way : (a b c d : ℕ) → (ltb a c || eqb a c && ltb d b) ≡ true → (ltb c a || eqb c a && ltb b d) ≡ false
+one_way a b c d h = grind (arith, nat_tests)
+
+chained : (a b c d e f : ℕ) → (ltb a c || eqb a c && ltb d b) ≡ false → (ltb c e || eqb c e && ltb f d) ≡ false → (ltb a e || eqb a e && ltb f b) ≡ false
+chained a b c d e f g h = grind (arith, nat_tests)
+
+pub long_before-order : IsStrictWeakOrder long_before
+long_before-order = record {
+  one_way = λ x y h. one_way x.start.line x.end.line y.start.line y.end.line h;
+  chain = λ x y z g h. chained x.start.line x.end.line y.start.line y.end.line z.start.line z.end.line g h;
+}
+
+-- a span of several lines starts on an earlier line than it ends on
+pub long-lines : (s : Source) (a : Annotation) → a.span.start ≤ a.span.end → is_long s.text a ≡ true → (long_entry s a).start.line < (long_entry s a).end.line
+long-lines s a ordered long =
+    let other : last_line s.text a ≡ first_line s.text a → ⊥ = eqb-false (last_line s.text a) (first_line s.text a) (not-true (eqb (last_line s.text a) (first_line s.text a)) (and_parts (is_marking a.kind) (not (eqb (last_line s.text a) (first_line s.text a))) long).1) in
+    let up : first_line s.text a ≤ last_line s.text a = line_of-mono (source_lines s.text) a.span.start a.span.end (omega (arith, line_of-within s.text 0)) ordered in
+    let less : first_line s.text a < last_line s.text a = elim (cases_eq (last_line s.text a) (first_line s.text a)) [ inl same ↦ absurd (other same) | inr apart ↦ below (first_line s.text a) (last_line s.text a) up apart ] in
+    omega (arith, start-line s a.span.start a.span.end, end-line s a.span.start a.span.end)
+  where
+    below : (m n : ℕ) → m ≤ n → (n ≡ m → ⊥) → m < n
+    below m n le apart = elim (cases_lt m n) [ inl less ↦ less | inr more ↦ absurd (apart (omega arith)) ]
+
+pub fit-long : (s : Source) (a : Annotation) (l : LongSpan) → a.span.start ≤ a.span.end → seen_long l ≡ long_entry s a → l.start.display < 2 ^ 58 → l.end.display ≤ 2 ^ 58 → l.start.char ≤ 2 ^ 56 → is_long s.text a ≡ true → HasFit s l
+fit-long s a l ordered seen display end char long =
+    record { display = display; end_display = end; char = omega arith; lines = omega (arith, ap (λ (e : Entry). e.start.line) seen, ap (λ (e : Entry). e.end.line) seen, long-lines s a ordered long); from = omega (arith, ap (λ (e : Entry). e.start.line) seen, start-line s a.span.start a.span.end); within = omega (arith, ap (λ (e : Entry). e.end.line) seen, end-line s a.span.start a.span.end, line_of-within s.text a.span.end) }
+
+-- the order of the code's spans is that of what is seen of them
+pub long_spans-is : (s : Source) (given sorted : List LongSpan) (marks : List Annotation) → sorted ≡ in_order long_before given → map seen_long given ≡ map (long_entry s) (filter (is_long s.text) marks) → map seen_long sorted ≡ long_spans s marks
+long_spans-is s given sorted marks is seen = ap (map seen_long) is ∙ order-map stands_before seen_long given ∙ ap (in_order stands_before) seen
+
+pub long-ordered : (xs : List LongSpan) → IsSortedBy long_before xs → IsNonDecreasingBy (λ (l : LongSpan). l.start.line) xs
+long-ordered xs sorted i j d le within =
+    no-less (get_or xs j d).start.line (get_or xs i d).start.line (eqb (get_or xs j d).start.line (get_or xs i d).start.line && ltb (get_or xs i d).end.line (get_or xs j d).end.line) (sorted_far long_before long_before-order xs sorted i j d le within)
+  where
+    no-less : (m n : ℕ) (b : Bool) → (ltb m n || b) ≡ false → n ≤ m
+    no-less m n b none = ltb-false m n (or_parts (ltb m n) b none).0

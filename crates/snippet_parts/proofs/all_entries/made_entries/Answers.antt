@@ -1,0 +1,23 @@
+use Rattle.std.proofs.Common.{◌≡◌, map, arith, ap, sym, ◌∙◌}
+use Rattle.snippet_parts.specs.declared.long_spans.LongSpan.{LongSpan}
+use Rattle.snippet_parts.specs.Annotated.{long_place}
+use Rattle.snippet_parts.specs.Depths.{greatest_depth}
+use Rattle.snippet_parts.specs.LongSpans.{seen_long}
+use Rattle.snippet_parts.proofs.EntryLemmas.{places-ordered, places-lines, places-are, depths-of, no_span}
+use Rattle.snippet_parts.proofs.all_entries.made_entries.Goals as goal
+
+pub depths-requires-clause-ordered : goal.depths-requires-clause-ordered
+depths-requires-clause-ordered c =
+    places-ordered c.deref-2.result.now c.in_ok-spans.spans.items no_span (c.deref-2.ensures.value ∙ c.in_ok-places.ensures.value ∙ ap (map (λ (l : LongSpan). long_place (seen_long l))) c.deref.ensures.value) c.in_ok-spans.ensures.ordered
+
+pub depths-requires-clause-lines : goal.depths-requires-clause-lines
+depths-requires-clause-lines c =
+    places-lines c.args.source.now c.deref-2.result.now c.in_ok-spans.spans.items no_span (c.deref-2.ensures.value ∙ c.in_ok-places.ensures.value ∙ ap (map (λ (l : LongSpan). long_place (seen_long l))) c.deref.ensures.value) c.in_ok-spans.ensures.fit
+
+pub push_long_entries-requires-clause-depths : goal.push_long_entries-requires-clause-depths
+push_long_entries-requires-clause-depths c =
+    depths-of c.deref-2.result.now c.deref-3.result.now c.deref-4.result.now (c.deref-2.ensures.value ∙ c.in_ok-places.ensures.value ∙ ap (map (λ (l : LongSpan). long_place (seen_long l))) (c.deref.ensures.value ∙ sym c.deref-3.ensures.value)) (c.deref-4.ensures.value ∙ c.in_ok-greatest.ensures.value)
+
+pub returns-clause-deepest : goal.returns-clause-deepest
+returns-clause-deepest c =
+    c.in_ok-greatest.ensures.greatest ∙ ap greatest_depth (places-are c.deref-2.result.now c.in_ok-spans.spans.items (c.deref-2.ensures.value ∙ c.in_ok-places.ensures.value ∙ ap (map (λ (l : LongSpan). long_place (seen_long l))) c.deref.ensures.value) ∙ ap (map long_place) c.in_ok-spans.ensures.value)

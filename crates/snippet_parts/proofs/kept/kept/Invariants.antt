@@ -1,0 +1,11 @@
+use Rattle.std.proofs.Common.{◌≡◌, ℕ, length, take}
+use Rattle.std.specs.List.{list_any}
+use Rattle.snippet_parts.specs.Lines.{source_lines}
+use Rattle.snippet_parts.specs.Kept.{keeps}
+use Rattle.snippet_parts.specs.Stretches.{is_covered}
+use Rattle.snippet_parts.proofs.kept.kept.Given as goal
+
+-- the lines that the spans so far cover
+abbrev pub invariant-loop-annotation : goal.invariant-loop-annotation
+invariant-loop-annotation l =
+    (length l.reach.items ≡ length (source_lines l.source.text)) × ((k : ℕ) → is_covered l.reach.items k ≡ list_any (keeps l.source.text k) (take l.annotation-index l.annotations))

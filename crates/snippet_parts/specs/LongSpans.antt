@@ -1,0 +1,20 @@
+-- Spans of several lines as the code holds them.
+use Rattle.std.specs.Prelude.{ℕ, ◌+◌, ◌<◌, ◌≤◌, ◌^◌, length}
+use Rattle.std.specs.Option.{option_copied}
+use Rattle.snippet_parts.specs.declared.long_spans.LongSpan.{LongSpan}
+use Rattle.snippet_parts.specs.Lines.{Source, source_lines}
+use Rattle.snippet_parts.specs.Marked.{Entry}
+
+-- a span of several lines as it is seen
+abbrev pub seen_long : LongSpan → Entry
+seen_long l = record { start = l.start; end = l.end; kind = l.kind; label = option_copied l.label; highlight_source = l.highlight_source }
+
+-- its columns and characters leave room for one more, it ends on a later line than it starts on, and its lines are lines
+-- of the source
+pub record HasFit (s : Source) (l : LongSpan) : Type 0 where
+  pub display : l.start.display < 2 ^ 58
+  pub end_display : l.end.display ≤ 2 ^ 58
+  pub char : l.start.char < 2 ^ 60
+  pub lines : l.start.line < l.end.line
+  pub from : s.first ≤ l.start.line
+  pub within : l.end.line < s.first + length (source_lines s.text)

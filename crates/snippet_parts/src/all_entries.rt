@@ -1,0 +1,98 @@
+//! All entries of annotations, and the greatest depth of those that stand on several lines.
+ghost use Rattle.std.specs.Prelude.{◌≡◌, ◌+◌, ◌<◌, ◌≤◌, ◌&&◌, ◌||◌, ◌++◌, ◌∷◌, [], All, length, map, take, drop, IfOk, OnOk};
+ghost use Rattle.std.specs.List.{list_any};
+ghost use Rattle.snippet_parts.specs.Annotated as spec;
+ghost use Rattle.snippet_parts.specs.Annotated.{seen_part};
+ghost use Rattle.snippet_parts.specs.Depths.{depth_among, same_place};
+ghost use Rattle.snippet_parts.specs.Lines.{source_lines};
+ghost use Rattle.snippet_parts.specs.LongSpans.{seen_long, HasFit};
+ghost use Rattle.snippet_parts.specs.Span.{IsSpan};
+
+use crate::depths::depths;
+use crate::entries::LineAnnotation;
+use crate::long_spans::{LongSpan, long_spans, places};
+use crate::made_entries::{push_span_entries, single_entries};
+use crate::source_map::SourceMap;
+use snippet_model::snippet::{Annotation, AnnotationKind};
+use std::alloc::{AllocError, Global};
+
+/// The greatest depth of spans of several lines, and the entries of all spans: those of spans on one line as given, then
+/// those of each span of several lines.
+///
+/// The one error is want of memory.
+pub(crate) fn made_entries<'a>(
+    alloc: Global,
+    source: &SourceMap<'a>,
+    annotations: &'a [Annotation<'a>],
+) -> Result<(usize, Vec<LineAnnotation<'a>>), AllocError>
+    requires spans { All (λ a. IsSpan source.now.text a.span.start a.span.end) annotations.now }
+    ensures deepest { IfOk result (λ made. made.0 ≡ spec.deepest source.now annotations.now) }
+    ensures value { IfOk result (λ made. map seen_part made.1.items ≡ spec.made_parts source.now annotations.now) }
+{
+    let mut entries = single_entries(alloc, source, annotations)?;
+    let spans = long_spans(alloc, source, annotations)?;
+    let places = places(alloc, &spans)?;
+    let (greatest, depths) = depths(alloc, &places)?;
+    push_long_entries(&mut entries, source, &spans, &depths)?;
+    Ok((greatest, entries))
+}
+
+/// Adds the entries of spans of several lines, which have these depths.
+fn push_long_entries<'a>(
+    entries: &mut Vec<LineAnnotation<'a>>,
+    source: &SourceMap<'a>,
+    spans: &[LongSpan<'a>],
+    depths: &[usize],
+) -> Result<(), AllocError>
+    requires fit { All (HasFit source.now) spans.now }
+    requires depths { depths.now ≡ map (λ span. depth_among (map spec.long_place (map seen_long spans.now)) (spec.long_place (seen_long span))) spans.now }
+    ensures value { OnOk result (map seen_part entries.new.items ≡ map seen_part entries.old.items
+        ++ spec.long_parts source.now (map spec.long_place (map seen_long spans.now)) [] (map seen_long spans.now)) }
+{
+    for i in 0..spans.len() {
+        let again = stands_among(spans[i], &spans[i + 1..]);
+        let span = drawn(&spans[..i], spans[i]);
+        push_span_entries(entries, source, span, depths[i], again)?;
+    }
+    Ok(())
+}
+
+/// Whether a span has the place of one of some others.
+fn stands_among(span: LongSpan<'_>, others: &[LongSpan<'_>]) -> bool
+    ensures value { result ≡ list_any (λ other. same_place (spec.long_place (seen_long span.entry)) (spec.long_place (seen_long other))) others.now }
+{
+    for other in others {
+        if span.place() == other.place() {
+            return true;
+        }
+    }
+    false
+}
+
+/// A span as it is drawn: primary where it is, or one before it that has its place.
+fn drawn<'a>(before: &[LongSpan<'a>], span: LongSpan<'a>) -> LongSpan<'a>
+    ensures value { seen_long result ≡ spec.drawn (map seen_long before.now) (seen_long span.entry) }
+    ensures start { result.start ≡ span.entry.start }
+    ensures end { result.end ≡ span.entry.end }
+{
+    let mut drawn = span;
+    if is_primary(before, span) {
+        drawn.kind = AnnotationKind::Primary;
+    }
+    drawn
+}
+
+/// Whether a span is primary, or one of those before it that has its place.
+fn is_primary(before: &[LongSpan<'_>], span: LongSpan<'_>) -> bool
+    ensures value { result ≡ (spec.is_primary span.entry.kind || list_any (λ other. spec.is_primary other.kind && same_place (spec.long_place (seen_long span.entry)) (spec.long_place (seen_long other))) before.now) }
+{
+    if span.kind == AnnotationKind::Primary {
+        return true;
+    }
+    for other in before {
+        if other.kind == AnnotationKind::Primary && span.place() == other.place() {
+            return true;
+        }
+    }
+    false
+}

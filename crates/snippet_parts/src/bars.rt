@@ -1,0 +1,53 @@
+//! Beside which lines a span of several lines has bars. Lines count from 0.
+ghost use Rattle.std.specs.Prelude.{◌≡◌, ℕ, ◌+◌, ◌-◌, ◌<◌, ◌≤◌, ◌&&◌, nat_lt, nat_le, min, not, length};
+ghost use Rattle.std.specs.List.{list_any, range_with_len};
+ghost use Rattle.snippet_parts.specs.Kept as spec;
+ghost use Rattle.snippet_parts.specs.Lines.{source_lines};
+
+use crate::source_map::SourceMap;
+use crate::weak_lines::is_weak;
+
+/// The last line up to which a span of several lines has bars behind its first one, which it is where there are none.
+///
+/// At most four lines behind the first one are shown, and not the weak ones at their end.
+pub(crate) fn bars_end(source: &SourceMap<'_>, first: usize, last: usize) -> usize
+    requires ordered { first ≤ last }
+    requires within { last < length (source_lines source.now.text) }
+    ensures from { first ≤ result }
+    ensures to { result ≤ min (first + 4) last }
+    ensures before { first < last → result < last }
+    ensures bars { (k : ℕ) → first < k → nat_le k result
+        ≡ list_any (λ j. not (spec.is_weak_line source.now.text j)) (range_with_len k (min (first + 4) last - k)) }
+{
+    for line in (first..beginning(first, last)).rev() {
+        if !is_weak_line(source, line) {
+            return line;
+        }
+    }
+    first
+}
+
+/// Whether a span of several lines has a bar beside the line before its last, apart from those of its beginning.
+pub(crate) fn has_closing_bar(source: &SourceMap<'_>, first: usize, last: usize) -> bool
+    requires ordered { first < last }
+    requires within { last < length (source_lines source.now.text) }
+    ensures value { result ≡ (nat_lt (min (first + 4) last) (last - 1) && not (spec.is_weak_line source.now.text (last - 1))) }
+{
+    beginning(first, last) < last - 1 && !is_weak_line(source, last - 1)
+}
+
+/// The line up to which the beginning of a span is shown: four lines behind the first at most.
+fn beginning(first: usize, last: usize) -> usize
+    requires ordered { first ≤ last }
+    ensures value { result ≡ min (first + 4) last }
+{
+    first + 4.min(last - first)
+}
+
+/// Whether a line of a source says little.
+fn is_weak_line(source: &SourceMap<'_>, line: usize) -> bool
+    requires within { line < length (source_lines source.now.text) }
+    ensures value { result ≡ spec.is_weak_line source.now.text line }
+{
+    is_weak(source.text_of_line(line))
+}

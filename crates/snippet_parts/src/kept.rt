@@ -1,0 +1,142 @@
+//! Which lines of a snippet are kept. Lines count from 0.
+ghost use Rattle.std.specs.Prelude.{◌≡◌, ℕ, ◌+◌, ◌<◌, ◌≤◌, ◌^◌, ◌||◌, All, length, map, max, slice_set, slice_index, vec_len, IfOk};
+ghost use Rattle.std.specs.List.{list_any, range_with_len};
+ghost use Rattle.snippet_parts.specs.Kept.{keeps};
+ghost use Rattle.snippet_parts.specs.Lines.{source_lines};
+ghost use Rattle.snippet_parts.specs.Marked.{first_line, last_line};
+ghost use Rattle.snippet_parts.specs.Span.{IsSpan};
+ghost use Rattle.snippet_parts.specs.Stretches.{holds, furthest, is_covered, is_seen};
+
+use crate::bars::{bars_end, has_closing_bar};
+use crate::mark::is_marking;
+use crate::source_map::SourceMap;
+use snippet_model::snippet::Annotation;
+use std::alloc::{AllocError, Global};
+
+/// Lines from the first to the last, both counted.
+#[derive(Clone, Copy)]
+struct Stretch {
+    first: usize,
+    last: usize,
+}
+
+/// Of each line of a source, whether a span keeps it.
+///
+/// The one error is want of memory.
+pub(crate) fn kept(
+    alloc: Global,
+    source: &SourceMap<'_>,
+    annotations: &[Annotation<'_>],
+) -> Result<Vec<bool>, AllocError>
+    requires spans { All (λ a. IsSpan source.now.text a.span.start a.span.end) annotations.now }
+    ensures value { IfOk result (λ kept. kept.items ≡ map
+        (λ k. list_any (keeps source.now.text k) annotations.now) (range_with_len 0 (length (source_lines source.now.text)))) }
+{
+    let mut reach = vec![in alloc; 0; source.line_count()]?;
+    for annotation in annotations {
+        reach_over_kept(&mut reach, source, annotation);
+    }
+    covered(alloc, &reach)
+}
+
+/// Of each line of a source, whether a span that isn't marked touches it.
+///
+/// The one error is want of memory.
+pub(crate) fn seen(
+    alloc: Global,
+    source: &SourceMap<'_>,
+    annotations: &[Annotation<'_>],
+) -> Result<Vec<bool>, AllocError>
+    requires spans { All (λ a. IsSpan source.now.text a.span.start a.span.end) annotations.now }
+    ensures value { IfOk result (λ seen. seen.items ≡ map
+        (λ k. list_any (is_seen source.now.text k) annotations.now) (range_with_len 0 (length (source_lines source.now.text)))) }
+{
+    let mut reach = vec![in alloc; 0; source.line_count()]?;
+    for annotation in annotations {
+        reach_over_seen(&mut reach, source, annotation);
+    }
+    covered(alloc, &reach)
+}
+
+/// Reaches over the lines that a span keeps.
+fn reach_over_kept(reach: &mut [usize], source: &SourceMap<'_>, annotation: &Annotation<'_>)
+    requires span { IsSpan source.now.text annotation.now.span.start annotation.now.span.end }
+    requires lines { length reach.old ≡ length (source_lines source.now.text) }
+    ensures covered { (k : ℕ) → is_covered reach.new k ≡ (is_covered reach.old k || keeps source.now.text k annotation.now) }
+{
+    let (head, tail) = kept_stretches(source, annotation);
+    reach_over(reach, head);
+    reach_over(reach, tail);
+}
+
+/// Reaches over the lines of a span that isn't marked.
+fn reach_over_seen(reach: &mut [usize], source: &SourceMap<'_>, annotation: &Annotation<'_>)
+    requires span { IsSpan source.now.text annotation.now.span.start annotation.now.span.end }
+    requires lines { length reach.old ≡ length (source_lines source.now.text) }
+    ensures covered { (k : ℕ) → is_covered reach.new k ≡ (is_covered reach.old k || is_seen source.now.text k annotation.now) }
+{
+    if !is_marking(annotation.kind) {
+        reach_over(reach, touched(source, annotation));
+    }
+}
+
+/// The lines that a span keeps: those of its beginning, and those of its end.
+fn kept_stretches(source: &SourceMap<'_>, annotation: &Annotation<'_>) -> (Stretch, Stretch)
+    requires span { IsSpan source.now.text annotation.now.span.start annotation.now.span.end }
+    ensures value { (k : ℕ) → (holds result.0 k || holds result.1 k) ≡ keeps source.now.text k annotation.now }
+    ensures head { result.0.first < length (source_lines source.now.text) }
+    ensures tail { result.1.first < length (source_lines source.now.text) }
+    ensures head_last { result.0.last < length (source_lines source.now.text) }
+    ensures tail_last { result.1.last < length (source_lines source.now.text) }
+{
+    let all = touched(source, annotation);
+    if all.first == all.last || !is_marking(annotation.kind) {
+        return (all, all);
+    }
+    let head = Stretch {
+        first: all.first,
+        last: bars_end(source, all.first, all.last),
+    };
+    let closing = usize::from(has_closing_bar(source, all.first, all.last));
+    let tail = Stretch {
+        first: all.last - closing,
+        last: all.last,
+    };
+    (head, tail)
+}
+
+/// The lines that a span touches.
+fn touched(source: &SourceMap<'_>, annotation: &Annotation<'_>) -> Stretch
+    requires span { IsSpan source.now.text annotation.now.span.start annotation.now.span.end }
+    ensures first { result.first ≡ first_line source.now.text annotation.now }
+    ensures last { result.last ≡ last_line source.now.text annotation.now }
+    ensures ordered { result.first ≤ result.last }
+    ensures within { result.last < length (source_lines source.now.text) }
+{
+    Stretch {
+        first: source.line_index_of(annotation.span.start),
+        last: source.line_index_of(annotation.span.end),
+    }
+}
+
+/// Notes, at the first line of a stretch, that it reaches to its last.
+fn reach_over(reach: &mut [usize], stretch: Stretch)
+    requires first { stretch.first < length reach.old }
+    requires last { stretch.last < length reach.old }
+    ensures covered { (k : ℕ) → is_covered reach.new k ≡ (is_covered reach.old k || holds stretch k) }
+{
+    reach[stretch.first] = reach[stretch.first].max(stretch.last + 1);
+}
+
+/// Of each line, whether it is covered.
+fn covered(alloc: Global, reach: &[usize]) -> Result<Vec<bool>, AllocError>
+    ensures value { IfOk result (λ covered. covered.items ≡ map (is_covered reach.now) (range_with_len 0 (length reach.now))) }
+{
+    let mut covered = Vec::new(alloc);
+    let mut end = 0;
+    for line in 0..reach.len() {
+        end = reach[line].max(end);
+        covered.push(line < end)?;
+    }
+    Ok(covered)
+}
