@@ -1,5 +1,5 @@
--- Rows that are wrong, each on a small report, contradict the definitions of what rows show.
-use Rattle.std.proofs.Common.{Option, Some, None, ◌≡◌, ℕ, ◌<◌, ◌≤◌, ◌==◌, ◌⊎◌, Bool, true, false, List, [], ◌∷◌, ◌++◌, codes, encode_utf8_all, length, drop, replicate, refl, sym, ap, subst, arith, inl, inr}
+-- What is not shown: rows that are wrong, each on a small report, contradict the definitions of what rows show.
+use Rattle.std.proofs.Common.{Option, Some, None, ◌≡◌, ℕ, ◌<◌, ◌≤◌, ◌==◌, ◌⊎◌, Bool, true, false, List, [], ◌∷◌, ◌++◌, codes, encode_utf8_all, length, drop, replicate, refl, sym, ap, subst, append_assoc, arith, inl, inr}
 use Rattle.std.specs.Cow.{cow_str_bytes}
 use Rattle.std.specs.List.{All, Contains, filter, slice_index_or}
 use Rattle.std.specs.Option.{option_map}
@@ -7,7 +7,7 @@ use Rattle.std.specs.Str.{chars}
 use Rattle.std.specs.declared.borrow.CowStr.{CowStr}
 use Rattle.std.specs.declared.alloc.Global.{Global}
 use Rattle.std.proofs.lemmas.Bool.{eq-eqb}
-use Rattle.std.proofs.lemmas.List.Elements.{All-nil, All-cons}
+use Rattle.std.proofs.lemmas.List.Elements.{All-nil, All-cons, filter_map-append}
 use Rattle.snippet_style.specs.Grid.{Cell, SPACE, drawn}
 use Rattle.snippet_style.specs.Print.{row_text}
 use Rattle.snippet_style.specs.declared.glyphs.DecorStyle.TheVariants.{Ascii}
@@ -21,13 +21,13 @@ use Rattle.snippet_model.specs.declared.snippet.AnnotationKind.{AnnotationKind}
 use Rattle.snippet_model.specs.declared.snippet.AnnotationKind.TheVariants.{Primary, Context}
 use Rattle.snippet_parts.specs.Lines.{start_of}
 use Rattle.snippet_parts.specs.Place.{line_of, place_of}
-use Rattle.snippet_parts.specs.Mark.{is_marked_on, start_column, end_column, span_width, IsMarkedAt, IsMarkOf}
+use Rattle.snippet_parts.specs.Mark.{is_marked_on, qualifies_for_marks, start_column, end_column, span_width, IsMarkedAt, IsMarkOf}
 use Rattle.snippet_parts.specs.Window.{chars_at, stands_whole}
 use Rattle.snippet_strokes.specs.Entries.{IsMarkCell, has_mark_role}
 use Rattle.snippet_strokes.specs.Rows.{separator_row}
-use Rattle.annotate_snippets.specs.Page.{SourceRow, lines_named, IsAscending}
+use Rattle.annotate_snippets.specs.Page.{SourceRow, NamedRow, lines_named, IsAscending}
 use Rattle.annotate_snippets.specs.Settings.{plain_settings}
-use Rattle.annotate_snippets.specs.Shown.{Frame, cell_of, normalized_chars, shown_label, ShowsSourceLine, ShowsMarksOf, IsRowBelow}
+use Rattle.annotate_snippets.specs.Shown.{Frame, cell_of, room_of, placeholder_of, normalized_chars, shown_label, ShowsSourceLine, ShowsMarksOf, ShowsLineAndMarks, IsRowBelow}
 use Rattle.annotate_snippets.proofs.ListLemmas.{Contains-head, Contains-tail, Contains-cons_cases, Contains-nil}
 
 -- ---- small reports, and their rows
@@ -57,6 +57,47 @@ span_of kind start end = labelled_span None kind start end
 record IsSnippetOf (s : Snippet Annotation) (source : List ℕ) (marks : List Annotation) : Type 0 where
   source_is : cow_str_bytes s.source ≡ source
   marks_are : s.markers.items ≡ marks
+
+-- whether the first line of a source stands whole, with lines folded or not, and whether it qualifies for the promise on marks
+abbrev is_whole : Bool → List ℕ → List Annotation → Bool
+is_whole fold source marks =
+    stands_whole (room_of plain_settings frame) (length (placeholder_of Ascii)) fold source marks 0
+
+abbrev qualifies : List ℕ → List Annotation → Bool
+qualifies source marks =
+    qualifies_for_marks (room_of plain_settings frame) (length (placeholder_of Ascii)) source marks 0
+
+record IsPlainLine (source : List ℕ) (marks : List Annotation) : Type 0 where
+  folded : is_whole true source marks ≡ true
+  unfolded : is_whole false source marks ≡ true
+  qualified : qualifies source marks ≡ true
+
+-- these cells aren't the marks of the first line of a snippet: a row that has them below the code hasn't the line's marks,
+-- and so no source row with this row below it shows the line
+record AreOtherMarks (source : List ℕ) (marks : List Annotation) (cells : List Cell) : Type 0 where
+  below : (s : Snippet Annotation) → IsSnippetOf s source marks → ShowsMarksOf Ascii frame s 0 0 (row_below cells) → ⊥
+  above : (s : Snippet Annotation) → IsSnippetOf s source marks → (row : List Cell) → ShowsLineAndMarks plain_settings frame s 0 row (row_below cells) → ⊥
+
+-- ---- lines that stand whole
+
+-- from such a line no column is dropped, so that the rows of the line are those with all of its columns
+whole_line : (s : Snippet Annotation) (source : List ℕ) (marks : List Annotation) → IsSnippetOf s source marks → IsPlainLine source marks → is_whole s.fold (cow_str_bytes s.source) s.markers.items ≡ true
+whole_line s source marks is plain =
+    subst (λ text. is_whole s.fold text s.markers.items ≡ true) (sym is.source_is) (subst (λ spans. is_whole s.fold source spans ≡ true) (sym is.marks_are) (whole s.fold))
+  where
+    whole : (fold : Bool) → is_whole fold source marks ≡ true
+    whole true = plain.folded
+    whole false = plain.unfolded
+
+other_marks : (source : List ℕ) (marks : List Annotation) (cells : List Cell) → IsPlainLine source marks → ((s : Snippet Annotation) → IsSnippetOf s source marks → ShowsMarksOf Ascii frame s 0 0 (row_below cells) → ⊥) → AreOtherMarks source marks cells
+other_marks source marks cells plain wrong =
+    record {
+      below = wrong;
+      above = λ s is row shown.
+          let promised : qualifies (cow_str_bytes s.source) s.markers.items ≡ true = subst (λ text. qualifies text s.markers.items ≡ true) (sym is.source_is) (subst (λ spans. qualifies source spans ≡ true) (sym is.marks_are) plain.qualified) in
+          let none : shown.dropped ≡ 0 = (shown.line.whole (whole_line s source marks is plain)).0 in
+          wrong s is (subst (λ dropped. ShowsMarksOf Ascii frame s 0 dropped (row_below cells)) none (shown.marks promised));
+    }
 
 -- ---- marks
 
@@ -123,102 +164,123 @@ module _ {s : Snippet Annotation} {source : List ℕ} {marks : List Annotation} 
   label_behind a alone some =
       subst (λ text. row_text (drop (cell_of frame 0 (end_column text a)) row) ≡ 32 ∷ shown_label a) is.source_is (shown.lone a (subst (λ text. filter (is_marked_on text 0) s.markers.items ≡ a ∷ []) (sym is.source_is) (subst (λ spans. filter (is_marked_on source 0) spans ≡ a ∷ []) (sym is.marks_are) alone)) some)
 
+-- ---- numbers that ascend
+
+rest_ascends : (j : ℕ) (js : List ℕ) → IsAscending (j ∷ js) → IsAscending js
+rest_ascends j [] ascending = tt
+rest_ascends j (i ∷ js) ascending = ascending.1
+
+-- each is greater than those before it
+greater : (i j : ℕ) (js ks : List ℕ) → IsAscending (i ∷ (js ++ (j ∷ ks))) → i < j
+greater i j [] ks ascending = ascending.0
+greater i j (l ∷ js) ks ascending =
+    let more : l < j = greater l j js ks ascending.1 in
+    omega (arith, ascending.0)
+
+-- so none stands there twice
+two_of_one : (k : ℕ) (before between behind : List ℕ) → IsAscending (before ++ (k ∷ (between ++ (k ∷ behind)))) → ⊥
+two_of_one k [] between behind ascending =
+    let less : k < k = greater k k between behind ascending in
+    absurd (omega arith)
+two_of_one k (j ∷ before) between behind ascending =
+    two_of_one k before between behind (rest_ascends j (before ++ (k ∷ (between ++ (k ∷ behind)))) ascending)
+
 -- ---- the laws
 
--- the placeholder in place of a line that has room, here of `ab`:
+-- the placeholder in place of a line that has room, here of `ab`, however many columns are said to be dropped:
 --
 --     1 | ...
 elided_row : (s : Snippet Annotation) → IsSnippetOf s (codes "ab") (span_of Primary 0 1 ∷ []) → (dropped : ℕ) → ShowsSourceLine plain_settings frame s 0 dropped (source_row (codes "...")) → ⊥
 unfolding place_of line_of start_of chars char_width unicode_width norm
 elided_row s is dropped shown =
-    let text : codes "..." ≡ norm (chars_at (cow_str_bytes s.source) 0) = (shown.whole (subst (λ t. stands_whole 136 3 s.fold t s.markers.items 0 ≡ true) (sym is.source_is) (subst (λ spans. stands_whole 136 3 s.fold (codes "ab") spans 0 ≡ true) (sym is.marks_are) (stands s.fold)))).1 in
-    let known : codes "..." ≡ codes "ab" = subst (λ t. codes "..." ≡ norm (chars_at t 0)) is.source_is text in
+    let whole = whole_line s (codes "ab") (span_of Primary 0 1 ∷ []) is (record { folded = refl; unfolded = refl; qualified = refl }) in
+    let text : codes "..." ≡ codes "ab" = subst (λ source. codes "..." ≡ norm (chars_at source 0)) is.source_is (shown.whole whole).1 in
     cc
-  where
-    stands : (fold : Bool) → stands_whole 136 3 fold (codes "ab") (span_of Primary 0 1 ∷ []) 0 ≡ true
-    stands true = refl
-    stands false = refl
 
--- a second copy of a line, here of `a`, whatever it is named: not as a row of the line, and not as any other row
+-- a second copy of a line, here of `a`, whatever it is named: rows that are named by one line don't ascend, whatever stands
+-- before, between and behind them, and the copy is no row below a line's, as it has a digit in the gutter
 --
 --     1 | a
 --     1 | a
-second_copy : (k : ℕ) (cells copy : List Cell) (last : Bool) → (IsAscending (lines_named (record { name = SourceRow k; cells = cells } ∷ record { name = SourceRow k; cells = copy } ∷ [])) → ⊥) × (IsRowBelow Ascii 1 last (source_row (codes "a")) → ⊥)
-second_copy k cells copy last =
-    (λ ascending. absurd (omega (arith, ascending.0)), λ below. let digit : true ≡ false = below.unnumbered 0 (omega arith) in cc)
+second_copy : (k : ℕ) (row copy : List Cell) (before between behind : List NamedRow) (last : Bool) → (IsAscending (lines_named (before ++ record { name = SourceRow k; cells = row } ∷ between ++ record { name = SourceRow k; cells = copy } ∷ behind)) → ⊥) × (IsRowBelow Ascii 1 last (source_row (codes "a")) → ⊥)
+second_copy k row copy before between behind last =
+    (λ ascending. two_of_one k (lines_named before) (lines_named between) (lines_named behind) (simp (filter_map-append, append_assoc) at ascending), λ below. let digit : true ≡ false = below.unnumbered 0 (omega arith) in cc)
 
 -- the marks of a wider span below a narrower primary one, here of all of `abcdef` below `cd`:
 --
 --     1 | abcdef
 --       | ------
-narrower_underneath : (s : Snippet Annotation) → IsSnippetOf s (codes "abcdef") (span_of Context 0 6 ∷ span_of Primary 2 4 ∷ []) → ShowsMarksOf Ascii frame s 0 0 (row_below (drawn UnderlineSecondary (codes "------"))) → ⊥
+narrower_underneath : AreOtherMarks (codes "abcdef") (span_of Context 0 6 ∷ span_of Primary 2 4 ∷ []) (drawn UnderlineSecondary (codes "------"))
 unfolding place_of line_of start_of chars char_width unicode_width
-narrower_underneath s is shown =
+narrower_underneath =
     let source : List ℕ = codes "abcdef" in
     let wide : Annotation = span_of Context 0 6 in
     let narrow : Annotation = span_of Primary 2 4 in
     let at : IsMarkedAt source 0 2 narrow = is_marked_at source narrow 2 4 (record { marked = refl; start_is = refl; end_is = refl }) 2 (omega arith) (omega arith) in
-    primary_missing is shown 2 (mark_of_primary source 0 2 wide narrow at refl (omega arith)) refl
+    let mark : IsMarkOf source (wide ∷ narrow ∷ []) 0 2 Primary = mark_of_primary source 0 2 wide narrow at refl (omega arith) in
+    other_marks source (wide ∷ narrow ∷ []) (drawn UnderlineSecondary (codes "------")) (record { folded = refl; unfolded = refl; qualified = refl }) (λ s is shown. primary_missing is shown 2 mark refl)
 
 -- the marks for context below a primary span of the same width, here of `ab`:
 --
 --     1 | abcd
 --       | --
-context_wins : (s : Snippet Annotation) → IsSnippetOf s (codes "abcd") (span_of Context 0 2 ∷ span_of Primary 0 2 ∷ []) → ShowsMarksOf Ascii frame s 0 0 (row_below (drawn UnderlineSecondary (codes "--"))) → ⊥
+context_wins : AreOtherMarks (codes "abcd") (span_of Context 0 2 ∷ span_of Primary 0 2 ∷ []) (drawn UnderlineSecondary (codes "--"))
 unfolding place_of line_of start_of chars char_width unicode_width
-context_wins s is shown =
+context_wins =
     let source : List ℕ = codes "abcd" in
     let context : Annotation = span_of Context 0 2 in
     let primary : Annotation = span_of Primary 0 2 in
     let at : IsMarkedAt source 0 0 primary = is_marked_at source primary 0 2 (record { marked = refl; start_is = refl; end_is = refl }) 0 (omega arith) (omega arith) in
-    primary_missing is shown 0 (mark_of_primary source 0 0 context primary at refl (omega arith)) refl
+    let mark : IsMarkOf source (context ∷ primary ∷ []) 0 0 Primary = mark_of_primary source 0 0 context primary at refl (omega arith) in
+    other_marks source (context ∷ primary ∷ []) (drawn UnderlineSecondary (codes "--")) (record { folded = refl; unfolded = refl; qualified = refl }) (λ s is shown. primary_missing is shown 0 mark refl)
 
 -- marks at the columns of a span's bytes, here below the second character of `日本`, which has the bytes 3 to 5 and stands
 -- at columns 2 and 3:
 --
 --     1 | 日本
 --       |    ^^^
-marks_by_bytes : (s : Snippet Annotation) → IsSnippetOf s (encode_utf8_all (codes "日本")) (span_of Primary 3 6 ∷ []) → ShowsMarksOf Ascii frame s 0 0 (row_below (replicate 3 SPACE ++ drawn UnderlinePrimary (codes "^^^"))) → ⊥
+marks_by_bytes : AreOtherMarks (encode_utf8_all (codes "日本")) (span_of Primary 3 6 ∷ []) (replicate 3 SPACE ++ drawn UnderlinePrimary (codes "^^^"))
 unfolding place_of line_of start_of chars char_width unicode_width lib.Utf8.encode
-marks_by_bytes s is shown =
+marks_by_bytes =
     let source : List ℕ = encode_utf8_all (codes "日本") in
     let span : Annotation = span_of Primary 3 6 in
     let at : IsMarkedAt source 0 2 span = is_marked_at source span 2 4 (record { marked = refl; start_is = refl; end_is = refl }) 2 (omega arith) (omega arith) in
-    primary_missing is shown 2 (mark_of_one source 0 2 span at) refl
+    let mark : IsMarkOf source (span ∷ []) 0 2 Primary = mark_of_one source 0 2 span at in
+    other_marks source (span ∷ []) (replicate 3 SPACE ++ drawn UnderlinePrimary (codes "^^^")) (record { folded = refl; unfolded = refl; qualified = refl }) (λ s is shown. primary_missing is shown 2 mark refl)
 
 -- a mark at the column of a span's character, here below the `x` behind a tab, which is character 1 and stands at column 4:
 --
 --     1 |     x
 --       |  ^
-marks_by_characters : (s : Snippet Annotation) → IsSnippetOf s (9 ∷ codes "x") (span_of Primary 1 2 ∷ []) → ShowsMarksOf Ascii frame s 0 0 (row_below (SPACE ∷ drawn UnderlinePrimary (codes "^"))) → ⊥
-unfolding place_of line_of start_of chars char_width unicode_width
-marks_by_characters s is shown =
+marks_by_characters : AreOtherMarks (9 ∷ codes "x") (span_of Primary 1 2 ∷ []) (SPACE ∷ drawn UnderlinePrimary (codes "^"))
+unfolding place_of line_of start_of chars char_width unicode_width norm
+marks_by_characters =
     let source : List ℕ = 9 ∷ codes "x" in
     let span : Annotation = span_of Primary 1 2 in
     let at : IsMarkedAt source 0 4 span = is_marked_at source span 4 5 (record { marked = refl; start_is = refl; end_is = refl }) 4 (omega arith) (omega arith) in
-    primary_missing is shown 4 (mark_of_one source 0 4 span at) refl
+    let mark : IsMarkOf source (span ∷ []) 0 4 Primary = mark_of_one source 0 4 span at in
+    other_marks source (span ∷ []) (SPACE ∷ drawn UnderlinePrimary (codes "^")) (record { folded = refl; unfolded = refl; qualified = refl }) (λ s is shown. primary_missing is shown 4 mark refl)
 
 -- marks below columns that no span covers, here below all of `ab cd`, of which a span covers `a` alone:
 --
 --     1 | ab cd
 --       | ^^^^^
-every_column_marked : (s : Snippet Annotation) → IsSnippetOf s (codes "ab cd") (span_of Primary 0 1 ∷ []) → ShowsMarksOf Ascii frame s 0 0 (row_below (drawn UnderlinePrimary (codes "^^^^^"))) → ⊥
+every_column_marked : AreOtherMarks (codes "ab cd") (span_of Primary 0 1 ∷ []) (drawn UnderlinePrimary (codes "^^^^^"))
 unfolding place_of line_of start_of chars char_width unicode_width
-every_column_marked s is shown =
+every_column_marked =
+    let span : Annotation = span_of Primary 0 1 in
     let IsFreeOf : Annotation → Type 0 = λ a. IsMarkedAt (codes "ab cd") 0 1 a → ⊥ in
-    let free : IsFreeOf (span_of Primary 0 1) = λ at. absurd (omega (arith, at.1.1)) in
-    let role : true ≡ false = no_mark_role is shown 1 (All-cons IsFreeOf (span_of Primary 0 1) [] free (All-nil IsFreeOf)) in
-    cc
+    let free : All IsFreeOf (span ∷ []) = All-cons IsFreeOf span [] (λ at. absurd (omega (arith, at.1.1))) (All-nil IsFreeOf) in
+    other_marks (codes "ab cd") (span ∷ []) (drawn UnderlinePrimary (codes "^^^^^")) (record { folded = refl; unfolded = refl; qualified = refl }) (λ s is shown. let role : true ≡ false = no_mark_role is shown 1 free in cc)
 
 -- a mark without its span's label, here `x`, where no other span is on the line:
 --
 --     1 | ab
 --       | ^
-label_left_out : (s : Snippet Annotation) (label : Option (CowStr Global)) → option_map cow_str_bytes label ≡ Some (codes "x") → IsSnippetOf s (codes "ab") (labelled_span label Primary 0 1 ∷ []) → ShowsMarksOf Ascii frame s 0 0 (row_below (drawn UnderlinePrimary (codes "^"))) → ⊥
+label_left_out : (label : Option (CowStr Global)) → option_map cow_str_bytes label ≡ Some (codes "x") → AreOtherMarks (codes "ab") (labelled_span label Primary 0 1 ∷ []) (drawn UnderlinePrimary (codes "^"))
 unfolding place_of line_of start_of chars char_width unicode_width norm
-label_left_out s label label_is is shown =
+label_left_out label label_is =
     let span : Annotation = labelled_span label Primary 0 1 in
     let text : shown_label span ≡ codes "x" = ap normalized_chars label_is in
     let some : 0 < length (shown_label span) = omega (arith, ap length text) in
-    let behind : [] ≡ 32 ∷ shown_label span = label_behind is shown span refl some in
-    cc
+    other_marks (codes "ab") (span ∷ []) (drawn UnderlinePrimary (codes "^")) (record { folded = refl; unfolded = refl; qualified = refl }) (λ s is shown. let behind : [] ≡ 32 ∷ shown_label span = label_behind is shown span refl some in cc)
