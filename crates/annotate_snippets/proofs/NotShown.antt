@@ -1,5 +1,6 @@
 -- What is not shown: rows that are wrong, each on a small report, contradict the definitions of what rows show.
-use Rattle.std.proofs.Common.{Option, Some, None, ◌≡◌, ℕ, ◌<◌, ◌≤◌, ◌==◌, ◌⊎◌, Bool, true, false, List, [], ◌∷◌, ◌++◌, codes, encode_utf8_all, length, drop, replicate, refl, sym, ap, subst, append_assoc, arith, inl, inr}
+use Rattle.std.proofs.Common.{Option, Some, None, ◌≡◌, ℕ, ◌<◌, ◌≤◌, ◌==◌, ◌⊎◌, Bool, true, false, List, [], ◌∷◌, ◌++◌, codes, encode_utf8_all, length, drop, replicate, refl, sym, ap, subst, arith, inl, inr}
+use Rattle.std.specs.Char.{is_ascii_alphanumeric}
 use Rattle.std.specs.Cow.{cow_str_bytes}
 use Rattle.std.specs.List.{All, Contains, filter, slice_index_or}
 use Rattle.std.specs.Option.{option_map}
@@ -19,15 +20,15 @@ use Rattle.snippet_model.specs.declared.snippet.Snippet.{Snippet}
 use Rattle.snippet_model.specs.declared.snippet.Annotation.{Annotation}
 use Rattle.snippet_model.specs.declared.snippet.AnnotationKind.{AnnotationKind}
 use Rattle.snippet_model.specs.declared.snippet.AnnotationKind.TheVariants.{Primary, Context}
-use Rattle.snippet_parts.specs.Lines.{start_of}
+use Rattle.snippet_parts.specs.Lines.{source_lines, start_of}
 use Rattle.snippet_parts.specs.Place.{line_of, place_of}
 use Rattle.snippet_parts.specs.Mark.{is_marked_on, qualifies_for_marks, start_column, end_column, span_width, IsMarkedAt, IsMarkOf}
 use Rattle.snippet_parts.specs.Window.{chars_at, stands_whole}
 use Rattle.snippet_strokes.specs.Entries.{IsMarkCell, has_mark_role}
 use Rattle.snippet_strokes.specs.Rows.{separator_row}
-use Rattle.annotate_snippets.specs.Page.{SourceRow, NamedRow, lines_named, IsAscending}
+use Rattle.annotate_snippets.specs.Page.{RowName, SourceRow, Other, NamedRow, lines_named, IsAscending}
 use Rattle.annotate_snippets.specs.Settings.{plain_settings}
-use Rattle.annotate_snippets.specs.Shown.{Frame, cell_of, room_of, placeholder_of, normalized_chars, shown_label, ShowsSourceLine, ShowsMarksOf, ShowsLineAndMarks, IsRowBelow}
+use Rattle.annotate_snippets.specs.Shown.{Frame, cell_of, room_of, placeholder_of, normalized_chars, shown_label, ShowsSourceLine, ShowsMarksOf, ShowsLineAndMarks, IsRowBelow, IsRowOf, AreRowsOf, ShowsSnippet}
 use Rattle.annotate_snippets.proofs.ListLemmas.{Contains-head, Contains-tail, Contains-cons_cases, Contains-nil}
 
 -- ---- small reports, and their rows
@@ -58,7 +59,8 @@ record IsSnippetOf (s : Snippet Annotation) (source : List ℕ) (marks : List An
   source_is : cow_str_bytes s.source ≡ source
   marks_are : s.markers.items ≡ marks
 
--- whether the first line of a source stands whole, with lines folded or not, and whether it qualifies for the promise on marks
+-- whether the first line of a source stands whole in the plain renderer's room, and whether it qualifies for the promise on
+-- marks there
 abbrev is_whole : Bool → List ℕ → List Annotation → Bool
 is_whole fold source marks =
     stands_whole (room_of plain_settings frame) (length (placeholder_of Ascii)) fold source marks 0
@@ -67,6 +69,7 @@ abbrev qualifies : List ℕ → List Annotation → Bool
 qualifies source marks =
     qualifies_for_marks (room_of plain_settings frame) (length (placeholder_of Ascii)) source marks 0
 
+-- it does both, with lines folded or not
 record IsPlainLine (source : List ℕ) (marks : List Annotation) : Type 0 where
   folded : is_whole true source marks ≡ true
   unfolded : is_whole false source marks ≡ true
@@ -80,7 +83,7 @@ record AreOtherMarks (source : List ℕ) (marks : List Annotation) (cells : List
 
 -- ---- lines that stand whole
 
--- from such a line no column is dropped, so that the rows of the line are those with all of its columns
+-- the first line of a snippet stands whole if that of its source does
 whole_line : (s : Snippet Annotation) (source : List ℕ) (marks : List Annotation) → IsSnippetOf s source marks → IsPlainLine source marks → is_whole s.fold (cow_str_bytes s.source) s.markers.items ≡ true
 whole_line s source marks is plain =
     subst (λ text. is_whole s.fold text s.markers.items ≡ true) (sym is.source_is) (subst (λ spans. is_whole s.fold source spans ≡ true) (sym is.marks_are) (whole s.fold))
@@ -89,6 +92,7 @@ whole_line s source marks is plain =
     whole true = plain.folded
     whole false = plain.unfolded
 
+-- then no column is dropped, and the row below has to have the line's marks
 other_marks : (source : List ℕ) (marks : List Annotation) (cells : List Cell) → IsPlainLine source marks → ((s : Snippet Annotation) → IsSnippetOf s source marks → ShowsMarksOf Ascii frame s 0 0 (row_below cells) → ⊥) → AreOtherMarks source marks cells
 other_marks source marks cells plain wrong =
     record {
@@ -110,6 +114,7 @@ record IsMarkedFrom (source : List ℕ) (a : Annotation) (start end : ℕ) : Typ
 is_marked_at : (source : List ℕ) (a : Annotation) (start end : ℕ) → IsMarkedFrom source a start end → (p : ℕ) → start ≤ p → p < end → IsMarkedAt source 0 p a
 is_marked_at source a start end is p from to = (is.marked, (omega arith, omega arith))
 
+-- what a list of one span contains is that span
 the_one : (a other : Annotation) → Contains (a ∷ []) other → a ≡ other
 the_one a other among =
     elim (Contains-cons_cases a other [] among) [
@@ -166,6 +171,7 @@ module _ {s : Snippet Annotation} {source : List ℕ} {marks : List Annotation} 
 
 -- ---- numbers that ascend
 
+-- numbers behind others ascend as they do
 rest_ascends : (j : ℕ) (js : List ℕ) → IsAscending (j ∷ js) → IsAscending js
 rest_ascends j [] ascending = tt
 rest_ascends j (i ∷ js) ascending = ascending.1
@@ -185,6 +191,23 @@ two_of_one k [] between behind ascending =
 two_of_one k (j ∷ before) between behind ascending =
     two_of_one k before between behind (rest_ascends j (before ++ (k ∷ (between ++ (k ∷ behind)))) ascending)
 
+-- ---- rows and their names
+
+-- rows behind others are what their names say, if all are
+rows_behind : (s : Snippet Annotation) (rows more : List NamedRow) → AreRowsOf plain_settings frame s (rows ++ more) → AreRowsOf plain_settings frame s more
+rows_behind s [] more named = named
+rows_behind s (row ∷ rows) more named = rows_behind s rows more named.1
+
+-- a row `1 | a` can only be named as that of the first line of `a`
+named_first : (s : Snippet Annotation) → cow_str_bytes s.source ≡ codes "a" → (name : RowName) (cells : List Cell) (rows : List NamedRow) → cells ≡ source_row (codes "a") → IsRowOf plain_settings frame s name cells rows → name ≡ SourceRow 0
+named_first s is (SourceRow k) cells rows same shows =
+    let within : k < 1 = subst (λ source. k < length (source_lines source)) is shows.line.within in
+    let first : k ≡ 0 = omega arith in
+    ap SourceRow first
+named_first s is Other cells rows same shows =
+    let digit : true ≡ false = subst (λ row. is_ascii_alphanumeric (slice_index_or row 0 SPACE).ch ≡ false) same (shows.unnumbered 0 (omega arith)) in
+    cc
+
 -- ---- the laws
 
 -- the placeholder in place of a line that has room, here of `ab`, however many columns are said to be dropped:
@@ -197,14 +220,25 @@ elided_row s is dropped shown =
     let text : codes "..." ≡ codes "ab" = subst (λ source. codes "..." ≡ norm (chars_at source 0)) is.source_is (shown.whole whole).1 in
     cc
 
--- a second copy of a line, here of `a`, whatever it is named: rows that are named by one line don't ascend, whatever stands
--- before, between and behind them, and the copy is no row below a line's, as it has a digit in the gutter
+-- a second copy of a line, here of `a`, whatever it is named: two rows that are named by one line don't ascend, whatever
+-- stands before, between and behind them, and the copy is no row below a line's, as it has a digit in the gutter
 --
 --     1 | a
 --     1 | a
-second_copy : (k : ℕ) (row copy : List Cell) (before between behind : List NamedRow) (last : Bool) → (IsAscending (lines_named (before ++ record { name = SourceRow k; cells = row } ∷ between ++ record { name = SourceRow k; cells = copy } ∷ behind)) → ⊥) × (IsRowBelow Ascii 1 last (source_row (codes "a")) → ⊥)
-second_copy k row copy before between behind last =
-    (λ ascending. two_of_one k (lines_named before) (lines_named between) (lines_named behind) (simp (filter_map-append, append_assoc) at ascending), λ below. let digit : true ≡ false = below.unnumbered 0 (omega arith) in cc)
+second_copy : (k : ℕ) (row copy : NamedRow) (before between behind : List NamedRow) (last : Bool) → row.name ≡ SourceRow k → copy.name ≡ SourceRow k → (IsAscending (lines_named (before ++ (row ∷ (between ++ (copy ∷ behind))))) → ⊥) × (IsRowBelow Ascii 1 last (source_row (codes "a")) → ⊥)
+second_copy k row copy before between behind last row_is copy_is =
+    (λ ascending. two_of_one k (lines_named before) (lines_named between) (lines_named behind) (simp (filter_map-append, row_is, copy_is) at ascending), λ below. let digit : true ≡ false = below.unnumbered 0 (omega arith) in cc)
+
+-- so no rows in which it stands twice show the snippet
+second_copy_on_page : (s : Snippet Annotation) → cow_str_bytes s.source ≡ codes "a" → (first : Bool) (opening row copy : NamedRow) (before between behind : List NamedRow) → row.cells ≡ source_row (codes "a") → copy.cells ≡ source_row (codes "a") → ShowsSnippet plain_settings frame first s (opening ∷ (before ++ (row ∷ (between ++ (copy ∷ behind))))) → ⊥
+second_copy_on_page s is first opening row copy before between behind row_is copy_is shown =
+    let rows : List NamedRow = before ++ (row ∷ (between ++ (copy ∷ behind))) in
+    let same : shown.behind ≡ rows = ap (drop 1) (sym shown.rows_are) in
+    let from_row : AreRowsOf plain_settings frame s (row ∷ (between ++ (copy ∷ behind))) = rows_behind s before (row ∷ (between ++ (copy ∷ behind))) (subst (AreRowsOf plain_settings frame s) same shown.named) in
+    let from_copy : AreRowsOf plain_settings frame s (copy ∷ behind) = rows_behind s between (copy ∷ behind) from_row.1 in
+    let row_named : row.name ≡ SourceRow 0 = named_first s is row.name row.cells (between ++ (copy ∷ behind)) row_is from_row.0 in
+    let copy_named : copy.name ≡ SourceRow 0 = named_first s is copy.name copy.cells behind copy_is from_copy.0 in
+    (second_copy 0 row copy before between behind true row_named copy_named).0 (subst (λ all. IsAscending (lines_named all)) same shown.ordered)
 
 -- the marks of a wider span below a narrower primary one, here of all of `abcdef` below `cd`:
 --
