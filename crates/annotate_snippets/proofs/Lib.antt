@@ -3,6 +3,7 @@ pub mod GutterLemmas
 pub mod LabelLemmas
 pub mod ListLemmas
 pub mod MarkLemmas
+pub mod NotShown
 pub mod PageLemmas
 pub mod ReportLemmas
 pub mod TitleLemmas
