@@ -45,6 +45,7 @@ pub fn window_of<'a>(
     // Few more columns are dropped than are left of the bound, and none where the bound is 0.
     ensures near { result.dropped < (bounds_of margin).left + 4 }
     ensures uncut { (bounds_of margin).left ≡ 0 → result.dropped ≡ 0 }
+    ensures few_dropped { result.dropped < 2 ^ 61 }
     ensures few_start { IfSome result.start (λ start. start < 2 ^ 59) }
     ensures few_end { IfSome result.end (λ end. end < 2 ^ 61) }
     ensures start { let bounds = bounds_of margin in let cs = chars text.now in

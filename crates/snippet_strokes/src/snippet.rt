@@ -3,7 +3,6 @@ ghost use Rattle.std.specs.Prelude.{◌+◌, ◌^◌, ◌<◌, ◌≤◌, All, I
 ghost use Rattle.snippet_parts.specs.Marked.{HasColumns};
 ghost use Rattle.snippet_strokes.specs.Rows.{shown_number};
 ghost use Rattle.snippet_strokes.specs.Snippet.{AddsLine, AddsSnippet, StandsBehind};
-ghost use Rattle.snippet_parts.specs.Margin.{bounds_of};
 
 use crate::highlight::highlight_source;
 use crate::layout::Layout;
@@ -51,7 +50,6 @@ pub fn draw_snippet(
         infos.now }
     requires texts { All (λ info. length info.line.now < 2 ^ 56) infos.now }
     requires columns { All (λ info. All (λ e. HasColumns e.start e.end) info.annotations.items) infos.now }
-    requires bounds { (bounds_of margin).left < 2 ^ 60 }
     requires clear { All (λ info. All (StandsBehind margin) info.annotations.items) infos.now }
     requires labels { All (λ info. All (λ e. IfSome e.label (λ t. length t.now < 2 ^ 56)) info.annotations.items) infos.now }
     ensures added { OnOk result (AddsSnippet layout margin numbered first closes infos.now buffer.old buffer.new) }
@@ -84,7 +82,6 @@ fn draw_line(
     requires number { length (shown_number numbered layout.gutter info.now.line_index) ≤ layout.gutter + 1 }
     requires text { length info.now.line.now < 2 ^ 56 }
     requires columns { All (λ e. HasColumns e.start e.end) info.now.annotations.items }
-    requires bounds { (bounds_of margin).left < 2 ^ 60 }
     requires clear { All (StandsBehind margin) info.now.annotations.items }
     requires labels { All (λ e. IfSome e.label (λ t. length t.now < 2 ^ 56)) info.now.annotations.items }
     ensures added { OnOk result (AddsLine layout margin numbered closes info.now buffer.old buffer.new) }

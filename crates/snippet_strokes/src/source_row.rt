@@ -48,6 +48,7 @@ pub(crate) fn draw_source_row(
         at.1 ≡ width_of (dropped_part (bounds_of margin).left (norm (chars info.now.line.now)))) }
     ensures near { IfOk result (λ at. at.1 < (bounds_of margin).left + 4) }
     ensures uncut { IfOk result (λ at. (bounds_of margin).left ≡ 0 → at.1 ≡ 0) }
+    ensures few { IfOk result (λ at. at.1 < 2 ^ 61) }
 {
     let number = number_text(alloc, numbered, layout.gutter, info.line_index)?;
     let text = normalized(alloc, info.line)?;
