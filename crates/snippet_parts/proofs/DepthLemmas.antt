@@ -1,9 +1,9 @@
 -- What is known of the depths of spans of several lines.
-use Rattle.std.proofs.Common.{◌≡◌, ℕ, zero, suc, ◌+◌, ◌-◌, ◌<◌, ◌≤◌, Bool, true, false, ◌&&◌, ◌||◌, cond, eqb, leb, ltb, max, fold, take, drop, add-one, ◌++◌, List, [], ◌∷◌, map, length, get_or, set, inl, inr, ◌⊎◌, refl, sym, ap, subst, ◌∙◌, arith}
+use Rattle.std.proofs.Common.{◌≡◌, ℕ, zero, suc, ◌+◌, ◌-◌, ◌<◌, ◌≤◌, Bool, true, false, ◌&&◌, ◌||◌, cond, eqb, leb, max, fold, take, drop, add-one, ◌++◌, List, [], ◌∷◌, map, length, get_or, set, inl, inr, refl, sym, ap, subst, ◌∙◌, arith}
 use Rattle.std.specs.List.{All, Contains, list_any}
 use Rattle.std.specs.List.Sorted.{IsNonDecreasingBy}
-use Rattle.std.proofs.lemmas.Bool.{cases_Bool, cases_lt, eqb-true, eq-eqb, leb-true, le-leb, lt-leb, leb-false, and_from, and_parts, and_right, or_left, or_right, or_cases, cond-true, cond-false, both_ways, false_from_ne_true}
-use Rattle.std.proofs.lemmas.List.{drop_more, drop_all, take_at, get_or_at, get_or-append-add, get_or-take, get_or-drop, take_rest, drop-set, length-take-le, length-drop, length-map, get_or-map, get_or_default}
+use Rattle.std.proofs.lemmas.Bool.{cases_Bool, cases_lt, eqb-true, eq-eqb, le-leb, lt-leb, and_from, and_parts, and_right, or_left, or_right, or_cases, cond-true, cond-false, both_ways, false_from_ne_true}
+use Rattle.std.proofs.lemmas.List.{drop_more, drop_all, take_at, get_or-take, get_or-drop, take_rest, drop-set, length-take-le, length-drop, length-map, get_or-map, get_or_default}
 use Rattle.snippet_parts.specs.declared.depths.LongPlace.{LongPlace}
 use Rattle.snippet_parts.specs.Depths.{same_place, share_line, places_of, raw_depth, raw_depth_among, greatest_raw_depth, greatest_depth, depth_among, SharesWithFirst, IsChainOf, IsLongestChain, raw_depths}
 

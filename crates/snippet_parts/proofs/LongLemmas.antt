@@ -1,14 +1,12 @@
 -- Spans of several lines, in their order.
-use Rattle.std.proofs.Common.{◌≡◌, ℕ, ◌+◌, ◌^◌, ◌<◌, ◌≤◌, Bool, true, false, ◌&&◌, ◌||◌, cond, not, eqb, ltb, List, [], ◌∷◌, ◌++◌, map, length, take, get_or, inl, inr, ◌⊎◌, refl, sym, ap, subst, ◌∙◌, arith}
+use Rattle.std.proofs.Common.{◌≡◌, ℕ, ◌^◌, ◌<◌, ◌≤◌, Bool, true, false, ◌&&◌, ◌||◌, not, eqb, ltb, List, map, get_or, inl, inr, ap, ◌∙◌, arith}
 use Rattle.std.specs.Cmp.{IsStrictWeakOrder}
-use Rattle.std.specs.List.{All, filter}
+use Rattle.std.specs.List.{filter}
 use Rattle.std.specs.List.Sorted.{IsNonDecreasingBy, IsSortedBy}
 use Rattle.std.specs.Ordering.{is_lt, ordering_then, nat_cmp}
 use Rattle.std.proofs.lemmas.Bool.Decides.{nat_tests}
-use Rattle.snippet_parts.specs.declared.depths.LongPlace.{LongPlace}
 use Rattle.snippet_parts.specs.declared.long_spans.LongSpan.{LongSpan}
-use Rattle.snippet_parts.specs.Annotated.{in_order, long_entry, long_place, is_long, stands_before, long_spans}
-use Rattle.snippet_parts.specs.Depths.{comes_before}
+use Rattle.snippet_parts.specs.Annotated.{in_order, long_entry, is_long, stands_before, long_spans}
 use Rattle.snippet_parts.specs.LongSpans.{seen_long, HasFit}
 use Rattle.snippet_parts.specs.Lines.{Source, source_lines}
 use Rattle.snippet_parts.specs.Mark.{is_marking}

@@ -1,7 +1,7 @@
 -- The entries of annotations on the lines that they touch, spans of several lines among them.
-use Rattle.std.specs.Prelude.{ℕ, ◌+◌, ◌-◌, ◌==◌, ◌&&◌, ◌||◌, nat_lt, min, Bool, true, false, not, List, [], ◌∷◌, ◌++◌, Option, Some, None, map, filter, length, if◌then◌else◌}
+use Rattle.std.specs.Prelude.{ℕ, ◌+◌, ◌-◌, ◌==◌, ◌&&◌, ◌||◌, nat_lt, min, Bool, true, false, not, List, [], ◌∷◌, ◌++◌, None, map, filter, if◌then◌else◌}
 use Rattle.std.specs.List.{list_any, range_with_len}
-use Rattle.std.specs.Option.{option_map, option_copied}
+use Rattle.std.specs.Option.{option_map}
 use Rattle.std.specs.Cow.{cow_str_bytes}
 use Rattle.snippet_model.specs.declared.snippet.Annotation.{Annotation}
 use Rattle.snippet_model.specs.declared.snippet.AnnotationKind.{AnnotationKind}
@@ -15,7 +15,7 @@ use Rattle.snippet_parts.specs.declared.place.Loc.{Loc}
 use Rattle.snippet_parts.specs.Depths.{same_place, comes_before, greatest_depth, depth_among}
 use Rattle.snippet_parts.specs.Kept.{is_weak_line, kept_lines}
 use Rattle.snippet_parts.specs.Lines.{source_lines, text_at, Source}
-use Rattle.snippet_parts.specs.Mark.{is_marking, is_single_line, is_marked_on, touches}
+use Rattle.snippet_parts.specs.Mark.{is_marking, is_single_line, touches}
 use Rattle.snippet_parts.specs.Marked.{Entry, seen_entry, entry_of}
 use Rattle.snippet_parts.specs.Place.{locations_of}
 

@@ -1,5 +1,5 @@
 -- Spans of several lines as the code holds them.
-use Rattle.std.specs.Prelude.{ℕ, ◌+◌, ◌<◌, ◌≤◌, ◌^◌, length}
+use Rattle.std.specs.Prelude.{◌+◌, ◌<◌, ◌≤◌, ◌^◌, length}
 use Rattle.std.specs.Option.{option_copied}
 use Rattle.snippet_parts.specs.declared.long_spans.LongSpan.{LongSpan}
 use Rattle.snippet_parts.specs.Lines.{Source, source_lines}

@@ -1,4 +1,4 @@
-use Rattle.std.proofs.Common.{◌≡◌, ◌&&◌, false, map, take}
+use Rattle.std.proofs.Common.{◌≡◌, ◌&&◌, false, take}
 use Rattle.std.specs.List.{list_any}
 use Rattle.snippet_parts.specs.Annotated.{long_place, is_primary}
 use Rattle.snippet_parts.specs.Depths.{same_place}

@@ -1,4 +1,4 @@
-use Rattle.std.proofs.Common.{◌≡◌, map, arith, ap, sym, ◌∙◌}
+use Rattle.std.proofs.Common.{map, ap, sym, ◌∙◌}
 use Rattle.snippet_parts.specs.declared.long_spans.LongSpan.{LongSpan}
 use Rattle.snippet_parts.specs.Annotated.{long_place}
 use Rattle.snippet_parts.specs.Depths.{greatest_depth}

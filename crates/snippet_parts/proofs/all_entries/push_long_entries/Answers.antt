@@ -1,4 +1,4 @@
-use Rattle.std.proofs.Common.{◌≡◌, ◌+◌, ℕ, get_or, map, arith, ap, sym, ◌∙◌}
+use Rattle.std.proofs.Common.{◌+◌, ℕ, get_or, map, ap, ◌∙◌}
 use Rattle.std.specs.List.{list_any}
 use Rattle.std.proofs.lemmas.List.{take_rest, get_or_default, get_or-map}
 use Rattle.snippet_parts.specs.declared.long_spans.LongSpan.{LongSpan}

@@ -1,4 +1,4 @@
-use Rattle.std.proofs.Common.{◌+◌, eqb, refl, map, ap, sym, ◌∙◌}
+use Rattle.std.proofs.Common.{eqb, refl, map, ap, sym, ◌∙◌}
 use Rattle.std.specs.List.{filter}
 use Rattle.snippet_parts.specs.Annotated.{PartEntry, seen_part}
 use Rattle.snippet_parts.proofs.ShownLemmas.{filter-map, same-kept}

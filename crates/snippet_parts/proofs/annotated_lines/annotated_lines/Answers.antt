@@ -1,7 +1,7 @@
-use Rattle.std.proofs.Common.{◌≡◌, ◌+◌, ◌<◌, ◌≤◌, ◌||◌, ℕ, Bool, true, false, not, eqb, map, length, get_or, refl, ap, sym, ◌∙◌, arith}
+use Rattle.std.proofs.Common.{◌≡◌, ◌+◌, ◌<◌, ◌≤◌, ◌||◌, ℕ, false, not, eqb, map, length, get_or, refl, ap, sym, ◌∙◌, arith}
 use Rattle.std.specs.List.{filter, list_any, range_with_len}
 use Rattle.std.proofs.lemmas.List.FromFn.{length-map-range_with_len, get_or-map-range_with_len}
-use Rattle.snippet_parts.specs.Annotated.{PartEntry, seen_part, seen_kept, kept_line}
+use Rattle.snippet_parts.specs.Annotated.{PartEntry, seen_part, kept_line}
 use Rattle.snippet_parts.specs.Kept.{keeps}
 use Rattle.snippet_parts.specs.Lines.{source_lines}
 use Rattle.snippet_parts.specs.Stretches.{is_seen}

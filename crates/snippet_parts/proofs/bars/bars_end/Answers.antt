@@ -1,5 +1,4 @@
-use Rattle.std.proofs.Common.{◌≡◌, ◌+◌, ◌-◌, ◌≤◌, min, false, true, not, ap, sym, ◌∙◌, arith}
-use Rattle.std.proofs.lemmas.Bool.{not-true}
+use Rattle.std.proofs.Common.{◌+◌, ◌-◌, min, not, ap, sym, ◌∙◌, arith}
 use Rattle.snippet_parts.specs.Kept.{is_weak_line}
 use Rattle.snippet_parts.proofs.BarLemmas.{bars-found, bars-none}
 use Rattle.snippet_parts.proofs.bars.bars_end.Goals as goal

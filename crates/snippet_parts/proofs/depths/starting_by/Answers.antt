@@ -1,4 +1,4 @@
-use Rattle.std.proofs.Common.{leb, rules, arith, get_or}
+use Rattle.std.proofs.Common.{leb, rules, get_or}
 use Rattle.std.proofs.lemmas.Bool.{leb-true, leb-false}
 use Rattle.std.proofs.lemmas.List.Sorted.{IsPartitionedBy-leb, IsPartitionPoint-from_clause}
 use Rattle.snippet_parts.specs.declared.depths.LongPlace.{LongPlace}

@@ -1,4 +1,4 @@
-use Rattle.std.proofs.Common.{◌||◌, ap, sym, ◌∙◌, arith}
+use Rattle.std.proofs.Common.{◌||◌, ap, ◌∙◌}
 use Rattle.snippet_parts.specs.Stretches.{holds, is_covered}
 use Rattle.snippet_parts.proofs.KeptLemmas.{or-assoc}
 use Rattle.snippet_parts.proofs.kept.reach_over_kept.Goals as goal

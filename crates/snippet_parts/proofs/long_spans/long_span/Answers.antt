@@ -1,6 +1,4 @@
 use Rattle.std.proofs.Common.{rules}
-use Rattle.snippet_parts.specs.LongSpans.{seen_long}
-use Rattle.snippet_parts.specs.Annotated.{long_entry}
 use Rattle.snippet_parts.proofs.LongLemmas.{fit-long}
 use Rattle.snippet_parts.proofs.long_spans.long_span.Goals as goal
 

@@ -1,4 +1,4 @@
-use Rattle.std.proofs.Common.{rules, ap, sym, ◌∙◌, arith}
+use Rattle.std.proofs.Common.{rules}
 use Rattle.std.proofs.lemmas.List.Sorted.{answers_always, All-permutation}
 use Rattle.snippet_parts.specs.LongSpans.{HasFit}
 use Rattle.snippet_parts.proofs.LongLemmas.{long_before, long_before-order, before-tells, long_spans-is, long-ordered}

@@ -1,10 +1,10 @@
-use Rattle.std.proofs.Common.{◌≡◌, ◌+◌, refl, length, ap, sym, subst, ◌∙◌, arith}
+use Rattle.std.proofs.Common.{◌+◌, refl, length, sym, ◌∙◌}
 use Rattle.std.specs.Str.{chars}
 use Rattle.std.proofs.lemmas.Iterator.{YieldsList-from_chars}
 use Rattle.std.proofs.lemmas.List.{length_push}
 use Rattle.std.proofs.lemmas.Iterator.Consumers.{YieldsList-turn, YieldsList-end}
 use Rattle.snippet_parts.specs.declared.weak_lines.Seen.TheVariants.{Comment, Strong}
-use Rattle.snippet_parts.proofs.WeakLemmas.{IsReadTo, read-none, read-more, read-comment, read-strong, read-all}
+use Rattle.snippet_parts.proofs.WeakLemmas.{read-none, read-more, read-comment, read-strong, read-all}
 use Rattle.snippet_parts.proofs.weak_lines.is_weak.Goals as goal
 
 pub loop-c-init : goal.loop-c-init

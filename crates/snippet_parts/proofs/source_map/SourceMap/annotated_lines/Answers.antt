@@ -1,6 +1,6 @@
-use Rattle.std.proofs.Common.{◌≡◌, sym, subst}
+use Rattle.std.proofs.Common.{sym, subst}
 use Rattle.std.proofs.lemmas.Result.{IfOk-weaker}
-use Rattle.snippet_parts.specs.Annotated.{long_places, deepest}
+use Rattle.snippet_parts.specs.Annotated.{long_places}
 use Rattle.snippet_parts.specs.Depths.{places_of, IsLongestChain}
 use Rattle.snippet_parts.proofs.DepthLemmas.{longest-chain}
 use Rattle.snippet_parts.proofs.ShownLemmas.{annotations-distinct}
