@@ -28,7 +28,8 @@ use Rattle.snippet_strokes.specs.Entries.{IsMarkCell, has_mark_role}
 use Rattle.snippet_strokes.specs.Rows.{separator_row}
 use Rattle.annotate_snippets.specs.Page.{RowName, SourceRow, Other, NamedRow, lines_named, IsAscending}
 use Rattle.annotate_snippets.specs.Settings.{plain_settings}
-use Rattle.annotate_snippets.specs.Shown.{Frame, cell_of, room_of, placeholder_of, normalized_chars, shown_label, ShowsSourceLine, ShowsMarksOf, ShowsLineAndMarks, IsRowBelow, IsRowOf, AreRowsOf, ShowsSnippet}
+use Rattle.snippet_style.specs.Glyphs.{placeholder_of}
+use Rattle.annotate_snippets.specs.Shown.{Frame, cell_of, room_of, normalized_chars, shown_label, ShowsSourceLine, ShowsMarksOf, ShowsLineAndMarks, IsRowBelow, IsRowOf, AreRowsOf, ShowsSnippet}
 use Rattle.annotate_snippets.proofs.ListLemmas.{Contains-head, Contains-tail, Contains-cons_cases, Contains-nil}
 
 -- ---- small reports, and their rows

@@ -7,6 +7,10 @@ mod codes;
 #[cfg(test)]
 mod grid;
 #[cfg(test)]
+mod kept_lines;
+#[cfg(test)]
+mod margin;
+#[cfg(test)]
 mod model;
 #[cfg(test)]
 mod replay;
@@ -16,6 +20,8 @@ mod report;
 mod snip;
 #[cfg(test)]
 mod source;
+#[cfg(test)]
+mod splice;
 #[cfg(test)]
 mod strokes;
 #[cfg(test)]

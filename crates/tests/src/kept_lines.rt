@@ -1,12 +1,10 @@
+//! The lines of a snippet that are kept, with their entries and depths.
 ghost use Rattle.std.specs.Prelude.{◌+◌, ◌<◌, ◌^◌, All, length};
 ghost use Rattle.snippet_parts.specs.Lines.{newline_count};
 ghost use Rattle.snippet_parts.specs.Span.{IsSpan};
 
-use crate::entries::{AnnotatedLineInfo, LineAnnotation, LineAnnotationType};
-use crate::lines::newline_count;
-use crate::source_map::SourceMap;
-use crate::span::check_span;
 use snippet_model::snippet::{Annotation, AnnotationKind};
+use snippet_parts::{AnnotatedLineInfo, LineAnnotationType, SourceMap, check_span, newline_count};
 use snippet_text::text_fits;
 use std::alloc::{AllocError, Global};
 use std::test::Fail;
