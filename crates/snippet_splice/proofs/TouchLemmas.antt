@@ -209,8 +209,7 @@ pub touched-feeds : (d : List ℕ) (j : ℕ) (s : Stand) → IsTouchedBy d j s �
 touched-feeds d j s touched =
     let p : ℕ = touched.place in
     let here : feeds (take p d) ≡ j = in-line-feeds d j p touched.in_line in
-    let behind : p ≤ s.to = ⊎_elim (λ before. omega arith) (λ (same, at). omega arith) touched.to in
-    (
+    let behind : p ≤ s.to = ⊎_elim (λ before. omega arith) (λ (same, at). omega arith) touched.to in (
       omega (arith, feeds-take s.from (take p d), ap feeds (take-take s.from p d touched.from), here),
       omega (arith, feeds-take p (take s.to d), ap feeds (take-take p s.to d behind), here),
     )
