@@ -1,6 +1,6 @@
 -- Each touched line that isn't empty is among the lines that are shown.
 use Rattle.std.proofs.Common.{◌≡◌, ◌≢◌, ℕ, ◌+◌, ◌-◌, ◌<◌, ◌≤◌, ◌⊎◌, inl, inr, Bool, cond, List, [], ◌∷◌, ◌++◌, All, Contains, length, take, drop, get_or, refl, sym, ap, subst, ◌∙◌, ⊎_elim, arith, append_assoc}
-use Rattle.std.proofs.lemmas.List.{append-nil, length-append, length-drop, take_at, take_all, take-take, take-append-le, take-append-drop, get_or-take, get_or-drop, get_or-append_right, get_or_append_left, nil_from_length}
+use Rattle.std.proofs.lemmas.List.{append-nil, length-append, length-drop, take_at, take_all, take-take, take-append-le, take-append-drop, get_or-take, get_or-drop, get_or-append_right, get_or_append_left, nil_from_length, length-map, get_or-map}
 use Rattle.std.proofs.Math.Seq.{take-add}
 use Rattle.std.proofs.lemmas.List.Sums.{sum_by-take-le}
 use Rattle.std.proofs.lemmas.List.Elements.{All-nil, All-cons, All-take, All-push, All-same, All-weaker, All-contains}
@@ -14,7 +14,8 @@ use Rattle.snippet_parts.proofs.BoundsLemmas.{line_bytes-slice, IsLine-at, IsOne
 use Rattle.snippet_splice.specs.Edits.{Edit, in_order, trimmed_edits, patched, AreApart}
 use Rattle.snippet_splice.specs.Copied.{written}
 use Rattle.snippet_splice.specs.Shown.{first_start, last_text, shown_start, shown_line, without_final_line_feeds}
-use Rattle.snippet_splice.specs.Spliced.{Stand, stands_from, stands, last_end, IsInLine, IsTouchedBy, IsTouched, HasNoCr}
+use Rattle.snippet_splice.specs.declared.splice.LineRange.{LineRange}
+use Rattle.snippet_splice.specs.Spliced.{Stand, stands_from, stands, last_end, IsInLine, IsTouchedBy, IsTouched, HasNoCr, lines_of_stand, line_ranges}
 use Rattle.snippet_splice.proofs.ShownLemmas.{shown-apart}
 use Rattle.snippet_splice.proofs.RangeLemmas.{feeds, feeds-append, feeds-none, feeds-front, feeds-shown}
 use Rattle.snippet_splice.proofs.SpliceLemmas.{AreBeforeFinalLf, Stops, IsShownPart, last-end, front-size, stands_from-earlier}
@@ -200,3 +201,36 @@ shown-touched fold source es none before apart h j touched some =
           All-contains (IsWithin first (first + length (written source first (t ∷ ts)))) (stands_from source first first (t ∷ ts)) s (subst (λ n. All (IsWithin first n) (stands_from source first first (t ∷ ts))) end (stands-within source first first (t ∷ ts))) there,
           λ more. All-contains (EndsBefore (first + length (written source first (t ∷ ts)))) (stands_from source first first (t ∷ ts)) s (subst (λ n. All (EndsBefore n) (stands_from source first first (t ∷ ts))) end (stands-before source first first (t ∷ ts) more)) there,
         )
+
+-- ---- touched lines by ranges, for what is drawn of them
+
+-- a line that a text touches is in the range of its lines
+pub touched-feeds : (d : List ℕ) (j : ℕ) (s : Stand) → IsTouchedBy d j s → (feeds (take s.from d) ≤ j) × (j ≤ feeds (take s.to d))
+touched-feeds d j s touched =
+    let p : ℕ = touched.place in
+    let here : feeds (take p d) ≡ j = in-line-feeds d j p touched.in_line in
+    let behind : p ≤ s.to = ⊎_elim (λ before. omega arith) (λ (same, at). omega arith) touched.to in (
+      omega (arith, feeds-take s.from (take p d), ap feeds (take-take s.from p d touched.from), here),
+      omega (arith, feeds-take p (take s.to d), ap feeds (take-take p s.to d behind), here),
+    )
+
+-- a touched line is in one of the ranges
+pub record IsHeld (ranges : List LineRange) (j : ℕ) : Type 0 where
+  pub range : LineRange
+  pub among : Contains ranges range
+  pub from : range.first ≤ j
+  pub to : j ≤ range.last
+
+pub touched-held : (source : List ℕ) (es : List Edit) (j : ℕ) → IsTouched source es j → IsHeld (line_ranges source es) j
+touched-held source es j touched =
+    let ss : List Stand = stands source (trimmed_edits source es) in
+    let s : Stand = touched.stand in
+    let bounds = touched-feeds (patched source es) j s touched.by in
+    let f : Stand → LineRange = lines_of_stand (patched source es) in
+    let (k, within, is) = touched.among in
+    record {
+      range = f s;
+      among = (k, omega (arith, within, length-map ss f), get_or-map f ss k s (f s) within ∙ ap f is);
+      from = bounds.0;
+      to = bounds.1;
+    }

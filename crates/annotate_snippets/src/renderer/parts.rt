@@ -2,6 +2,9 @@
 
 pub use snippet_parts::{
     AnnotatedLineInfo, CursorLines, EndLine, LineAnnotation, LineAnnotationType, LineInfo, Loc,
-    SourceMap, SpanFault, check_span, newline_count,
+    Margin, SourceMap, SpanFault, check_span, newline_count,
+};
+pub use snippet_splice::{
+    SplicedLines, SubstitutionHighlight, TrimmedPatch, as_substr, check_patches,
 };
 pub use snippet_style::{ElementStyle, LevelInner, StyledBuffer};
