@@ -133,7 +133,7 @@ row_below decor gutter closes es rows i within unnumbered is =
 -- where a row may close, it may
 IsRowBelow-more : (decor : DecorStyle) (gutter : ℕ) (may can : Bool) (row : List Cell) → (may ≡ true → can ≡ true) → IsRowBelow decor gutter may row → IsRowBelow decor gutter can row
 IsRowBelow-more decor gutter may can row more is =
-    record { unnumbered = is.unnumbered; stroke = elim is.stroke [ | inl parted ↦ inl parted | inr closed ↦ inr (more closed.0, closed.1) ] }
+    record { unnumbered = is.unnumbered; stroke = elim is.stroke [ inl parted ↦ inl parted | inr closed ↦ inr (more closed.0, closed.1) ] }
 
 -- where nothing is dropped, entries stand where they stood
 unshifted : (dropped : ℕ) (es : List LineAnnotation) → dropped ≡ 0 → map (shifted dropped) es ≡ es

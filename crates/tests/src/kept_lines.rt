@@ -21,7 +21,10 @@ fn shown(alloc: Global, lines: &[AnnotatedLineInfo<'_>]) -> Result<String, Alloc
                 LineAnnotationType::MultilineEnd(d) => (">", d),
                 LineAnnotationType::MultilineLine(d) => ("|", d),
             };
-            text.push_str(&format!(in alloc; " {}{} {}-{}", sign, depth, entry.start.display, entry.end.display)?)?;
+            text.push_str(&format!(in alloc;
+                " {}{} {}-{}",
+                sign, depth, entry.start.display, entry.end.display
+            )?)?;
         }
         text.push_str(if line.keep { " keep;" } else { ";" })?;
     }
@@ -79,7 +82,13 @@ fn lines_of_several_spans(rt: HostRuntime) -> Result<(), Fail> {
 #[test]
 fn lines_of_one_span(rt: HostRuntime) -> Result<(), Fail> {
     for (source, start, end, fold, want) in [
-        ("a {\n b\n}", 0, 8, true, "1; 1:a { <1 0-1; 2: b |1 0-0; 3:} >1 0-1;"),
+        (
+            "a {\n b\n}",
+            0,
+            8,
+            true,
+            "1; 1:a { <1 0-1; 2: b |1 0-0; 3:} >1 0-1;",
+        ),
         (
             "a\na\na\na\na\na\na\na\na\nb",
             16,
@@ -88,9 +97,27 @@ fn lines_of_one_span(rt: HostRuntime) -> Result<(), Fail> {
             "1; 9:a <1 0-1; 10:b >1 0-0;",
         ),
         ("a\nb\nc\nd", 0, 1, false, "0; 1:a =0 0-1; 2:b; 3:c; 4:d;"),
-        ("a\nb\nc\nd\ne\nf\ng\nh", 0, 15, true, "1; 1:a <1 0-1; 2:b |1 0-0; 3:c |1 0-0; 4:d |1 0-0; 7:g |1 0-0; 8:h >1 0-1;"),
-        ("a\n//\n{\nd\n\nf\n}\nh", 0, 15, true, "1; 1:a <1 0-1; 2:// |1 0-0; 3:{ |1 0-0; 4:d |1 0-0; 8:h >1 0-1;"),
-        ("a\nb\n//\n{\n\nf\n}\nh", 0, 15, true, "1; 1:a <1 0-1; 2:b |1 0-0; 8:h >1 0-1;"),
+        (
+            "a\nb\nc\nd\ne\nf\ng\nh",
+            0,
+            15,
+            true,
+            "1; 1:a <1 0-1; 2:b |1 0-0; 3:c |1 0-0; 4:d |1 0-0; 7:g |1 0-0; 8:h >1 0-1;",
+        ),
+        (
+            "a\n//\n{\nd\n\nf\n}\nh",
+            0,
+            15,
+            true,
+            "1; 1:a <1 0-1; 2:// |1 0-0; 3:{ |1 0-0; 4:d |1 0-0; 8:h >1 0-1;",
+        ),
+        (
+            "a\nb\n//\n{\n\nf\n}\nh",
+            0,
+            15,
+            true,
+            "1; 1:a <1 0-1; 2:b |1 0-0; 8:h >1 0-1;",
+        ),
     ] {
         assert!(rt; text_fits(source) && newline_count(source) < 99);
         assert!(rt; check_span(source, &(start..end)).is_none());

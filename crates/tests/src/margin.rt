@@ -14,11 +14,23 @@ fn bounds(margin: Margin, width: usize) -> (bool, usize, usize) {
 #[test]
 fn bounds_of_lines_that_do_not_fit(rt: HostRuntime) {
     // 30 `a`, `T` and 29 `a`, of which `T` is marked, in 16 columns: the span stands in the middle, and both ends are cut.
-    assert_eq!(rt; bounds(Margin::new(0, 30, 31, 31, 16, 60), 60), (true, 23, 39));
+    assert_eq!(rt;
+        bounds(Margin::new(0, 30, 31, 31, 16, 60), 60),
+        (true, 23, 39)
+    );
     // 40 `a`, all of them marked, in 16 columns: the span alone is more than the room holds, and no end is cut.
-    assert_eq!(rt; bounds(Margin::new(0, 0, 40, 40, 16, 40), 40), (false, 0, 40));
+    assert_eq!(rt;
+        bounds(Margin::new(0, 0, 40, 40, 16, 40), 40),
+        (false, 0, 40)
+    );
     // 30 spaces and `x = 1;`, of which `x` is marked, in 136 columns: 22 columns of the whitespace stay.
-    assert_eq!(rt; bounds(Margin::new(30, 30, 31, 31, 136, 36), 36), (true, 8, 36));
+    assert_eq!(rt;
+        bounds(Margin::new(30, 30, 31, 31, 136, 36), 36),
+        (true, 8, 36)
+    );
     // Sums stop at the greatest number.
-    assert_eq!(rt; bounds(Margin::new(0, 0, usize::MAX, usize::MAX, usize::MAX, 1), 1), (false, 0, 1));
+    assert_eq!(rt;
+        bounds(Margin::new(0, 0, usize::MAX, usize::MAX, usize::MAX, 1), 1),
+        (false, 0, 1)
+    );
 }

@@ -180,7 +180,8 @@ fn tells_a_failed_write(rt: HostRuntime) {
 }
 
 /// Two cases of one report: a title alone.
-const TITLES: &str = r#"{"id": "a", "groups": [{"title": {"level": {"kind": "error"}, "text": "e", "primary": true}, "elements": []}]}
+const TITLES: &str =
+    r#"{"id": "a", "groups": [{"title": {"level": {"kind": "error"}, "text": "e", "primary": true}, "elements": []}]}
 {"id": "b", "groups": [{"title": {"level": {"kind": "error"}, "text": "e", "primary": true}, "elements": []}]}
 "#;
 

@@ -37,11 +37,7 @@ fn text(alloc: Global, renderer: &Renderer, group: Group<'_>) -> Result<String, 
 }
 
 /// Its texts under these sheets.
-fn texts(
-    alloc: Global,
-    group: Group<'_>,
-    sheets: &[Stylesheet],
-) -> Result<Vec<String>, RenderError>
+fn texts(alloc: Global, group: Group<'_>, sheets: &[Stylesheet]) -> Result<Vec<String>, RenderError>
     requires fits { GroupFits group }
 {
     Renderer::plain().render_sheets(alloc, &[group], sheets)

@@ -49,7 +49,11 @@ fn described(
     let mut text = splice.complete;
     text.push_str(" /")?;
     for patch in &splice.patches {
-        write!(text, " {}..{} {}", patch.span.start, patch.span.end, patch.replacement)?;
+        write!(
+            text,
+            " {}..{} {}",
+            patch.span.start, patch.span.end, patch.replacement
+        )?;
     }
     Ok(text)
 }
@@ -90,7 +94,10 @@ fn texts_of_two_patches(rt: HostRuntime) -> Result<(), Fail> {
     ] {
         assert!(rt; check_span(source, &(start..end)).is_none());
         assert!(rt; check_span(source, &(from..to)).is_none());
-        let patches = [Patch::new(start..end, replacement), Patch::new(from..to, other)];
+        let patches = [
+            Patch::new(start..end, replacement),
+            Patch::new(from..to, other),
+        ];
         assert!(rt; check_patches(source, &patches).is_none());
         let got = described(rt.alloc(), source, &patches, true)?;
         assert_eq!(rt; got.as_str(), want);

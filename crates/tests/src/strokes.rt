@@ -1,6 +1,6 @@
 //! The rows of a snippet.
 use snippet_model::AnnotationKind;
-use snippet_parts::{AnnotatedLineInfo, LineAnnotation, Margin, LineAnnotationType, Loc};
+use snippet_parts::{AnnotatedLineInfo, LineAnnotation, LineAnnotationType, Loc, Margin};
 use snippet_strokes::{Layout, draw_snippet};
 use snippet_style::{DecorStyle, LevelInner, StyledBuffer, Stylesheet};
 use std::test::Fail;
@@ -38,7 +38,16 @@ fn draws_where_memory_suffices(rt: HostRuntime) -> Result<(), Fail> {
     };
     let mut buffer = StyledBuffer::new(rt.alloc());
     let margin = Margin::new(0, 0, 0, 0, 80, 10);
-    draw_snippet(rt.alloc(), &mut buffer, layout, margin, true, true, true, &[marked])?;
+    draw_snippet(
+        rt.alloc(),
+        &mut buffer,
+        layout,
+        margin,
+        true,
+        true,
+        true,
+        &[marked],
+    )?;
     let text = buffer.render(LevelInner::Error, &Stylesheet::plain())?;
     assert_eq!(rt; text.as_str(), "  ╭▸ \n1 │ let x = 1;\n  ╰╴    ━ here");
     Ok(())

@@ -20,8 +20,8 @@ ghost use Rattle.snippet_text.specs.Width.{width_of};
 
 use crate::renderer::gutter::gutter_of;
 use snippet_model::snippet::{Annotation, Snippet, Title};
-use snippet_parts::{AnnotatedLineInfo, Margin, SourceMap};
 use snippet_parts::marked_lines::marked_lines;
+use snippet_parts::{AnnotatedLineInfo, Margin, SourceMap};
 use snippet_strokes::{Layout, draw_snippet};
 use snippet_style::{DecorStyle, LevelInner, StyledBuffer, Stylesheet};
 use snippet_text::str_width;

@@ -10,10 +10,13 @@ use Rattle.snippet_strokes.proofs.TextLemmas.{free_stem}
 use Rattle.snippet_strokes.proofs.stems.draw_stem.Goals as goal
 
 pub loop-below-preserved : goal.loop-below-preserved
-loop-below-preserved c = (λ from right.
-    let done = c.loop-below.invariant.0 from right in
-    let P : Cell → Type 0 = IsFreeCell in
-    let free : is_listed c.underline-strokes.result.vertical_text_line ≡ false = subst (λ ch. is_listed ch ≡ false) (sym c.underline-strokes.ensures.vertical_text_line) (free_stem c.args.layout.decor _) in
-    let hung : is_hung c.args.placed.now ≡ true = sym c.is_hung.ensures.value ∙ c.if-not-is_hung.false in
-    let there : c.args.row + c.loop-below.below < length c.loop-below.buffer = omega (arith, done.count, c.requires.rows.label (hung_below c.args.placed.now hung)) in
-    DrawsFrom-more c.args.row from c.args.buffer.now c.loop-below.buffer c.putc.new.self done (DrawsFrom-writes c.args.row (c.args.row + c.loop-below.below) from (c.args.layout.code + c.args.placed.now.entry.start.display) c.loop-below.buffer c.putc.new.self _ c.in_ok-putc.ensures.reads (omega arith) there right (All-cons P _ [] (free, refl) (All-nil P))), λ r k beside before. unmarked_beside c.loop-below.buffer c.putc.new.self (c.args.row + c.loop-below.below) (c.args.layout.code + c.args.placed.now.entry.start.display) _ c.in_ok-putc.ensures.reads r k (beside 0 c.args.placed.now (omega arith)) (c.loop-below.invariant.1 r k beside before))
+loop-below-preserved c = (
+  λ from right.
+      let done = c.loop-below.invariant.0 from right in
+      let P : Cell → Type 0 = IsFreeCell in
+      let free : is_listed c.underline-strokes.result.vertical_text_line ≡ false = subst (λ ch. is_listed ch ≡ false) (sym c.underline-strokes.ensures.vertical_text_line) (free_stem c.args.layout.decor _) in
+      let hung : is_hung c.args.placed.now ≡ true = sym c.is_hung.ensures.value ∙ c.if-not-is_hung.false in
+      let there : c.args.row + c.loop-below.below < length c.loop-below.buffer = omega (arith, done.count, c.requires.rows.label (hung_below c.args.placed.now hung)) in
+      DrawsFrom-more c.args.row from c.args.buffer.now c.loop-below.buffer c.putc.new.self done (DrawsFrom-writes c.args.row (c.args.row + c.loop-below.below) from (c.args.layout.code + c.args.placed.now.entry.start.display) c.loop-below.buffer c.putc.new.self _ c.in_ok-putc.ensures.reads (omega arith) there right (All-cons P _ [] (free, refl) (All-nil P))),
+  λ r k beside before. unmarked_beside c.loop-below.buffer c.putc.new.self (c.args.row + c.loop-below.below) (c.args.layout.code + c.args.placed.now.entry.start.display) _ c.in_ok-putc.ensures.reads r k (beside 0 c.args.placed.now (omega arith)) (c.loop-below.invariant.1 r k beside before),
+)
