@@ -80,27 +80,23 @@ fn texts_of_one_patch(rt: HostRuntime) -> Result<(), Fail> {
 }
 
 #[test]
-fn texts_of_two_patches(rt: HostRuntime) -> Result<(), Fail> {
-    for (source, (start, end, replacement), (from, to, other), want) in [
-        ("a\nbc", (0, 0, "x"), (2, 3, ""), "xa\nc / 0..0 x 2..3 "),
-        ("a", (0, 1, "b"), (0, 0, "x"), "xb / 0..0 x 0..1 b"),
-        ("abc", (3, 3, "y"), (0, 3, "abcx"), "abcxy / 3..3 x 3..3 y"),
-        (
-            "a\nb\nc\nd\ne\nf\ng",
-            (0, 0, "x"),
-            (12, 12, "y"),
-            "xa\nb\nc\nd\ne\nf\nyg / 0..0 x 12..12 y",
-        ),
-    ] {
-        assert!(rt; check_span(source, &(start..end)).is_none());
-        assert!(rt; check_span(source, &(from..to)).is_none());
-        let patches = [
-            Patch::new(start..end, replacement),
-            Patch::new(from..to, other),
-        ];
-        assert!(rt; check_patches(source, &patches).is_none());
-        let got = described(rt.alloc(), source, &patches, true)?;
-        assert_eq!(rt; got.as_str(), want);
-    }
+fn a_deletion_keeps_the_rest_of_its_line(rt: HostRuntime) -> Result<(), Fail> {
+    let source = "a\nbc";
+    assert!(rt; check_span(source, &(0..0)).is_none() && check_span(source, &(2..3)).is_none());
+    let patches = [Patch::new(0..0, "x"), Patch::new(2..3, "")];
+    assert!(rt; check_patches(source, &patches).is_none());
+    let got = described(rt.alloc(), source, &patches, true)?;
+    assert_eq!(rt; got.as_str(), "xa\nc / 0..0 x 2..3 ");
+    Ok(())
+}
+
+#[test]
+fn an_insertion_stands_before_a_replacement(rt: HostRuntime) -> Result<(), Fail> {
+    let source = "a";
+    assert!(rt; check_span(source, &(0..1)).is_none() && check_span(source, &(0..0)).is_none());
+    let patches = [Patch::new(0..1, "b"), Patch::new(0..0, "x")];
+    assert!(rt; check_patches(source, &patches).is_none());
+    let got = described(rt.alloc(), source, &patches, true)?;
+    assert_eq!(rt; got.as_str(), "xb / 0..0 x 0..1 b");
     Ok(())
 }
