@@ -53,3 +53,14 @@ keeps source k a =
 abbrev pub kept_lines : Bool → List ℕ → List Annotation → List ℕ
 kept_lines fold source marks =
     filter (λ k. not fold || list_any (keeps source k) marks) (range_with_len 0 (length (source_lines source)))
+
+-- some lines, and each single line between two of them
+abbrev pub with_between : List ℕ → List ℕ
+with_between [] = []
+with_between (j ∷ []) = j ∷ []
+with_between (j ∷ k ∷ ks) =
+    if k == j + 2 then j ∷ (j + 1) ∷ with_between (k ∷ ks) else j ∷ with_between (k ∷ ks)
+
+-- the lines of a snippet that are shown: those that are kept, and each single line between two of them
+abbrev pub shown_lines : Bool → List ℕ → List Annotation → List ℕ
+shown_lines fold source marks = with_between (kept_lines fold source marks)

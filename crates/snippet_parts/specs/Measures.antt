@@ -1,5 +1,5 @@
 -- What a snippet's window is computed from: how far its lines reach, with their spans and labels.
-use Rattle.std.specs.Prelude.{◌≡◌, ℕ, ◌+◌, ◌-◌, ◌<◌, ◌≤◌, min, max, Bool, true, false, not, List, [], ◌∷◌, Option, Some, None, map, filter, fold, chars, unwrap_or, if◌then◌else◌}
+use Rattle.std.specs.Prelude.{◌≡◌, ℕ, ◌+◌, ◌-◌, ◌*◌, ◌<◌, ◌≤◌, ◌&&◌, nat_lt, min, max, Bool, true, false, not, List, [], ◌∷◌, Option, Some, None, map, filter, fold, chars, unwrap_or, if◌then◌else◌}
 use Rattle.std.specs.List.{flat_map, filter_map}
 use Rattle.std.specs.Option.{option_copied, option_map, option_map_or}
 use Rattle.std.specs.Cow.{cow_str_bytes}
@@ -43,6 +43,20 @@ is_bar Singleline = false
 is_bar (MultilineStart depth) = false
 is_bar (MultilineEnd depth) = false
 is_bar (MultilineLine depth) = true
+
+-- whether an entry stands for a whole span, and not for the start, the end or a bar of one of several lines
+abbrev pub is_single_part : LineAnnotationType → Bool
+is_single_part Singleline = true
+is_single_part (MultilineStart depth) = false
+is_single_part (MultilineEnd depth) = false
+is_single_part (MultilineLine depth) = false
+
+-- whether an entry stands for a whole span that is wide, in a room of so many columns: it covers more than twice as many,
+-- and more than ten beside those of the placeholder
+abbrev pub is_wide_entry : ℕ → ℕ → LineAnnotation → Bool
+is_wide_entry room placeholder_width e =
+    let width = e.end.display - e.start.display in
+    is_single_part e.annotation_type && nat_lt (2 * room) width && nat_lt (10 + placeholder_width) width
 
 -- the entries among these that have columns: all but bars
 abbrev pub with_columns : List LineAnnotation → List LineAnnotation

@@ -1,10 +1,15 @@
 -- The entries of a line, and the mark that they leave below each column.
-use Rattle.std.specs.Prelude.{◌≡◌, ℕ, ◌-◌, ◌<◌, ◌≤◌, Bool, true, false, List, [], Contains, Option, Some, None, chars}
+use Rattle.std.specs.Prelude.{◌≡◌, ℕ, ◌+◌, ◌-◌, ◌^◌, ◌<◌, ◌≤◌, ◌==◌, ◌&&◌, Bool, true, false, List, [], Contains, Option, Some, None, chars, length, count_by}
+use Rattle.std.specs.List.{list_all, list_any}
 use Rattle.std.specs.Borrow.{Bor}
 use Rattle.snippet_model.specs.declared.snippet.AnnotationKind.{AnnotationKind}
 use Rattle.snippet_model.specs.declared.snippet.AnnotationKind.TheVariants.{Primary, Context, Visible}
 use Rattle.snippet_parts.specs.declared.entries.LineAnnotation.{LineAnnotation}
-use Rattle.snippet_style.specs.Glyphs.{IsMarkGlyph, underline_role}
+use Rattle.snippet_parts.specs.declared.entries.LineAnnotationType.{LineAnnotationType}
+use Rattle.snippet_parts.specs.declared.entries.LineAnnotationType.TheVariants.{Singleline, MultilineStart, MultilineEnd, MultilineLine}
+use Rattle.snippet_parts.specs.Measures.{is_single_part, is_wide_entry}
+use Rattle.snippet_strokes.specs.declared.layout.Layout.{Layout}
+use Rattle.snippet_style.specs.Glyphs.{IsMarkGlyph, underline_role, placeholder_of, rail_glyphs}
 use Rattle.snippet_style.specs.Grid.{Cell}
 use Rattle.snippet_style.specs.declared.glyphs.DecorStyle.{DecorStyle}
 use Rattle.snippet_style.specs.declared.role.ElementStyle.{ElementStyle}
@@ -19,6 +24,46 @@ EntryCovers e p = (e.start.display ≤ p) × (p < e.end.display)
 abbrev pub shifted : ℕ → LineAnnotation → LineAnnotation
 shifted dropped e =
     record e { start = record e.start { display = e.start.display - dropped }; end = record e.end { display = e.end.display - dropped } }
+
+-- an entry has its place: it ends no farther left than it starts, where sums of columns have room
+pub record HasPlace (e : LineAnnotation) : Type 0 where
+  pub ordered : e.start.display ≤ e.end.display
+  pub near : e.end.display < 2 ^ 60
+
+-- there is a cell for the bar of an entry, and one behind it, between the separator and the code: bars stand from cell
+-- `gutter + 3` on, that of depth 1 first
+abbrev pub HasRailAt : Layout → LineAnnotationType → Type 0
+HasRailAt layout Singleline = Unit {0}
+HasRailAt layout (MultilineStart depth) = (0 < depth) × (layout.gutter + 3 + depth < layout.code)
+HasRailAt layout (MultilineEnd depth) = (0 < depth) × (layout.gutter + 3 + depth < layout.code)
+HasRailAt layout (MultilineLine depth) = (0 < depth) × (layout.gutter + 3 + depth < layout.code)
+
+abbrev pub HasRail : Layout → LineAnnotation → Type 0
+HasRail layout e = HasRailAt layout e.annotation_type
+
+-- whether an entry stands for a whole span
+abbrev pub is_single : LineAnnotation → Bool
+is_single e = is_single_part e.annotation_type
+
+-- whether an entry stands for the start or the end of a span of several lines
+abbrev pub is_end_part : LineAnnotationType → Bool
+is_end_part Singleline = false
+is_end_part (MultilineStart depth) = true
+is_end_part (MultilineEnd depth) = true
+is_end_part (MultilineLine depth) = false
+
+-- how many entries of a line are wide, in a room of so many columns
+abbrev pub wide_entries : ℕ → DecorStyle → List LineAnnotation → ℕ
+wide_entries room decor es = count_by (is_wide_entry room (length (placeholder_of decor))) es
+
+-- whether the marks of a line are promised: each of its entries stands for a whole span, and none is wide
+abbrev pub are_plain : ℕ → DecorStyle → List LineAnnotation → Bool
+are_plain room decor es = list_all is_single es && wide_entries room decor es == 0
+
+-- a cell left of the code holds nothing but a part of a bar: one of its glyphs, or a space
+pub record IsRailCell (decor : DecorStyle) (cell : Cell) : Type 0 where
+  pub glyph : list_any (λ g. cell.ch == g) (rail_glyphs decor) ≡ true
+  pub link : cell.link ≡ None
 
 -- how many columns an entry covers
 abbrev pub entry_width : LineAnnotation → ℕ

@@ -7,15 +7,16 @@ use Rattle.snippet_model.specs.declared.snippet.AnnotationKind.{AnnotationKind}
 use Rattle.snippet_parts.specs.declared.entries.LineAnnotation.{LineAnnotation}
 use Rattle.snippet_parts.specs.declared.margin.Margin.{Margin}
 use Rattle.snippet_parts.specs.Margin.{bounds_of}
-use Rattle.snippet_parts.specs.Window.{inner_part, covered_columns, uncovered_part, covered_end}
+use Rattle.snippet_parts.specs.Window.{inner_part, covered_columns, uncovered_part, covered_end, AreReplaced}
 use Rattle.snippet_style.specs.declared.glyphs.DecorStyle.{DecorStyle}
 use Rattle.snippet_style.specs.declared.glyphs.DecorStyle.TheVariants.{Ascii, Unicode}
 use Rattle.snippet_style.specs.declared.role.ElementStyle.{ElementStyle}
 use Rattle.snippet_style.specs.declared.role.ElementStyle.TheVariants.{LineNumber, Quotation, UnderlinePrimary, UnderlineSecondary}
-use Rattle.snippet_style.specs.Glyphs.{separator_of, closing_of, file_start_of, placeholder_of, underline_role}
+use Rattle.snippet_style.specs.Glyphs.{separator_of, closing_of, file_start_of, placeholder_of, elision_of, underline_role}
+use Rattle.snippet_style.specs.Print.{row_text}
 use Rattle.snippet_style.specs.Grid.{Cell, SPACE, drawn, written, unlinked_cell, row_at, cell_at, gives_way, restyled}
 use Rattle.snippet_strokes.specs.declared.layout.Layout.{Layout}
-use Rattle.snippet_strokes.specs.Entries.{EntryCovers, is_primary, IsEntryMark, IsMarkCell, has_mark_role, label_text, label_role}
+use Rattle.snippet_strokes.specs.Entries.{EntryCovers, is_primary, IsEntryMark, IsMarkCell, IsRailCell, are_plain, has_mark_role, label_text, label_role, wide_entries}
 use Rattle.snippet_strokes.specs.Painting.{IsFreeCell, StandsFrom}
 
 -- these digits at the right end of a field of this width, filled up with spaces
@@ -107,22 +108,48 @@ pub record IsSourceRow (layout : Layout) (shown : List ℕ) (cells row : List Ce
   pub blank : (c : ℕ) → length shown ≤ c → c ≢ layout.gutter + 1 → c < layout.code → slice_index_or row c SPACE ≡ SPACE
   pub free : IsFree row
 
--- a row of strokes: left of all entries it is as a separator row, or as the closing row where the window closes with it,
--- and it holds no listed character
-pub record IsStrokeRow (layout : Layout) (es : List LineAnnotation) (closes : Bool) (row : List Cell) : Type 0 where
-  pub left : (c from : ℕ) → c < from → All (StandsFrom layout.code from) es → slice_index_or row c SPACE ≡ slice_index_or (bare_row layout.decor layout.gutter closes) c SPACE
+-- a row of strokes: left of the bars it is as a separator row, or as the closing row where the window closes; where bars
+-- stand it holds nothing but parts of them; on a plain line spaces stand between them and the first entry; and it holds no
+-- listed character
+pub record IsStrokeRow (layout : Layout) (plain : Bool) (es : List LineAnnotation) (closes : Bool) (row : List Cell) : Type 0 where
+  pub left : (c : ℕ) → c < layout.gutter + 3 → slice_index_or row c SPACE ≡ slice_index_or (bare_row layout.decor layout.gutter closes) c SPACE
+  pub rails : (c : ℕ) → layout.gutter + 3 ≤ c → c < layout.code → IsRailCell layout.decor (slice_index_or row c SPACE)
+  pub before : plain ≡ true → (c from : ℕ) → layout.code ≤ c → c < from → All (StandsFrom layout.code from) es → slice_index_or row c SPACE ≡ SPACE
   pub free : IsFree row
 
--- the rows of a line's strokes: none if it has no entries, but a closing row where the window closes with the line; and
--- else first that of its marks, which is the only one where the line has one entry, or no label that shows anything. It
--- is with the last row that the window closes
-pub record AreStrokes (layout : Layout) (es : List LineAnnotation) (closes : Bool) (rows : List (List Cell)) : Type 0 where
+-- the rows of a line's strokes: none if it has no entries, but a closing row where the window closes with the line. On a
+-- plain line that has some, first that of its marks, which is the only one where the line has one entry, or no label that
+-- shows anything. It is with the last row that the window closes
+pub record AreStrokes (layout : Layout) (room : ℕ) (es : List LineAnnotation) (closes : Bool) (rows : List (List Cell)) : Type 0 where
   pub none : es ≡ [] → rows ≡ (if closes then closing_row layout.decor layout.gutter ∷ [] else [])
-  pub some : 0 < length es → 0 < length rows
-  pub lone : length es ≡ 1 → length rows ≡ 1
-  pub bare : All (λ e. label_text e ≡ []) es → length rows ≤ 1
-  pub marks : ShowsMarks layout.decor layout.code es (row_at rows 0)
-  pub are : (k : ℕ) → k < length rows → IsStrokeRow layout es (closes && k + 1 == length rows) (row_at rows k)
+  pub some : are_plain room layout.decor es ≡ true → 0 < length es → 0 < length rows
+  pub lone : are_plain room layout.decor es ≡ true → length es ≡ 1 → length rows ≡ 1
+  pub bare : are_plain room layout.decor es ≡ true → All (λ e. label_text e ≡ []) es → length rows ≤ 1
+  pub marks : are_plain room layout.decor es ≡ true → ShowsMarks layout.decor layout.code es (row_at rows 0)
+  pub are : (k : ℕ) → k < length rows → IsStrokeRow layout (are_plain room layout.decor es) es (closes && k + 1 == length rows) (row_at rows k)
+
+-- a row of which, from the code's cell on, at most so many stretches gave their place to the placeholder, one for each
+-- wide entry
+pub record IsCut (layout : Layout) (wide : ℕ) (whole row : List Cell) : Type 0 where
+  pub left : take layout.code row ≡ take layout.code whole
+  pub text : AreReplaced (placeholder_of layout.decor) wide (row_text (drop layout.code whole)) (row_text (drop layout.code row))
+  pub uncut : wide ≡ 0 → row ≡ whole
+  pub free : IsFree whole → IsFree row
+
+-- a source row with its bars beside it, and cut where entries are wide: it begins as this row does, and where bars stand it
+-- holds nothing but parts of them
+pub record IsBeside (layout : Layout) (wide : ℕ) (plain row : List Cell) : Type 0 where
+  pub front : take (layout.gutter + 2) row ≡ take (layout.gutter + 2) plain
+  pub gap : slice_index_or row (layout.gutter + 2) SPACE ≡ slice_index_or plain (layout.gutter + 2) SPACE
+  pub rails : (c : ℕ) → layout.gutter + 3 ≤ c → c < layout.code → IsRailCell layout.decor (slice_index_or row c SPACE)
+  pub text : AreReplaced (placeholder_of layout.decor) wide (row_text (drop layout.code plain)) (row_text (drop layout.code row))
+  pub uncut : wide ≡ 0 → drop layout.code row ≡ drop layout.code plain
+  pub free : IsFree plain → IsFree row
+
+-- a source row that is drawn, but for its bars: spaces stand in their place
+abbrev pub HasNoBars : Layout → List Cell → Type 0
+HasNoBars layout row =
+    (layout.gutter + 2 ≤ length row) × ((c : ℕ) → layout.gutter + 3 ≤ c → c < layout.code → slice_index_or row c SPACE ≡ SPACE)
 
 -- one source row was added below the rows that are there
 pub record AddsSourceRow (layout : Layout) (shown : List ℕ) (cells : List Cell) (old new : List (List Cell)) : Type 0 where
@@ -130,11 +157,25 @@ pub record AddsSourceRow (layout : Layout) (shown : List ℕ) (cells : List Cell
   pub added : new ≡ old ++ row ∷ []
   pub is : IsSourceRow layout shown cells row
 
--- the rows of a line's strokes were added below the rows that are there
-pub record AddsStrokes (layout : Layout) (es : List LineAnnotation) (closes : Bool) (old new : List (List Cell)) : Type 0 where
+-- the strokes of a line were drawn below its source row, which is the last row that is there, and beside it
+pub record AddsStrokes (layout : Layout) (room : ℕ) (es : List LineAnnotation) (closes : Bool) (above : List (List Cell)) (plain : List Cell) (new : List (List Cell)) : Type 0 where
+  pub source : List Cell
   pub rows : List (List Cell)
-  pub added : new ≡ old ++ rows
-  pub are : AreStrokes layout es closes rows
+  pub added : new ≡ above ++ source ∷ rows
+  pub beside : IsBeside layout (wide_entries room layout.decor es) plain source
+  pub are : AreStrokes layout room es closes rows
+
+-- what stands in place of lines that are left out, before any bar is drawn beside it
+abbrev pub bare_elision_row : DecorStyle → ℕ → List Cell
+bare_elision_row Ascii gutter = drawn LineNumber (elision_of Ascii)
+bare_elision_row Unicode gutter = replicate (gutter + 1) SPACE ++ drawn LineNumber (elision_of Unicode)
+
+-- the row that stands for lines that are left out, with the bars that run past them; it ends left of the code
+pub record IsElisionRow (layout : Layout) (row : List Cell) : Type 0 where
+  pub left : (c : ℕ) → c < layout.gutter + 3 → slice_index_or row c SPACE ≡ slice_index_or (bare_elision_row layout.decor layout.gutter) c SPACE
+  pub rails : (c : ℕ) → layout.gutter + 3 ≤ c → c < layout.code → IsRailCell layout.decor (slice_index_or row c SPACE)
+  pub ends : length row ≤ layout.code
+  pub free : IsFree row
 
 -- whether an entry asks to highlight the character at this cell, where so many columns are dropped
 abbrev pub highlights : ℕ → ℕ → ℕ → LineAnnotation → Bool

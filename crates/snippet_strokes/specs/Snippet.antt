@@ -1,9 +1,10 @@
 -- The rows of a snippet.
-use Rattle.std.specs.Prelude.{◌≡◌, ℕ, ◌+◌, ◌<◌, ◌≤◌, ◌==◌, ◌&&◌, Bool, List, [], ◌∷◌, ◌++◌, All, drop, length, map, chars}
+use Rattle.std.specs.Prelude.{◌≡◌, ◌⊎◌, ℕ, ◌+◌, ◌<◌, ◌≤◌, ◌==◌, ◌&&◌, Bool, false, not, List, [], ◌∷◌, ◌++◌, All, drop, filter, length, map, chars}
 use Rattle.snippet_parts.specs.declared.entries.AnnotatedLineInfo.{AnnotatedLineInfo}
 use Rattle.snippet_parts.specs.declared.entries.LineAnnotation.{LineAnnotation}
 use Rattle.snippet_parts.specs.declared.margin.Margin.{Margin}
 use Rattle.snippet_parts.specs.Margin.{bounds_of}
+use Rattle.snippet_parts.specs.Measures.{is_bar}
 use Rattle.snippet_parts.specs.Window.{dropped_part, window}
 use Rattle.snippet_strokes.specs.declared.layout.Layout.{Layout}
 use Rattle.snippet_style.specs.Glyphs.{placeholder_of}
@@ -12,17 +13,13 @@ use Rattle.snippet_style.specs.declared.role.ElementStyle.TheVariants.{Quotation
 use Rattle.snippet_style.specs.Print.{row_text}
 use Rattle.snippet_text.specs.Normalized.{norm}
 use Rattle.snippet_text.specs.Width.{width_of}
-use Rattle.snippet_strokes.specs.Entries.{shifted}
-use Rattle.snippet_strokes.specs.Rows.{shown_number, first_row, HasNoNumber, IsFree, IsSourceRow, IsHighlighted, AreStrokes, window_cells}
-
--- an entry stands behind the padding of a margin, if lines are cut on the left
-abbrev pub StandsBehind : Margin → LineAnnotation → Type 0
-StandsBehind margin e = 0 < (bounds_of margin).left → (bounds_of margin).left + 6 ≤ e.start.display
+use Rattle.snippet_strokes.specs.Entries.{is_end_part, shifted, wide_entries}
+use Rattle.snippet_strokes.specs.Rows.{shown_number, first_row, HasNoNumber, IsFree, IsSourceRow, IsBeside, IsElisionRow, IsHighlighted, AreStrokes, window_cells}
 
 -- the rows show this line: the first its number and the window of its source, normalised, with what its entries highlight
--- (all of the line, if lines aren't cut on the left and the room holds it),
--- the others its strokes, with which the window may close, as far left as columns of the line are dropped; none but the
--- first can be taken for a source row, and none holds a listed character
+-- (all of the line, if lines aren't cut on the left and the room holds it), with bars beside it, and cut where entries are
+-- wide; the others its strokes, with which the window may close, as far left as columns of the line are dropped; none but
+-- the first can be taken for a source row, and none holds a listed character
 pub record ShowsLine (layout : Layout) (margin : Margin) (numbered closes : Bool) (info : AnnotatedLineInfo) (rows : List (List Cell)) : Type 0 where
   pub source : List Cell
   pub below : List (List Cell)
@@ -33,16 +30,27 @@ pub record ShowsLine (layout : Layout) (margin : Margin) (numbered closes : Bool
   pub whole : (bounds_of margin).left ≡ 0 → width_of (norm (chars info.line.now)) ≤ margin.term_width → drop layout.code plain ≡ drawn Quotation (norm (chars info.line.now))
   pub dropped : ℕ
   pub dropped_is : dropped ≡ width_of (dropped_part (bounds_of margin).left (norm (chars info.line.now)))
-  pub highlighted : IsHighlighted layout.code dropped info.annotations.items plain source
-  pub strokes : AreStrokes layout (map (shifted dropped) info.annotations.items) closes below
+  pub clear : All (λ e. is_bar e.annotation_type ≡ false → dropped ≤ e.start.display) info.annotations.items
+  pub highlighted : List Cell
+  pub highlights : IsHighlighted layout.code dropped (filter (λ e. not (is_end_part e.annotation_type)) info.annotations.items) plain highlighted
+  pub beside : IsBeside layout (wide_entries margin.term_width layout.decor (map (shifted dropped) info.annotations.items)) highlighted source
+  pub strokes : AreStrokes layout margin.term_width (map (shifted dropped) info.annotations.items) closes below
   pub unnumbered : All (HasNoNumber layout.gutter) below
   pub free : All IsFree rows
 
--- the rows show these lines, those of each line behind those of the one before; the window may close with the last line
+-- the rows between those of a line of this number and those of the next of these lines: one for the lines that are left out,
+-- if there are any
+abbrev pub IsGap : Layout → ℕ → List AnnotatedLineInfo → List (List Cell) → Type 0
+IsGap layout number [] rows = rows ≡ []
+IsGap layout number (next ∷ infos) rows =
+    ((number + 1 < next.line_index) × (row : List Cell) × (rows ≡ row ∷ []) × IsElisionRow layout row) ⊎ ((next.line_index ≤ number + 1) × (rows ≡ []))
+
+-- the rows show these lines, those of each line behind those of the one before, with a row between where lines are left out;
+-- the window may close with the last line
 abbrev pub AreLinesShown : Layout → Margin → Bool → Bool → List AnnotatedLineInfo → List (List Cell) → Type 0
 AreLinesShown layout margin numbered closes [] rows = rows ≡ []
 AreLinesShown layout margin numbered closes (info ∷ infos) rows =
-    (first : List (List Cell)) × (rest : List (List Cell)) × (rows ≡ first ++ rest) × ShowsLine layout margin numbered (closes && length infos == 0) info first × AreLinesShown layout margin numbered closes infos rest
+    (first : List (List Cell)) × (gap : List (List Cell)) × (rest : List (List Cell)) × (rows ≡ first ++ gap ++ rest) × ShowsLine layout margin numbered (closes && length infos == 0) info first × IsGap layout info.line_index infos gap × AreLinesShown layout margin numbered closes infos rest
 
 -- what a snippet adds below the rows that are there: the row that it begins with, then the rows of each line
 pub record AddsSnippet (layout : Layout) (margin : Margin) (numbered first closes : Bool) (infos : List AnnotatedLineInfo) (old new : List (List Cell)) : Type 0 where

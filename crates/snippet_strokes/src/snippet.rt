@@ -1,8 +1,9 @@
 //! The rows of a snippet: the row that it begins with, and the rows of each line that is shown.
 ghost use Rattle.std.specs.Prelude.{◌+◌, ◌^◌, ◌<◌, ◌≤◌, All, IfSome, OnOk, length};
-ghost use Rattle.snippet_parts.specs.Marked.{HasColumns};
+ghost use Rattle.snippet_parts.specs.Measures.{StandsClear};
+ghost use Rattle.snippet_strokes.specs.Entries.{HasPlace, HasRail};
 ghost use Rattle.snippet_strokes.specs.Rows.{shown_number};
-ghost use Rattle.snippet_strokes.specs.Snippet.{AddsLine, AddsSnippet, StandsBehind};
+ghost use Rattle.snippet_strokes.specs.Snippet.{AddsLine, AddsSnippet};
 
 use crate::highlight::highlight_source;
 use crate::layout::Layout;
@@ -49,8 +50,9 @@ pub fn draw_snippet(
     requires numbers { All (λ info. length (shown_number numbered layout.gutter info.line_index) ≤ layout.gutter + 1)
         infos.now }
     requires texts { All (λ info. length info.line.now < 2 ^ 56) infos.now }
-    requires columns { All (λ info. All (λ e. HasColumns e.start e.end) info.annotations.items) infos.now }
-    requires clear { All (λ info. All (StandsBehind margin) info.annotations.items) infos.now }
+    requires columns { All (λ info. All HasPlace info.annotations.items) infos.now }
+    requires clear { All (λ info. All (StandsClear margin) info.annotations.items) infos.now }
+    requires rails { All (λ info. All (HasRail layout) info.annotations.items) infos.now }
     requires labels { All (λ info. All (λ e. IfSome e.label (λ t. length t.now < 2 ^ 56)) info.annotations.items) infos.now }
     ensures added { OnOk result (AddsSnippet layout margin numbered first closes infos.now buffer.old buffer.new) }
 {
@@ -81,12 +83,22 @@ fn draw_line(
     requires narrow { layout.code < 2 ^ 32 }
     requires number { length (shown_number numbered layout.gutter info.now.line_index) ≤ layout.gutter + 1 }
     requires text { length info.now.line.now < 2 ^ 56 }
-    requires columns { All (λ e. HasColumns e.start e.end) info.now.annotations.items }
-    requires clear { All (StandsBehind margin) info.now.annotations.items }
+    requires columns { All HasPlace info.now.annotations.items }
+    requires clear { All (StandsClear margin) info.now.annotations.items }
+    requires rails { All (HasRail layout) info.now.annotations.items }
     requires labels { All (λ e. IfSome e.label (λ t. length t.now < 2 ^ 56)) info.now.annotations.items }
     ensures added { OnOk result (AddsLine layout margin numbered closes info.now buffer.old buffer.new) }
 {
     let (row, dropped) = draw_source_row(alloc, buffer, layout, numbered, margin, info)?;
     highlight_source(buffer, layout, dropped, row, &info.annotations)?;
-    draw_strokes(alloc, buffer, layout, closes, dropped, &info.annotations)
+    draw_strokes(
+        alloc,
+        buffer,
+        layout,
+        row,
+        closes,
+        dropped,
+        margin.term_width,
+        &info.annotations,
+    )
 }

@@ -1,9 +1,10 @@
 //! All that stands below the source row of a line.
-ghost use Rattle.std.specs.Prelude.{◌≡◌, ◌+◌, ◌^◌, ◌<◌, ◌≤◌, ◌++◌, ◌∷◌, [], if◌then◌else◌, All, IfSome, OnOk, length, map};
-ghost use Rattle.snippet_strokes.specs.Entries.{shifted};
-ghost use Rattle.snippet_parts.specs.Marked.{HasColumns};
+ghost use Rattle.std.specs.Prelude.{◌≡◌, ◌+◌, ◌^◌, ◌<◌, ◌≤◌, ◌++◌, ◌∷◌, [], if◌then◌else◌, All, IfSome, List, OnOk, false, length, map};
+ghost use Rattle.snippet_strokes.specs.Entries.{HasPlace, HasRail, shifted};
+ghost use Rattle.snippet_parts.specs.Measures.{is_bar};
+ghost use Rattle.snippet_style.specs.Grid.{Cell};
 ghost use Rattle.snippet_strokes.specs.Positions as spec;
-ghost use Rattle.snippet_strokes.specs.Rows.{AddsStrokes, closing_row};
+ghost use Rattle.snippet_strokes.specs.Rows.{AddsStrokes, HasNoBars, closing_row};
 
 use crate::labels::draw_labels;
 use crate::layout::Layout;
@@ -35,16 +36,22 @@ pub(crate) fn draw_strokes(
     alloc: Global,
     buffer: &mut StyledBuffer,
     layout: Layout,
+    row: usize,
     closes: bool,
     dropped: usize,
+    room: usize,
     entries: &[LineAnnotation],
 ) -> Result<(), AllocError>
     requires place { layout.gutter + 3 ≤ layout.code }
     requires narrow { layout.code < 2 ^ 32 }
-    requires columns { All (λ e. HasColumns e.start e.end) entries.now }
-    requires clear { All (λ e. dropped ≤ e.start.display) entries.now }
+    requires last { length buffer.old ≡ row + 1 }
+    requires columns { All HasPlace entries.now }
+    requires clear { All (λ e. is_bar e.annotation_type ≡ false → dropped ≤ e.start.display) entries.now }
+    requires rails { All (HasRail layout) entries.now }
     requires labels { All (λ e. IfSome e.label (λ t. length t.now < 2 ^ 56)) entries.now }
-    ensures added { OnOk result (AddsStrokes layout (map (shifted dropped) entries.now) closes buffer.old buffer.new) }
+    ensures added { OnOk result ((above : List (List Cell)) (plain : List Cell) → buffer.old ≡ above ++ plain ∷ []
+        → HasNoBars layout plain
+        → AddsStrokes layout room (map (shifted dropped) entries.now) closes above plain buffer.new) }
 {
     if entries.is_empty() {
         return close_below(buffer, layout, closes);
