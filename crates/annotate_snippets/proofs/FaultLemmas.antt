@@ -9,14 +9,14 @@ use Rattle.snippet_model.specs.declared.snippet.Annotation.{Annotation}
 use Rattle.std.specs.Cow.{cow_str_bytes}
 use Rattle.snippet_model.specs.declared.snippet.Snippet.{Snippet}
 use Rattle.snippet_model.specs.declared.snippet.Element.TheVariants.{Cause}
-use Rattle.snippet_parts.specs.declared.span.SpanFault.{SpanFault}
-use Rattle.snippet_parts.specs.declared.span.SpanFault.TheVariants.{Reversed, PastEnd, OffBoundary}
-use Rattle.snippet_parts.specs.Span.{IsSpan, IsSpanBorder, is_span_border, is_character_border, span_fault}
+use Rattle.snippet_lines.specs.declared.span.SpanFault.{SpanFault}
+use Rattle.snippet_lines.specs.declared.span.SpanFault.TheVariants.{Reversed, PastEnd, OffBoundary}
+use Rattle.snippet_lines.specs.Span.{IsSpan, IsSpanBorder, is_span_border, is_character_border, span_fault}
 use Rattle.annotate_snippets.specs.Fault.{faults_from, first_of, span_faults, group_faults, element_faults, first_fault, refusal_of, number_faults}
 use Rattle.annotate_snippets.specs.Covered.{IsReportOf}
 use Rattle.snippet_model.specs.Fits.{ReportFits, GroupFits, ElementFits, SnippetFits, AnnotationFits, TitleFits}
 use Rattle.snippet_model.specs.declared.snippet.Title.{Title}
-use Rattle.snippet_parts.specs.Lines.{source_lines}
+use Rattle.snippet_lines.specs.Lines.{source_lines}
 use Rattle.annotate_snippets.specs.declared.renderer.error.RenderError.TheVariants.{LineNumberTooLarge}
 use Rattle.annotate_snippets.specs.declared.renderer.error.RenderError.{RenderError}
 

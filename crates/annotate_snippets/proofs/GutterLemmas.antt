@@ -9,17 +9,17 @@ use Rattle.std.proofs.lemmas.List.Elements.{All-nil, All-cons, All-head, All-tai
 use Rattle.std.proofs.lemmas.Bool.Decides.{nat_tests}
 use Rattle.snippet_model.specs.declared.snippet.Snippet.{Snippet}
 use Rattle.snippet_model.specs.declared.snippet.Annotation.{Annotation}
-use Rattle.snippet_parts.specs.declared.lines.EndLine.{EndLine}
-use Rattle.snippet_parts.specs.declared.lines.EndLine.TheVariants.{Eof, Lf, Crlf}
+use Rattle.snippet_lines.specs.declared.lines.EndLine.{EndLine}
+use Rattle.snippet_lines.specs.declared.lines.EndLine.TheVariants.{Eof, Lf, Crlf}
 use Rattle.snippet_parts.specs.declared.entries.AnnotatedLineInfo.{AnnotatedLineInfo}
-use Rattle.snippet_parts.specs.Lines.{Line, AreLines, joined, line_bytes, is_lf, last_byte, newline_count, source_lines, start_of}
-use Rattle.snippet_parts.specs.Place.{line_of}
-use Rattle.snippet_parts.specs.Span.{IsSpan}
+use Rattle.snippet_lines.specs.Lines.{Line, AreLines, joined, line_bytes, is_lf, last_byte, newline_count, source_lines, start_of}
+use Rattle.snippet_lines.specs.Place.{line_of}
+use Rattle.snippet_lines.specs.Span.{IsSpan}
 use Rattle.snippet_parts.specs.Prepare.{greatest_end, counted_number, reached_source}
 use Rattle.snippet_parts.specs.Marked.{first_line, greatest_line, seen_line, marked_lines}
-use Rattle.snippet_parts.proofs.LinesLemmas.{joined-source_lines, AreLines-lines_of, split_at_line, length-source_lines}
-use Rattle.snippet_parts.proofs.CountLemmas.{newline_count-take}
-use Rattle.snippet_parts.proofs.PlaceLemmas.{HoldsByte-source, line_of-within}
+use Rattle.snippet_lines.proofs.LinesLemmas.{joined-source_lines, AreLines-lines_of, split_at_line, length-source_lines}
+use Rattle.snippet_lines.proofs.CountLemmas.{newline_count-take}
+use Rattle.snippet_lines.proofs.PlaceLemmas.{HoldsByte-source, line_of-within}
 use Rattle.snippet_parts.proofs.MarkedLemmas.{length-marked_lines, marked_lines-number, greatest_line-within}
 use Rattle.snippet_strokes.specs.Rows.{shown_number}
 use Rattle.snippet_strokes.proofs.NumberLemmas.{length-decimal_monotone, length-decimal_more, length-decimal_last}

@@ -10,7 +10,7 @@ use Rattle.snippet_model.specs.Fits.{AnnotationFits}
 use Rattle.snippet_model.specs.declared.snippet.Annotation.{Annotation}
 use Rattle.snippet_parts.specs.declared.entries.LineAnnotation.{LineAnnotation}
 use Rattle.snippet_parts.specs.declared.entries.AnnotatedLineInfo.{AnnotatedLineInfo}
-use Rattle.snippet_parts.specs.Lines.{Source}
+use Rattle.snippet_lines.specs.Lines.{Source}
 use Rattle.snippet_parts.specs.Marked.{first_line, Entry, seen_entry, seen_line, marked_lines, least_line}
 use Rattle.snippet_parts.proofs.MarkedLemmas.{All-seen_entry, marked_lines-entries}
 

@@ -20,8 +20,8 @@ use Rattle.snippet_model.specs.declared.snippet.Snippet.{Snippet}
 use Rattle.snippet_model.specs.declared.snippet.Annotation.{Annotation}
 use Rattle.snippet_model.specs.declared.snippet.AnnotationKind.{AnnotationKind}
 use Rattle.snippet_model.specs.declared.snippet.AnnotationKind.TheVariants.{Primary, Context}
-use Rattle.snippet_parts.specs.Lines.{source_lines, start_of}
-use Rattle.snippet_parts.specs.Place.{line_of, place_of}
+use Rattle.snippet_lines.specs.Lines.{source_lines, start_of}
+use Rattle.snippet_lines.specs.Place.{line_of, place_of}
 use Rattle.snippet_parts.specs.Mark.{is_marked_on, qualifies_for_marks, start_column, end_column, span_width, IsMarkedAt, IsMarkOf}
 use Rattle.snippet_parts.specs.Window.{chars_at, stands_whole}
 use Rattle.snippet_strokes.specs.Entries.{IsMarkCell, has_mark_role}

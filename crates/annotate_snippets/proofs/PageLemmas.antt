@@ -14,7 +14,7 @@ use Rattle.snippet_style.specs.declared.role.ElementStyle.TheVariants.{LineNumbe
 use Rattle.snippet_text.specs.Normalized.{norm}
 use Rattle.snippet_parts.specs.declared.entries.AnnotatedLineInfo.{AnnotatedLineInfo}
 use Rattle.snippet_parts.specs.declared.entries.LineAnnotation.{LineAnnotation}
-use Rattle.snippet_parts.specs.Lines.{source_lines, text_at}
+use Rattle.snippet_lines.specs.Lines.{source_lines, text_at}
 use Rattle.snippet_parts.specs.Marked.{first_line, last_line, seen_entry, entry_of, seen_line, MarkedLine, marked_line, marked_lines, least_line, greatest_line}
 use Rattle.snippet_parts.specs.Window.{IsWindowOf, chars_at, dropped_part}
 use Rattle.snippet_parts.specs.Margin.{bounds_of}

@@ -11,9 +11,9 @@ use Rattle.snippet_model.specs.declared.snippet.Snippet.{Snippet}
 use Rattle.snippet_model.specs.declared.snippet.Annotation.{Annotation}
 use Rattle.snippet_model.specs.declared.snippet.Element.{Element}
 use Rattle.snippet_model.specs.declared.snippet.Element.TheVariants.{Message, Cause, Suggestion, Origin, Padding}
-use Rattle.snippet_parts.specs.Lines.{source_lines, text_at, start_of}
+use Rattle.snippet_lines.specs.Lines.{source_lines, text_at, start_of}
 use Rattle.snippet_parts.specs.Mark.{is_marking, is_single_line}
-use Rattle.snippet_parts.specs.Place.{line_of, place_of}
+use Rattle.snippet_lines.specs.Place.{line_of, place_of}
 use Rattle.snippet_parts.specs.Window.{leading_whitespace, is_near}
 use Rattle.annotate_snippets.specs.declared.renderer.Renderer.{Renderer}
 use Rattle.annotate_snippets.specs.Gutter.{gutter_of}

@@ -8,10 +8,10 @@ use Rattle.snippet_model.specs.declared.snippet.Patch.{Patch}
 use Rattle.snippet_model.specs.declared.snippet.Element.{Element}
 use Rattle.snippet_model.specs.declared.snippet.Element.TheVariants.{Message, Cause, Suggestion, Origin, Padding}
 use Rattle.snippet_model.specs.Fits.{ReportFits}
-use Rattle.snippet_parts.specs.Lines.{source_lines}
-use Rattle.snippet_parts.specs.Span.{span_fault}
-use Rattle.snippet_parts.specs.declared.span.SpanFault.{SpanFault}
-use Rattle.snippet_parts.specs.declared.span.SpanFault.TheVariants.{Reversed, PastEnd, OffBoundary}
+use Rattle.snippet_lines.specs.Lines.{source_lines}
+use Rattle.snippet_lines.specs.Span.{span_fault}
+use Rattle.snippet_lines.specs.declared.span.SpanFault.{SpanFault}
+use Rattle.snippet_lines.specs.declared.span.SpanFault.TheVariants.{Reversed, PastEnd, OffBoundary}
 use Rattle.annotate_snippets.specs.declared.renderer.error.RenderError.{RenderError}
 use Rattle.annotate_snippets.specs.declared.renderer.error.RenderError.TheVariants.{SpanReversed, SpanPastEnd, SpanOffBoundary, LineNumberTooLarge}
 

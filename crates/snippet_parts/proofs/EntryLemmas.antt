@@ -13,10 +13,10 @@ use Rattle.snippet_parts.specs.Marked.{Entry}
 use Rattle.snippet_model.specs.declared.snippet.AnnotationKind.TheVariants.{Primary}
 use Rattle.std.specs.List.Sorted.{IsNonDecreasingBy}
 use Rattle.snippet_parts.specs.Kept.{is_weak_line}
-use Rattle.snippet_parts.specs.Lines.{Source}
+use Rattle.snippet_lines.specs.Lines.{Source}
 use Rattle.snippet_parts.specs.LongSpans.{seen_long, HasFit}
 use Rattle.snippet_parts.specs.declared.long_spans.LongSpan.{LongSpan}
-use Rattle.snippet_parts.specs.declared.place.Loc.{Loc}
+use Rattle.snippet_lines.specs.declared.place.Loc.{Loc}
 
 filter-behind : (p : ℕ → Bool) (u from n : ℕ) → ((k : ℕ) → from ≤ k → leb k u ≡ p k) → u < from → filter p (range_with_len from n) ≡ []
 filter-behind p u from zero same past = refl

@@ -7,11 +7,11 @@ use Rattle.snippet_text.proofs.WidthLemmas.{unicode_width}
 use Rattle.snippet_text.specs.Normalized.{norm}
 use Rattle.snippet_model.specs.declared.snippet.Annotation.{Annotation}
 use Rattle.snippet_model.specs.declared.snippet.AnnotationKind.TheVariants.{Primary}
-use Rattle.snippet_parts.specs.declared.lines.EndLine.TheVariants.{Eof, Lf, Crlf}
-use Rattle.snippet_parts.specs.declared.span.SpanFault.TheVariants.{Reversed, PastEnd, OffBoundary}
-use Rattle.snippet_parts.specs.Lines.{source_lines, start_of}
-use Rattle.snippet_parts.specs.Place.{line_of, place_of, location_of, end_location, steps_behind_text}
-use Rattle.snippet_parts.specs.Span.{span_fault}
+use Rattle.snippet_lines.specs.declared.lines.EndLine.TheVariants.{Eof, Lf, Crlf}
+use Rattle.snippet_lines.specs.declared.span.SpanFault.TheVariants.{Reversed, PastEnd, OffBoundary}
+use Rattle.snippet_lines.specs.Lines.{source_lines, start_of}
+use Rattle.snippet_lines.specs.Place.{line_of, place_of, location_of, end_location, steps_behind_text}
+use Rattle.snippet_lines.specs.Span.{span_fault}
 use Rattle.snippet_parts.specs.Kept.{is_weak, kept_lines}
 use Rattle.snippet_parts.specs.Window.{window, end_mark_column, is_near_span}
 

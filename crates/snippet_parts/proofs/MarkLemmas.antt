@@ -8,13 +8,13 @@ use Rattle.std.proofs.lemmas.Bool.{cond_both, eqb-true, eq-eqb, and_from, and_pa
 use Rattle.snippet_model.specs.declared.snippet.Annotation.{Annotation}
 use Rattle.snippet_model.specs.declared.snippet.AnnotationKind.{AnnotationKind}
 use Rattle.snippet_model.specs.declared.snippet.AnnotationKind.TheVariants.{Primary, Context}
-use Rattle.snippet_parts.specs.declared.place.Loc.{Loc}
+use Rattle.snippet_lines.specs.declared.place.Loc.{Loc}
 use Rattle.snippet_parts.specs.declared.mark.Mark.{Mark}
-use Rattle.snippet_parts.specs.Lines.{Source, source_lines}
-use Rattle.snippet_parts.specs.Place.{line_of, place_of, start_location, end_location, locations_of}
+use Rattle.snippet_lines.specs.Lines.{Source, source_lines}
+use Rattle.snippet_lines.specs.Place.{line_of, place_of, start_location, end_location, locations_of}
 use Rattle.snippet_parts.specs.Marked.{first_line, last_line}
 use Rattle.snippet_parts.specs.Mark.{is_marking, is_marked_on, span_width, IsMarkedAt, IsMarkOf}
-use Rattle.snippet_parts.proofs.PlaceLemmas.{start_location-line, start_location-column, end_location-line, end_location-column}
+use Rattle.snippet_lines.proofs.PlaceLemmas.{start_location-line, start_location-column, end_location-line, end_location-column}
 
 -- ---- the locations of a span
 

@@ -9,10 +9,10 @@ use Rattle.snippet_model.specs.declared.snippet.Annotation.{Annotation}
 use Rattle.snippet_parts.specs.declared.entries.LineAnnotation.{LineAnnotation}
 use Rattle.snippet_parts.specs.declared.entries.LineAnnotationType.TheVariants.{Singleline}
 use Rattle.snippet_parts.specs.declared.entries.AnnotatedLineInfo.{AnnotatedLineInfo}
-use Rattle.snippet_parts.specs.Lines.{Line, source_lines, text_at, Source, line_at}
-use Rattle.snippet_parts.specs.Place.{locations_of, start_location, location_of, place_of}
+use Rattle.snippet_lines.specs.Lines.{Line, source_lines, text_at, Source, line_at}
+use Rattle.snippet_lines.specs.Place.{locations_of, start_location, location_of, place_of}
 use Rattle.snippet_parts.specs.Marked.{first_line, Entry, seen_entry, entry_of, MarkedLine, seen_line, marked_line, least_line, greatest_line, marked_lines, with_entry, HasSingleEntries}
-use Rattle.snippet_parts.proofs.PlaceLemmas.{line_of-within}
+use Rattle.snippet_lines.proofs.PlaceLemmas.{line_of-within}
 
 same_line_seen : (number number' : ℕ) (text text' : List ℕ) (entries entries' : List Entry) → number ≡ number' → text ≡ text' → entries ≡ entries' → ◌≡◌ {A = MarkedLine} (record { number = number; text = text; entries = entries }) (record { number = number'; text = text'; entries = entries' })
 same_line_seen number number' text text' entries entries' a b c = cc

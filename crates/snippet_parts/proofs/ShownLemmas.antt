@@ -14,7 +14,7 @@ use Rattle.snippet_parts.specs.declared.entries.AnnotatedLineInfo.{AnnotatedLine
 use Rattle.snippet_parts.specs.declared.entries.LineAnnotation.{LineAnnotation}
 use Rattle.snippet_parts.specs.declared.entries.LineAnnotationType.TheVariants.{Singleline}
 use Rattle.snippet_parts.specs.Annotated.{put_in, in_order, is_long, long_entry, long_place, long_places, long_spans, stands_before, depth_of, PartEntry, seen_part, KeptLine, seen_kept}
-use Rattle.snippet_parts.specs.Lines.{Source}
+use Rattle.snippet_lines.specs.Lines.{Source}
 use Rattle.snippet_parts.specs.Depths.{same_place, share_line}
 use Rattle.snippet_parts.proofs.DepthLemmas.{same-refl, distinct-places}
 

@@ -5,15 +5,15 @@ use Rattle.std.proofs.lemmas.Bool.{leb-true, leb-false, le-leb, lt-ltb, le-ltb, 
 use Rattle.std.specs.List.{HoldsAt}
 use Rattle.std.specs.List.Sorted.{IsNonDecreasingBy, IsPartitionPoint}
 use Rattle.snippet_parts.specs.declared.source_map.LineInfo.{LineInfo}
-use Rattle.snippet_parts.specs.Lines.{Line, line_bytes, source_lines, text_at, start_of, line_at, StandsAt, Source}
+use Rattle.snippet_lines.specs.Lines.{Line, line_bytes, source_lines, text_at, start_of, line_at, StandsAt, Source}
 use Rattle.snippet_text.specs.Width.{width_of}
-use Rattle.snippet_parts.specs.declared.place.Loc.{Loc}
-use Rattle.snippet_parts.specs.Place.{HoldsByte, line_of, place_of, prefix_at, location_of, steps_behind_text}
-use Rattle.snippet_parts.specs.Span.{IsSpanBorder}
+use Rattle.snippet_lines.specs.declared.place.Loc.{Loc}
+use Rattle.snippet_lines.specs.Place.{HoldsByte, line_of, place_of, prefix_at, location_of, steps_behind_text}
+use Rattle.snippet_lines.specs.Span.{IsSpanBorder}
 use Rattle.std.specs.Str.{IsCharBoundary, chars}
 use Rattle.snippet_parts.specs.LineTable.{LineEntry, entry_of, entry_at, entries_from}
-use Rattle.snippet_parts.proofs.LinesLemmas.{start_of-zero, start_of-cons, start_of-le, length-source_lines, text_at-stands}
-use Rattle.snippet_parts.proofs.PlaceLemmas.{line_of-is, line_of-within, HoldsByte-source, text_at-end, IsCharBoundary-prefix}
+use Rattle.snippet_lines.proofs.LinesLemmas.{start_of-zero, start_of-cons, start_of-le, length-source_lines, text_at-stands}
+use Rattle.snippet_lines.proofs.PlaceLemmas.{line_of-is, line_of-within, HoldsByte-source, text_at-end, IsCharBoundary-prefix}
 
 same_entry : (text : List ℕ) (number start next number' start' next' : ℕ) → number ≡ number' → start ≡ start' → next ≡ next' → ◌≡◌ {A = LineEntry} (record { text = text; number = number; start = start; next = next }) (record { text = text; number = number'; start = start'; next = next' })
 same_entry text number start next number' start' next' a b c = cc

@@ -11,13 +11,13 @@ use Rattle.snippet_parts.specs.declared.entries.AnnotatedLineInfo.{AnnotatedLine
 use Rattle.snippet_parts.specs.declared.entries.LineAnnotation.{LineAnnotation}
 use Rattle.snippet_parts.specs.declared.entries.LineAnnotationType.{LineAnnotationType}
 use Rattle.snippet_parts.specs.declared.entries.LineAnnotationType.TheVariants.{Singleline, MultilineStart, MultilineEnd, MultilineLine}
-use Rattle.snippet_parts.specs.declared.place.Loc.{Loc}
+use Rattle.snippet_lines.specs.declared.place.Loc.{Loc}
 use Rattle.snippet_parts.specs.Depths.{same_place, comes_before, greatest_depth, depth_among}
 use Rattle.snippet_parts.specs.Kept.{is_weak_line, kept_lines}
-use Rattle.snippet_parts.specs.Lines.{source_lines, text_at, Source}
+use Rattle.snippet_lines.specs.Lines.{source_lines, text_at, Source}
 use Rattle.snippet_parts.specs.Mark.{is_marking, is_single_line, touches}
 use Rattle.snippet_parts.specs.Marked.{Entry, seen_entry, entry_of}
-use Rattle.snippet_parts.specs.Place.{locations_of}
+use Rattle.snippet_lines.specs.Place.{locations_of}
 
 -- an entry, and the part of a span that it stands for
 pub record PartEntry : Type 0 where

@@ -3,15 +3,12 @@ pub mod Depths
 pub mod Extent
 pub mod Kept
 pub mod LineTable
-pub mod Lines
 pub mod LongSpans
 pub mod Margin
 pub mod Mark
 pub mod Marked
 pub mod Measures
-pub mod Place
 pub mod Prepare
-pub mod Span
 pub mod Stretches
 pub mod Weak
 pub mod Window

@@ -1,7 +1,7 @@
 -- The table of a source's lines.
 use Rattle.std.specs.Prelude.{◌≡◌, ℕ, ◌+◌, ◌<◌, ◌^◌, List, [], ◌∷◌, length, map}
 use Rattle.snippet_parts.specs.declared.source_map.LineInfo.{LineInfo}
-use Rattle.snippet_parts.specs.Lines.{Line, line_bytes, source_lines, text_at, start_of}
+use Rattle.snippet_lines.specs.Lines.{Line, line_bytes, source_lines, text_at, start_of}
 
 -- what the table says of a line: its text, its number, where it starts and where the next one does
 pub record LineEntry : Type 0 where

@@ -5,7 +5,7 @@ use Rattle.snippet_model.specs.declared.snippet.Annotation.{Annotation}
 use Rattle.snippet_model.specs.declared.snippet.AnnotationKind.{AnnotationKind}
 use Rattle.snippet_model.specs.declared.snippet.AnnotationKind.TheVariants.{Primary, Context, Visible}
 use Rattle.snippet_parts.specs.Marked.{first_line, last_line}
-use Rattle.snippet_parts.specs.Place.{place_of}
+use Rattle.snippet_lines.specs.Place.{place_of}
 
 -- whether spans of this kind are marked; a `Visible` one only keeps its lines
 abbrev pub is_marking : AnnotationKind → Bool

@@ -5,12 +5,12 @@ use Rattle.std.specs.Option.{option_map, option_copied}
 use Rattle.std.specs.Cow.{cow_str_bytes}
 use Rattle.snippet_model.specs.declared.snippet.Annotation.{Annotation}
 use Rattle.snippet_model.specs.declared.snippet.AnnotationKind.{AnnotationKind}
-use Rattle.snippet_parts.specs.declared.place.Loc.{Loc}
+use Rattle.snippet_lines.specs.declared.place.Loc.{Loc}
 use Rattle.snippet_parts.specs.declared.entries.LineAnnotation.{LineAnnotation}
 use Rattle.snippet_parts.specs.declared.entries.AnnotatedLineInfo.{AnnotatedLineInfo}
 use Rattle.snippet_parts.specs.declared.entries.LineAnnotationType.TheVariants.{Singleline}
-use Rattle.snippet_parts.specs.Lines.{source_lines, text_at, Source}
-use Rattle.snippet_parts.specs.Place.{line_of, locations_of}
+use Rattle.snippet_lines.specs.Lines.{source_lines, text_at, Source}
+use Rattle.snippet_lines.specs.Place.{line_of, locations_of}
 
 -- the line on which an annotation starts, and the one on which it ends, from 0
 abbrev pub first_line : List ℕ → Annotation → ℕ

@@ -11,11 +11,11 @@ use Rattle.snippet_parts.specs.declared.entries.LineAnnotationType.{LineAnnotati
 use Rattle.snippet_parts.specs.declared.entries.LineAnnotationType.TheVariants.{Singleline, MultilineStart, MultilineEnd, MultilineLine}
 use Rattle.snippet_parts.specs.declared.margin.Margin.{Margin}
 use Rattle.snippet_parts.specs.Kept.{kept_lines}
-use Rattle.snippet_parts.specs.Lines.{Source}
+use Rattle.snippet_lines.specs.Lines.{Source}
 use Rattle.snippet_parts.specs.Margin.{Bounds, bounds_of, capped_sum, margin_bounds}
 use Rattle.snippet_parts.specs.Mark.{is_marking, is_single_line}
 use Rattle.snippet_parts.specs.Marked.{widened}
-use Rattle.snippet_parts.specs.Place.{locations_of}
+use Rattle.snippet_lines.specs.Place.{locations_of}
 use Rattle.snippet_parts.specs.Window.{leading_whitespace, chars_at}
 
 -- the least of some numbers, if there are any, and the greatest, or 0 where there is none

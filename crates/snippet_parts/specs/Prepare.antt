@@ -3,7 +3,7 @@ use Rattle.std.specs.Prelude.{ℕ, ◌+◌, max, ◌==◌, ◌&&◌, not, List, 
 use Rattle.std.specs.Cow.{cow_str_bytes}
 use Rattle.snippet_model.specs.declared.snippet.Snippet.{Snippet}
 use Rattle.snippet_model.specs.declared.snippet.Annotation.{Annotation}
-use Rattle.snippet_parts.specs.Lines.{newline_count}
+use Rattle.snippet_lines.specs.Lines.{newline_count}
 
 -- the greatest byte at which an annotation ends, or 0 without annotations
 abbrev pub greatest_end : List Annotation → ℕ

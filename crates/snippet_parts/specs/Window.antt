@@ -6,8 +6,8 @@ use Rattle.std.specs.Char.{is_whitespace}
 use Rattle.snippet_model.specs.declared.snippet.Annotation.{Annotation}
 use Rattle.snippet_style.specs.Grid.{written}
 use Rattle.snippet_text.specs.Width.{char_width, width_of}
-use Rattle.snippet_parts.specs.Lines.{source_lines, text_at}
-use Rattle.snippet_parts.specs.Place.{end_location}
+use Rattle.snippet_lines.specs.Lines.{source_lines, text_at}
+use Rattle.snippet_lines.specs.Place.{end_location}
 use Rattle.snippet_parts.specs.Mark.{is_marking, is_single_line, is_marked_on, is_wide, start_column}
 use Rattle.snippet_parts.specs.Kept.{kept_lines}
 

@@ -4,9 +4,9 @@ ghost use Rattle.std.specs.List.{list_any};
 ghost use Rattle.snippet_parts.specs.Annotated as spec;
 ghost use Rattle.snippet_parts.specs.Annotated.{seen_part};
 ghost use Rattle.snippet_parts.specs.Depths.{depth_among, same_place};
-ghost use Rattle.snippet_parts.specs.Lines.{source_lines};
+ghost use Rattle.snippet_lines.specs.Lines.{source_lines};
 ghost use Rattle.snippet_parts.specs.LongSpans.{seen_long, HasFit};
-ghost use Rattle.snippet_parts.specs.Span.{IsSpan};
+ghost use Rattle.snippet_lines.specs.Span.{IsSpan};
 
 use crate::depths::depths;
 use crate::entries::LineAnnotation;

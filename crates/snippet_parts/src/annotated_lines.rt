@@ -3,8 +3,8 @@ ghost use Rattle.std.specs.Prelude.{◌≡◌, ℕ, ◌+◌, ◌-◌, ◌<◌, �
 ghost use Rattle.std.specs.List.Sorted.{IsNonDecreasingBy};
 ghost use Rattle.snippet_parts.specs.Annotated as spec;
 ghost use Rattle.snippet_parts.specs.Annotated.{seen_part, seen_kept};
-ghost use Rattle.snippet_parts.specs.Lines.{source_lines, text_at};
-ghost use Rattle.snippet_parts.specs.Span.{IsSpan};
+ghost use Rattle.snippet_lines.specs.Lines.{source_lines, text_at};
+ghost use Rattle.snippet_lines.specs.Span.{IsSpan};
 
 use crate::all_entries::made_entries;
 use crate::entries::{AnnotatedLineInfo, LineAnnotation};

@@ -2,7 +2,7 @@
 ghost use Rattle.std.specs.Prelude.{◌≡◌, ℕ, ◌+◌, ◌-◌, ◌<◌, ◌≤◌, ◌&&◌, nat_lt, nat_le, min, not, length};
 ghost use Rattle.std.specs.List.{list_any, range_with_len};
 ghost use Rattle.snippet_parts.specs.Kept as spec;
-ghost use Rattle.snippet_parts.specs.Lines.{source_lines};
+ghost use Rattle.snippet_lines.specs.Lines.{source_lines};
 
 use crate::source_map::SourceMap;
 use crate::weak_lines::is_weak;

@@ -1,6 +1,6 @@
 //! What is drawn below a line: an entry for each span that begins, ends or stands on it.
 
-use crate::place::Loc;
+use snippet_lines::place::Loc;
 use snippet_model::snippet::AnnotationKind;
 
 /// One entry of a line: the columns from `start.display` to before `end.display`.

@@ -2,9 +2,9 @@
 ghost use Rattle.std.specs.Prelude.{◌≡◌, ℕ, ◌+◌, ◌<◌, ◌≤◌, ◌^◌, ◌||◌, All, length, map, max, slice_set, slice_index, vec_len, IfOk};
 ghost use Rattle.std.specs.List.{list_any, range_with_len};
 ghost use Rattle.snippet_parts.specs.Kept.{keeps};
-ghost use Rattle.snippet_parts.specs.Lines.{source_lines};
+ghost use Rattle.snippet_lines.specs.Lines.{source_lines};
 ghost use Rattle.snippet_parts.specs.Marked.{first_line, last_line};
-ghost use Rattle.snippet_parts.specs.Span.{IsSpan};
+ghost use Rattle.snippet_lines.specs.Span.{IsSpan};
 ghost use Rattle.snippet_parts.specs.Stretches.{holds, furthest, is_covered, is_seen};
 
 use crate::bars::{bars_end, has_closing_bar};

@@ -3,17 +3,17 @@ ghost use Rattle.std.specs.Prelude.{◌≡◌, ◌+◌, ◌-◌, ◌<◌, ◌≤
 ghost use Rattle.snippet_parts.specs.Annotated as spec;
 ghost use Rattle.snippet_parts.specs.Annotated.{seen_part};
 ghost use Rattle.snippet_parts.specs.Depths.{depth_among};
-ghost use Rattle.snippet_parts.specs.Lines.{source_lines};
+ghost use Rattle.snippet_lines.specs.Lines.{source_lines};
 ghost use Rattle.snippet_parts.specs.LongSpans.{seen_long, HasFit};
-ghost use Rattle.snippet_parts.specs.Span.{IsSpan};
+ghost use Rattle.snippet_lines.specs.Span.{IsSpan};
 
 use crate::bars::{bars_end, has_closing_bar};
 use crate::entries::{LineAnnotation, LineAnnotationType};
 use crate::long_spans::LongSpan;
 use crate::mark::is_marking;
 use crate::marked_lines::entry;
-use crate::place::Loc;
 use crate::source_map::SourceMap;
+use snippet_lines::place::Loc;
 use snippet_model::snippet::{Annotation, AnnotationKind};
 use std::alloc::{AllocError, Global};
 

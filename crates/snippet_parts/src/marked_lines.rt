@@ -1,8 +1,8 @@
 //! The lines that annotations mark, each with its entries.
 ghost use Rattle.std.specs.Prelude.{◌≡◌, ◌+◌, ◌-◌, ◌<◌, ◌≤◌, ◌^◌, [], All, length, map, min, max, fold, vec_len, IfOk, OnOk};
 ghost use Rattle.std.specs.List.{HoldsAt, range_with_len};
-ghost use Rattle.snippet_parts.specs.Lines.{source_lines};
-ghost use Rattle.snippet_parts.specs.Span.{IsSpan};
+ghost use Rattle.snippet_lines.specs.Lines.{source_lines};
+ghost use Rattle.snippet_lines.specs.Span.{IsSpan};
 ghost use Rattle.snippet_parts.specs.Marked.{entry_of, seen_entry, seen_line, marked_line, marked_lines, with_entry, HasColumns, HasSingleEntries};
 ghost use Rattle.snippet_parts.specs.declared.entries.LineAnnotationType.TheVariants.{Singleline};
 

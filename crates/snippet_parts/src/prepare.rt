@@ -1,10 +1,10 @@
 //! What is known of a snippet before it is drawn.
 ghost use Rattle.std.specs.Prelude.{◌≡◌, ◌+◌, ◌<◌, ◌^◌, length};
 ghost use Rattle.std.specs.Cow.{cow_str_bytes};
-ghost use Rattle.snippet_parts.specs.Lines.{source_lines};
+ghost use Rattle.snippet_lines.specs.Lines.{source_lines};
 ghost use Rattle.snippet_parts.specs.Prepare as spec;
 
-use crate::counts::newline_count_before;
+use snippet_lines::counts::newline_count_before;
 use snippet_model::snippet::{Annotation, Snippet};
 
 /// The line number that an annotated snippet counts for the gutter's width: that of the last line that its spans

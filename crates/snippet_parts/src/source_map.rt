@@ -3,10 +3,10 @@ ghost use Rattle.std.specs.Prelude.{◌≡◌, ℕ, List, ◌+◌, ◌-◌, ◌^
 ghost use Rattle.std.specs.Option.{option_copied};
 ghost use Rattle.std.specs.List.{HoldsAt};
 ghost use Rattle.std.specs.List.Sorted.{IsNonDecreasingBy};
-ghost use Rattle.snippet_parts.specs.Lines.{Line, AreLinesOf, line_at, source_lines, text_at, start_of, newline_count, StandsAt};
+ghost use Rattle.snippet_lines.specs.Lines.{Line, AreLinesOf, line_at, source_lines, text_at, start_of, newline_count, StandsAt};
 ghost use Rattle.snippet_parts.specs.LineTable.{entry_of, entry_at, entries_from};
-ghost use Rattle.snippet_parts.specs.Place.{line_of, location_of, steps_behind_text, locations_of};
-ghost use Rattle.snippet_parts.specs.Span.{IsSpan, IsSpanBorder};
+ghost use Rattle.snippet_lines.specs.Place.{line_of, location_of, steps_behind_text, locations_of};
+ghost use Rattle.snippet_lines.specs.Span.{IsSpan, IsSpanBorder};
 ghost use Rattle.snippet_parts.specs.Annotated as spec;
 ghost use Rattle.snippet_parts.specs.Annotated.{seen_kept};
 ghost use Rattle.snippet_parts.specs.Depths.{places_of, share_line, IsLongestChain};
@@ -14,8 +14,8 @@ ghost use Rattle.snippet_model.specs.declared.snippet.Annotation.{Annotation};
 
 use crate::annotated_lines::annotated_lines;
 use crate::entries::AnnotatedLineInfo;
-use crate::lines::CursorLines;
-use crate::place::Loc;
+use snippet_lines::lines::CursorLines;
+use snippet_lines::place::Loc;
 use snippet_model::snippet::Annotation;
 use std::alloc::{AllocError, Global};
 use std::marker::Model;
@@ -43,7 +43,7 @@ pub struct SourceMap<'a> {
 }
 
 impl<'a> Model for SourceMap<'a> {
-    ghost use Rattle.snippet_parts.specs.Lines.{Source};
+    ghost use Rattle.snippet_lines.specs.Lines.{Source};
 
     ghost Value = { Source };
 
@@ -140,7 +140,7 @@ impl<'a> SourceMap<'a> {
     /// The end of an empty span is its start. A start behind the end of its line's text, at the line end, counts one
     /// character more than the text has; such an end does too, and one column more, if the span started on an earlier
     /// line.
-    #[tactic(auto, unfolding(crate::specs::Place::locations_of, crate::specs::Place::start_location, crate::specs::Place::end_location))]
+    #[tactic(auto, unfolding(snippet_lines::specs::Place::locations_of, snippet_lines::specs::Place::start_location, snippet_lines::specs::Place::end_location))]
     pub fn span_to_locations(&self, span: Range<usize>) -> (Loc, Loc)
         requires span { IsSpan self.now.text span.start span.end }
         ensures value { result ≡ locations_of self.now span.start span.end }

@@ -1,11 +1,11 @@
 //! Where lines begin and spans stand, by which a line is cut or stands whole.
 ghost use Rattle.std.specs.Prelude.{◌≡◌, ◌<◌, ◌≤◌, ◌*◌, ◌^◌, length, chars};
-ghost use Rattle.snippet_parts.specs.Place.{place_of};
-ghost use Rattle.snippet_parts.specs.Span.{IsSpanBorder};
+ghost use Rattle.snippet_lines.specs.Place.{place_of};
+ghost use Rattle.snippet_lines.specs.Span.{IsSpanBorder};
 ghost use Rattle.snippet_parts.specs.Window as spec;
 
-use crate::line_bounds::{line_bounds, line_text};
-use crate::place::Loc;
+use snippet_lines::line_bounds::{line_bounds, line_text};
+use snippet_lines::place::Loc;
 
 /// The column at which a byte of a source stands on its line: the width of what stands before it there.
 pub fn column_of(source: &str, byte: usize) -> usize

@@ -5,8 +5,8 @@ use Rattle.snippet_splice.specs.Edits.{Edit, trimmed_edit, trimmed_edits, patche
 use Rattle.snippet_splice.specs.Overlap.{overlap}
 use Rattle.snippet_splice.specs.Shown.{shown_text}
 use Rattle.snippet_splice.specs.Spliced.{last_line_reached, spliced_text, line_ranges}
-use Rattle.snippet_parts.specs.Lines.{start_of}
-use Rattle.snippet_parts.specs.Place.{line_of}
+use Rattle.snippet_lines.specs.Lines.{start_of}
+use Rattle.snippet_lines.specs.Place.{line_of}
 
 -- `AABBCC` in place of `AACC` puts `BB` behind two bytes and before two
 a_text_put_in : sandwich (65 ∷ 65 ∷ 67 ∷ 67 ∷ []) (65 ∷ 65 ∷ 66 ∷ 66 ∷ 67 ∷ 67 ∷ []) ≡ Some (2, 66 ∷ 66 ∷ [], 2)

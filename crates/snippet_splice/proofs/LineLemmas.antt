@@ -4,12 +4,12 @@ use Rattle.std.proofs.lemmas.List.{append-nil, length-append, length-map, length
 use Rattle.std.proofs.lemmas.List.Elements.{All-nil, All-cons, All-same, All-head, All-tail, All-take, All-drop, All-append}
 use Rattle.std.proofs.lemmas.Bool.{cases_Bool, cond-true, cond-false, eqb-true, eqb-false, ne_eqb}
 use Rattle.std.specs.List.{slice_range}
-use Rattle.snippet_parts.specs.declared.lines.EndLine.{EndLine}
-use Rattle.snippet_parts.specs.declared.lines.EndLine.TheVariants.{Eof, Lf, Crlf}
-use Rattle.snippet_parts.specs.Lines.{Line, AreLines, line_bytes, end_bytes, joined, lines_of, with_first_byte, source_lines, start_of, last_byte, is_lf}
-use Rattle.snippet_parts.specs.Place.{line_of}
-use Rattle.snippet_parts.proofs.LinesLemmas.{AreLinesOf-source_lines, lines_of-append, lines_of-joined, last_byte-cons}
-use Rattle.snippet_parts.proofs.PlaceLemmas.{line_of-within}
+use Rattle.snippet_lines.specs.declared.lines.EndLine.{EndLine}
+use Rattle.snippet_lines.specs.declared.lines.EndLine.TheVariants.{Eof, Lf, Crlf}
+use Rattle.snippet_lines.specs.Lines.{Line, AreLines, line_bytes, end_bytes, joined, lines_of, with_first_byte, source_lines, start_of, last_byte, is_lf}
+use Rattle.snippet_lines.specs.Place.{line_of}
+use Rattle.snippet_lines.proofs.LinesLemmas.{AreLinesOf-source_lines, lines_of-append, lines_of-joined, last_byte-cons}
+use Rattle.snippet_lines.proofs.PlaceLemmas.{line_of-within}
 use Rattle.snippet_splice.specs.Edits.{Edit, precedes, in_order, edited_from, patched}
 use Rattle.snippet_splice.specs.Shown.{first_start, shown_start, shown_line, unless_lone_line_feed, without_final_line_feeds}
 use Rattle.snippet_splice.specs.Spliced.{HasNoCr, texts_of, AreFrom}

@@ -5,7 +5,7 @@ use Rattle.std.proofs.lemmas.List.Elements.{All-from_get_or, All-cons, All-head,
 use Rattle.std.proofs.lemmas.Bool.{cases_Bool, cond-true, cond-false, ltb-false}
 use Rattle.std.proofs.lemmas.Bool.Decides.{nat_tests}
 use Rattle.snippet_model.specs.declared.snippet.Patch.{Patch}
-use Rattle.snippet_parts.specs.Span.{IsSpan}
+use Rattle.snippet_lines.specs.Span.{IsSpan}
 use Rattle.snippet_splice.specs.Edits.{Edit, edit_of, precedes, put_in, in_order, AreApart}
 use Rattle.snippet_splice.specs.Overlap.{overlap, overlap_at, no_edit, AreDisjoint}
 

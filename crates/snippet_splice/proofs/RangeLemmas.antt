@@ -6,12 +6,12 @@ use Rattle.std.proofs.lemmas.List.Concat.{flat_map-append}
 use Rattle.std.proofs.lemmas.List.Elements.{All-head, All-tail}
 use Rattle.std.proofs.lemmas.Bool.{cond-false, ne_eqb}
 use Rattle.std.specs.List.{slice_range}
-use Rattle.snippet_parts.specs.declared.lines.EndLine.{EndLine}
-use Rattle.snippet_parts.specs.declared.lines.EndLine.TheVariants.{Eof, Lf, Crlf}
-use Rattle.snippet_parts.specs.Lines.{Line, IsLine, AreLines, line_bytes, end_bytes, joined, source_lines, start_of, is_lf}
-use Rattle.snippet_parts.specs.Place.{line_of}
-use Rattle.snippet_parts.proofs.LinesLemmas.{AreLinesOf-source_lines, joined-source_lines}
-use Rattle.snippet_parts.proofs.PlaceLemmas.{line_of-within}
+use Rattle.snippet_lines.specs.declared.lines.EndLine.{EndLine}
+use Rattle.snippet_lines.specs.declared.lines.EndLine.TheVariants.{Eof, Lf, Crlf}
+use Rattle.snippet_lines.specs.Lines.{Line, IsLine, AreLines, line_bytes, end_bytes, joined, source_lines, start_of, is_lf}
+use Rattle.snippet_lines.specs.Place.{line_of}
+use Rattle.snippet_lines.proofs.LinesLemmas.{AreLinesOf-source_lines, joined-source_lines}
+use Rattle.snippet_lines.proofs.PlaceLemmas.{line_of-within}
 use Rattle.snippet_splice.specs.Edits.{Edit, in_order, trimmed_edits, edited_from, patched, AreApart}
 use Rattle.snippet_splice.specs.Copied.{copied, written_ranges}
 use Rattle.snippet_splice.specs.Shown.{first_start, shown_start, shown_line}

@@ -6,10 +6,10 @@ use Rattle.std.proofs.lemmas.Str.{IsCharBoundary-start}
 use Rattle.std.specs.List.{slice_get}
 use Rattle.std.specs.Str.{IsUtf8, IsCharBoundary}
 use Rattle.snippet_model.specs.declared.snippet.Patch.{Patch}
-use Rattle.snippet_parts.specs.Lines.{source_lines, start_of}
-use Rattle.snippet_parts.specs.Place.{line_of}
-use Rattle.snippet_parts.proofs.PlaceLemmas.{HoldsByte-source}
-use Rattle.snippet_parts.proofs.BoundsLemmas.{IsCharBoundary-start_of}
+use Rattle.snippet_lines.specs.Lines.{source_lines, start_of}
+use Rattle.snippet_lines.specs.Place.{line_of}
+use Rattle.snippet_lines.proofs.PlaceLemmas.{HoldsByte-source}
+use Rattle.snippet_lines.proofs.BoundsLemmas.{IsCharBoundary-start_of}
 use Rattle.snippet_splice.specs.declared.patches.TrimmedPatch.{TrimmedPatch}
 use Rattle.snippet_splice.specs.Edits.{Edit, edit_of, trimmed_edit_of, trimmed_edit, trimmed_edits, put_in, in_order, precedes, bounds_of, original_bounds_of, AreApart}
 use Rattle.snippet_splice.specs.Shown.{first_start, closes_line, shown_start, shown_rest, without_final_line_feeds, shown_text}

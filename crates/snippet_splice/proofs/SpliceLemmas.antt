@@ -5,11 +5,11 @@ use Rattle.std.proofs.Math.Seq.{take-append-add}
 use Rattle.std.proofs.lemmas.List.Elements.{All-take, All-drop, All-head, All-tail}
 use Rattle.std.proofs.lemmas.Bool.{cases_Bool, cases_lt, cond-true, cond-false, cond_both, and_right, ne_eqb, eqb-true}
 use Rattle.std.specs.List.{slice_range, before_first, position_or_len}
-use Rattle.snippet_parts.specs.declared.lines.EndLine.{EndLine}
-use Rattle.snippet_parts.specs.declared.lines.EndLine.TheVariants.{Eof, Lf, Crlf}
-use Rattle.snippet_parts.specs.Lines.{Line, lines_of, line_with_byte, with_first_byte, source_lines, start_of, text_at, last_byte, is_lf}
-use Rattle.snippet_parts.specs.Place.{line_of}
-use Rattle.snippet_parts.proofs.PlaceLemmas.{line_of-within, text_at-end}
+use Rattle.snippet_lines.specs.declared.lines.EndLine.{EndLine}
+use Rattle.snippet_lines.specs.declared.lines.EndLine.TheVariants.{Eof, Lf, Crlf}
+use Rattle.snippet_lines.specs.Lines.{Line, lines_of, line_with_byte, with_first_byte, source_lines, start_of, text_at, last_byte, is_lf}
+use Rattle.snippet_lines.specs.Place.{line_of}
+use Rattle.snippet_lines.proofs.PlaceLemmas.{line_of-within, text_at-end}
 use Rattle.snippet_splice.specs.Edits.{Edit, in_order, trimmed_edits, edited_from, patched, AreApart}
 use Rattle.snippet_splice.specs.Copied.{is_inside_line_end, text_end, in_text, with_line_feeds, copied, written, end_from}
 use Rattle.snippet_splice.specs.Shown.{first_start, last_text, closes_line, shown_start, without_final_line_feeds, shown_text}

@@ -6,11 +6,11 @@ use Rattle.std.proofs.lemmas.List.Sums.{sum_by-take-le}
 use Rattle.std.proofs.lemmas.List.Elements.{All-nil, All-cons, All-take, All-push, All-same, All-weaker, All-contains}
 use Rattle.std.proofs.lemmas.Bool.{cases_lt}
 use Rattle.std.specs.List.{slice_range}
-use Rattle.snippet_parts.specs.declared.lines.EndLine.TheVariants.{Eof}
-use Rattle.snippet_parts.specs.Lines.{Line, line_bytes, lines_of, source_lines, start_of, text_at, last_byte, is_lf, IsOneLine}
-use Rattle.snippet_parts.proofs.LinesLemmas.{text_at-stands, start_of-next, start_of-end, joined-source_lines, split_last, newline_count-open, length-source_lines, source_lines-some, last_byte-push}
-use Rattle.snippet_parts.proofs.PlaceLemmas.{text_at-end}
-use Rattle.snippet_parts.proofs.BoundsLemmas.{line_bytes-slice, IsLine-at, IsOneLine-line}
+use Rattle.snippet_lines.specs.declared.lines.EndLine.TheVariants.{Eof}
+use Rattle.snippet_lines.specs.Lines.{Line, line_bytes, lines_of, source_lines, start_of, text_at, last_byte, is_lf, IsOneLine}
+use Rattle.snippet_lines.proofs.LinesLemmas.{text_at-stands, start_of-next, start_of-end, joined-source_lines, split_last, newline_count-open, length-source_lines, source_lines-some, last_byte-push}
+use Rattle.snippet_lines.proofs.PlaceLemmas.{text_at-end}
+use Rattle.snippet_lines.proofs.BoundsLemmas.{line_bytes-slice, IsLine-at, IsOneLine-line}
 use Rattle.snippet_splice.specs.Edits.{Edit, in_order, trimmed_edits, patched, AreApart}
 use Rattle.snippet_splice.specs.Copied.{written}
 use Rattle.snippet_splice.specs.Shown.{first_start, last_text, shown_start, shown_line, without_final_line_feeds}

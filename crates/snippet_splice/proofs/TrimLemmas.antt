@@ -8,7 +8,7 @@ use Rattle.std.specs.Bool.{Decides}
 use Rattle.std.specs.List.{slice_range}
 use Rattle.std.specs.Option.{option_map}
 use Rattle.std.specs.Str.{IsUtf8, IsCharBoundary}
-use Rattle.snippet_parts.specs.Span.{is_character_border}
+use Rattle.snippet_lines.specs.Span.{is_character_border}
 use Rattle.snippet_splice.specs.Trim.{IsSandwiched, IsSandwich, is_sandwiched, greatest, kept_before, sandwich}
 
 -- ---- what a sandwich says of the replacement

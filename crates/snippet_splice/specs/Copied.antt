@@ -1,7 +1,7 @@
 -- How source is copied beside patches: by the text of its lines, and with an LF for each line end.
 use Rattle.std.specs.Prelude.{ℕ, ◌+◌, ◌-◌, nat_lt, min, ◌==◌, ◌&&◌, Bool, List, [], ◌∷◌, ◌++◌, length, slice_index, count_by, if◌then◌else◌}
 use Rattle.std.specs.List.{slice_range}
-use Rattle.snippet_parts.specs.Lines.{last_byte, is_lf}
+use Rattle.snippet_lines.specs.Lines.{last_byte, is_lf}
 use Rattle.snippet_splice.specs.declared.splice.LineRange.{LineRange}
 use Rattle.snippet_splice.specs.Edits.{Edit}
 

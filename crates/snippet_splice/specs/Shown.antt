@@ -1,7 +1,7 @@
 -- The text that is shown of the patched source, as it is written.
 use Rattle.std.specs.Prelude.{ℕ, ◌==◌, Bool, List, [], ◌∷◌, ◌++◌, drop, if◌then◌else◌}
-use Rattle.snippet_parts.specs.Lines.{source_lines, start_of, text_at, last_byte, is_lf}
-use Rattle.snippet_parts.specs.Place.{line_of}
+use Rattle.snippet_lines.specs.Lines.{source_lines, start_of, text_at, last_byte, is_lf}
+use Rattle.snippet_lines.specs.Place.{line_of}
 use Rattle.snippet_splice.specs.Edits.{Edit, in_order, trimmed_edits}
 use Rattle.snippet_splice.specs.Copied.{written, end_from}
 

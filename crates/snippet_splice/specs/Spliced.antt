@@ -1,8 +1,8 @@
 -- The spliced text: the part of the patched source that is shown, and the lines of it that are touched.
 use Rattle.std.specs.Prelude.{◌≡◌, ◌≢◌, ℕ, ◌+◌, ◌<◌, ◌≤◌, ◌⊎◌, max, Bool, List, [], ◌∷◌, All, Contains, length, map, take, drop, count_by, fold, if◌then◌else◌}
 use Rattle.std.specs.List.{slice_range, before_first}
-use Rattle.snippet_parts.specs.Lines.{Line, source_lines, start_of, last_byte, is_lf}
-use Rattle.snippet_parts.specs.Place.{line_of}
+use Rattle.snippet_lines.specs.Lines.{Line, source_lines, start_of, last_byte, is_lf}
+use Rattle.snippet_lines.specs.Place.{line_of}
 use Rattle.snippet_splice.specs.declared.splice.LineRange.{LineRange}
 use Rattle.snippet_splice.specs.Edits.{Edit, in_order, trimmed_edits, edited_from, patched}
 use Rattle.snippet_splice.specs.Shown.{first_start, closes_line, without_final_line_feeds}

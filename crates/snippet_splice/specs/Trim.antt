@@ -3,7 +3,7 @@ use Rattle.std.specs.Prelude.{◌≡◌, ℕ, zero, suc, ◌+◌, ◌-◌, ◌<�
 use Rattle.std.specs.List.{slice_range}
 use Rattle.std.specs.Option.{option_map}
 use Rattle.std.specs.Str.{IsCharBoundary, bytes_eq}
-use Rattle.snippet_parts.specs.Span.{is_character_border}
+use Rattle.snippet_lines.specs.Span.{is_character_border}
 
 -- a replacement is the original with a text in the middle of it: it begins with so many of the original's bytes, up to
 -- a character's border, and ends with the others

@@ -2,11 +2,11 @@
 ghost use Rattle.std.specs.Prelude.{◌≡◌, ◌<◌, ◌≤◌, ◌++◌, IfOk, length, count_by, true};
 ghost use Rattle.std.specs.String.{string_bytes};
 ghost use Rattle.std.specs.Str.{IsCharBoundary};
-ghost use Rattle.snippet_parts.specs.Lines.{is_lf};
-ghost use Rattle.snippet_parts.specs.Span.{IsSpanBorder};
+ghost use Rattle.snippet_lines.specs.Lines.{is_lf};
+ghost use Rattle.snippet_lines.specs.Span.{IsSpanBorder};
 ghost use Rattle.snippet_splice.specs.Copied.{is_inside_line_end, text_end, in_text, with_line_feeds, copied};
 
-use snippet_parts::line_feed_count;
+use snippet_lines::line_feed_count;
 use std::alloc::AllocError;
 
 /// Adds what stands from one byte of a source to another, with a line feed for each line end, and counts the line feeds.

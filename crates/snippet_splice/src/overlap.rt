@@ -1,6 +1,6 @@
 //! Patches that overlap.
 ghost use Rattle.std.specs.Prelude.{◌≡◌, ◌↔◌, ℕ, ◌<◌, ◌+◌, ◌≤◌, true, false, List, map, All, IfSome, IfNone, IsNone, length, drop, slice_index_or};
-ghost use Rattle.snippet_parts.specs.Span.{IsSpan};
+ghost use Rattle.snippet_lines.specs.Span.{IsSpan};
 ghost use Rattle.snippet_splice.specs.Edits.{Edit, edit_of, precedes, AreApart};
 ghost use Rattle.snippet_splice.specs.Overlap.{overlap, overlap_at, IsFirstOverlap, AreDisjoint, no_edit};
 

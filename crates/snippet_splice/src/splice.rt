@@ -1,8 +1,8 @@
 //! The part of a source that is shown with patches applied.
 ghost use Rattle.std.specs.Prelude.{◌≡◌, ◌≢◌, ◌↔◌, ◌==◌, ℕ, ◌+◌, ◌<◌, ◌≤◌, [], ◌++◌, map, All, IfOk, IfSome, IsNone, length, take};
 ghost use Rattle.std.specs.String.{string_bytes};
-ghost use Rattle.snippet_parts.specs.Lines.{lines_of, source_lines, text_at, last_byte};
-ghost use Rattle.snippet_parts.specs.Span.{IsSpan, IsSpanBorder};
+ghost use Rattle.snippet_lines.specs.Lines.{lines_of, source_lines, text_at, last_byte};
+ghost use Rattle.snippet_lines.specs.Span.{IsSpan, IsSpanBorder};
 ghost use Rattle.snippet_splice.specs.Edits.{edit_of, in_order, bounds_of, original_bounds_of, edited_from, patched, trimmed_edit_of, trimmed_edits, AreApart};
 ghost use Rattle.snippet_splice.specs.Overlap.{AreDisjoint};
 ghost use Rattle.snippet_splice.specs.Copied.{written, written_ranges, end_from};
@@ -12,9 +12,9 @@ ghost use Rattle.snippet_splice.specs.Shown.{closes_line, shown_line, shown_star
 use crate::copy::{push_copied, text_place};
 use crate::patches::{TrimmedPatch, trimmed_patches};
 use crate::stretches::{SubstitutionHighlight, new_stretches, patch_places, replaced_stretches};
+use snippet_lines::line_bounds::line_bounds;
+use snippet_lines::{CursorLines, line_feed_count, newline_count};
 use snippet_model::Patch;
-use snippet_parts::line_bounds::line_bounds;
-use snippet_parts::{CursorLines, line_feed_count, newline_count};
 use std::alloc::{AllocError, Global};
 
 /// Lines of a text, from the first to the last, both counted.

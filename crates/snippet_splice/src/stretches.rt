@@ -1,7 +1,7 @@
 //! Which stretches of lines a suggested edit writes anew, and which of the source it replaces.
 use crate::copy::text_place;
 use crate::patches::TrimmedPatch;
-use snippet_parts::line_feed_count;
+use snippet_lines::line_feed_count;
 use std::alloc::{AllocError, Global};
 
 /// A stretch of a line, from one character to another; a tab of a replacement counts as four.

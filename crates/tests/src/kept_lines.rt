@@ -1,7 +1,7 @@
 //! The lines of a snippet that are kept, with their entries and depths.
 ghost use Rattle.std.specs.Prelude.{◌+◌, ◌<◌, ◌^◌, All, length};
-ghost use Rattle.snippet_parts.specs.Lines.{newline_count};
-ghost use Rattle.snippet_parts.specs.Span.{IsSpan};
+ghost use Rattle.snippet_lines.specs.Lines.{newline_count};
+ghost use Rattle.snippet_lines.specs.Span.{IsSpan};
 
 use snippet_model::snippet::{Annotation, AnnotationKind};
 use snippet_parts::{AnnotatedLineInfo, LineAnnotationType, SourceMap, check_span, newline_count};

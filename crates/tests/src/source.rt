@@ -1,7 +1,7 @@
 //! The lines of a source, places in it, and the marks of its columns.
 ghost use Rattle.std.specs.Prelude.{◌+◌, ◌<◌, ◌^◌, All, length};
-ghost use Rattle.snippet_parts.specs.Lines.{newline_count};
-ghost use Rattle.snippet_parts.specs.Span.{IsSpan};
+ghost use Rattle.snippet_lines.specs.Lines.{newline_count};
+ghost use Rattle.snippet_lines.specs.Span.{IsSpan};
 
 use snippet_model::snippet::{Annotation, AnnotationKind};
 use snippet_parts::{Loc, SourceMap, check_span, mark_of, newline_count};

@@ -1,6 +1,6 @@
 //! Trimming, patches that overlap, and the text that patches give.
 ghost use Rattle.std.specs.Prelude.{All, map};
-ghost use Rattle.snippet_parts.specs.Span.{IsSpan};
+ghost use Rattle.snippet_lines.specs.Span.{IsSpan};
 ghost use Rattle.snippet_splice.specs.Edits.{edit_of};
 ghost use Rattle.snippet_splice.specs.Overlap.{AreDisjoint};
 

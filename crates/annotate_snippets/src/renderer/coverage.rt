@@ -4,9 +4,9 @@ ghost use Rattle.std.specs.Prelude.{◌≡◌, ◌+◌, ◌-◌, ◌<◌, ◌≤
 ghost use Rattle.std.specs.List.{list_all, list_any};
 ghost use Rattle.std.specs.Cow.{cow_str_bytes};
 ghost use Rattle.std.specs.Option.{option_copied};
-ghost use Rattle.snippet_parts.specs.Lines.{source_lines};
-ghost use Rattle.snippet_parts.specs.Span.{IsSpan};
-ghost use Rattle.snippet_parts.specs.Place.{place_of};
+ghost use Rattle.snippet_lines.specs.Lines.{source_lines};
+ghost use Rattle.snippet_lines.specs.Span.{IsSpan};
+ghost use Rattle.snippet_lines.specs.Place.{place_of};
 ghost use Rattle.snippet_parts.specs.Mark as mark;
 ghost use Rattle.snippet_parts.specs.Window.{leading_whitespace};
 ghost use Rattle.snippet_parts.specs.Window as window;

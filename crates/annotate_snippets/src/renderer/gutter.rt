@@ -1,7 +1,7 @@
 //! How wide the gutter is.
 ghost use Rattle.std.specs.Prelude.{◌≡◌, ◌+◌, ◌<◌, ◌≤◌, ◌^◌, length};
 ghost use Rattle.std.specs.Cow.{cow_str_bytes};
-ghost use Rattle.snippet_parts.specs.Lines.{source_lines};
+ghost use Rattle.snippet_lines.specs.Lines.{source_lines};
 ghost use Rattle.annotate_snippets.specs.Gutter as spec;
 
 use snippet_model::snippet::{Annotation, Snippet};

@@ -1,6 +1,6 @@
 use Rattle.std.proofs.Common.{◌≡◌, ◌++◌, ◌||◌, take, drop, ap, ◌∙◌, arith, length}
 use Rattle.std.proofs.lemmas.Result.{IfOk-weaker}
-use Rattle.snippet_parts.specs.Lines.{source_lines}
+use Rattle.snippet_lines.specs.Lines.{source_lines}
 use Rattle.std.proofs.lemmas.List.{take_at}
 use Rattle.snippet_parts.specs.Kept.{keeps}
 use Rattle.snippet_parts.specs.Stretches.{is_covered}

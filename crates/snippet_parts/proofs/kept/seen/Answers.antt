@@ -1,6 +1,6 @@
 use Rattle.std.proofs.Common.{◌∙◌, arith, length}
 use Rattle.std.proofs.lemmas.Result.{IfOk-weaker}
-use Rattle.snippet_parts.specs.Lines.{source_lines}
+use Rattle.snippet_lines.specs.Lines.{source_lines}
 use Rattle.snippet_parts.specs.Stretches.{is_seen}
 use Rattle.snippet_parts.proofs.KeptLemmas.{covered-none, covered-all}
 use Rattle.snippet_parts.proofs.kept.seen.Goals as goal

@@ -1,6 +1,6 @@
 use Rattle.std.proofs.Common.{arith}
-use Rattle.snippet_parts.specs.Lines.{source_lines}
-use Rattle.snippet_parts.proofs.PlaceLemmas.{line_of-mono, line_of-within}
+use Rattle.snippet_lines.specs.Lines.{source_lines}
+use Rattle.snippet_lines.proofs.PlaceLemmas.{line_of-mono, line_of-within}
 use Rattle.snippet_parts.proofs.kept.touched.Goals as goal
 
 pub returns-clause-ordered : goal.returns-clause-ordered

@@ -1,7 +1,7 @@
 use Rattle.std.proofs.Common.{ap, arith, length}
-use Rattle.snippet_parts.specs.Lines.{source_lines}
-use Rattle.snippet_parts.proofs.LinesLemmas.{length-source_lines}
-use Rattle.snippet_parts.proofs.CountLemmas.{newline_count-take}
+use Rattle.snippet_lines.specs.Lines.{source_lines}
+use Rattle.snippet_lines.proofs.LinesLemmas.{length-source_lines}
+use Rattle.snippet_lines.proofs.CountLemmas.{newline_count-take}
 use Rattle.snippet_parts.proofs.prepare.counted_number.Goals as goal
 
 pub overflow_add-result : goal.overflow_add-result

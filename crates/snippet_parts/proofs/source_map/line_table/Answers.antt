@@ -1,9 +1,9 @@
 use Rattle.std.proofs.Common.{◌≡◌, ◌+◌, ℕ, refl, ap, arith, length}
 use Rattle.std.proofs.lemmas.List.{length-append}
-use Rattle.snippet_parts.specs.Lines.{Line, end_bytes, line_bytes, joined, lines_of}
+use Rattle.snippet_lines.specs.Lines.{Line, end_bytes, line_bytes, joined, lines_of}
 use Rattle.snippet_parts.specs.declared.source_map.LineInfo.{LineInfo}
 use Rattle.snippet_parts.specs.LineTable.{entries_from}
-use Rattle.snippet_parts.proofs.LinesLemmas.{length-lines_of-le, length-source_lines}
+use Rattle.snippet_lines.proofs.LinesLemmas.{length-lines_of-le, length-source_lines}
 use Rattle.snippet_parts.proofs.TableLemmas.{table-more}
 use Rattle.snippet_parts.proofs.source_map.line_table.Goals as goal
 

@@ -1,5 +1,5 @@
 use Rattle.std.proofs.Common.{◌≡◌, ◌+◌, ◌++◌, map, length}
-use Rattle.snippet_parts.specs.Lines.{joined, lines_of}
+use Rattle.snippet_lines.specs.Lines.{joined, lines_of}
 use Rattle.snippet_parts.specs.LineTable.{entry_of, entries_from}
 use Rattle.snippet_parts.proofs.source_map.line_table.Given as goal
 

@@ -1,8 +1,8 @@
 use Rattle.std.proofs.Common.{◌∙◌, ◌-◌, ap, sym, take, chars}
 use Rattle.snippet_text.specs.Width.{width_of}
-use Rattle.snippet_parts.specs.Lines.{source_lines, start_of}
-use Rattle.snippet_parts.specs.Place.{line_of}
-use Rattle.snippet_parts.proofs.PlaceLemmas.{place_of-column}
+use Rattle.snippet_lines.specs.Lines.{source_lines, start_of}
+use Rattle.snippet_lines.specs.Place.{line_of}
+use Rattle.snippet_lines.proofs.PlaceLemmas.{place_of-column}
 use Rattle.snippet_parts.proofs.window.column_of.Goals as goal
 
 pub returns : goal.returns

@@ -2,7 +2,7 @@ use Rattle.std.proofs.Common.{◌≡◌, map, take, ap, subst, ◌∙◌, arith,
 use Rattle.std.proofs.lemmas.List.{take_all}
 use Rattle.std.proofs.lemmas.List.Sorted.{answers_always, All-permutation}
 use Rattle.std.specs.List.Sorted.{IsSortedBy, IsStableBy}
-use Rattle.snippet_parts.specs.Span.{IsSpan}
+use Rattle.snippet_lines.specs.Span.{IsSpan}
 use Rattle.snippet_splice.specs.declared.patches.TrimmedPatch.{TrimmedPatch}
 use Rattle.snippet_splice.specs.Edits.{edit_of, in_order, edited_from}
 use Rattle.snippet_splice.proofs.EditLemmas.{edited_from-trimmed}

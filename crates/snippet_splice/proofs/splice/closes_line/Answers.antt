@@ -1,5 +1,5 @@
 use Rattle.std.proofs.Common.{◌<◌, eqb, length, sym, ap, ◌∙◌, arith}
-use Rattle.snippet_parts.specs.Lines.{last_byte}
+use Rattle.snippet_lines.specs.Lines.{last_byte}
 use Rattle.snippet_splice.proofs.WriteLemmas.{last_text-at}
 use Rattle.snippet_splice.proofs.splice.closes_line.Goals as goal
 

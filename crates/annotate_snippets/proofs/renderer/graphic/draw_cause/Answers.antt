@@ -3,9 +3,9 @@ use Rattle.std.specs.Cow.{cow_str_bytes}
 use Rattle.snippet_model.specs.declared.snippet.Annotation.{Annotation}
 use Rattle.snippet_model.specs.declared.snippet.Snippet.{Snippet}
 use Rattle.snippet_parts.specs.declared.entries.AnnotatedLineInfo.{AnnotatedLineInfo}
-use Rattle.snippet_parts.specs.Lines.{newline_count, Source}
+use Rattle.snippet_lines.specs.Lines.{newline_count, Source}
 use Rattle.snippet_parts.specs.Marked.{seen_line, marked_lines, least_line}
-use Rattle.snippet_parts.proofs.LinesLemmas.{length-source_lines, length-text_at-source}
+use Rattle.snippet_lines.proofs.LinesLemmas.{length-source_lines, length-text_at-source}
 use Rattle.snippet_parts.proofs.MarkedLemmas.{marked_lines-text}
 use Rattle.annotate_snippets.specs.Drawn.{numbered_source}
 use Rattle.annotate_snippets.proofs.GutterLemmas.{numbers-counted, numbers-small, counted-small, shown-fits}

@@ -2,7 +2,7 @@ use Rattle.std.proofs.Common.{◌≡◌, ◌-◌, Some, None, subst, sym, ◌∙
 use Rattle.std.proofs.lemmas.Bool.{ltb-true, ltb-false}
 use Rattle.std.specs.Option.{option_copied}
 use Rattle.snippet_parts.specs.declared.source_map.LineInfo.{LineInfo}
-use Rattle.snippet_parts.specs.Lines.{Source, line_at, source_lines, start_of, StandsAt}
+use Rattle.snippet_lines.specs.Lines.{Source, line_at, source_lines, start_of, StandsAt}
 use Rattle.snippet_parts.proofs.TableLemmas.{line_at-some, line_at-none}
 use Rattle.snippet_parts.proofs.source_map.SourceMap.get_line.Goals as goal
 

@@ -1,6 +1,6 @@
 use Rattle.std.proofs.Common.{ap, ◌∙◌, length}
-use Rattle.snippet_parts.specs.Lines.{Source, source_lines}
-use Rattle.snippet_parts.proofs.LinesLemmas.{AreLinesOf-source_lines, source_lines-only}
+use Rattle.snippet_lines.specs.Lines.{Source, source_lines}
+use Rattle.snippet_lines.proofs.LinesLemmas.{AreLinesOf-source_lines, source_lines-only}
 use Rattle.snippet_parts.proofs.TableLemmas.{length-table}
 use Rattle.snippet_parts.proofs.source_map.SourceMap.line_count.Goals as goal
 

@@ -2,8 +2,8 @@ use Rattle.std.proofs.Common.{◌≡◌, ◌<◌, ◌≤◌, ◌+◌, ◌^◌, �
 use Rattle.std.specs.List.{HoldsAt}
 use Rattle.std.specs.List.Sorted.{IsNonDecreasingBy}
 use Rattle.snippet_parts.specs.declared.source_map.LineInfo.{LineInfo}
-use Rattle.snippet_parts.specs.Lines.{Source, source_lines}
-use Rattle.snippet_parts.specs.Place.{line_of}
+use Rattle.snippet_lines.specs.Lines.{Source, source_lines}
+use Rattle.snippet_lines.specs.Place.{line_of}
 use Rattle.snippet_parts.specs.LineTable.{entry_of, entry_at}
 use Rattle.snippet_parts.proofs.TableLemmas.{table-ordered, table-holding}
 use Rattle.snippet_parts.proofs.source_map.SourceMap.line_holding.Goals as goal

@@ -1,5 +1,5 @@
 use Rattle.std.proofs.Common.{arith}
-use Rattle.snippet_parts.proofs.LinesLemmas.{length-source_lines}
+use Rattle.snippet_lines.proofs.LinesLemmas.{length-source_lines}
 use Rattle.snippet_parts.proofs.source_map.SourceMap.new.Goals as goal
 
 pub invariant_of-result : goal.invariant_of-result

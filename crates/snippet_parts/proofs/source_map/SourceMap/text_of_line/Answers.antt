@@ -1,7 +1,7 @@
 use Rattle.std.proofs.Common.{◌≡◌, ◌<◌, List, ℕ, map, length, get_or, sym, ap, ◌∙◌, arith}
 use Rattle.std.proofs.lemmas.List.{length-map, get_or-map}
 use Rattle.snippet_parts.specs.declared.source_map.LineInfo.{LineInfo}
-use Rattle.snippet_parts.specs.Lines.{Source, source_lines, text_at}
+use Rattle.snippet_lines.specs.Lines.{Source, source_lines, text_at}
 use Rattle.snippet_parts.specs.LineTable.{LineEntry, entry_of, entries_from}
 use Rattle.snippet_parts.proofs.TableLemmas.{length-entries_from, entries_from-at}
 use Rattle.snippet_parts.proofs.source_map.SourceMap.text_of_line.Goals as goal

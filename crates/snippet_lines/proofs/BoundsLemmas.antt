@@ -1,0 +1,268 @@
+-- The line around a byte, by the line feeds next to it.
+use Rattle.std.proofs.Common.{◌≡◌, ◌≢◌, ℕ, zero, suc, ◌+◌, ◌-◌, ◌<◌, ◌≤◌, ◌⊎◌, ◌↔◌, inl, inr, cond, List, [], ◌∷◌, ◌++◌, All, count_by, length, min, take, drop, get_or, refl, sym, ap, subst, ◌∙◌, ⊎_elim, arith, append_assoc}
+use Rattle.std.proofs.lemmas.List.{append-nil, length-append, take_at, drop_at, take-append-drop, drop-drop, length-take-le, length-drop, get_or-take, get_or-drop, get_or_default, drop_all, drop_more, nil_from_length}
+use Rattle.std.specs.Str.{IsUtf8, IsCharBoundary}
+use Rattle.std.proofs.lemmas.Str.{IsCharBoundary-from_drop}
+use Rattle.std.proofs.lemmas.List.Concat.{flat_map-append}
+use Rattle.std.proofs.lemmas.List.Elements.{All-nil, All-cons, All-same, All-take, All-push}
+use Rattle.std.proofs.lemmas.List.Sums.{sum_by-append}
+use Rattle.std.proofs.lemmas.Bool.{cases_lt, eqb-true}
+use Rattle.snippet_lines.specs.declared.lines.EndLine.{EndLine}
+use Rattle.snippet_lines.specs.declared.lines.EndLine.TheVariants.{Eof, Lf, Crlf}
+use Rattle.snippet_lines.specs.Lines.{Line, end_bytes, line_bytes, joined, last_byte, IsLine, AreLines, AreLinesOf, lines_of, source_lines, is_lf, text_at, start_of, IsOneLine}
+use Rattle.snippet_lines.specs.Place.{HoldsByte, line_of}
+use Rattle.snippet_lines.proofs.LinesLemmas.{split_last, joined-lines_of, lines_of-append, length-lines_of, source_lines-some, start_of-end, start_of-le, start_of-next, joined-source_lines, AreLinesOf-source_lines, IsUtf8-line}
+use Rattle.snippet_lines.proofs.CursorLemmas.{count_by-none, lines_of-first}
+use Rattle.snippet_lines.proofs.PlaceLemmas.{HoldsByte-source, line_of-is, line_of-within, start_of-inside}
+
+-- the bytes from `start` up to `end` are the line around byte `at`
+pub record IsLineAround (source : List ℕ) (at start end : ℕ) : Type 0 where
+  pub before : start ≤ at
+  pub behind : at < end
+  pub within : end ≤ length source
+  pub opens : 0 < start → get_or source (start - 1) 0 ≡ 10
+  pub closes : (get_or source (end - 1) 0 ≡ 10) ⊎ (end ≡ length source)
+  pub none_before : (j : ℕ) → start ≤ j → j < at → get_or source j 0 ≢ 10
+  pub none_behind : (j : ℕ) → at ≤ j → j + 1 < end → get_or source j 0 ≢ 10
+
+-- what is one line and isn't empty is cut into one line
+length-one : (line : List ℕ) → 0 < length line → IsOneLine line → length (lines_of line) ≡ 1
+length-one [] some one = absurd (omega arith)
+length-one (b ∷ bs) some one =
+    let line : List ℕ = b ∷ bs in
+    let front : List ℕ = take (length line - 1) line in
+    let none : count_by is_lf front ≡ 0 = count_by-none is_lf front (λ k within is. one k 0 within (eqb-true (get_or front k 0) 10 is)) in
+    let split : line ≡ front ++ last_byte line ∷ [] = split_last line some in
+    let count : count_by is_lf line ≡ count_by is_lf front + count_by is_lf (last_byte line ∷ []) = ap (count_by is_lf) split ∙ sum_by-append (λ c. cond (is_lf c) 1 0) front (last_byte line ∷ []) in
+    let last : count_by is_lf (last_byte line ∷ []) ≡ cond (is_lf (last_byte line)) 1 0 = (let e : 0 + cond {A = ℕ} (is_lf (last_byte line)) 1 0 ≡ cond (is_lf (last_byte line)) 1 0 = omega arith in e) in
+    omega (arith, length-lines_of b bs)
+
+module _ (source : List ℕ) (at start end : ℕ) (around : IsLineAround source at start end) where
+  before_it : List ℕ
+  before_it = take start source
+
+  the_line : List ℕ
+  the_line = take (end - start) (drop start source)
+
+  behind_it : List ℕ
+  behind_it = drop end source
+
+  length-before_it : length before_it ≡ start
+  unfolding before_it
+  length-before_it = length-take-le start source (omega (arith, around.before, around.behind, around.within))
+
+  length-the_line : length the_line ≡ end - start
+  unfolding the_line
+  length-the_line = length-take-le (end - start) (drop start source) (omega (arith, length-drop start source, around.before, around.behind, around.within))
+
+  three_parts : source ≡ before_it ++ (the_line ++ behind_it)
+  unfolding before_it the_line behind_it
+  three_parts =
+      let n : start + (end - start) ≡ end = omega (arith, around.before, around.behind) in
+      let back : drop (end - start) (drop start source) ≡ drop end source = drop-drop (end - start) start source ∙ ap (λ m. drop m source) n in
+      sym (take-append-drop start source) ∙ ap (λ bs. take start source ++ bs) (sym (take-append-drop (end - start) (drop start source)) ∙ ap (λ bs. take (end - start) (drop start source) ++ bs) back)
+
+  opens_behind_lf : 0 < length before_it → last_byte before_it ≡ 10
+  unfolding before_it
+  opens_behind_lf some =
+      let n : length (take start source) ≡ start = length-before_it in
+      ap (λ m. get_or (take start source) (m - 1) 0) n ∙ get_or-take start source (start - 1) 0 (omega arith) ∙ around.opens (omega arith)
+
+  read : (k : ℕ) → k < end - start → get_or the_line k 0 ≡ get_or source (start + k) 0
+  unfolding the_line
+  read k within = get_or-take (end - start) (drop start source) k 0 within ∙ get_or-drop start source k 0
+
+  line_is_one : IsOneLine the_line
+  line_is_one = λ k d within is.
+      let n : length the_line ≡ end - start = length-the_line in
+      let m : length (take (length the_line - 1) the_line) ≡ length the_line - 1 = length-take-le (length the_line - 1) the_line (omega arith) in
+      let same : get_or the_line k 0 ≡ 10 = get_or_default the_line k 0 d (omega arith) ∙ sym (get_or-take (length the_line - 1) the_line k d (omega arith)) ∙ is in
+      let lf : get_or source (start + k) 0 ≡ 10 = sym (read k (omega arith)) ∙ same in
+      ⊎_elim (λ early. around.none_before (start + k) (omega arith) early lf) (λ late. around.none_behind (start + k) late (omega arith) lf) (cases_lt (start + k) at)
+
+  closes_with_lf : (last_byte the_line ≡ 10) ⊎ (behind_it ≡ [])
+  unfolding behind_it
+  closes_with_lf =
+      let n : length the_line ≡ end - start = length-the_line in
+      let last : last_byte the_line ≡ get_or source (end - 1) 0 = ap (λ m. get_or the_line (m - 1) 0) n ∙ read (end - start - 1) (omega (arith, around.before, around.behind)) ∙ (let e : start + (end - start - 1) ≡ end - 1 = omega (arith, around.before, around.behind) in ap (λ m. get_or source m 0) e) in
+      ⊎_elim (λ lf. inl (last ∙ lf)) (λ all. inr (drop_all end source (omega (arith, all)))) around.closes
+
+  some_line : 0 < length the_line
+  some_line = omega (arith, length-the_line, around.before, around.behind)
+
+  tail_lines : lines_of (the_line ++ behind_it) ≡ lines_of the_line ++ lines_of behind_it
+  tail_lines =
+      ⊎_elim (λ lf. lines_of-append the_line behind_it (λ _. lf))
+      (λ none. ap (λ bs. lines_of (the_line ++ bs)) none ∙ ap lines_of (append-nil the_line) ∙ sym (append-nil (lines_of the_line)) ∙ ap (λ bs. lines_of the_line ++ lines_of bs) (sym none))
+      closes_with_lf
+
+  all_lines : source_lines source ≡ lines_of before_it ++ (lines_of the_line ++ lines_of behind_it)
+  all_lines =
+      source_lines-some source (omega (arith, around.behind, around.within)) ∙ ap lines_of three_parts ∙ lines_of-append before_it (the_line ++ behind_it) opens_behind_lf ∙ ap (λ ls. lines_of before_it ++ ls) tail_lines
+
+  -- which line it is
+  index_of_it : ℕ
+  index_of_it = length (lines_of before_it)
+
+  start_is : start_of (source_lines source) index_of_it ≡ start
+  unfolding start_of index_of_it
+  start_is =
+      ap (λ ls. length (joined (take (length (lines_of before_it)) ls))) all_lines ∙ ap (λ ls. length (joined ls)) (take_at (lines_of before_it) (lines_of the_line ++ lines_of behind_it) (length (lines_of before_it)) refl) ∙ ap length (joined-lines_of before_it) ∙ length-before_it
+
+  end_is : start_of (source_lines source) (index_of_it + 1) ≡ end
+  unfolding start_of index_of_it
+  end_is =
+      let one : length (lines_of the_line) ≡ 1 = length-one the_line some_line line_is_one in
+      let n : length (lines_of before_it ++ lines_of the_line) ≡ length (lines_of before_it) + 1 = omega (arith, length-append (lines_of before_it) (lines_of the_line)) in
+      let split : source_lines source ≡ (lines_of before_it ++ lines_of the_line) ++ lines_of behind_it = all_lines ∙ sym (append_assoc (lines_of before_it) (lines_of the_line) (lines_of behind_it)) in
+      ap (λ ls. length (joined (take (length (lines_of before_it) + 1) ls))) split ∙ ap (λ ls. length (joined ls)) (take_at (lines_of before_it ++ lines_of the_line) (lines_of behind_it) (length (lines_of before_it) + 1) n) ∙ ap length (flat_map-append line_bytes (lines_of before_it) (lines_of the_line)) ∙ length-append (joined (lines_of before_it)) (joined (lines_of the_line)) ∙ (let e : length (joined (lines_of before_it)) + length (joined (lines_of the_line)) ≡ end = omega (arith, ap length (joined-lines_of before_it), ap length (joined-lines_of the_line), length-before_it, length-the_line, around.before, around.behind) in e)
+
+  index_within : index_of_it < length (source_lines source)
+  unfolding index_of_it
+  index_within =
+      let one : length (lines_of the_line) ≡ 1 = length-one the_line some_line line_is_one in
+      omega (arith, ap length all_lines, length-append (lines_of before_it) (lines_of the_line ++ lines_of behind_it), length-append (lines_of the_line) (lines_of behind_it))
+
+  -- it holds each byte in it, and each behind its start if it ends where the source does
+  holds : (b : ℕ) → start ≤ b → (b < end) ⊎ (end ≡ length source) → HoldsByte (source_lines source) b index_of_it
+  holds b from to = record {
+    within = index_within;
+    from = omega (arith, start_is);
+    to = λ more. ⊎_elim (λ inside. omega (arith, end_is)) (λ last. absurd (omega (arith, end_is, start_of-inside source index_of_it more))) to;
+  }
+
+  line_of-around : (b : ℕ) → start ≤ b → (b < end) ⊎ (end ≡ length source) → line_of (source_lines source) b ≡ index_of_it
+  line_of-around b from to = line_of-is (source_lines source) b index_of_it (holds b from to)
+
+  pub start-around : (b : ℕ) → start ≤ b → (b < end) ⊎ (end ≡ length source) → start ≡ start_of (source_lines source) (line_of (source_lines source) b)
+  start-around b from to = sym start_is ∙ ap (start_of (source_lines source)) (sym (line_of-around b from to))
+
+  pub end-around : (b : ℕ) → start ≤ b → (b < end) ⊎ (end ≡ length source) → end ≡ start_of (source_lines source) (line_of (source_lines source) b + 1)
+  end-around b from to = sym end_is ∙ ap (λ k. start_of (source_lines source) (k + 1)) (sym (line_of-around b from to))
+
+-- which other bytes are on a byte's line
+pub same_line : (source : List ℕ) (byte start end : ℕ) → start ≡ start_of (source_lines source) (line_of (source_lines source) byte) → end ≡ start_of (source_lines source) (line_of (source_lines source) byte + 1) → (b : ℕ) → (line_of (source_lines source) b ≡ line_of (source_lines source) byte) ↔ ((start ≤ b) × ((b < end) ⊎ (end ≡ length source)))
+same_line source byte start end start_is end_is b =
+    let ls : List Line = source_lines source in
+    let k : ℕ = line_of ls byte in
+    let within : k < length ls = line_of-within source byte in (
+      λ same.
+          let there : HoldsByte ls b k = subst (HoldsByte ls b) same (HoldsByte-source source b) in
+          (omega (arith, there.from), ⊎_elim (λ more. inl (omega (arith, there.to more))) (λ last. inr (end_is ∙ start_of-end ls (k + 1) last ∙ ap length (joined-source_lines source))) (cases_lt (k + 1) (length ls))),
+      λ (from, to).
+          line_of-is ls b k (record {
+            within = within;
+            from = omega arith;
+            to = λ more. ⊎_elim (λ inside. omega arith) (λ last. absurd (omega (arith, start_of-inside source k more))) to;
+          }),
+    )
+
+-- an empty source has its one line from 0 to 0
+pub start_of-empty : (source : List ℕ) (k : ℕ) → length source ≡ 0 → start_of (source_lines source) k ≡ 0
+start_of-empty source k none =
+    let ls : List Line = source_lines source in
+    omega (arith, start_of-le ls k (k + length ls) (omega arith), start_of-end ls (k + length ls) (omega arith), ap length (joined-source_lines source))
+
+-- the bounds that are found around the byte `at`, which is `byte` or the last one, are those of the line that holds `byte`
+pub bounds-around : (source : List ℕ) (byte at start end : ℕ) → at ≡ min byte (length source - 1) → start ≤ at → (0 < start → get_or source (start - 1) 0 ≡ 10) → ((j : ℕ) → start ≤ j → j < at → get_or source j 0 ≢ 10) → end ≤ length source → (at < length source → at < end) → (get_or source (end - 1) 0 ≡ 10) ⊎ (end ≡ length source) → ((j : ℕ) → at ≤ j → j + 1 < end → get_or source j 0 ≢ 10) → (start ≡ start_of (source_lines source) (line_of (source_lines source) byte)) × (end ≡ start_of (source_lines source) (line_of (source_lines source) byte + 1))
+bounds-around source byte at start end at_is before opens none_before within behind closes none_behind =
+    let ls : List Line = source_lines source in
+    ⊎_elim (λ some.
+    let around : IsLineAround source at start end = record {
+      before = before;
+      behind = behind (omega arith);
+      within = within;
+      opens = opens;
+      closes = closes;
+      none_before = none_before;
+      none_behind = none_behind;
+    } in
+    let to : (byte < end) ⊎ (end ≡ length source) = ⊎_elim (λ inside. inl (omega (arith, behind (omega arith)))) (λ last. inr (omega (arith, behind (omega arith)))) (cases_lt byte (length source)) in
+    (start-around source at start end around byte (omega arith) to, end-around source at start end around byte (omega arith) to))
+    (λ empty.
+    let none : length source ≡ 0 = omega arith in
+    (omega (arith, start_of-empty source (line_of ls byte) none), omega (arith, start_of-empty source (line_of ls byte + 1) none)))
+    (cases_lt 0 (length source))
+
+-- ---- the bytes and the text of a line
+
+-- the lines from line k on are the source from there on
+drop_lines : (ls : List Line) (k : ℕ) → drop (start_of ls k) (joined ls) ≡ joined (drop k ls)
+unfolding start_of
+drop_lines ls k =
+    ap (drop (length (joined (take k ls)))) (ap joined (sym (take-append-drop k ls)) ∙ flat_map-append line_bytes (take k ls) (drop k ls)) ∙ drop_at (joined (take k ls)) (joined (drop k ls)) (length (joined (take k ls))) refl
+
+-- a line's bytes stand from its start to the next line's
+pub line_bytes-slice : (source : List ℕ) (k : ℕ) → k < length (source_lines source) → take (start_of (source_lines source) (k + 1) - start_of (source_lines source) k) (drop (start_of (source_lines source) k) source) ≡ line_bytes (get_or (source_lines source) k ([], Eof))
+line_bytes-slice source k within =
+    let ls : List Line = source_lines source in
+    let l : Line = get_or ls k ([], Eof) in
+    let n : length (line_bytes l) ≡ start_of ls (k + 1) - start_of ls k = omega (arith, start_of-next ls k ([], Eof) within) in
+    ap (λ s. take (start_of ls (k + 1) - start_of ls k) (drop (start_of ls k) s)) (sym (joined-source_lines source)) ∙ ap (take (start_of ls (k + 1) - start_of ls k)) (drop_lines ls k ∙ ap joined (drop_more ls k ([], Eof) within)) ∙ take_at (line_bytes l) (joined (drop (k + 1) ls)) (start_of ls (k + 1) - start_of ls k) n
+
+-- what stands between the bounds of the line that holds a byte is that line
+pub line_bytes-between : (line source : List ℕ) (byte start end : ℕ) → line ≡ take (end - start) (drop start source) → start ≡ start_of (source_lines source) (line_of (source_lines source) byte) → end ≡ start_of (source_lines source) (line_of (source_lines source) byte + 1) → line ≡ line_bytes (get_or (source_lines source) (line_of (source_lines source) byte) ([], Eof))
+line_bytes-between line source byte start end is start_is end_is =
+    let k : ℕ = line_of (source_lines source) byte in
+    is ∙ ap (λ n. take (end - n) (drop n source)) start_is ∙ ap (λ n. take (n - start_of (source_lines source) k) (drop (start_of (source_lines source) k) source)) end_is ∙ line_bytes-slice source k (line_of-within source byte)
+
+IsUtf8-from_line : (ls : List Line) (k : ℕ) → AreLines ls → IsUtf8 (joined ls) → IsUtf8 (joined (drop k ls))
+IsUtf8-from_line ls zero lines utf8 = utf8
+IsUtf8-from_line [] (suc k) lines utf8 = utf8
+IsUtf8-from_line (l ∷ ls) (suc k) lines utf8 = IsUtf8-from_line ls k lines.2 (IsUtf8-line l.0 l.1 (joined ls) (λ is. ap joined (lines.1 is).1) utf8).1
+
+-- a source may be cut where a line starts
+pub IsCharBoundary-start_of : (source : List ℕ) (k : ℕ) → IsUtf8 source → IsCharBoundary source (start_of (source_lines source) k)
+IsCharBoundary-start_of source k utf8 =
+    let ls : List Line = source_lines source in
+    let are : AreLinesOf source ls = AreLinesOf-source_lines source in
+    let inside : start_of ls k ≤ length source = omega (arith, start_of-le ls k (k + length ls) (omega arith), start_of-end ls (k + length ls) (omega arith), ap length are.whole) in
+    ⊎_elim (λ one.
+    let none : length source ≡ 0 = omega (arith, ap (λ ms. length (joined ms)) one, ap length are.whole) in
+    (inside, λ before high. absurd (omega arith)))
+    (λ (some, lines). IsCharBoundary-from_drop source (start_of ls k) inside (subst IsUtf8 (sym (ap (drop (start_of ls k)) (sym are.whole) ∙ drop_lines ls k)) (IsUtf8-from_line ls k lines (subst IsUtf8 (sym are.whole) utf8))))
+    are.lines
+
+IsLine-each : (ls : List Line) → AreLines ls → All IsLine ls
+IsLine-each [] lines = All-nil IsLine
+IsLine-each (l ∷ ls) lines = All-cons IsLine l ls lines.0 (IsLine-each ls lines.2)
+
+-- each line of a source is a line
+pub IsLine-at : (source : List ℕ) (k : ℕ) → k < length (source_lines source) → IsLine (get_or (source_lines source) k ([], Eof))
+IsLine-at source k within =
+    let ls : List Line = source_lines source in
+    let empty : IsLine ([], Eof) = record { no_lf = All-nil (λ b. b ≢ 10); no_cr = λ e. cc } in
+    ⊎_elim (λ one. All-same IsLine ls (([], Eof) ∷ []) one (All-cons IsLine ([], Eof) [] empty (All-nil IsLine)) k ([], Eof) within)
+    (λ (some, lines). IsLine-each ls lines k ([], Eof) within) (AreLinesOf-source_lines source).lines
+
+IsOneLine-bytes : (text : List ℕ) (ending : EndLine) → All (λ b. b ≢ 10) text → IsOneLine (text ++ end_bytes ending)
+IsOneLine-bytes text Eof none = subst IsOneLine (sym (append-nil text)) (All-take (λ b. b ≢ 10) (length text - 1) text none)
+IsOneLine-bytes text Lf none =
+    let n : length text ≡ length (text ++ 10 ∷ []) - 1 = omega (arith, length-append text (10 ∷ [])) in
+    subst (All (λ b. b ≢ 10)) (sym (take_at text (10 ∷ []) (length (text ++ 10 ∷ []) - 1) n)) none
+IsOneLine-bytes text Crlf none =
+    let n : length (text ++ 13 ∷ []) ≡ length (text ++ 13 ∷ 10 ∷ []) - 1 = omega (arith, length-append text (13 ∷ 10 ∷ []), length-append text (13 ∷ [])) in
+    let split : text ++ 13 ∷ 10 ∷ [] ≡ (text ++ 13 ∷ []) ++ 10 ∷ [] = sym (append_assoc text (13 ∷ []) (10 ∷ [])) in
+    let front : take (length (text ++ 13 ∷ 10 ∷ []) - 1) (text ++ 13 ∷ 10 ∷ []) ≡ text ++ 13 ∷ [] = ap (take (length (text ++ 13 ∷ 10 ∷ []) - 1)) split ∙ take_at (text ++ 13 ∷ []) (10 ∷ []) (length (text ++ 13 ∷ 10 ∷ []) - 1) n in
+    subst (All (λ b. b ≢ 10)) (sym front) (All-push (λ b. b ≢ 10) text 13 none (λ e. absurd (omega arith)))
+
+-- a line's bytes are one line
+pub IsOneLine-line : (l : Line) → IsLine l → IsOneLine (line_bytes l)
+IsOneLine-line l line = IsOneLine-bytes l.0 l.1 line.no_lf
+
+last_byte-no_lf : (text : List ℕ) → All (λ b. b ≢ 10) text → last_byte text ≢ 10
+last_byte-no_lf [] none = λ is. absurd (omega arith)
+last_byte-no_lf (b ∷ bs) none = none (length (b ∷ bs) - 1) 0 (omega arith)
+
+-- the bytes of a line tell its text
+pub text-only : (line text : List ℕ) (ending : EndLine) (l : Line) → line ≡ line_bytes (text, ending) → IsLine (text, ending) → (ending ≡ Eof → last_byte line ≢ 10) → line ≡ line_bytes l → IsLine l → text ≡ l.0
+text-only line text ending l line_is fits no_end l_is l_fits =
+    let l_no_end : l.1 ≡ Eof → last_byte line ≢ 10 = λ eof is. last_byte-no_lf l.0 l_fits.no_lf (sym (ap last_byte (l_is ∙ ap (λ e. l.0 ++ end_bytes e) eof ∙ append-nil l.0)) ∙ is) in
+    let alone : (line ≡ line ++ []) = sym (append-nil line) in
+    ⊎_elim (λ some.
+    let one : lines_of line ≡ (text, ending) ∷ [] = lines_of-first line line [] text ending alone some (inr refl) line_is fits no_end in
+    let other : lines_of line ≡ (l.0, l.1) ∷ [] = lines_of-first line line [] l.0 l.1 alone some (inr refl) l_is l_fits l_no_end in
+    ap (λ ls. text_at ls 0) (sym one ∙ other))
+    (λ empty.
+    nil_from_length text (omega (arith, ap length line_is, length-append text (end_bytes ending))) ∙ sym (nil_from_length l.0 (omega (arith, ap length l_is, length-append l.0 (end_bytes l.1)))))
+    (cases_lt 0 (length line))

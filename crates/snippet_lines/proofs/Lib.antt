@@ -1,0 +1,5 @@
+pub mod BoundsLemmas
+pub mod CountLemmas
+pub mod CursorLemmas
+pub mod LinesLemmas
+pub mod PlaceLemmas

@@ -1,0 +1,181 @@
+-- Laws of the line that holds a byte, and of the place of a byte.
+use Rattle.std.proofs.Common.{◌≡◌, ◌≢◌, ℕ, zero, suc, ◌+◌, ◌-◌, ◌<◌, ◌≤◌, true, eqb, ltb, min, List, [], ◌∷◌, length, drop, get_or, refl, ap, ◌∙◌, ⊎_elim, arith, add-zero}
+use Rattle.std.specs.Str.{IsCharBoundary, chars}
+use Rattle.std.proofs.lemmas.List.{get_or-take, get_or-drop}
+use Rattle.std.proofs.lemmas.Bool.{cases_lt, cases_order, cond_both, ltb-true, ltb-false, cond-true, cond-false, eq-eqb, ne_eqb}
+use Rattle.snippet_lines.specs.declared.lines.EndLine.{EndLine}
+use Rattle.snippet_lines.specs.declared.lines.EndLine.TheVariants.{Eof, Lf, Crlf}
+use Rattle.snippet_lines.specs.Lines.{Line, line_bytes, AreLines, AreLinesOf, source_lines, text_at, start_of, Source}
+use Rattle.snippet_text.specs.Width.{char_width, width_of}
+use Rattle.snippet_lines.specs.Place.{HoldsByte, line_of, prefix_at, place_of, location_of, steps_behind_text, start_location, end_location, locations_of}
+use Rattle.snippet_lines.specs.Span.{IsSpanBorder}
+use Rattle.snippet_lines.proofs.LinesLemmas.{start_of-zero, start_of-cons, start_of-le, start_of-end, start_of-next, AreLinesOf-source_lines, joined-source_lines, length-source_lines, text_at-stands, text_at-within}
+
+-- a line holds the byte that `line_of` looks for
+pub HoldsByte-line_of : (ls : List Line) (b : ℕ) → 0 < length ls → HoldsByte ls b (line_of ls b)
+unfolding line_of
+HoldsByte-line_of [] b some = absurd (omega arith)
+HoldsByte-line_of (l ∷ []) b some = record { within = omega arith; from = omega (arith, start_of-zero (l ∷ [])); to = λ more. absurd (omega arith) }
+HoldsByte-line_of (l ∷ m ∷ ls) b some =
+    let n : ℕ = length (line_bytes l) in
+    let k : ℕ = line_of (m ∷ ls) (b - n) in
+    let rest : HoldsByte (m ∷ ls) (b - n) k = HoldsByte-line_of (m ∷ ls) (b - n) (omega arith) in
+    cond_both (ltb b n) 0 (k + 1) (HoldsByte (l ∷ m ∷ ls) b)
+    (λ is. record {
+      within = omega arith;
+      from = omega (arith, start_of-zero (l ∷ m ∷ ls));
+      to = λ _. let first : start_of (l ∷ m ∷ ls) (0 + 1) ≡ n + start_of (m ∷ ls) 0 = start_of-cons l (m ∷ ls) 0 in omega (arith, start_of-zero (m ∷ ls), ltb-true b n is);
+    })
+    (λ is_not. record {
+      within = omega (arith, rest.within);
+      from = omega (arith, start_of-cons l (m ∷ ls) k, ltb-false b n is_not, rest.from);
+      to = λ more. omega (arith, start_of-cons l (m ∷ ls) (k + 1), ltb-false b n is_not, rest.to (omega arith));
+    })
+
+-- and only one line does
+pub HoldsByte-only : (ls : List Line) (b j k : ℕ) → HoldsByte ls b j → HoldsByte ls b k → j ≡ k
+HoldsByte-only ls b j k left right =
+    ⊎_elim (λ same. same)
+    (⊎_elim (λ below. absurd (omega (arith, left.to (omega (arith, right.within)), right.from, start_of-le ls (j + 1) k (omega arith))))
+    (λ above. absurd (omega (arith, right.to (omega (arith, left.within)), left.from, start_of-le ls (k + 1) j (omega arith)))))
+    (cases_order j k)
+
+-- the line that holds a byte is the one that `line_of` finds
+pub line_of-is : (ls : List Line) (b k : ℕ) → HoldsByte ls b k → line_of ls b ≡ k
+line_of-is ls b k holds = HoldsByte-only ls b (line_of ls b) k (HoldsByte-line_of ls b (omega (arith, holds.within))) holds
+
+length-source_lines-pos : (source : List ℕ) → 0 < length (source_lines source)
+length-source_lines-pos source = omega (arith, length-source_lines source)
+
+-- each byte of a source is on one of its lines
+pub HoldsByte-source : (source : List ℕ) (b : ℕ) → HoldsByte (source_lines source) b (line_of (source_lines source) b)
+HoldsByte-source source b = HoldsByte-line_of (source_lines source) b (length-source_lines-pos source)
+
+pub line_of-within : (source : List ℕ) (b : ℕ) → line_of (source_lines source) b < length (source_lines source)
+line_of-within source b = (HoldsByte-source source b).within
+
+-- a later byte is on the same line or on a later one
+pub line_of-mono : (ls : List Line) (b c : ℕ) → 0 < length ls → b ≤ c → line_of ls b ≤ line_of ls c
+line_of-mono ls b c some le =
+    let left : HoldsByte ls b (line_of ls b) = HoldsByte-line_of ls b some in
+    let right : HoldsByte ls c (line_of ls c) = HoldsByte-line_of ls c some in
+    ⊎_elim (λ after. absurd (omega (arith, right.to (omega (arith, left.within)), left.from, start_of-le ls (line_of ls c + 1) (line_of ls b) (omega arith))))
+    (λ ok. ok) (cases_lt (line_of ls c) (line_of ls b))
+
+line_bytes-some : (ls : List Line) (k : ℕ) → AreLines ls → k < length ls → 0 < length (line_bytes (get_or ls k ([], Eof)))
+line_bytes-some [] k are within = absurd (omega arith)
+line_bytes-some (l ∷ ls) zero are within = line_some l.0 l.1 (λ eof. (are.1 eof).0)
+  where
+    line_some : (text : List ℕ) (ending : EndLine) → (ending ≡ Eof → 0 < length text) → 0 < length (line_bytes (text, ending))
+    line_some [] Eof some = absurd (omega (arith, some refl))
+    line_some [] Lf some = omega arith
+    line_some [] Crlf some = omega arith
+    line_some (b ∷ text) ending some = omega arith
+line_bytes-some (l ∷ ls) (suc k) are within = line_bytes-some ls k are.2 (omega arith)
+
+-- no line but the last ends where the source does
+pub start_of-inside : (source : List ℕ) (k : ℕ) → k + 1 < length (source_lines source) → start_of (source_lines source) (k + 1) < length source
+start_of-inside source k more =
+    let ls : List Line = source_lines source in
+    let are : AreLinesOf source ls = AreLinesOf-source_lines source in
+    ⊎_elim (λ one. absurd (omega (arith, ap length one)))
+    (λ (some, lines). omega (arith, start_of-next ls (k + 1) ([], Eof) more, line_bytes-some ls (k + 1) lines more, start_of-le ls (k + 1 + 1) (k + 1 + 1 + length ls) (omega arith), start_of-end ls (k + 1 + 1 + length ls) (omega arith), ap length are.whole))
+    are.lines
+
+-- ---- the place of a byte
+
+-- the bytes of a line's text are those of the source from the line's start on
+text_at-byte : (source : List ℕ) (k i : ℕ) → k < length (source_lines source) → i < length (text_at (source_lines source) k) → get_or (text_at (source_lines source) k) i 0 ≡ get_or source (start_of (source_lines source) k + i) 0
+text_at-byte source k i within inside =
+    let ls : List Line = source_lines source in
+    let n : ℕ = length (text_at ls k) in
+    ap (λ t. get_or t i 0) (text_at-stands source k within) ∙ get_or-take n (drop (start_of ls k) source) i 0 inside ∙ get_or-drop (start_of ls k) source i 0
+
+-- a line's text ends within the source
+pub text_at-end : (source : List ℕ) (k : ℕ) → k < length (source_lines source) → start_of (source_lines source) k + length (text_at (source_lines source) k) ≤ length source
+text_at-end source k within =
+    let ls : List Line = source_lines source in
+    omega (arith, text_at-within ls k within, start_of-le ls (k + 1) (k + 1 + length ls) (omega arith), start_of-end ls (k + 1 + length ls) (omega arith), ap length (joined-source_lines source))
+
+-- what stands before a byte on its line ends where a character does, if a span may start or end at the byte
+pub IsCharBoundary-prefix : (source : List ℕ) (b : ℕ) → IsSpanBorder source b → IsCharBoundary (text_at (source_lines source) (line_of (source_lines source) b)) (min (b - start_of (source_lines source) (line_of (source_lines source) b)) (length (text_at (source_lines source) (line_of (source_lines source) b))))
+IsCharBoundary-prefix source b border =
+    let ls : List Line = source_lines source in
+    let k : ℕ = line_of ls b in
+    let text : List ℕ = text_at ls k in
+    let holds : HoldsByte ls b k = HoldsByte-source source b in
+    let from : start_of ls k ≤ b = holds.from in
+    let within : start_of ls k + length text ≤ length source = text_at-end source k holds.within in (
+      omega arith,
+      λ inside high.
+          let i : ℕ = min (b - start_of ls k) (length text) in
+          let at : start_of ls k + i ≡ b = omega arith in
+          let same : get_or text i 0 ≡ get_or source b 0 = text_at-byte source k i holds.within inside ∙ ap (λ n. get_or source n 0) at in
+          ⊎_elim (λ boundary. let lead : 192 ≤ get_or source b 0 = boundary.1 (omega arith) (omega arith) in omega arith) (λ behind. absurd (omega arith)) border,
+    )
+
+pub place_of-line : (source : List ℕ) (b : ℕ) → (place_of source b).line ≡ line_of (source_lines source) b
+unfolding place_of
+place_of-line source b = refl
+
+pub place_of-character : (source : List ℕ) (b : ℕ) → (place_of source b).character ≡ length (chars (prefix_at (source_lines source) (line_of (source_lines source) b) b))
+unfolding place_of
+place_of-character source b = refl
+
+pub place_of-column : (source : List ℕ) (b : ℕ) → (place_of source b).column ≡ width_of (chars (prefix_at (source_lines source) (line_of (source_lines source) b) b))
+unfolding place_of
+place_of-column source b = refl
+
+-- ---- the locations of a span
+
+pub locations_of-start : (s : Source) (start end : ℕ) → (locations_of s start end).0 ≡ start_location s start
+unfolding locations_of
+locations_of-start s start end = refl
+
+-- of an empty span
+pub locations_of-empty : (s : Source) (at : ℕ) → (locations_of s at at).1 ≡ start_location s at
+unfolding locations_of
+locations_of-empty s at = cond-true (eqb at at) (start_location s at) (end_location s at at) (eq-eqb at at refl)
+
+-- of a span that isn't empty
+pub locations_of-end : (s : Source) (start end : ℕ) → start ≢ end → (locations_of s start end).1 ≡ end_location s start end
+unfolding locations_of
+locations_of-end s start end some =
+    cond-false (eqb start end) (start_location s start) (end_location s start end) (ne_eqb start end some)
+
+pub start_location-line : (s : Source) (start : ℕ) → (start_location s start).line ≡ s.first + line_of (source_lines s.text) start
+unfolding start_location location_of place_of
+start_location-line s start = refl
+
+pub start_location-column : (s : Source) (start : ℕ) → (start_location s start).display ≡ (place_of s.text start).column
+unfolding start_location location_of
+start_location-column s start = refl
+
+pub end_location-line : (s : Source) (start end : ℕ) → (end_location s start end).line ≡ s.first + line_of (source_lines s.text) end
+unfolding end_location location_of place_of
+end_location-line s start end = refl
+
+-- a span on one line ends at the column of its end's place
+pub end_location-column : (s : Source) (start end : ℕ) → line_of (source_lines s.text) start ≡ line_of (source_lines s.text) end → (end_location s start end).display ≡ (place_of s.text end).column
+unfolding end_location location_of place_of
+end_location-column s start end same =
+    let one : eqb (s.first + line_of (source_lines s.text) start) (s.first + line_of (source_lines s.text) end) ≡ true = eq-eqb (s.first + line_of (source_lines s.text) start) (s.first + line_of (source_lines s.text) end) (ap (λ k. s.first + k) same) in
+    let column : ℕ = width_of (chars (prefix_at (source_lines s.text) (line_of (source_lines s.text) end) end)) in
+    ap (λ n. column + n) (cond-true (eqb (s.first + line_of (source_lines s.text) start) (s.first + line_of (source_lines s.text) end)) 0 (steps_behind_text s.text end) one) ∙ add-zero column
+
+-- ---- worked
+
+-- in a tab, CR, LF and a tab, the byte inside CR LF stands at the end of the first line, behind the tab's four columns
+worked-inside_line_end : place_of (9 ∷ 13 ∷ 10 ∷ 9 ∷ []) 2 ≡ record { line = 0; character = 1; column = 4 }
+unfolding place_of line_of start_of chars char_width
+worked-inside_line_end = refl
+
+-- a start there is one character further, and the byte behind the source is on the last line
+worked-start : start_location (record { text = 9 ∷ 13 ∷ 10 ∷ 9 ∷ []; first = 7 }) 2 ≡ record { line = 7; char = 2; display = 4; byte = 2 }
+unfolding start_location location_of steps_behind_text place_of line_of start_of chars char_width
+worked-start = refl
+
+-- of a span over two lines the end behind the source is one character and one column further
+worked-span : locations_of (record { text = 9 ∷ 13 ∷ 10 ∷ 9 ∷ []; first = 7 }) 0 5 ≡ (record { line = 7; char = 0; display = 0; byte = 0 }, record { line = 8; char = 2; display = 5; byte = 5 })
+unfolding locations_of start_location end_location location_of steps_behind_text place_of line_of start_of chars char_width
+worked-span = refl

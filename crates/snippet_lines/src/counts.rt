@@ -1,0 +1,43 @@
+//! Counts of line feeds.
+ghost use Rattle.std.specs.Prelude.{◌≡◌, ◌≤◌, ◌==◌, count_by, length, take};
+ghost use Rattle.snippet_lines.specs.Lines.{is_lf, last_byte, newline_count};
+
+use memchr::memchr;
+
+/// The number of line feeds in a text.
+pub fn line_feed_count(text: &str) -> usize
+    ensures value { result ≡ count_by is_lf text.now }
+    ensures bound { result ≤ length text.now }
+{
+    count_line_feeds(text.as_bytes())
+}
+
+/// The number of line feeds in the first `end` bytes of a text, not counting one that ends those.
+pub fn newline_count_before(text: &str, end: usize) -> usize
+    ensures value { result ≡ newline_count (take end text.now) }
+    ensures bound { result ≤ length text.now }
+{
+    let front = &text.as_bytes()[..end.min(text.len())];
+    count_line_feeds(front).saturating_sub(usize::from(ends_with_line_feed(front)))
+}
+
+/// Whether a line feed ends some bytes.
+fn ends_with_line_feed(bytes: &[u8]) -> bool
+    ensures value { result ≡ (last_byte bytes.now == 10) }
+{
+    matches!(bytes, [.., b'\n'])
+}
+
+/// The number of line feeds in some bytes, from one find to the next.
+fn count_line_feeds(bytes: &[u8]) -> usize
+    ensures value { result ≡ count_by is_lf bytes.now }
+    ensures bound { result ≤ length bytes.now }
+{
+    let mut rest = bytes;
+    let mut count = 0;
+    while let Some(at) = memchr(b'\n', rest) {
+        count += 1;
+        rest = &rest[at + 1..];
+    }
+    count
+}

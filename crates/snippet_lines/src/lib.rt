@@ -1,0 +1,13 @@
+//! The lines of a source, and the places and spans in it.
+#![tactic(auto)]
+
+pub mod counts;
+pub mod line_bounds;
+pub mod lines;
+pub mod place;
+pub mod span;
+
+pub use counts::{line_feed_count, newline_count_before};
+pub use lines::{CursorLines, EndLine, newline_count};
+pub use place::Loc;
+pub use span::{SpanFault, check_span};
