@@ -2,7 +2,7 @@
 use Rattle.std.proofs.Common.{◌≡◌, ℕ, true, false, Some, None, List, [], ◌∷◌, refl}
 use Rattle.snippet_splice.specs.Trim.{kept_before, sandwich}
 use Rattle.snippet_splice.specs.Edits.{Edit, trimmed_edit, trimmed_edits, patched}
-use Rattle.snippet_splice.specs.Overlap.{overlap}
+use Rattle.snippet_splice.specs.Overlap.{overlap, first_overlap}
 use Rattle.snippet_splice.specs.Shown.{shown_text}
 use Rattle.snippet_splice.specs.Spliced.{last_line_reached, spliced_text, line_ranges}
 use Rattle.snippet_lines.specs.Lines.{start_of}
@@ -48,6 +48,15 @@ overlapping_swapped = refl
 
 beside : overlap (edit 1 3 []) (edit 0 1 []) ≡ false
 beside = refl
+
+-- of 5..6, 2..4, 0..1, 3..5 and 0..9 the first overlaps with the last alone, and the pair of the first is named
+named_pair : first_overlap (edit 5 6 [] ∷ edit 2 4 [] ∷ edit 0 1 [] ∷ edit 3 5 [] ∷ edit 0 9 [] ∷ []) ≡ Some (0, 4)
+unfolding first_overlap
+named_pair = refl
+
+no_pair : first_overlap (edit 1 3 [] ∷ edit 0 1 [] ∷ []) ≡ None
+unfolding first_overlap
+no_pair = refl
 
 -- `x` put before the `b` of `a` LF `b`: folded the one line `xb`, unfolded all
 folded : spliced_text true (97 ∷ 10 ∷ 98 ∷ []) (edit 2 2 (120 ∷ []) ∷ []) ≡ 120 ∷ 98 ∷ []

@@ -1,13 +1,15 @@
 -- Laws of edits that overlap.
-use Rattle.std.proofs.Common.{◌≡◌, ℕ, zero, suc, ◌+◌, ◌-◌, ◌<◌, ◌≤◌, false, cond, ◌&&◌, ◌||◌, eqb, ltb, List, [], ◌∷◌, length, map, get_or, All, sym, ap, subst, ◌∙◌, ⊎_elim, arith}
-use Rattle.std.proofs.lemmas.List.{get_or-map}
+use Rattle.std.proofs.Common.{◌≡◌, ℕ, zero, suc, ◌+◌, ◌-◌, ◌<◌, ◌≤◌, true, false, cond, ◌&&◌, ◌||◌, eqb, ltb, Bool, Option, Some, None, List, [], ◌∷◌, length, map, get_or, All, IfSome, IfNone, sym, ap, subst, ◌∙◌, ⊎_elim, arith, refl}
+use Rattle.std.specs.List.{position_from}
+use Rattle.std.specs.Option.{option_map, option_or}
+use Rattle.std.proofs.lemmas.List.{get_or-map, length-map}
 use Rattle.std.proofs.lemmas.List.Elements.{All-from_get_or, All-cons, All-head, All-tail, All-map}
-use Rattle.std.proofs.lemmas.Bool.{cases_Bool, cond-true, cond-false, ltb-false}
+use Rattle.std.proofs.lemmas.Bool.{cases_Bool, cond-true, cond-false, ltb-false, false_from_ne_true}
 use Rattle.std.proofs.lemmas.Bool.Decides.{nat_tests}
 use Rattle.snippet_model.specs.declared.snippet.Patch.{Patch}
 use Rattle.snippet_lines.specs.Span.{IsSpan}
 use Rattle.snippet_splice.specs.Edits.{Edit, edit_of, precedes, put_in, in_order, AreApart}
-use Rattle.snippet_splice.specs.Overlap.{overlap, overlap_at, no_edit, AreDisjoint}
+use Rattle.snippet_splice.specs.Overlap.{overlap, overlap_at, no_edit, AreDisjoint, AreOverlapping, IsFirstOverlap, first_overlap_from, first_overlap}
 
 pub edit-at : (ps : List Patch) (k : ℕ) (p : Patch) → k < length ps → p ≡ get_or ps k p → get_or (map edit_of ps) k no_edit ≡ edit_of p
 edit-at ps k p within is = get_or-map edit_of ps k p no_edit within ∙ ap edit_of (sym is)
@@ -37,10 +39,16 @@ far es steps ordered m (suc d) within =
     let e : m + d + 1 + 1 ≡ m + suc d + 1 = omega arith in
     subst (λ n. (get_or es m no_edit).end ≤ (get_or es n no_edit).start) e (omega (arith, far es steps ordered m d (omega arith), ordered (m + d + 1) (omega arith), steps (m + d + 1) (omega arith)))
 
-pub disjoint-in_order : (es : List Edit) → ((k : ℕ) → k + 1 < length es → (get_or es k no_edit).end ≤ (get_or es (k + 1) no_edit).start) → ((k : ℕ) → k < length es → (get_or es k no_edit).start ≤ (get_or es k no_edit).end) → AreDisjoint es
+disjoint-in_order : (es : List Edit) → ((k : ℕ) → k + 1 < length es → (get_or es k no_edit).end ≤ (get_or es (k + 1) no_edit).start) → ((k : ℕ) → k < length es → (get_or es k no_edit).start ≤ (get_or es k no_edit).end) → AreDisjoint es
 disjoint-in_order es steps ordered m n low high =
     let e : m + (n - m - 1) + 1 ≡ n = omega arith in
     overlap-behind (get_or es m no_edit) (get_or es n no_edit) (ordered m (omega arith)) (ordered n high) (subst (λ k. (get_or es m no_edit).end ≤ (get_or es k no_edit).start) e (far es steps ordered m (n - m - 1) (omega arith)))
+
+-- patches of which each ends at the start of the next or before it don't overlap
+pub disjoint-apart : (source : List ℕ) (ps : List Patch) → All (λ p. IsSpan source p.span.start p.span.end) ps → ((k : ℕ) → k + 1 < length ps → (get_or (map edit_of ps) k no_edit).end ≤ (get_or (map edit_of ps) (k + 1) no_edit).start) → AreDisjoint (map edit_of ps)
+disjoint-apart source ps spans apart =
+    let size : length (map edit_of ps) ≡ length ps = length-map ps edit_of in
+    disjoint-in_order (map edit_of ps) (λ k within. apart k (omega arith)) (λ k within. ordered-spans source ps spans k no_edit within)
 
 -- ---- edits that don't overlap stand apart once they are in order
 
@@ -75,3 +83,72 @@ apart-in_order (e ∷ es) ordered disjoint =
     clear-in_order [] all = all
     clear-in_order (d ∷ ds) all =
         clear-put d (in_order ds) (All-head (ClearOf e) d ds all) (clear-in_order ds (All-tail (ClearOf e) d ds all))
+
+-- ---- the pair that is named is the one that is computed
+
+-- two pairs of numbers
+same_pair : (a b c d : ℕ) → a ≡ c → b ≡ d → ◌≡◌ {A = Option (ℕ × ℕ)} (Some (a, b)) (Some (c, d))
+same_pair a b c d first second = cc
+
+position-found : (test : Edit → Bool) (i : ℕ) (es : List Edit) (k : ℕ) → k < length es → test (get_or es k no_edit) ≡ true → ((j : ℕ) → j < k → test (get_or es j no_edit) ≡ false) → position_from test i es ≡ Some (i + k)
+position-found test i [] k within passes before = absurd (omega arith)
+position-found test i (e ∷ es) zero within passes before =
+    let same : i ≡ i + 0 = omega arith in
+    cond-true (test e) (Some i) (position_from test (i + 1) es) passes ∙ ap (λ n. Some n) same
+position-found test i (e ∷ es) (suc k) within passes before =
+    let same : i + 1 + k ≡ i + suc k = omega arith in
+    cond-false (test e) (Some i) (position_from test (i + 1) es) (before 0 (omega arith)) ∙ position-found test (i + 1) es k (omega arith) passes (λ j low. before (suc j) (omega arith)) ∙ ap (λ n. Some n) same
+
+position-none : (test : Edit → Bool) (i : ℕ) (es : List Edit) → ((j : ℕ) → j < length es → test (get_or es j no_edit) ≡ false) → position_from test i es ≡ None
+position-none test i [] none = refl
+position-none test i (e ∷ es) none =
+    cond-false (test e) (Some i) (position_from test (i + 1) es) (none 0 (omega arith)) ∙ position-none test (i + 1) es (λ j low. none (suc j) (omega arith))
+
+-- overlapping edits, with one more in front
+overlapping-more : (e : Edit) (es : List Edit) (m n : ℕ) → AreOverlapping es m n → AreOverlapping (e ∷ es) (suc m) (suc n)
+overlapping-more e es m n o = record {
+  before = omega (arith, o.before);
+  within = omega (arith, o.within);
+  overlapping = o.overlapping;
+}
+
+first_overlap-tail : (e : Edit) (es : List Edit) (m n : ℕ) → IsFirstOverlap (e ∷ es) (suc m) (suc n) → IsFirstOverlap es m n
+first_overlap-tail e es m n first = record {
+  is = record {
+    before = omega (arith, first.is.before);
+    within = omega (arith, first.is.within);
+    overlapping = first.is.overlapping;
+  };
+  least_first = λ a b o. omega (arith, first.least_first (suc a) (suc b) (overlapping-more e es a b o));
+  least_second = λ b o. omega (arith, first.least_second (suc b) (overlapping-more e es m b o));
+}
+
+overlap_from-some : (n : ℕ) (es : List Edit) (a b : ℕ) → IsFirstOverlap es a b → first_overlap_from n es ≡ Some (n + a, n + b)
+overlap_from-some n [] a b first = absurd (omega (arith, first.is.within))
+overlap_from-some n (e ∷ es) a zero first = absurd (omega (arith, first.is.before))
+overlap_from-some n (e ∷ es) zero (suc b) first =
+    let found : position_from (overlap e) (n + 1) es ≡ Some (n + 1 + b) = position-found (overlap e) (n + 1) es b (omega (arith, first.is.within)) first.is.overlapping
+    (λ j low. false_from_ne_true (overlap e (get_or es j no_edit)) (λ t. absurd (omega (arith, low, first.least_second (suc j) (record { before = omega arith; within = omega (arith, low, first.is.within); overlapping = t }))))) in
+    ap (λ p. option_or (option_map (λ k. (n, k)) p) (first_overlap_from (n + 1) es)) found ∙ same_pair n (n + 1 + b) (n + 0) (n + suc b) (omega arith) (omega arith)
+overlap_from-some n (e ∷ es) (suc a) (suc b) first =
+    let none : position_from (overlap e) (n + 1) es ≡ None = position-none (overlap e) (n + 1) es
+    (λ j low. false_from_ne_true (overlap e (get_or es j no_edit)) (λ t. absurd (omega (arith, first.least_first 0 (suc j) (record { before = omega arith; within = omega (arith, low); overlapping = t }))))) in
+    ap (λ p. option_or (option_map (λ k. (n, k)) p) (first_overlap_from (n + 1) es)) none ∙ overlap_from-some (n + 1) es a b (first_overlap-tail e es a b first) ∙ same_pair (n + 1 + a) (n + 1 + b) (n + suc a) (n + suc b) (omega arith) (omega arith)
+
+overlap_from-none : (n : ℕ) (es : List Edit) → AreDisjoint es → first_overlap_from n es ≡ None
+overlap_from-none n [] disjoint = refl
+overlap_from-none n (e ∷ es) disjoint =
+    ap (λ p. option_or (option_map (λ k. (n, k)) p) (first_overlap_from (n + 1) es)) (position-none (overlap e) (n + 1) es (λ j low. disjoint 0 (suc j) (omega arith) (omega arith))) ∙ overlap_from-none (n + 1) es (λ a b low high. disjoint (suc a) (suc b) (omega arith) (omega arith))
+
+first_overlap-some : (es : List Edit) (a b : ℕ) → IsFirstOverlap es a b → first_overlap es ≡ Some (a, b)
+unfolding first_overlap
+first_overlap-some es a b first = overlap_from-some 0 es a b first ∙ same_pair (0 + a) (0 + b) a b (omega arith) (omega arith)
+
+pub first_overlap-none : (es : List Edit) → AreDisjoint es → first_overlap es ≡ None
+unfolding first_overlap
+first_overlap-none es disjoint = overlap_from-none 0 es disjoint
+
+-- what is the first pair where there is one, and nothing else where none overlap, is what is computed
+pub first_overlap-only : (es : List Edit) (r : Option (ℕ × ℕ)) → IfSome r (λ t. IsFirstOverlap es t.0 t.1) → IfNone r (AreDisjoint es) → r ≡ first_overlap es
+first_overlap-only es (Some t) some none = sym (first_overlap-some es t.0 t.1 some)
+first_overlap-only es None some none = sym (first_overlap-none es none)

@@ -1,5 +1,7 @@
 -- Which of some edits overlap.
-use Rattle.std.specs.Prelude.{◌≡◌, ℕ, ◌<◌, ◌≤◌, nat_lt, Bool, true, false, List, [], length, slice_index_or, if◌then◌else◌}
+use Rattle.std.specs.Prelude.{◌≡◌, ℕ, ◌+◌, ◌<◌, ◌≤◌, nat_lt, Bool, true, false, Option, None, List, [], ◌∷◌, length, slice_index_or, if◌then◌else◌}
+use Rattle.std.specs.List.{position_from}
+use Rattle.std.specs.Option.{option_map, option_or}
 use Rattle.snippet_splice.specs.Edits.{Edit, precedes}
 
 -- whether two edits overlap, the first given before the second: in their order, by start, then end, else as given, the
@@ -31,3 +33,13 @@ pub record IsFirstOverlap (es : List Edit) (m n : ℕ) : Type 0 where
 abbrev pub AreDisjoint : List Edit → Type 0
 AreDisjoint es =
     (m n : ℕ) → m < n → n < length es → overlap_at es m n ≡ false
+
+-- that pair, computed, where the edits have the numbers from n on: of the first edit that overlaps with a later one, and the
+-- first later one with which it does
+abbrev pub first_overlap_from : ℕ → List Edit → Option (ℕ × ℕ)
+first_overlap_from n [] = None
+first_overlap_from n (e ∷ es) =
+    option_or (option_map (λ k. (n, k)) (position_from (overlap e) (n + 1) es)) (first_overlap_from (n + 1) es)
+
+unfoldable pub first_overlap : List Edit → Option (ℕ × ℕ)
+first_overlap es = first_overlap_from 0 es

@@ -3,6 +3,7 @@ ghost use Rattle.std.specs.Prelude.{◌≡◌, ◌↔◌, ℕ, ◌<◌, ◌+◌,
 ghost use Rattle.snippet_lines.specs.Span.{IsSpan};
 ghost use Rattle.snippet_splice.specs.Edits.{Edit, edit_of, precedes, AreApart};
 ghost use Rattle.snippet_splice.specs.Overlap.{overlap, overlap_at, IsFirstOverlap, AreDisjoint, no_edit};
+ghost use Rattle.snippet_splice.specs.Overlap as spec;
 
 use snippet_model::Patch;
 
@@ -15,6 +16,7 @@ pub fn check_patches(source: &str, patches: &[Patch<'_>]) -> Option<(usize, usiz
     requires spans { All (λ p. IsSpan source.now p.span.start p.span.end) patches.now }
     ensures some { IfSome result (λ t. IsFirstOverlap (map edit_of patches.now) t.0 t.1) }
     ensures none { IsNone result ↔ AreDisjoint (map edit_of patches.now) }
+    ensures value { result ≡ spec.first_overlap (map edit_of patches.now) }
 {
     if stand_apart(patches) {
         return None;
