@@ -2,7 +2,8 @@
 use Rattle.std.proofs.Common.{◌≡◌, ℕ, zero, suc, ◌+◌, ◌-◌, ◌<◌, ◌≤◌, true, false, ◌&&◌, cond, leb, ltb, min, take, Some, None, List, [], ◌∷◌, ◌++◌, map, length, get_or, refl, sym, ap, subst, ◌∙◌, arith}
 use Rattle.std.proofs.lemmas.List.{append_assoc, get_or-map, length-map, map_push}
 use Rattle.std.proofs.lemmas.Bool.{leb-true, leb-false, le-leb, lt-ltb, le-ltb, and_from, and_right, cond-true, cond-false}
-use Rattle.std.specs.List.{HoldsAt}
+use Rattle.std.specs.List.{HoldsAt, range_with_len}
+use Rattle.std.proofs.lemmas.List.FromFn.{map-range_with_len_more}
 use Rattle.std.specs.List.Sorted.{IsNonDecreasingBy, IsPartitionPoint}
 use Rattle.snippet_parts.specs.declared.source_map.LineInfo.{LineInfo}
 use Rattle.snippet_lines.specs.Lines.{Line, line_bytes, source_lines, text_at, start_of, line_at, StandsAt, Source}
@@ -54,6 +55,12 @@ pub table-more : (infos more : List LineInfo) (info : LineInfo) (number start ne
 table-more infos more info number start next left rest l all more_is left_is next_is entry_is before =
     let one : entry_of info ∷ entries_from (number + 1) next rest ≡ entries_from number start left = ap (λ e. e ∷ entries_from (number + 1) next rest) entry_is ∙ ap (λ n. (let e : LineEntry = record { text = l.0; number = number; start = start; next = n } in e) ∷ entries_from (number + 1) n rest) next_is ∙ sym (ap (entries_from number start) left_is) in
     ap (λ es. map entry_of es ++ entries_from (number + 1) next rest) more_is ∙ ap (λ es. es ++ entries_from (number + 1) next rest) (map_push entry_of infos info) ∙ append_assoc (map entry_of infos) (entry_of info ∷ []) (entries_from (number + 1) next rest) ∙ ap (λ es. map entry_of infos ++ es) one ∙ before
+
+-- one more entry of the lines from number i on: that of line k
+pub entries-more : (first : ℕ) (ls : List Line) (infos more : List LineInfo) (info : LineInfo) (i k : ℕ) → i ≤ k → more ≡ infos ++ info ∷ [] → entry_of info ≡ entry_at first ls k → map entry_of infos ≡ map (entry_at first ls) (range_with_len i (k - i)) → map entry_of more ≡ map (entry_at first ls) (range_with_len i (k + 1 - i))
+entries-more first ls infos more info i k low more_is entry before =
+    let size : (k - i) + 1 ≡ k + 1 - i = omega arith in
+    ap (map entry_of) more_is ∙ map_push entry_of infos info ∙ ap (λ es. es ++ entry_of info ∷ []) before ∙ ap (λ e. map (entry_at first ls) (range_with_len i (k - i)) ++ e ∷ []) entry ∙ sym (map-range_with_len_more (entry_at first ls) i (k - i) k (omega arith)) ∙ ap (λ n. map (entry_at first ls) (range_with_len i n)) size
 
 -- the place where a binary search parts the lines that start at a byte or before it from the others
 abbrev pub IsParted : List LineInfo → ℕ → ℕ → Type 0

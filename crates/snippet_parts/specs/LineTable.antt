@@ -1,7 +1,9 @@
 -- The table of a source's lines.
-use Rattle.std.specs.Prelude.{◌≡◌, ℕ, ◌+◌, ◌<◌, ◌^◌, List, [], ◌∷◌, length, map}
+use Rattle.std.specs.Prelude.{◌≡◌, ℕ, ◌+◌, ◌-◌, ◌<◌, ◌^◌, List, [], ◌∷◌, length, map}
+use Rattle.std.specs.List.{range_with_len}
 use Rattle.snippet_parts.specs.declared.source_map.LineInfo.{LineInfo}
-use Rattle.snippet_lines.specs.Lines.{Line, line_bytes, source_lines, text_at, start_of}
+use Rattle.snippet_lines.specs.Lines.{Line, line_bytes, source_lines, text_at, start_of, Source}
+use Rattle.snippet_lines.specs.Place.{line_of}
 
 -- what the table says of a line: its text, its number, where it starts and where the next one does
 pub record LineEntry : Type 0 where
@@ -17,6 +19,12 @@ entry_of info = record { text = info.line.now; number = info.line_index; start =
 -- the entry of line k of some lines, of which the first has a number
 abbrev pub entry_at : ℕ → List Line → ℕ → LineEntry
 entry_at first ls k = record { text = text_at ls k; number = first + k; start = start_of ls k; next = start_of ls (k + 1) }
+
+-- the entries of the lines that a span touches, in order: from the one that holds its start to the one that holds its end
+abbrev pub touched_entries : Source → ℕ → ℕ → List LineEntry
+touched_entries s start end =
+    let ls = source_lines s.text in
+    map (entry_at s.first ls) (range_with_len (line_of ls start) (line_of ls end + 1 - line_of ls start))
 
 -- the entries of some lines, of which the first has a number and starts at a byte
 abbrev pub entries_from : ℕ → ℕ → List Line → List LineEntry

@@ -1,22 +1,28 @@
 //! A source whose lines are known by number and by byte.
-ghost use Rattle.std.specs.Prelude.{◌≡◌, ℕ, List, ◌+◌, ◌-◌, ◌^◌, ◌<◌, ◌≤◌, true, All, Contains, map, length, IfOk, IfSome};
+ghost use Rattle.std.specs.Prelude.{◌≡◌, ◌≢◌, ◌↔◌, ℕ, List, [], ◌+◌, ◌-◌, ◌^◌, ◌<◌, ◌≤◌, true, All, Contains, map, length, IfOk, IfSome, IsNone};
+ghost use Rattle.std.specs.String.{string_bytes};
 ghost use Rattle.std.specs.Option.{option_copied};
 ghost use Rattle.std.specs.List.{HoldsAt};
 ghost use Rattle.std.specs.List.Sorted.{IsNonDecreasingBy};
-ghost use Rattle.snippet_lines.specs.Lines.{Line, AreLinesOf, line_at, source_lines, text_at, start_of, newline_count, StandsAt};
-ghost use Rattle.snippet_parts.specs.LineTable.{entry_of, entry_at, entries_from};
+ghost use Rattle.snippet_lines.specs.Lines.{Line, AreLinesOf, line_at, lines_of, source_lines, text_at, start_of, newline_count, StandsAt};
+ghost use Rattle.snippet_parts.specs.LineTable.{entry_of, entry_at, entries_from, touched_entries};
 ghost use Rattle.snippet_lines.specs.Place.{line_of, location_of, steps_behind_text, locations_of};
 ghost use Rattle.snippet_lines.specs.Span.{IsSpan, IsSpanBorder};
 ghost use Rattle.snippet_parts.specs.Annotated as spec;
 ghost use Rattle.snippet_parts.specs.Annotated.{seen_kept};
 ghost use Rattle.snippet_parts.specs.Depths.{places_of, share_line, IsLongestChain};
 ghost use Rattle.snippet_model.specs.declared.snippet.Annotation.{Annotation};
+ghost use Rattle.snippet_splice.specs.Edits.{edit_of, in_order, bounds_of, original_bounds_of, edited_from, patched, trimmed_edit_of, trimmed_edits};
+ghost use Rattle.snippet_splice.specs.Overlap.{AreDisjoint};
+ghost use Rattle.snippet_splice.specs.Spliced.{HasNoCr, IsBeforeFinalLf, IsTouched, texts_of, AreFrom, spliced_text, line_ranges, ranges_from};
+ghost use Rattle.snippet_splice.specs.Shown.{shown_line, shown_text};
 
 use crate::annotated_lines::annotated_lines;
 use crate::entries::AnnotatedLineInfo;
 use snippet_lines::lines::CursorLines;
 use snippet_lines::place::Loc;
-use snippet_model::snippet::Annotation;
+use snippet_model::snippet::{Annotation, Patch};
+use snippet_splice::{SplicedLines, spliced_lines};
 use std::alloc::{AllocError, Global};
 use std::marker::Model;
 use std::ops::Range;
@@ -161,6 +167,73 @@ impl<'a> SourceMap<'a> {
         (start, end)
     }
 
+    /// The lines that a span of bytes touches, in order: from the one that holds its start to the one that holds its end.
+    ///
+    /// The last line holds each byte behind it too. The one error is want of memory.
+    pub fn span_to_lines(&self, span: Range<usize>) -> Result<Vec<LineInfo<'a>>, AllocError>
+        requires span { IsSpan self.now.text span.start span.end }
+        ensures lines { IfOk result
+            (λ infos. map entry_of infos.items ≡ touched_entries self.now span.start span.end) }
+    {
+        let first = self.line_index_of(span.start);
+        let last = self.line_index_of(span.end);
+        let mut lines = Vec::new(*self.lines.allocator());
+        for index in first..last + 1 {
+            lines.push(self.line_info(index))?;
+        }
+        Ok(lines)
+    }
+
+    /// The part of the source that is shown with these patches applied; `None` exactly where there are none.
+    ///
+    /// Folded it goes from the line on which the first patch starts to the end of the line on which the last one ends, or
+    /// to the end of the last trimmed replacement, if that ends with a line feed. Unfolded it is the whole patched source.
+    /// Line ends that are copied before the last patch are written as line feeds. The one error is want of memory.
+    pub fn splice_lines<'b>(
+        &self,
+        patches: &'b [Patch<'_>],
+        fold: bool,
+    ) -> Result<Option<SplicedLines<'b>>, AllocError>
+        requires spans { All (λ p. IsSpan self.now.text p.span.start p.span.end) patches.now }
+        requires disjoint { AreDisjoint (map edit_of patches.now) }
+        ensures none { IfOk result (λ t. IsNone t ↔ (patches.now ≡ [])) }
+        ensures edits { IfOk result (λ t. IfSome t (λ s.
+            map trimmed_edit_of s.patches.items ≡ trimmed_edits self.now.text (map edit_of patches.now))) }
+        ensures originals { IfOk result (λ t. IfSome t (λ s.
+            map original_bounds_of s.patches.items ≡ map bounds_of (in_order (map edit_of patches.now)))) }
+        ensures spans { IfOk result (λ t. IfSome t
+            (λ s. All (λ p. IsSpan self.now.text p.span.start p.span.end) s.patches.items)) }
+        // The trimmed patches, applied as they stand, give the patched source.
+        ensures law { let es = map edit_of patches.now in IfOk result (λ t. IfSome t (λ s.
+            edited_from self.now.text 0 (map trimmed_edit_of s.patches.items) ≡ patched self.now.text es)) }
+        // The text, also of sources with carriage returns.
+        ensures value { IfOk result (λ t. IfSome t
+            (λ s. string_bytes s.complete ≡ shown_text fold self.now.text (map edit_of patches.now))) }
+        // Without carriage returns in the source, and where no trimmed patch starts behind a final line feed.
+        ensures text { let es = map edit_of patches.now in
+            HasNoCr self.now.text → All (λ e. IsBeforeFinalLf self.now.text e.start) (trimmed_edits self.now.text es)
+            → IfOk result (λ t. IfSome t (λ s. string_bytes s.complete ≡ spliced_text fold self.now.text es)) }
+        ensures ranges { let es = map edit_of patches.now in
+            HasNoCr self.now.text → All (λ e. IsBeforeFinalLf self.now.text e.start) (trimmed_edits self.now.text es)
+            → IfOk result (λ t. IfSome t (λ s.
+            ranges_from (shown_line fold self.now.text es) s.ranges.items ≡ line_ranges self.now.text es)) }
+        // Its lines are lines of the patched source, one behind the other from the first that is shown on.
+        ensures lines { let es = map edit_of patches.now in
+            HasNoCr self.now.text → All (λ e. HasNoCr e.text) es
+            → All (λ e. IsBeforeFinalLf self.now.text e.start) (trimmed_edits self.now.text es)
+            → IfOk result (λ t. IfSome t (λ s. AreFrom (shown_line fold self.now.text es)
+            (texts_of (lines_of (string_bytes s.complete))) (texts_of (source_lines (patched self.now.text es))))) }
+        // Each line of the patched source that an edit touches is among them, if it isn't empty.
+        ensures touched { let es = map edit_of patches.now in
+            HasNoCr self.now.text → All (λ e. IsBeforeFinalLf self.now.text e.start) (trimmed_edits self.now.text es)
+            → IfOk result (λ t. IfSome t (λ s. (j : ℕ) → IsTouched self.now.text es j
+            → text_at (source_lines (patched self.now.text es)) j ≢ []
+            → (shown_line fold self.now.text es ≤ j)
+            × (j < shown_line fold self.now.text es + length (lines_of (string_bytes s.complete))))) }
+    {
+        spliced_lines(*self.lines.allocator(), self.source(), patches, fold)
+    }
+
     /// The location of a byte, and 1 if the byte lies behind the end of its line's text, else 0.
     fn locate(&self, byte: usize) -> (Loc, usize)
         requires border { IsSpanBorder self.now.text byte }
@@ -179,6 +252,7 @@ impl<'a> SourceMap<'a> {
     /// The line that holds a byte, from 0.
     pub(crate) fn line_index_of(&self, byte: usize) -> usize
         ensures value { result ≡ line_of (source_lines self.now.text) byte }
+        ensures bound { result + 1 < 2 ^ 64 }
     {
         self.line_holding(byte).line_index - self.line_start
     }
@@ -188,7 +262,15 @@ impl<'a> SourceMap<'a> {
         requires within { index < length (source_lines self.now.text) }
         ensures value { result.now ≡ text_at (source_lines self.now.text) index }
     {
-        self.lines[index].line
+        self.line_info(index).line
+    }
+
+    /// Line `index`, from 0.
+    fn line_info(&self, index: usize) -> LineInfo<'a>
+        requires within { index < length (source_lines self.now.text) }
+        ensures entry { entry_of result ≡ entry_at self.now.first (source_lines self.now.text) index }
+    {
+        self.lines[index]
     }
 
     /// The number of line `index`, from 0.
