@@ -1,23 +1,27 @@
 -- What a report without faults is.
-use Rattle.std.proofs.Common.{◌≡◌, ℕ, ◌+◌, ◌<◌, ◌&&◌, ◌==◌, nat_lt, Bool, true, false, List, [], ◌∷◌, ◌++◌, Option, Some, None, All, length, get_or, refl, sym, ap, ◌∙◌, arith, inl, inr, cond, subst, ◌^◌, IfSome}
+use Rattle.std.proofs.Common.{◌≡◌, ℕ, ◌+◌, ◌<◌, ◌&&◌, ◌==◌, nat_lt, Bool, true, false, List, [], ◌∷◌, ◌++◌, Option, Some, None, All, length, map, get_or, refl, sym, ap, ◌∙◌, arith, inl, inr, cond, subst, ◌^◌, IfSome}
 use Rattle.std.specs.Option.{option_map, option_to_list}
 use Rattle.std.proofs.lemmas.Bool.Decides.{nat_tests}
 use Rattle.std.proofs.lemmas.List.Elements.{All-nil, All-cons, All-head, All-same}
 use Rattle.std.specs.Str.{IsCharBoundary}
 use Rattle.snippet_model.specs.declared.snippet.Group.{Group}
+use Rattle.std.specs.declared.ops.Range.{Range}
 use Rattle.snippet_model.specs.declared.snippet.Annotation.{Annotation}
+use Rattle.snippet_model.specs.declared.snippet.Patch.{Patch}
 use Rattle.std.specs.Cow.{cow_str_bytes}
 use Rattle.snippet_model.specs.declared.snippet.Snippet.{Snippet}
 use Rattle.snippet_model.specs.declared.snippet.Element.TheVariants.{Cause}
 use Rattle.snippet_lines.specs.declared.span.SpanFault.{SpanFault}
 use Rattle.snippet_lines.specs.declared.span.SpanFault.TheVariants.{Reversed, PastEnd, OffBoundary}
 use Rattle.snippet_lines.specs.Span.{IsSpan, IsSpanBorder, is_span_border, is_character_border, span_fault}
-use Rattle.annotate_snippets.specs.Fault.{faults_from, first_of, span_faults, group_faults, element_faults, first_fault, refusal_of, number_faults}
+use Rattle.snippet_splice.specs.Edits.{edit_of}
+use Rattle.snippet_splice.specs.Overlap.{first_overlap}
+use Rattle.annotate_snippets.specs.Fault.{faults_from, first_of, span_faults, overlap_faults, group_faults, element_faults, first_fault, refusal_of, number_faults}
 use Rattle.annotate_snippets.specs.Covered.{IsReportOf}
 use Rattle.snippet_model.specs.Fits.{ReportFits, GroupFits, ElementFits, SnippetFits, AnnotationFits, TitleFits}
 use Rattle.snippet_model.specs.declared.snippet.Title.{Title}
 use Rattle.snippet_lines.specs.Lines.{source_lines}
-use Rattle.annotate_snippets.specs.declared.renderer.error.RenderError.TheVariants.{LineNumberTooLarge}
+use Rattle.annotate_snippets.specs.declared.renderer.error.RenderError.TheVariants.{PatchesOverlap, LineNumberTooLarge}
 use Rattle.annotate_snippets.specs.declared.renderer.error.RenderError.{RenderError}
 
 -- a list of one thing
@@ -74,11 +78,17 @@ IsSpan-faultless source start end none = by_cases (nat_lt end start) (nat_lt (le
     by_cases false false true false r p f t h = cc
     by_cases false false false to r p f t h = cc
 
--- a list of spans without faults holds spans
-pub spans-faultless : (group element n : ℕ) (source : List ℕ) (marks : List Annotation) → faults_from (λ m a. span_faults group element source m a.span) n marks ≡ [] → All (λ a. IsSpan source a.span.start a.span.end) marks
-spans-faultless group element n source [] none = All-nil (λ a. IsSpan source a.span.start a.span.end)
-spans-faultless group element n source (a ∷ marks) none =
-    All-cons (λ a. IsSpan source a.span.start a.span.end) a marks (IsSpan-faultless source a.span.start a.span.end (no_refusal group element n (span_fault source a.span.start a.span.end) (front_none _ _ none))) (spans-faultless group element (n + 1) source marks (back_none _ _ none))
+-- things whose spans have no faults have spans
+pub spans-faultless : {X : Type 0} (span_of : X → Range ℕ) (group element n : ℕ) (source : List ℕ) (marks : List X) → faults_from (λ m x. span_faults group element source m (span_of x)) n marks ≡ [] → All (λ x. IsSpan source (span_of x).start (span_of x).end) marks
+spans-faultless span_of group element n source [] none =
+    All-nil (λ x. IsSpan source (span_of x).start (span_of x).end)
+spans-faultless span_of group element n source (x ∷ marks) none =
+    All-cons (λ y. IsSpan source (span_of y).start (span_of y).end) x marks (IsSpan-faultless source (span_of x).start (span_of x).end (no_refusal group element n (span_fault source (span_of x).start (span_of x).end) (front_none _ _ none))) (spans-faultless span_of group element (n + 1) source marks (back_none _ _ none))
+
+-- the first refusal of patches of which two overlap, behind no refusal of their spans
+pub overlap-first : (spans behind : List RenderError) (group element : ℕ) (patches : List Patch) (m n : ℕ) → spans ≡ [] → first_overlap (map edit_of patches) ≡ Some (m, n) → Some (PatchesOverlap group element m n) ≡ first_of (spans ++ overlap_faults group element patches ++ behind)
+overlap-first spans behind group element patches m n none pair =
+    sym (ap (λ faults. first_of (faults ++ overlap_faults group element patches ++ behind)) none ∙ ap (λ (p : Option (ℕ × ℕ)). first_of (option_to_list (option_map (λ t. PatchesOverlap group element t.0 t.1) p) ++ behind)) pair)
 
 -- a number without a fault fits
 number-faultless : (group element number : ℕ) → number_faults group element number ≡ [] → number < 2 ^ 64
@@ -97,7 +107,7 @@ snippet-faultless title snippet groups of none =
 -- its spans are spans
 pub spans-of_report : (title : Title) (snippet : Snippet Annotation) (groups : List Group) → IsReportOf title (Some snippet) groups → first_fault groups ≡ None → All (λ a. IsSpan (cow_str_bytes snippet.source) a.span.start a.span.end) snippet.markers.items
 spans-of_report title snippet groups of none =
-    spans-faultless 0 0 0 (cow_str_bytes snippet.source) snippet.markers.items (front_none _ _ (snippet-faultless title snippet groups of none))
+    spans-faultless (λ (a : Annotation). a.span) 0 0 0 (cow_str_bytes snippet.source) snippet.markers.items (front_none _ _ (snippet-faultless title snippet groups of none))
 
 -- its line numbers fit
 pub numbers-of_report : (title : Title) (snippet : Snippet Annotation) (groups : List Group) → IsReportOf title (Some snippet) groups → first_fault groups ≡ None → snippet.line_start + length (source_lines (cow_str_bytes snippet.source)) < 2 ^ 64

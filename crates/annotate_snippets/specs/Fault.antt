@@ -1,5 +1,5 @@
 -- The faults of a report, in the order in which they are looked for.
-use Rattle.std.specs.Prelude.{◌≡◌, ℕ, ◌+◌, ◌^◌, List, [], ◌∷◌, ◌++◌, Option, Some, None, is_some, length, sum_by, count_by, nat_lt, ◌==◌, if◌then◌else◌}
+use Rattle.std.specs.Prelude.{◌≡◌, ℕ, ◌+◌, ◌^◌, List, [], ◌∷◌, ◌++◌, Option, Some, None, is_some, length, map, sum_by, count_by, nat_lt, ◌==◌, if◌then◌else◌}
 use Rattle.std.specs.Option.{option_map, option_to_list}
 use Rattle.std.specs.Cow.{cow_str_bytes}
 use Rattle.std.specs.declared.ops.Range.{Range}
@@ -12,8 +12,10 @@ use Rattle.snippet_lines.specs.Lines.{source_lines}
 use Rattle.snippet_lines.specs.Span.{span_fault}
 use Rattle.snippet_lines.specs.declared.span.SpanFault.{SpanFault}
 use Rattle.snippet_lines.specs.declared.span.SpanFault.TheVariants.{Reversed, PastEnd, OffBoundary}
+use Rattle.snippet_splice.specs.Edits.{edit_of}
+use Rattle.snippet_splice.specs.Overlap.{first_overlap}
 use Rattle.annotate_snippets.specs.declared.renderer.error.RenderError.{RenderError}
-use Rattle.annotate_snippets.specs.declared.renderer.error.RenderError.TheVariants.{SpanReversed, SpanPastEnd, SpanOffBoundary, LineNumberTooLarge}
+use Rattle.annotate_snippets.specs.declared.renderer.error.RenderError.TheVariants.{SpanReversed, SpanPastEnd, SpanOffBoundary, PatchesOverlap, LineNumberTooLarge}
 
 -- the refusal that names a fault of this marker
 abbrev pub refusal_of : ℕ → ℕ → ℕ → SpanFault → RenderError
@@ -48,12 +50,17 @@ number_behind line_start source = line_start + length (source_lines source)
 abbrev pub added_lines : List Patch → ℕ
 added_lines patches = sum_by (λ p. count_by (λ b. b == 10) (cow_str_bytes p.replacement)) patches
 
--- the refusals of an element: those of its spans in order, then that of its line numbers
+-- the refusal of patches of which two overlap, which names the first such pair: one, or none
+abbrev pub overlap_faults : ℕ → ℕ → List Patch → List RenderError
+overlap_faults group element patches =
+    option_to_list (option_map (λ pair. PatchesOverlap group element pair.0 pair.1) (first_overlap (map edit_of patches)))
+
+-- the refusals of an element: those of its spans in order, then that of patches that overlap, then that of its line numbers
 abbrev pub element_faults : ℕ → ℕ → Element → List RenderError
 element_faults group element (Cause snippet) =
     faults_from (λ n a. span_faults group element (cow_str_bytes snippet.source) n a.span) 0 snippet.markers.items ++ number_faults group element (number_behind snippet.line_start (cow_str_bytes snippet.source))
 element_faults group element (Suggestion snippet) =
-    faults_from (λ n p. span_faults group element (cow_str_bytes snippet.source) n p.span) 0 snippet.markers.items ++ number_faults group element (number_behind snippet.line_start (cow_str_bytes snippet.source) + added_lines snippet.markers.items)
+    faults_from (λ n p. span_faults group element (cow_str_bytes snippet.source) n p.span) 0 snippet.markers.items ++ overlap_faults group element snippet.markers.items ++ number_faults group element (number_behind snippet.line_start (cow_str_bytes snippet.source) + added_lines snippet.markers.items)
 element_faults group element (Message message) = []
 element_faults group element (Origin origin) = []
 element_faults group element (Padding padding) = []

@@ -6,7 +6,7 @@ use thiserror::Error;
 /// Why a report gives no text.
 ///
 /// Groups, elements and markers are numbered from 0; a marker is an annotation or a patch. Of several faults the first
-/// is named: groups, elements and markers in order, and an element's line numbers after its markers.
+/// is named: groups, elements and markers in order, then an element's patches that overlap, then its line numbers.
 #[derive(Debug, Drop, Error)]
 pub enum RenderError {
     /// The short form was asked for, and the report is empty.
@@ -36,7 +36,8 @@ pub enum RenderError {
         element: usize,
         marker: usize,
     },
-    /// Two patches of a snippet overlap.
+    /// Two patches of a snippet overlap: in the order by start, then end, else as given, the one ends behind the start of
+    /// the other. Of several such pairs it is the one with the least first number, then the least second.
     #[error("group {group}, element {element}: markers {first} and {second} overlap")]
     PatchesOverlap {
         group: usize,

@@ -1,13 +1,14 @@
 //! The judgement of a report: which fault is first. It takes no memory.
-ghost use Rattle.std.specs.Prelude.{◌≡◌, ◌+◌, ◌<◌, ◌^◌, ◌==◌, ◌++◌, Some, None, IsSome, IsNone, IfSome};
-ghost use Rattle.std.specs.Option.{option_map, SomeIff};
-ghost use Rattle.std.specs.Cow.{cow_str_bytes};
+ghost use Rattle.std.specs.Prelude.{◌≡◌, ◌+◌, ◌<◌, ◌^◌};
+ghost use Rattle.std.specs.Option.{SomeIff};
+ghost use Rattle.snippet_model.specs.declared.snippet.Element.TheVariants.{Cause, Suggestion};
 ghost use Rattle.annotate_snippets.specs.Fault.{refusal_of, span_faults, number_behind, added_lines, element_faults, end_faults, faults_from, first_of};
 ghost use Rattle.annotate_snippets.specs.Fault as spec;
 
 use crate::renderer::error::RenderError;
-use snippet_model::snippet::{Element, Group, Marker, Patch};
+use snippet_model::snippet::{Annotation, Element, Group, Marker, Patch, Snippet};
 use snippet_parts::{SpanFault, check_span, line_feed_count, newline_count};
+use snippet_splice::check_patches;
 
 /// The fault that a report is refused for, if it has one: the first in the order of groups, elements and markers.
 #[tactic(auto, unfolding(crate::specs::Fault::first_fault))]
@@ -34,41 +35,61 @@ fn first_of_elements(group: usize, elements: &[Element]) -> Option<RenderError>
     None
 }
 
-/// The first fault of an element: of its spans, then of its line numbers.
+/// The first fault of an element: of its spans, then of patches that overlap, then of its line numbers.
 fn first_of_element(group: usize, number: usize, element: &Element) -> Option<RenderError>
     ensures value { result ≡ first_of (element_faults group number element.now) }
 {
     match element {
-        Element::Cause(snippet) => {
-            let source = snippet.source.as_str();
-            let end = end_number(snippet.line_start, source);
-            first_of_snippet(group, number, source, &snippet.markers, end)
-        }
-        Element::Suggestion(snippet) => {
-            let source = snippet.source.as_str();
-            let end = patched_end_number(snippet.line_start, source, &snippet.markers);
-            first_of_snippet(group, number, source, &snippet.markers, end)
-        }
+        Element::Cause(snippet) => first_of_cause(group, number, snippet),
+        Element::Suggestion(snippet) => first_of_suggestion(group, number, snippet),
         Element::Message(_) | Element::Origin(_) | Element::Padding(_) => None,
     }
 }
 
-/// The first fault of a snippet: of its markers' spans, then that the number behind its last line's is missing, since
-/// it doesn't fit.
-fn first_of_snippet<T: Marker>(
+/// The first fault of an annotated snippet.
+fn first_of_cause(
     group: usize,
     element: usize,
-    source: &str,
-    markers: &[T],
-    end: Option<usize>,
+    snippet: &Snippet<Annotation>,
 ) -> Option<RenderError>
-    ensures value { result ≡ first_of
-        (faults_from (λ n m. span_faults group element source.now n (T.span_of m)) 0 markers.now
-        ++ end_faults group element end) }
+    ensures value { result ≡ first_of (element_faults group element (Cause snippet.now)) }
 {
-    if let Some(fault) = first_of_spans(group, element, source, markers) {
+    let source = snippet.source.as_str();
+    if let Some(fault) = first_of_spans(group, element, source, &snippet.markers) {
         return Some(fault);
     }
+    missing_number(group, element, end_number(snippet.line_start, source))
+}
+
+/// The first fault of a suggested edit.
+fn first_of_suggestion(
+    group: usize,
+    element: usize,
+    snippet: &Snippet<Patch>,
+) -> Option<RenderError>
+    ensures value { result ≡ first_of (element_faults group element (Suggestion snippet.now)) }
+{
+    let source = snippet.source.as_str();
+    let patches: &[Patch] = &snippet.markers;
+    if let Some(fault) = first_of_spans(group, element, source, patches) {
+        return Some(fault);
+    }
+    if let Some((first, second)) = check_patches(source, patches) {
+        return Some(RenderError::PatchesOverlap {
+            group,
+            element,
+            first,
+            second,
+        });
+    }
+    let end = patched_end_number(snippet.line_start, source, patches);
+    missing_number(group, element, end)
+}
+
+/// The fault that the number behind that of a snippet's last line is missing, since it doesn't fit.
+fn missing_number(group: usize, element: usize, end: Option<usize>) -> Option<RenderError>
+    ensures value { result ≡ first_of (end_faults group element end) }
+{
     match end {
         Some(_) => None,
         None => Some(RenderError::LineNumberTooLarge { group, element }),
