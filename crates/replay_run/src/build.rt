@@ -2,13 +2,13 @@
 //! the case says, there is none: it is refused as `NotYet`.
 
 ghost use Rattle.std.specs.Prelude.{◌≡◌, [], ◌∷◌, ◌++◌, IfOk, OnOk, All};
-ghost use Rattle.annotate_snippets.specs.Fits.{ReportFits, GroupFits, TitleFits, LevelFits, ElementFits, AnnotationFits, SnippetFits};
+ghost use Rattle.annotate_snippets.specs.Fits.{ReportFits, GroupFits, TitleFits, LevelFits, ElementFits, AnnotationFits, PatchFits, SnippetFits};
 
 use crate::case;
 use crate::case::{LevelKind, LevelName, Mark, Settings, Source};
 use annotate_snippets::level::{ERROR, HELP, INFO, Level, NOTE, WARNING};
 use annotate_snippets::renderer::{DecorStyle, RenderError};
-use annotate_snippets::{Annotation, Element, Group, OptionCow, Renderer, Snippet, Title};
+use annotate_snippets::{Annotation, Element, Group, OptionCow, Patch, Renderer, Snippet, Title};
 use std::alloc::{AllocError, Global};
 
 /// The renderer of these settings.
@@ -125,6 +125,10 @@ fn element_of<'v>(alloc: Global, element: &case::Element<'v>) -> Result<Element<
             let snippet = cause_of(alloc, source, marks)?;
             Ok(Element::from(snippet))
         }
+        case::Element::Suggestion(source, patches) => {
+            let snippet = suggestion_of(alloc, source, patches)?;
+            Ok(Element::from(snippet))
+        }
         _ => Err(RenderError::NotYet),
     }
 }
@@ -137,13 +141,35 @@ fn cause_of<'v>(
 ) -> Result<Snippet<'v, Annotation<'v>>, RenderError>
     ensures fits { IfOk result (SnippetFits AnnotationFits) }
 {
-    if source.path.is_some() || !source.fold {
+    if !is_plain(source) {
         return Err(RenderError::NotYet);
     }
     let snippet = Snippet::source(alloc, source.source.text)
         .line_start(source.line_start)
         .line_numbering(source.line_numbering);
     with_marks(snippet, marks).map_err(RenderError::Memory)
+}
+
+/// A suggested edit.
+fn suggestion_of<'v>(
+    alloc: Global,
+    source: &Source<'v>,
+    patches: &[case::Patch<'v>],
+) -> Result<Snippet<'v, Patch<'v>>, RenderError>
+    ensures fits { IfOk result (SnippetFits PatchFits) }
+{
+    if !is_plain(source) {
+        return Err(RenderError::NotYet);
+    }
+    let snippet = Snippet::source(alloc, source.source.text)
+        .line_start(source.line_start)
+        .line_numbering(source.line_numbering);
+    with_patches(snippet, patches).map_err(RenderError::Memory)
+}
+
+/// Whether a source has no path and is folded.
+fn is_plain(source: &Source<'_>) -> bool {
+    source.path.is_none() && source.fold
 }
 
 /// The snippet with these annotations, in order, behind those it has.
@@ -163,6 +189,25 @@ fn with_marks<'v>(
         }
     }
     Ok(marked)
+}
+
+/// The snippet with these patches, in order, behind those it has.
+#[tactic(auto, using(crate::proofs::Lists::all_push))]
+fn with_patches<'v>(
+    snippet: Snippet<'v, Patch<'v>>,
+    patches: &[case::Patch<'v>],
+) -> Result<Snippet<'v, Patch<'v>>, AllocError>
+    requires fits { SnippetFits PatchFits snippet }
+    ensures fits { IfOk result (SnippetFits PatchFits) }
+{
+    let mut edited = snippet;
+    for patch in patches {
+        match edited.patch(Patch::new(patch.start..patch.end, patch.text.text)) {
+            Ok(more) => edited = more,
+            Err(refused) => return Err(refused),
+        }
+    }
+    Ok(edited)
 }
 
 /// An annotation.

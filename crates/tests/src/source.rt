@@ -35,6 +35,29 @@ fn lines_by_number(rt: HostRuntime) -> Result<(), Fail> {
 }
 
 #[test]
+fn lines_of_spans(rt: HostRuntime) -> Result<(), Fail> {
+    let source = "a\nb\r\nc";
+    assert!(rt; text_fits(source) && newline_count(source) < 9);
+    let map = SourceMap::new(rt.alloc(), source, 7)?;
+    for (start, end, want) in [
+        (0, 1, " 7 a 0..2"),
+        (1, 3, " 7 a 0..2 8 b 2..5"),
+        (0, 5, " 7 a 0..2 8 b 2..5 9 c 5..6"),
+        (2, 2, " 8 b 2..5"),
+        (7, 7, " 9 c 5..6"),
+    ] {
+        assert!(rt; check_span(source, &(start..end)).is_none());
+        let mut lines = String::new(rt.alloc());
+        for line in map.span_to_lines(start..end)? {
+            let (from, to) = (line.start_byte, line.end_byte);
+            write!(lines, " {} {} {}..{}", line.line_index, line.line, from, to)?;
+        }
+        assert_eq!(rt; lines.as_str(), want);
+    }
+    Ok(())
+}
+
+#[test]
 fn places_by_columns(rt: HostRuntime) -> Result<(), Fail> {
     let source = "日本";
     assert!(rt;
