@@ -287,6 +287,14 @@ impl<'a, T> Snippet<'a, T> {
         self.line_numbering = line_numbering;
         self
     }
+
+    /// Whether lines far from any span are left out; they are unless this says otherwise.
+    pub fn fold(mut self, fold: bool) -> Snippet<'a, T>
+        ensures changed { result ≡ record self.entry { fold = fold } }
+    {
+        self.fold = fold;
+        self
+    }
 }
 
 impl<'a> Snippet<'a, Annotation<'a>> {

@@ -1,7 +1,7 @@
 -- The entries of spans, in the order made.
-use Rattle.std.proofs.Common.{None, ◌≡◌, ℕ, zero, suc, ◌+◌, ◌-◌, ◌<◌, ◌≤◌, Bool, true, false, ◌&&◌, ◌||◌, cond, not, leb, ltb, min, List, [], ◌∷◌, ◌++◌, map, length, take, drop, get_or, inl, inr, refl, sym, ap, ◌∙◌, arith}
+use Rattle.std.proofs.Common.{None, ◌≡◌, ℕ, zero, suc, ◌+◌, ◌-◌, ◌<◌, ◌≤◌, Bool, true, false, ◌&&◌, ◌||◌, cond, not, eqb, leb, ltb, min, List, [], ◌∷◌, ◌++◌, map, length, take, drop, get_or, inl, inr, refl, sym, ap, ◌∙◌, arith}
 use Rattle.std.specs.List.{All, filter, list_any, range_with_len}
-use Rattle.std.proofs.lemmas.Bool.{cases_lt, le-leb, lt-leb, cond-true, cond-false}
+use Rattle.std.proofs.lemmas.Bool.{cases_Bool, cases_lt, le-leb, lt-leb, cond-true, cond-false, and_parts, both_ways, eq-eqb, false_from_ne_true}
 use Rattle.std.proofs.lemmas.List.{append_assoc, append-nil, map-append}
 use Rattle.std.proofs.lemmas.List.{map_push, map_more, drop-map, take-map, drop_more, length-map, get_or-map}
 use Rattle.std.proofs.lemmas.List.FromFn.{map-range_with_len_more}
@@ -10,13 +10,15 @@ use Rattle.snippet_parts.specs.Annotated.{PartEntry, seen_part, bar_lines, span_
 use Rattle.snippet_parts.specs.Depths.{same_place, depth_among}
 use Rattle.snippet_parts.specs.declared.depths.LongPlace.{LongPlace}
 use Rattle.snippet_parts.specs.Marked.{Entry}
-use Rattle.snippet_model.specs.declared.snippet.AnnotationKind.TheVariants.{Primary}
+use Rattle.snippet_model.specs.declared.snippet.AnnotationKind.{AnnotationKind}
+use Rattle.snippet_model.specs.declared.snippet.AnnotationKind.TheVariants.{Primary, Context, Visible}
 use Rattle.std.specs.List.Sorted.{IsNonDecreasingBy}
 use Rattle.snippet_parts.specs.Kept.{is_weak_line}
 use Rattle.snippet_lines.specs.Lines.{Source}
 use Rattle.snippet_parts.specs.LongSpans.{seen_long, HasFit}
 use Rattle.snippet_parts.specs.declared.long_spans.LongSpan.{LongSpan}
 use Rattle.snippet_lines.specs.declared.place.Loc.{Loc}
+use Rattle.snippet_parts.proofs.DepthLemmas.{same-true}
 
 filter-behind : (p : ℕ → Bool) (u from n : ℕ) → ((k : ℕ) → from ≤ k → leb k u ≡ p k) → u < from → filter p (range_with_len from n) ≡ []
 filter-behind p u from zero same past = refl
@@ -141,3 +143,30 @@ no_loc = record { line = 0; char = 0; display = 0; byte = 0 }
 
 abbrev pub no_span : LongSpan
 no_span = record { start = no_loc; end = no_loc; kind = Primary; label = None; highlight_source = false }
+
+-- ---- spans of one place start on one line
+
+any-filtered : {X : Type 0} (q p : X → Bool) → ((x : X) → q x ≡ true → p x ≡ true) → (xs : List X) → list_any q (filter p xs) ≡ list_any q xs
+any-filtered q p implied [] = refl
+any-filtered q p implied (x ∷ xs) =
+    elim (cases_Bool (p x)) [
+      | inl t ↦ ap (list_any q) (cond-true (p x) (x ∷ filter p xs) (filter p xs) t) ∙ ap (λ b. q x || b) (any-filtered q p implied xs)
+      | inr f ↦ ap (list_any q) (cond-false (p x) (x ∷ filter p xs) (filter p xs) f) ∙ any-filtered q p implied xs ∙ ap (λ b. b || list_any q xs) (sym (false_from_ne_true (q x) (λ t. both_ways (p x) f (implied x t))))
+    ]
+
+same-line : (x o : LongSpan) → same_place (long_place (seen_long x)) (long_place (seen_long o)) ≡ true → eqb o.start.line x.start.line ≡ true
+same-line x o same = eq-eqb o.start.line x.start.line (sym (ap (λ (p : LongPlace). p.first) (same-true (long_place (seen_long x)) (long_place (seen_long o)) same)))
+
+pub place-near : (x : LongSpan) (others near : List LongSpan) (b : Bool) → near ≡ filter (λ (o : LongSpan). eqb o.start.line x.start.line) others → b ≡ list_any (λ (o : LongSpan). same_place (long_place (seen_long x)) (long_place (seen_long o))) near → b ≡ list_any (λ (o : LongSpan). same_place (long_place (seen_long x)) (long_place (seen_long o))) others
+place-near x others near b is found =
+    found ∙ ap (list_any (λ (o : LongSpan). same_place (long_place (seen_long x)) (long_place (seen_long o)))) is ∙ any-filtered (λ (o : LongSpan). same_place (long_place (seen_long x)) (long_place (seen_long o))) (λ (o : LongSpan). eqb o.start.line x.start.line) (same-line x) others
+
+kind-other : (kind : AnnotationKind) → (kind ≡ Primary → ⊥) → is_primary kind ≡ false
+kind-other Primary other = absurd (other refl)
+kind-other Context other = refl
+kind-other Visible other = refl
+
+pub primary-near : (x : LongSpan) (others near : List LongSpan) (b : Bool) → near ≡ filter (λ (o : LongSpan). eqb o.start.line x.start.line) others → b ≡ list_any (λ (o : LongSpan). is_primary o.kind && same_place (long_place (seen_long x)) (long_place (seen_long o))) near → (x.kind ≡ Primary → ⊥) → b ≡ (is_primary x.kind || list_any (λ (o : LongSpan). is_primary o.kind && same_place (long_place (seen_long x)) (long_place (seen_long o))) others)
+primary-near x others near b is found other =
+    found ∙ ap (list_any (λ (o : LongSpan). is_primary o.kind && same_place (long_place (seen_long x)) (long_place (seen_long o)))) is ∙ any-filtered (λ (o : LongSpan). is_primary o.kind && same_place (long_place (seen_long x)) (long_place (seen_long o))) (λ (o : LongSpan). eqb o.start.line x.start.line) (λ o both. same-line x o (and_parts (is_primary o.kind) (same_place (long_place (seen_long x)) (long_place (seen_long o))) both).1) others
+    ∙ ap (λ p. p || list_any (λ (o : LongSpan). is_primary o.kind && same_place (long_place (seen_long x)) (long_place (seen_long o))) others) (sym (kind-other x.kind other))

@@ -28,20 +28,20 @@ filter-map p f (x ∷ xs) =
 
 -- ---- entries of a line in a sorted list
 
-pub on-line : (xs : List LineAnnotation) (n from to m : ℕ) → to ≡ from + m → ((j : ℕ) (d : LineAnnotation) → j < from → j < length xs → (get_or xs j d).start.line < n) → ((j : ℕ) (d : LineAnnotation) → from ≤ j → j < length xs → n ≤ (get_or xs j d).start.line) → ((j : ℕ) (d : LineAnnotation) → j < to → j < length xs → (get_or xs j d).start.line ≤ n) → ((j : ℕ) (d : LineAnnotation) → to ≤ j → j < length xs → n < (get_or xs j d).start.line) → take m (drop from xs) ≡ filter (λ (e : LineAnnotation). eqb e.start.line n) xs
-on-line [] n zero to zero is below from' upto behind = refl
-on-line [] n zero to (suc m) is below from' upto behind = refl
-on-line [] n (suc from) to zero is below from' upto behind = refl
-on-line [] n (suc from) to (suc m) is below from' upto behind = refl
-on-line (x ∷ xs) n (suc from) to m is below from' upto behind =
-    on-line xs n from (to - 1) m (omega arith) (λ j d a b. below (suc j) d (omega arith) (omega arith)) (λ j d a b. from' (suc j) d (omega arith) (omega arith)) (λ j d a b. upto (suc j) d (omega arith) (omega arith)) (λ j d a b. behind (suc j) d (omega arith) (omega arith))
-    ∙ sym (cond-false (eqb x.start.line n) (x ∷ filter (λ (e : LineAnnotation). eqb e.start.line n) xs) (filter (λ (e : LineAnnotation). eqb e.start.line n) xs) (ne_eqb x.start.line n (λ same. absurd (omega (arith, same, below 0 x (omega arith) (omega arith))))))
-on-line (x ∷ xs) n zero to (suc m) is below from' upto behind =
-    ap (λ ys. x ∷ ys) (on-line xs n zero (to - 1) m (omega arith) (λ j d a b. absurd (omega arith)) (λ j d a b. from' (suc j) d (omega arith) (omega arith)) (λ j d a b. upto (suc j) d (omega arith) (omega arith)) (λ j d a b. behind (suc j) d (omega arith) (omega arith)))
-    ∙ sym (cond-true (eqb x.start.line n) (x ∷ filter (λ (e : LineAnnotation). eqb e.start.line n) xs) (filter (λ (e : LineAnnotation). eqb e.start.line n) xs) (eq-eqb x.start.line n (omega (arith, from' 0 x (omega arith) (omega arith), upto 0 x (omega arith) (omega arith)))))
-on-line (x ∷ xs) n zero to zero is below from' upto behind =
-    on-line xs n zero zero zero (omega arith) (λ j d a b. absurd (omega arith)) (λ j d a b. from' (suc j) d (omega arith) (omega arith)) (λ j d a b. absurd (omega arith)) (λ j d a b. behind (suc j) d (omega arith) (omega arith))
-    ∙ sym (cond-false (eqb x.start.line n) (x ∷ filter (λ (e : LineAnnotation). eqb e.start.line n) xs) (filter (λ (e : LineAnnotation). eqb e.start.line n) xs) (ne_eqb x.start.line n (λ same. absurd (omega (arith, same, behind 0 x (omega arith) (omega arith))))))
+pub on-line : {X : Type 0} (line : X → ℕ) (xs : List X) (n from to m : ℕ) → to ≡ from + m → ((j : ℕ) (d : X) → j < from → j < length xs → line (get_or xs j d) < n) → ((j : ℕ) (d : X) → from ≤ j → j < length xs → n ≤ line (get_or xs j d)) → ((j : ℕ) (d : X) → j < to → j < length xs → line (get_or xs j d) ≤ n) → ((j : ℕ) (d : X) → to ≤ j → j < length xs → n < line (get_or xs j d)) → take m (drop from xs) ≡ filter (λ e. eqb (line e) n) xs
+on-line line [] n zero to zero is below from' upto behind = refl
+on-line line [] n zero to (suc m) is below from' upto behind = refl
+on-line line [] n (suc from) to zero is below from' upto behind = refl
+on-line line [] n (suc from) to (suc m) is below from' upto behind = refl
+on-line line (x ∷ xs) n (suc from) to m is below from' upto behind =
+    on-line line xs n from (to - 1) m (omega arith) (λ j d a b. below (suc j) d (omega arith) (omega arith)) (λ j d a b. from' (suc j) d (omega arith) (omega arith)) (λ j d a b. upto (suc j) d (omega arith) (omega arith)) (λ j d a b. behind (suc j) d (omega arith) (omega arith))
+    ∙ sym (cond-false (eqb (line x) n) (x ∷ filter (λ e. eqb (line e) n) xs) (filter (λ e. eqb (line e) n) xs) (ne_eqb (line x) n (λ same. absurd (omega (arith, same, below 0 x (omega arith) (omega arith))))))
+on-line line (x ∷ xs) n zero to (suc m) is below from' upto behind =
+    ap (λ ys. x ∷ ys) (on-line line xs n zero (to - 1) m (omega arith) (λ j d a b. absurd (omega arith)) (λ j d a b. from' (suc j) d (omega arith) (omega arith)) (λ j d a b. upto (suc j) d (omega arith) (omega arith)) (λ j d a b. behind (suc j) d (omega arith) (omega arith)))
+    ∙ sym (cond-true (eqb (line x) n) (x ∷ filter (λ e. eqb (line e) n) xs) (filter (λ e. eqb (line e) n) xs) (eq-eqb (line x) n (omega (arith, from' 0 x (omega arith) (omega arith), upto 0 x (omega arith) (omega arith)))))
+on-line line (x ∷ xs) n zero to zero is below from' upto behind =
+    on-line line xs n zero zero zero (omega arith) (λ j d a b. absurd (omega arith)) (λ j d a b. from' (suc j) d (omega arith) (omega arith)) (λ j d a b. absurd (omega arith)) (λ j d a b. behind (suc j) d (omega arith) (omega arith))
+    ∙ sym (cond-false (eqb (line x) n) (x ∷ filter (λ e. eqb (line e) n) xs) (filter (λ e. eqb (line e) n) xs) (ne_eqb (line x) n (λ same. absurd (omega (arith, same, behind 0 x (omega arith) (omega arith))))))
 
 -- ---- a stable sort by lines
 
@@ -76,12 +76,11 @@ lines-left p f i now none before =
 pub same-kept : (number number' : ℕ) (text text' : List ℕ) (parts parts' : List PartEntry) (keep keep' : Bool) → number ≡ number' → text ≡ text' → parts ≡ parts' → keep ≡ keep' → ◌≡◌ {A = KeptLine} (record { number = number; text = text; parts = parts; keep = keep }) (record { number = number'; text = text'; parts = parts'; keep = keep' })
 same-kept number number' text text' parts parts' keep keep' a b c d = cc
 
-pub from-to : (xs : List LineAnnotation) (n from to : ℕ) → from ≤ length xs → ((j : ℕ) (d : LineAnnotation) → j < from → j < length xs → (get_or xs j d).start.line < n) → ((j : ℕ) (d : LineAnnotation) → to ≤ j → j < length xs → n < (get_or xs j d).start.line) → from ≤ to
-unfolding at-line
-from-to xs n from to within below behind =
+pub from-to : {X : Type 0} (line : X → ℕ) (none : X) (xs : List X) (n from to : ℕ) → from ≤ length xs → ((j : ℕ) (d : X) → j < from → j < length xs → line (get_or xs j d) < n) → ((j : ℕ) (d : X) → to ≤ j → j < length xs → n < line (get_or xs j d)) → from ≤ to
+from-to line none xs n from to within below behind =
     elim (cases_lt to from) [
       | inr le ↦ le
-      | inl less ↦ absurd (omega (arith, below to (at-line 0) less (omega arith), behind to (at-line 0) (omega arith) (omega arith)))
+      | inl less ↦ absurd (omega (arith, below to none less (omega arith), behind to none (omega arith) (omega arith)))
     ]
 
 -- ---- depths of annotations
@@ -118,7 +117,7 @@ any-filter q p (x ∷ xs) (suc k) d within pass hit =
     ]
 
 -- the place of a span of several lines stands among the places
-place-among : (s : Source) (marks : List Annotation) (a : Annotation) → Contains marks a → is_long s.text a ≡ true → list_any (same_place (long_place (long_entry s a))) (long_places s marks) ≡ true
+pub place-among : (s : Source) (marks : List Annotation) (a : Annotation) → Contains marks a → is_long s.text a ≡ true → list_any (same_place (long_place (long_entry s a))) (long_places s marks) ≡ true
 place-among s marks a among long =
     any-map (same_place (long_place (long_entry s a))) long_place (long_spans s marks)
     ∙ any-order stands_before (λ e. same_place (long_place (long_entry s a)) (long_place e)) (map (long_entry s) (filter (is_long s.text) marks))

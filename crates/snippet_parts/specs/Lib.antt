@@ -1,5 +1,7 @@
 pub mod Annotated
+pub mod Between
 pub mod Depths
+pub mod Entries
 pub mod Extent
 pub mod Kept
 pub mod LineTable

@@ -1,6 +1,7 @@
 //! All entries of annotations, and the greatest depth of those that stand on several lines.
 ghost use Rattle.std.specs.Prelude.{◌≡◌, ◌+◌, ◌<◌, ◌≤◌, ◌&&◌, ◌||◌, ◌++◌, ◌∷◌, [], All, length, map, take, drop, IfOk, OnOk};
 ghost use Rattle.std.specs.List.{list_any};
+ghost use Rattle.std.specs.List.Sorted.{IsNonDecreasingBy};
 ghost use Rattle.snippet_parts.specs.Annotated as spec;
 ghost use Rattle.snippet_parts.specs.Annotated.{seen_part};
 ghost use Rattle.snippet_parts.specs.Depths.{depth_among, same_place};
@@ -10,7 +11,7 @@ ghost use Rattle.snippet_lines.specs.Span.{IsSpan};
 
 use crate::depths::depths;
 use crate::entries::LineAnnotation;
-use crate::long_spans::{LongSpan, long_spans, places};
+use crate::long_spans::{LongSpan, long_spans, places, starting_on};
 use crate::made_entries::{push_span_entries, single_entries};
 use crate::source_map::SourceMap;
 use snippet_model::snippet::{Annotation, AnnotationKind};
@@ -45,6 +46,7 @@ fn push_long_entries<'a>(
     depths: &[usize],
 ) -> Result<(), AllocError>
     requires fit { All (HasFit source.now) spans.now }
+    requires ordered { IsNonDecreasingBy (λ l. l.start.line) spans.now }
     requires depths { depths.now ≡ map (λ span. depth_among (map spec.long_place (map seen_long spans.now)) (spec.long_place (seen_long span))) spans.now }
     ensures value { OnOk result (map seen_part entries.new.items ≡ map seen_part entries.old.items
         ++ spec.long_parts source.now (map spec.long_place (map seen_long spans.now)) [] (map seen_long spans.now)) }
@@ -57,8 +59,17 @@ fn push_long_entries<'a>(
     Ok(())
 }
 
-/// Whether a span has the place of one of some others.
+/// Whether a span has the place of one of some others, which are ordered by their first lines.
 fn stands_among(span: LongSpan<'_>, others: &[LongSpan<'_>]) -> bool
+    requires ordered { IsNonDecreasingBy (λ l. l.start.line) others.now }
+    ensures value { result ≡ list_any (λ other. same_place (spec.long_place (seen_long span.entry)) (spec.long_place (seen_long other))) others.now }
+{
+    // The others start on another line.
+    is_place_of_any(span, starting_on(others, span.start.line))
+}
+
+/// Whether a span has the place of one of some others.
+fn is_place_of_any(span: LongSpan<'_>, others: &[LongSpan<'_>]) -> bool
     ensures value { result ≡ list_any (λ other. same_place (spec.long_place (seen_long span.entry)) (spec.long_place (seen_long other))) others.now }
 {
     for other in others {
@@ -71,6 +82,7 @@ fn stands_among(span: LongSpan<'_>, others: &[LongSpan<'_>]) -> bool
 
 /// A span as it is drawn: primary where it is, or one before it that has its place.
 fn drawn<'a>(before: &[LongSpan<'a>], span: LongSpan<'a>) -> LongSpan<'a>
+    requires ordered { IsNonDecreasingBy (λ l. l.start.line) before.now }
     ensures value { seen_long result ≡ spec.drawn (map seen_long before.now) (seen_long span.entry) }
     ensures start { result.start ≡ span.entry.start }
     ensures end { result.end ≡ span.entry.end }
@@ -82,14 +94,20 @@ fn drawn<'a>(before: &[LongSpan<'a>], span: LongSpan<'a>) -> LongSpan<'a>
     drawn
 }
 
-/// Whether a span is primary, or one of those before it that has its place.
+/// Whether a span is primary, or one of those before it that has its place, which are ordered by their first lines.
 fn is_primary(before: &[LongSpan<'_>], span: LongSpan<'_>) -> bool
+    requires ordered { IsNonDecreasingBy (λ l. l.start.line) before.now }
     ensures value { result ≡ (spec.is_primary span.entry.kind || list_any (λ other. spec.is_primary other.kind && same_place (spec.long_place (seen_long span.entry)) (spec.long_place (seen_long other))) before.now) }
 {
-    if span.kind == AnnotationKind::Primary {
-        return true;
-    }
-    for other in before {
+    span.kind == AnnotationKind::Primary
+        || is_place_of_primary(span, starting_on(before, span.start.line))
+}
+
+/// Whether a span has the place of a primary one of some others.
+fn is_place_of_primary(span: LongSpan<'_>, others: &[LongSpan<'_>]) -> bool
+    ensures value { result ≡ list_any (λ other. spec.is_primary other.kind && same_place (spec.long_place (seen_long span.entry)) (spec.long_place (seen_long other))) others.now }
+{
+    for other in others {
         if other.kind == AnnotationKind::Primary && span.place() == other.place() {
             return true;
         }

@@ -4,6 +4,7 @@
 mod all_entries;
 mod annotated_lines;
 mod bars;
+pub mod between;
 pub mod depths;
 pub mod entries;
 pub mod extent;
@@ -19,6 +20,7 @@ pub mod source_map;
 mod weak_lines;
 pub mod window;
 
+pub use between::with_lines_between;
 pub use entries::{AnnotatedLineInfo, LineAnnotation, LineAnnotationType};
 pub use extent::margin_for;
 pub use line_window::{LineWindow, window_of};

@@ -1,6 +1,6 @@
 //! Spans of several lines, in the order in which they are drawn.
 
-ghost use Rattle.std.specs.Prelude.{◌≡◌, true, All, map, filter, IfOk};
+ghost use Rattle.std.specs.Prelude.{◌≡◌, ◌==◌, ◌-◌, ◌≤◌, true, All, map, filter, take, drop, length, IfOk};
 ghost use Rattle.std.specs.List.Sorted.{IsNonDecreasingBy};
 ghost use Rattle.snippet_parts.specs.Annotated as spec;
 ghost use Rattle.snippet_parts.specs.LongSpans.{seen_long, HasFit};
@@ -114,4 +114,25 @@ pub(crate) fn places(alloc: Global, spans: &[LongSpan<'_>]) -> Result<Vec<LongPl
         places.push(span.place())?;
     }
     Ok(places)
+}
+
+/// Those of some spans, which are ordered by their first lines, that start on the line of a number.
+pub(crate) fn starting_on<'s, 'a>(spans: &'s [LongSpan<'a>], line: usize) -> &'s [LongSpan<'a>]
+    requires ordered { IsNonDecreasingBy (λ l. l.start.line) spans.now }
+    ensures value { result.now ≡ filter (λ l. l.start.line == line) spans.now }
+{
+    let (from, to) = range_on(spans, line);
+    &spans[from..to]
+}
+
+/// From which to before which place those stand.
+fn range_on(spans: &[LongSpan<'_>], line: usize) -> (usize, usize)
+    requires ordered { IsNonDecreasingBy (λ l. l.start.line) spans.now }
+    ensures ordered { result.0 ≤ result.1 }
+    ensures within { result.1 ≤ length spans.now }
+    ensures value { take (result.1 - result.0) (drop result.0 spans.now) ≡ filter (λ l. l.start.line == line) spans.now }
+{
+    let from = spans.partition_point(|span| span.start.line < line);
+    let to = spans.partition_point(|span| span.start.line <= line);
+    (from, to)
 }

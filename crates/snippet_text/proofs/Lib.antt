@@ -1,2 +1,3 @@
 pub mod NormLemmas
+pub mod WidthBounds
 pub mod WidthLemmas

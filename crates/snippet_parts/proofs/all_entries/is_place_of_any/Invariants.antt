@@ -3,7 +3,7 @@ use Rattle.std.specs.List.{list_any}
 use Rattle.snippet_parts.specs.Annotated.{long_place}
 use Rattle.snippet_parts.specs.Depths.{same_place}
 use Rattle.snippet_parts.specs.LongSpans.{seen_long}
-use Rattle.snippet_parts.proofs.all_entries.stands_among.Given as goal
+use Rattle.snippet_parts.proofs.all_entries.is_place_of_any.Given as goal
 
 -- none so far has the place
 abbrev pub invariant-loop-other : goal.invariant-loop-other

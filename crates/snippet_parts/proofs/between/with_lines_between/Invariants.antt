@@ -1,0 +1,12 @@
+use Rattle.std.proofs.Common.{◌≡◌, ◌++◌, None, map, length}
+use Rattle.std.specs.Vec.Iter.{into_iter_items, into_iter_len}
+use Rattle.snippet_parts.specs.Annotated.{seen_kept}
+use Rattle.snippet_parts.proofs.BetweenLemmas.{filled}
+use Rattle.snippet_parts.proofs.between.with_lines_between.Given as goal
+
+-- the lines so far, and behind them those of the lines that are left
+abbrev pub invariant-loop-info : goal.invariant-loop-info
+invariant-loop-info l = record {
+  lines : map seen_kept l.shown.items ++ filled l.source l.before (map seen_kept (into_iter_items l.info-iterator)) ≡ filled l.source None (map seen_kept l.fn.kept.items);
+  left : into_iter_len l.info-iterator ≡ length (into_iter_items l.info-iterator);
+}
