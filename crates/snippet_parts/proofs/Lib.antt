@@ -1,3 +1,4 @@
+pub mod AmongLemmas
 pub mod BarLemmas
 pub mod BetweenLemmas
 pub mod DepthLemmas
@@ -9,6 +10,7 @@ pub mod KeptLemmas
 pub mod KeptPartLemmas
 pub mod LineWindowLemmas
 pub mod LongLemmas
+pub mod MarginLaws
 pub mod MarkLemmas
 pub mod MarkedLemmas
 pub mod PartLemmas

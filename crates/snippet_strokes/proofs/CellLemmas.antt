@@ -95,7 +95,7 @@ row_text-written cells at new =
     let back : map f (drop (at + length new) cells) ≡ drop (at + length (map f new)) (map f cells) = sym (drop-map f (at + length new) cells) ∙ ap (λ n. drop (at + n) (map f cells)) (sym (length-map new f)) in
     map-append f (take at (cells ++ replicate (at - length cells) SPACE) ++ new) (drop (at + length new) cells) ∙ ap (λ xs. xs ++ map f (drop (at + length new) cells)) (map-append f (take at (cells ++ replicate (at - length cells) SPACE)) new ∙ ap (λ xs. xs ++ map f new) front) ∙ ap (λ xs. (take at (map f cells ++ replicate (at - length (map f cells)) 32) ++ map f new) ++ xs) back
 
-row_text-drawn : (role : ElementStyle) (cs : List ℕ) → row_text (drawn role cs) ≡ cs
+pub row_text-drawn : (role : ElementStyle) (cs : List ℕ) → row_text (drawn role cs) ≡ cs
 row_text-drawn role [] = refl
 row_text-drawn role (c ∷ cs) = ap (λ xs. c ∷ xs) (row_text-drawn role cs)
 
@@ -124,7 +124,7 @@ row_text-window_cells decor margin text =
     row_text-ended decor (covered_end margin.term_width left right placeholder text) _ _ (row_text-begun decor (covered_columns left placeholder inner) (uncovered_part left placeholder inner))
 
 -- no cell of it is listed
-free_placeholder : (decor : DecorStyle) → IsFree (drawn LineNumber (placeholder_of decor))
+pub free_placeholder : (decor : DecorStyle) → IsFree (drawn LineNumber (placeholder_of decor))
 free_placeholder Ascii =
     let P : ℕ → Type 0 = λ c. is_listed c ≡ false in
     free_drawn LineNumber (46 ∷ 46 ∷ 46 ∷ []) (All-cons P 46 (46 ∷ 46 ∷ []) refl (All-cons P 46 (46 ∷ []) refl (All-cons P 46 [] refl (All-nil P))))

@@ -11,3 +11,4 @@ pub mod StrokeLemmas
 pub mod WholeLemmas
 pub mod SnippetLemmas
 pub mod PaintLemmas
+pub mod CutLemmas

@@ -136,6 +136,14 @@ pub record IsCut (layout : Layout) (wide : ℕ) (whole row : List Cell) : Type 0
   pub uncut : wide ≡ 0 → row ≡ whole
   pub free : IsFree whole → IsFree row
 
+-- two rows, one below the other, were each cut so, and nothing changed above and below them
+pub record CutsRows (layout : Layout) (wide : ℕ) (above : List (List Cell)) (source marks : List Cell) (below new : List (List Cell)) : Type 0 where
+  pub source_now : List Cell
+  pub marks_now : List Cell
+  pub new_is : new ≡ above ++ source_now ∷ marks_now ∷ below
+  pub source_cut : IsCut layout wide source source_now
+  pub marks_cut : IsCut layout wide marks marks_now
+
 -- a source row with its bars beside it, and cut where entries are wide: it begins as this row does, and where bars stand it
 -- holds nothing but parts of them
 pub record IsBeside (layout : Layout) (wide : ℕ) (plain row : List Cell) : Type 0 where

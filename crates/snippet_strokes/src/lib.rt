@@ -1,6 +1,7 @@
 //! The strokes of a snippet: for each line that is shown its source row, and below it the rows of its marks and labels.
 #![tactic(auto)]
 
+mod cuts;
 mod highlight;
 mod labels;
 pub mod layout;

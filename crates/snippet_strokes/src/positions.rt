@@ -151,7 +151,7 @@ fn label_positions(alloc: Global, entries: &[PlacedEntry]) -> Result<Vec<usize>,
 }
 
 /// The position of an entry in front of others, where this one is reached.
-fn position_at(reached: usize, entry: &PlacedEntry, others: &[PlacedEntry]) -> usize
+pub(crate) fn position_at(reached: usize, entry: &PlacedEntry, others: &[PlacedEntry]) -> usize
     requires columns { All (λ e. e.entry.end.display < 2 ^ 60) others.now }
     ensures value { result ≡ spec.position_at reached entry.now others.now }
 {
@@ -163,7 +163,7 @@ fn position_at(reached: usize, entry: &PlacedEntry, others: &[PlacedEntry]) -> u
 }
 
 /// The position that is reached behind an entry that has this one.
-fn position_behind(position: usize, entry: &PlacedEntry, others: &[PlacedEntry]) -> usize
+pub(crate) fn position_behind(position: usize, entry: &PlacedEntry, others: &[PlacedEntry]) -> usize
     requires columns { All (λ e. e.entry.end.display < 2 ^ 60) others.now }
     requires low { position + 1 < 2 ^ 64 }
     ensures value { result ≡ spec.position_behind position entry.now others.now }
@@ -195,7 +195,7 @@ fn is_crossed(entry: &PlacedEntry, others: &[PlacedEntry]) -> bool
 }
 
 /// Whether two marks overlap, unless they are one mark and only the first has a label.
-fn crosses(entry: &PlacedEntry, other: &PlacedEntry) -> bool
+pub(crate) fn crosses(entry: &PlacedEntry, other: &PlacedEntry) -> bool
     requires columns { other.now.entry.end.display < 2 ^ 60 }
     ensures value { result ≡ spec.crosses entry.now other.now }
 {
@@ -222,7 +222,7 @@ fn crowds(position: usize, entry: &PlacedEntry, other: &PlacedEntry) -> bool
 }
 
 /// Whether one of two entries starts in the columns of the other, those of the first being so many more.
-fn overlap(first: &PlacedEntry, more: usize, second: &PlacedEntry) -> bool
+pub(crate) fn overlap(first: &PlacedEntry, more: usize, second: &PlacedEntry) -> bool
     requires room { first.now.entry.end.display + more < 2 ^ 64 }
     ensures value { result ≡ spec.do_overlap first.now more second.now }
 {

@@ -1,0 +1,166 @@
+-- Rows in which stretches gave their place to the placeholder.
+use Rattle.std.proofs.Common.{◌≡◌, ◌∙◌, ℕ, zero, suc, ◌+◌, ◌-◌, ◌<◌, ◌≤◌, Bool, List, [], ◌∷◌, ◌++◌, length, take, drop, set, get_or, cond, refl, sym, ap, subst, arith, inl, inr}
+use Rattle.std.proofs.lemmas.Bool.{cases_lt}
+use Rattle.std.proofs.lemmas.List.{places, same_lists, map-append, append_assoc, length-append, take_more}
+use Rattle.std.proofs.lemmas.List.Sums.{sum_by-append}
+use Rattle.std.proofs.lemmas.List.Elements.{All-append, All-take, All-drop}
+use Rattle.std.proofs.Math.Seq.{set-append_seam}
+use Rattle.std.specs.List.{count_by, slice_index_or}
+use Rattle.snippet_parts.specs.Window.{AreReplaced, IsReplaced}
+use Rattle.snippet_style.specs.declared.role.ElementStyle.TheVariants.{LineNumber}
+use Rattle.snippet_style.specs.Glyphs.{placeholder_of}
+use Rattle.snippet_style.specs.Grid.{Cell, drawn, replaced_within, cells_replaced}
+use Rattle.snippet_style.specs.Print.{row_text}
+use Rattle.snippet_style.proofs.ChangeLemmas.{changed_within_one}
+use Rattle.snippet_style.proofs.ReplaceLemmas.{replaced_there, replaced_empty, replaced_past}
+use Rattle.snippet_strokes.specs.declared.layout.Layout.{Layout}
+use Rattle.snippet_strokes.specs.Painting.{IsFreeCell}
+use Rattle.snippet_strokes.specs.Rows.{IsCut, CutsRows}
+use Rattle.snippet_strokes.proofs.CellLemmas.{free_placeholder, row_text-drawn}
+
+-- how many of the first elements pass a test, with one more of them
+pub count_by_more : {X : Type 0} (p : X → Bool) (xs : List X) (i : ℕ) (x : X) → i < length xs → x ≡ get_or xs i x → count_by p (take (i + 1) xs) ≡ count_by p (take i xs) + count_by p (x ∷ [])
+count_by_more p xs i x within read =
+    ap (count_by p) (take_more xs i x within) ∙ sum_by-append (λ y. cond (p y) 1 0) (take i xs) (get_or xs i x ∷ []) ∙ ap (λ y. count_by p (take i xs) + count_by p (y ∷ [])) (sym read)
+
+-- nothing was replaced, or fewer stretches than so many
+AreReplaced-none : (placeholder : List ℕ) (n : ℕ) (text : List ℕ) → AreReplaced placeholder n text text
+AreReplaced-none placeholder zero text = refl
+AreReplaced-none placeholder (suc n) text = inl refl
+
+AreReplaced-weaker : (placeholder : List ℕ) (m n : ℕ) (before after : List ℕ) → m ≤ n → AreReplaced placeholder m before after → AreReplaced placeholder n before after
+AreReplaced-weaker placeholder zero n before after few same =
+    subst (AreReplaced placeholder n before) (sym same) (AreReplaced-none placeholder n before)
+AreReplaced-weaker placeholder (suc m) zero before after few are = absurd (omega arith)
+AreReplaced-weaker placeholder (suc m) (suc n) before after few (inl same) = inl same
+AreReplaced-weaker placeholder (suc m) (suc n) before after few (inr more) =
+    inr (more.0, more.1, AreReplaced-weaker placeholder m n more.0 after (omega arith) more.2)
+
+-- some stretches, and then some more
+AreReplaced-more : (placeholder : List ℕ) (m n : ℕ) (before now after : List ℕ) → AreReplaced placeholder m before now → AreReplaced placeholder n now after → AreReplaced placeholder (m + n) before after
+AreReplaced-more placeholder zero n before now after same are =
+    AreReplaced-weaker placeholder n (0 + n) before after (omega arith) (subst (λ text. AreReplaced placeholder n text after) same are)
+AreReplaced-more placeholder (suc m) n before now after (inl same) are =
+    AreReplaced-weaker placeholder n (suc m + n) before after (omega arith) (subst (λ text. AreReplaced placeholder n text after) same are)
+AreReplaced-more placeholder (suc m) n before now after (inr first) are =
+    let rest = AreReplaced-more placeholder m n first.0 now after first.2 are in
+    let count : suc m + n ≡ suc (m + n) = omega arith in
+    subst (λ k. AreReplaced placeholder k before after) (sym count) (inr (first.0, first.1, rest))
+
+-- a row that stays is cut nowhere
+IsCut-none : (layout : Layout) (n : ℕ) (row : List Cell) → IsCut layout n row row
+IsCut-none layout n row =
+    record {
+      left = refl;
+      text = AreReplaced-none (placeholder_of layout.decor) n (row_text (drop layout.code row));
+      uncut = λ _. refl;
+      free = λ free. free;
+    }
+
+-- a row that was cut, and then once more
+IsCut-more : (layout : Layout) (m n : ℕ) (whole now row : List Cell) → IsCut layout m whole now → IsCut layout n now row → IsCut layout (m + n) whole row
+IsCut-more layout m n whole now row first then =
+    record {
+      left = then.left ∙ first.left;
+      text = AreReplaced-more (placeholder_of layout.decor) m n (row_text (drop layout.code whole)) (row_text (drop layout.code now)) (row_text (drop layout.code row)) first.text then.text;
+      uncut = λ none. then.uncut (omega arith) ∙ first.uncut (omega arith);
+      free = λ free. then.free (first.free free);
+    }
+
+-- the parts of a list from an element on
+three_parts : {X : Type 0} (xs : List X) (code start end : ℕ) → code ≤ start → start < end → end ≤ length xs → drop code xs ≡ take (start - code) (drop code xs) ++ take (end - start) (drop start xs) ++ drop end xs
+three_parts xs code start end from some within =
+    same_lists _ _ (grind (arith, places)) (λ i d h. grind (arith, places))
+
+three_parts_now : {X : Type 0} (xs new : List X) (code start end : ℕ) → code ≤ start → start < end → end ≤ length xs → drop code (take start xs ++ new ++ drop end xs) ≡ take (start - code) (drop code xs) ++ new ++ drop end xs
+three_parts_now xs new code start end from some within =
+    same_lists _ _ (grind (arith, places)) (λ i d h. grind (arith, places))
+
+front_stays : {X : Type 0} (xs new : List X) (code start end : ℕ) → code ≤ start → start < end → end ≤ length xs → take code (take start xs ++ new ++ drop end xs) ≡ take code xs
+front_stays xs new code start end from some within =
+    same_lists _ _ (grind (arith, places)) (λ i d h. grind (arith, places))
+
+row_text-parts : (xs ys zs : List Cell) → row_text (xs ++ ys ++ zs) ≡ row_text xs ++ row_text ys ++ row_text zs
+row_text-parts xs ys zs =
+    let f : Cell → ℕ = λ c. c.ch in
+    map-append f (xs ++ ys) zs ∙ ap (λ t. t ++ row_text zs) (map-append f xs ys)
+
+-- a row of which a stretch gave its place to the placeholder, right of the code's first cell
+IsCut-there : (layout : Layout) (start end : ℕ) (row : List Cell) → layout.code ≤ start → start < end → end ≤ length row → IsCut layout 1 row (take start row ++ drawn LineNumber (placeholder_of layout.decor) ++ drop end row)
+IsCut-there layout start end row from some within =
+    let placeholder = drawn LineNumber (placeholder_of layout.decor) in
+    let front = take (start - layout.code) (drop layout.code row) in
+    let stretch = take (end - start) (drop start row) in
+    let back = drop end row in
+    let replaced : IsReplaced (placeholder_of layout.decor) (row_text (drop layout.code row)) (row_text (drop layout.code (take start row ++ placeholder ++ drop end row))) = record {
+      front = row_text front;
+      stretch = row_text stretch;
+      back = row_text back;
+      before_is = ap row_text (three_parts row layout.code start end from some within) ∙ row_text-parts front stretch back;
+      after_is = ap row_text (three_parts_now row placeholder layout.code start end from some within) ∙ row_text-parts front placeholder back ∙ ap (λ t. row_text front ++ t ++ row_text back) (row_text-drawn LineNumber (placeholder_of layout.decor));
+    } in
+    record {
+      left = front_stays row placeholder layout.code start end from some within;
+      text = inr (row_text (drop layout.code (take start row ++ placeholder ++ drop end row)), replaced, refl);
+      uncut = λ none. absurd (omega (arith, none));
+      free = λ free. All-append IsFreeCell (take start row ++ placeholder) (drop end row) (All-append IsFreeCell (take start row) placeholder (All-take IsFreeCell start row free) (free_placeholder layout.decor)) (All-drop IsFreeCell end row free);
+    }
+
+pub IsCut-replaced : (layout : Layout) (start end : ℕ) (row : List Cell) → layout.code ≤ start → IsCut layout 1 row (replaced_within start end (drawn LineNumber (placeholder_of layout.decor)) row)
+IsCut-replaced layout start end row from =
+    let placeholder = drawn LineNumber (placeholder_of layout.decor) in
+    elim (cases_lt start end) [
+      | inl some ↦ elim (cases_lt (length row) end) [
+        | inl past ↦ subst (IsCut layout 1 row) (sym (replaced_past start end placeholder row past)) (IsCut-none layout 1 row)
+        | inr within ↦ subst (IsCut layout 1 row) (sym (replaced_there start end placeholder row some within)) (IsCut-there layout start end row from some within)
+      ]
+      | inr none ↦ subst (IsCut layout 1 row) (sym (replaced_empty start end placeholder row none)) (IsCut-none layout 1 row)
+    ]
+
+-- a change in one row of a grid
+cells_replaced_here : (above below : List (List Cell)) (source cells : List Cell) (row start end : ℕ) → length above ≡ row → cells_replaced (above ++ source ∷ below) row start end cells ≡ above ++ replaced_within start end cells source ∷ below
+cells_replaced_here above below source cells row start end here =
+    let change = replaced_within start end cells in
+    let rows = above ++ source ∷ below in
+    let there : row < length rows = omega (arith, here, length-append above (source ∷ below)) in
+    let read : slice_index_or rows row [] ≡ source = grind (arith, places) in
+    changed_within_one change row rows [] there ∙ ap (λ r. set rows row (change r)) read ∙ ap (λ n. set rows n (change source)) (sym here) ∙ set-append_seam above source below (change source)
+
+-- rows that stay are cut nowhere
+pub CutsRows-none : (layout : Layout) (n : ℕ) (above : List (List Cell)) (source marks : List Cell) (below new : List (List Cell)) → new ≡ above ++ source ∷ marks ∷ below → CutsRows layout n above source marks below new
+CutsRows-none layout n above source marks below new is =
+    record {
+      source_now = source;
+      marks_now = marks;
+      new_is = is;
+      source_cut = IsCut-none layout n source;
+      marks_cut = IsCut-none layout n marks;
+    }
+
+-- the same stretch of both rows gave its place to the placeholder
+pub CutsRows-replaced : (layout : Layout) (row start end : ℕ) (above : List (List Cell)) (source marks : List Cell) (below old new : List (List Cell)) → layout.code ≤ start → length above ≡ row → old ≡ above ++ source ∷ marks ∷ below → new ≡ cells_replaced (cells_replaced old row start end (drawn LineNumber (placeholder_of layout.decor))) (row + 1) start end (drawn LineNumber (placeholder_of layout.decor)) → CutsRows layout 1 above source marks below new
+CutsRows-replaced layout row start end above source marks below old new from here was is =
+    let placeholder = drawn LineNumber (placeholder_of layout.decor) in
+    let change = replaced_within start end placeholder in
+    let first : cells_replaced old row start end placeholder ≡ above ++ change source ∷ marks ∷ below = ap (λ rows. cells_replaced rows row start end placeholder) was ∙ cells_replaced_here above (marks ∷ below) source placeholder row start end here in
+    let apart : above ++ change source ∷ marks ∷ below ≡ (above ++ change source ∷ []) ++ marks ∷ below = sym (append_assoc above (change source ∷ []) (marks ∷ below)) in
+    let next : length (above ++ change source ∷ []) ≡ row + 1 = omega (arith, here, length-append above (change source ∷ [])) in
+    let second = cells_replaced_here (above ++ change source ∷ []) below marks placeholder (row + 1) start end next in
+    record {
+      source_now = change source;
+      marks_now = change marks;
+      new_is = is ∙ ap (λ rows. cells_replaced rows (row + 1) start end placeholder) (first ∙ apart) ∙ second ∙ append_assoc above (change source ∷ []) (change marks ∷ below);
+      source_cut = IsCut-replaced layout start end source from;
+      marks_cut = IsCut-replaced layout start end marks from;
+    }
+
+-- both rows were cut, and then once more
+pub CutsRows-more : (layout : Layout) (m n : ℕ) (above : List (List Cell)) (source marks : List Cell) (below mid new : List (List Cell)) → (done : CutsRows layout m above source marks below mid) → CutsRows layout n above done.source_now done.marks_now below new → CutsRows layout (m + n) above source marks below new
+CutsRows-more layout m n above source marks below mid new done then =
+    record {
+      source_now = then.source_now;
+      marks_now = then.marks_now;
+      new_is = then.new_is;
+      source_cut = IsCut-more layout m n source done.source_now then.source_now done.source_cut then.source_cut;
+      marks_cut = IsCut-more layout m n marks done.marks_now then.marks_now done.marks_cut then.marks_cut;
+    }

@@ -1,0 +1,10 @@
+use Rattle.std.proofs.Common.{◌≡◌, ◌++◌, ◌∷◌, List, length, map, take}
+use Rattle.snippet_style.specs.Grid.{Cell}
+use Rattle.snippet_strokes.specs.Entries.{wide_entries}
+use Rattle.snippet_strokes.specs.Rows.{CutsRows}
+use Rattle.snippet_strokes.proofs.cuts.cut_wide.Given as goal
+
+-- the rows are cut at the entries so far
+abbrev pub invariant-loop-k : goal.invariant-loop-k
+invariant-loop-k l =
+    (above : List (List Cell)) (source marks : List Cell) (below : List (List Cell)) → length above ≡ l.row → l.initial.buffer ≡ above ++ source ∷ marks ∷ below → CutsRows l.layout (wide_entries l.room l.layout.decor (take l.k (map (λ e. e.entry) l.placed))) above source marks below l.buffer
