@@ -1,11 +1,14 @@
 -- Why a line's number takes at most one cell more than the gutter has.
-use Rattle.std.proofs.Common.{◌≡◌, ◌≢◌, ℕ, zero, suc, ◌+◌, ◌-◌, ◌/◌, ◌<◌, ◌≤◌, ◌^◌, max, ◌==◌, ◌&&◌, not, nat_lt, Bool, true, false, cond, List, [], ◌∷◌, ◌++◌, All, length, take, map, fold, count_by, get_or, replicate, refl, sym, ap, ◌∙◌, arith}
+use Rattle.std.proofs.Common.{◌≡◌, ◌≢◌, ℕ, zero, suc, ◌+◌, ◌-◌, ◌/◌, ◌<◌, ◌≤◌, ◌^◌, max, ◌==◌, ◌&&◌, not, nat_le, nat_lt, Bool, true, false, cond, List, [], ◌∷◌, ◌++◌, All, length, take, map, fold, count_by, get_or, replicate, refl, sym, ap, subst, ◌∙◌, arith, inl, inr}
 use Rattle.std.specs.Cow.{cow_str_bytes}
 use Rattle.std.specs.Fmt.{decimal}
 use Rattle.std.proofs.lemmas.List.{take-take, length-append, length-replicate}
 use Rattle.std.proofs.Math.Seq.{take-append_seam}
 use Rattle.std.proofs.lemmas.List.Sums.{sum_by-append, sum_by-take-le}
-use Rattle.std.proofs.lemmas.List.Elements.{All-nil, All-cons, All-head, All-tail}
+use Rattle.std.specs.List.{filter, list_any, range_with_len}
+use Rattle.std.proofs.lemmas.Bool.{and_parts, cases_Bool, cond-true, cond-false, eqb-true}
+use Rattle.std.proofs.lemmas.List.FromFn.{get_or-range_with_len, length-range_with_len}
+use Rattle.std.proofs.lemmas.List.Elements.{All-nil, All-cons, All-contains, All-filter, All-head, All-same, All-tail, All-weaker, filter_passes}
 use Rattle.std.proofs.lemmas.Bool.Decides.{nat_tests}
 use Rattle.snippet_model.specs.declared.snippet.Snippet.{Snippet}
 use Rattle.snippet_model.specs.declared.snippet.Annotation.{Annotation}
@@ -14,17 +17,20 @@ use Rattle.snippet_lines.specs.declared.lines.EndLine.TheVariants.{Eof, Lf, Crlf
 use Rattle.snippet_parts.specs.declared.entries.AnnotatedLineInfo.{AnnotatedLineInfo}
 use Rattle.snippet_lines.specs.Lines.{Line, AreLines, joined, line_bytes, is_lf, last_byte, newline_count, source_lines, start_of}
 use Rattle.snippet_lines.specs.Place.{line_of}
-use Rattle.snippet_lines.specs.Span.{IsSpan}
 use Rattle.snippet_parts.specs.Prepare.{greatest_end, counted_number, reached_source}
-use Rattle.snippet_parts.specs.Marked.{first_line, greatest_line, seen_line, marked_lines}
+use Rattle.snippet_parts.specs.Annotated.{KeptLine, kept_line, seen_kept}
+use Rattle.snippet_parts.specs.Kept.{keeps, kept_lines, shown_lines, with_between}
+use Rattle.snippet_parts.specs.Mark.{touches}
+use Rattle.snippet_parts.specs.Marked.{first_line, last_line}
 use Rattle.snippet_lines.proofs.LinesLemmas.{joined-source_lines, AreLines-lines_of, split_at_line, length-source_lines}
 use Rattle.snippet_lines.proofs.CountLemmas.{newline_count-take}
 use Rattle.snippet_lines.proofs.PlaceLemmas.{HoldsByte-source, line_of-within}
-use Rattle.snippet_parts.proofs.MarkedLemmas.{length-marked_lines, marked_lines-number, greatest_line-within}
 use Rattle.snippet_strokes.specs.Rows.{shown_number}
 use Rattle.snippet_strokes.proofs.NumberLemmas.{length-decimal_monotone, length-decimal_more, length-decimal_last}
-use Rattle.annotate_snippets.specs.Gutter.{gutter_of}
-use Rattle.annotate_snippets.specs.Drawn.{numbered_source}
+use Rattle.annotate_snippets.specs.Drawn.{IsDrawable}
+use Rattle.annotate_snippets.specs.Gutter.{gutter_of, numbered_source}
+use Rattle.annotate_snippets.proofs.MarkLemmas.{from_any}
+use Rattle.annotate_snippets.proofs.PartsFacts.{shown_within}
 
 -- how many line feeds some bytes hold
 abbrev feeds : List ℕ → ℕ
@@ -84,39 +90,76 @@ fold-ends [] m = All-nil (λ (a : Annotation). a.span.end ≤ m)
 fold-ends (a ∷ marks) m =
     All-cons (λ (b : Annotation). b.span.end ≤ fold (λ end (c : Annotation). max c.span.end end) (max a.span.end m) marks) a marks (omega (arith, fold-end-ge marks (max a.span.end m))) (fold-ends marks (max a.span.end m))
 
--- a greatest line is at most what each line is at most
-fold-max-le : (source : List ℕ) (n : ℕ) (marks : List Annotation) (m : ℕ) → m ≤ n → All (λ a. first_line source a ≤ n) marks → fold (λ line (a : Annotation). max line (first_line source a)) m marks ≤ n
-fold-max-le source n [] m low all = low
-fold-max-le source n (a ∷ marks) m low all =
-    let here : first_line source a ≤ n = All-head (λ b. first_line source b ≤ n) a marks all in
-    fold-max-le source n marks (max m (first_line source a)) (omega arith) (All-tail (λ b. first_line source b ≤ n) a marks all)
-
--- each line that a span starts on has a number at most one more than the number counted for the gutter
-lines-counted : (s : Snippet Annotation) → All (λ a. IsSpan (cow_str_bytes s.source) a.span.start a.span.end) s.markers.items → All (λ a. first_line (cow_str_bytes s.source) a ≤ newline_count (reached_source s) + 1) s.markers.items
-lines-counted s spans = λ k d within.
+-- each line that a span ends on has a number at most one more than the number counted for the gutter
+lines-counted : (s : Snippet Annotation) → All (λ a. last_line (cow_str_bytes s.source) a ≤ newline_count (reached_source s) + 1) s.markers.items
+lines-counted s = λ k d within.
     let source : List ℕ = cow_str_bytes s.source in
     let marks : List Annotation = s.markers.items in
-    let span = spans k d within in
     let ends : (get_or marks k d).span.end ≤ greatest_end marks = fold-ends marks 0 k d within in
-    let folded : first_line source (get_or marks k d) ≤ newline_count (take (greatest_end marks) source) + 1 = first_line-counted source (get_or marks k d).span.start (greatest_end marks) (omega (arith, span.ordered)) in
-    let unfolded : first_line source (get_or marks k d) ≤ newline_count source + 1 = omega (arith, line_of-within source (get_or marks k d).span.start, length-source_lines source) in
-    elim (s.fold && not (length marks == 0)) as (λ b. first_line source (get_or marks k d) ≤ newline_count (cond b (take (greatest_end marks) source) source) + 1) [
+    let folded : last_line source (get_or marks k d) ≤ newline_count (take (greatest_end marks) source) + 1 = first_line-counted source (get_or marks k d).span.end (greatest_end marks) ends in
+    let unfolded : last_line source (get_or marks k d) ≤ newline_count source + 1 = omega (arith, line_of-within source (get_or marks k d).span.end, length-source_lines source) in
+    elim (s.fold && not (length marks == 0)) as (λ b. last_line source (get_or marks k d) ≤ newline_count (cond b (take (greatest_end marks) source) source) + 1) [
       | true ↦ folded
       | false ↦ unfolded
     ]
 
--- so each marked line's number is at most one more than that
-pub numbers-counted : (s : Snippet Annotation) (infos : List AnnotatedLineInfo) → map seen_line infos ≡ marked_lines (numbered_source s) s.markers.items → All (λ a. IsSpan (cow_str_bytes s.source) a.span.start a.span.end) s.markers.items → All (λ info. info.line_index ≤ counted_number s + 1) infos
-numbers-counted s infos lines spans = λ i d within.
-    let source : List ℕ = cow_str_bytes s.source in
-    let marks : List Annotation = s.markers.items in
-    let highest : greatest_line source marks ≤ newline_count (reached_source s) + 1 = fold-max-le source (newline_count (reached_source s) + 1) marks 0 (omega arith) (lines-counted s spans) in
-    omega (arith, marked_lines-number (numbered_source s) marks infos lines i d within, length-marked_lines (numbered_source s) marks infos lines)
+-- a line that a span keeps is touched by it
+kept_before : (source : List ℕ) (a : Annotation) (k : ℕ) → keeps source k a ≡ true → k ≤ last_line source a
+kept_before source a k kept =
+    let touched = and_parts (touches source a k) _ kept in
+    let last = (and_parts (nat_le (first_line source a) k) (nat_le k (last_line source a)) touched.0).1 in
+    grind (arith, nat_tests, last)
 
--- and fits, since it is that of a line
-pub numbers-small : (s : Snippet Annotation) (infos : List AnnotatedLineInfo) → map seen_line infos ≡ marked_lines (numbered_source s) s.markers.items → s.line_start + length (source_lines (cow_str_bytes s.source)) < 2 ^ 64 → All (λ info. info.line_index < 2 ^ 64) infos
-numbers-small s infos lines fits = λ i d within.
-    omega (arith, marked_lines-number (numbered_source s) s.markers.items infos lines i d within, length-marked_lines (numbered_source s) s.markers.items infos lines, greatest_line-within (cow_str_bytes s.source) s.markers.items)
+-- so each kept line's number is at most one more than that
+kept-counted : (s : Snippet Annotation) → All (λ k. k ≤ newline_count (reached_source s) + 1) (kept_lines s.fold (cow_str_bytes s.source) s.markers.items)
+kept-counted s = by_cases s.fold refl
+  where
+    source : List ℕ
+    source = cow_str_bytes s.source
+
+    all : List ℕ
+    all = range_with_len 0 (length (source_lines source))
+
+    by_cases : (fold : Bool) → s.fold ≡ fold → All (λ k. k ≤ newline_count (reached_source s) + 1) (kept_lines fold source s.markers.items)
+    by_cases true is =
+        let p : ℕ → Bool = λ k. list_any (keeps source k) s.markers.items in
+        All-weaker (λ k. p k ≡ true) (λ k. k ≤ newline_count (reached_source s) + 1) (λ k kept.
+            let found = from_any (keeps source k) s.markers.items kept in
+            let low : last_line source found.0 ≤ newline_count (reached_source s) + 1 = All-contains (λ a. last_line source a ≤ newline_count (reached_source s) + 1) s.markers.items found.0 (lines-counted s) found.1 in
+            omega (arith, low, kept_before source found.0 k found.2)) (filter p all) (filter_passes p all)
+    by_cases false is =
+        let same : newline_count (reached_source s) ≡ newline_count source = rw is refl in
+        let bound : All (λ k. k ≤ newline_count (reached_source s) + 1) all = λ i d within. omega (arith, get_or-range_with_len 0 (length (source_lines source)) i d (omega (arith, within, length-range_with_len 0 (length (source_lines source)))), within, length-range_with_len 0 (length (source_lines source)), length-source_lines source, same) in
+        All-filter (λ k. true) (λ k. k ≤ newline_count (reached_source s) + 1) all bound
+
+-- and so is that of a line between two of them
+between-counted : (n : ℕ) (ks : List ℕ) → All (λ k. k ≤ n) ks → All (λ k. k ≤ n) (with_between ks)
+between-counted n [] low = low
+between-counted n (j ∷ []) low = low
+between-counted n (j ∷ k ∷ ks) low =
+    let here : j ≤ n = All-head (λ i. i ≤ n) j (k ∷ ks) low in
+    let rest : All (λ i. i ≤ n) (k ∷ ks) = All-tail (λ i. i ≤ n) j (k ∷ ks) low in
+    let behind : All (λ i. i ≤ n) (with_between (k ∷ ks)) = between-counted n (k ∷ ks) rest in
+    elim (cases_Bool (k == j + 2)) [
+      | inl one ↦
+          let middle : j + 1 ≤ n = omega (arith, All-head (λ i. i ≤ n) k ks rest, eqb-true k (j + 2) one) in
+          All-same (λ i. i ≤ n) (with_between (j ∷ k ∷ ks)) (j ∷ (j + 1) ∷ with_between (k ∷ ks)) (cond-true (k == j + 2) (j ∷ (j + 1) ∷ with_between (k ∷ ks)) (j ∷ with_between (k ∷ ks)) one) (All-cons (λ i. i ≤ n) j ((j + 1) ∷ with_between (k ∷ ks)) here (All-cons (λ i. i ≤ n) (j + 1) (with_between (k ∷ ks)) middle behind))
+      | inr other ↦ All-same (λ i. i ≤ n) (with_between (j ∷ k ∷ ks)) (j ∷ with_between (k ∷ ks)) (cond-false (k == j + 2) (j ∷ (j + 1) ∷ with_between (k ∷ ks)) (j ∷ with_between (k ∷ ks)) other) (All-cons (λ i. i ≤ n) j (with_between (k ∷ ks)) here behind)
+    ]
+
+-- what holds of lines holds of what is seen of them
+pub All-of_lines : (P : KeptLine → Type 0) (f : ℕ → KeptLine) (ks : List ℕ) (infos : List AnnotatedLineInfo) → map seen_kept infos ≡ map f ks → All (λ k. P (f k)) ks → All (λ info. P (seen_kept info)) infos
+All-of_lines P f [] [] same each = All-nil (λ (info : AnnotatedLineInfo). P (seen_kept info))
+All-of_lines P f [] (info ∷ infos) same each = cc
+All-of_lines P f (k ∷ ks) [] same each = cc
+All-of_lines P f (k ∷ ks) (info ∷ infos) same each =
+    All-cons (λ (i : AnnotatedLineInfo). P (seen_kept i)) info infos (subst P (sym (first_is (seen_kept info) (f k) (map seen_kept infos) (map f ks) same)) (All-head (λ j. P (f j)) k ks each)) (All-of_lines P f ks infos (rest_is (seen_kept info) (f k) (map seen_kept infos) (map f ks) same) (All-tail (λ j. P (f j)) k ks each))
+  where
+    first_is : (x y : KeptLine) (xs ys : List KeptLine) → x ∷ xs ≡ y ∷ ys → x ≡ y
+    first_is x y xs ys same = cc
+
+    rest_is : (x y : KeptLine) (xs ys : List KeptLine) → x ∷ xs ≡ y ∷ ys → xs ≡ ys
+    rest_is x y xs ys same = cc
 
 -- a number one greater has at most one digit more
 length-decimal-step : (m n : ℕ) → m ≤ n + 1 → m < 2 ^ 64 → n < 2 ^ 64 → length (decimal m) ≤ length (decimal n) + 1
@@ -146,3 +189,16 @@ counted-small s fits =
     let folded : newline_count (take (greatest_end s.markers.items) source) ≤ newline_count source + 1 = newline_count-take source (greatest_end s.markers.items) in
     let low : newline_count (reached_source s) ≤ newline_count source + 1 = elim (s.fold && not (length s.markers.items == 0)) as (λ b. newline_count (cond b (take (greatest_end s.markers.items) source) source) ≤ newline_count source + 1) [ true ↦ folded | false ↦ omega arith ] in
     omega (arith, length-source_lines source)
+
+-- what the gutter shows beside the lines of a snippet takes at most one cell more than the gutter has
+pub numbers_fit : (s : Snippet Annotation) (infos : List AnnotatedLineInfo) → IsDrawable s → map seen_kept infos ≡ map (kept_line (numbered_source s) s.markers.items) (shown_lines s.fold (cow_str_bytes s.source) s.markers.items) → All (λ info. length (shown_number s.line_numbering (gutter_of s) info.line_index) ≤ gutter_of s + 1) infos
+numbers_fit s infos drawable lines =
+    let source : List ℕ = cow_str_bytes s.source in
+    let Counted : KeptLine → Type 0 = λ l. l.number ≤ counted_number s + 1 in
+    let Small : KeptLine → Type 0 = λ l. l.number < 2 ^ 64 in
+    let ks : List ℕ = shown_lines s.fold source s.markers.items in
+    let low = between-counted (newline_count (reached_source s) + 1) (kept_lines s.fold source s.markers.items) (kept-counted s) in
+    let counted : All (λ info. Counted (seen_kept info)) infos = All-of_lines Counted (kept_line (numbered_source s) s.markers.items) ks infos lines (λ i d within. omega (arith, low i d within)) in
+    let inside = shown_within (numbered_source s) s.markers.items drawable.spans s.fold in
+    let small : All (λ info. Small (seen_kept info)) infos = All-of_lines Small (kept_line (numbered_source s) s.markers.items) ks infos lines (λ i d within. omega (arith, inside i d within, drawable.numbers)) in
+    λ i d within. shown-fits s (gutter_of s) (get_or infos i d).line_index refl (counted i d within) (small i d within) (counted-small s drawable.numbers)

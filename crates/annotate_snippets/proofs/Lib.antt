@@ -1,8 +1,10 @@
 pub mod FaultLemmas
 pub mod GutterLemmas
 pub mod LabelLemmas
+pub mod LineLemmas
 pub mod ListLemmas
 pub mod MarkLemmas
+pub mod PartsFacts
 pub mod NotShown
 pub mod PageLemmas
 pub mod ReportLemmas

@@ -1,9 +1,9 @@
 -- The marks of a line's spans are those of its entries.
-use Rattle.std.proofs.Common.{Option, Some, None, cond, ◌≡◌, ℕ, ◌+◌, ◌<◌, ◌≤◌, ◌==◌, ◌&&◌, max, Bool, true, false, List, [], ◌∷◌, map, length, get_or, refl, sym, ap, subst, ◌∙◌, arith, inl, inr}
+use Rattle.std.proofs.Common.{Option, Some, None, ◌≡◌, ℕ, ◌+◌, ◌-◌, ◌<◌, ◌≤◌, ◌==◌, ◌&&◌, max, Bool, true, false, List, [], ◌∷◌, map, length, get_or, refl, sym, ap, subst, ◌∙◌, arith, inl, inr}
 use Rattle.std.specs.List.{All, Contains, filter, list_any}
 use Rattle.std.proofs.lemmas.Bool.{and_parts, and_from, eqb-true, eq-eqb, cases_Bool}
 use Rattle.std.proofs.lemmas.List.{length-map}
-use Rattle.std.proofs.lemmas.List.Elements.{All-contains, All-contains_itself, All-filter, filter_passes, All-head, All-tail, Contains-get_or}
+use Rattle.std.proofs.lemmas.List.Elements.{All-contains, All-contains_itself, All-filter, All-map, filter_passes, Contains-get_or}
 use Rattle.snippet_model.specs.declared.snippet.Annotation.{Annotation}
 use Rattle.snippet_model.specs.declared.snippet.AnnotationKind.{AnnotationKind}
 use Rattle.snippet_model.specs.declared.snippet.AnnotationKind.TheVariants.{Primary, Context, Visible}
@@ -16,7 +16,7 @@ use Rattle.std.specs.Borrow.{Bor}
 use Rattle.std.specs.Option.{option_copied}
 use Rattle.snippet_strokes.specs.Entries as entry
 use Rattle.annotate_snippets.specs.Shown.{shown_label, normalized_chars}
-use Rattle.snippet_strokes.specs.Entries.{EntryCovers, is_primary, IsEntryMark}
+use Rattle.snippet_strokes.specs.Entries.{EntryCovers, is_primary, IsEntryMark, shifted}
 use Rattle.snippet_strokes.specs.Painting.{StandsFrom}
 use Rattle.snippet_strokes.proofs.MarkLemmas.{from_map}
 use Rattle.annotate_snippets.proofs.ListLemmas.{Contains-filter, Contains-map, Contains-head, Contains-tail}
@@ -47,10 +47,6 @@ end_of_entry s a single =
       | inr other ↦ end_of_other s a other single
     ]
 
--- spans that are marked, each on one line
-abbrev pub AreShort : Source → List Annotation → Type 0
-AreShort s marks = All (λ a. (is_marking a.kind ≡ true) × (is_single_line s.text a ≡ true)) marks
-
 -- an entry is that of a span: it covers the same columns, with marks of the same kind
 pub record IsEntryOf (s : Source) (k : ℕ) (a : Annotation) (e : LineAnnotation) : Type 0 where
   pub marked : is_marked_on s.text k a ≡ true
@@ -78,7 +74,7 @@ entry_is s k a e marked single same =
 rest_any : {X : Type 0} (q : X → Bool) (x : X) (xs : List X) → q x ≡ false → list_any q (x ∷ xs) ≡ true → list_any q xs ≡ true
 rest_any q x xs fails some = grind (arith, fails, some)
 
-from_any : {X : Type 0} (q : X → Bool) (xs : List X) → list_any q xs ≡ true → (a : X) × Contains xs a × (q a ≡ true)
+pub from_any : {X : Type 0} (q : X → Bool) (xs : List X) → list_any q xs ≡ true → (a : X) × Contains xs a × (q a ≡ true)
 from_any q [] some = cc
 from_any q (x ∷ xs) some =
     elim (cases_Bool (q x)) [
@@ -88,30 +84,29 @@ from_any q (x ∷ xs) some =
           (rest.0, Contains-tail x rest.0 xs rest.1, rest.2)
     ]
 
-module _ (s : Source) (marks : List Annotation) (short : AreShort s marks) (k : ℕ) (es : List LineAnnotation) (same : map seen_entry es ≡ map (entry_of s) (filter (λ a. first_line s.text a == k) marks)) where
-  on_line : Annotation → Bool
-  on_line a = first_line s.text a == k
+module _ (s : Source) (marks : List Annotation) (k : ℕ) (es : List LineAnnotation) (same : map seen_entry es ≡ map (entry_of s) (filter (is_marked_on s.text k) marks)) where
+  -- a span that is marked on a line stands on it alone
+  single_of : (a : Annotation) → is_marked_on s.text k a ≡ true → is_single_line s.text a ≡ true
+  single_of a marked =
+      (and_parts (is_marking a.kind) (is_single_line s.text a) (and_parts (is_marking a.kind && is_single_line s.text a) (first_line s.text a == k) marked).0).1
 
   -- each span of the line has an entry
   pub entry_of_span : (a : Annotation) → Contains marks a → is_marked_on s.text k a ≡ true → (e : LineAnnotation) × Contains es e × IsEntryOf s k a e
   entry_of_span a among marked =
-      let parts = and_parts (is_marking a.kind && is_single_line s.text a) (first_line s.text a == k) marked in
-      let seen : Contains (map seen_entry es) (entry_of s a) = subst (λ xs. Contains xs (entry_of s a)) (sym same) (Contains-map (entry_of s) (filter (λ b. first_line s.text b == k) marks) a (Contains-filter (λ b. first_line s.text b == k) marks a parts.1 among)) in
+      let seen : Contains (map seen_entry es) (entry_of s a) = subst (λ xs. Contains xs (entry_of s a)) (sym same) (Contains-map (entry_of s) (filter (is_marked_on s.text k) marks) a (Contains-filter (is_marked_on s.text k) marks a marked among)) in
       let found = from_map seen_entry es (entry_of s a) seen in
-      (found.0, found.1, entry_is s k a found.0 marked (and_parts (is_marking a.kind) (is_single_line s.text a) parts.0).1 found.2)
+      (found.0, found.1, entry_is s k a found.0 marked (single_of a marked) found.2)
 
   -- each entry is that of a span
   pub span_of_entry : (e : LineAnnotation) → Contains es e → (a : Annotation) × Contains marks a × IsEntryOf s k a e
   span_of_entry e among =
-      let kept : List Annotation = filter (λ b. first_line s.text b == k) marks in
+      let kept : List Annotation = filter (is_marked_on s.text k) marks in
       let seen : Contains (map (entry_of s) kept) (seen_entry e) = subst (λ xs. Contains xs (seen_entry e)) same (Contains-map seen_entry es e among) in
       let found = from_map (entry_of s) kept (seen_entry e) seen in
       let a : Annotation = found.0 in
-      let in_marks : Contains marks a = All-contains (Contains marks) kept a (All-filter (λ b. first_line s.text b == k) (Contains marks) marks (All-contains_itself marks)) found.1 in
-      let here : (first_line s.text a == k) ≡ true = All-contains (λ b. (first_line s.text b == k) ≡ true) kept a (filter_passes (λ b. first_line s.text b == k) marks) found.1 in
-      let is_short = All-contains (λ b. (is_marking b.kind ≡ true) × (is_single_line s.text b ≡ true)) marks a short in_marks in
-      let marked : is_marked_on s.text k a ≡ true = and_from (is_marking a.kind && is_single_line s.text a) (first_line s.text a == k) (and_from (is_marking a.kind) (is_single_line s.text a) is_short.0 is_short.1) here in
-      (a, in_marks, entry_is s k a e marked is_short.1 (sym found.2))
+      let in_marks : Contains marks a = All-contains (Contains marks) kept a (All-filter (is_marked_on s.text k) (Contains marks) marks (All-contains_itself marks)) found.1 in
+      let marked : is_marked_on s.text k a ≡ true = All-contains (λ b. is_marked_on s.text k b ≡ true) kept a (filter_passes (is_marked_on s.text k) marks) found.1 in
+      (a, in_marks, entry_is s k a e marked (single_of a marked) (sym found.2))
 
   -- the mark of a column is that which the entries leave there
   pub mark_of_entries : (p : ℕ) (kind : AnnotationKind) → IsMarkOf s.text marks k p kind → IsEntryMark es p kind
@@ -181,16 +176,13 @@ module _ (s : Source) (marks : List Annotation) (short : AreShort s marks) (k : 
   -- the one span of a line has the one entry
   pub lone_entry : (a : Annotation) → filter (is_marked_on s.text k) marks ≡ a ∷ [] → (e : LineAnnotation) × (es ≡ e ∷ []) × IsEntryOf s k a e
   lone_entry a lone =
-      let kept : filter (λ b. first_line s.text b == k) marks ≡ a ∷ [] = sym (same_filter marks short) ∙ lone in
-      let seen : map seen_entry es ≡ entry_of s a ∷ [] = same ∙ ap (map (entry_of s)) kept in
+      let seen : map seen_entry es ≡ entry_of s a ∷ [] = same ∙ ap (map (entry_of s)) lone in
       let one : length es ≡ 1 = sym (length-map es seen_entry) ∙ ap length seen in
       let first : LineAnnotation × Unit {0} = head_of es one in
       let e : LineAnnotation = first.0 in
       let sole : es ≡ e ∷ [] = head_of_is es one in
-      let among : Contains marks a = All-contains (Contains marks) (filter (is_marked_on s.text k) marks) a (All-filter (is_marked_on s.text k) (Contains marks) marks (All-contains_itself marks)) (subst (λ xs. Contains xs a) (sym lone) (Contains-head a [])) in
       let marked : is_marked_on s.text k a ≡ true = All-contains (λ b. is_marked_on s.text k b ≡ true) (filter (is_marked_on s.text k) marks) a (filter_passes (is_marked_on s.text k) marks) (subst (λ xs. Contains xs a) (sym lone) (Contains-head a [])) in
-      let is_short = All-contains (λ b. (is_marking b.kind ≡ true) × (is_single_line s.text b ≡ true)) marks a short among in
-      (e, sole, entry_is s k a e marked is_short.1 (same_head (sym (ap (map seen_entry) sole) ∙ seen)))
+      (e, sole, entry_is s k a e marked (single_of a marked) (same_head (sym (ap (map seen_entry) sole) ∙ seen)))
     where
       head_of : (xs : List LineAnnotation) → length xs ≡ 1 → LineAnnotation × Unit {0}
       head_of [] one = absurd (omega (arith, one))
@@ -204,11 +196,46 @@ module _ (s : Source) (marks : List Annotation) (short : AreShort s marks) (k : 
       same_head : {x y : Entry} → x ∷ [] ≡ y ∷ [] → x ≡ y
       same_head is = cc
 
-      same_test : (a : Annotation) → is_marking a.kind ≡ true → is_single_line s.text a ≡ true → is_marked_on s.text k a ≡ (first_line s.text a == k)
-      same_test a marking single = rw (marking, single) refl
+-- ---- entries on a line of which columns are dropped
 
-      same_filter : (xs : List Annotation) → AreShort s xs → filter (is_marked_on s.text k) xs ≡ filter (λ b. first_line s.text b == k) xs
-      same_filter [] all = refl
-      same_filter (x ∷ xs) all =
-          let own = All-head (λ b. (is_marking b.kind ≡ true) × (is_single_line s.text b ≡ true)) x xs all in
-          ap (λ t. cond t (x ∷ filter (is_marked_on s.text k) xs) (filter (is_marked_on s.text k) xs)) (same_test x own.0 own.1) ∙ ap (λ ys. cond (first_line s.text x == k) (x ∷ ys) ys) (same_filter xs (All-tail (λ b. (is_marking b.kind ≡ true) × (is_single_line s.text b ≡ true)) x xs all))
+-- a column of the line, where no entry stands left of those that are dropped
+module _ (dropped : ℕ) (es : List LineAnnotation) (clear : All (λ e. dropped ≤ e.start.display) es) where
+  -- an entry as it stands then is one of the line
+  pub unshifted_entry : (e : LineAnnotation) → Contains (map (shifted dropped) es) e → (own : LineAnnotation) × Contains es own × (e ≡ shifted dropped own) × (dropped ≤ own.start.display)
+  unshifted_entry e among =
+      let found = from_map (shifted dropped) es e among in
+      (found.0, found.1, sym found.2, All-contains (λ x. dropped ≤ x.start.display) es found.0 clear found.1)
+
+  -- the mark of a column stays the mark of it
+  pub shifted_mark : (p : ℕ) (kind : AnnotationKind) → IsEntryMark es p kind → IsEntryMark (map (shifted dropped) es) (p - dropped) kind
+  shifted_mark p kind mark =
+      let e : LineAnnotation = mark.entry in
+      let right : dropped ≤ e.start.display = All-contains (λ x. dropped ≤ x.start.display) es e clear mark.among in
+      record {
+        entry = shifted dropped e;
+        among = Contains-map (shifted dropped) es e mark.among;
+        covers = (omega (arith, right, mark.covers.0), omega (arith, right, mark.covers.0, mark.covers.1));
+        is = mark.is;
+        least = λ other inside covers.
+            let own = unshifted_entry other inside in
+            let start : other.start.display ≡ own.0.start.display - dropped = ap (λ (x : LineAnnotation). x.start.display) own.2 in
+            let end : other.end.display ≡ own.0.end.display - dropped = ap (λ (x : LineAnnotation). x.end.display) own.2 in
+            let narrow : entry.entry_width e ≤ entry.entry_width own.0 = mark.least own.0 own.1 (omega (arith, own.3, start, covers.0, right, mark.covers.0), omega (arith, own.3, end, covers.1, right, mark.covers.0)) in
+            omega (arith, narrow, start, end, own.3, right, covers.0, covers.1);
+        primary_wins = λ unprimary other inside covers primary.
+            let own = unshifted_entry other inside in
+            let start : other.start.display ≡ own.0.start.display - dropped = ap (λ (x : LineAnnotation). x.start.display) own.2 in
+            let end : other.end.display ≡ own.0.end.display - dropped = ap (λ (x : LineAnnotation). x.end.display) own.2 in
+            let narrow : entry.entry_width e < entry.entry_width own.0 = mark.primary_wins unprimary own.0 own.1 (omega (arith, own.3, start, covers.0, right, mark.covers.0), omega (arith, own.3, end, covers.1, right, mark.covers.0)) (ap (λ (x : LineAnnotation). x.kind) (sym own.2) ∙ primary) in
+            omega (arith, narrow, start, end, own.3, right, covers.0, covers.1, mark.covers.0, mark.covers.1);
+      }
+
+  -- a column that no entry covers is covered by none
+  pub shifted_unmarked : (p : ℕ) → dropped ≤ p → All (λ e. EntryCovers e p → ⊥) es → All (λ e. EntryCovers e (p - dropped) → ⊥) (map (shifted dropped) es)
+  shifted_unmarked p right none =
+      All-map (λ (e : LineAnnotation). EntryCovers e (p - dropped) → ⊥) (shifted dropped) es (λ i d within covers. none i d within (omega (arith, clear i d within, right, covers.0), omega (arith, clear i d within, right, covers.1)))
+
+  -- entries that stand behind a column stand behind it
+  pub shifted_behind : (code p : ℕ) → dropped ≤ p → All (StandsFrom code (code + p + 1)) es → All (StandsFrom code (code + (p - dropped) + 1)) (map (shifted dropped) es)
+  shifted_behind code p right behind =
+      All-map (StandsFrom code (code + (p - dropped) + 1)) (shifted dropped) es (λ i d within. omega (arith, clear i d within, behind i d within, right))

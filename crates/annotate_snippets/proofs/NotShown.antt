@@ -26,7 +26,7 @@ use Rattle.snippet_parts.specs.Mark.{is_marked_on, qualifies_for_marks, start_co
 use Rattle.snippet_parts.specs.Window.{chars_at, stands_whole}
 use Rattle.snippet_strokes.specs.Entries.{IsMarkCell, has_mark_role}
 use Rattle.snippet_strokes.specs.Rows.{separator_row}
-use Rattle.annotate_snippets.specs.Page.{RowName, SourceRow, Other, NamedRow, lines_named, IsAscending}
+use Rattle.annotate_snippets.specs.Page.{Elision, RowName, SourceRow, Other, NamedRow, lines_named, IsAscending}
 use Rattle.annotate_snippets.specs.Settings.{plain_settings}
 use Rattle.snippet_style.specs.Glyphs.{placeholder_of}
 use Rattle.annotate_snippets.specs.Shown.{Frame, cell_of, room_of, normalized_chars, shown_label, ShowsSourceLine, ShowsMarksOf, ShowsLineAndMarks, IsRowBelow, IsRowOf, AreRowsOf, ShowsSnippet}
@@ -205,6 +205,9 @@ named_first s is (SourceRow k) cells rows same shows =
     let within : k < 1 = subst (λ source. k < length (source_lines source)) is shows.line.within in
     let first : k ≡ 0 = omega arith in
     ap SourceRow first
+named_first s is Elision cells rows same shows =
+    let digit : true ≡ false = subst (λ row. is_ascii_alphanumeric (slice_index_or row 0 SPACE).ch ≡ false) same (shows.unnumbered 0 (omega arith)) in
+    cc
 named_first s is Other cells rows same shows =
     let digit : true ≡ false = subst (λ row. is_ascii_alphanumeric (slice_index_or row 0 SPACE).ch ≡ false) same (shows.unnumbered 0 (omega arith)) in
     cc
@@ -226,7 +229,7 @@ elided_row s is dropped shown =
 --
 --     1 | a
 --     1 | a
-second_copy : (k : ℕ) (row copy : NamedRow) (before between behind : List NamedRow) (last : Bool) → row.name ≡ SourceRow k → copy.name ≡ SourceRow k → (IsAscending (lines_named (before ++ (row ∷ (between ++ (copy ∷ behind))))) → ⊥) × (IsRowBelow Ascii 1 last (source_row (codes "a")) → ⊥)
+second_copy : (k : ℕ) (row copy : NamedRow) (before between behind : List NamedRow) (last : Bool) → row.name ≡ SourceRow k → copy.name ≡ SourceRow k → (IsAscending (lines_named (before ++ (row ∷ (between ++ (copy ∷ behind))))) → ⊥) × (IsRowBelow Ascii frame last (source_row (codes "a")) → ⊥)
 second_copy k row copy before between behind last row_is copy_is =
     (λ ascending. two_of_one k (lines_named before) (lines_named between) (lines_named behind) (simp (filter_map-append, row_is, copy_is) at ascending), λ below. let digit : true ≡ false = below.unnumbered 0 (omega arith) in cc)
 

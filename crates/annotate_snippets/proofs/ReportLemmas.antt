@@ -1,7 +1,7 @@
 -- The text of a covered report shows it.
 use Rattle.snippet_strokes.specs.Painting.{IsFreeCell}
 use Rattle.snippet_style.specs.Stylesheet.{is_plain_sheet}
-use Rattle.std.proofs.Common.{◌≡◌, ℕ, zero, suc, ◌+◌, ◌<◌, ◌==◌, ◌||◌, Bool, true, false, not, List, [], ◌∷◌, ◌++◌, length, chars, take, get_or, Result, Ok, Err, refl, sym, ap, subst, ◌∙◌, arith, Option, None, Some, IfSome, encode_utf8_all, inl, inr}
+use Rattle.std.proofs.Common.{◌≡◌, ℕ, zero, suc, ◌+◌, ◌<◌, ◌≤◌, ◌==◌, ◌||◌, fold, Bool, true, false, not, List, [], ◌∷◌, ◌++◌, length, chars, take, get_or, Result, Ok, Err, refl, sym, ap, subst, ◌∙◌, arith, Option, None, Some, IfSome, encode_utf8_all, inl, inr}
 use Rattle.std.specs.List.{All, AllZip, Contains, flat_map}
 use Rattle.std.specs.Result.{IfOk, MatchResult, IsErrAnd}
 use Rattle.std.specs.Cow.{cow_str_bytes}
@@ -30,13 +30,14 @@ use Rattle.snippet_model.specs.declared.snippet.Id.{Id}
 use Rattle.snippet_titles.specs.Title.{title_rows, text_links, id_links}
 use Rattle.snippet_titles.proofs.FreeLemmas.{IsFreeText}
 use Rattle.snippet_titles.proofs.LinkLemmas.{title_rows-links}
-use Rattle.snippet_parts.specs.Mark.{is_marking, is_single_line}
-use Rattle.snippet_strokes.specs.Rows.{first_row, IsFree}
+use Rattle.snippet_parts.specs.declared.entries.AnnotatedLineInfo.{AnnotatedLineInfo}
+use Rattle.snippet_parts.specs.Annotated.{deepest}
+use Rattle.snippet_strokes.specs.Rows.{first_row, shown_number, IsFree}
 use Rattle.snippet_strokes.proofs.SnippetLemmas.{free_from_AddsSnippet}
 use Rattle.annotate_snippets.specs.declared.renderer.Renderer.{Renderer}
-use Rattle.annotate_snippets.specs.Covered.{is_covered_annotation, is_covered_snippet, is_covered_title, is_covered_renderer, IsReportOf}
-use Rattle.annotate_snippets.specs.Gutter.{gutter_of, gutter_of_report}
-use Rattle.annotate_snippets.specs.Drawn.{layout_of, numbered_source, AddsCause, IsDrawable, IsGridOf, IsGridOfReport}
+use Rattle.annotate_snippets.specs.Covered.{is_covered_title, is_covered_renderer, IsReportOf}
+use Rattle.annotate_snippets.specs.Gutter.{code_behind, depth_of_element, depth_of_group, gutter_of, gutter_of_report, numbered_source}
+use Rattle.annotate_snippets.specs.Drawn.{layout_of, AddsCause, IsDrawable, IsGridOf, IsGridOfReport}
 use Rattle.annotate_snippets.specs.Page.{NamedRow, cells_of, GroupPage, group_rows, ArePrinted, PrintsPage}
 use Rattle.annotate_snippets.specs.Shown.{Frame, ShowsTitle, AreElementsShown, ShowsGroup, levels_of, report_links, SheetsShown, IsFreeBut, IsFreeUnder}
 use Rattle.std.specs.Borrow.{Bor}
@@ -44,56 +45,36 @@ use Rattle.std.specs.Option.{option_copied}
 use Rattle.snippet_model.specs.Fits.{ReportFits}
 use Rattle.annotate_snippets.specs.Fault.{first_fault}
 use Rattle.annotate_snippets.proofs.FaultLemmas.{spans-of_report, numbers-of_report, source-of_report}
-use Rattle.annotate_snippets.proofs.MarkLemmas.{AreShort}
-use Rattle.annotate_snippets.proofs.PageLemmas.{frame_of, snippet_shown}
+use Rattle.annotate_snippets.proofs.GutterLemmas.{numbers_fit}
+use Rattle.annotate_snippets.proofs.LineLemmas.{frame_of}
+use Rattle.annotate_snippets.proofs.PageLemmas.{snippet_shown}
 use Rattle.annotate_snippets.proofs.TitleLemmas.{ShowsTitle-rows, free_title}
-
--- a covered annotation is marked, and stands on one line
-short_annotation : (source : List ℕ) (marks : List Annotation) (a : Annotation) → is_covered_annotation source marks a ≡ true → (is_marking a.kind ≡ true) × (is_single_line source a ≡ true)
-short_annotation source marks a covered =
-    let line = and_parts _ _ (and_parts _ _ covered).0 in
-    (line.0, line.1)
-
--- a covered snippet has spans, each of which is such a one
-pub record IsShortSnippet (s : Snippet Annotation) : Type 0 where
-  pub some : 0 < length s.markers.items
-  pub short : AreShort (numbered_source s) s.markers.items
-
-some_from : (n : ℕ) → not (n == 0) ≡ true → 0 < n
-some_from zero some = cc
-some_from (suc n) some = omega arith
-
-pub short_snippet : (width : ℕ) (s : Snippet Annotation) → is_covered_snippet width s ≡ true → IsShortSnippet s
-short_snippet width s covered =
-    let inner = and_parts _ _ (and_parts _ _ covered).0 in
-    let each : All (λ a. is_covered_annotation (cow_str_bytes s.source) s.markers.items a ≡ true) s.markers.items = AllPass-from_list_all (is_covered_annotation (cow_str_bytes s.source) s.markers.items) s.markers.items inner.1 in
-    record {
-      some = some_from (length s.markers.items) (and_parts _ _ inner.0).1;
-      short = All-weaker (λ a. is_covered_annotation (cow_str_bytes s.source) s.markers.items a ≡ true) (λ a. (is_marking a.kind ≡ true) × (is_single_line (cow_str_bytes s.source) a ≡ true)) (short_annotation (cow_str_bytes s.source) s.markers.items) s.markers.items each;
-    }
 
 -- the gutter of a report of one snippet is the snippet's
 gutter_is : (r : Renderer) (group : Group) (s : Snippet Annotation) → r.anonymized_snippet_line_numbers ≡ false → group.elements.items ≡ Cause s ∷ [] → gutter_of s ≡ gutter_of_report r (group ∷ [])
 gutter_is r group s plain elements =
     sym (rw (plain, append-nil group.elements.items, elements) (omega arith))
 
-module _ (r : Renderer) (groups : List Group) (title : Title) (s : Snippet Annotation) (of : IsReportOf title (Some s) groups) (plain : r.anonymized_snippet_line_numbers ≡ false) (titled : is_covered_title title ≡ true) (covered : is_covered_snippet r.term_width s ≡ true) where
+-- its depth is the snippet's
+depth_is : (group : Group) (s : Snippet Annotation) → group.elements.items ≡ Cause s ∷ [] → deepest (numbered_source s) s.markers.items ≡ depth_of_group group
+depth_is group s elements = sym (rw elements (omega arith))
+
+module _ (r : Renderer) (groups : List Group) (title : Title) (s : Snippet Annotation) (of : IsReportOf title (Some s) groups) (plain : r.anonymized_snippet_line_numbers ≡ false) (titled : is_covered_title title ≡ true) (drawable : IsDrawable s) where
   abbrev titles : List (List Cell)
   titles = title_rows r.hyperlink title
 
   -- the rows are those of a group that shows the report
-  pub report_shown : (rows : List (List Cell)) → AddsCause r.decor_style s titles rows → (page : GroupPage) × (rows ≡ group_rows page) × AllZip (ShowsGroup r (gutter_of_report r groups)) groups (page ∷ [])
+  pub report_shown : (rows : List (List Cell)) → AddsCause r.decor_style r.term_width s titles rows → (page : GroupPage) × (rows ≡ group_rows page) × AllZip (ShowsGroup r (gutter_of_report r groups)) groups (page ∷ [])
   report_shown rows drawn =
-      let is : IsShortSnippet s = short_snippet r.term_width s covered in
-      let shown = snippet_shown r plain s is.short drawn.margin drawn.uncut drawn.infos drawn.rows.rows is.some drawn.lines drawn.room drawn.rows.shown in
+      let numbers : All (λ (info : AnnotatedLineInfo). length (shown_number s.line_numbering (gutter_of s) info.line_index) ≤ gutter_of s + 1) drawn.infos = numbers_fit s drawn.infos drawable drawn.lines in
+      let shown = snippet_shown r plain s drawable.spans drawn.margin drawn.room drawn.bounds drawn.ordered drawn.infos drawn.rows.rows drawn.lines numbers drawn.rows.shown in
       let part : List NamedRow = shown.0 in
       let group_page : GroupPage = record { title = titles; elements = part ∷ [] } in
       let gutter : gutter_of s ≡ gutter_of_report r (of.group ∷ []) = gutter_is r of.group s plain of.elements_are in
       let group_shown : ShowsGroup r (gutter_of_report r (of.group ∷ [])) of.group group_page = record {
         frame = frame_of s;
         gutter_is = gutter;
-        code_from = omega (arith, gutter);
-        code_is = λ _. ap (λ n. n + 3) gutter;
+        code_is = ap (λ n. code_behind n (deepest (numbered_source s) s.markers.items)) gutter ∙ ap (code_behind (gutter_of_report r (of.group ∷ []))) (depth_is of.group s of.elements_are);
         title = subst (λ t. ShowsTitle r.hyperlink (gutter_of_report r (of.group ∷ [])) t titles) (sym of.title_is) (ShowsTitle-rows r.hyperlink (gutter_of_report r (of.group ∷ [])) title titled);
         elements = subst (λ es. AreElementsShown r (frame_of s) true es (part ∷ [])) (sym of.elements_are) (shown.2, tt);
       } in (
@@ -103,7 +84,7 @@ module _ (r : Renderer) (groups : List Group) (title : Title) (s : Snippet Annot
       )
 
   -- the rows below the title: none holds a listed character or links to anything
-  rows_below : (rows : List (List Cell)) (drawn : AddsCause r.decor_style s titles rows) → (below : List (List Cell)) × (rows ≡ titles ++ below) × All IsFree below
+  rows_below : (rows : List (List Cell)) (drawn : AddsCause r.decor_style r.term_width s titles rows) → (below : List (List Cell)) × (rows ≡ titles ++ below) × All IsFree below
   rows_below rows drawn =
       let layout = layout_of r.decor_style s in (
         first_row layout.decor true layout.gutter ∷ drawn.rows.rows,
@@ -190,16 +171,15 @@ bare_shown r groups title of titled =
     let shown : ShowsGroup r gutter of.group page = record {
       frame = frame;
       gutter_is = refl;
-      code_from = omega arith;
-      code_is = λ _. refl;
+      code_is = sym (ap (λ es. code_behind gutter (fold depth_of_element 0 es)) of.elements_are);
       title = subst (λ t. ShowsTitle r.hyperlink gutter t titles) (sym of.title_is) (ShowsTitle-rows r.hyperlink gutter title titled);
       elements = subst (λ es. AreElementsShown r frame true es []) (sym of.elements_are) tt;
     } in
     subst (λ gs. AllZip (ShowsGroup r gutter) gs (page ∷ [])) (sym of.groups_are) (shown, tt)
 
 -- the grid of a covered report is a page of it
-pub grid_of_report : (r : Renderer) (groups : List Group) (level : LevelInner) (title : Title) (cause : Option (Snippet Annotation)) → levels_of groups ≡ level ∷ [] → IsReportOf title cause groups → is_covered_renderer r ≡ true → is_covered_title title ≡ true → IfSome cause (λ s. is_covered_snippet r.term_width s ≡ true) → (rows : List (List Cell)) → IsGridOf r.decor_style r.hyperlink title cause rows → IsGridOfReport r groups level rows
-grid_of_report r groups level title None leveled of drawing titled covered rows drawn =
+pub grid_of_report : (r : Renderer) (groups : List Group) (level : LevelInner) (title : Title) (cause : Option (Snippet Annotation)) → levels_of groups ≡ level ∷ [] → IsReportOf title cause groups → is_covered_renderer r ≡ true → is_covered_title title ≡ true → IfSome cause IsDrawable → (rows : List (List Cell)) → IsGridOf r.decor_style r.hyperlink r.term_width title cause rows → IsGridOfReport r groups level rows
+grid_of_report r groups level title None leveled of drawing titled drawable rows drawn =
     let titles : List (List Cell) = title_rows r.hyperlink title in
     record {
       group = record { title = titles; elements = [] };
@@ -209,11 +189,11 @@ grid_of_report r groups level title None leveled of drawing titled covered rows 
       free = free_but (trusted_texts groups) (plain_text rows) (text_free rows (subst (All IsFreeText) (sym drawn) (free_title r.hyperlink title titled)));
       links = ap links_of drawn ∙ title_rows-links r.hyperlink title ∙ sym (links_of_report r title None groups of);
     }
-grid_of_report r groups level title (Some s) leveled of drawing titled covered rows drawn =
+grid_of_report r groups level title (Some s) leveled of drawing titled drawable rows drawn =
     let plain = numbers_shown r drawing in
-    let shown = report_shown r groups title s of plain titled covered rows drawn in
+    let shown = report_shown r groups title s of plain titled drawable rows drawn in
     let titles : List (List Cell) = title_rows r.hyperlink title in
-    let below = rows_below r groups title s of plain titled covered rows drawn in
+    let below = rows_below r groups title s of plain titled drawable rows drawn in
     record {
       group = shown.0;
       rows_are = shown.1;
@@ -224,22 +204,21 @@ grid_of_report r groups level title (Some s) leveled of drawing titled covered r
     }
 
 -- the snippet of a covered report can be drawn
-pub drawable_of_report : (width : ℕ) (title : Title) (cause : Option (Bor (Snippet Annotation))) (groups : List Group) → IsReportOf title (option_copied cause) groups → ReportFits groups → first_fault groups ≡ None → IfSome cause (λ s. is_covered_snippet width s.now ≡ true) → IfSome cause (λ s. IsDrawable s.now)
-drawable_of_report width title None groups of fits faultless covered = tt
-drawable_of_report width title (Some s) groups of fits faultless covered =
+pub drawable_of_report : (title : Title) (cause : Option (Bor (Snippet Annotation))) (groups : List Group) → IsReportOf title (option_copied cause) groups → ReportFits groups → first_fault groups ≡ None → IfSome cause (λ s. IsDrawable s.now)
+drawable_of_report title None groups of fits faultless = tt
+drawable_of_report title (Some s) groups of fits faultless =
     let texts = source-of_report title s.now groups of fits in
     record {
       source = texts.0;
       numbers = numbers-of_report title s.now groups of faultless;
-      some = (short_snippet width s.now covered).some;
       spans = spans-of_report title s.now groups of faultless;
       labels = texts.2;
     }
 
 -- what is known of a snippet that is lent is known of it
-pub covered_copied : (width : ℕ) (cause : Option (Bor (Snippet Annotation))) → IfSome cause (λ s. is_covered_snippet width s.now ≡ true) → IfSome (option_copied cause) (λ s. is_covered_snippet width s ≡ true)
-covered_copied width None covered = tt
-covered_copied width (Some s) covered = covered
+pub drawable_copied : (cause : Option (Bor (Snippet Annotation))) → IfSome cause (λ s. IsDrawable s.now) → IfSome (option_copied cause) IsDrawable
+drawable_copied None drawable = tt
+drawable_copied (Some s) drawable = drawable
 
 -- what holds of the items of two lists, place by place, and what follows from it
 pub AllZip-weaker : {A B : Type 0} (P Q : A → B → Type 0) → ((x : A) (y : B) → P x y → Q x y) → (xs : List A) (ys : List B) → AllZip P xs ys → AllZip Q xs ys

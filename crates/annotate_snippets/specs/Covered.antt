@@ -1,8 +1,5 @@
 -- Which reports are drawn so far; any other is refused as not done yet.
-use Rattle.std.specs.Prelude.{◌≡◌, ℕ, ◌+◌, ◌-◌, ◌==◌, Bool, true, false, not, ◌&&◌, ◌||◌, nat_le, nat_lt, List, [], ◌∷◌, Option, Some, None, is_none, length, chars, if◌then◌else◌}
-use Rattle.std.specs.List.{list_all, list_any}
-use Rattle.std.specs.Cow.{cow_str_bytes}
-use Rattle.snippet_text.specs.Width.{width_of}
+use Rattle.std.specs.Prelude.{◌≡◌, Bool, true, false, not, ◌&&◌, ◌||◌, List, [], ◌∷◌, Option, Some, None, is_none}
 use Rattle.snippet_model.specs.declared.level.LevelName.{LevelName}
 use Rattle.snippet_model.specs.declared.level.LevelName.TheVariants.{Standard, Hidden, Own}
 use Rattle.snippet_model.specs.declared.snippet.Title.{Title}
@@ -11,46 +8,11 @@ use Rattle.snippet_model.specs.declared.snippet.Snippet.{Snippet}
 use Rattle.snippet_model.specs.declared.snippet.Annotation.{Annotation}
 use Rattle.snippet_model.specs.declared.snippet.Element.{Element}
 use Rattle.snippet_model.specs.declared.snippet.Element.TheVariants.{Message, Cause, Suggestion, Origin, Padding}
-use Rattle.snippet_lines.specs.Lines.{source_lines, text_at, start_of}
-use Rattle.snippet_parts.specs.Mark.{is_marking, is_single_line}
-use Rattle.snippet_lines.specs.Place.{line_of, place_of}
-use Rattle.snippet_parts.specs.Window.{leading_whitespace, is_near}
 use Rattle.annotate_snippets.specs.declared.renderer.Renderer.{Renderer}
-use Rattle.annotate_snippets.specs.Gutter.{gutter_of}
 
--- the byte at which the line begins on which a byte stands
-abbrev pub line_begin : List ℕ → ℕ → ℕ
-line_begin source byte = start_of (source_lines source) (line_of (source_lines source) byte)
-
--- the characters of the line on which a byte stands
-abbrev pub line_chars : List ℕ → ℕ → List ℕ
-line_chars source byte = chars (text_at (source_lines source) (line_of (source_lines source) byte))
-
--- no span starts before its line, or one starts on the line right before it
-abbrev pub follows_on : List ℕ → List Annotation → Annotation → Bool
-follows_on source marks a =
-    let begin = line_begin source a.span.start in
-    list_all (λ b. nat_le begin b.span.start) marks || list_any (λ b. nat_le (line_begin source (begin - 1)) b.span.start && nat_lt b.span.start begin) marks
-
--- an annotation that is drawn so far: a mark on one line
-abbrev pub is_covered_annotation : List ℕ → List Annotation → Annotation → Bool
-is_covered_annotation source marks a =
-    is_marking a.kind && is_single_line source a && follows_on source marks a
-
--- the marked lines aren't cut from the left: a span or a line begins within the first 26 columns, or all are blank
-abbrev pub are_marks_near : List ℕ → List Annotation → Bool
-are_marks_near source marks =
-    list_any (λ a. nat_le (place_of source a.span.start).column 26) marks || list_any (λ a. is_near (leading_whitespace (line_chars source a.span.start))) marks || list_all (λ a. is_none (leading_whitespace (line_chars source a.span.start))) marks
-
--- each marked line stands whole in a room of this many columns
-abbrev pub stand_whole : ℕ → List ℕ → List Annotation → Bool
-stand_whole room source marks =
-    list_all (λ a. nat_le (width_of (line_chars source a.span.start)) room) marks && are_marks_near source marks
-
--- a snippet that is drawn so far: no path, folded, at least one mark, each covered, and all lines whole
-abbrev pub is_covered_snippet : ℕ → Snippet Annotation → Bool
-is_covered_snippet width s =
-    is_none s.path && s.fold && not (length s.markers.items == 0) && list_all (is_covered_annotation (cow_str_bytes s.source) s.markers.items) s.markers.items && stand_whole (width - (gutter_of s + 3)) (cow_str_bytes s.source) s.markers.items
+-- a snippet that is drawn so far: one without a path
+abbrev pub is_covered_snippet : Snippet Annotation → Bool
+is_covered_snippet s = is_none s.path
 
 abbrev pub is_standard : LevelName → Bool
 is_standard Standard = true
@@ -71,7 +33,7 @@ abbrev pub are_covered_elements : Renderer → Title → List Element → Bool
 are_covered_elements r title [] = is_covered_renderer r && is_covered_title title
 are_covered_elements r title (Message message ∷ es) = false
 are_covered_elements r title (Cause snippet ∷ []) =
-    is_covered_renderer r && is_covered_title title && is_covered_snippet r.term_width snippet
+    is_covered_renderer r && is_covered_title title && is_covered_snippet snippet
 are_covered_elements r title (Cause snippet ∷ e ∷ es) = false
 are_covered_elements r title (Suggestion snippet ∷ es) = false
 are_covered_elements r title (Origin origin ∷ es) = false

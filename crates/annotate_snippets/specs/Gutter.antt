@@ -1,5 +1,5 @@
 -- The gutter: how wide it is, and what stands in it beside a line.
-use Rattle.std.specs.Prelude.{ℕ, ◌&&◌, max, Bool, List, length, fold, codes, if◌then◌else◌}
+use Rattle.std.specs.Prelude.{ℕ, ◌+◌, ◌==◌, ◌&&◌, max, Bool, List, length, fold, codes, if◌then◌else◌}
 use Rattle.std.specs.List.{flat_map}
 use Rattle.std.specs.Fmt.{decimal}
 use Rattle.snippet_model.specs.declared.snippet.Group.{Group}
@@ -7,6 +7,9 @@ use Rattle.snippet_model.specs.declared.snippet.Snippet.{Snippet}
 use Rattle.snippet_model.specs.declared.snippet.Annotation.{Annotation}
 use Rattle.snippet_model.specs.declared.snippet.Element.{Element}
 use Rattle.snippet_model.specs.declared.snippet.Element.TheVariants.{Message, Cause, Suggestion, Origin, Padding}
+use Rattle.std.specs.Cow.{cow_str_bytes}
+use Rattle.snippet_parts.specs.Annotated.{deepest}
+use Rattle.snippet_lines.specs.Lines.{Source}
 use Rattle.snippet_parts.specs.Prepare.{counted_number}
 use Rattle.snippet_strokes.specs.Rows.{shown_number, set_right}
 use Rattle.annotate_snippets.specs.declared.renderer.Renderer.{Renderer}
@@ -32,3 +35,23 @@ gutter_of_report r groups =
 abbrev pub number_text : Renderer → Bool → ℕ → ℕ → List ℕ
 number_text r numbered gutter number =
     if r.anonymized_snippet_line_numbers && numbered then set_right gutter (codes "LL") else shown_number numbered gutter number
+
+-- a snippet's source, with the number of its first line
+abbrev pub numbered_source : Snippet Annotation → Source
+numbered_source s = record { text = cow_str_bytes s.source; first = s.line_start }
+
+-- how many bars stand side by side left of an element's code: the greatest depth of its spans of several lines
+abbrev pub depth_of_element : ℕ → Element → ℕ
+depth_of_element depth (Cause snippet) = max (deepest (numbered_source snippet) snippet.markers.items) depth
+depth_of_element depth (Suggestion snippet) = depth
+depth_of_element depth (Message message) = depth
+depth_of_element depth (Origin origin) = depth
+depth_of_element depth (Padding padding) = depth
+
+-- the same of all elements of a group
+abbrev pub depth_of_group : Group → ℕ
+depth_of_group g = fold depth_of_element 0 g.elements.items
+
+-- the cell at which code begins: three behind the gutter, and where bars stand between, as many more, and one
+abbrev pub code_behind : ℕ → ℕ → ℕ
+code_behind gutter depth = if depth == 0 then gutter + 3 else gutter + 3 + depth + 1

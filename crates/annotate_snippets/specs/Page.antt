@@ -1,5 +1,5 @@
 -- A page: the rows of a report's text, each of them part of a title or of an element; and the texts that print it.
-use Rattle.std.specs.Prelude.{◌≡◌, ℕ, ◌<◌, List, [], ◌∷◌, ◌++◌, Option, Some, None, map}
+use Rattle.std.specs.Prelude.{◌≡◌, ℕ, ◌+◌, ◌<◌, nat_lt, Bool, true, false, List, [], ◌∷◌, ◌++◌, Option, Some, None, map, filter, if◌then◌else◌}
 use Rattle.std.specs.List.{flat_map, filter_map, join_with_byte}
 use Rattle.snippet_style.specs.Grid.{Cell}
 use Rattle.snippet_style.specs.Print.{plain_text}
@@ -7,9 +7,10 @@ use Rattle.snippet_style.specs.Woven.{Prints, links_of}
 use Rattle.snippet_style.specs.declared.role.LevelInner.{LevelInner}
 use Rattle.snippet_style.specs.declared.stylesheet.Stylesheet.{Stylesheet}
 
--- what a row of an element shows: a line of the element's source, from 0, or something else
+-- what a row of an element shows: a line of the element's source, from 0; that lines are left out; or something else
 pub data RowName : Type 0 where
   SourceRow : (k : ℕ) → RowName
+  Elision : RowName
   Other : RowName
 
 -- a row of an element: its name and its cells
@@ -20,11 +21,30 @@ pub record NamedRow : Type 0 where
 -- the line that a source row is named by
 abbrev pub line_named : RowName → Option ℕ
 line_named (SourceRow k) = Some k
+line_named Elision = None
 line_named Other = None
 
 -- the lines that some rows are named by
 abbrev pub lines_named : List NamedRow → List ℕ
 lines_named rows = filter_map (λ row. line_named row.name) rows
+
+-- whether a row shows a line, or that lines are left out
+abbrev pub shows_lines : RowName → Bool
+shows_lines (SourceRow k) = true
+shows_lines Elision = true
+shows_lines Other = false
+
+-- the names of some rows, from top to bottom, without those of rows that show something else
+abbrev pub names_in : List NamedRow → List RowName
+names_in rows = filter shows_lines (map (λ row. row.name) rows)
+
+-- the names of the rows that show these lines: the source row of each, and between two of them one row where lines are left
+-- out
+abbrev pub names_of_lines : List ℕ → List RowName
+names_of_lines [] = []
+names_of_lines (j ∷ []) = SourceRow j ∷ []
+names_of_lines (j ∷ k ∷ ks) =
+    if nat_lt (j + 1) k then SourceRow j ∷ Elision ∷ names_of_lines (k ∷ ks) else SourceRow j ∷ names_of_lines (k ∷ ks)
 
 -- the cells of some rows
 abbrev pub cells_of : List NamedRow → List (List Cell)

@@ -1,7 +1,7 @@
 -- What the page of a report shows.
 use Rattle.snippet_style.specs.Stylesheet.{is_plain_sheet}
 use Rattle.std.specs.Prelude.{◌≡◌, ◌⊎◌, ℕ, ◌+◌, ◌-◌, ◌<◌, ◌≤◌, ◌==◌, ◌&&◌, ◌||◌, nat_le, nat_lt, Bool, true, false, not, List, [], ◌∷◌, ◌++◌, All, Contains, Option, Some, None, IfSome, filter, is_none, length, map, take, drop, replicate, chars, codes, if◌then◌else◌, encode_utf8_all}
-use Rattle.std.specs.List.{AllZip, flat_map, list_all, count_by, slice_split, slice_index_or}
+use Rattle.std.specs.List.{AllZip, flat_map, count_by, slice_split, slice_index_or}
 use Rattle.std.specs.Option.{option_map, option_to_list}
 use Rattle.std.specs.Char.{is_ascii_alphanumeric}
 use Rattle.std.specs.Cow.{cow_str_bytes}
@@ -25,17 +25,20 @@ use Rattle.snippet_model.specs.declared.snippet.Annotation.{Annotation}
 use Rattle.snippet_model.specs.declared.snippet.AnnotationKind.{AnnotationKind}
 use Rattle.snippet_model.specs.declared.snippet.Element.{Element}
 use Rattle.snippet_model.specs.declared.snippet.Element.TheVariants.{Message, Cause, Suggestion, Origin, Padding}
+use Rattle.snippet_parts.specs.Kept.{shown_lines}
 use Rattle.snippet_lines.specs.Lines.{source_lines}
+use Rattle.snippet_parts.specs.Margin.{Bounds}
+use Rattle.snippet_parts.specs.Measures.{margin_of}
 use Rattle.snippet_parts.specs.Marked.{first_line, last_line}
-use Rattle.snippet_parts.specs.Mark.{is_marking, is_single_line, is_marked_on, is_wide, qualifies_for_marks, start_column, end_column, IsMarkedAt, IsMarkOf}
+use Rattle.snippet_parts.specs.Mark.{is_marked_on, is_wide, qualifies_for_marks, start_column, end_column, IsMarkedAt, IsMarkOf}
 use Rattle.snippet_parts.specs.Window.{chars_at, stands_whole, IsWindowOf}
 use Rattle.snippet_titles.specs.Title.{id_chars, id_address, id_links}
 use Rattle.snippet_style.specs.Glyphs.{separator_of, closing_of, placeholder_of}
-use Rattle.snippet_strokes.specs.Entries.{IsMarkCell, has_mark_role}
-use Rattle.snippet_strokes.specs.Rows.{first_row, HasNoNumber}
+use Rattle.snippet_strokes.specs.Entries.{IsMarkCell, IsRailCell, has_mark_role}
+use Rattle.snippet_strokes.specs.Rows.{first_row, HasNoNumber, IsElisionRow}
 use Rattle.annotate_snippets.specs.declared.renderer.Renderer.{Renderer}
-use Rattle.annotate_snippets.specs.Gutter.{gutter_of_report, number_text}
-use Rattle.annotate_snippets.specs.Page.{RowName, SourceRow, Other, NamedRow, lines_named, cells_below, GroupPage, Page, page_text, PrintsPage, IsAscending, page_links}
+use Rattle.annotate_snippets.specs.Gutter.{code_behind, depth_of_group, gutter_of_report, number_text, numbered_source}
+use Rattle.annotate_snippets.specs.Page.{RowName, SourceRow, Elision, Other, NamedRow, lines_named, names_in, names_of_lines, cells_below, GroupPage, Page, page_text, PrintsPage, IsAscending, page_links}
 
 -- the characters of a title's text as it is drawn: a trusted one as it is, any other normalised
 abbrev pub drawn_text : Title → List ℕ
@@ -103,6 +106,10 @@ pub record Frame : Type 0 where
 abbrev pub room_of : Renderer → Frame → ℕ
 room_of r frame = r.term_width - frame.code
 
+-- the bounds between which a snippet's lines are shown: those for the lines that are kept, and for its spans
+abbrev pub bounds_in : Renderer → Frame → Snippet Annotation → Bounds
+bounds_in r frame s = margin_of (room_of r frame) s.fold (numbered_source s) s.markers.items
+
 -- how many spans that are marked below line k are wide
 abbrev pub wide_spans : ℕ → ℕ → Snippet Annotation → ℕ → ℕ
 wide_spans room placeholder_width s k =
@@ -122,15 +129,21 @@ shown_label a = normalized_chars (option_map cow_str_bytes a.label)
 abbrev pub cell_of : Frame → ℕ → ℕ → ℕ
 cell_of frame dropped p = frame.code + p - dropped
 
+-- behind the separator and the space after it, the cells of a row left of the code hold nothing but bars and their corners
+abbrev pub HasBarsAlone : DecorStyle → Frame → List Cell → Type 0
+HasBarsAlone decor frame row =
+    (c : ℕ) → frame.gutter + 3 ≤ c → c < frame.code → IsRailCell decor (slice_index_or row c SPACE)
+
 -- the row shows line k: its number in the gutter, the separator behind it and no letter or digit between them and the code,
--- and from the code's cell to its end a window of the line's normalised text, left of which so many columns are dropped;
--- where the line stands whole, all of it
+-- where nothing but bars stands; and from the code's cell to its end the window of the line's normalised text between the
+-- snippet's bounds, left of which so many columns are dropped; where the line stands whole, all of it
 pub record ShowsSourceLine (r : Renderer) (frame : Frame) (s : Snippet Annotation) (k dropped : ℕ) (row : List Cell) : Type 0 where
   pub within : k < length (source_lines (cow_str_bytes s.source))
   pub number : let shown = number_text r s.line_numbering frame.gutter (s.line_start + k) in row_text (take (length shown) row) ≡ shown
   pub separator : (slice_index_or row (frame.gutter + 1) SPACE).ch ≡ separator_of r.decor_style
   pub beside : (c : ℕ) → length (number_text r s.line_numbering frame.gutter (s.line_start + k)) ≤ c → c < frame.code → is_ascii_alphanumeric (slice_index_or row c SPACE).ch ≡ false
-  pub window : IsWindowOf (placeholder_of r.decor_style) (room_of r frame) (wide_spans (room_of r frame) (length (placeholder_of r.decor_style)) s k) (norm (chars_at (cow_str_bytes s.source) k)) dropped (row_text (drop frame.code row))
+  pub bars : HasBarsAlone r.decor_style frame row
+  pub window : IsWindowOf (placeholder_of r.decor_style) (room_of r frame) (wide_spans (room_of r frame) (length (placeholder_of r.decor_style)) s k) (bounds_in r frame s).left (bounds_in r frame s).right (norm (chars_at (cow_str_bytes s.source) k)) dropped (row_text (drop frame.code row))
   pub whole : stands_whole (room_of r frame) (length (placeholder_of r.decor_style)) s.fold (cow_str_bytes s.source) s.markers.items k ≡ true → (dropped ≡ 0) × (row_text (drop frame.code row) ≡ norm (chars_at (cow_str_bytes s.source) k))
 
 -- the row has the marks of line k: below each column that has a mark it holds a glyph of the mark's kind, as the decor draws
@@ -158,30 +171,42 @@ HasStroke gutter text row =
     (c : ℕ) → c < length text → (slice_index_or row (gutter + 1 + c) SPACE).ch ≡ slice_index_or text c 32
 
 -- a row below that of a line: no letter or digit in the gutter, so that it can't be taken for the row of a line, and behind it
--- the separator, or in the element's last row the closing glyph
-pub record IsRowBelow (decor : DecorStyle) (gutter : ℕ) (last : Bool) (row : List Cell) : Type 0 where
-  pub unnumbered : HasNoNumber gutter row
-  pub stroke : HasStroke gutter (separator_of decor ∷ []) row ⊎ ((last ≡ true) × HasStroke gutter (closing_of decor) row)
+-- the separator, or in the element's last row the closing glyph; between that and the code nothing but bars
+pub record IsRowBelow (decor : DecorStyle) (frame : Frame) (last : Bool) (row : List Cell) : Type 0 where
+  pub unnumbered : HasNoNumber frame.gutter row
+  pub stroke : HasStroke frame.gutter (separator_of decor ∷ []) row ⊎ ((last ≡ true) × HasStroke frame.gutter (closing_of decor) row)
+  pub bars : HasBarsAlone decor frame row
+
+-- a row in place of lines that are left out: no letter or digit in the gutter, what stands for such lines, bars that run past
+-- them, and nothing more
+pub record IsElided (decor : DecorStyle) (frame : Frame) (row : List Cell) : Type 0 where
+  pub unnumbered : HasNoNumber frame.gutter row
+  pub is : IsElisionRow (record { gutter = frame.gutter; code = frame.code; decor = decor }) row
 
 -- a row, with the rows below it, is what its name says
 abbrev pub IsRowOf : Renderer → Frame → Snippet Annotation → RowName → List Cell → List NamedRow → Type 0
 IsRowOf r frame s (SourceRow k) row rows = ShowsLineAndMarks r frame s k row (cells_below rows)
-IsRowOf r frame s Other row rows = IsRowBelow r.decor_style frame.gutter (length rows == 0) row
+IsRowOf r frame s Elision row rows = IsElided r.decor_style frame row
+IsRowOf r frame s Other row rows = IsRowBelow r.decor_style frame (length rows == 0) row
 
 -- each row is what its name says
 abbrev pub AreRowsOf : Renderer → Frame → Snippet Annotation → List NamedRow → Type 0
 AreRowsOf r frame s [] = Unit {0}
 AreRowsOf r frame s (row ∷ rows) = IsRowOf r frame s row.name row.cells rows × AreRowsOf r frame s rows
 
--- the rows show an annotated snippet: behind the row that it begins with, each line on which a span begins or ends has one
--- source row, source rows of greater lines stand lower, and each row is what its name says. Where the snippet is its group's
--- first element and has no path, the first row is the one with which the decor begins a file
+-- the rows show an annotated snippet: behind the row that it begins with stand the source rows of the lines that are shown,
+-- each once and in order, those that are kept and each single line between two of them, with a row between where lines are
+-- left out; and each row is what its name says. So each line on which a span begins or ends has one source row, and source
+-- rows of greater lines stand lower. Where the snippet is its group's first element and has no path, the first row is the
+-- one with which the decor begins a file
 pub record ShowsSnippet (r : Renderer) (frame : Frame) (first : Bool) (s : Snippet Annotation) (rows : List NamedRow) : Type 0 where
   pub opening : List Cell
   pub behind : List NamedRow
   pub rows_are : rows ≡ record { name = Other; cells = opening } ∷ behind
   pub opens : s.path ≡ None → first ≡ true → opening ≡ first_row r.decor_style true frame.gutter
   pub unnumbered : HasNoNumber frame.gutter opening
+  pub lines : lines_named behind ≡ shown_lines s.fold (cow_str_bytes s.source) s.markers.items
+  pub elided : names_in behind ≡ names_of_lines (shown_lines s.fold (cow_str_bytes s.source) s.markers.items)
   pub ends : All (λ a. Contains (lines_named behind) (first_line (cow_str_bytes s.source) a) × Contains (lines_named behind) (last_line (cow_str_bytes s.source) a)) s.markers.items
   pub ordered : IsAscending (lines_named behind)
   pub named : AreRowsOf r frame s behind
@@ -201,22 +226,12 @@ AreElementsShown r frame first (e ∷ es) (rows ∷ parts) =
     ShowsElement r frame first e rows × AreElementsShown r frame false es parts
 AreElementsShown r frame first es parts = ⊥
 
--- whether an element has no spans of several lines, for which bars would stand left of the code
-abbrev pub has_no_bars : Element → Bool
-has_no_bars (Cause snippet) =
-    list_all (λ a. not (is_marking a.kind) || is_single_line (cow_str_bytes snippet.source) a) snippet.markers.items
-has_no_bars (Suggestion snippet) = true
-has_no_bars (Message message) = true
-has_no_bars (Origin origin) = true
-has_no_bars (Padding padding) = true
-
 -- the rows show a group: its title, and each element in order. The code's cell is three behind the gutter, and more
--- only where bars stand between
+-- where bars stand between, as many as its spans of several lines need
 pub record ShowsGroup (r : Renderer) (gutter : ℕ) (g : Group) (page : GroupPage) : Type 0 where
   pub frame : Frame
   pub gutter_is : frame.gutter ≡ gutter
-  pub code_from : gutter + 3 ≤ frame.code
-  pub code_is : list_all has_no_bars g.elements.items ≡ true → frame.code ≡ gutter + 3
+  pub code_is : frame.code ≡ code_behind gutter (depth_of_group g)
   pub title : ShowsTitle r.hyperlink gutter g.title page.title
   pub elements : AreElementsShown r frame true g.elements.items page.elements
 

@@ -110,11 +110,9 @@ AreReplaced placeholder zero before after = after ≡ before
 AreReplaced placeholder (suc n) before after =
     (after ≡ before) ⊎ ((now : List ℕ) × IsReplaced placeholder before now × AreReplaced placeholder n now after)
 
--- `shown` is a window of a text, left of which so many columns are dropped: for some bounds it is the text between
--- them; where the line has wide spans, one stretch for each may then be replaced by the placeholder
-pub record IsWindowOf (placeholder : List ℕ) (room wide : ℕ) (text : List ℕ) (dropped : ℕ) (shown : List ℕ) : Type 0 where
-  pub left : ℕ
-  pub right : ℕ
+-- `shown` is the window of a text between these bounds, left of which so many columns are dropped; where the line has wide
+-- spans, one stretch for each may then be replaced by the placeholder
+pub record IsWindowOf (placeholder : List ℕ) (room wide left right : ℕ) (text : List ℕ) (dropped : ℕ) (shown : List ℕ) : Type 0 where
   pub ordered : left ≤ right
   pub dropped_is : dropped ≡ width_of (dropped_part left text)
   pub shown_is : AreReplaced placeholder wide (window placeholder room left right text) shown
