@@ -95,3 +95,9 @@ all-is s marks p plain a (suc n) within =
 pub filled-shown : (fold : Bool) (s : Source) (marks : List Annotation) → All (λ a. IsSpan s.text a.span.start a.span.end) marks → filled s None (annotated_lines fold s marks) ≡ map (kept_line s marks) (shown_lines fold s.text marks)
 filled-shown fold s marks spans =
     all-is s marks (λ k. not fold || list_any (keeps s.text k) marks) (λ k gone. let none : list_any (keeps s.text k) marks ≡ false = (or_parts (not fold) (list_any (keeps s.text k) marks) gone).1 in (none-unkept s marks k spans none, unseen-unkept s marks k none)) 0 (length (source_lines s.text)) (omega arith)
+
+-- ---- worked
+
+-- one line between is shown, two are not
+worked-between : with_between (0 ∷ 2 ∷ 5 ∷ 6 ∷ 8 ∷ []) ≡ 0 ∷ 1 ∷ 2 ∷ 5 ∷ 6 ∷ 7 ∷ 8 ∷ []
+worked-between = refl

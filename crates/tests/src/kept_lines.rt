@@ -4,7 +4,9 @@ ghost use Rattle.snippet_lines.specs.Lines.{newline_count};
 ghost use Rattle.snippet_lines.specs.Span.{IsSpan};
 
 use snippet_model::snippet::{Annotation, AnnotationKind};
-use snippet_parts::{AnnotatedLineInfo, LineAnnotationType, SourceMap, check_span, newline_count};
+use snippet_parts::{
+    AnnotatedLineInfo, LineAnnotationType, SourceMap, check_span, newline_count, with_lines_between,
+};
 use snippet_text::text_fits;
 use std::alloc::{AllocError, Global};
 use std::test::Fail;
@@ -45,6 +47,22 @@ fn drawn<'a>(
     let map = SourceMap::new(alloc, source, 1)?;
     let (greatest, lines) = map.annotated_lines(annotations, fold)?;
     format!(in alloc; "{};{}", greatest, shown(alloc, &lines)?)
+}
+
+// The lines of a source with these spans that are shown where lines are folded.
+fn shown_with_between<'a>(
+    alloc: Global,
+    source: &'a str,
+    annotations: &'a [Annotation<'a>],
+) -> Result<String, AllocError>
+    requires fits { length source.now < 2 ^ 56 }
+    requires numbers { newline_count source.now + 2 < 2 ^ 64 }
+    requires spans { All (λ a. IsSpan source.now a.span.start a.span.end) annotations.now }
+{
+    let map = SourceMap::new(alloc, source, 1)?;
+    let (_, kept) = map.annotated_lines(annotations, true)?;
+    let lines = with_lines_between(alloc, &map, kept)?;
+    shown(alloc, &lines)
 }
 
 #[test]
@@ -153,5 +171,21 @@ fn spans_of_one_place(rt: HostRuntime) -> Result<(), Fail> {
     ];
     let got = drawn(rt.alloc(), source, &annotations, true)?;
     assert_eq!(rt; got.as_str(), "1; 1:a <1 0-1; 2:b =0 0-1 >1 0-1;");
+    Ok(())
+}
+
+#[test]
+fn single_lines_between(rt: HostRuntime) -> Result<(), Fail> {
+    let source = "a\nb\nc\nd\ne\nf";
+    assert!(rt; text_fits(source) && newline_count(source) < 99);
+    assert!(rt; check_span(source, &(0..1)).is_none() && check_span(source, &(4..5)).is_none());
+    assert!(rt; check_span(source, &(10..11)).is_none());
+    let annotations = [
+        AnnotationKind::Primary.span(0..1),
+        AnnotationKind::Primary.span(4..5),
+        AnnotationKind::Visible.span(10..11),
+    ];
+    let got = shown_with_between(rt.alloc(), source, &annotations)?;
+    assert_eq!(rt; got.as_str(), " 1:a =0 0-1; 2:b; 3:c =0 0-1; 6:f keep;");
     Ok(())
 }
