@@ -141,12 +141,13 @@ fn cause_of<'v>(
 ) -> Result<Snippet<'v, Annotation<'v>>, RenderError>
     ensures fits { IfOk result (SnippetFits AnnotationFits) }
 {
-    if !is_plain(source) {
+    if source.path.is_some() {
         return Err(RenderError::NotYet);
     }
     let snippet = Snippet::source(alloc, source.source.text)
         .line_start(source.line_start)
-        .line_numbering(source.line_numbering);
+        .line_numbering(source.line_numbering)
+        .fold(source.fold);
     with_marks(snippet, marks).map_err(RenderError::Memory)
 }
 
@@ -158,18 +159,14 @@ fn suggestion_of<'v>(
 ) -> Result<Snippet<'v, Patch<'v>>, RenderError>
     ensures fits { IfOk result (SnippetFits PatchFits) }
 {
-    if !is_plain(source) {
+    if source.path.is_some() {
         return Err(RenderError::NotYet);
     }
     let snippet = Snippet::source(alloc, source.source.text)
         .line_start(source.line_start)
-        .line_numbering(source.line_numbering);
+        .line_numbering(source.line_numbering)
+        .fold(source.fold);
     with_patches(snippet, patches).map_err(RenderError::Memory)
-}
-
-/// Whether a source has no path and is folded.
-fn is_plain(source: &Source<'_>) -> bool {
-    source.path.is_none() && source.fold
 }
 
 /// The snippet with these annotations, in order, behind those it has.
