@@ -1,13 +1,21 @@
 -- Drawing in rows from one on, and in cells from one on.
-use Rattle.std.proofs.Common.{◌≡◌, ◌≢◌, ℕ, ◌+◌, ◌-◌, ◌<◌, ◌≤◌, false, List, [], ◌∷◌, length, get_or, refl, sym, ◌∙◌, subst, arith, inl, inr, All}
+use Rattle.std.proofs.Common.{◌≡◌, ◌≢◌, ℕ, ◌+◌, ◌-◌, ◌<◌, ◌≤◌, ◌==◌, ◌||◌, Bool, true, false, List, [], ◌∷◌, length, drop, get_or, refl, sym, ap, ◌∙◌, subst, arith, inl, inr, All}
 use Rattle.std.proofs.lemmas.Bool.{cases_lt, cases_eq}
-use Rattle.snippet_style.specs.Grid.{Cell, SPACE, cell_at, WritesCells, drawn, unlinked_cell}
+use Rattle.snippet_style.specs.Grid.{Cell, SPACE, cell_at, row_at, WritesCells, drawn, unlinked_cell}
+use Rattle.snippet_style.specs.Glyphs.{glyph_of, rail_glyphs}
+use Rattle.snippet_style.specs.declared.glyphs.DecorStyle.{DecorStyle}
+use Rattle.snippet_style.specs.declared.glyphs.DecorStyle.TheVariants.{Ascii, Unicode}
 use Rattle.snippet_style.specs.declared.role.ElementStyle.{ElementStyle}
 use Rattle.snippet_style.proofs.GridLemmas.{All-drawn}
-use Rattle.std.proofs.lemmas.List.Elements.{All-weaker}
+use Rattle.std.specs.List.{list_any}
+use Rattle.std.proofs.lemmas.Bool.Decides.{nat_tests}
+use Rattle.std.proofs.lemmas.List.{length-drop, get_or-drop, ext_get_or}
+use Rattle.std.proofs.lemmas.List.Elements.{All-weaker, All-head, All-tail, All-cons, All-nil}
 use Rattle.snippet_text.specs.Normalized.{is_listed}
-use Rattle.snippet_strokes.specs.Entries.{has_mark_role}
-use Rattle.snippet_strokes.specs.Painting.{IsFreeCell, DrawsFrom}
+use Rattle.snippet_strokes.specs.declared.layout.Layout.{Layout}
+use Rattle.snippet_strokes.specs.Entries.{has_mark_role, IsRailCell}
+use Rattle.snippet_strokes.specs.Painting.{IsFreeCell, DrawsFrom, KeepsRails, DrawsRails}
+use Rattle.snippet_strokes.proofs.TextLemmas.{All-from_none}
 
 -- nothing is drawn yet
 pub DrawsFrom-none : (row from : ℕ) (rows : List (List Cell)) → DrawsFrom row from rows rows
@@ -104,3 +112,135 @@ unmarked_beside old new row at cell writes r c beside before =
 pub unmarked_drawn : (role : ElementStyle) (cs : List ℕ) → has_mark_role (unlinked_cell role 32) ≡ false → All (λ cell. has_mark_role cell ≡ false) (drawn role cs)
 unmarked_drawn role cs unmarked =
     All-drawn (λ cell. has_mark_role cell ≡ false) role cs (λ k d within. unmarked)
+
+-- what is drawn in cells from the code on is no part of a bar
+pub KeepsRails-none : (layout : Layout) (rows : List (List Cell)) → KeepsRails layout rows rows
+KeepsRails-none layout rows = λ r c left is. is
+
+pub KeepsRails-more : (layout : Layout) (old mid new : List (List Cell)) → KeepsRails layout old mid → KeepsRails layout mid new → KeepsRails layout old new
+KeepsRails-more layout old mid new done more = λ r c left is. more r c left (done r c left is)
+
+pub KeepsRails-writes : (layout : Layout) (old new : List (List Cell)) (row at : ℕ) (cells : List Cell) → WritesCells old new row at cells → All (IsRailCell layout.decor) cells → KeepsRails layout old new
+KeepsRails-writes layout old new row at cells writes all r c left is =
+    let P : Cell → Type 0 = IsRailCell layout.decor in
+    elim (cases_eq r row) [
+      | inl here ↦
+          subst (λ n. P (cell_at new n c)) (sym here) (written_cell P old new row at c cells writes all (subst (λ n. P (cell_at old n c)) here is))
+      | inr other ↦ subst (λ cs. P (get_or cs c SPACE)) (sym (writes.others r other)) is
+    ]
+
+-- no part of a bar is a listed character
+in_glyphs : (ch : ℕ) (glyphs : List ℕ) → All (λ g. is_listed g ≡ false) glyphs → list_any (λ g. ch == g) glyphs ≡ true → is_listed ch ≡ false
+in_glyphs ch [] free is = cc is
+in_glyphs ch (g ∷ glyphs) free is =
+    elim (cases_eq ch g) [
+      | inl here ↦ subst (λ x. is_listed x ≡ false) (sym here) (All-head (λ x. is_listed x ≡ false) g glyphs free)
+      | inr other ↦
+          in_glyphs ch glyphs (All-tail (λ x. is_listed x ≡ false) g glyphs free) (sym (ap (λ b. b || list_any (λ x. ch == x) glyphs) (unequal ch g other)) ∙ is)
+    ]
+  where
+    unequal : (m n : ℕ) → (m ≡ n → ⊥) → (m == n) ≡ false
+    unequal m n other = grind (arith, nat_tests, other)
+
+free_rail_glyphs : (decor : DecorStyle) → list_any is_listed (rail_glyphs decor) ≡ false
+free_rail_glyphs Ascii = refl
+free_rail_glyphs Unicode = refl
+
+pub free_rail : (decor : DecorStyle) (cell : Cell) → IsRailCell decor cell → IsFreeCell cell
+free_rail decor cell is =
+    (in_glyphs cell.ch (rail_glyphs decor) (All-from_none (rail_glyphs decor) (free_rail_glyphs decor)) is.glyph, is.link)
+
+-- the space is one, and so are the glyphs that bars are drawn with
+pub rail_space : (decor : DecorStyle) → IsRailCell decor SPACE
+rail_space Ascii = record { glyph = refl; link = refl }
+rail_space Unicode = record { glyph = refl; link = refl }
+
+pub rail_horizontal : (decor : DecorStyle) (primary : Bool) (role : ElementStyle) (ch : ℕ) → ch ≡ glyph_of decor primary 95 95 0x2501 0x2500 → IsRailCell decor (unlinked_cell role ch)
+rail_horizontal decor primary role ch is =
+    record { glyph = subst (λ x. list_any (λ g. x == g) (rail_glyphs decor) ≡ true) (sym is) (among decor primary); link = refl }
+  where
+    among : (decor : DecorStyle) (primary : Bool) → list_any (λ g. glyph_of decor primary 95 95 0x2501 0x2500 == g) (rail_glyphs decor) ≡ true
+    among Ascii true = refl
+    among Ascii false = refl
+    among Unicode true = refl
+    among Unicode false = refl
+
+pub rail_vertical : (decor : DecorStyle) (primary : Bool) (role : ElementStyle) (ch : ℕ) → ch ≡ glyph_of decor primary 124 124 0x2503 0x2502 → IsRailCell decor (unlinked_cell role ch)
+rail_vertical decor primary role ch is =
+    record { glyph = subst (λ x. list_any (λ g. x == g) (rail_glyphs decor) ≡ true) (sym is) (among decor primary); link = refl }
+  where
+    among : (decor : DecorStyle) (primary : Bool) → list_any (λ g. glyph_of decor primary 124 124 0x2503 0x2502 == g) (rail_glyphs decor) ≡ true
+    among Ascii true = refl
+    among Ascii false = refl
+    among Unicode true = refl
+    among Unicode false = refl
+
+pub rail_top : (decor : DecorStyle) (primary : Bool) (role : ElementStyle) (ch : ℕ) → ch ≡ glyph_of decor primary 32 32 0x250F 0x250C → IsRailCell decor (unlinked_cell role ch)
+rail_top decor primary role ch is =
+    record { glyph = subst (λ x. list_any (λ g. x == g) (rail_glyphs decor) ≡ true) (sym is) (among decor primary); link = refl }
+  where
+    among : (decor : DecorStyle) (primary : Bool) → list_any (λ g. glyph_of decor primary 32 32 0x250F 0x250C == g) (rail_glyphs decor) ≡ true
+    among Ascii true = refl
+    among Ascii false = refl
+    among Unicode true = refl
+    among Unicode false = refl
+
+pub rail_bottom : (decor : DecorStyle) (primary : Bool) (role : ElementStyle) (ch : ℕ) → ch ≡ glyph_of decor primary 124 124 0x2517 0x2514 → IsRailCell decor (unlinked_cell role ch)
+rail_bottom decor primary role ch is =
+    record { glyph = subst (λ x. list_any (λ g. x == g) (rail_glyphs decor) ≡ true) (sym is) (among decor primary); link = refl }
+  where
+    among : (decor : DecorStyle) (primary : Bool) → list_any (λ g. glyph_of decor primary 124 124 0x2517 0x2514 == g) (rail_glyphs decor) ≡ true
+    among Ascii true = refl
+    among Ascii false = refl
+    among Unicode true = refl
+    among Unicode false = refl
+
+-- bars beside rows: none yet, some more, and one cell
+pub DrawsRails-none : (layout : Layout) (row : ℕ) (rows : List (List Cell)) → DrawsRails layout row rows rows
+DrawsRails-none layout row rows =
+    record {
+      draws = DrawsFrom-none row (layout.gutter + 3) rows;
+      rails = KeepsRails-none layout rows;
+      code = λ r. refl;
+      longer = λ r. omega arith;
+    }
+
+pub DrawsRails-more : (layout : Layout) (row : ℕ) (old mid new : List (List Cell)) → DrawsRails layout row old mid → DrawsRails layout row mid new → DrawsRails layout row old new
+DrawsRails-more layout row old mid new done more =
+    record {
+      draws = DrawsFrom-more row (layout.gutter + 3) old mid new done.draws more.draws;
+      rails = KeepsRails-more layout old mid new done.rails more.rails;
+      code = λ r. more.code r ∙ done.code r;
+      longer = λ r. omega (arith, done.longer r, more.longer r);
+    }
+
+pub DrawsRails-lower : (layout : Layout) (row low : ℕ) (old new : List (List Cell)) → row ≤ low → DrawsRails layout low old new → DrawsRails layout row old new
+DrawsRails-lower layout row low old new lower done =
+    record {
+      draws = DrawsFrom-weaker row low (layout.gutter + 3) (layout.gutter + 3) old new lower (omega arith) done.draws;
+      rails = done.rails;
+      code = done.code;
+      longer = done.longer;
+    }
+
+pub DrawsRails-writes : (layout : Layout) (row r at : ℕ) (old new : List (List Cell)) (cell : Cell) → WritesCells old new r at (cell ∷ []) → row ≤ r → r < length old → layout.gutter + 3 ≤ at → at < layout.code → IsRailCell layout.decor cell → DrawsRails layout row old new
+DrawsRails-writes layout row r at old new cell writes lower within right left is =
+    let P : Cell → Type 0 = IsFreeCell in
+    let R : Cell → Type 0 = IsRailCell layout.decor in
+    record {
+      draws = DrawsFrom-writes row r (layout.gutter + 3) at old new (cell ∷ []) writes lower within right (All-cons P cell [] (free_rail layout.decor cell is) (All-nil P));
+      rails = KeepsRails-writes layout old new r at (cell ∷ []) writes (All-cons R cell [] is (All-nil R));
+      code = λ k. elim (cases_eq k r) [
+        | inl here ↦ subst (λ n. drop layout.code (row_at new n) ≡ drop layout.code (row_at old n)) (sym here) behind_code
+        | inr other ↦ ap (drop layout.code) (writes.others k other)
+      ];
+      longer = λ k. elim (cases_eq k r) [
+        | inl here ↦ subst (λ n. length (row_at old n) ≤ length (row_at new n)) (sym here) (omega (arith, writes.width))
+        | inr other ↦ omega (arith, ap length (writes.others k other))
+      ];
+    }
+  where
+    behind_code : drop layout.code (row_at new r) ≡ drop layout.code (row_at old r)
+    behind_code =
+        let long : length (drop layout.code (row_at new r)) ≡ length (drop layout.code (row_at old r)) = omega (arith, writes.width, left, length-drop layout.code (row_at new r), length-drop layout.code (row_at old r)) in
+        ext_get_or SPACE (drop layout.code (row_at new r)) (drop layout.code (row_at old r)) long (λ k within. get_or-drop layout.code (row_at new r) k SPACE ∙ writes.behind (layout.code + k) (omega (arith, left)) ∙ sym (get_or-drop layout.code (row_at old r) k SPACE))

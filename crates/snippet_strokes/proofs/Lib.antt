@@ -7,6 +7,7 @@ pub mod CellLemmas
 pub mod DrawLemmas
 pub mod MarkLemmas
 pub mod ShiftLemmas
+pub mod BegunLemmas
 pub mod StrokeLemmas
 pub mod WholeLemmas
 pub mod SnippetLemmas

@@ -1,5 +1,5 @@
 -- What entries that were painted in order show below each column.
-use Rattle.std.proofs.Common.{◌≡◌, ◌≢◌, ℕ, ◌+◌, ◌<◌, ◌≤◌, Bool, true, false, List, [], ◌∷◌, length, map, get_or, refl, sym, ap, ◌∙◌, subst, arith, inl, inr, Contains}
+use Rattle.std.proofs.Common.{◌≡◌, ◌≢◌, ℕ, ◌+◌, ◌<◌, ◌≤◌, Bool, true, false, List, [], ◌∷◌, length, map, get_or, refl, sym, ap, ◌∙◌, subst, arith, inl, inr, All, Contains}
 use Rattle.std.specs.List.Sorted.{IsPermutation}
 use Rattle.std.proofs.lemmas.Bool.{cases_Bool}
 use Rattle.std.proofs.lemmas.List.{get_or-map, length-map}
@@ -15,7 +15,7 @@ use Rattle.snippet_strokes.specs.declared.layout.Layout.{Layout}
 use Rattle.snippet_strokes.specs.declared.positions.PlacedEntry.{PlacedEntry}
 use Rattle.snippet_strokes.specs.Entries.{EntryCovers, entry_width, is_primary, IsEntryMark, IsMarkCell}
 use Rattle.snippet_strokes.specs.Painting.{CoversOver, AreMarked}
-use Rattle.snippet_strokes.proofs.PaintLemmas.{IsMarkCell-mark_cell}
+use Rattle.snippet_strokes.proofs.PaintLemmas.{IsMarkCell-mark_cell, IsPlainEntry, covered_painted, painted_covered, spaceless}
 
 -- a kind that is drawn as primary is Primary
 primary_only : (kind : AnnotationKind) → is_primary kind ≡ true → kind ≡ Primary
@@ -54,8 +54,8 @@ from_map f (x ∷ xs) y (k, within, same) =
     (get_or (x ∷ xs) at x, Contains-get_or (x ∷ xs) at x inside, sym (get_or-map f (x ∷ xs) at x y inside) ∙ same)
 
 -- the cell below a column with a mark holds it
-pub mark_shown : (layout : Layout) (es : List LineAnnotation) (placed : List PlacedEntry) (row : ℕ) (old new : List (List Cell)) → IsPermutation es (map (λ (e : PlacedEntry). e.entry) placed) → AreMarked layout placed row old new → (p : ℕ) (kind : AnnotationKind) → IsEntryMark es p kind → IsMarkCell layout.decor kind (cell_at new row (layout.code + p))
-mark_shown layout es placed row old new same marked p kind mark =
+pub mark_shown : (layout : Layout) (es : List LineAnnotation) (placed : List PlacedEntry) (row : ℕ) (old new : List (List Cell)) → All IsPlainEntry es → IsPermutation es (map (λ (e : PlacedEntry). e.entry) placed) → AreMarked layout placed row old new → (p : ℕ) (kind : AnnotationKind) → IsEntryMark es p kind → IsMarkCell layout.decor kind (cell_at new row (layout.code + p))
+mark_shown layout es placed row old new plain same marked p kind mark =
     let f : PlacedEntry → LineAnnotation = λ e. e.entry in
     let order : List PlacedEntry = marked.order in
     let sorted : List LineAnnotation = map f order in
@@ -65,14 +65,15 @@ mark_shown layout es placed row old new same marked p kind mark =
     let k : ℕ = found.1.0 in
     let here : get_or order k x ≡ x = found.1.2 in
     let is : (get_or order k x).entry ≡ mark.entry = ap f here ∙ found.2 in
-    let shows = marked.painted.marked k p x found.1.1 (subst (λ e. EntryCovers e p) (sym is) mark.covers) in
+    let shows = marked.painted.marked k p x found.1.1 (painted_covered (get_or order k x) p (subst (λ e. EntryCovers e p) (sym is) mark.covers)) in
     let top : PlacedEntry = get_or order shows.at x in
     let read : (j : ℕ) → j < length order → get_or sorted j mark.entry ≡ (get_or order j x).entry = λ j within. get_or-map f order j x mark.entry within in
     let inside : shows.at < length sorted = omega (arith, shows.within, length-map order f) in
     let among : Contains es top.entry = Contains-permutation sorted es top.entry (IsPermutation-sym es sorted all) (subst (Contains sorted) (read shows.at shows.within) (Contains-get_or sorted shows.at mark.entry inside)) in
     let over : CoversOver mark.entry top.entry = subst (λ e. CoversOver e top.entry) (read k found.1.1 ∙ is) (subst (CoversOver (get_or sorted k mark.entry)) (read shows.at shows.within) (marked.ordered k shows.at mark.entry shows.later inside)) in
-    let alike = drawn_alike es p kind mark top.entry among shows.covers over in
-    same_mark layout.decor kind top.entry.kind (cell_at new row (layout.code + p)) alike (subst (IsMarkCell layout.decor top.entry.kind) (sym shows.holds) (IsMarkCell-mark_cell layout top (layout.code + p)))
+    let top_plain : IsPlainEntry top.entry = subst IsPlainEntry among.2 (plain among.0 top.entry among.1) in
+    let alike = drawn_alike es p kind mark top.entry among (covered_painted top p top_plain shows.covers) over in
+    same_mark layout.decor kind top.entry.kind (cell_at new row (layout.code + p)) alike (subst (IsMarkCell layout.decor top.entry.kind) (sym shows.holds) (IsMarkCell-mark_cell layout top (layout.code + p) (spaceless top top_plain)))
 
 -- a kind that isn't drawn as primary, and is marked, is Context
 context_only : (kind : AnnotationKind) → kind ≢ Visible → is_primary kind ≡ false → kind ≡ Context

@@ -1,12 +1,16 @@
 -- Painting marks into a row: one cell after another, and one entry over another.
-use Rattle.std.proofs.Common.{◌≡◌, ◌⊎◌, ℕ, ◌+◌, ◌<◌, ◌≤◌, ◌==◌, ◌&&◌, cond, max, Bool, true, false, List, [], ◌∷◌, ◌++◌, length, take, get_or, refl, sym, ap, ◌∙◌, subst, arith, inl, inr, All}
+use Rattle.std.proofs.Common.{◌≡◌, ◌⊎◌, ℕ, ◌+◌, ◌<◌, ◌≤◌, ◌==◌, ◌&&◌, ◌||◌, cond, max, Bool, true, false, List, [], ◌∷◌, ◌++◌, length, take, get_or, refl, sym, ap, ◌∙◌, subst, arith, inl, inr, All}
 use Rattle.std.proofs.lemmas.Bool.{cases_lt}
 use Rattle.std.proofs.lemmas.Bool.Decides.{nat_tests}
 use Rattle.std.proofs.lemmas.List.{length_push, get_or_append_left, get_or_push, take_more, take_all}
 use Rattle.snippet_model.specs.declared.snippet.AnnotationKind.{AnnotationKind}
 use Rattle.snippet_model.specs.declared.snippet.AnnotationKind.TheVariants.{Primary, Context, Visible}
+use Rattle.snippet_parts.specs.declared.entries.LineAnnotation.{LineAnnotation}
+use Rattle.snippet_parts.specs.declared.entries.LineAnnotationType.{LineAnnotationType}
+use Rattle.snippet_parts.specs.declared.entries.LineAnnotationType.TheVariants.{Singleline, MultilineStart, MultilineEnd, MultilineLine}
+use Rattle.snippet_parts.specs.Measures.{is_single_part}
 use Rattle.snippet_strokes.specs.declared.positions.PlacedEntry.{PlacedEntry}
-use Rattle.snippet_strokes.specs.Positions.{is_hung}
+use Rattle.snippet_strokes.specs.Positions.{has_stem, takes_space}
 use Rattle.snippet_style.specs.declared.glyphs.DecorStyle.{DecorStyle}
 use Rattle.snippet_style.specs.declared.glyphs.DecorStyle.TheVariants.{Ascii, Unicode}
 use Rattle.snippet_style.specs.declared.role.ElementStyle.{ElementStyle}
@@ -14,8 +18,8 @@ use Rattle.snippet_style.specs.Glyphs.{glyph_of, underline_role}
 use Rattle.snippet_style.specs.Grid.{Cell, cell_at, row_at, unlinked_cell, WritesCells}
 use Rattle.snippet_text.specs.Normalized.{is_listed}
 use Rattle.snippet_strokes.specs.declared.layout.Layout.{Layout}
-use Rattle.snippet_strokes.specs.Entries.{EntryCovers, is_primary, IsMarkCell}
-use Rattle.snippet_strokes.specs.Painting.{IsFreeCell, Paints, Painted, ShowsFrom, mark_cell}
+use Rattle.snippet_strokes.specs.Entries.{EntryCovers, is_end_part, is_primary, is_single, IsMarkCell}
+use Rattle.snippet_strokes.specs.Painting.{IsFreeCell, IsPaintedAt, Paints, Painted, ShowsFrom, first_glyph, mark_cell, mark_end}
 
 -- no cell is painted yet
 pub Paints-none : (rows : List (List Cell)) (row from : ℕ) (cell : ℕ → Cell) → Paints rows rows row from from cell
@@ -76,49 +80,67 @@ Paints-all old new row at start end next cell done reached within empty =
     ]
 
 -- the glyph of an entry's mark is that of its mark cell
-pub mark_cell_is : (layout : Layout) (e : PlacedEntry) (at mark glyph hung_glyph : ℕ) (primary : Bool) (role : ElementStyle) → primary ≡ is_primary e.entry.kind → mark ≡ cond (is_hung e && at == e.entry.start.display) hung_glyph glyph → hung_glyph ≡ glyph_of layout.decor primary 94 45 0x252F 0x252C → glyph ≡ glyph_of layout.decor primary 94 45 0x2501 0x2500 → role ≡ underline_role primary → unlinked_cell role mark ≡ mark_cell layout e (layout.code + at)
-mark_cell_is layout e at mark glyph hung_glyph primary role is_kind is_mark is_hung_glyph is_glyph is_role =
-    rw (is_role, is_mark, is_hung_glyph, is_glyph, shifted layout.code at e.entry.start.display, is_kind) refl
+pub mark_cell_is : (layout : Layout) (e : PlacedEntry) (at mark glyph first : ℕ) (primary : Bool) (role : ElementStyle) → primary ≡ is_primary e.entry.kind → mark ≡ cond (at == e.entry.start.display) first glyph → first ≡ first_glyph layout.decor e → glyph ≡ glyph_of layout.decor primary 94 45 0x2501 0x2500 → role ≡ underline_role primary → unlinked_cell role mark ≡ mark_cell layout e (layout.code + at)
+mark_cell_is layout e at mark glyph first primary role is_kind is_mark is_first is_glyph is_role =
+    rw (is_role, is_mark, is_first, is_glyph, shifted layout.code at e.entry.start.display, is_kind) refl
   where
     shifted : (k m n : ℕ) → (k + m == k + n) ≡ (m == n)
     shifted k m n = grind (arith, nat_tests)
 
--- a mark cell is one of its kind, and no listed character
-stroke_is : (decor : DecorStyle) (kind : AnnotationKind) (start : Bool) → IsMarkCell decor kind (unlinked_cell (underline_role (is_primary kind)) (cond start (glyph_of decor (is_primary kind) 94 45 0x252F 0x252C) (glyph_of decor (is_primary kind) 94 45 0x2501 0x2500)))
-stroke_is Ascii Primary true = (refl, refl)
-stroke_is Ascii Context true = (refl, refl)
-stroke_is Ascii Visible true = (refl, refl)
-stroke_is Unicode Primary true = (inr refl, refl)
-stroke_is Unicode Context true = (inr refl, refl)
-stroke_is Unicode Visible true = (inr refl, refl)
-stroke_is Ascii Primary false = (refl, refl)
-stroke_is Ascii Context false = (refl, refl)
-stroke_is Ascii Visible false = (refl, refl)
-stroke_is Unicode Primary false = (inl refl, refl)
-stroke_is Unicode Context false = (inl refl, refl)
-stroke_is Unicode Visible false = (inl refl, refl)
+-- a mark cell of an entry that stands for a whole span is one of its kind
+stroke_is : (decor : DecorStyle) (kind : AnnotationKind) (start stem : Bool) → IsMarkCell decor kind (unlinked_cell (underline_role (is_primary kind)) (cond start (cond stem (glyph_of decor (is_primary kind) 94 45 0x252F 0x252C) (glyph_of decor (is_primary kind) 94 45 0x2501 0x2500)) (glyph_of decor (is_primary kind) 94 45 0x2501 0x2500)))
+stroke_is Ascii Primary true true = (refl, refl)
+stroke_is Ascii Context true true = (refl, refl)
+stroke_is Ascii Visible true true = (refl, refl)
+stroke_is Unicode Primary true true = (inr refl, refl)
+stroke_is Unicode Context true true = (inr refl, refl)
+stroke_is Unicode Visible true true = (inr refl, refl)
+stroke_is Ascii Primary true false = (refl, refl)
+stroke_is Ascii Context true false = (refl, refl)
+stroke_is Ascii Visible true false = (refl, refl)
+stroke_is Unicode Primary true false = (inl refl, refl)
+stroke_is Unicode Context true false = (inl refl, refl)
+stroke_is Unicode Visible true false = (inl refl, refl)
+stroke_is Ascii Primary false stem = (refl, refl)
+stroke_is Ascii Context false stem = (refl, refl)
+stroke_is Ascii Visible false stem = (refl, refl)
+stroke_is Unicode Primary false stem = (inl refl, refl)
+stroke_is Unicode Context false stem = (inl refl, refl)
+stroke_is Unicode Visible false stem = (inl refl, refl)
 
-pub IsMarkCell-mark_cell : (layout : Layout) (e : PlacedEntry) (c : ℕ) → IsMarkCell layout.decor e.entry.kind (mark_cell layout e c)
-IsMarkCell-mark_cell layout e c =
-    stroke_is layout.decor e.entry.kind (is_hung e && c == layout.code + e.entry.start.display)
+pub IsMarkCell-mark_cell : (layout : Layout) (e : PlacedEntry) (c : ℕ) → takes_space e ≡ false → IsMarkCell layout.decor e.entry.kind (mark_cell layout e c)
+IsMarkCell-mark_cell layout e c flat =
+    let primary = is_primary e.entry.kind in
+    let corner = cond (has_stem e) (glyph_of layout.decor primary 94 45 0x257F 0x2502) (glyph_of layout.decor primary 94 45 0x251B 0x2518) in
+    let own = cond (has_stem e) (glyph_of layout.decor primary 94 45 0x252F 0x252C) (glyph_of layout.decor primary 94 45 0x2501 0x2500) in
+    subst (λ b. IsMarkCell layout.decor e.entry.kind (unlinked_cell (underline_role primary) (cond (c == layout.code + e.entry.start.display) (cond b corner own) (glyph_of layout.decor primary 94 45 0x2501 0x2500)))) (sym flat) (stroke_is layout.decor e.entry.kind (c == layout.code + e.entry.start.display) (has_stem e))
 
-free_stroke : (decor : DecorStyle) (kind : AnnotationKind) (start : Bool) → is_listed (cond start (glyph_of decor (is_primary kind) 94 45 0x252F 0x252C) (glyph_of decor (is_primary kind) 94 45 0x2501 0x2500)) ≡ false
-free_stroke Ascii Primary true = refl
-free_stroke Ascii Context true = refl
-free_stroke Ascii Visible true = refl
-free_stroke Unicode Primary true = refl
-free_stroke Unicode Context true = refl
-free_stroke Unicode Visible true = refl
-free_stroke Ascii Primary false = refl
-free_stroke Ascii Context false = refl
-free_stroke Ascii Visible false = refl
-free_stroke Unicode Primary false = refl
-free_stroke Unicode Context false = refl
-free_stroke Unicode Visible false = refl
+-- no glyph of a mark is a listed character
+free_glyphs : (decor : DecorStyle) (primary first space stem : Bool) → is_listed (cond first (cond space (cond stem (glyph_of decor primary 94 45 0x257F 0x2502) (glyph_of decor primary 94 45 0x251B 0x2518)) (cond stem (glyph_of decor primary 94 45 0x252F 0x252C) (glyph_of decor primary 94 45 0x2501 0x2500))) (glyph_of decor primary 94 45 0x2501 0x2500)) ≡ false
+free_glyphs Ascii true true true true = refl
+free_glyphs Ascii true true true false = refl
+free_glyphs Ascii true true false true = refl
+free_glyphs Ascii true true false false = refl
+free_glyphs Ascii true false space stem = refl
+free_glyphs Ascii false true true true = refl
+free_glyphs Ascii false true true false = refl
+free_glyphs Ascii false true false true = refl
+free_glyphs Ascii false true false false = refl
+free_glyphs Ascii false false space stem = refl
+free_glyphs Unicode true true true true = refl
+free_glyphs Unicode true true true false = refl
+free_glyphs Unicode true true false true = refl
+free_glyphs Unicode true true false false = refl
+free_glyphs Unicode true false space stem = refl
+free_glyphs Unicode false true true true = refl
+free_glyphs Unicode false true true false = refl
+free_glyphs Unicode false true false true = refl
+free_glyphs Unicode false true false false = refl
+free_glyphs Unicode false false space stem = refl
 
 free_mark_cell : (layout : Layout) (e : PlacedEntry) (c : ℕ) → IsFreeCell (mark_cell layout e c)
 free_mark_cell layout e c =
-    (free_stroke layout.decor e.entry.kind (is_hung e && c == layout.code + e.entry.start.display), refl)
+    (free_glyphs layout.decor (is_primary e.entry.kind) (c == layout.code + e.entry.start.display) (takes_space e) (has_stem e), refl)
 
 -- no entry is painted yet
 pub Painted-none : (layout : Layout) (row : ℕ) (rows : List (List Cell)) → Painted layout [] row rows rows
@@ -135,12 +157,12 @@ Painted-none layout row rows =
     }
 
 -- a column that an entry covers, or not
-covers_or_not : (e : PlacedEntry) (p : ℕ) → EntryCovers e.entry p ⊎ (EntryCovers e.entry p → ⊥)
+covers_or_not : (e : PlacedEntry) (p : ℕ) → IsPaintedAt e p ⊎ (IsPaintedAt e p → ⊥)
 covers_or_not e p =
     elim (cases_lt p e.entry.start.display) [
       | inl left ↦ inr (λ covers. omega (arith, covers.0))
       | inr after ↦
-          elim (cases_lt p e.entry.end.display) [
+          elim (cases_lt p (mark_end e)) [
             | inl before ↦ inl (after, before)
             | inr right ↦ inr (λ covers. omega (arith, covers.1))
           ]
@@ -154,26 +176,26 @@ new_place : (es : List PlacedEntry) (e d : PlacedEntry) → get_or (es ++ e ∷ 
 new_place es e d = get_or_push es e d (length es) refl
 
 -- the painted cell is outside the columns that an entry doesn't cover
-untouched : (layout : Layout) (mid new : List (List Cell)) (row p : ℕ) (e : PlacedEntry) → Paints mid new row (layout.code + e.entry.start.display) (layout.code + e.entry.end.display) (mark_cell layout e) → (EntryCovers e.entry p → ⊥) → cell_at new row (layout.code + p) ≡ cell_at mid row (layout.code + p)
+untouched : (layout : Layout) (mid new : List (List Cell)) (row p : ℕ) (e : PlacedEntry) → Paints mid new row (layout.code + e.entry.start.display) (layout.code + mark_end e) (mark_cell layout e) → (IsPaintedAt e p → ⊥) → cell_at new row (layout.code + p) ≡ cell_at mid row (layout.code + p)
 untouched layout mid new row p e paints not_covered =
     elim (cases_lt p e.entry.start.display) [
       | inl left ↦ paints.before (layout.code + p) (omega arith)
       | inr after ↦
-          elim (cases_lt p e.entry.end.display) [
+          elim (cases_lt p (mark_end e)) [
             | inl before ↦ absurd (not_covered (after, before))
             | inr right ↦ paints.behind (layout.code + p) (omega arith)
           ]
     ]
 
 -- what an entry shows that was painted last
-shows_new : (layout : Layout) (es : List PlacedEntry) (e d : PlacedEntry) (k p : ℕ) (mid new : List (List Cell)) (row : ℕ) → Paints mid new row (layout.code + e.entry.start.display) (layout.code + e.entry.end.display) (mark_cell layout e) → k < length (es ++ e ∷ []) → EntryCovers e.entry p → ShowsFrom layout (es ++ e ∷ []) k p d (cell_at new row (layout.code + p))
+shows_new : (layout : Layout) (es : List PlacedEntry) (e d : PlacedEntry) (k p : ℕ) (mid new : List (List Cell)) (row : ℕ) → Paints mid new row (layout.code + e.entry.start.display) (layout.code + mark_end e) (mark_cell layout e) → k < length (es ++ e ∷ []) → IsPaintedAt e p → ShowsFrom layout (es ++ e ∷ []) k p d (cell_at new row (layout.code + p))
 shows_new layout es e d k p mid new row paints within covers =
     let here = new_place es e d in
     record {
       at = length es;
       later = omega (arith, length_push es e);
       within = omega (arith, length_push es e);
-      covers = subst (λ x. EntryCovers x.entry p) (sym here) covers;
+      covers = subst (λ x. IsPaintedAt x p) (sym here) covers;
       holds = paints.inside (layout.code + p) (omega (arith, covers.0)) (omega (arith, covers.1)) ∙ ap (λ (x : PlacedEntry). mark_cell layout x (layout.code + p)) (sym here);
     }
 
@@ -185,20 +207,20 @@ shows_old layout es e d k p cell same is shows =
       at = shows.at;
       later = shows.later;
       within = omega (arith, shows.within, length_push es e);
-      covers = subst (λ x. EntryCovers x.entry p) (sym place) shows.covers;
+      covers = subst (λ x. IsPaintedAt x p) (sym place) shows.covers;
       holds = is ∙ shows.holds ∙ ap (λ (x : PlacedEntry). mark_cell layout x (layout.code + p)) (sym place);
     }
 
 -- where one entry is painted the row ends where the entry does, or where it did
-sole_width : (layout : Layout) (es : List PlacedEntry) (e f : PlacedEntry) (row : ℕ) (old mid new : List (List Cell)) → Painted layout es row old mid → Paints mid new row (layout.code + e.entry.start.display) (layout.code + e.entry.end.display) (mark_cell layout e) → es ++ e ∷ [] ≡ f ∷ [] → f.entry.start.display < f.entry.end.display → length (row_at new row) ≡ max (length (row_at old row)) (layout.code + f.entry.end.display)
+sole_width : (layout : Layout) (es : List PlacedEntry) (e f : PlacedEntry) (row : ℕ) (old mid new : List (List Cell)) → Painted layout es row old mid → Paints mid new row (layout.code + e.entry.start.display) (layout.code + mark_end e) (mark_cell layout e) → es ++ e ∷ [] ≡ f ∷ [] → f.entry.start.display < mark_end f → length (row_at new row) ≡ max (length (row_at old row)) (layout.code + mark_end f)
 sole_width layout [] e f row old mid new done paints one some =
     let same : e ≡ f = cc in
-    omega (arith, paints.width (omega (arith, ap (λ (x : PlacedEntry). x.entry.start.display) same, ap (λ (x : PlacedEntry). x.entry.end.display) same)), done.kept refl, ap (λ (x : PlacedEntry). x.entry.end.display) same)
+    omega (arith, paints.width (omega (arith, ap (λ (x : PlacedEntry). x.entry.start.display) same, ap mark_end same)), done.kept refl, ap mark_end same)
 sole_width layout (d ∷ es) e f row old mid new done paints one some =
     absurd (omega (arith, length_push es e, ap length one))
 
 -- one more entry is painted over those before
-pub Painted-more : (layout : Layout) (es : List PlacedEntry) (e : PlacedEntry) (row : ℕ) (old mid new : List (List Cell)) → Painted layout es row old mid → Paints mid new row (layout.code + e.entry.start.display) (layout.code + e.entry.end.display) (mark_cell layout e) → Painted layout (es ++ e ∷ []) row old new
+pub Painted-more : (layout : Layout) (es : List PlacedEntry) (e : PlacedEntry) (row : ℕ) (old mid new : List (List Cell)) → Painted layout es row old mid → Paints mid new row (layout.code + e.entry.start.display) (layout.code + mark_end e) (mark_cell layout e) → Painted layout (es ++ e ∷ []) row old new
 Painted-more layout es e row old mid new done paints =
     record {
       marked = λ k p d within covers. elim (covers_or_not e p) [
@@ -208,13 +230,13 @@ Painted-more layout es e row old mid new done paints =
               | inl less ↦ less
               | inr more ↦
                   let here : k ≡ length es = omega (arith, length_push es e) in
-                  absurd (not_last (subst (λ x. EntryCovers x.entry p) (ap (λ n. get_or (es ++ e ∷ []) n d) here ∙ new_place es e d) covers))
+                  absurd (not_last (subst (λ x. IsPaintedAt x p) (ap (λ n. get_or (es ++ e ∷ []) n d) here ∙ new_place es e d) covers))
             ] in
-            shows_old layout es e d k p (cell_at mid row (layout.code + p)) (cell_at new row (layout.code + p)) (untouched layout mid new row p e paints not_last) (done.marked k p d old_one (subst (λ x. EntryCovers x.entry p) (old_place es e d k old_one) covers))
+            shows_old layout es e d k p (cell_at mid row (layout.code + p)) (cell_at new row (layout.code + p)) (untouched layout mid new row p e paints not_last) (done.marked k p d old_one (subst (λ x. IsPaintedAt x p) (old_place es e d k old_one) covers))
       ];
       unmarked = λ p none.
-          let N : PlacedEntry → Type 0 = λ x. EntryCovers x.entry p → ⊥ in
-          let last : EntryCovers e.entry p → ⊥ = subst N (new_place es e e) (none (length es) e (omega (arith, length_push es e))) in
+          let N : PlacedEntry → Type 0 = λ x. IsPaintedAt x p → ⊥ in
+          let last : IsPaintedAt e p → ⊥ = subst N (new_place es e e) (none (length es) e (omega (arith, length_push es e))) in
           let first : All N es = λ k d within. subst N (old_place es e d k within) (none k d (omega (arith, length_push es e))) in
           untouched layout mid new row p e paints last ∙ done.unmarked p first;
       left = λ c all.
@@ -225,7 +247,7 @@ Painted-more layout es e row old mid new done paints =
       free = λ c is. elim (cases_lt c (layout.code + e.entry.start.display)) [
         | inl left ↦ subst IsFreeCell (sym (paints.before c left)) (done.free c is)
         | inr after ↦
-            elim (cases_lt c (layout.code + e.entry.end.display)) [
+            elim (cases_lt c (layout.code + mark_end e)) [
               | inl inside ↦ subst IsFreeCell (sym (paints.inside c after inside)) (free_mark_cell layout e c)
               | inr right ↦ subst IsFreeCell (sym (paints.behind c right)) (done.free c is)
             ]
@@ -237,7 +259,7 @@ Painted-more layout es e row old mid new done paints =
     }
 
 -- the entry that stands next is painted
-pub Painted-next : (layout : Layout) (es : List PlacedEntry) (i : ℕ) (d : PlacedEntry) (row : ℕ) (old mid new : List (List Cell)) → i < length es → Painted layout (take i es) row old mid → Paints mid new row (layout.code + (get_or es i d).entry.start.display) (layout.code + (get_or es i d).entry.end.display) (mark_cell layout (get_or es i d)) → Painted layout (take (i + 1) es) row old new
+pub Painted-next : (layout : Layout) (es : List PlacedEntry) (i : ℕ) (d : PlacedEntry) (row : ℕ) (old mid new : List (List Cell)) → i < length es → Painted layout (take i es) row old mid → Paints mid new row (layout.code + (get_or es i d).entry.start.display) (layout.code + mark_end (get_or es i d)) (mark_cell layout (get_or es i d)) → Painted layout (take (i + 1) es) row old new
 Painted-next layout es i d row old mid new within done paints =
     subst (λ xs. Painted layout xs row old new) (sym (take_more es i d within)) (Painted-more layout (take i es) (get_or es i d) row old mid new done paints)
 
@@ -245,3 +267,34 @@ Painted-next layout es i d row old mid new within done paints =
 pub Painted-all : (layout : Layout) (es : List PlacedEntry) (i row : ℕ) (old new : List (List Cell)) → length es ≤ i → Painted layout (take i es) row old new → Painted layout es row old new
 Painted-all layout es i row old new past done =
     subst (λ xs. Painted layout xs row old new) (take_all i es past) done
+
+-- an entry that stands for a whole span takes no space, and one that covers a column is painted at its columns alone
+abbrev pub IsPlainEntry : LineAnnotation → Type 0
+IsPlainEntry e = (is_single e ≡ true) × (e.start.display < e.end.display)
+
+pub spaceless : (e : PlacedEntry) → IsPlainEntry e.entry → takes_space e ≡ false
+spaceless e plain = by_type e.entry.annotation_type plain.0
+  where
+    by_type : (part : LineAnnotationType) → is_single_part part ≡ true → is_end_part part ≡ false
+    by_type Singleline is = refl
+    by_type (MultilineStart depth) is = cc is
+    by_type (MultilineEnd depth) is = cc is
+    by_type (MultilineLine depth) is = refl
+
+pub mark_end_plain : (e : PlacedEntry) → IsPlainEntry e.entry → mark_end e ≡ e.entry.end.display
+mark_end_plain e plain =
+    ap (λ b. cond (b && (takes_space e || has_stem e)) (e.entry.end.display + 1) e.entry.end.display) (apart e.entry.start.display e.entry.end.display plain.1)
+  where
+    apart : (m n : ℕ) → m < n → (m == n) ≡ false
+    apart m n less = grind (arith, nat_tests, less)
+
+pub painted_covered : (e : PlacedEntry) (p : ℕ) → EntryCovers e.entry p → IsPaintedAt e p
+painted_covered e p covers =
+    (covers.0, omega (arith, covers.1, no_less (e.entry.start.display == e.entry.end.display && (takes_space e || has_stem e)) e.entry.end.display))
+  where
+    no_less : (b : Bool) (n : ℕ) → n ≤ cond b (n + 1) n
+    no_less true n = omega arith
+    no_less false n = omega arith
+
+pub covered_painted : (e : PlacedEntry) (p : ℕ) → IsPlainEntry e.entry → IsPaintedAt e p → EntryCovers e.entry p
+covered_painted e p plain painted = (painted.0, omega (arith, painted.1, mark_end_plain e plain))

@@ -1,19 +1,21 @@
 -- The positions of labels.
-use Rattle.std.proofs.Common.{◌≡◌, ℕ, suc, ◌+◌, ◌<◌, ◌≤◌, ◌^◌, ◌==◌, ◌&&◌, ◌||◌, cond, max, nat_lt, Bool, true, false, List, [], ◌∷◌, ◌++◌, length, map, fold, drop, take, set, get_or, refl, sym, ap, ◌∙◌, subst, arith, inl, inr, All}
+use Rattle.std.proofs.Common.{◌≡◌, ℕ, suc, ◌+◌, ◌-◌, ◌<◌, ◌≤◌, ◌^◌, ◌==◌, ◌&&◌, ◌||◌, cond, max, nat_lt, not, Bool, true, false, List, [], ◌∷◌, ◌++◌, length, map, fold, drop, take, set, get_or, refl, sym, ap, ◌∙◌, subst, arith, inl, inr, All}
 use Rattle.std.specs.List.{list_any}
-use Rattle.std.proofs.lemmas.Bool.{cases_eq, eq-eqb, and_parts}
+use Rattle.std.proofs.lemmas.Bool.{cases_Bool, cases_eq, eq-eqb, and_parts}
 use Rattle.std.proofs.lemmas.Bool.Decides.{nat_tests}
 use Rattle.std.proofs.lemmas.Simd.{map-map}
 use Rattle.std.proofs.lemmas.List.{append_assoc, append-nil, drop_more, drop_all, take_more, take_more_set, take_all, length-map, get_or-map}
-use Rattle.std.proofs.lemmas.List.Elements.{All-cons, All-nil, All-head, All-tail, All-weaker}
-use Rattle.std.proofs.lemmas.List.Folds.{list_any_none}
+use Rattle.std.proofs.lemmas.List.Elements.{All-cons, All-nil, All-head, All-tail, All-map}
+use Rattle.std.proofs.lemmas.List.Folds.{list_all-map, list_any_none}
+use Rattle.std.proofs.lemmas.List.Sums.{AllPass-from_list_all}
 use Rattle.std.specs.List.Sorted.{IsPermutation}
 use Rattle.std.proofs.lemmas.List.Sorted.{All-permutation, IsPermutation-map}
 use Rattle.snippet_parts.specs.declared.entries.LineAnnotation.{LineAnnotation}
 use Rattle.snippet_strokes.specs.declared.positions.PlacedEntry.{PlacedEntry}
-use Rattle.snippet_strokes.specs.Positions.{ArePlaced, IsFromRight, HasItsLabel, has_label, is_hung, crosses, crowds, position_at, position_behind, positions, lowest_position, row_count, label_place, unplaced}
+use Rattle.snippet_strokes.specs.Positions.{ArePlaced, IsFromRight, HasItsLabel, has_label, takes_space, has_stem, is_start, is_start_part, are_starts, crosses, crowds, position_at, position_behind, positions, turned, line_positions, lowest_position, row_count, label_place, unplaced}
 use Rattle.snippet_strokes.specs.Painting.{HasRows}
-use Rattle.snippet_parts.specs.Marked.{HasColumns}
+use Rattle.snippet_parts.specs.Measures.{greatest}
+use Rattle.snippet_strokes.specs.Entries.{HasPlace}
 
 -- a test of changed elements
 list_any-map : {X Y : Type 0} (p : Y → Bool) (f : X → Y) (xs : List X) → list_any p (map f xs) ≡ list_any (λ x. p (f x)) xs
@@ -33,16 +35,19 @@ reached_low reached i e others low =
     grind (arith, nat_tests)
 
 -- the positions of a list that has no labels
-pub positions-unlabelled : (p : ℕ) (es : List PlacedEntry) → All (λ e. has_label e ≡ false) es → All (λ q. q ≡ p) (positions p es)
-positions-unlabelled p [] none = All-nil (λ q. q ≡ p)
-positions-unlabelled p (e ∷ others) none =
+pub positions-unlabelled : (p : ℕ) (es : List PlacedEntry) → All (λ e. has_label e ≡ false) es → All (λ e. takes_space e ≡ false) es → All (λ q. q ≡ p) (positions p es)
+positions-unlabelled p [] none flat = All-nil (λ q. q ≡ p)
+positions-unlabelled p (e ∷ others) none flat =
     let L : PlacedEntry → Type 0 = λ x. has_label x ≡ false in
     let own : has_label e ≡ false = All-head L e others none in
     let rest : All L others = All-tail L e others none in
+    let T : PlacedEntry → Type 0 = λ x. takes_space x ≡ false in
+    let own_flat : takes_space e ≡ false = All-head T e others flat in
+    let rest_flat : All T others = All-tail T e others flat in
     let here : position_at p e others ≡ p = at_bare p e others own in
-    let uncrowded : list_any (crowds p e) others ≡ false = list_any_none (crowds p e) others (All-weaker L (λ x. crowds p e x ≡ false) (λ x bare. crowds_bare p e x bare) others rest) in
+    let uncrowded : list_any (crowds p e) others ≡ false = list_any_none (crowds p e) others (λ k d within. crowds_bare p e (get_or others k d) own own_flat (rest k d within) (rest_flat k d within)) in
     let behind : position_behind p e others ≡ p = ap (λ t. cond t (p + 1) p) uncrowded in
-    All-cons (λ q. q ≡ p) (position_at p e others) _ here (subst (λ q. All (λ x. x ≡ p) (positions (position_behind q e others) others)) (sym here) (subst (λ q. All (λ x. x ≡ p) (positions q others)) (sym behind) (positions-unlabelled p others rest)))
+    All-cons (λ q. q ≡ p) (position_at p e others) _ here (subst (λ q. All (λ x. x ≡ p) (positions (position_behind q e others) others)) (sym here) (subst (λ q. All (λ x. x ≡ p) (positions q others)) (sym behind) (positions-unlabelled p others rest rest_flat)))
   where
     cond_and : (b : Bool) (x y : ℕ) → cond (b && false) x y ≡ y
     cond_and true x y = refl
@@ -52,8 +57,8 @@ positions-unlabelled p (e ∷ others) none =
     at_bare p e others bare =
         ap (λ t. cond ((p == 0) && (t && list_any (crosses e) others)) 1 p) bare ∙ cond_and (p == 0) 1 p
 
-    crowds_bare : (p : ℕ) (e x : PlacedEntry) → has_label x ≡ false → crowds p e x ≡ false
-    crowds_bare p e x bare = rw bare refl
+    crowds_bare : (p : ℕ) (e x : PlacedEntry) → has_label e ≡ false → takes_space e ≡ false → has_label x ≡ false → takes_space x ≡ false → crowds p e x ≡ false
+    crowds_bare p e x own own_flat bare flat = rw (own, own_flat, bare) refl
 
 -- the positions of a list of one
 pub positions_sole : (e : PlacedEntry) → positions 0 (e ∷ []) ≡ 0 ∷ []
@@ -116,40 +121,53 @@ placed_more es first ps i e within within_ps so_far is =
     map-push [] x = refl
     map-push (y ∷ ys) x = ap (λ zs. y.position ∷ zs) (map-push ys x)
 
+above_zero : (n : ℕ) → 0 < n → (n == 0) ≡ false
+above_zero n some = grind (arith, nat_tests)
+
 -- where a label begins: in a row that is there, and not left of its entry
-pub label_stands : (row n : ℕ) (e : PlacedEntry) → HasRows row n e → HasColumns e.entry.start e.entry.end → (row + (label_place e).0 < n) × (e.entry.start.display ≤ (label_place e).1) × ((label_place e).1 < 2 ^ 61)
-label_stands row n e rows columns =
+pub label_stands : (row n : ℕ) (e : PlacedEntry) → HasRows row n e → HasPlace e.entry → has_label e ≡ true → row + (label_place e).0 < n
+label_stands row n e rows place labelled =
     elim (cases_eq e.position 0) [
-      | inl zero_here ↦ rw (eq-eqb e.position 0 zero_here) (omega (arith, rows.mark), omega (arith, columns.0), omega (arith, columns.1))
+      | inl zero_here ↦ rw (eq-eqb e.position 0 zero_here) (omega (arith, rows.mark, zero_here))
       | inr some ↦
           let hung : 0 < e.position = omega (arith, some) in
-          rw (above e.position hung) (omega (arith, rows.label hung), omega arith, omega (arith, columns.0, columns.1))
+          rw (above_zero e.position hung) (omega (arith, rows.label hung labelled))
     ]
-  where
-    above : (n : ℕ) → 0 < n → (n == 0) ≡ false
-    above n some = grind (arith, nat_tests)
 
--- a label that hangs is below the row of the marks
-pub hung_below : (e : PlacedEntry) → is_hung e ≡ true → 0 < e.position
-hung_below e hung = low e.position (and_parts (nat_lt 0 e.position) (has_label e) hung).0
+pub label_column : (e : PlacedEntry) → HasPlace e.entry → (e.entry.start.display ≤ (label_place e).1) × ((label_place e).1 < 2 ^ 61)
+label_column e place =
+    elim (cases_eq e.position 0) [
+      | inl zero_here ↦ rw (eq-eqb e.position 0 zero_here) (elim (cases_eq e.entry.end.display 0) [
+        | inl none ↦ rw (eq-eqb e.entry.end.display 0 none) (omega (arith, place.ordered, none), omega arith)
+        | inr more ↦ rw (above_zero e.entry.end.display (omega (arith, more))) (omega (arith, place.ordered), omega (arith, place.near))
+      ])
+      | inr some ↦
+          let hung : 0 < e.position = omega (arith, some) in
+          rw (above_zero e.position hung) (omega arith, omega (arith, place.ordered, place.near))
+    ]
+
+-- an entry that has a stem is below the row of the marks
+pub stem_below : (e : PlacedEntry) → has_stem e ≡ true → 0 < e.position
+stem_below e stem = low e.position (and_parts (nat_lt 0 e.position) (has_label e || takes_space e) stem).0
   where
     low : (n : ℕ) → nat_lt 0 n ≡ true → 0 < n
     low n is = grind (arith, nat_tests)
 
--- an entry without a label has none that hangs, nor has one at position 0
-pub unhung_bare : (e : PlacedEntry) → has_label e ≡ false → is_hung e ≡ false
-unhung_bare e bare = ap (λ b. nat_lt 0 e.position && b) bare ∙ none (nat_lt 0 e.position)
+-- an entry without a label has no stem where it takes no space, nor has one at position 0
+pub stemless_bare : (e : PlacedEntry) → has_label e ≡ false → takes_space e ≡ false → has_stem e ≡ false
+stemless_bare e bare flat =
+    ap (λ b. nat_lt 0 e.position && (b || takes_space e)) bare ∙ ap (λ b. nat_lt 0 e.position && b) flat ∙ none (nat_lt 0 e.position)
   where
     none : (b : Bool) → (b && false) ≡ false
     none true = refl
     none false = refl
 
-pub unhung_beside : (e : PlacedEntry) → e.position ≡ 0 → is_hung e ≡ false
-unhung_beside e beside = ap (λ n. nat_lt 0 n && has_label e) beside
+pub stemless_beside : (e : PlacedEntry) → e.position ≡ 0 → has_stem e ≡ false
+stemless_beside e beside = ap (λ n. nat_lt 0 n && (has_label e || takes_space e)) beside
 
 -- at position 0 a label begins in the row of the marks, one column behind its entry
-pub label_beside : (e : PlacedEntry) → e.position ≡ 0 → label_place e ≡ (0, e.entry.end.display + 1)
-label_beside e beside = rw (eq-eqb e.position 0 beside) refl
+pub label_beside : (e : PlacedEntry) → e.position ≡ 0 → 0 < e.entry.end.display → label_place e ≡ (0, e.entry.end.display + 1)
+label_beside e beside some = rw (eq-eqb e.position 0 beside, above_zero e.entry.end.display some) refl
 
 -- there are as many positions as entries
 pub length-positions : (p : ℕ) (es : List PlacedEntry) → length (positions p es) ≡ length es
@@ -173,9 +191,6 @@ positions-unplaced p (e ∷ others) =
     let behind : (q : ℕ) → position_behind q (unplaced e) (map unplaced others) ≡ position_behind q e others = λ q. ap (λ b. cond b (q + 1) q) (crowded q) in
     ap (λ q. q ∷ positions (position_behind q (unplaced e) (map unplaced others)) (map unplaced others)) here ∙ ap (λ q. position_at p e others ∷ positions q (map unplaced others)) (behind (position_at p e others)) ∙ ap (λ qs. position_at p e others ∷ qs) (positions-unplaced (position_behind (position_at p e others) e others) others)
 
-pub positions_kept : (p : ℕ) (es fs : List PlacedEntry) → map unplaced es ≡ map unplaced fs → positions p es ≡ positions p fs
-positions_kept p es fs kept = sym (positions-unplaced p es) ∙ ap (positions p) kept ∙ positions-unplaced p fs
-
 -- what doesn't look at positions is kept where nothing else changes
 pub all_kept : (P : PlacedEntry → Type 0) (es fs : List PlacedEntry) → ((e : PlacedEntry) → P (unplaced e) → P e) → ((e : PlacedEntry) → P e → P (unplaced e)) → map unplaced es ≡ map unplaced fs → All P fs → All P es
 all_kept P es fs back forth kept all k d within =
@@ -192,28 +207,73 @@ entries_kept es fs kept =
 -- the rows down to each label are among those that are begun
 pub HasRows-row_count : (row n : ℕ) (es : List PlacedEntry) → n ≡ row + row_count es → All (HasRows row n) es
 HasRows-row_count row n es is k d within =
-    let low : (get_or es k d).position ≤ lowest_position es = positions_at_most es k d within in
-    let one : 1 ≤ row_count es = at_least (lowest_position es) in
-    record { mark = omega (arith, is, one); label = λ hung. omega (arith, is, low, more (lowest_position es) (omega (arith, low, hung))) }
+    let e : PlacedEntry = get_or es k d in
+    let low : e.position ≤ lowest_position es = positions_at_most es k d within in
+    record {
+      mark = omega (arith, is, low, deep (lowest_position es) (are_starts es));
+      label = λ hung labelled. elim (cases_Bool (are_starts es)) [
+        | inl starts ↦ cc (startless e (AllPass-from_list_all is_start es starts k d within), labelled)
+        | inr others ↦
+            omega (arith, is, low, deeper (lowest_position es) (are_starts es) others (omega (arith, low, hung)))
+      ];
+    }
   where
-    at_least : (n : ℕ) → 1 ≤ cond (n == 0) 1 (n + 2)
-    at_least n = grind (arith, nat_tests)
+    deep : (n : ℕ) (b : Bool) → n + 1 ≤ cond (n == 0) 1 (cond b (n + 1) (n + 2))
+    deep n true = grind (arith, nat_tests)
+    deep n false = grind (arith, nat_tests)
 
-    more : (n : ℕ) → 0 < n → n + 2 ≤ cond (n == 0) 1 (n + 2)
-    more n some = grind (arith, nat_tests)
+    deeper : (n : ℕ) (b : Bool) → b ≡ false → 0 < n → n + 2 ≤ cond (n == 0) 1 (cond b (n + 1) (n + 2))
+    deeper n true other some = cc other
+    deeper n false other some = grind (arith, nat_tests)
+
+    unlabelled : (b : Bool) → not b ≡ true → b ≡ false
+    unlabelled true is = cc is
+    unlabelled false is = refl
+
+    startless : (e : PlacedEntry) → is_start e ≡ true → has_label e ≡ false
+    startless e start = unlabelled (has_label e) (and_parts (is_start_part e.entry.annotation_type) (not (has_label e)) start).1
 
 -- where all labels stand in the row of the marks that row is the only one
-pub row_count_one : (es : List PlacedEntry) → All (λ e. e.position ≡ 0) es → row_count es ≡ 1
+pub row_count_one : (es : List PlacedEntry) → All (λ e. e.position ≤ 0) es → row_count es ≡ 1
 row_count_one es zero_all =
-    let low : lowest_position es ≤ 0 = lowest_position_le es 0 (λ k d within. omega (arith, zero_all k d within)) in
+    let low : lowest_position es ≤ 0 = lowest_position_le es 0 zero_all in
     let none : lowest_position es ≡ 0 = omega (arith, low) in
-    ap (λ n. cond (n == 0) 1 (n + 2)) none
+    ap (λ n. cond (n == 0) 1 (cond (are_starts es) (n + 1) (n + 2))) none
 
 pub row_count_some : (es : List PlacedEntry) → 0 < row_count es
-row_count_some es = some (lowest_position es)
+row_count_some es = some (lowest_position es) (are_starts es)
   where
-    some : (n : ℕ) → 0 < cond (n == 0) 1 (n + 2)
-    some n = grind (arith, nat_tests)
+    some : (n : ℕ) (b : Bool) → 0 < cond (n == 0) 1 (cond b (n + 1) (n + 2))
+    some n true = grind (arith, nat_tests)
+    some n false = grind (arith, nat_tests)
+
+-- positions that are turned round are no lower than those given
+greatest_from : (ps : List ℕ) (m n : ℕ) → m ≤ n → All (λ q. q ≤ n) ps → fold (λ m n. max m n) m ps ≤ n
+greatest_from [] m n low all = low
+greatest_from (p ∷ ps) m n low all =
+    let here : p ≤ n = All-head (λ q. q ≤ n) p ps all in
+    greatest_from ps (max m p) n (omega arith) (All-tail (λ q. q ≤ n) p ps all)
+
+pub line_positions_low : (n : ℕ) (es : List PlacedEntry) → All (λ q. q ≤ n) (positions 0 es) → All (λ q. q ≤ n) (line_positions es)
+line_positions_low n es all =
+    elim (are_starts es) as (λ b. All (λ q. q ≤ n) (cond b (turned (positions 0 es)) (positions 0 es))) [
+      | true ↦ All-map (λ q. q ≤ n) (λ p. greatest (positions 0 es) - p) (positions 0 es) (λ k d within. omega (arith, greatest_from (positions 0 es) 0 n (omega arith) all))
+      | false ↦ all
+    ]
+
+pub length-line_positions : (es : List PlacedEntry) → length (line_positions es) ≡ length es
+length-line_positions es =
+    elim (are_starts es) as (λ b. length (cond b (turned (positions 0 es)) (positions 0 es)) ≡ length es) [
+      | true ↦ length-map (positions 0 es) (λ p. greatest (positions 0 es) - p) ∙ length-positions 0 es
+      | false ↦ length-positions 0 es
+    ]
+
+line_positions-unplaced : (es : List PlacedEntry) → line_positions (map unplaced es) ≡ line_positions es
+line_positions-unplaced es =
+    ap (λ b. cond b (turned (positions 0 (map unplaced es))) (positions 0 (map unplaced es))) (list_all-map is_start unplaced es) ∙ ap (λ ps. cond (are_starts es) (turned ps) ps) (positions-unplaced 0 es)
+
+pub line_positions_kept : (es fs : List PlacedEntry) → map unplaced es ≡ map unplaced fs → line_positions es ≡ line_positions fs
+line_positions_kept es fs kept = sym (line_positions-unplaced es) ∙ ap line_positions kept ∙ line_positions-unplaced fs
 
 -- a part that was lent, as long as the whole, comes back in its place
 pub written_back : (xs ys : List PlacedEntry) (len : ℕ) → len ≡ length ys → map unplaced xs ≡ map unplaced ys → take len (xs ++ drop (length xs) ys) ≡ xs
@@ -222,17 +282,17 @@ written_back xs ys len is kept =
     ap (λ rest. take len (xs ++ rest)) (drop_all (length xs) ys (omega (arith, long))) ∙ ap (take len) (append-nil xs) ∙ take_all len xs (omega (arith, is, long))
 
 -- entries that were put in an order and got the positions of it are placed
-pub ArePlaced-from : (es : List LineAnnotation) (labelled sorted placed : List PlacedEntry) (ps : List ℕ) → map (λ (e : PlacedEntry). e.entry) labelled ≡ es → All HasItsLabel labelled → IsPermutation labelled sorted → IsFromRight (map (λ (e : PlacedEntry). e.entry) sorted) → ps ≡ positions 0 sorted → map (λ (e : PlacedEntry). e.position) placed ≡ ps → map unplaced placed ≡ map unplaced sorted → ArePlaced es placed
+pub ArePlaced-from : (es : List LineAnnotation) (labelled sorted placed : List PlacedEntry) (ps : List ℕ) → map (λ (e : PlacedEntry). e.entry) labelled ≡ es → All HasItsLabel labelled → IsPermutation labelled sorted → IsFromRight (map (λ (e : PlacedEntry). e.entry) sorted) → ps ≡ line_positions sorted → map (λ (e : PlacedEntry). e.position) placed ≡ ps → map unplaced placed ≡ map unplaced sorted → ArePlaced es placed
 ArePlaced-from es labelled sorted placed ps entries labels same ordered are got kept =
     let f : PlacedEntry → LineAnnotation = λ e. e.entry in
     record {
       same = subst (IsPermutation es) (sym (entries_kept placed sorted kept)) (subst (λ xs. IsPermutation xs (map f sorted)) entries (IsPermutation-map f labelled sorted same));
       from_right = subst IsFromRight (sym (entries_kept placed sorted kept)) ordered;
       labels = all_kept HasItsLabel placed sorted (λ e has. has) (λ e has. has) kept (All-permutation HasItsLabel labelled sorted same labels);
-      positions_are = got ∙ are ∙ sym (positions_kept 0 placed sorted kept);
+      positions_are = got ∙ are ∙ sym (line_positions_kept placed sorted kept);
     }
 
 -- labels of a line stand no lower than there are entries
 pub positions_of_placed : (es : List LineAnnotation) (placed : List PlacedEntry) → ArePlaced es placed → All (λ e. e.position ≤ length placed) placed
 positions_of_placed es placed is =
-    of_positions (λ q. q ≤ length placed) placed (positions 0 placed) is.positions_are (positions_low 0 (length placed) placed (omega arith))
+    of_positions (λ q. q ≤ length placed) placed (line_positions placed) is.positions_are (line_positions_low (length placed) placed (positions_low 0 (length placed) placed (omega arith)))

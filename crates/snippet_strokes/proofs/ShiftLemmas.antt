@@ -1,19 +1,22 @@
 -- Entries of a line of which columns are dropped.
-use Rattle.std.proofs.Common.{◌≡◌, ℕ, ◌-◌, ◌<◌, ◌≤◌, ◌^◌, List, [], ◌∷◌, All, map, refl, ap, ◌∙◌, arith}
+use Rattle.std.proofs.Common.{◌≡◌, ℕ, ◌-◌, ◌<◌, ◌^◌, List, [], ◌∷◌, All, map, refl, ap, ◌∙◌, arith}
 use Rattle.std.proofs.lemmas.List.Elements.{All-map}
-use Rattle.snippet_parts.specs.Marked.{HasColumns}
+use Rattle.snippet_strokes.specs.declared.layout.Layout.{Layout}
 use Rattle.snippet_parts.specs.declared.entries.LineAnnotation.{LineAnnotation}
-use Rattle.snippet_strokes.specs.Entries.{shifted}
+use Rattle.snippet_strokes.specs.Entries.{HasPlace, HasRail, shifted}
 
 -- shifted entries end no farther right
 pub shifted_narrow : (dropped : ℕ) (es : List LineAnnotation) → All (λ e. e.end.display < 2 ^ 60) es → All (λ e. e.end.display < 2 ^ 60) (map (shifted dropped) es)
 shifted_narrow dropped es narrow =
     All-map (λ (e : LineAnnotation). e.end.display < 2 ^ 60) (shifted dropped) es (λ k d within. omega (arith, narrow k d within))
 
--- and they have columns, if none stands left of those that are dropped
-pub shifted_columns : (dropped : ℕ) (es : List LineAnnotation) → All (λ e. HasColumns e.start e.end) es → All (λ e. dropped ≤ e.start.display) es → All (λ e. HasColumns e.start e.end) (map (shifted dropped) es)
-shifted_columns dropped es columns clear =
-    All-map (λ (e : LineAnnotation). HasColumns e.start e.end) (shifted dropped) es (λ k d within. (omega (arith, (columns k d within).0, clear k d within), omega (arith, (columns k d within).1)))
+-- and they have their places, and their bars
+pub shifted_places : (dropped : ℕ) (es : List LineAnnotation) → All HasPlace es → All HasPlace (map (shifted dropped) es)
+shifted_places dropped es places =
+    All-map HasPlace (shifted dropped) es (λ k d within. record { ordered = omega (arith, (places k d within).ordered); near = omega (arith, (places k d within).near) })
+
+pub shifted_rails : (layout : Layout) (dropped : ℕ) (es : List LineAnnotation) → All (HasRail layout) es → All (HasRail layout) (map (shifted dropped) es)
+shifted_rails layout dropped es rails = All-map (HasRail layout) (shifted dropped) es rails
 
 -- where nothing is dropped, entries stay
 shifted_zero : (e : LineAnnotation) → shifted 0 e ≡ e

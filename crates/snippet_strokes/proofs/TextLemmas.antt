@@ -1,7 +1,10 @@
 -- The normalised text of a line: how long it gets, and that it holds no listed character.
-use Rattle.std.proofs.Common.{◌≡◌, ◌==◌, Bool, true, not, refl, sym, ap, ◌∙◌, ℕ, zero, suc, ◌+◌, ◌-◌, ◌*◌, ◌<◌, ◌≤◌, ◌^◌, false, List, [], ◌∷◌, length, arith, All, Option, Some, None, inl, inr, Bor, IsUtf8, encode_utf8_all}
+use Rattle.std.proofs.Common.{◌≡◌, ◌==◌, Bool, true, false, not, refl, sym, ap, ◌∙◌, ℕ, zero, suc, ◌+◌, ◌-◌, ◌*◌, ◌<◌, ◌≤◌, ◌^◌, List, [], ◌∷◌, length, arith, All, Option, Some, None, inl, inr, Bor, IsUtf8, encode_utf8_all}
 use Rattle.std.proofs.lemmas.Str.{chars-nil, encodes-chars}
 use Rattle.snippet_parts.specs.declared.entries.LineAnnotation.{LineAnnotation}
+use Rattle.snippet_parts.specs.declared.entries.LineAnnotationType.{LineAnnotationType}
+use Rattle.snippet_parts.specs.declared.entries.LineAnnotationType.TheVariants.{Singleline, MultilineStart, MultilineEnd, MultilineLine}
+use Rattle.snippet_strokes.specs.Painting.{foot_of}
 use Rattle.snippet_text.proofs.NormLemmas.{list_any-norm}
 use Rattle.snippet_strokes.specs.Entries.{label_chars, label_text}
 use Rattle.std.specs.List.{flat_map, list_any}
@@ -57,6 +60,20 @@ free_stem Ascii true = refl
 free_stem Ascii false = refl
 free_stem Unicode true = refl
 free_stem Unicode false = refl
+
+-- nor is what stands at its foot
+pub free_foot : (part : LineAnnotationType) (decor : DecorStyle) (primary labelled : Bool) → is_listed (foot_of part decor primary labelled) ≡ false
+free_foot Singleline decor primary labelled = free_stem decor primary
+free_foot (MultilineStart depth) Ascii true labelled = refl
+free_foot (MultilineStart depth) Ascii false labelled = refl
+free_foot (MultilineStart depth) Unicode true labelled = refl
+free_foot (MultilineStart depth) Unicode false labelled = refl
+free_foot (MultilineEnd depth) Ascii true true = refl
+free_foot (MultilineEnd depth) Ascii false true = refl
+free_foot (MultilineEnd depth) Unicode true true = refl
+free_foot (MultilineEnd depth) Unicode false true = refl
+free_foot (MultilineEnd depth) decor primary false = free_stem decor primary
+free_foot (MultilineLine depth) decor primary labelled = free_stem decor primary
 
 -- a text that has a byte has a character
 pub chars_some : (bytes : List ℕ) → IsUtf8 bytes → 0 < length bytes → 0 < length (chars bytes)

@@ -1,5 +1,5 @@
 -- The entries of a line, and the mark that they leave below each column.
-use Rattle.std.specs.Prelude.{◌≡◌, ℕ, ◌+◌, ◌-◌, ◌^◌, ◌<◌, ◌≤◌, ◌==◌, ◌&&◌, Bool, true, false, List, [], Contains, Option, Some, None, chars, length, count_by}
+use Rattle.std.specs.Prelude.{◌≡◌, ℕ, ◌+◌, ◌-◌, ◌^◌, ◌<◌, ◌≤◌, ◌==◌, ◌&&◌, nat_lt, Bool, true, false, List, [], Contains, Option, Some, None, chars, length, count_by}
 use Rattle.std.specs.List.{list_all, list_any}
 use Rattle.std.specs.Borrow.{Bor}
 use Rattle.snippet_model.specs.declared.snippet.AnnotationKind.{AnnotationKind}
@@ -56,9 +56,14 @@ is_end_part (MultilineLine depth) = false
 abbrev pub wide_entries : ℕ → DecorStyle → List LineAnnotation → ℕ
 wide_entries room decor es = count_by (is_wide_entry room (length (placeholder_of decor))) es
 
--- whether the marks of a line are promised: each of its entries stands for a whole span, and none is wide
+-- whether an entry covers a column
+abbrev pub has_column : LineAnnotation → Bool
+has_column e = nat_lt e.start.display e.end.display
+
+-- whether the marks of a line are promised: each of its entries stands for a whole span and covers a column, and none is
+-- wide
 abbrev pub are_plain : ℕ → DecorStyle → List LineAnnotation → Bool
-are_plain room decor es = list_all is_single es && wide_entries room decor es == 0
+are_plain room decor es = list_all is_single es && (list_all has_column es && wide_entries room decor es == 0)
 
 -- a cell left of the code holds nothing but a part of a bar: one of its glyphs, or a space
 pub record IsRailCell (decor : DecorStyle) (cell : Cell) : Type 0 where

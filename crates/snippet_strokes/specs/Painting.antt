@@ -1,13 +1,16 @@
 -- How the strokes of a line are drawn, one over another.
-use Rattle.std.specs.Prelude.{◌≡◌, ◌≢◌, ℕ, ◌+◌, ◌<◌, ◌≤◌, ◌==◌, ◌&&◌, max, false, true, List, [], ◌∷◌, All, None, IsPermutation, length, map, slice_index_or, if◌then◌else◌}
+use Rattle.std.specs.Prelude.{◌≡◌, ◌≢◌, ℕ, ◌+◌, ◌<◌, ◌≤◌, ◌==◌, ◌&&◌, ◌||◌, max, Bool, false, true, List, [], ◌∷◌, All, None, IsPermutation, drop, length, map, slice_index_or, if◌then◌else◌}
 use Rattle.snippet_parts.specs.declared.entries.LineAnnotation.{LineAnnotation}
+use Rattle.snippet_parts.specs.declared.entries.LineAnnotationType.{LineAnnotationType}
+use Rattle.snippet_parts.specs.declared.entries.LineAnnotationType.TheVariants.{Singleline, MultilineStart, MultilineEnd, MultilineLine}
+use Rattle.snippet_style.specs.declared.glyphs.DecorStyle.{DecorStyle}
 use Rattle.snippet_style.specs.Glyphs.{glyph_of, underline_role}
 use Rattle.snippet_style.specs.Grid.{Cell, cell_at, row_at, unlinked_cell}
 use Rattle.snippet_text.specs.Normalized.{is_listed}
 use Rattle.snippet_strokes.specs.declared.layout.Layout.{Layout}
 use Rattle.snippet_strokes.specs.declared.positions.PlacedEntry.{PlacedEntry}
-use Rattle.snippet_strokes.specs.Entries.{EntryCovers, entry_width, is_primary, has_mark_role}
-use Rattle.snippet_strokes.specs.Positions.{is_hung}
+use Rattle.snippet_strokes.specs.Entries.{IsRailCell, entry_width, is_primary, has_mark_role}
+use Rattle.snippet_strokes.specs.Positions.{has_label, has_stem, takes_space}
 
 -- a cell that holds no listed character and belongs to no link
 abbrev pub IsFreeCell : Cell → Type 0
@@ -20,6 +23,19 @@ pub record DrawsFrom (row from : ℕ) (old new : List (List Cell)) : Type 0 wher
   pub free : (r : ℕ) → ((c : ℕ) → IsFreeCell (cell_at old r c)) → (c : ℕ) → IsFreeCell (cell_at new r c)
   pub count : length new ≡ length old
 
+-- what is drawn left of the code is nothing but parts of bars
+abbrev pub KeepsRails : Layout → List (List Cell) → List (List Cell) → Type 0
+KeepsRails layout old new =
+    (r c : ℕ) → c < layout.code → IsRailCell layout.decor (cell_at old r c) → IsRailCell layout.decor (cell_at new r c)
+
+-- bars were drawn beside rows: only in rows from `row` on, in the cells between the separator and the code, and nothing but
+-- parts of bars
+pub record DrawsRails (layout : Layout) (row : ℕ) (old new : List (List Cell)) : Type 0 where
+  pub draws : DrawsFrom row (layout.gutter + 3) old new
+  pub rails : KeepsRails layout old new
+  pub code : (r : ℕ) → drop layout.code (row_at new r) ≡ drop layout.code (row_at old r)
+  pub longer : (r : ℕ) → length (row_at old r) ≤ length (row_at new r)
+
 -- something was drawn, and nothing of it in the role of marks but below the first columns of these entries
 abbrev pub MarksStarts : ℕ → List PlacedEntry → List (List Cell) → List (List Cell) → Type 0
 MarksStarts code es old new =
@@ -29,10 +45,11 @@ MarksStarts code es old new =
 abbrev pub StandsFrom : ℕ → ℕ → LineAnnotation → Type 0
 StandsFrom code from e = from ≤ code + e.start.display
 
--- the rows down to the label of an entry are there: that of the marks, and where the label hangs its own
+-- the rows that an entry needs are there: down to that of its stem, or where it has none that of the marks, and where its
+-- label hangs down to that of the label
 pub record HasRows (row count : ℕ) (e : PlacedEntry) : Type 0 where
-  pub mark : row < count
-  pub label : 0 < e.position → row + e.position + 1 < count
+  pub mark : row + e.position < count
+  pub label : 0 < e.position → has_label e ≡ true → row + e.position + 1 < count
 
 -- the later entry may be painted over the earlier one: it is narrower, or as wide, and then primary if the earlier one is
 pub record CoversOver (earlier later : LineAnnotation) : Type 0 where
@@ -43,12 +60,42 @@ pub record CoversOver (earlier later : LineAnnotation) : Type 0 where
 abbrev pub IsPaintingOrder : List LineAnnotation → Type 0
 IsPaintingOrder es = (i j : ℕ) (d : LineAnnotation) → i ≤ j → j < length es → CoversOver (slice_index_or es i d) (slice_index_or es j d)
 
--- the cell of an entry's mark: an underline ('^' or '-', in Unicode '━' or '─'), and where its label hangs, at its first
--- column, a label start ('^' or '-', in Unicode '┯' or '┬')
+-- the glyph at the first column of an entry's mark: of a start or an end the corner where the line to its bar meets the mark,
+-- or where a stem leads down to that line the stem's top; of another entry the top of the stem that its label hangs from,
+-- or where it has none the underline
+abbrev pub first_glyph : DecorStyle → PlacedEntry → ℕ
+first_glyph decor e =
+    let primary = is_primary e.entry.kind in
+    if takes_space e then (if has_stem e then glyph_of decor primary 94 45 0x257F 0x2502 else glyph_of decor primary 94 45 0x251B 0x2518) else (if has_stem e then glyph_of decor primary 94 45 0x252F 0x252C else glyph_of decor primary 94 45 0x2501 0x2500)
+
+-- the glyph at the foot of the stem of an entry that stands for this part of a span: of a start the corner at which the line
+-- to its bar begins, of an end with a label the branch there, else the stem's own
+abbrev pub foot_of : LineAnnotationType → DecorStyle → Bool → Bool → ℕ
+foot_of Singleline decor primary labelled = glyph_of decor primary 124 124 0x2502 0x2502
+foot_of (MultilineStart depth) decor primary labelled = glyph_of decor primary 124 124 0x2519 0x2518
+foot_of (MultilineEnd depth) decor primary labelled =
+    if labelled then glyph_of decor primary 124 124 0x2525 0x2524 else glyph_of decor primary 124 124 0x2502 0x2502
+foot_of (MultilineLine depth) decor primary labelled = glyph_of decor primary 124 124 0x2502 0x2502
+
+-- the glyph at the foot of an entry's stem
+abbrev pub foot_glyph : DecorStyle → PlacedEntry → ℕ
+foot_glyph decor e = foot_of e.entry.annotation_type decor (is_primary e.entry.kind) (has_label e)
+
+-- the column behind the last one at which an entry's mark is painted: behind its first column even where it covers none, if
+-- a glyph of its own stands there
+abbrev pub mark_end : PlacedEntry → ℕ
+mark_end e =
+    if e.entry.start.display == e.entry.end.display && (takes_space e || has_stem e) then e.entry.end.display + 1 else e.entry.end.display
+
+-- the mark of the entry is painted at this column
+abbrev pub IsPaintedAt : PlacedEntry → ℕ → Type 0
+IsPaintedAt e p = (e.entry.start.display ≤ p) × (p < mark_end e)
+
+-- the cell of an entry's mark: its first glyph at its first column, else an underline ('^' or '-', in Unicode '━' or '─')
 abbrev pub mark_cell : Layout → PlacedEntry → ℕ → Cell
 mark_cell layout e c =
     let primary = is_primary e.entry.kind in
-    unlinked_cell (underline_role primary) (if is_hung e && c == layout.code + e.entry.start.display then glyph_of layout.decor primary 94 45 0x252F 0x252C else glyph_of layout.decor primary 94 45 0x2501 0x2500)
+    unlinked_cell (underline_role primary) (if c == layout.code + e.entry.start.display then first_glyph layout.decor e else glyph_of layout.decor primary 94 45 0x2501 0x2500)
 
 -- the cells of a row from `from` to before `to` were painted, and nothing else changed
 pub record Paints (old new : List (List Cell)) (row from to : ℕ) (cell : ℕ → Cell) : Type 0 where
@@ -60,24 +107,24 @@ pub record Paints (old new : List (List Cell)) (row from to : ℕ) (cell : ℕ �
   pub width : from < to → length (row_at new row) ≡ max (length (row_at old row)) to
   pub kept : to ≤ from → length (row_at new row) ≡ length (row_at old row)
 
--- the cell below column p holds the mark of an entry that covers the column: entry k or one behind it
+-- the cell below column p holds the mark of an entry that is painted there: entry k or one behind it
 pub record ShowsFrom (layout : Layout) (es : List PlacedEntry) (k p : ℕ) (d : PlacedEntry) (cell : Cell) : Type 0 where
   pub at : ℕ
   pub later : k ≤ at
   pub within : at < length es
-  pub covers : EntryCovers (slice_index_or es at d).entry p
+  pub covers : IsPaintedAt (slice_index_or es at d) p
   pub holds : cell ≡ mark_cell layout (slice_index_or es at d) (layout.code + p)
 
--- the entries were painted into a row, each over those before it: below a column that entry k covers stands its mark or
--- that of a later entry, below a column that none covers what was there, and nothing else changed
+-- the entries were painted into a row, each over those before it: below a column at which entry k is painted stands its mark
+-- or that of a later entry, below a column at which none is what was there, and nothing else changed
 pub record Painted (layout : Layout) (es : List PlacedEntry) (row : ℕ) (old new : List (List Cell)) : Type 0 where
-  pub marked : (k p : ℕ) (d : PlacedEntry) → k < length es → EntryCovers (slice_index_or es k d).entry p → ShowsFrom layout es k p d (cell_at new row (layout.code + p))
-  pub unmarked : (p : ℕ) → All (λ e. EntryCovers e.entry p → ⊥) es → cell_at new row (layout.code + p) ≡ cell_at old row (layout.code + p)
+  pub marked : (k p : ℕ) (d : PlacedEntry) → k < length es → IsPaintedAt (slice_index_or es k d) p → ShowsFrom layout es k p d (cell_at new row (layout.code + p))
+  pub unmarked : (p : ℕ) → All (λ e. IsPaintedAt e p → ⊥) es → cell_at new row (layout.code + p) ≡ cell_at old row (layout.code + p)
   pub left : (c : ℕ) → All (λ e. c < layout.code + e.entry.start.display) es → cell_at new row c ≡ cell_at old row c
   pub free : (c : ℕ) → IsFreeCell (cell_at old row c) → IsFreeCell (cell_at new row c)
   pub others : (r : ℕ) → r ≢ row → row_at new r ≡ row_at old r
   pub count : row < length old → length new ≡ length old
-  pub width : (e : PlacedEntry) → es ≡ e ∷ [] → e.entry.start.display < e.entry.end.display → length (row_at new row) ≡ max (length (row_at old row)) (layout.code + e.entry.end.display)
+  pub width : (e : PlacedEntry) → es ≡ e ∷ [] → e.entry.start.display < mark_end e → length (row_at new row) ≡ max (length (row_at old row)) (layout.code + mark_end e)
   pub kept : es ≡ [] → length (row_at new row) ≡ length (row_at old row)
 
 -- the marks of some entries were painted in a painting order

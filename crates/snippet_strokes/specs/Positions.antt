@@ -1,10 +1,13 @@
--- Where the labels of a line stand.
-use Rattle.std.specs.Prelude.{◌≡◌, ℕ, ◌+◌, ◌<◌, ◌≤◌, ◌==◌, ◌&&◌, ◌||◌, nat_le, nat_lt, not, Bool, List, [], ◌∷◌, All, IsPermutation, length, map, fold, max, chars, slice_index_or, if◌then◌else◌}
-use Rattle.std.specs.List.{list_any}
+-- Where the labels of a line stand, and the lines that lead to bars.
+use Rattle.std.specs.Prelude.{◌≡◌, ℕ, ◌+◌, ◌-◌, ◌<◌, ◌≤◌, ◌==◌, ◌&&◌, ◌||◌, nat_le, nat_lt, not, Bool, true, false, List, [], ◌∷◌, All, IsPermutation, length, map, fold, max, chars, slice_index_or, if◌then◌else◌}
+use Rattle.std.specs.List.{list_all, list_any}
 use Rattle.std.specs.Cow.{cow_str_bytes}
 use Rattle.snippet_parts.specs.declared.entries.LineAnnotation.{LineAnnotation}
+use Rattle.snippet_parts.specs.declared.entries.LineAnnotationType.{LineAnnotationType}
+use Rattle.snippet_parts.specs.declared.entries.LineAnnotationType.TheVariants.{Singleline, MultilineStart, MultilineEnd, MultilineLine}
+use Rattle.snippet_parts.specs.Measures.{greatest}
 use Rattle.snippet_strokes.specs.declared.positions.PlacedEntry.{PlacedEntry}
-use Rattle.snippet_strokes.specs.Entries.{label_text}
+use Rattle.snippet_strokes.specs.Entries.{is_end_part, label_text}
 
 -- the label holds the characters that its entry shows
 abbrev pub HasItsLabel : PlacedEntry → Type 0
@@ -14,9 +17,13 @@ HasItsLabel e = chars (cow_str_bytes e.label) ≡ label_text e.entry
 abbrev pub has_label : PlacedEntry → Bool
 has_label e = not (length (chars (cow_str_bytes e.label)) == 0)
 
--- whether its label hangs from its mark
-abbrev pub is_hung : PlacedEntry → Bool
-is_hung e = nat_lt 0 e.position && has_label e
+-- whether an entry is the start or the end of a span of several lines, so that a line leads from its mark to a bar
+abbrev pub takes_space : PlacedEntry → Bool
+takes_space e = is_end_part e.entry.annotation_type
+
+-- whether a stem leads down from its mark: to its label, or to the line to its bar
+abbrev pub has_stem : PlacedEntry → Bool
+has_stem e = nat_lt 0 e.position && (has_label e || takes_space e)
 
 -- whether one of two entries starts in the columns of the other, those of the first being `more` more
 abbrev pub do_overlap : PlacedEntry → ℕ → PlacedEntry → Bool
@@ -38,11 +45,20 @@ ends_no_later e f =
 abbrev pub crosses : PlacedEntry → PlacedEntry → Bool
 crosses e other = do_overlap other 0 e && (has_label other || not (is_same_place e other))
 
--- whether another entry's label needs a row below that of this entry's, which has position p: it and the two columns
--- behind it would reach into this entry, which has a label too, or stands at position 0 and ends no earlier
-abbrev pub crowds : ℕ → PlacedEntry → PlacedEntry → Bool
-crowds p e other =
+-- whether the lines to bars of two entries, or such a line and a label, would meet in one row: one of the two is a start or
+-- an end, and the other is too, or has a label
+abbrev pub blocks : PlacedEntry → PlacedEntry → Bool
+blocks e other = (takes_space e && (has_label other || takes_space other)) || (has_label e && takes_space other)
+
+-- whether another entry's label, and the two columns behind it, would reach into this entry, which has a label too, or
+-- stands at position 0 and ends no earlier
+abbrev pub reaches : ℕ → PlacedEntry → PlacedEntry → Bool
+reaches p e other =
     has_label other && do_overlap other (length (cow_str_bytes other.label) + 2) e && (has_label e || (p == 0 && ends_no_later other e))
+
+-- whether another entry needs a row below that of this entry, which has position p
+abbrev pub crowds : ℕ → PlacedEntry → PlacedEntry → Bool
+crowds p e other = blocks e other || reaches p e other
 
 -- the position of an entry in front of others, where p is the one reached: position 0 isn't taken where a mark stands in
 -- the way
@@ -59,19 +75,43 @@ positions p [] = []
 positions p (e ∷ others) =
     position_at p e others ∷ positions (position_behind (position_at p e others) e others) others
 
--- where the label of an entry begins: how many rows below the row of the marks, and at which column
+-- whether a part of a span is the start of one of several lines
+abbrev pub is_start_part : LineAnnotationType → Bool
+is_start_part Singleline = false
+is_start_part (MultilineStart depth) = true
+is_start_part (MultilineEnd depth) = false
+is_start_part (MultilineLine depth) = false
+
+-- whether an entry is such a start, and has no label that shows anything; and whether all entries of a line are
+abbrev pub is_start : PlacedEntry → Bool
+is_start e = is_start_part e.entry.annotation_type && not (has_label e)
+
+abbrev pub are_starts : List PlacedEntry → Bool
+are_starts es = list_all is_start es
+
+-- positions turned round: the greatest becomes 0, and 0 the greatest
+abbrev pub turned : List ℕ → List ℕ
+turned ps = map (λ p. greatest ps - p) ps
+
+-- the positions of the entries of a line: turned round where all are starts
+abbrev pub line_positions : List PlacedEntry → List ℕ
+line_positions es = if are_starts es then turned (positions 0 es) else positions 0 es
+
+-- where the label of an entry begins: how many rows below the row of the marks, and at which column; a mark that ends at
+-- column 0 still takes that column
 abbrev pub label_place : PlacedEntry → ℕ × ℕ
 label_place e =
-    if e.position == 0 then (0, e.entry.end.display + 1) else (e.position + 1, e.entry.start.display)
+    if e.position == 0 then (0, if e.entry.end.display == 0 then 2 else e.entry.end.display + 1) else (e.position + 1, e.entry.start.display)
 
 -- the greatest position of some entries
 abbrev pub lowest_position : List PlacedEntry → ℕ
 lowest_position placed = fold (λ lowest e. max lowest e.position) 0 placed
 
--- how many rows the strokes of some entries take: that of the marks, and below it, where a label hangs, one more than the
--- lowest position
+-- how many rows the strokes of some entries take: that of the marks, and below it, where an entry needs a row of its own,
+-- as many as the lowest position, and one more for labels, which starts don't have
 abbrev pub row_count : List PlacedEntry → ℕ
-row_count placed = if lowest_position placed == 0 then 1 else lowest_position placed + 2
+row_count placed =
+    if lowest_position placed == 0 then 1 else (if are_starts placed then lowest_position placed + 1 else lowest_position placed + 2)
 
 -- an entry without its position
 abbrev pub unplaced : PlacedEntry → PlacedEntry
@@ -92,4 +132,4 @@ pub record ArePlaced (es : List LineAnnotation) (placed : List PlacedEntry) : Ty
   pub same : IsPermutation es (map (λ e. e.entry) placed)
   pub from_right : IsFromRight (map (λ e. e.entry) placed)
   pub labels : All HasItsLabel placed
-  pub positions_are : map (λ e. e.position) placed ≡ positions 0 placed
+  pub positions_are : map (λ e. e.position) placed ≡ line_positions placed

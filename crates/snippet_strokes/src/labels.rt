@@ -1,8 +1,7 @@
 //! The labels of marks.
 ghost use Rattle.std.specs.Prelude.{◌≡◌, ◌+◌, ◌^◌, ◌<◌, ◌≤◌, ◌∷◌, [], All, OnOk, false, true, length, ℕ};
 ghost use Rattle.snippet_style.specs.Grid.{cells_written, drawn};
-ghost use Rattle.snippet_parts.specs.Marked.{HasColumns};
-ghost use Rattle.snippet_strokes.specs.Entries.{label_role, label_text};
+ghost use Rattle.snippet_strokes.specs.Entries.{HasPlace, label_role, label_text};
 ghost use Rattle.snippet_strokes.specs.Painting.{DrawsFrom, HasRows, MarksStarts, StandsFrom};
 ghost use Rattle.snippet_strokes.specs.Positions as spec;
 ghost use Rattle.snippet_strokes.specs.Positions.{HasItsLabel};
@@ -32,7 +31,7 @@ pub(crate) fn draw_labels(
     placed: &[PlacedEntry],
 ) -> Result<(), AllocError>
     requires narrow { layout.code < 2 ^ 32 }
-    requires columns { All (λ e. HasColumns e.entry.start e.entry.end) placed.now }
+    requires columns { All (λ e. HasPlace e.entry) placed.now }
     requires small { length buffer.old ≤ 2 ^ 60 }
     requires rows { All (HasRows row (length buffer.old)) placed.now }
     requires labels { All HasItsLabel placed.now }
@@ -40,7 +39,7 @@ pub(crate) fn draw_labels(
         → DrawsFrom row from buffer.old buffer.new) }
     ensures starts { OnOk result (MarksStarts layout.code [] buffer.old buffer.new) }
     ensures none { OnOk result (All (λ e. spec.has_label e ≡ false) placed.now → buffer.new ≡ buffer.old) }
-    ensures lone { OnOk result ((e : PlacedEntry) → placed.now ≡ e ∷ [] → e.position ≡ 0 → spec.has_label e ≡ true
+    ensures lone { OnOk result ((e : PlacedEntry) → placed.now ≡ e ∷ [] → e.position ≡ 0 → 0 < e.entry.end.display → spec.has_label e ≡ true
         → buffer.new ≡ cells_written buffer.old row (layout.code + e.entry.end.display + 1)
         (drawn (label_role e.entry.kind) (label_text e.entry))) }
 {
@@ -58,7 +57,7 @@ fn draw_label(
     placed: &PlacedEntry,
 ) -> Result<(), AllocError>
     requires narrow { layout.code < 2 ^ 32 }
-    requires columns { HasColumns placed.now.entry.start placed.now.entry.end }
+    requires columns { HasPlace placed.now.entry }
     requires small { length buffer.old ≤ 2 ^ 60 }
     requires rows { HasRows row (length buffer.old) placed.now }
     requires label { HasItsLabel placed.now }
@@ -66,7 +65,7 @@ fn draw_label(
         → DrawsFrom row from buffer.old buffer.new) }
     ensures starts { OnOk result (MarksStarts layout.code [] buffer.old buffer.new) }
     ensures none { OnOk result (spec.has_label placed.now ≡ false → buffer.new ≡ buffer.old) }
-    ensures behind { OnOk result (placed.now.position ≡ 0 → spec.has_label placed.now ≡ true
+    ensures behind { OnOk result (placed.now.position ≡ 0 → 0 < placed.now.entry.end.display → spec.has_label placed.now ≡ true
         → buffer.new ≡ cells_written buffer.old row (layout.code + placed.now.entry.end.display + 1)
         (drawn (label_role placed.now.entry.kind) (label_text placed.now.entry))) }
 {
@@ -79,15 +78,19 @@ fn draw_label(
     )
 }
 
-/// Where the label of an entry begins: how many rows below the row of the marks, and at which column.
+/// Where the label of an entry begins: how many rows below the row of the marks, and at which column. A mark that ends at
+/// column 0 still takes that column.
 fn label_place(placed: &PlacedEntry) -> (usize, usize)
-    requires columns { HasColumns placed.now.entry.start placed.now.entry.end }
+    requires columns { HasPlace placed.now.entry }
     requires low { placed.now.position + 1 < 2 ^ 64 }
     ensures value { result ≡ spec.label_place placed.now }
 {
-    if placed.position == 0 {
-        (0, placed.entry.end.display + 1)
+    if placed.position > 0 {
+        return (placed.position + 1, placed.entry.start.display);
+    }
+    if placed.entry.end.display == 0 {
+        (0, 2)
     } else {
-        (placed.position + 1, placed.entry.start.display)
+        (0, placed.entry.end.display + 1)
     }
 }

@@ -1,6 +1,8 @@
 //! The strokes of a snippet: for each line that is shown its source row, and below it the rows of its marks and labels.
 #![tactic(auto)]
 
+mod connectors;
+mod corners;
 mod cuts;
 mod highlight;
 mod labels;

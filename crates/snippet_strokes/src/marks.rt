@@ -1,14 +1,13 @@
 //! The marks below a line of the source.
 ghost use Rattle.std.specs.Prelude.{◌≡◌, ◌+◌, ◌^◌, ◌<◌, ◌==◌, ◌&&◌, if◌then◌else◌, All, OnOk, IsPermutation, map};
 ghost use Rattle.snippet_strokes.specs.Entries as spec;
-ghost use Rattle.snippet_strokes.specs.Positions.{is_hung};
-ghost use Rattle.snippet_strokes.specs.Painting.{AreMarked, IsPaintingOrder, Painted, Paints, mark_cell};
+ghost use Rattle.snippet_strokes.specs.Painting.{AreMarked, IsPaintingOrder, Painted, Paints, first_glyph, mark_cell, mark_end};
 
 use crate::layout::Layout;
 use crate::positions::PlacedEntry;
 use crate::roles::is_primary;
-use snippet_parts::LineAnnotation;
-use snippet_style::{StyledBuffer, Underline};
+use snippet_parts::{LineAnnotation, LineAnnotationType};
+use snippet_style::{DecorStyle, StyledBuffer};
 use std::alloc::AllocError;
 use std::cmp::Reverse;
 
@@ -31,6 +30,7 @@ pub(crate) fn draw_marks(
     requires narrow { layout.code < 2 ^ 32 }
     requires columns { All (λ e. e.entry.end.display < 2 ^ 60) placed.old.items }
     ensures marked { OnOk result (AreMarked layout placed.old.items row buffer.old buffer.new) }
+    ensures same { OnOk result (IsPermutation placed.old.items placed.new.items) }
 {
     sort_for_painting(placed)?;
     paint_entries(buffer, layout, row, placed)
@@ -74,10 +74,10 @@ fn paint_entries(
     Ok(())
 }
 
-/// Paints the marks of an entry into a row, over what stands there. Where its label hangs, the first is a label start.
+/// Paints the marks of an entry into a row, over what stands there. The first may be another glyph.
 ///
 /// ```text
-///       |       ^^^^^
+///       |       ^^^^^         ┯━━━━
 /// ```
 fn paint_entry(
     buffer: &mut StyledBuffer,
@@ -89,24 +89,53 @@ fn paint_entry(
     requires narrow { layout.code < 2 ^ 32 }
     requires columns { placed.now.entry.end.display < 2 ^ 60 }
     ensures painted { OnOk result (Paints buffer.old buffer.new row (layout.code + placed.now.entry.start.display)
-        (layout.code + placed.now.entry.end.display) (mark_cell layout placed.now)) }
+        (layout.code + mark_end placed.now) (mark_cell layout placed.now)) }
 {
     let strokes = layout.decor.underline(is_primary(placed.entry.kind));
-    for column in placed.entry.start.display..placed.entry.end.display {
-        let mark = mark_glyph(placed, strokes, column);
+    let first = first_glyph(layout.decor, placed);
+    for column in placed.entry.start.display..mark_end(placed) {
+        let mark = mark_glyph(placed, first, strokes.underline, column);
         buffer.putc(row, layout.code + column, mark, strokes.style)?;
     }
     Ok(())
 }
 
-/// The glyph of an entry's mark at one of its columns.
-fn mark_glyph(placed: &PlacedEntry, strokes: Underline, column: usize) -> char
-    ensures value { result ≡ (if is_hung placed.now && column == placed.now.entry.start.display then strokes.label_start
-        else strokes.underline) }
+/// The glyph of an entry's mark at one of its columns: the first one's own, or else the underline.
+fn mark_glyph(placed: &PlacedEntry, first: char, underline: char, column: usize) -> char
+    ensures value { result ≡ (if column == placed.now.entry.start.display then first else underline) }
 {
-    if placed.is_hung() && column == placed.entry.start.display {
-        strokes.label_start
+    if column == placed.entry.start.display {
+        first
     } else {
-        strokes.underline
+        underline
+    }
+}
+
+/// The column behind the last one at which an entry's mark is painted. Where an entry covers no column, but a glyph of its
+/// own stands at its start, that glyph is its mark.
+fn mark_end(placed: &PlacedEntry) -> usize
+    requires columns { placed.now.entry.end.display < 2 ^ 60 }
+    ensures value { result ≡ mark_end placed.now }
+{
+    let end = placed.entry.end.display;
+    if placed.entry.start.display == end && (placed.takes_space() || placed.has_stem()) {
+        end + 1
+    } else {
+        end
+    }
+}
+
+/// The glyph at the first column of an entry's mark.
+fn first_glyph(decor: DecorStyle, placed: &PlacedEntry) -> char
+    ensures value { result ≡ first_glyph decor placed.now }
+{
+    let strokes = decor.underline(is_primary(placed.entry.kind));
+    match placed.entry.annotation_type {
+        LineAnnotationType::MultilineStart(_) if placed.has_stem() => strokes.multiline_start_down,
+        LineAnnotationType::MultilineStart(_) => strokes.top_right_flat,
+        LineAnnotationType::MultilineEnd(_) if placed.has_stem() => strokes.multiline_end_up,
+        LineAnnotationType::MultilineEnd(_) => strokes.multiline_end_same_line,
+        _ if placed.has_stem() => strokes.label_start,
+        _ => strokes.underline,
     }
 }

@@ -1,12 +1,13 @@
 //! Where the labels of a line stand: how far below the row of its marks each hangs.
 ghost use Rattle.std.specs.Prelude.{◌≡◌, ◌+◌, ◌^◌, ◌<◌, ◌&&◌, All, IfOk, chars, length, map};
-ghost use Rattle.std.specs.List.{list_any};
+ghost use Rattle.std.specs.List.{list_all, list_any};
 ghost use Rattle.std.specs.Cow.{cow_str_bytes};
 ghost use Rattle.snippet_strokes.specs.Positions as spec;
 ghost use Rattle.snippet_strokes.specs.Positions.{ArePlaced, HasItsLabel};
 ghost use Rattle.snippet_strokes.specs.Entries.{label_text, shifted};
+ghost use Rattle.snippet_parts.specs.Measures.{greatest};
 
-use snippet_parts::{LineAnnotation, Loc};
+use snippet_parts::{LineAnnotation, LineAnnotationType, Loc};
 use snippet_text::normalized;
 use std::alloc::{AllocError, Global};
 use std::borrow::CowStr;
@@ -22,7 +23,8 @@ pub(crate) struct PlacedEntry<'a> {
     pub(crate) entry: LineAnnotation<'a>,
     /// Its label, normalised; empty where it has none to show.
     pub(crate) label: CowStr<'a>,
-    /// At 0 the label stands behind its mark; at n it hangs from it, in the row n + 1 below the row of the marks.
+    /// At 0 the label stands behind its mark; at n it hangs from it, in the row n + 1 below the row of the marks. The line
+    /// from the mark of a start or an end to its bar stands in the row n below that of the marks.
     pub(crate) position: usize,
 }
 
@@ -34,11 +36,21 @@ impl<'a> PlacedEntry<'a> {
         !self.label.as_str().is_empty()
     }
 
-    /// Whether its label hangs from its mark.
-    pub(crate) fn is_hung(&self) -> bool
-        ensures value { result ≡ spec.is_hung self.now }
+    /// Whether it is the start or the end of a span of several lines, so that a line leads from its mark to the span's bar.
+    pub(crate) fn takes_space(&self) -> bool
+        ensures value { result ≡ spec.takes_space self.now }
     {
-        self.position > 0 && self.has_label()
+        matches!(
+            self.entry.annotation_type,
+            LineAnnotationType::MultilineStart(_) | LineAnnotationType::MultilineEnd(_)
+        )
+    }
+
+    /// Whether a stem leads from its mark down to its label, or to the line to its bar.
+    pub(crate) fn has_stem(&self) -> bool
+        ensures value { result ≡ spec.has_stem self.now }
+    {
+        self.position > 0 && (self.has_label() || self.takes_space())
     }
 }
 
@@ -65,7 +77,7 @@ pub(crate) fn placed_entries<'a>(
 {
     let mut placed = labelled_entries(alloc, dropped, entries)?;
     placed.sort_by_key(|p| Reverse((p.entry.start.display, p.entry.start.char)))?;
-    let positions = label_positions(alloc, &placed)?;
+    let positions = line_positions(alloc, &placed)?;
     set_positions(&mut placed, &positions);
     Ok(placed)
 }
@@ -126,6 +138,69 @@ fn shown_label<'a>(alloc: Global, entry: &LineAnnotation<'a>) -> Result<CowStr<'
         Some(label) => normalized(alloc, label),
         None => Ok(CowStr::Borrowed("")),
     }
+}
+
+/// The position of each entry, from right to left. Where all are starts they are turned round, so that the line to the bar
+/// of the one farthest left stands highest.
+///
+/// # Errors
+///
+/// There is no memory for the list.
+fn line_positions(alloc: Global, entries: &[PlacedEntry]) -> Result<Vec<usize>, AllocError>
+    requires columns { All (λ e. e.entry.end.display < 2 ^ 60) entries.now }
+    ensures value { IfOk result (λ positions. positions.items ≡ spec.line_positions entries.now) }
+{
+    let positions = label_positions(alloc, entries)?;
+    if !are_starts(entries) {
+        return Ok(positions);
+    }
+    turned(alloc, &positions)
+}
+
+/// Whether each of these entries is the start of a span of several lines, and has no label to show.
+pub(crate) fn are_starts(entries: &[PlacedEntry]) -> bool
+    ensures value { result ≡ spec.are_starts entries.now }
+{
+    entries.iter().all(|entry| is_start(entry))
+}
+
+/// Whether an entry is the start of a span of several lines, and has no label to show.
+fn is_start(placed: &PlacedEntry) -> bool
+    ensures value { result ≡ spec.is_start placed.now }
+{
+    matches!(
+        placed.entry.annotation_type,
+        LineAnnotationType::MultilineStart(_)
+    ) && !placed.has_label()
+}
+
+/// Positions turned round: the greatest becomes 0, and 0 the greatest.
+///
+/// # Errors
+///
+/// There is no memory for the list.
+fn turned(alloc: Global, positions: &[usize]) -> Result<Vec<usize>, AllocError>
+    ensures value { IfOk result (λ turned. turned.items ≡ spec.turned positions.now) }
+{
+    let greatest = greatest(positions);
+    let mut turned = Vec::new(alloc);
+    for position in positions {
+        turned.push(greatest.saturating_sub(*position))?;
+    }
+    Ok(turned)
+}
+
+/// The greatest of some numbers, 0 where there is none.
+fn greatest(numbers: &[usize]) -> usize
+    ensures value { result ≡ greatest numbers.now }
+{
+    let mut greatest = 0;
+    for number in numbers {
+        if greatest < *number {
+            greatest = *number;
+        }
+    }
+    greatest
 }
 
 /// The position of each label, from right to left. A label goes one row farther down than the last one where the row
@@ -210,11 +285,29 @@ fn is_crowded(position: usize, entry: &PlacedEntry, others: &[PlacedEntry]) -> b
     others.iter().any(|other| crowds(position, entry, other))
 }
 
-/// Whether the label of an entry farther left would reach into this entry, which has a label too, or stands in the first
-/// row and ends no earlier.
+/// Whether an entry farther left needs a row of its own: one of the two is a start or an end and the other is too, or has
+/// a label; or its label would reach into this entry, which has a label too, or stands in the first row and ends no
+/// earlier.
 fn crowds(position: usize, entry: &PlacedEntry, other: &PlacedEntry) -> bool
     requires columns { other.now.entry.end.display < 2 ^ 60 }
     ensures value { result ≡ spec.crowds position entry.now other.now }
+{
+    blocks(entry, other) || reaches(position, entry, other)
+}
+
+/// Whether one of two entries is a start or an end, and the other is too, or has a label.
+fn blocks(entry: &PlacedEntry, other: &PlacedEntry) -> bool
+    ensures value { result ≡ spec.blocks entry.now other.now }
+{
+    (entry.takes_space() && (other.has_label() || other.takes_space()))
+        || (entry.has_label() && other.takes_space())
+}
+
+/// Whether the label of an entry farther left would reach into this entry, which has a label too, or stands in the first
+/// row and ends no earlier.
+fn reaches(position: usize, entry: &PlacedEntry, other: &PlacedEntry) -> bool
+    requires columns { other.now.entry.end.display < 2 ^ 60 }
+    ensures value { result ≡ spec.reaches position entry.now other.now }
 {
     other.has_label()
         && overlap(other, other.label.as_str().len() + GAP, entry)

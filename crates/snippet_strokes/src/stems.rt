@@ -1,21 +1,22 @@
-//! The stems that lead from marks down to their labels.
-ghost use Rattle.std.specs.Prelude.{◌≡◌, ◌+◌, ◌^◌, ◌<◌, ◌≤◌, ◌∷◌, [], All, OnOk, false, length, ℕ};
-ghost use Rattle.snippet_parts.specs.Marked.{HasColumns};
-ghost use Rattle.snippet_strokes.specs.Painting.{DrawsFrom, HasRows, MarksStarts, StandsFrom};
+//! The stems that lead from marks down to their labels, or to the lines to their bars.
+ghost use Rattle.std.specs.Prelude.{◌≡◌, ◌+◌, ◌^◌, ◌<◌, ◌≤◌, ◌==◌, ◌∷◌, [], if◌then◌else◌, All, OnOk, false, length, ℕ};
+ghost use Rattle.snippet_strokes.specs.Entries.{HasPlace};
+ghost use Rattle.snippet_strokes.specs.Painting.{DrawsFrom, HasRows, MarksStarts, StandsFrom, foot_glyph};
 ghost use Rattle.snippet_strokes.specs.Positions as spec;
 
 use crate::layout::Layout;
 use crate::positions::PlacedEntry;
 use crate::roles::is_primary;
-use snippet_style::StyledBuffer;
+use snippet_parts::LineAnnotationType;
+use snippet_style::{DecorStyle, StyledBuffer};
 use std::alloc::AllocError;
 
-/// Draws the stems of the labels that hang, from the row of the marks on.
+/// Draws the stems of the entries that have one, from the row of the marks on.
 ///
 /// ```text
-///       | | |            the row of the marks, which are drawn over the stems later
-///       | | |
-///       | | x
+///       | | |         |     |            the row of the marks, which are drawn over the stems later
+///       | | |         | |___|            the line from an end of a span of several lines to its bar
+///       | | x         |     y
 ///       | f
 /// ```
 ///
@@ -29,13 +30,13 @@ pub(crate) fn draw_stems(
     placed: &[PlacedEntry],
 ) -> Result<(), AllocError>
     requires narrow { layout.code < 2 ^ 32 }
-    requires columns { All (λ e. HasColumns e.entry.start e.entry.end) placed.now }
+    requires columns { All (λ e. HasPlace e.entry) placed.now }
     requires small { length buffer.old ≤ 2 ^ 60 }
     requires rows { All (HasRows row (length buffer.old)) placed.now }
     ensures draws { OnOk result ((from : ℕ) → All (λ e. StandsFrom layout.code from e.entry) placed.now
         → DrawsFrom row from buffer.old buffer.new) }
     ensures starts { OnOk result (MarksStarts layout.code placed.now buffer.old buffer.new) }
-    ensures none { OnOk result (All (λ e. spec.is_hung e ≡ false) placed.now → buffer.new ≡ buffer.old) }
+    ensures none { OnOk result (All (λ e. spec.has_stem e ≡ false) placed.now → buffer.new ≡ buffer.old) }
 {
     for entry in placed {
         draw_stem(buffer, layout, row, entry)?;
@@ -43,7 +44,8 @@ pub(crate) fn draw_stems(
     Ok(())
 }
 
-/// Draws the stem of an entry's label, if it hangs: below the entry's first column, as far as the row above the label.
+/// Draws the stem of an entry, if it has one: below its first column, as far as the row of its line to the bar, or the row
+/// above its label.
 fn draw_stem(
     buffer: &mut StyledBuffer,
     layout: Layout,
@@ -51,21 +53,43 @@ fn draw_stem(
     placed: &PlacedEntry,
 ) -> Result<(), AllocError>
     requires narrow { layout.code < 2 ^ 32 }
-    requires columns { HasColumns placed.now.entry.start placed.now.entry.end }
+    requires columns { HasPlace placed.now.entry }
     requires small { length buffer.old ≤ 2 ^ 60 }
     requires rows { HasRows row (length buffer.old) placed.now }
     ensures draws { OnOk result ((from : ℕ) → StandsFrom layout.code from placed.now.entry
         → DrawsFrom row from buffer.old buffer.new) }
     ensures starts { OnOk result (MarksStarts layout.code (placed.now ∷ []) buffer.old buffer.new) }
-    ensures none { OnOk result (spec.is_hung placed.now ≡ false → buffer.new ≡ buffer.old) }
+    ensures none { OnOk result (spec.has_stem placed.now ≡ false → buffer.new ≡ buffer.old) }
 {
-    if !placed.is_hung() {
+    if !placed.has_stem() {
         return Ok(());
     }
     let strokes = layout.decor.underline(is_primary(placed.entry.kind));
+    let foot = foot_glyph(layout.decor, placed);
     let cell = layout.code + placed.entry.start.display;
     for below in 0..placed.position + 1 {
-        buffer.putc(row + below, cell, strokes.vertical_text_line, strokes.style)?;
+        let glyph = stem_glyph(placed, foot, strokes.vertical_text_line, below);
+        buffer.putc(row + below, cell, glyph, strokes.style)?;
     }
     Ok(())
+}
+
+/// The glyph of an entry's stem, so many rows below the row of the marks: at its foot another one.
+fn stem_glyph(placed: &PlacedEntry, foot: char, stem: char, below: usize) -> char
+    ensures value { result ≡ (if below == placed.now.position then foot else stem) }
+{
+    if below == placed.position { foot } else { stem }
+}
+
+/// The glyph at the foot of a stem: where a line leads to a bar, the corner at which it begins, or where a label follows
+/// below it the branch.
+fn foot_glyph(decor: DecorStyle, placed: &PlacedEntry) -> char
+    ensures value { result ≡ foot_glyph decor placed.now }
+{
+    let strokes = decor.underline(is_primary(placed.entry.kind));
+    match placed.entry.annotation_type {
+        LineAnnotationType::MultilineStart(_) => strokes.bottom_right,
+        LineAnnotationType::MultilineEnd(_) if placed.has_label() => strokes.bottom_right_with_text,
+        _ => strokes.vertical_text_line,
+    }
 }

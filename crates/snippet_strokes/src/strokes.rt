@@ -1,4 +1,4 @@
-//! All that stands below the source row of a line.
+//! All that stands below the source row of a line, and the bars beside it of spans that begin or end there.
 ghost use Rattle.std.specs.Prelude.{◌≡◌, ◌+◌, ◌^◌, ◌<◌, ◌≤◌, ◌++◌, ◌∷◌, [], if◌then◌else◌, All, IfSome, List, OnOk, false, length, map};
 ghost use Rattle.snippet_strokes.specs.Entries.{HasPlace, HasRail, shifted};
 ghost use Rattle.snippet_parts.specs.Measures.{is_bar};
@@ -6,28 +6,34 @@ ghost use Rattle.snippet_style.specs.Grid.{Cell};
 ghost use Rattle.snippet_strokes.specs.Positions as spec;
 ghost use Rattle.snippet_strokes.specs.Rows.{AddsStrokes, HasNoBars, closing_row};
 
+use crate::connectors::draw_connectors;
+use crate::corners::draw_corners;
+use crate::cuts::{cut_wide, overlapping};
 use crate::labels::draw_labels;
 use crate::layout::Layout;
 use crate::marks::draw_marks;
-use crate::positions::{PlacedEntry, placed_entries};
+use crate::positions::{PlacedEntry, are_starts, placed_entries};
 use crate::row::{begin_closing_row, begin_rows};
 use crate::stems::draw_stems;
 use snippet_parts::LineAnnotation;
 use snippet_style::StyledBuffer;
 use std::alloc::{AllocError, Global};
 
-/// Draws the strokes of a line, of which so many columns are dropped on the left, below all that stands in the grid: none if the line has no entries, and else the row of
-/// its marks and the rows of the labels that hang from them. Where the window closes with the line, its last row begins
-/// with the closing glyph; a line with no entries then has a row for it.
+/// Draws the strokes of a line, of which so many columns are dropped on the left, below its source row, which has this number
+/// and is the last one: none if the line has no entries, and else the row of its marks and the rows of the labels that hang
+/// from them and of the lines that lead to bars. Where the window closes with the line, its last row begins with the closing
+/// glyph; a line with no entries then has a row for it. Wide spans are cut to a room of so many columns.
 ///
 /// ```text
-///       | --^^--             │ ┬─┯━──
-///       | | |                │ │ │
+///       | --^^--             │ ┬─┯━──             1 | |   b)             1 │ ┃   b)
+///       | | |                │ │ │                  | |____^ here          │ ┗━━━━┛ here
 ///       | | x                │ │ x
 ///       | f                  ╰╴f
 /// ```
 ///
-/// What is drawn later stands over what was there: stems over separators, labels over stems, marks over all.
+/// What is drawn later stands over what was there: stems over separators and over the lines that lead to bars, labels over
+/// stems, marks over all. The bars of spans that begin or end on the line are drawn as far as the line's rows go; those that
+/// run past it are left to the caller.
 ///
 /// # Errors
 ///
@@ -57,10 +63,14 @@ pub(crate) fn draw_strokes(
         return close_below(buffer, layout, closes);
     }
     let mut placed = placed_entries(alloc, dropped, entries)?;
-    let row = begin_rows(buffer, layout, closes, row_count(&placed))?;
-    draw_stems(buffer, layout, row, &placed)?;
-    draw_labels(buffer, layout, row, &placed)?;
-    draw_marks(buffer, layout, row, &mut placed)
+    let met = overlapping(alloc, &placed)?;
+    let below = begin_rows(buffer, layout, closes, row_count(&placed))?;
+    draw_connectors(buffer, layout, below, &placed)?;
+    draw_corners(buffer, layout, row, &placed)?;
+    draw_stems(buffer, layout, below, &placed)?;
+    draw_labels(buffer, layout, below, &placed)?;
+    draw_marks(buffer, layout, below, &mut placed)?;
+    cut_wide(buffer, layout, row, room, &placed, &met)
 }
 
 /// Adds a closing row where the window closes with a line that has no entries.
@@ -75,14 +85,20 @@ fn close_below(buffer: &mut StyledBuffer, layout: Layout, closes: bool) -> Resul
     Ok(())
 }
 
-/// How many rows the strokes of some entries take: that of the marks, and below it, where a label hangs, one more than
-/// the lowest position.
+/// How many rows the strokes of some entries take: that of the marks, and below it, where an entry needs a row of its own,
+/// as many as the lowest position, and one more for labels, which starts don't have.
 fn row_count(placed: &[PlacedEntry]) -> usize
     requires low { All (λ e. e.position < 2 ^ 63) placed.now }
     ensures value { result ≡ spec.row_count placed.now }
 {
     let lowest = lowest_position(placed);
-    if lowest == 0 { 1 } else { lowest + 2 }
+    if lowest == 0 {
+        1
+    } else if are_starts(placed) {
+        lowest + 1
+    } else {
+        lowest + 2
+    }
 }
 
 /// The greatest position of some entries.

@@ -1,5 +1,6 @@
-use Rattle.std.proofs.Common.{refl, ◌≡◌, ◌∙◌, ◌==◌, ◌+◌, ◌<◌, ℕ, not, false, All, ap, sym, subst, arith, inl, inr, length, chars}
+use Rattle.std.proofs.Common.{refl, ◌≡◌, ◌∙◌, ◌==◌, ◌+◌, ◌<◌, ℕ, not, true, false, All, ap, sym, subst, arith, inl, inr, length, chars}
 use Rattle.std.proofs.lemmas.Bool.{cases_lt}
+use Rattle.std.proofs.lemmas.Bool.Decides.{nat_tests}
 use Rattle.std.proofs.lemmas.List.{nil_from_length}
 use Rattle.std.proofs.lemmas.Result.{on_ok_weaker}
 use Rattle.snippet_style.specs.Grid.{Cell, cell_at, drawn, cells_written, unlinked_cell}
@@ -9,18 +10,18 @@ use Rattle.snippet_model.specs.declared.snippet.AnnotationKind.TheVariants.{Prim
 use Rattle.snippet_text.specs.Normalized.{is_listed}
 use Rattle.snippet_strokes.specs.Entries.{label_text, label_role, has_mark_role}
 use Rattle.snippet_strokes.specs.Painting.{IsFreeCell, DrawsFrom}
-use Rattle.snippet_strokes.specs.Positions.{label_place}
+use Rattle.snippet_strokes.specs.Positions.{has_label, label_place}
 use Rattle.snippet_strokes.proofs.DrawLemmas.{DrawsFrom-none, DrawsFrom-writes, free_drawn, unmarked_drawn, unmarked_writes}
-use Rattle.snippet_strokes.proofs.PositionLemmas.{label_stands, label_beside}
-use Rattle.snippet_strokes.proofs.TextLemmas.{free_label_text, bytes_some, bytes_none}
+use Rattle.snippet_strokes.proofs.PositionLemmas.{label_stands, label_column, label_beside}
+use Rattle.snippet_strokes.proofs.TextLemmas.{chars_some, free_label_text, bytes_some, bytes_none}
 use Rattle.snippet_strokes.proofs.labels.draw_label.Goals as goal
 
 pub puts-requires-clause-end : goal.puts-requires-clause-end
 puts-requires-clause-end c =
     let placed = c.args.placed.now in
     let column : c.label_place-below.result.1 ≡ (label_place placed).1 = ap (λ (x : ℕ × ℕ). x.1) c.label_place-below.ensures.value in
-    let stands = label_stands c.args.row (length c.args.buffer.now) placed c.requires.rows c.requires.columns in
-    omega (arith, column, stands.2, c.requires.narrow, length-chars_le c.as_str.result.now, c.as_str.ensures.len)
+    let stands = label_column placed c.requires.columns in
+    omega (arith, column, stands.1, c.requires.narrow, length-chars_le c.as_str.result.now, c.as_str.ensures.len)
 
 pub returns-clause-draws : goal.returns-clause-draws
 returns-clause-draws c =
@@ -29,16 +30,21 @@ returns-clause-draws c =
     let placed = c.args.placed.now in
     let text_is : chars text ≡ label_text placed.entry = ap chars c.as_str.ensures.value ∙ c.requires.label in
     let place : c.label_place-below.result ≡ label_place placed = c.label_place-below.ensures.value in
-    let stands = label_stands c.args.row (length c.args.buffer.now) placed c.requires.rows c.requires.columns in
+    let stands = label_column placed c.requires.columns in
+    let shown : 0 < length text → has_label placed ≡ true = λ some. ap (λ bs. not (length (chars bs) == 0)) (sym c.as_str.ensures.value) ∙ above (length (chars text)) (chars_some text c.as_str.utf8 some) in
+    let there : 0 < length text → c.args.row + (label_place placed).0 < length c.args.buffer.now = λ some. label_stands c.args.row (length c.args.buffer.now) placed c.requires.rows c.requires.columns (shown some) in
     let row = c.args.row + c.label_place-below.result.0 in
     let at = c.args.layout.code + c.label_place-below.result.1 in
     let same_row : c.label_place-below.result.0 ≡ (label_place placed).0 = ap (λ (x : ℕ × ℕ). x.0) place in
     let same_column : c.label_place-below.result.1 ≡ (label_place placed).1 = ap (λ (x : ℕ × ℕ). x.1) place in
     let free : All P (drawn c.label_role.result (chars text)) = free_drawn c.label_role.result (chars text) (subst (λ cs. All (λ ch. is_listed ch ≡ false) cs) (sym text_is) (free_label_text placed.entry)) in
     elim (cases_lt 0 (length text)) [
-      | inl some ↦ on_ok_weaker c.puts.result (λ reads from right. DrawsFrom-writes c.args.row row from at c.args.buffer.now c.puts.new.self (drawn c.label_role.result (chars text)) (reads some) (omega arith) (omega (arith, stands.0, same_row)) (omega (arith, right, stands.1, same_column)) free) c.puts.ensures.reads
+      | inl some ↦ on_ok_weaker c.puts.result (λ reads from right. DrawsFrom-writes c.args.row row from at c.args.buffer.now c.puts.new.self (drawn c.label_role.result (chars text)) (reads some) (omega arith) (omega (arith, there some, same_row)) (omega (arith, right, stands.0, same_column)) free) c.puts.ensures.reads
       | inr none ↦ on_ok_weaker c.puts.result (λ reads from right. subst (DrawsFrom c.args.row from c.args.buffer.now) (sym (c.puts.ensures.empty (nil_from_length text (omega arith)))) (DrawsFrom-none c.args.row from c.args.buffer.now)) c.puts.ensures.reads
     ]
+  where
+    above : (n : ℕ) → 0 < n → not (n == 0) ≡ true
+    above n some = grind (arith, nat_tests, some)
 
 pub returns-clause-none : goal.returns-clause-none
 returns-clause-none c =
@@ -49,8 +55,8 @@ returns-clause-behind c =
     let placed = c.args.placed.now in
     let text = c.as_str.result.now in
     let text_is : chars text ≡ label_text placed.entry = ap chars c.as_str.ensures.value ∙ c.requires.label in
-    on_ok_weaker c.puts.result (λ ok zero_here shown.
-    let place : c.label_place-below.result ≡ (0, placed.entry.end.display + 1) = c.label_place-below.ensures.value ∙ label_beside placed zero_here in
+    on_ok_weaker c.puts.result (λ ok zero_here past shown.
+    let place : c.label_place-below.result ≡ (0, placed.entry.end.display + 1) = c.label_place-below.ensures.value ∙ label_beside placed zero_here past in
     let some : 0 < length text = bytes_some text c.as_str.utf8 (ap (λ bs. not (length (chars bs) == 0)) c.as_str.ensures.value ∙ shown) in
     let row : c.args.row + c.label_place-below.result.0 ≡ c.args.row = omega (arith, ap (λ (x : ℕ × ℕ). x.0) place) in
     let at : c.args.layout.code + c.label_place-below.result.1 ≡ c.args.layout.code + placed.entry.end.display + 1 = omega (arith, ap (λ (x : ℕ × ℕ). x.1) place) in

@@ -28,10 +28,10 @@ loop-entry-preserved c =
       λ none. c.in_ok-draw_label.ensures.none (subst (λ x. has_label x ≡ false) (sym is_item) (none i item c.loop-entry-test.true)) ∙ c.loop-entry.invariant.1 none,
       λ never. absurd (omega (arith, never)),
       λ r k beside before. c.in_ok-draw_label.ensures.starts r k beside (c.loop-entry.invariant.3 r k beside before),
-      λ e one zero shown first.
+      λ e one zero some shown first.
           let start : i ≡ 0 = omega (arith, first) in
           let same : item ≡ e = is_item ∙ ap (λ xs. get_or xs i item) one ∙ ap (λ n. get_or (e ∷ []) n item) start in
           let was : mid ≡ old = c.loop-entry.invariant.2 start in
           let write : List (List _) → PlacedEntry → List (List _) = λ rows x. cells_written rows c.args.row (code + x.entry.end.display + 1) (drawn (label_role x.entry.kind) (label_text x.entry)) in
-          c.in_ok-draw_label.ensures.behind (ap (λ (x : PlacedEntry). x.position) same ∙ zero) (ap has_label same ∙ shown) ∙ ap (λ rows. write rows item) was ∙ ap (write old) same,
+          c.in_ok-draw_label.ensures.behind (ap (λ (x : PlacedEntry). x.position) same ∙ zero) (omega (arith, some, ap (λ (x : PlacedEntry). x.entry.end.display) same)) (ap has_label same ∙ shown) ∙ ap (λ rows. write rows item) was ∙ ap (write old) same,
     )

@@ -19,4 +19,5 @@ returns c =
         ordered = c.in_ok-sort_for_painting.ensures.ordered;
         painted = subst (λ order. Painted c.args.layout order c.args.row c.args.buffer.now c.paint_entries.new.buffer) c.deref.ensures.value painted;
       }) c.paint_entries.ensures.painted;
+      same = on_ok_weaker c.paint_entries.result (λ _. c.in_ok-sort_for_painting.ensures.same) c.paint_entries.ensures.painted;
     }

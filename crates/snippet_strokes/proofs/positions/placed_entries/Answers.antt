@@ -3,16 +3,16 @@ use Rattle.std.specs.List.Sorted.{IsPermutation}
 use Rattle.std.proofs.lemmas.List.Sorted.{IsPermutation-map}
 use Rattle.snippet_parts.specs.declared.entries.LineAnnotation.{LineAnnotation}
 use Rattle.snippet_strokes.specs.declared.positions.PlacedEntry.{PlacedEntry}
-use Rattle.snippet_strokes.proofs.PositionLemmas.{length-positions, entries_all, written_back, ArePlaced-from}
+use Rattle.snippet_strokes.proofs.PositionLemmas.{length-line_positions, entries_all, written_back, ArePlaced-from}
 use Rattle.snippet_strokes.specs.Entries.{shifted}
 use Rattle.snippet_strokes.proofs.ShiftLemmas.{shifted_narrow}
-use Rattle.snippet_strokes.specs.Positions.{ArePlaced, positions, unplaced}
+use Rattle.snippet_strokes.specs.Positions.{ArePlaced, line_positions, unplaced}
 use Rattle.std.proofs.lemmas.List.Sorted.{answers_always}
 use Rattle.snippet_strokes.proofs.OrderLemmas.{place_key, from_right_from_sort}
 use Rattle.snippet_strokes.proofs.positions.placed_entries.Goals as goal
 
-pub label_positions-requires : goal.label_positions-requires
-label_positions-requires c =
+pub line_positions-requires : goal.line_positions-requires
+line_positions-requires c =
     let Q : LineAnnotation → Type 0 = λ e. e.end.display < 2 ^ 60 in
     let sorted = c.sort_by_key.new.self.items in
     let same = subst (λ es. IsPermutation es (map (λ (e : PlacedEntry). e.entry) sorted)) c.in_ok-placed.ensures.entries (IsPermutation-map (λ (e : PlacedEntry). e.entry) _ _ c.in_ok-sort_by_key.ensures.permutation) in
@@ -20,7 +20,7 @@ label_positions-requires c =
 
 pub set_positions-requires : goal.set_positions-requires
 set_positions-requires c =
-    record { count = ap length (c.deref-2.ensures.value ∙ c.in_ok-positions.ensures.value) ∙ length-positions 0 c.deref.result.now ∙ ap length (c.deref.ensures.value ∙ sym c.deref_mut.ensures.value) }
+    record { count = ap length (c.deref-2.ensures.value ∙ c.in_ok-positions.ensures.value) ∙ length-line_positions c.deref.result.now ∙ ap length (c.deref.ensures.value ∙ sym c.deref_mut.ensures.value) }
 
 pub returns : goal.returns
 returns c =
@@ -29,5 +29,5 @@ returns c =
     let placed = c.set_positions.new.entries in
     let kept = c.set_positions.ensures.kept ∙ ap (map unplaced) c.deref_mut.ensures.value in
     record {
-      placed = subst (ArePlaced es) (sym (written_back placed sorted.items sorted.len sorted.ok.0 kept)) (ArePlaced-from es c.in_ok-placed.placed.items sorted.items placed c.deref-2.result.now c.in_ok-placed.ensures.entries c.in_ok-placed.ensures.labels c.in_ok-sort_by_key.ensures.permutation (from_right_from_sort sorted.items (c.in_ok-sort_by_key.ensures.sorted place_key (answers_always _ _ _ (λ f a r g h. search rules)))) (c.deref-2.ensures.value ∙ c.in_ok-positions.ensures.value ∙ ap (positions 0) c.deref.ensures.value) c.set_positions.ensures.placed kept);
+      placed = subst (ArePlaced es) (sym (written_back placed sorted.items sorted.len sorted.ok.0 kept)) (ArePlaced-from es c.in_ok-placed.placed.items sorted.items placed c.deref-2.result.now c.in_ok-placed.ensures.entries c.in_ok-placed.ensures.labels c.in_ok-sort_by_key.ensures.permutation (from_right_from_sort sorted.items (c.in_ok-sort_by_key.ensures.sorted place_key (answers_always _ _ _ (λ f a r g h. search rules)))) (c.deref-2.ensures.value ∙ c.in_ok-positions.ensures.value ∙ ap line_positions c.deref.ensures.value) c.set_positions.ensures.placed kept);
     }

@@ -1,101 +1,141 @@
-use Rattle.std.proofs.Common.{◌≡◌, ◌∙◌, ◌+◌, ◌-◌, ◌<◌, ◌^◌, List, ◌++◌, ◌∷◌, [], true, false, ℕ, All, map, replicate, ap, sym, subst, arith, length}
+use Rattle.std.proofs.Common.{◌≡◌, ◌∙◌, ◌+◌, ◌-◌, ◌<◌, ◌^◌, List, ◌++◌, ◌∷◌, [], true, false, ℕ, refl, All, map, replicate, ap, sym, subst, arith, length}
 use Rattle.std.proofs.lemmas.Result.{on_ok_weaker}
-use Rattle.std.proofs.lemmas.List.{length-append, length-replicate, length_push, length-map}
-use Rattle.snippet_parts.specs.Marked.{HasColumns}
+use Rattle.std.proofs.lemmas.List.{length_push, length-map}
+use Rattle.std.proofs.lemmas.List.Sorted.{All-permutation, IsPermutation-map, IsPermutation-trans, length_permutation}
 use Rattle.snippet_parts.specs.declared.entries.LineAnnotation.{LineAnnotation}
 use Rattle.snippet_strokes.specs.declared.positions.PlacedEntry.{PlacedEntry}
-use Rattle.snippet_strokes.specs.Painting.{HasRows, MarksStarts, StandsFrom, DrawsFrom}
-use Rattle.snippet_strokes.specs.Positions.{HasItsLabel, has_label, is_hung, row_count}
-use Rattle.snippet_style.specs.Grid.{Cell, cells_written, drawn}
-use Rattle.snippet_strokes.specs.Entries.{label_role, label_text, shifted}
-use Rattle.snippet_strokes.proofs.ShiftLemmas.{shifted_columns}
+use Rattle.snippet_strokes.specs.Painting.{AreMarked, HasRows, MarksStarts, StandsFrom, DrawsFrom, DrawsRails}
+use Rattle.snippet_strokes.specs.Positions.{HasItsLabel, has_label, has_stem, row_count}
+use Rattle.snippet_style.specs.Grid.{cells_written, drawn}
+use Rattle.snippet_strokes.specs.Entries.{HasPlace, HasRail, is_single, label_role, label_text, shifted, wide_entries}
+use Rattle.snippet_strokes.proofs.ShiftLemmas.{shifted_places, shifted_rails}
 use Rattle.snippet_strokes.specs.Rows.{separator_row, bare_row}
-use Rattle.snippet_strokes.proofs.PositionLemmas.{entries_all, row_count_some, HasRows-row_count, positions_of_placed}
-use Rattle.snippet_strokes.proofs.StrokeLemmas.{strokes_added, strokes_none}
+use Rattle.snippet_strokes.proofs.PositionLemmas.{entries_all, row_count_some, positions_of_placed}
+use Rattle.snippet_strokes.proofs.BegunLemmas.{rows_begun, rows_ready, wide_entries-permutation}
+use Rattle.snippet_strokes.proofs.StrokeLemmas.{strokes_drawn, strokes_none}
 use Rattle.snippet_strokes.proofs.strokes.draw_strokes.Goals as goal
 
 pub row_count-requires : goal.row_count-requires
 row_count-requires c =
     let placed = c.in_ok-placed.placed in
-    record { low = subst (All (λ (e : PlacedEntry). e.position < 2 ^ 63)) (sym c.deref.ensures.value) (λ k d within. omega (arith, positions_of_placed (map (shifted c.args.dropped) c.args.entries.now) placed.items c.in_ok-placed.ensures.placed k d within, placed.ok.0, placed.small)) }
+    record { low = subst (All (λ (e : PlacedEntry). e.position < 2 ^ 63)) (sym c.deref-2.ensures.value) (λ k d within. omega (arith, positions_of_placed (map (shifted c.args.dropped) c.args.entries.now) placed.items c.in_ok-placed.ensures.placed k d within, placed.ok.0, placed.small)) }
 
--- the rows are begun
-rows_begun : (old begun : List (List Cell)) (sep end : List Cell) (count : ℕ) → 0 < count → begun ≡ old ++ replicate (count - 1) sep ++ end ∷ [] → length begun ≡ length old + count
-rows_begun old begun sep end count some begins =
-    let all : List (List Cell) = old ++ replicate (count - 1) sep in
-    omega (arith, some, ap length begins, length_push all end, length-append old (replicate (count - 1) sep), length-replicate (count - 1) sep)
+pub overlapping-requires : goal.overlapping-requires
+overlapping-requires c = record { columns = subst (All (λ (e : PlacedEntry). HasPlace e.entry)) (sym c.deref.ensures.value) (entries_all HasPlace (map (shifted c.args.dropped) c.args.entries.now) c.in_ok-placed.placed.items c.in_ok-placed.ensures.placed.same (shifted_places c.args.dropped c.args.entries.now c.requires.columns)) }
+
+pub draw_connectors-requires-clause-columns : goal.draw_connectors-requires-clause-columns
+draw_connectors-requires-clause-columns c = subst (All (λ (e : PlacedEntry). HasPlace e.entry)) (sym c.deref-3.ensures.value) (entries_all HasPlace (map (shifted c.args.dropped) c.args.entries.now) c.in_ok-placed.placed.items c.in_ok-placed.ensures.placed.same (shifted_places c.args.dropped c.args.entries.now c.requires.columns))
+
+pub draw_connectors-requires-clause-rails : goal.draw_connectors-requires-clause-rails
+draw_connectors-requires-clause-rails c = subst (All (λ (e : PlacedEntry). HasRail c.args.layout e.entry)) (sym c.deref-3.ensures.value) (entries_all (HasRail c.args.layout) (map (shifted c.args.dropped) c.args.entries.now) c.in_ok-placed.placed.items c.in_ok-placed.ensures.placed.same (shifted_rails c.args.layout c.args.dropped c.args.entries.now c.requires.rails))
+
+pub draw_connectors-requires-clause-rows : goal.draw_connectors-requires-clause-rows
+draw_connectors-requires-clause-rows c =
+    subst (All (HasRows c.in_ok-below.below (length c.begin_rows.new.buffer))) (sym c.deref-3.ensures.value) (rows_ready c.in_ok-placed.placed.items c.args.buffer.now c.begin_rows.new.buffer (separator_row c.args.layout.decor c.args.layout.gutter) (bare_row c.args.layout.decor c.args.layout.gutter c.args.closes) c.row_count.result c.in_ok-below.below (length c.begin_rows.new.buffer) (c.row_count.ensures.value ∙ ap row_count c.deref-2.ensures.value) c.in_ok-below.ensures.row c.in_ok-below.ensures.added refl)
+
+pub draw_corners-requires-clause-rails : goal.draw_corners-requires-clause-rails
+draw_corners-requires-clause-rails c = subst (All (λ (e : PlacedEntry). HasRail c.args.layout e.entry)) (sym c.deref-4.ensures.value) (entries_all (HasRail c.args.layout) (map (shifted c.args.dropped) c.args.entries.now) c.in_ok-placed.placed.items c.in_ok-placed.ensures.placed.same (shifted_rails c.args.layout c.args.dropped c.args.entries.now c.requires.rails))
+
+pub draw_corners-requires-clause-small : goal.draw_corners-requires-clause-small
+draw_corners-requires-clause-small c = omega (arith, c.in_ok-draw_connectors.ensures.draws.count, c.in_ok-below.ensures.small)
+
+pub draw_corners-requires-clause-rows : goal.draw_corners-requires-clause-rows
+draw_corners-requires-clause-rows c =
+    subst (All (HasRows (c.args.row + 1) (length c.draw_connectors.new.buffer))) (sym c.deref-4.ensures.value) (rows_ready c.in_ok-placed.placed.items c.args.buffer.now c.begin_rows.new.buffer (separator_row c.args.layout.decor c.args.layout.gutter) (bare_row c.args.layout.decor c.args.layout.gutter c.args.closes) c.row_count.result (c.args.row + 1) (length c.draw_connectors.new.buffer) (c.row_count.ensures.value ∙ ap row_count c.deref-2.ensures.value) (sym c.requires.last) c.in_ok-below.ensures.added c.in_ok-draw_connectors.ensures.draws.count)
 
 pub draw_stems-requires-clause-columns : goal.draw_stems-requires-clause-columns
-draw_stems-requires-clause-columns c =
-    let Q : LineAnnotation → Type 0 = λ e. HasColumns e.start e.end in
-    subst (All (λ (e : PlacedEntry). Q e.entry)) (sym c.deref-2.ensures.value) (entries_all Q (map (shifted c.args.dropped) c.args.entries.now) c.in_ok-placed.placed.items c.in_ok-placed.ensures.placed.same (shifted_columns c.args.dropped c.args.entries.now c.requires.columns c.requires.clear))
+draw_stems-requires-clause-columns c = subst (All (λ (e : PlacedEntry). HasPlace e.entry)) (sym c.deref-5.ensures.value) (entries_all HasPlace (map (shifted c.args.dropped) c.args.entries.now) c.in_ok-placed.placed.items c.in_ok-placed.ensures.placed.same (shifted_places c.args.dropped c.args.entries.now c.requires.columns))
+
+pub draw_stems-requires-clause-small : goal.draw_stems-requires-clause-small
+draw_stems-requires-clause-small c = omega (arith, c.in_ok-draw_connectors.ensures.draws.count, c.in_ok-draw_corners.ensures.draws.draws.count, c.in_ok-below.ensures.small)
 
 pub draw_stems-requires-clause-rows : goal.draw_stems-requires-clause-rows
 draw_stems-requires-clause-rows c =
-    let sep = separator_row c.args.layout.decor c.args.layout.gutter in
-    let end = bare_row c.args.layout.decor c.args.layout.gutter c.args.closes in
-    let placed = c.in_ok-placed.placed.items in
-    let count : c.row_count.result ≡ row_count placed = c.row_count.ensures.value ∙ ap row_count c.deref.ensures.value in
-    let some : 0 < c.row_count.result = omega (arith, count, row_count_some placed) in
-    let long = rows_begun c.args.buffer.now c.begin_rows.new.buffer sep end c.row_count.result some c.in_ok-row.ensures.added in
-    subst (All (HasRows c.in_ok-row.row (length c.begin_rows.new.buffer))) (sym c.deref-2.ensures.value) (HasRows-row_count c.in_ok-row.row (length c.begin_rows.new.buffer) placed (long ∙ ap (λ n. n + c.row_count.result) (sym c.in_ok-row.ensures.row) ∙ ap (λ n. c.in_ok-row.row + n) count))
+    subst (All (HasRows c.in_ok-below.below (length c.draw_corners.new.buffer))) (sym c.deref-5.ensures.value) (rows_ready c.in_ok-placed.placed.items c.args.buffer.now c.begin_rows.new.buffer (separator_row c.args.layout.decor c.args.layout.gutter) (bare_row c.args.layout.decor c.args.layout.gutter c.args.closes) c.row_count.result c.in_ok-below.below (length c.draw_corners.new.buffer) (c.row_count.ensures.value ∙ ap row_count c.deref-2.ensures.value) c.in_ok-below.ensures.row c.in_ok-below.ensures.added (c.in_ok-draw_corners.ensures.draws.draws.count ∙ c.in_ok-draw_connectors.ensures.draws.count))
 
 pub draw_labels-requires-clause-columns : goal.draw_labels-requires-clause-columns
-draw_labels-requires-clause-columns c =
-    let Q : LineAnnotation → Type 0 = λ e. HasColumns e.start e.end in
-    subst (All (λ (e : PlacedEntry). Q e.entry)) (sym c.deref-3.ensures.value) (entries_all Q (map (shifted c.args.dropped) c.args.entries.now) c.in_ok-placed.placed.items c.in_ok-placed.ensures.placed.same (shifted_columns c.args.dropped c.args.entries.now c.requires.columns c.requires.clear))
+draw_labels-requires-clause-columns c = subst (All (λ (e : PlacedEntry). HasPlace e.entry)) (sym c.deref-6.ensures.value) (entries_all HasPlace (map (shifted c.args.dropped) c.args.entries.now) c.in_ok-placed.placed.items c.in_ok-placed.ensures.placed.same (shifted_places c.args.dropped c.args.entries.now c.requires.columns))
 
 pub draw_labels-requires-clause-small : goal.draw_labels-requires-clause-small
-draw_labels-requires-clause-small c =
-    omega (arith, (c.in_ok-draw_stems.ensures.draws 0 (λ k d within. omega arith)).count, c.in_ok-row.ensures.small)
+draw_labels-requires-clause-small c = omega (arith, c.in_ok-draw_connectors.ensures.draws.count, c.in_ok-draw_corners.ensures.draws.draws.count, (c.in_ok-draw_stems.ensures.draws 0 (λ k d within. omega arith)).count, c.in_ok-below.ensures.small)
 
 pub draw_labels-requires-clause-rows : goal.draw_labels-requires-clause-rows
 draw_labels-requires-clause-rows c =
-    let sep = separator_row c.args.layout.decor c.args.layout.gutter in
-    let end = bare_row c.args.layout.decor c.args.layout.gutter c.args.closes in
-    let placed = c.in_ok-placed.placed.items in
-    let count : c.row_count.result ≡ row_count placed = c.row_count.ensures.value ∙ ap row_count c.deref.ensures.value in
-    let some : 0 < c.row_count.result = omega (arith, count, row_count_some placed) in
-    let long = (c.in_ok-draw_stems.ensures.draws 0 (λ k d within. omega arith)).count ∙ rows_begun c.args.buffer.now c.begin_rows.new.buffer sep end c.row_count.result some c.in_ok-row.ensures.added in
-    subst (All (HasRows c.in_ok-row.row (length c.draw_stems.new.buffer))) (sym c.deref-3.ensures.value) (HasRows-row_count c.in_ok-row.row (length c.draw_stems.new.buffer) placed (long ∙ ap (λ n. n + c.row_count.result) (sym c.in_ok-row.ensures.row) ∙ ap (λ n. c.in_ok-row.row + n) count))
+    subst (All (HasRows c.in_ok-below.below (length c.draw_stems.new.buffer))) (sym c.deref-6.ensures.value) (rows_ready c.in_ok-placed.placed.items c.args.buffer.now c.begin_rows.new.buffer (separator_row c.args.layout.decor c.args.layout.gutter) (bare_row c.args.layout.decor c.args.layout.gutter c.args.closes) c.row_count.result c.in_ok-below.below (length c.draw_stems.new.buffer) (c.row_count.ensures.value ∙ ap row_count c.deref-2.ensures.value) c.in_ok-below.ensures.row c.in_ok-below.ensures.added ((c.in_ok-draw_stems.ensures.draws 0 (λ k d within. omega arith)).count ∙ c.in_ok-draw_corners.ensures.draws.draws.count ∙ c.in_ok-draw_connectors.ensures.draws.count))
 
 pub draw_labels-requires-clause-labels : goal.draw_labels-requires-clause-labels
 draw_labels-requires-clause-labels c =
-    subst (All HasItsLabel) (sym c.deref-3.ensures.value) c.in_ok-placed.ensures.placed.labels
+    subst (All HasItsLabel) (sym c.deref-6.ensures.value) c.in_ok-placed.ensures.placed.labels
 
 pub draw_marks-requires-clause-columns : goal.draw_marks-requires-clause-columns
-draw_marks-requires-clause-columns c =
-    let Q : LineAnnotation → Type 0 = λ e. HasColumns e.start e.end in
-    λ k d within. (entries_all Q (map (shifted c.args.dropped) c.args.entries.now) c.in_ok-placed.placed.items c.in_ok-placed.ensures.placed.same (shifted_columns c.args.dropped c.args.entries.now c.requires.columns c.requires.clear) k d within).1
+draw_marks-requires-clause-columns c = λ k d within. ((entries_all HasPlace (map (shifted c.args.dropped) c.args.entries.now) c.in_ok-placed.placed.items c.in_ok-placed.ensures.placed.same (shifted_places c.args.dropped c.args.entries.now c.requires.columns)) k d within).near
+
+-- the entries in the order of painting
+pub cut_wide-requires-clause-columns : goal.cut_wide-requires-clause-columns
+cut_wide-requires-clause-columns c =
+    subst (All (λ (e : PlacedEntry). HasPlace e.entry)) (sym c.deref-7.ensures.value) (All-permutation (λ (e : PlacedEntry). HasPlace e.entry) c.in_ok-placed.placed.items c.draw_marks.new.placed.items c.in_ok-draw_marks.ensures.same (entries_all HasPlace (map (shifted c.args.dropped) c.args.entries.now) c.in_ok-placed.placed.items c.in_ok-placed.ensures.placed.same (shifted_places c.args.dropped c.args.entries.now c.requires.columns)))
+
+pub cut_wide-requires-clause-count : goal.cut_wide-requires-clause-count
+cut_wide-requires-clause-count c =
+    ap length c.deref-8.ensures.value ∙ c.in_ok-met.ensures.count ∙ ap length c.deref.ensures.value ∙ sym (length_permutation c.in_ok-placed.placed.items c.draw_marks.new.placed.items c.in_ok-draw_marks.ensures.same) ∙ sym (ap length c.deref-7.ensures.value)
+
+-- no row is added or taken behind those that are begun
+pub cut_wide-requires-clause-rows : goal.cut_wide-requires-clause-rows
+cut_wide-requires-clause-rows c =
+    let count = c.row_count.ensures.value ∙ ap row_count c.deref-2.ensures.value in
+    let begun = rows_begun c.args.buffer.now c.begin_rows.new.buffer (separator_row c.args.layout.decor c.args.layout.gutter) (bare_row c.args.layout.decor c.args.layout.gutter c.args.closes) c.row_count.result (omega (arith, count, row_count_some c.in_ok-placed.placed.items)) c.in_ok-below.ensures.added in
+    let long : length c.draw_labels.new.buffer ≡ length c.args.buffer.now + c.row_count.result = (c.in_ok-draw_labels.ensures.draws 0 (λ k d within. omega arith)).count ∙ (c.in_ok-draw_stems.ensures.draws 0 (λ k d within. omega arith)).count ∙ c.in_ok-draw_corners.ensures.draws.draws.count ∙ c.in_ok-draw_connectors.ensures.draws.count ∙ begun in
+    let there : c.in_ok-below.below < length c.draw_labels.new.buffer = omega (arith, long, c.in_ok-below.ensures.row, count, row_count_some c.in_ok-placed.placed.items) in
+    omega (arith, c.in_ok-draw_marks.ensures.marked.painted.count there, there, c.in_ok-below.ensures.row, c.requires.last)
+
+pub cut_wide-requires-clause-small : goal.cut_wide-requires-clause-small
+cut_wide-requires-clause-small c =
+    let count = c.row_count.ensures.value ∙ ap row_count c.deref-2.ensures.value in
+    let begun = rows_begun c.args.buffer.now c.begin_rows.new.buffer (separator_row c.args.layout.decor c.args.layout.gutter) (bare_row c.args.layout.decor c.args.layout.gutter c.args.closes) c.row_count.result (omega (arith, count, row_count_some c.in_ok-placed.placed.items)) c.in_ok-below.ensures.added in
+    let same : length c.draw_labels.new.buffer ≡ length c.begin_rows.new.buffer = (c.in_ok-draw_labels.ensures.draws 0 (λ k d within. omega arith)).count ∙ (c.in_ok-draw_stems.ensures.draws 0 (λ k d within. omega arith)).count ∙ c.in_ok-draw_corners.ensures.draws.draws.count ∙ c.in_ok-draw_connectors.ensures.draws.count in
+    let there : c.in_ok-below.below < length c.draw_labels.new.buffer = omega (arith, same, begun, c.in_ok-below.ensures.row, count, row_count_some c.in_ok-placed.placed.items) in
+    omega (arith, c.in_ok-draw_marks.ensures.marked.painted.count there, same, c.in_ok-below.ensures.small)
 
 pub returns-then-is_empty : goal.returns-then-is_empty
 returns-then-is_empty c =
     let es = map (shifted c.args.dropped) c.args.entries.now in
     let given : length c.args.entries.now ≡ 0 = grind arith in
     let none : length es ≡ 0 = length-map c.args.entries.now (shifted c.args.dropped) ∙ given in
-    record { added = on_ok_weaker c.close_below.result (λ adds. strokes_none c.args.layout c.args.closes es c.args.buffer.now c.close_below.new.buffer c.requires.place none adds) c.close_below.ensures.added }
+    record { added = on_ok_weaker c.close_below.result (λ adds above plain old_is bare_rails. strokes_none c.args.layout c.args.room c.args.closes es above plain c.args.buffer.now c.close_below.new.buffer c.requires.place none old_is bare_rails adds) c.close_below.ensures.added }
 
 pub returns : goal.returns
 returns c =
     let es = map (shifted c.args.dropped) c.args.entries.now in
     let layout = c.args.layout in
     let placed = c.in_ok-placed.placed.items in
+    let after = c.draw_marks.new.placed.items in
+    let f : PlacedEntry → LineAnnotation = λ e. e.entry in
     let sep = separator_row layout.decor layout.gutter in
     let end = bare_row layout.decor layout.gutter c.args.closes in
     let given : 0 < length c.args.entries.now = grind arith in
     let some : 0 < length es = omega (arith, given, length-map c.args.entries.now (shifted c.args.dropped)) in
-    let count : c.row_count.result ≡ row_count placed = c.row_count.ensures.value ∙ ap row_count c.deref.ensures.value in
-    let begins = c.in_ok-row.ensures.added ∙ ap (λ n. c.args.buffer.now ++ replicate (n - 1) sep ++ end ∷ []) count in
+    let count : c.row_count.result ≡ row_count placed = c.row_count.ensures.value ∙ ap row_count c.deref-2.ensures.value in
     let begun = c.begin_rows.new.buffer in
+    let joined = c.draw_connectors.new.buffer in
+    let barred = c.draw_corners.new.buffer in
     let stemmed = c.draw_stems.new.buffer in
     let labelled = c.draw_labels.new.buffer in
-    let row = c.in_ok-row.row in
-    let stems = subst (λ ps. (from : ℕ) → All (λ (e : PlacedEntry). StandsFrom layout.code from e.entry) ps → DrawsFrom row from begun stemmed) c.deref-2.ensures.value c.in_ok-draw_stems.ensures.draws in
-    let no_stems = subst (λ ps. All (λ e. is_hung e ≡ false) ps → stemmed ≡ begun) c.deref-2.ensures.value c.in_ok-draw_stems.ensures.none in
-    let labels = subst (λ ps. (from : ℕ) → All (λ (e : PlacedEntry). StandsFrom layout.code from e.entry) ps → DrawsFrom row from stemmed labelled) c.deref-3.ensures.value c.in_ok-draw_labels.ensures.draws in
-    let stem_starts = subst (λ ps. MarksStarts layout.code ps begun stemmed) c.deref-2.ensures.value c.in_ok-draw_stems.ensures.starts in
-    let no_labels = subst (λ ps. All (λ e. has_label e ≡ false) ps → labelled ≡ stemmed) c.deref-3.ensures.value c.in_ok-draw_labels.ensures.none in
-    let lone = subst (λ ps. (e : PlacedEntry) → ps ≡ e ∷ [] → e.position ≡ 0 → has_label e ≡ true → labelled ≡ cells_written stemmed row (layout.code + e.entry.end.display + 1) (drawn (label_role e.entry.kind) (label_text e.entry))) c.deref-3.ensures.value c.in_ok-draw_labels.ensures.lone in
+    let new = c.draw_marks.new.buffer in
+    let below = c.in_ok-below.below in
+    let no_lines = subst (λ (ps : List PlacedEntry). All (λ (e : PlacedEntry). is_single e.entry ≡ true) ps → joined ≡ begun) c.deref-3.ensures.value c.in_ok-draw_connectors.ensures.none in
+    let no_bars = subst (λ (ps : List PlacedEntry). All (λ (e : PlacedEntry). is_single e.entry ≡ true) ps → barred ≡ joined) c.deref-4.ensures.value c.in_ok-draw_corners.ensures.none in
+    let stems = subst (λ ps. (from : ℕ) → All (λ (e : PlacedEntry). StandsFrom layout.code from e.entry) ps → DrawsFrom below from barred stemmed) c.deref-5.ensures.value c.in_ok-draw_stems.ensures.draws in
+    let no_stems = subst (λ ps. All (λ e. has_stem e ≡ false) ps → stemmed ≡ barred) c.deref-5.ensures.value c.in_ok-draw_stems.ensures.none in
+    let labels = subst (λ ps. (from : ℕ) → All (λ (e : PlacedEntry). StandsFrom layout.code from e.entry) ps → DrawsFrom below from stemmed labelled) c.deref-6.ensures.value c.in_ok-draw_labels.ensures.draws in
+    let stem_starts = subst (λ ps. MarksStarts layout.code ps barred stemmed) c.deref-5.ensures.value c.in_ok-draw_stems.ensures.starts in
+    let no_labels = subst (λ ps. All (λ e. has_label e ≡ false) ps → labelled ≡ stemmed) c.deref-6.ensures.value c.in_ok-draw_labels.ensures.none in
+    let lone = subst (λ ps. (e : PlacedEntry) → ps ≡ e ∷ [] → e.position ≡ 0 → 0 < e.entry.end.display → has_label e ≡ true → labelled ≡ cells_written stemmed below (layout.code + e.entry.end.display + 1) (drawn (label_role e.entry.kind) (label_text e.entry))) c.deref-6.ensures.value c.in_ok-draw_labels.ensures.lone in
+    let wide : wide_entries c.args.room layout.decor (map f c.deref-7.result.now) ≡ wide_entries c.args.room layout.decor es = ap (λ ps. wide_entries c.args.room layout.decor (map f ps)) c.deref-7.ensures.value ∙ wide_entries-permutation c.args.room layout.decor es (map f after) (IsPermutation-trans es (map f placed) (map f after) c.in_ok-placed.ensures.placed.same (IsPermutation-map f placed after c.in_ok-draw_marks.ensures.same)) in
     record {
-      added = on_ok_weaker c.draw_marks.result (λ marked. strokes_added layout c.args.closes es placed c.args.buffer.now begun stemmed labelled c.draw_marks.new.buffer row c.requires.place (shifted_columns c.args.dropped c.args.entries.now c.requires.columns c.requires.clear) c.in_ok-placed.ensures.placed c.in_ok-row.ensures.row begins stems no_stems labels stem_starts c.in_ok-draw_labels.ensures.starts no_labels lone marked some) c.draw_marks.ensures.marked;
+      added = on_ok_weaker c.cut_wide.result (λ cut above plain old_is bare_rails.
+          let long : length above + 1 ≡ length c.args.buffer.now = sym (ap length old_is ∙ length_push above plain) in
+          let source_row : c.args.row ≡ length above = omega (arith, long, c.requires.last) in
+          let marks_row : below ≡ length above + 1 = c.in_ok-below.ensures.row ∙ sym long in
+          let begins : begun ≡ (above ++ plain ∷ []) ++ replicate (row_count placed - 1) sep ++ end ∷ [] = c.in_ok-below.ensures.added ∙ ap (λ n. c.args.buffer.now ++ replicate (n - 1) sep ++ end ∷ []) count ∙ ap (λ old. old ++ replicate (row_count placed - 1) sep ++ end ∷ []) old_is in
+          strokes_drawn layout c.args.room c.args.closes es placed above plain begun joined barred stemmed labelled new c.requires.place c.in_ok-placed.ensures.placed bare_rails begins (subst (λ n. DrawsFrom n (layout.gutter + 3) begun joined) marks_row c.in_ok-draw_connectors.ensures.draws) c.in_ok-draw_connectors.ensures.rails no_lines (subst (λ n. DrawsRails layout n joined barred) source_row c.in_ok-draw_corners.ensures.draws) no_bars (subst (λ n. (from : ℕ) → All (λ (e : PlacedEntry). StandsFrom layout.code from e.entry) placed → DrawsFrom n from barred stemmed) marks_row stems) no_stems (subst (λ n. (from : ℕ) → All (λ (e : PlacedEntry). StandsFrom layout.code from e.entry) placed → DrawsFrom n from stemmed labelled) marks_row labels) stem_starts c.in_ok-draw_labels.ensures.starts no_labels (subst (λ n. (e : PlacedEntry) → placed ≡ e ∷ [] → e.position ≡ 0 → 0 < e.entry.end.display → has_label e ≡ true → labelled ≡ cells_written stemmed n (layout.code + e.entry.end.display + 1) (drawn (label_role e.entry.kind) (label_text e.entry))) marks_row lone) (subst (λ n. AreMarked layout placed n labelled new) marks_row c.in_ok-draw_marks.ensures.marked) c.cut_wide.new.buffer (wide_entries c.args.room layout.decor (map f c.deref-7.result.now)) some wide (λ up source marks rest same. cut up source marks rest (same ∙ sym source_row))) c.cut_wide.ensures.cut;
     }

@@ -1,0 +1,97 @@
+//! The lines that lead from the ends of spans of several lines to their bars.
+ghost use Rattle.std.specs.Prelude.{◌≡◌, ◌+◌, ◌^◌, ◌<◌, ◌≤◌, All, OnOk, length, true};
+ghost use Rattle.snippet_strokes.specs.Entries.{HasPlace, HasRail, is_single};
+ghost use Rattle.snippet_strokes.specs.Painting.{DrawsFrom, HasRows, KeepsRails};
+
+use crate::layout::Layout;
+use crate::positions::PlacedEntry;
+use crate::roles::is_primary;
+use snippet_parts::LineAnnotationType;
+use snippet_style::StyledBuffer;
+use std::alloc::AllocError;
+
+/// Draws the lines that lead from starts and ends of spans of several lines to their bars, each in the row of its position,
+/// the first of which is the row of the marks.
+///
+/// ```text
+///     1 |    X0 Y0
+///       |  __                      position 0: in the row of the marks, up to before the start's cell
+///       |   ____                   position 1: one row farther down
+/// ```
+///
+/// # Errors
+///
+/// There is no memory for the cells.
+pub(crate) fn draw_connectors(
+    buffer: &mut StyledBuffer,
+    layout: Layout,
+    row: usize,
+    placed: &[PlacedEntry],
+) -> Result<(), AllocError>
+    requires narrow { layout.code < 2 ^ 32 }
+    requires columns { All (λ e. HasPlace e.entry) placed.now }
+    requires rails { All (λ e. HasRail layout e.entry) placed.now }
+    requires small { length buffer.old ≤ 2 ^ 60 }
+    requires rows { All (HasRows row (length buffer.old)) placed.now }
+    ensures draws { OnOk result (DrawsFrom row (layout.gutter + 3) buffer.old buffer.new) }
+    ensures rails { OnOk result (KeepsRails layout buffer.old buffer.new) }
+    ensures none { OnOk result (All (λ e. is_single e.entry ≡ true) placed.now → buffer.new ≡ buffer.old) }
+{
+    for entry in placed {
+        draw_connector(buffer, layout, row, entry)?;
+    }
+    Ok(())
+}
+
+/// Draws the line from the bar of an entry to its start, if it is the start or the end of a span of several lines.
+fn draw_connector(
+    buffer: &mut StyledBuffer,
+    layout: Layout,
+    row: usize,
+    placed: &PlacedEntry,
+) -> Result<(), AllocError>
+    requires narrow { layout.code < 2 ^ 32 }
+    requires columns { HasPlace placed.now.entry }
+    requires rail { HasRail layout placed.now.entry }
+    requires small { length buffer.old ≤ 2 ^ 60 }
+    requires rows { HasRows row (length buffer.old) placed.now }
+    ensures draws { OnOk result (DrawsFrom row (layout.gutter + 3) buffer.old buffer.new) }
+    ensures rails { OnOk result (KeepsRails layout buffer.old buffer.new) }
+    ensures none { OnOk result (is_single placed.now.entry ≡ true → buffer.new ≡ buffer.old) }
+{
+    match placed.entry.annotation_type {
+        LineAnnotationType::MultilineStart(depth) | LineAnnotationType::MultilineEnd(depth) => {
+            draw_line_to(buffer, layout, row, depth, placed)
+        }
+        LineAnnotationType::Singleline | LineAnnotationType::MultilineLine(_) => Ok(()),
+    }
+}
+
+/// Draws the line from the bar of this depth to before the start of an entry.
+fn draw_line_to(
+    buffer: &mut StyledBuffer,
+    layout: Layout,
+    row: usize,
+    depth: usize,
+    placed: &PlacedEntry,
+) -> Result<(), AllocError>
+    requires narrow { layout.code < 2 ^ 32 }
+    requires columns { HasPlace placed.now.entry }
+    requires depth { layout.gutter + 3 + depth < layout.code }
+    requires small { length buffer.old ≤ 2 ^ 60 }
+    requires rows { HasRows row (length buffer.old) placed.now }
+    ensures draws { OnOk result (DrawsFrom row (layout.gutter + 3) buffer.old buffer.new) }
+    ensures rails { OnOk result (KeepsRails layout buffer.old buffer.new) }
+{
+    let strokes = layout.decor.underline(is_primary(placed.entry.kind));
+    let start = layout.code + placed.entry.start.display;
+    for cell in layout.gutter + 3 + depth..start {
+        buffer.putc(
+            row + placed.position,
+            cell,
+            strokes.multiline_horizontal,
+            strokes.style,
+        )?;
+    }
+    Ok(())
+}

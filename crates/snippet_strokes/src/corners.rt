@@ -1,0 +1,134 @@
+//! The bars of spans of several lines, beside the lines on which they begin and end.
+ghost use Rattle.std.specs.Prelude.{◌≡◌, ◌+◌, ◌^◌, ◌<◌, ◌≤◌, All, OnOk, length, true};
+ghost use Rattle.snippet_strokes.specs.Entries.{HasRail, is_single};
+ghost use Rattle.snippet_strokes.specs.Painting.{DrawsRails, HasRows};
+
+use crate::layout::Layout;
+use crate::positions::PlacedEntry;
+use crate::roles::is_primary;
+use snippet_parts::LineAnnotationType;
+use snippet_style::StyledBuffer;
+use std::alloc::AllocError;
+
+/// Draws the bars of the spans that begin or end on a line whose source row has this number, with the corners where their
+/// lines to the marks begin. The bar of a start leads from there down to the last row of the grid, that of an end from the
+/// source row down to there.
+///
+/// ```text
+///     1 |    X0 Y0              2 │ ┃  b)
+///       |  __^  -                │ ┗━━━┛
+///       | | ____|
+/// ```
+///
+/// # Errors
+///
+/// There is no memory for the cells.
+pub(crate) fn draw_corners(
+    buffer: &mut StyledBuffer,
+    layout: Layout,
+    row: usize,
+    placed: &[PlacedEntry],
+) -> Result<(), AllocError>
+    requires narrow { layout.code < 2 ^ 32 }
+    requires rails { All (λ e. HasRail layout e.entry) placed.now }
+    requires small { length buffer.old ≤ 2 ^ 60 }
+    requires rows { All (HasRows (row + 1) (length buffer.old)) placed.now }
+    ensures draws { OnOk result (DrawsRails layout row buffer.old buffer.new) }
+    ensures none { OnOk result (All (λ e. is_single e.entry ≡ true) placed.now → buffer.new ≡ buffer.old) }
+{
+    for entry in placed {
+        draw_corner(buffer, layout, row, entry)?;
+    }
+    Ok(())
+}
+
+/// Draws the bar of an entry, with its corner, if it is the start or the end of a span of several lines.
+fn draw_corner(
+    buffer: &mut StyledBuffer,
+    layout: Layout,
+    row: usize,
+    placed: &PlacedEntry,
+) -> Result<(), AllocError>
+    requires narrow { layout.code < 2 ^ 32 }
+    requires rail { HasRail layout placed.now.entry }
+    requires small { length buffer.old ≤ 2 ^ 60 }
+    requires rows { HasRows (row + 1) (length buffer.old) placed.now }
+    ensures draws { OnOk result (DrawsRails layout row buffer.old buffer.new) }
+    ensures none { OnOk result (is_single placed.now.entry ≡ true → buffer.new ≡ buffer.old) }
+{
+    match placed.entry.annotation_type {
+        LineAnnotationType::MultilineStart(depth) => draw_top(buffer, layout, row, depth, placed),
+        LineAnnotationType::MultilineEnd(depth) => draw_bottom(buffer, layout, row, depth, placed),
+        LineAnnotationType::Singleline | LineAnnotationType::MultilineLine(_) => Ok(()),
+    }
+}
+
+/// Draws the top of a start's bar: the corner in the row of its position, and the bar in all rows below it.
+fn draw_top(
+    buffer: &mut StyledBuffer,
+    layout: Layout,
+    row: usize,
+    depth: usize,
+    placed: &PlacedEntry,
+) -> Result<(), AllocError>
+    requires narrow { layout.code < 2 ^ 32 }
+    requires some { 0 < depth }
+    requires depth { layout.gutter + 3 + depth < layout.code }
+    requires small { length buffer.old ≤ 2 ^ 60 }
+    requires rows { HasRows (row + 1) (length buffer.old) placed.now }
+    ensures draws { OnOk result (DrawsRails layout row buffer.old buffer.new) }
+{
+    let strokes = layout.decor.underline(is_primary(placed.entry.kind));
+    let corner = row + 1 + placed.position;
+    let cell = layout.gutter + 2 + depth;
+    buffer.putc(corner, cell, strokes.top_left, strokes.style)?;
+    let end = buffer.num_lines();
+    draw_bar(buffer, layout, corner + 1, end, depth, placed)
+}
+
+/// Draws the bottom of an end's bar: the corner in the row of its position, and the bar in all rows from the source row down
+/// to it.
+fn draw_bottom(
+    buffer: &mut StyledBuffer,
+    layout: Layout,
+    row: usize,
+    depth: usize,
+    placed: &PlacedEntry,
+) -> Result<(), AllocError>
+    requires narrow { layout.code < 2 ^ 32 }
+    requires some { 0 < depth }
+    requires depth { layout.gutter + 3 + depth < layout.code }
+    requires small { length buffer.old ≤ 2 ^ 60 }
+    requires rows { HasRows (row + 1) (length buffer.old) placed.now }
+    ensures draws { OnOk result (DrawsRails layout row buffer.old buffer.new) }
+{
+    let strokes = layout.decor.underline(is_primary(placed.entry.kind));
+    let corner = row + 1 + placed.position;
+    let cell = layout.gutter + 2 + depth;
+    draw_bar(buffer, layout, row, corner, depth, placed)?;
+    buffer.putc(corner, cell, strokes.bottom_left, strokes.style)
+}
+
+/// Draws the bar of an entry at this depth in the rows from `start` to before `end`.
+fn draw_bar(
+    buffer: &mut StyledBuffer,
+    layout: Layout,
+    start: usize,
+    end: usize,
+    depth: usize,
+    placed: &PlacedEntry,
+) -> Result<(), AllocError>
+    requires narrow { layout.code < 2 ^ 32 }
+    requires some { 0 < depth }
+    requires depth { layout.gutter + 3 + depth < layout.code }
+    requires small { length buffer.old ≤ 2 ^ 60 }
+    requires rows { end ≤ length buffer.old }
+    ensures draws { OnOk result (DrawsRails layout start buffer.old buffer.new) }
+{
+    let strokes = layout.decor.underline(is_primary(placed.entry.kind));
+    let cell = layout.gutter + 2 + depth;
+    for row in start..end {
+        buffer.putc(row, cell, strokes.multiline_vertical, strokes.style)?;
+    }
+    Ok(())
+}
