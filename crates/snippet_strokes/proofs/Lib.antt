@@ -13,3 +13,7 @@ pub mod WholeLemmas
 pub mod SnippetLemmas
 pub mod PaintLemmas
 pub mod CutLemmas
+pub mod RailLemmas
+pub mod OpenLemmas
+pub mod ElisionLemmas
+pub mod WholeLineLemmas

@@ -97,11 +97,11 @@ led_before : (n c : ℕ) (cells : List Cell) → c < n → slice_index_or (repli
 led_before n c cells left =
     get_or_append_left (replicate n SPACE) cells SPACE c (omega (arith, length-replicate n SPACE, left)) ∙ get_or-replicate n c SPACE SPACE left
 
-length-led : (n : ℕ) (chs : List ℕ) → length (replicate n SPACE ++ drawn LineNumber chs) ≡ n + length chs
+pub length-led : (n : ℕ) (chs : List ℕ) → length (replicate n SPACE ++ drawn LineNumber chs) ≡ n + length chs
 length-led n chs =
     length-append (replicate n SPACE) (drawn LineNumber chs) ∙ ap (λ k. k + length (drawn LineNumber chs)) (length-replicate n SPACE) ∙ ap (λ k. n + k) (length-drawn LineNumber chs)
 
-free_led : (n : ℕ) (chs : List ℕ) → All (λ c. is_listed c ≡ false) chs → IsFree (replicate n SPACE ++ drawn LineNumber chs)
+pub free_led : (n : ℕ) (chs : List ℕ) → All (λ c. is_listed c ≡ false) chs → IsFree (replicate n SPACE ++ drawn LineNumber chs)
 free_led n chs free =
     let P : Cell → Type 0 = IsFreeCell in
     All-append P (replicate n SPACE) (drawn LineNumber chs) (All-replicate P n SPACE (refl, refl)) (free_drawn LineNumber chs free)

@@ -1,13 +1,17 @@
 -- The rows of lines, one after another.
-use Rattle.std.proofs.Common.{◌≡◌, ◌≢◌, ℕ, ◌+◌, ◌<◌, ◌≤◌, ◌^◌, ◌==◌, ◌&&◌, true, false, Bool, List, [], ◌∷◌, ◌++◌, length, map, take, get_or, refl, sym, ap, ◌∙◌, subst, arith, inl, inr, All, chars, zero, suc, drop}
+use Rattle.std.proofs.Common.{◌≡◌, ◌≢◌, ℕ, ◌+◌, ◌<◌, ◌≤◌, ◌^◌, ◌==◌, ◌&&◌, true, false, Bool, None, List, [], ◌∷◌, ◌++◌, length, map, get_or, refl, sym, ap, ◌∙◌, subst, arith, inl, inr, All, chars, zero, suc, drop}
+use Rattle.std.specs.Prelude.{filter, not}
+use Rattle.std.specs.List.{slice_index_or}
 use Rattle.std.specs.Char.{is_ascii_alphanumeric}
-use Rattle.std.proofs.lemmas.Bool.{cases_eq}
+use Rattle.std.proofs.lemmas.Bool.{cases_eq, cases_lt, false≢true}
 use Rattle.std.proofs.lemmas.Bool.Decides.{nat_tests}
-use Rattle.std.proofs.lemmas.List.{append_assoc, append-nil, take_more, take_all, length_push, length-drop, get_or_push, get_or_append_left, get_or-map, length-map, ext_get_or}
+use Rattle.std.proofs.lemmas.List.{append_assoc, append-nil, drop_all, drop_more, get_or_past, length_push, length-drop, get_or_push, get_or_append_left, get_or-map, length-map, ext_get_or}
 use Rattle.std.proofs.lemmas.List.Elements.{All-get_or, All-from_get_or, All-append, All-cons, All-nil, All-same}
 use Rattle.snippet_parts.specs.declared.entries.AnnotatedLineInfo.{AnnotatedLineInfo}
 use Rattle.snippet_parts.specs.declared.entries.LineAnnotation.{LineAnnotation}
-use Rattle.snippet_style.specs.Grid.{Cell, SPACE, row_at}
+use Rattle.snippet_style.specs.declared.role.ElementStyle.{ElementStyle}
+use Rattle.snippet_style.specs.declared.role.ElementStyle.TheVariants.{LineNumber}
+use Rattle.snippet_style.specs.Grid.{Cell, SPACE, gives_way, row_at, unlinked_cell}
 use Rattle.snippet_style.specs.Print.{row_text}
 use Rattle.snippet_text.specs.Normalized.{norm}
 use Rattle.snippet_strokes.specs.Painting.{IsFreeCell}
@@ -15,19 +19,22 @@ use Rattle.snippet_strokes.specs.declared.layout.Layout.{Layout}
 use Rattle.snippet_parts.specs.declared.margin.Margin.{Margin}
 use Rattle.snippet_parts.specs.Margin.{bounds_of}
 use Rattle.snippet_parts.specs.Window.{dropped_part, AreReplaced, IsWindowOf}
-use Rattle.snippet_style.specs.Glyphs.{placeholder_of}
+use Rattle.snippet_style.specs.Glyphs.{placeholder_of, separator_of}
 use Rattle.snippet_text.specs.Width.{width_of}
-use Rattle.snippet_strokes.specs.Entries.{shifted}
+use Rattle.snippet_parts.specs.Measures.{StandsClear, is_bar}
+use Rattle.snippet_strokes.specs.Entries.{are_plain, is_end_part, shifted}
+use Rattle.snippet_strokes.specs.Rails.{AddsGap, DrawsBars}
+use Rattle.snippet_strokes.proofs.RailLemmas.{AddsStrokes-drawn, rail_space}
 use Rattle.snippet_strokes.proofs.CellLemmas.{row_text-window_cells}
 use Rattle.snippet_strokes.proofs.WholeLemmas.{window_cells-whole}
-use Rattle.snippet_strokes.specs.Rows.{window_cells, shown_number, first_row, HasNoNumber, IsFree, IsSourceRow, IsStrokeRow, IsHighlighted, AddsSourceRow, AddsStrokes}
+use Rattle.snippet_strokes.specs.Rows.{window_cells, shown_number, first_row, HasNoNumber, IsFree, IsSourceRow, IsStrokeRow, HasNoBars, IsHighlighted, AddsSourceRow, AddsStrokes}
 use Rattle.snippet_strokes.proofs.RowLemmas.{bare_row_left, free_first_row}
-use Rattle.snippet_strokes.specs.Snippet.{ShowsLine, AreLinesShown, AddsLine, AddsSnippet}
+use Rattle.snippet_strokes.specs.Snippet.{ShowsLine, AreLinesShown, AddsLine, AddsSnippet, IsGap}
 
 -- a row of strokes holds no number, since spaces stand left of its separator
-no_number : (layout : Layout) (es : List LineAnnotation) (closes : Bool) → layout.gutter + 3 ≤ layout.code → (row : List Cell) → IsStrokeRow layout es closes row → HasNoNumber layout.gutter row
-no_number layout es closes place row is c left =
-    ap (λ (cell : Cell). is_ascii_alphanumeric cell.ch) (is.left c layout.code (omega arith) (λ k d within. omega arith) ∙ bare_row_left layout.decor layout.gutter closes c left)
+no_number : (layout : Layout) (plain : Bool) (es : List LineAnnotation) (closes : Bool) (row : List Cell) → IsStrokeRow layout plain es closes row → HasNoNumber layout.gutter row
+no_number layout plain es closes row is c left =
+    ap (λ (cell : Cell). is_ascii_alphanumeric cell.ch) (is.left c (omega (arith, left)) ∙ bare_row_left layout.decor layout.gutter closes c left)
 
 -- a grid of which only the last row changed
 last_changed : (old begun new : List (List Cell)) (row : ℕ) (first : List Cell) → row ≡ length old → begun ≡ old ++ first ∷ [] → length new ≡ length begun → ((r : ℕ) → r ≢ row → row_at new r ≡ row_at begun r) → new ≡ old ++ row_at new row ∷ []
@@ -69,21 +76,72 @@ highlighted_text code dropped es plain row is =
     let there : k < length plain = omega (arith, here, is.width) in
     get_or-map f row k SPACE 32 here ∙ ap f (is.cells k there) ∙ sym (get_or-map f plain k SPACE 32 there))
 
--- a source row, what its entries highlight, and the strokes below it show a line
-pub line_added : (layout : Layout) (margin : Margin) (numbered closes : Bool) (info : AnnotatedLineInfo) (dropped : ℕ) (old mid high new : List (List Cell)) (row : ℕ) → layout.gutter + 3 ≤ layout.code → AddsSourceRow layout (shown_number numbered layout.gutter info.line_index) (window_cells layout.decor margin (norm (chars info.line.now))) old mid → row ≡ length old → dropped ≡ width_of (dropped_part (bounds_of margin).left (norm (chars info.line.now))) → IsHighlighted layout.code dropped info.annotations.items (row_at mid row) (row_at high row) → ((r : ℕ) → r ≢ row → row_at high r ≡ row_at mid r) → length high ≡ length mid → AddsStrokes layout (map (shifted dropped) info.annotations.items) closes high new → AddsLine layout margin numbered closes info old new
-line_added layout margin numbered closes info dropped old mid high new row place source last dropped_is highlights others count strokes =
-    let es = info.annotations.items in
+-- a cell in the role of line numbers is no space
+not_space : (role : ElementStyle) → gives_way role ≡ false → (ch : ℕ) → unlinked_cell role ch ≡ SPACE → ⊥
+not_space role keeps ch same =
+    false≢true (sym keeps ∙ ap (λ (cell : Cell). gives_way cell.role) same)
+
+-- the source row of a line reaches to the separator, and spaces stand in the place of bars
+source_row_long : (layout : Layout) (shown : List ℕ) (cells row : List Cell) → IsSourceRow layout shown cells row → layout.gutter + 2 ≤ length row
+source_row_long layout shown cells row is =
+    elim (cases_lt (layout.gutter + 1) (length row)) [
+      | inl reaches ↦ omega (arith, reaches)
+      | inr short ↦ absurd (not_space LineNumber refl (separator_of layout.decor) (sym is.separator ∙ get_or_past row (layout.gutter + 1) SPACE short))
+    ]
+
+-- highlighting changes roles alone
+highlighted_cell : (code dropped : ℕ) (es : List LineAnnotation) (plain row : List Cell) → IsHighlighted code dropped es plain row → (c : ℕ) → slice_index_or plain c SPACE ≡ SPACE → ((slice_index_or row c SPACE).ch ≡ 32) × ((slice_index_or row c SPACE).link ≡ None)
+highlighted_cell code dropped es plain row is c space =
+    elim (cases_lt c (length plain)) [
+      | inl inside ↦ (
+        ap (λ (cell : Cell). cell.ch) (is.cells c inside) ∙ ap (λ (cell : Cell). cell.ch) space,
+        ap (λ (cell : Cell). cell.link) (is.cells c inside) ∙ ap (λ (cell : Cell). cell.link) space,
+      )
+      | inr past ↦
+          let outside : slice_index_or row c SPACE ≡ SPACE = get_or_past row c SPACE (omega (arith, past, is.width)) in (
+            ap (λ (cell : Cell). cell.ch) outside,
+            ap (λ (cell : Cell). cell.link) outside,
+          )
+    ]
+
+no_bars : (layout : Layout) (shown : List ℕ) (cells : List Cell) (dropped : ℕ) (es : List LineAnnotation) (plain row : List Cell) → IsSourceRow layout shown cells plain → length shown ≤ layout.gutter + 1 → IsHighlighted layout.code dropped es plain row → HasNoBars layout row
+no_bars layout shown cells dropped es plain row source short is = (
+  omega (arith, is.width, source_row_long layout shown cells plain source),
+  λ c from to.
+      let cell = highlighted_cell layout.code dropped es plain row is c (source.blank c (omega (arith, short, from)) (λ same. omega (arith, same, from)) to) in
+      rail_space layout.decor (slice_index_or row c SPACE) cell.0 cell.1,
+)
+
+-- entries that stand behind the padding stand behind the columns that are dropped
+pub clear_entries : (margin : Margin) (dropped : ℕ) (es : List LineAnnotation) → All (StandsClear margin) es → dropped < (bounds_of margin).left + 4 → ((bounds_of margin).left ≡ 0 → dropped ≡ 0) → All (λ e. is_bar e.annotation_type ≡ false → dropped ≤ e.start.display) es
+clear_entries margin dropped es all near uncut k d within columns =
+    elim (cases_lt 0 (bounds_of margin).left) [
+      | inl cut ↦ omega (arith, all k d within columns cut, near)
+      | inr whole ↦ omega (arith, uncut (omega (arith, whole)))
+    ]
+
+-- a source row, what its entries highlight, the strokes below and beside it, and the bars that run past show a line
+pub line_added : (layout : Layout) (margin : Margin) (numbered closes : Bool) (info : AnnotatedLineInfo) (dropped : ℕ) (old mid high done new : List (List Cell)) (row : ℕ) → length (shown_number numbered layout.gutter info.line_index) ≤ layout.gutter + 1 → AddsSourceRow layout (shown_number numbered layout.gutter info.line_index) (window_cells layout.decor margin (norm (chars info.line.now))) old mid → row ≡ length old → dropped ≡ width_of (dropped_part (bounds_of margin).left (norm (chars info.line.now))) → All (λ e. is_bar e.annotation_type ≡ false → dropped ≤ e.start.display) info.annotations.items → IsHighlighted layout.code dropped (filter (λ e. not (is_end_part e.annotation_type)) info.annotations.items) (row_at mid row) (row_at high row) → ((r : ℕ) → r ≢ row → row_at high r ≡ row_at mid r) → length high ≡ length mid → ((above : List (List Cell)) (plain : List Cell) → high ≡ above ++ plain ∷ [] → HasNoBars layout plain → AddsStrokes layout margin.term_width (map (shifted dropped) info.annotations.items) closes above plain done) → DrawsBars layout row done new → AddsLine layout margin numbered closes info old new
+line_added layout margin numbered closes info dropped old mid high done new row short source last dropped_is clear highlights others count strokes draws =
+    let shown = shown_number numbered layout.gutter info.line_index in
     let text = norm (chars info.line.now) in
-    let below = strokes.rows in
+    let cells = window_cells layout.decor margin text in
+    let es = filter (λ (e : LineAnnotation). not (is_end_part e.annotation_type)) info.annotations.items in
+    let entries = map (shifted dropped) info.annotations.items in
+    let bright = row_at high row in
     let first : row_at mid row ≡ source.row = row_added old mid source.row row last source.added in
-    let is : IsHighlighted layout.code dropped es source.row (row_at high row) = subst (λ plain. IsHighlighted layout.code dropped es plain (row_at high row)) first highlights in
-    let top : high ≡ old ++ row_at high row ∷ [] = last_changed old mid high row source.row last source.added count others in
-    let free_below : All IsFree below = All-from_get_or IsFree below [] (λ k within. (strokes.are.are k within).free) in
+    let is : IsHighlighted layout.code dropped es source.row bright = subst (λ plain. IsHighlighted layout.code dropped es plain bright) first highlights in
+    let top : high ≡ old ++ bright ∷ [] = last_changed old mid high row source.row last source.added count others in
+    let bare : HasNoBars layout bright = no_bars layout shown cells dropped es source.row bright source.is short is in
+    let adds : AddsStrokes layout margin.term_width entries closes old bright new = AddsStrokes-drawn layout margin.term_width entries closes old bright done new row last bare.0 (strokes old bright top bare) draws in
+    let below = adds.rows in
+    let plain : Bool = are_plain margin.term_width layout.decor entries in
+    let free_below : All IsFree below = All-from_get_or IsFree below [] (λ k within. (adds.are.are k within).free) in
     record {
-      rows = row_at high row ∷ below;
-      added = strokes.added ∙ ap (λ rows. rows ++ below) top ∙ append_assoc old (row_at high row ∷ []) below;
+      rows = adds.source ∷ below;
+      added = adds.added;
       shown = record {
-        source = row_at high row;
+        source = adds.source;
         below = below;
         rows_are = refl;
         plain = source.row;
@@ -92,82 +150,76 @@ line_added layout margin numbered closes info dropped old mid high new row place
         whole = λ uncut fits. source.is.shows.code ∙ window_cells-whole layout.decor margin text uncut fits;
         dropped = dropped;
         dropped_is = dropped_is;
-        highlighted = is;
-        strokes = strokes.are;
-        unnumbered = All-from_get_or (HasNoNumber layout.gutter) below [] (λ k within. no_number layout (map (shifted dropped) es) (closes && k + 1 == length below) place (row_at below k) (strokes.are.are k within));
-        free = All-cons IsFree (row_at high row) below (highlighted_free layout.code dropped es source.row (row_at high row) is source.is.free) free_below;
+        clear = clear;
+        highlighted = bright;
+        highlights = is;
+        beside = adds.beside;
+        strokes = adds.are;
+        unnumbered = All-from_get_or (HasNoNumber layout.gutter) below [] (λ k within. no_number layout plain entries (closes && k + 1 == length below) (row_at below k) (adds.are.are k within));
+        free = All-cons IsFree adds.source below (adds.beside.free (highlighted_free layout.code dropped es source.row bright is source.is.free)) free_below;
       };
     }
 
--- what some lines add: rows that show them
-pub record AddsLines (layout : Layout) (margin : Margin) (numbered closes : Bool) (infos : List AnnotatedLineInfo) (old new : List (List Cell)) : Type 0 where
+-- the lines before one of a number were drawn: with rows that show the others they show all
+pub record AddsLines (layout : Layout) (margin : Margin) (numbered closes : Bool) (infos : List AnnotatedLineInfo) (i : ℕ) (old new : List (List Cell)) : Type 0 where
   pub rows : List (List Cell)
   pub added : new ≡ old ++ rows
-  pub shown : AreLinesShown layout margin numbered closes infos rows
-
-not_zero : (n : ℕ) → 0 < n → (n == 0) ≡ false
-not_zero n some = grind (arith, nat_tests, some)
-
-not_equal : (i n : ℕ) → i < n → (i == n) ≡ false
-not_equal i n less = grind (arith, nat_tests, less)
+  pub shown : (rest : List (List Cell)) → AreLinesShown layout margin numbered closes (drop i infos) rest → AreLinesShown layout margin numbered closes infos (rows ++ rest)
 
 -- no line is drawn yet
-pub AddsLines-none : (layout : Layout) (margin : Margin) (numbered closes : Bool) (rows : List (List Cell)) → AddsLines layout margin numbered closes [] rows rows
-AddsLines-none layout margin numbered closes rows = record { rows = []; added = sym (append-nil rows); shown = refl }
+pub AddsLines-none : (layout : Layout) (margin : Margin) (numbered closes : Bool) (infos : List AnnotatedLineInfo) (rows : List (List Cell)) → AddsLines layout margin numbered closes infos 0 rows rows
+AddsLines-none layout margin numbered closes infos rows =
+    record { rows = []; added = sym (append-nil rows); shown = λ rest shows. shows }
 
--- one more line is shown, with which the window may close
-pub AreLinesShown-push : (layout : Layout) (margin : Margin) (numbered closes : Bool) (infos : List AnnotatedLineInfo) (info : AnnotatedLineInfo) (rows more : List (List Cell)) → AreLinesShown layout margin numbered false infos rows → ShowsLine layout margin numbered closes info more → AreLinesShown layout margin numbered closes (infos ++ info ∷ []) (rows ++ more)
-AreLinesShown-push layout margin numbered closes [] info rows more none shows =
-    (more, [], ap (λ rs. rs ++ more) none ∙ sym (append-nil more), subst (λ b. ShowsLine layout margin numbered b info more) (sym (and_true closes)) shows, refl)
-  where
-    and_true : (b : Bool) → (b && true) ≡ b
-    and_true true = refl
-    and_true false = refl
-AreLinesShown-push layout margin numbered closes (first ∷ infos) info rows more shown shows =
-    (shown.0, shown.1 ++ more, ap (λ rs. rs ++ more) shown.2 ∙ append_assoc shown.0 shown.1 more, subst (λ b. ShowsLine layout margin numbered b first shown.0) (sym (not_last closes)) shown.3, AreLinesShown-push layout margin numbered closes infos info shown.1 more shown.4 shows)
-  where
-    some : (n : ℕ) → 0 < n → (n == 0) ≡ false
-    some n more = not_zero n more
+-- the window closes with the last line
+last_closes : (closes : Bool) (infos : List AnnotatedLineInfo) (i : ℕ) → i < length infos → (closes && i + 1 == length infos) ≡ (closes && length (drop (i + 1) infos) == 0)
+last_closes true infos i within =
+    grind (arith, nat_tests, length-drop (i + 1) infos, within)
+last_closes false infos i within = refl
 
-    not_last : (b : Bool) → (b && length (infos ++ info ∷ []) == 0) ≡ false
-    not_last true = some (length (infos ++ info ∷ [])) (omega (arith, length_push infos info))
-    not_last false = refl
-
--- the line that stands next is drawn; the window may close with the last
-pub AddsLines-next : (layout : Layout) (margin : Margin) (numbered closes : Bool) (infos : List AnnotatedLineInfo) (i : ℕ) (info : AnnotatedLineInfo) (old mid new : List (List Cell)) → i < length infos → info ≡ get_or infos i info → AddsLines layout margin numbered (closes && i == length infos) (take i infos) old mid → AddsLine layout margin numbered (closes && i + 1 == length infos) info mid new → AddsLines layout margin numbered (closes && i + 1 == length infos) (take (i + 1) infos) old new
-AddsLines-next layout margin numbered closes infos i info old mid new within is done line =
-    let next : take (i + 1) infos ≡ take i infos ++ info ∷ [] = take_more infos i info within ∙ ap (λ x. take i infos ++ x ∷ []) (sym is) in
-    let closes_here : Bool = closes && i + 1 == length infos in
-    let before : AreLinesShown layout margin numbered false (take i infos) done.rows = subst (λ b. AreLinesShown layout margin numbered b (take i infos) done.rows) (not_yet closes) done.shown in
+-- the line that stands next is drawn, and the row for lines that are left out behind it
+pub AddsLines-next : (layout : Layout) (margin : Margin) (numbered closes : Bool) (infos : List AnnotatedLineInfo) (i : ℕ) (info : AnnotatedLineInfo) (old before mid new : List (List Cell)) → i < length infos → info ≡ get_or infos i info → AddsLines layout margin numbered closes infos i old before → AddsLine layout margin numbered (closes && i + 1 == length infos) info before mid → AddsGap layout info.line_index (drop (i + 1) infos) mid new → AddsLines layout margin numbered closes infos (i + 1) old new
+AddsLines-next layout margin numbered closes infos i info old before mid new within is done line gap =
+    let later = drop (i + 1) infos in
+    let next : drop i infos ≡ info ∷ later = drop_more infos i info within ∙ ap (λ x. x ∷ later) (sym is) in
+    let shows : ShowsLine layout margin numbered (closes && length later == 0) info line.rows = subst (λ b. ShowsLine layout margin numbered b info line.rows) (last_closes closes infos i within) line.shown in
+    let first = line.rows in
+    let between = gap.rows in
     record {
-      rows = done.rows ++ line.rows;
-      added = line.added ∙ ap (λ rows. rows ++ line.rows) done.added ∙ append_assoc old done.rows line.rows;
-      shown = subst (λ xs. AreLinesShown layout margin numbered closes_here xs (done.rows ++ line.rows)) (sym next) (AreLinesShown-push layout margin numbered closes_here (take i infos) info done.rows line.rows before line.shown);
+      rows = done.rows ++ first ++ between;
+      added = gap.added ∙ ap (λ rs. rs ++ between) (line.added ∙ ap (λ rs. rs ++ first) done.added) ∙ regroup old done.rows first between;
+      shown = λ rest shown.
+          let all : AreLinesShown layout margin numbered closes (info ∷ later) (first ++ between ++ rest) = (first, between, rest, refl, shows, gap.is, shown) in
+          let whole : AreLinesShown layout margin numbered closes infos (done.rows ++ (first ++ between ++ rest)) = done.shown (first ++ between ++ rest) (subst (λ xs. AreLinesShown layout margin numbered closes xs (first ++ between ++ rest)) (sym next) all) in
+          subst (λ rs. AreLinesShown layout margin numbered closes infos rs) (sym (regroup done.rows first between rest)) whole;
     }
   where
-    not_yet : (b : Bool) → (b && i == length infos) ≡ false
-    not_yet true = not_equal i (length infos) within
-    not_yet false = refl
+    regroup : (a b c d : List (List Cell)) → ((a ++ b) ++ c) ++ d ≡ a ++ ((b ++ c) ++ d)
+    regroup a b c d = ap (λ rs. rs ++ d) (append_assoc a b c) ∙ append_assoc a (b ++ c) d
 
 -- the row that a snippet begins with and all lines are drawn
-pub AddsSnippet-from_lines : (layout : Layout) (margin : Margin) (numbered first closes : Bool) (infos : List AnnotatedLineInfo) (i : ℕ) (old begun new : List (List Cell)) → i ≡ length infos → begun ≡ old ++ first_row layout.decor first layout.gutter ∷ [] → AddsLines layout margin numbered (closes && i == length infos) (take i infos) begun new → AddsSnippet layout margin numbered first closes infos old new
+pub AddsSnippet-from_lines : (layout : Layout) (margin : Margin) (numbered first closes : Bool) (infos : List AnnotatedLineInfo) (i : ℕ) (old begun new : List (List Cell)) → i ≡ length infos → begun ≡ old ++ first_row layout.decor first layout.gutter ∷ [] → AddsLines layout margin numbered closes infos i begun new → AddsSnippet layout margin numbered first closes infos old new
 AddsSnippet-from_lines layout margin numbered first closes infos i old begun new all begins done =
-    let ends : AreLinesShown layout margin numbered closes (take i infos) done.rows = subst (λ b. AreLinesShown layout margin numbered b (take i infos) done.rows) (at_end closes) done.shown in
+    let none : drop i infos ≡ [] = drop_all i infos (omega (arith, all)) in
+    let shown : AreLinesShown layout margin numbered closes infos (done.rows ++ []) = done.shown [] (subst (λ xs. AreLinesShown layout margin numbered closes xs []) (sym none) refl) in
     record {
       rows = done.rows;
       added = done.added ∙ ap (λ rows. rows ++ done.rows) begins ∙ append_assoc old (first_row layout.decor first layout.gutter ∷ []) done.rows;
-      shown = subst (λ xs. AreLinesShown layout margin numbered closes xs done.rows) (take_all i infos (omega (arith, all))) ends;
+      shown = subst (λ rs. AreLinesShown layout margin numbered closes infos rs) (append-nil done.rows) shown;
     }
-  where
-    at_end : (b : Bool) → (b && i == length infos) ≡ b
-    at_end true = grind (arith, nat_tests, all)
-    at_end false = refl
+
+-- the row for lines that are left out holds no listed character
+free_gap : (layout : Layout) (number : ℕ) (infos : List AnnotatedLineInfo) (rows : List (List Cell)) → IsGap layout number infos rows → All IsFree rows
+free_gap layout number [] rows none = All-same IsFree rows [] none (All-nil IsFree)
+free_gap layout number (next ∷ infos) rows (inl gap) =
+    All-same IsFree rows (gap.1 ∷ []) gap.2 (All-cons IsFree gap.1 [] gap.3.free (All-nil IsFree))
+free_gap layout number (next ∷ infos) rows (inr near) = All-same IsFree rows [] near.1 (All-nil IsFree)
 
 -- no row of the lines holds a listed character
 pub free_from_AreLinesShown : (layout : Layout) (margin : Margin) (numbered closes : Bool) (infos : List AnnotatedLineInfo) (rows : List (List Cell)) → AreLinesShown layout margin numbered closes infos rows → All IsFree rows
 free_from_AreLinesShown layout margin numbered closes [] rows none = All-same IsFree rows [] none (All-nil IsFree)
 free_from_AreLinesShown layout margin numbered closes (info ∷ infos) rows shown =
-    All-same IsFree rows (shown.0 ++ shown.1) shown.2 (All-append IsFree shown.0 shown.1 shown.3.free (free_from_AreLinesShown layout margin numbered closes infos shown.1 shown.4))
+    All-same IsFree rows (shown.0 ++ shown.1 ++ shown.2) shown.3 (All-append IsFree (shown.0 ++ shown.1) shown.2 (All-append IsFree shown.0 shown.1 shown.4.free (free_gap layout info.line_index infos shown.1 shown.5)) (free_from_AreLinesShown layout margin numbered closes infos shown.2 shown.6))
 
 -- no row that a snippet adds holds a listed character
 pub free_from_AddsSnippet : (layout : Layout) (margin : Margin) (numbered first closes : Bool) (infos : List AnnotatedLineInfo) (old new : List (List Cell)) → (adds : AddsSnippet layout margin numbered first closes infos old new) → All IsFree (first_row layout.decor first layout.gutter ∷ adds.rows)

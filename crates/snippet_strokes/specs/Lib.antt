@@ -3,3 +3,4 @@ pub mod Positions
 pub mod Painting
 pub mod Rows
 pub mod Snippet
+pub mod Rails

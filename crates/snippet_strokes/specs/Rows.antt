@@ -121,7 +121,7 @@ pub record IsStrokeRow (layout : Layout) (plain : Bool) (es : List LineAnnotatio
 -- plain line that has some, first that of its marks, which is the only one where the line has one entry, or no label that
 -- shows anything. It is with the last row that the window closes
 pub record AreStrokes (layout : Layout) (room : ℕ) (es : List LineAnnotation) (closes : Bool) (rows : List (List Cell)) : Type 0 where
-  pub none : es ≡ [] → rows ≡ (if closes then closing_row layout.decor layout.gutter ∷ [] else [])
+  pub none : es ≡ [] → length rows ≡ (if closes then 1 else 0)
   pub some : are_plain room layout.decor es ≡ true → 0 < length es → 0 < length rows
   pub lone : are_plain room layout.decor es ≡ true → length es ≡ 1 → length rows ≡ 1
   pub bare : are_plain room layout.decor es ≡ true → All (λ e. label_text e ≡ []) es → length rows ≤ 1
@@ -154,10 +154,10 @@ pub record IsBeside (layout : Layout) (wide : ℕ) (plain row : List Cell) : Typ
   pub uncut : wide ≡ 0 → drop layout.code row ≡ drop layout.code plain
   pub free : IsFree plain → IsFree row
 
--- a source row that is drawn, but for its bars: spaces stand in their place
+-- a source row that is drawn, but for its bars: spaces stand in their place, of whatever role
 abbrev pub HasNoBars : Layout → List Cell → Type 0
 HasNoBars layout row =
-    (layout.gutter + 2 ≤ length row) × ((c : ℕ) → layout.gutter + 3 ≤ c → c < layout.code → slice_index_or row c SPACE ≡ SPACE)
+    (layout.gutter + 2 ≤ length row) × ((c : ℕ) → layout.gutter + 3 ≤ c → c < layout.code → IsRailCell layout.decor (slice_index_or row c SPACE))
 
 -- one source row was added below the rows that are there
 pub record AddsSourceRow (layout : Layout) (shown : List ℕ) (cells : List Cell) (old new : List (List Cell)) : Type 0 where

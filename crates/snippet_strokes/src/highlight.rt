@@ -1,16 +1,17 @@
 //! The parts of the source that are coloured as their marks are.
-ghost use Rattle.std.specs.Prelude.{◌≡◌, ◌≢◌, ◌^◌, ◌<◌, OnOk, length, ℕ};
+ghost use Rattle.std.specs.Prelude.{◌≡◌, ◌≢◌, ◌^◌, ◌<◌, OnOk, filter, length, not, ℕ};
+ghost use Rattle.snippet_strokes.specs.Entries as spec;
 ghost use Rattle.snippet_style.specs.Grid.{row_at};
 ghost use Rattle.snippet_strokes.specs.Rows.{IsHighlighted, Restyled};
 
 use crate::layout::Layout;
 use crate::roles::is_primary;
-use snippet_parts::LineAnnotation;
+use snippet_parts::{LineAnnotation, LineAnnotationType};
 use snippet_style::StyledBuffer;
 use std::alloc::AllocError;
 
 /// Gives the characters of a source row, of which so many columns are dropped on the left, that entries ask to highlight the
-/// role of these entries' marks, primary ones over those for context.
+/// role of these entries' marks, primary ones over those for context. Starts and ends of spans of several lines ask for nothing.
 ///
 /// # Errors
 ///
@@ -25,16 +26,27 @@ pub(crate) fn highlight_source(
     requires narrow { layout.code < 2 ^ 32 }
     requires short { length (row_at buffer.old row) < 2 ^ 62 }
     requires near { dropped < 2 ^ 62 }
-    ensures highlighted { OnOk result (IsHighlighted layout.code dropped entries.now (row_at buffer.old row) (row_at buffer.new row)) }
+    ensures highlighted { OnOk result (IsHighlighted layout.code dropped
+        (filter (λ e. not (spec.is_end_part e.annotation_type)) entries.now) (row_at buffer.old row) (row_at buffer.new row)) }
     ensures others { OnOk result ((r : ℕ) → r ≢ row → row_at buffer.new r ≡ row_at buffer.old r) }
     ensures count { OnOk result (length buffer.new ≡ length buffer.old) }
 {
     for entry in entries {
-        if entry.highlight_source {
+        if entry.highlight_source && !is_end_part(entry.annotation_type) {
             highlight_entry(buffer, layout, dropped, row, entry)?;
         }
     }
     Ok(())
+}
+
+/// Whether an entry stands for the start or the end of a span of several lines.
+fn is_end_part(part: LineAnnotationType) -> bool
+    ensures value { result ≡ spec.is_end_part part }
+{
+    matches!(
+        part,
+        LineAnnotationType::MultilineStart(_) | LineAnnotationType::MultilineEnd(_)
+    )
 }
 
 /// Gives the characters of an entry the role of its mark.

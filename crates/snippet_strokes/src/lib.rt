@@ -4,18 +4,21 @@
 mod connectors;
 mod corners;
 mod cuts;
+mod elision;
 mod highlight;
 mod labels;
 pub mod layout;
 mod marks;
 mod number;
 mod positions;
+mod rails;
 mod roles;
 mod row;
 mod snippet;
 mod source_row;
 mod stems;
 mod strokes;
+mod whole_line;
 
 pub use layout::Layout;
 pub use number::gutter_width;

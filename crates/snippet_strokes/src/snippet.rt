@@ -1,15 +1,20 @@
 //! The rows of a snippet: the row that it begins with, and the rows of each line that is shown.
-ghost use Rattle.std.specs.Prelude.{◌+◌, ◌^◌, ◌<◌, ◌≤◌, All, IfSome, OnOk, length};
-ghost use Rattle.snippet_parts.specs.Measures.{StandsClear};
-ghost use Rattle.snippet_strokes.specs.Entries.{HasPlace, HasRail};
-ghost use Rattle.snippet_strokes.specs.Rows.{shown_number};
+ghost use Rattle.std.specs.Prelude.{◌≡◌, ◌+◌, ◌^◌, ◌<◌, ◌≤◌, ◌++◌, ◌∷◌, [], false, List, All, IfOk, IfSome, OnOk, length, map};
+ghost use Rattle.snippet_parts.specs.Measures.{StandsClear, is_bar};
+ghost use Rattle.snippet_strokes.specs.Entries.{HasPlace, HasRail, shifted};
+ghost use Rattle.snippet_strokes.specs.Rails.{HasRoom, ends_of_bars, open_below};
+ghost use Rattle.snippet_strokes.specs.Rows.{AddsStrokes, HasNoBars, shown_number};
+ghost use Rattle.snippet_style.specs.Grid.{Cell};
 ghost use Rattle.snippet_strokes.specs.Snippet.{AddsLine, AddsSnippet};
 
+use crate::elision::draw_gap;
 use crate::highlight::highlight_source;
 use crate::layout::Layout;
+use crate::rails::{OpenBar, RailStroke, bars_apart, draw_bars, ends_on};
 use crate::row::begin_first_row;
 use crate::source_row::draw_source_row;
 use crate::strokes::draw_strokes;
+use crate::whole_line::is_whole_line;
 use snippet_parts::{AnnotatedLineInfo, Margin};
 use snippet_style::StyledBuffer;
 use std::alloc::{AllocError, Global};
@@ -24,13 +29,18 @@ use std::alloc::{AllocError, Global};
 ///       |     ^                  │     ━
 ///     2 | let y = x;           2 │ let y = x;
 ///       |                        ╰╴
+///
+///     3 | /   fn f() {         3 │ ┏   fn f() {
+///   ...   |                      ┆ ┇
+///     9 | |       x            9 │ ┃       x
 /// ```
 ///
 /// Of each line the part between the bounds of the margin is shown, and its strokes are drawn as far left as columns of the
 /// line are dropped. No entry may stand left of the padding of the left bound.
 ///
-/// Where lines aren't numbered, spaces stand in place of the numbers. A line with no entries has no strokes. Each entry is
-/// drawn as one that begins and ends on its line.
+/// Where lines aren't numbered, spaces stand in place of the numbers. A line with no entries has no strokes. Bars run beside
+/// the rows from the line on which a span of several lines starts to the one on which it ends. Where lines between two of
+/// these are left out, a row stands for them.
 ///
 /// # Errors
 ///
@@ -57,14 +67,21 @@ pub fn draw_snippet(
     ensures added { OnOk result (AddsSnippet layout margin numbered first closes infos.now buffer.old buffer.new) }
 {
     begin_first_row(buffer, layout, first)?;
+    let mut open_bars = Vec::new(alloc);
     for i in 0..infos.len() {
         let closes = closes && i + 1 == infos.len();
-        draw_line(alloc, buffer, layout, margin, numbered, closes, &infos[i])?;
+        let info = &infos[i];
+        open_bars = draw_line(
+            alloc, buffer, layout, margin, numbered, closes, info, &open_bars,
+        )?;
+        let behind = &infos[i + 1..];
+        draw_gap(buffer, layout, info.line_index, behind, &open_bars)?;
     }
     Ok(())
 }
 
-/// Draws the rows of a line below all that stands in the grid. The window may close with it.
+/// Draws the rows of a line below all that stands in the grid, with the bars that are open above it and stay so, and gives
+/// those that are open below it. The window may close with it.
 ///
 /// ```text
 ///     1 | let x = 1;
@@ -78,7 +95,8 @@ fn draw_line(
     numbered: bool,
     closes: bool,
     info: &AnnotatedLineInfo,
-) -> Result<(), AllocError>
+    open_bars: &[OpenBar],
+) -> Result<Vec<OpenBar>, AllocError>
     requires place { layout.gutter + 3 ≤ layout.code }
     requires narrow { layout.code < 2 ^ 32 }
     requires number { length (shown_number numbered layout.gutter info.now.line_index) ≤ layout.gutter + 1 }
@@ -87,11 +105,14 @@ fn draw_line(
     requires clear { All (StandsClear margin) info.now.annotations.items }
     requires rails { All (HasRail layout) info.now.annotations.items }
     requires labels { All (λ e. IfSome e.label (λ t. length t.now < 2 ^ 56)) info.now.annotations.items }
+    requires room { All (HasRoom layout) open_bars.now }
     ensures added { OnOk result (AddsLine layout margin numbered closes info.now buffer.old buffer.new) }
+    ensures bars { IfOk result (λ bars. bars.items ≡ open_below open_bars.now info.now.annotations.items) }
 {
     let (row, dropped) = draw_source_row(alloc, buffer, layout, numbered, margin, info)?;
     highlight_source(buffer, layout, dropped, row, &info.annotations)?;
-    draw_strokes(
+    let ends = ends_on(alloc, &info.annotations)?;
+    draw_entries(
         alloc,
         buffer,
         layout,
@@ -99,6 +120,51 @@ fn draw_line(
         closes,
         dropped,
         margin.term_width,
+        info,
+        &ends,
+    )?;
+    let mut below = bars_apart(alloc, open_bars, &ends)?;
+    draw_bars(buffer, layout, row, &below, RailStroke::Solid)?;
+    below.extend_from_slice(&bars_apart(alloc, &ends, open_bars)?)?;
+    Ok(below)
+}
+
+/// Draws the strokes of a line, of which so many columns are dropped on the left, where these bars start or end on it. Its
+/// source row is the last row of the grid. A line that is marked as a whole has no strokes but the tops of its bars.
+fn draw_entries(
+    alloc: Global,
+    buffer: &mut StyledBuffer,
+    layout: Layout,
+    row: usize,
+    closes: bool,
+    dropped: usize,
+    room: usize,
+    info: &AnnotatedLineInfo,
+    ends: &[OpenBar],
+) -> Result<(), AllocError>
+    requires place { layout.gutter + 3 ≤ layout.code }
+    requires narrow { layout.code < 2 ^ 32 }
+    requires last { length buffer.old ≡ row + 1 }
+    requires columns { All HasPlace info.now.annotations.items }
+    requires clear { All (λ e. is_bar e.annotation_type ≡ false → dropped ≤ e.start.display) info.now.annotations.items }
+    requires rails { All (HasRail layout) info.now.annotations.items }
+    requires labels { All (λ e. IfSome e.label (λ t. length t.now < 2 ^ 56)) info.now.annotations.items }
+    requires ends { ends.now ≡ ends_of_bars info.now.annotations.items }
+    ensures added { OnOk result ((above : List (List Cell)) (plain : List Cell) → buffer.old ≡ above ++ plain ∷ []
+        → HasNoBars layout plain
+        → AddsStrokes layout room (map (shifted dropped) info.now.annotations.items) closes above plain buffer.new) }
+{
+    if is_whole_line(alloc, info.line, &info.annotations)? {
+        return draw_bars(buffer, layout, row, ends, RailStroke::Top);
+    }
+    draw_strokes(
+        alloc,
+        buffer,
+        layout,
+        row,
+        closes,
+        dropped,
+        room,
         &info.annotations,
     )
 }

@@ -1,20 +1,30 @@
-use Rattle.std.proofs.Common.{map, subst}
-use Rattle.std.proofs.lemmas.Result.{on_ok_weaker}
+use Rattle.std.proofs.Common.{◌∙◌, subst}
+use Rattle.std.specs.Prelude.{filter, not}
+use Rattle.std.proofs.lemmas.List.Elements.{All-same}
+use Rattle.snippet_parts.specs.declared.entries.LineAnnotation.{LineAnnotation}
 use Rattle.snippet_style.specs.Grid.{row_at}
-use Rattle.snippet_strokes.specs.Entries.{shifted}
-use Rattle.snippet_strokes.specs.Rows.{IsHighlighted, AddsStrokes}
-use Rattle.snippet_strokes.proofs.SnippetLemmas.{line_added}
+use Rattle.snippet_strokes.specs.Entries.{is_end_part}
+use Rattle.snippet_strokes.specs.Rails.{HasRoom}
+use Rattle.snippet_strokes.specs.Rows.{IsHighlighted}
+use Rattle.snippet_strokes.proofs.OpenLemmas.{room_apart}
+use Rattle.snippet_strokes.proofs.SnippetLemmas.{clear_entries, line_added}
 use Rattle.snippet_strokes.proofs.snippet.draw_line.Goals as goal
 
-pub returns : goal.returns
-returns c =
+pub draw_bars-requires-clause-room : goal.draw_bars-requires-clause-room
+draw_bars-requires-clause-room c =
+    All-same (HasRoom c.args.layout) c.deref-5.result.now _ (c.deref-5.ensures.value ∙ c.in_ok-below.ensures.value) (room_apart c.args.layout c.args.open_bars.now _ c.requires.room)
+
+pub returns-clause-added : goal.returns-clause-added
+returns-clause-added c =
+    let layout = c.args.layout in
+    let margin = c.args.margin in
+    let info = c.args.info.now in
     let mid = c.draw_source_row.new.buffer in
     let high = c.highlight_source.new.buffer in
-    let ends = c.draw_strokes.new.buffer in
     let row = c.in_ok-row.row in
     let dropped = c.in_ok-row.dropped in
-    let layout = c.args.layout in
+    let drawn = c.in_ok-row.ensures in
     let highlighted = c.in_ok-highlight_source.ensures in
-    record {
-      added = on_ok_weaker c.draw_strokes.result (λ strokes. line_added layout c.args.margin c.args.numbered c.args.closes c.args.info.now dropped c.args.buffer.now mid high ends row c.requires.place c.in_ok-row.ensures.added c.in_ok-row.ensures.row c.in_ok-row.ensures.dropped (subst (λ es. IsHighlighted layout.code dropped es (row_at mid row) (row_at high row)) c.deref.ensures.value highlighted.highlighted) highlighted.others highlighted.count (subst (λ es. AddsStrokes layout (map (shifted dropped) es) c.args.closes high ends) c.deref-2.ensures.value strokes)) c.draw_strokes.ensures.added;
-    }
+    let highlights = subst (λ es. IsHighlighted layout.code dropped (filter (λ (e : LineAnnotation). not (is_end_part e.annotation_type)) es) (row_at mid row) (row_at high row)) c.deref.ensures.value highlighted.highlighted in
+    let clear = clear_entries margin dropped info.annotations.items c.requires.clear drawn.near drawn.uncut in
+    line_added layout margin c.args.numbered c.args.closes info dropped c.args.buffer.now mid high c.draw_entries.new.buffer c.draw_bars.new.buffer row c.requires.number drawn.added drawn.row drawn.dropped clear highlights highlighted.others highlighted.count c.in_ok-draw_entries.ensures.added c.in_ok-draw_bars.ensures.draws

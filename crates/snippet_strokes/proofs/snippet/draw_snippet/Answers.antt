@@ -1,29 +1,57 @@
-use Rattle.std.proofs.Common.{◌≡◌, ◌∙◌, ◌+◌, ◌==◌, ◌&&◌, sym, ap, subst, arith, length}
+use Rattle.std.proofs.Common.{◌≡◌, ◌∙◌, ◌+◌, ◌-◌, take, ◌==◌, ◌&&◌, [], All, sym, ap, subst, arith, length, drop}
+use Rattle.std.proofs.lemmas.List.{take_rest}
+use Rattle.std.proofs.lemmas.List.Elements.{All-nil, All-same}
+use Rattle.snippet_parts.specs.declared.entries.AnnotatedLineInfo.{AnnotatedLineInfo}
+use Rattle.snippet_strokes.specs.Entries.{HasRail}
+use Rattle.snippet_strokes.specs.Rails.{AddsGap, HasRoom}
 use Rattle.snippet_strokes.specs.Snippet.{AddsLine}
+use Rattle.snippet_strokes.proofs.OpenLemmas.{room_below}
 use Rattle.snippet_strokes.proofs.SnippetLemmas.{AddsLines-none, AddsLines-next, AddsSnippet-from_lines}
 use Rattle.snippet_strokes.proofs.snippet.draw_snippet.Goals as goal
 use Rattle.snippet_strokes.proofs.snippet.draw_snippet.Goals.{then-closes, else-closes}
 
 pub loop-i-init : goal.loop-i-init
-loop-i-init c =
-    AddsLines-none c.args.layout c.args.margin c.args.numbered (c.args.closes && 0 == length c.args.infos.now) c.begin_first_row.new.buffer
+loop-i-init c = (
+  All-same (HasRoom c.args.layout) c.new-open_bars.result.items [] c.new-open_bars.ensures.items (All-nil (HasRoom c.args.layout)),
+  AddsLines-none c.args.layout c.args.margin c.args.numbered c.args.closes c.args.infos.now c.begin_first_row.new.buffer,
+)
+
+pub draw_line-requires-clause-room : goal.draw_line-requires-clause-room
+draw_line-requires-clause-room c =
+    All-same (HasRoom c.args.layout) c.deref.result.now c.loop-i.open_bars.items c.deref.ensures.value c.loop-i.invariant.0
+
+pub draw_gap-requires-clause-room : goal.draw_gap-requires-clause-room
+draw_gap-requires-clause-room c =
+    let layout = c.args.layout in
+    let info = c.index-infos-i.result in
+    let before = All-same (HasRoom layout) c.deref.result.now c.loop-i.open_bars.items c.deref.ensures.value c.loop-i.invariant.0 in
+    let rails : All (HasRail layout) info.annotations.items = subst (λ (x : AnnotatedLineInfo). All (HasRail layout) x.annotations.items) (sym c.index-infos-i.is) (c.requires.rails c.loop-i.i info c.loop-i-test.true) in
+    All-same (HasRoom layout) c.deref-in-loop-i.result.now _ (c.deref-in-loop-i.ensures.value ∙ c.in_ok-open_bars.ensures.bars) (room_below layout c.deref.result.now info.annotations.items before rails)
 
 pub loop-i-preserved : goal.loop-i-preserved
 loop-i-preserved c =
+    let layout = c.args.layout in
     let infos = c.args.infos.now in
     let i = c.loop-i.i in
     let old = c.loop-i.buffer in
-    let new = c.draw_line.new.buffer in
-    let info = c.index-infos-i.result in
+    let mid = c.draw_line.new.buffer in
+    let new = c.draw_gap.new.buffer in
+    let info : AnnotatedLineInfo = c.index-infos-i.result in
     let closes : c.if-closes.closes ≡ (c.args.closes && i + 1 == length infos) = elim c.if-closes.branch [
       | then-closes w ↦ w.closes-is ∙ sym (ap (λ b. b && i + 1 == length infos) w.if-closes.true)
       | else-closes w ↦ w.closes-is ∙ w.if-closes.false ∙ sym (ap (λ b. b && i + 1 == length infos) w.if-closes.false)
     ] in
-    let line = subst (λ b. AddsLine c.args.layout c.args.margin c.args.numbered b info old new) closes c.in_ok-draw_line.ensures.added in
-    AddsLines-next c.args.layout c.args.margin c.args.numbered c.args.closes infos i info c.begin_first_row.new.buffer old new c.loop-i-test.true c.index-infos-i.is c.loop-i.invariant line
+    let line = subst (λ b. AddsLine layout c.args.margin c.args.numbered b info old mid) closes c.in_ok-open_bars.ensures.added in
+    let rest : take (length infos - (i + 1)) (drop (i + 1) infos) ≡ drop (i + 1) infos = take_rest infos (i + 1) in
+    let gap = subst (λ xs. AddsGap layout info.line_index xs mid new) rest c.in_ok-draw_gap.ensures.added in
+    let before = All-same (HasRoom layout) c.deref.result.now c.loop-i.open_bars.items c.deref.ensures.value c.loop-i.invariant.0 in
+    let rails : All (HasRail layout) info.annotations.items = subst (λ (x : AnnotatedLineInfo). All (HasRail layout) x.annotations.items) (sym c.index-infos-i.is) (c.requires.rails i info c.loop-i-test.true) in (
+      All-same (HasRoom layout) c.in_ok-open_bars.open_bars.items _ c.in_ok-open_bars.ensures.bars (room_below layout c.deref.result.now info.annotations.items before rails),
+      AddsLines-next layout c.args.margin c.args.numbered c.args.closes infos i info c.begin_first_row.new.buffer old mid new c.loop-i-test.true c.index-infos-i.is c.loop-i.invariant.1 line gap,
+    )
 
 pub returns : goal.returns
 returns c =
     record {
-      added = AddsSnippet-from_lines c.args.layout c.args.margin c.args.numbered c.args.first c.args.closes c.args.infos.now c.loop-i.i c.args.buffer.now c.begin_first_row.new.buffer c.loop-i.buffer (omega (arith, c.loop-i-test.false, c.loop-i.auto.i-end)) c.in_ok-begin_first_row.ensures.added c.loop-i.invariant;
+      added = AddsSnippet-from_lines c.args.layout c.args.margin c.args.numbered c.args.first c.args.closes c.args.infos.now c.loop-i.i c.args.buffer.now c.begin_first_row.new.buffer c.loop-i.buffer (omega (arith, c.loop-i-test.false, c.loop-i.auto.i-end)) c.in_ok-begin_first_row.ensures.added c.loop-i.invariant.1;
     }

@@ -1,8 +1,9 @@
-use Rattle.std.proofs.Common.{◌&&◌, ◌==◌, take, length}
+use Rattle.std.proofs.Common.{All}
+use Rattle.snippet_strokes.specs.Rails.{HasRoom}
 use Rattle.snippet_strokes.proofs.SnippetLemmas.{AddsLines}
 use Rattle.snippet_strokes.proofs.snippet.draw_snippet.Given as goal
 
--- the lines before this one are drawn
+-- the lines before this one are drawn, and each bar that is open below them has its place
 abbrev pub invariant-loop-i : goal.invariant-loop-i
 invariant-loop-i l =
-    AddsLines l.layout l.margin l.numbered (l.closes && l.i == length l.infos) (take l.i l.infos) l.initial.buffer l.buffer
+    All (HasRoom l.layout) l.open_bars.items × AddsLines l.layout l.margin l.numbered l.closes l.infos l.i l.initial.buffer l.buffer

@@ -1,0 +1,69 @@
+-- The row that stands for lines that are left out.
+use Rattle.std.proofs.Common.{◌≡◌, ℕ, ◌+◌, ◌<◌, ◌≤◌, ◌∷◌, ◌++◌, [], List, false, length, take, drop, replicate, get_or, refl, sym, ap, ◌∙◌, subst, arith}
+use Rattle.std.proofs.lemmas.List.{places, same_lists, drop_all, drop_more, ext_get_or, get_or_append_left, get_or_past, get_or_push, get_or-take, length-take-le, length_push}
+use Rattle.std.proofs.lemmas.List.Elements.{All-cons, All-nil}
+use Rattle.snippet_style.proofs.GridLemmas.{length-drawn}
+use Rattle.snippet_style.specs.declared.glyphs.DecorStyle.{DecorStyle}
+use Rattle.snippet_style.specs.declared.glyphs.DecorStyle.TheVariants.{Ascii, Unicode}
+use Rattle.snippet_style.specs.declared.role.ElementStyle.TheVariants.{LineNumber}
+use Rattle.snippet_style.specs.Glyphs.{elision_of}
+use Rattle.snippet_style.specs.Grid.{Cell, SPACE, drawn, row_at}
+use Rattle.snippet_text.specs.Normalized.{is_listed}
+use Rattle.snippet_strokes.specs.declared.layout.Layout.{Layout}
+use Rattle.snippet_strokes.specs.Rails.{AddsElision, BarsDrawn, DrawsBars}
+use Rattle.snippet_strokes.specs.Rows.{IsFree, bare_elision_row}
+use Rattle.snippet_strokes.proofs.RailLemmas.{rail_space}
+use Rattle.snippet_strokes.proofs.RowLemmas.{free_led, length-led}
+use Rattle.snippet_strokes.proofs.DrawLemmas.{free_drawn}
+
+-- the cell from which the sign stands
+abbrev pub elision_cell : DecorStyle → ℕ → ℕ
+elision_cell Ascii gutter = 0
+elision_cell Unicode gutter = gutter + 1
+
+pub bare_elision_is : (decor : DecorStyle) (gutter : ℕ) → replicate (elision_cell decor gutter) SPACE ++ drawn LineNumber (elision_of decor) ≡ bare_elision_row decor gutter
+bare_elision_is Ascii gutter = refl
+bare_elision_is Unicode gutter = refl
+
+pub elision_some : (decor : DecorStyle) → 0 < length (elision_of decor)
+elision_some Ascii = omega arith
+elision_some Unicode = omega arith
+
+-- it is short and holds no listed character
+bare_elision_short : (decor : DecorStyle) (gutter : ℕ) → length (bare_elision_row decor gutter) ≤ gutter + 3
+bare_elision_short Ascii gutter = omega (arith, length-drawn LineNumber (elision_of Ascii))
+bare_elision_short Unicode gutter = omega (arith, length-led (gutter + 1) (elision_of Unicode))
+
+free_bare_elision : (decor : DecorStyle) (gutter : ℕ) → IsFree (bare_elision_row decor gutter)
+free_bare_elision Ascii gutter =
+    let P : ℕ → Type 0 = λ c. is_listed c ≡ false in
+    free_drawn LineNumber (elision_of Ascii) (All-cons P 46 (46 ∷ 46 ∷ []) refl (All-cons P 46 (46 ∷ []) refl (All-cons P 46 [] refl (All-nil P))))
+free_bare_elision Unicode gutter =
+    let P : ℕ → Type 0 = λ c. is_listed c ≡ false in
+    free_led (gutter + 1) (elision_of Unicode) (All-cons P 0x2506 [] refl (All-nil P))
+
+-- the row with its bars
+pub elision_added : (layout : Layout) (old begun new : List (List Cell)) (row : ℕ) → row ≡ length old → layout.gutter + 3 ≤ layout.code → begun ≡ old ++ bare_elision_row layout.decor layout.gutter ∷ [] → DrawsBars layout row begun new → AddsElision layout old new
+elision_added layout old begun new row last place begins draws =
+    let bare = bare_elision_row layout.decor layout.gutter in
+    let is_bare : row_at begun row ≡ bare = ap (λ rs. row_at rs row) begins ∙ get_or_push old bare [] row (sym last) in
+    let drawn : BarsDrawn layout bare (row_at new row) = subst (λ cells. BarsDrawn layout cells (row_at new row)) is_bare (draws.rows row) in
+    let few = bare_elision_short layout.decor layout.gutter in
+    let all : length new ≡ row + 1 = omega (arith, draws.count, ap length begins, length_push old bare, last) in
+    let short : length (take row new) ≡ row = length-take-le row new (omega (arith, all)) in
+    let top : take row new ≡ old = ext_get_or [] (take row new) old (short ∙ last) (λ k within.
+    let inside : k < row = omega (arith, within, short) in
+    get_or-take row new k [] inside ∙ draws.above k inside ∙ ap (λ rs. get_or rs k []) begins ∙ get_or_append_left old (bare ∷ []) [] k (omega (arith, inside, last))) in
+    record {
+      row = row_at new row;
+      added = split new row ∙ ap (λ rs. rs ++ drop row new) top ∙ ap (λ rs. old ++ rs) (drop_more new row [] (omega (arith, all)) ∙ ap (λ rs. row_at new row ∷ rs) (drop_all (row + 1) new (omega (arith, all))));
+      is = record {
+        left = drawn.left;
+        rails = λ c from to. drawn.rails c (rail_space layout.decor (get_or bare c SPACE) (ap (λ (cell : Cell). cell.ch) (get_or_past bare c SPACE (omega (arith, few, from)))) (ap (λ (cell : Cell). cell.link) (get_or_past bare c SPACE (omega (arith, few, from)))));
+        ends = omega (arith, drawn.short, few, place);
+        free = drawn.free (free_bare_elision layout.decor layout.gutter);
+      };
+    }
+  where
+    split : (xs : List (List Cell)) (n : ℕ) → xs ≡ take n xs ++ drop n xs
+    split xs n = same_lists _ _ (grind (arith, places)) (λ k d h. grind (arith, places))

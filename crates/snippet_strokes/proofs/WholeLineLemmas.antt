@@ -1,0 +1,133 @@
+-- Lines that are marked as a whole.
+use Rattle.std.proofs.Common.{inl, ◌≡◌, ℕ, ◌+◌, ◌<◌, ◌∷◌, ◌++◌, ◌&&◌, ◌||◌, [], List, Bool, Option, None, Some, true, false, zero, suc, cond, length, take, map, refl, sym, ap, ◌∙◌, arith}
+use Rattle.std.specs.Char.{is_whitespace}
+use Rattle.std.specs.List.{list_all, position, position_or_len}
+use Rattle.std.specs.Prelude.{not, nat_le, nat_lt}
+use Rattle.std.proofs.lemmas.Bool.Decides.{nat_tests}
+use Rattle.std.proofs.lemmas.Bool.{false≢true}
+use Rattle.std.proofs.lemmas.List.{length_push}
+use Rattle.snippet_parts.specs.declared.entries.LineAnnotation.{LineAnnotation}
+use Rattle.snippet_parts.specs.declared.entries.LineAnnotationType.{LineAnnotationType}
+use Rattle.snippet_parts.specs.declared.entries.LineAnnotationType.TheVariants.{Singleline, MultilineStart, MultilineEnd, MultilineLine}
+use Rattle.snippet_parts.specs.Measures.{is_bar, is_single_part}
+use Rattle.snippet_parts.specs.Window.{AreReplaced}
+use Rattle.snippet_style.specs.declared.glyphs.DecorStyle.{DecorStyle}
+use Rattle.snippet_style.specs.Glyphs.{placeholder_of}
+use Rattle.snippet_style.specs.Grid.{Cell}
+use Rattle.snippet_strokes.specs.declared.layout.Layout.{Layout}
+use Rattle.snippet_strokes.specs.Entries.{are_plain, is_single, shifted, wide_entries}
+use Rattle.snippet_strokes.specs.Rails.{DrawsBars, is_before, is_beside, is_beside_first, is_start, is_whole_line}
+use Rattle.snippet_strokes.specs.Rows.{AddsStrokes, AreStrokes, HasNoBars, IsBeside}
+use Rattle.snippet_strokes.proofs.RailLemmas.{AddsStrokes-drawn}
+
+-- an entry that is drawn by bars alone isn't a whole span
+not_single : (t : LineAnnotationType) (b : Bool) → (is_bar t || is_start t && b) ≡ true → is_single_part t ≡ false
+not_single Singleline b is = absurd (false≢true is)
+not_single (MultilineStart depth) b is = refl
+not_single (MultilineEnd depth) b is = refl
+not_single (MultilineLine depth) b is = refl
+
+first_true : (a b : Bool) → (a && b) ≡ true → a ≡ true
+first_true true b is = refl
+first_true false b is = absurd (false≢true is)
+
+none_false : (a b : Bool) → a ≡ false → (a && b) ≡ true → ⊥
+none_false true b is both = false≢true (sym is)
+none_false false b is both = false≢true both
+
+-- so the marks of such a line aren't promised
+whole_not_plain : (text : List ℕ) (room dropped : ℕ) (decor : DecorStyle) (es : List LineAnnotation) → is_whole_line text es ≡ true → are_plain room decor (map (shifted dropped) es) ≡ true → ⊥
+whole_not_plain text room dropped decor [] whole plain = false≢true whole
+whole_not_plain text room dropped decor (e ∷ es) whole plain =
+    let blank = list_all is_whitespace (take e.start.display text) in
+    let beside : is_beside text e ≡ true = first_true (is_beside text e) (list_all (is_beside text) es) whole in
+    let single : is_single e ≡ false = not_single e.annotation_type blank beside in
+    let singles = list_all is_single (map (shifted dropped) es) in
+    none_false (is_single e) singles single (first_true (is_single e && singles) _ plain)
+
+whole_some : (text : List ℕ) (dropped : ℕ) (es : List LineAnnotation) → is_whole_line text es ≡ true → map (shifted dropped) es ≡ [] → ⊥
+whole_some text dropped [] whole none = false≢true whole
+whole_some text dropped (e ∷ es) whole none = omega (arith, ap length none)
+
+-- no rows of strokes
+AreStrokes-whole : (layout : Layout) (text : List ℕ) (room dropped : ℕ) (closes : Bool) (es : List LineAnnotation) → is_whole_line text es ≡ true → AreStrokes layout room (map (shifted dropped) es) closes []
+AreStrokes-whole layout text room dropped closes es whole =
+    let none = whole_not_plain text room dropped layout.decor es whole in
+    record {
+      none = λ empty. absurd (whole_some text dropped es whole empty);
+      some = λ plain more. absurd (none plain);
+      lone = λ plain one. absurd (none plain);
+      bare = λ plain labels. absurd (none plain);
+      marks = λ plain. absurd (none plain);
+      are = λ k within. absurd (omega (arith, within));
+    }
+
+-- a text of which nothing is replaced
+none_replaced : (placeholder : List ℕ) (n : ℕ) (before after : List ℕ) → after ≡ before → AreReplaced placeholder n before after
+none_replaced placeholder zero before after same = same
+none_replaced placeholder (suc n) before after same = inl same
+
+-- a source row beside which nothing is drawn
+IsBeside-same : (layout : Layout) (wide : ℕ) (plain : List Cell) → HasNoBars layout plain → IsBeside layout wide plain plain
+IsBeside-same layout wide plain bare =
+    record {
+      front = refl;
+      gap = refl;
+      rails = bare.1;
+      text = none_replaced (placeholder_of layout.decor) wide _ _ refl;
+      uncut = λ none. refl;
+      free = λ free. free;
+    }
+
+pub whole_added : (layout : Layout) (text : List ℕ) (room dropped : ℕ) (closes : Bool) (es : List LineAnnotation) (above : List (List Cell)) (plain : List Cell) (old new : List (List Cell)) (row : ℕ) → is_whole_line text es ≡ true → length old ≡ row + 1 → DrawsBars layout row old new → old ≡ above ++ plain ∷ [] → HasNoBars layout plain → AddsStrokes layout room (map (shifted dropped) es) closes above plain new
+whole_added layout text room dropped closes es above plain old new row whole long draws is bare =
+    let shown = map (shifted dropped) es in
+    let last : row ≡ length above = omega (arith, long, ap length is, length_push above plain) in
+    let base : AddsStrokes layout room shown closes above plain old = record {
+      source = plain;
+      rows = [];
+      added = is;
+      beside = IsBeside-same layout (wide_entries room layout.decor shown) plain bare;
+      are = AreStrokes-whole layout text room dropped closes es whole;
+    } in
+    AddsStrokes-drawn layout room shown closes above plain old new row last bare.0 base draws
+
+-- the first characters of a text are whitespace where the first that is none stands behind them
+before_next : (m j : ℕ) (b : Bool) → is_before (suc m) (cond b (Some (1 + j)) None) ≡ is_before m (cond b (Some j) None)
+before_next m j true = grind (arith, nat_tests)
+before_next m j false = refl
+
+before_step : (q : Bool) (j l m : ℕ) (rest : Bool) → is_before m (cond (nat_lt j l) (Some j) None) ≡ rest → is_before (suc m) (cond (nat_lt (cond (not (not q)) (1 + j) 0) (suc l)) (Some (cond (not (not q)) (1 + j) 0)) None) ≡ (q && rest)
+before_step true j l m rest before =
+    let same : nat_lt (1 + j) (suc l) ≡ nat_lt j l = grind (arith, nat_tests) in
+    ap (λ b. is_before (suc m) (cond b (Some (1 + j)) None)) same ∙ before_next m j (nat_lt j l) ∙ before
+before_step false j l m rest before =
+    let here : nat_lt 0 (suc l) ≡ true = grind (arith, nat_tests) in
+    let past : nat_le (suc m) 0 ≡ false = grind (arith, nat_tests) in
+    ap (λ b. is_before (suc m) (cond b (Some 0) None)) here ∙ past
+
+before_none : (o : Option ℕ) → is_before 0 o ≡ true
+before_none None = refl
+before_none (Some at) = grind (arith, nat_tests)
+
+pub blank_before : (text : List ℕ) (n : ℕ) → is_before n (position (λ c. not (is_whitespace c)) text) ≡ list_all is_whitespace (take n text)
+blank_before [] zero = refl
+blank_before [] (suc n) = refl
+blank_before (c ∷ cs) zero = before_none (position (λ c. not (is_whitespace c)) (c ∷ cs))
+blank_before (c ∷ cs) (suc n) =
+    before_step (is_whitespace c) (position_or_len (λ c. not (is_whitespace c)) cs) (length cs) n (list_all is_whitespace (take n cs)) (blank_before cs n)
+
+all_agree : (p q : LineAnnotation → Bool) → ((e : LineAnnotation) → p e ≡ q e) → (es : List LineAnnotation) → list_all p es ≡ list_all q es
+all_agree p q same [] = refl
+all_agree p q same (e ∷ es) =
+    ap (λ b. b && list_all p es) (same e) ∙ ap (λ b. q e && b) (all_agree p q same es)
+
+-- so the test by that place is the one that reads the text
+pub beside_first : (text : List ℕ) (e : LineAnnotation) → is_beside_first (position (λ c. not (is_whitespace c)) text) e ≡ is_beside text e
+beside_first text e =
+    ap (λ b. is_bar e.annotation_type || is_start e.annotation_type && b) (blank_before text e.start.display)
+
+pub whole_line_is : (text : List ℕ) (first : Option ℕ) (es : List LineAnnotation) → 0 < length es → first ≡ position (λ c. not (is_whitespace c)) text → list_all (is_beside_first first) es ≡ is_whole_line text es
+whole_line_is text first [] some is = absurd (omega (arith, some))
+whole_line_is text first (e ∷ es) some is =
+    ap (λ o. list_all (is_beside_first o) (e ∷ es)) is ∙ all_agree (is_beside_first (position (λ c. not (is_whitespace c)) text)) (is_beside text) (beside_first text) (e ∷ es)

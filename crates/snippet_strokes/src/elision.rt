@@ -1,0 +1,67 @@
+//! The rows that stand for lines that aren't shown.
+ghost use Rattle.std.specs.Prelude.{◌≡◌, ◌+◌, ◌^◌, ◌<◌, ◌≤◌, ◌++◌, ◌∷◌, [], All, OnOk};
+ghost use Rattle.snippet_strokes.specs.Rails.{AddsElision, AddsGap, HasRoom};
+ghost use Rattle.snippet_strokes.specs.Rows.{bare_elision_row};
+
+use crate::layout::Layout;
+use crate::rails::{OpenBar, RailStroke, draw_bars};
+use snippet_parts::AnnotatedLineInfo;
+use snippet_style::{DecorStyle, ElementStyle, StyledBuffer};
+use std::alloc::AllocError;
+
+/// Draws the row that stands for the lines between one of this number and the first of the lines behind it, if there are any.
+///
+/// # Errors
+///
+/// There is no memory for the row.
+pub(crate) fn draw_gap(
+    buffer: &mut StyledBuffer,
+    layout: Layout,
+    number: usize,
+    rest: &[AnnotatedLineInfo],
+    open_bars: &[OpenBar],
+) -> Result<(), AllocError>
+    requires place { layout.gutter + 3 ≤ layout.code }
+    requires narrow { layout.code < 2 ^ 32 }
+    requires room { All (HasRoom layout) open_bars.now }
+    ensures added { OnOk result (AddsGap layout number rest.now buffer.old buffer.new) }
+{
+    if rest.is_empty() || rest[0].line_index.saturating_sub(1) <= number {
+        return Ok(());
+    }
+    draw_elision(buffer, layout, open_bars)
+}
+
+/// Draws the row that stands for lines that aren't shown, with the bars that run beside them, below all that stands in the
+/// grid.
+///
+/// ```text
+///   ...  |  |            ┆ ┇  ┆
+/// ```
+fn draw_elision(
+    buffer: &mut StyledBuffer,
+    layout: Layout,
+    open_bars: &[OpenBar],
+) -> Result<(), AllocError>
+    requires place { layout.gutter + 3 ≤ layout.code }
+    requires narrow { layout.code < 2 ^ 32 }
+    requires room { All (HasRoom layout) open_bars.now }
+    ensures added { OnOk result (AddsElision layout buffer.old buffer.new) }
+{
+    let row = buffer.num_lines();
+    begin_elision_row(buffer, layout)?;
+    draw_bars(buffer, layout, row, open_bars, RailStroke::Dotted)
+}
+
+/// Begins that row, with its sign alone: from the first cell on, or in Unicode in the place of the separator.
+fn begin_elision_row(buffer: &mut StyledBuffer, layout: Layout) -> Result<(), AllocError>
+    requires narrow { layout.gutter < 2 ^ 32 }
+    ensures added { OnOk result (buffer.new ≡ buffer.old ++ bare_elision_row layout.decor layout.gutter ∷ []) }
+{
+    let row = buffer.num_lines();
+    let cell = match layout.decor {
+        DecorStyle::Ascii => 0,
+        DecorStyle::Unicode => layout.gutter + 1,
+    };
+    buffer.puts(row, cell, layout.decor.elision(), ElementStyle::LineNumber)
+}
