@@ -18,7 +18,7 @@ use Rattle.snippet_strokes.specs.Painting.{IsFreeCell}
 use Rattle.snippet_strokes.specs.declared.layout.Layout.{Layout}
 use Rattle.snippet_parts.specs.declared.margin.Margin.{Margin}
 use Rattle.snippet_parts.specs.Margin.{bounds_of}
-use Rattle.snippet_parts.specs.Window.{dropped_part, AreReplaced, IsWindowOf}
+use Rattle.snippet_parts.specs.Window.{dropped_part}
 use Rattle.snippet_style.specs.Glyphs.{placeholder_of, separator_of}
 use Rattle.snippet_text.specs.Width.{width_of}
 use Rattle.snippet_parts.specs.Measures.{StandsClear, is_bar}
@@ -225,19 +225,3 @@ free_from_AreLinesShown layout margin numbered closes (info ∷ infos) rows show
 pub free_from_AddsSnippet : (layout : Layout) (margin : Margin) (numbered first closes : Bool) (infos : List AnnotatedLineInfo) (old new : List (List Cell)) → (adds : AddsSnippet layout margin numbered first closes infos old new) → All IsFree (first_row layout.decor first layout.gutter ∷ adds.rows)
 free_from_AddsSnippet layout margin numbered first closes infos old new adds =
     All-cons IsFree (first_row layout.decor first layout.gutter) adds.rows (free_first_row layout.decor first layout.gutter) (free_from_AreLinesShown layout margin numbered closes infos adds.rows adds.shown)
-
--- a text of which nothing is replaced
-none_replaced : (placeholder : List ℕ) (n : ℕ) (before after : List ℕ) → after ≡ before → AreReplaced placeholder n before after
-none_replaced placeholder zero before after same = same
-none_replaced placeholder (suc n) before after same = inl same
-
--- the source row shows a window of its line
-pub IsWindowOf-shown : (layout : Layout) (margin : Margin) (numbered closes : Bool) (info : AnnotatedLineInfo) (rows : List (List Cell)) (wide : ℕ) → (bounds_of margin).left ≤ (bounds_of margin).right → (shows : ShowsLine layout margin numbered closes info rows) → IsWindowOf (placeholder_of layout.decor) margin.term_width wide (norm (chars info.line.now)) shows.dropped (row_text (drop layout.code shows.plain))
-IsWindowOf-shown layout margin numbered closes info rows wide ordered shows =
-    record {
-      left = (bounds_of margin).left;
-      right = (bounds_of margin).right;
-      ordered = ordered;
-      dropped_is = shows.dropped_is;
-      shown_is = none_replaced (placeholder_of layout.decor) wide _ _ shows.text;
-    }

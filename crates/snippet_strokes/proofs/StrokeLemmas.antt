@@ -130,8 +130,7 @@ module _ (layout : Layout) (room : ℕ) (closes : Bool) (es : List LineAnnotatio
   source_rails : (c : ℕ) → layout.gutter + 3 ≤ c → c < layout.code → IsRailCell layout.decor (slice_index_or source c SPACE)
   source_rails c right before =
       let R : Cell → Type 0 = IsRailCell layout.decor in
-      let blank : slice_index_or plain_row c SPACE ≡ SPACE = bare_rails.1 c right before in
-      let begun_here : R (cell_at joined (length above_rows) c) = subst (λ cells. R (slice_index_or cells c SPACE)) (sym joined_source) (subst R (sym blank) (rail_space layout.decor)) in
+      let begun_here : R (cell_at joined (length above_rows) c) = subst (λ cells. R (slice_index_or cells c SPACE)) (sym joined_source) (bare_rails.1 c right before) in
       subst (λ cells. R (slice_index_or cells c SPACE)) (sym barred_source) (bars.rails (length above_rows) c before begun_here)
 
   source_code : drop layout.code source ≡ drop layout.code plain_row
@@ -411,13 +410,13 @@ strokes_none layout room closes es above plain old new place none old_is bare_ra
       beside = record {
         front = refl;
         gap = refl;
-        rails = λ c right before. subst (IsRailCell layout.decor) (sym (bare_rails.1 c right before)) (rail_space layout.decor);
+        rails = bare_rails.1;
         text = unreplaced (wide_entries room layout.decor es) (row_text (drop layout.code plain));
         uncut = λ _. refl;
         free = λ free. free;
       };
       are = record {
-        none = λ _. refl;
+        none = λ _. closing_count closes;
         some = λ _ some. absurd (omega (arith, some, none));
         lone = λ _ one. absurd (omega (arith, one, none));
         bare = λ _ _. short closes;
@@ -431,6 +430,10 @@ strokes_none layout room closes es above plain old new place none old_is bare_ra
       };
     }
   where
+    closing_count : (b : Bool) → length (if b then closing_row layout.decor layout.gutter ∷ [] else []) ≡ (if b then 1 else 0)
+    closing_count true = refl
+    closing_count false = refl
+
     unreplaced : (n : ℕ) (text : List ℕ) → AreReplaced (placeholder_of layout.decor) n text text
     unreplaced zero text = refl
     unreplaced (suc n) text = inl refl
