@@ -54,7 +54,7 @@ pub row_added : (old new : List (List Cell)) (row : List Cell) (r : ℕ) → r �
 row_added old new row r last added = ap (λ rows. row_at rows r) added ∙ get_or_push old row [] r (sym last)
 
 -- a source row is short
-pub source_row_short : (layout : Layout) (shown : List ℕ) (cells row : List Cell) → IsSourceRow layout shown cells row → layout.code < 2 ^ 32 → length cells < 2 ^ 61 + 4 → length row < 2 ^ 62
+pub source_row_short : (layout : Layout) (shown : List ℕ) (cells row : List Cell) → IsSourceRow layout shown cells row → layout.code < 2 ^ 63 + 2 ^ 32 → length cells < 2 ^ 61 + 4 → length row < 2 ^ 63 + 2 ^ 62
 source_row_short layout shown cells row is narrow short =
     omega (arith, length-drop layout.code row, ap length is.shows.code)
 

@@ -1,18 +1,18 @@
 -- The normalised text of a line: how long it gets, and that it holds no listed character.
-use Rattle.std.proofs.Common.{◌≡◌, ◌==◌, Bool, true, false, not, refl, sym, ap, ◌∙◌, ℕ, zero, suc, ◌+◌, ◌-◌, ◌*◌, ◌<◌, ◌≤◌, ◌^◌, List, [], ◌∷◌, length, arith, All, Option, Some, None, inl, inr, Bor, IsUtf8, encode_utf8_all}
+use Rattle.std.proofs.Common.{◌≡◌, ◌==◌, Bool, true, false, not, refl, sym, ap, ◌∙◌, ℕ, zero, suc, ◌+◌, ◌-◌, ◌*◌, ◌<◌, ◌≤◌, ◌^◌, List, [], ◌∷◌, length, map, get_or, arith, All, IfSome, Option, Some, None, inl, inr, Bor, IsUtf8, encode_utf8_all}
 use Rattle.std.proofs.lemmas.Str.{chars-nil, encodes-chars}
 use Rattle.snippet_parts.specs.declared.entries.LineAnnotation.{LineAnnotation}
 use Rattle.snippet_parts.specs.declared.entries.LineAnnotationType.{LineAnnotationType}
 use Rattle.snippet_parts.specs.declared.entries.LineAnnotationType.TheVariants.{Singleline, MultilineStart, MultilineEnd, MultilineLine}
 use Rattle.snippet_strokes.specs.Painting.{foot_of}
 use Rattle.snippet_text.proofs.NormLemmas.{list_any-norm}
-use Rattle.snippet_strokes.specs.Entries.{label_chars, label_text}
+use Rattle.snippet_strokes.specs.Entries.{label_chars, label_text, shifted}
 use Rattle.std.specs.List.{flat_map, list_any}
 use Rattle.std.specs.Str.{chars, chars_after, continuation_len, lead_bits}
 use Rattle.std.proofs.lemmas.Bool.Decides.{nat_tests}
 use Rattle.std.proofs.lemmas.Bool.{cases_lt}
 use Rattle.std.proofs.lemmas.List.{length-append, nil_from_length}
-use Rattle.std.proofs.lemmas.List.Elements.{All-nil, All-cons}
+use Rattle.std.proofs.lemmas.List.Elements.{All-nil, All-cons, All-map}
 use Rattle.snippet_style.specs.Glyphs.{glyph_of}
 use Rattle.snippet_style.specs.declared.glyphs.DecorStyle.{DecorStyle}
 use Rattle.snippet_style.specs.declared.glyphs.DecorStyle.TheVariants.{Ascii, Unicode}
@@ -116,3 +116,15 @@ bytes_none bytes utf8 none = nil_from_length bytes (zero_there (length bytes) (a
   where
     zero_there : (n : ℕ) → not (n == 0) ≡ false → n ≡ 0
     zero_there n none = grind (arith, nat_tests)
+
+-- a label that fits is short as it is shown, wherever its entry stands
+pub label_short : (e : LineAnnotation) → IfSome e.label (λ t. length t.now < 2 ^ 56) → length (label_text e) < 2 ^ 60
+label_short e fits = of_label e.label fits
+  where
+    of_label : (label : Option (Bor (List ℕ))) → IfSome label (λ t. length t.now < 2 ^ 56) → length (label_chars label) < 2 ^ 60
+    of_label None fits = omega arith
+    of_label (Some label) fits = norm_short label.now fits
+
+pub labels_short : (dropped : ℕ) (es : List LineAnnotation) → All (λ e. IfSome e.label (λ t. length t.now < 2 ^ 56)) es → All (λ e. length (label_text e) < 2 ^ 60) (map (shifted dropped) es)
+labels_short dropped es fit =
+    All-map (λ (e : LineAnnotation). length (label_text e) < 2 ^ 60) (shifted dropped) es (λ k d within. label_short (get_or es k d) (fit k d within))

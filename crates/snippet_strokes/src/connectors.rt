@@ -28,7 +28,7 @@ pub(crate) fn draw_connectors(
     row: usize,
     placed: &[PlacedEntry],
 ) -> Result<(), AllocError>
-    requires narrow { layout.code < 2 ^ 32 }
+    requires narrow { layout.code < 2 ^ 63 + 2 ^ 32 }
     requires columns { All (λ e. HasPlace e.entry) placed.now }
     requires rails { All (λ e. HasRail layout e.entry) placed.now }
     requires small { length buffer.old ≤ 2 ^ 60 }
@@ -50,7 +50,7 @@ fn draw_connector(
     row: usize,
     placed: &PlacedEntry,
 ) -> Result<(), AllocError>
-    requires narrow { layout.code < 2 ^ 32 }
+    requires narrow { layout.code < 2 ^ 63 + 2 ^ 32 }
     requires columns { HasPlace placed.now.entry }
     requires rail { HasRail layout placed.now.entry }
     requires small { length buffer.old ≤ 2 ^ 60 }
@@ -75,7 +75,7 @@ fn draw_line_to(
     depth: usize,
     placed: &PlacedEntry,
 ) -> Result<(), AllocError>
-    requires narrow { layout.code < 2 ^ 32 }
+    requires narrow { layout.code < 2 ^ 63 + 2 ^ 32 }
     requires columns { HasPlace placed.now.entry }
     requires depth { layout.gutter + 3 + depth < layout.code }
     requires small { length buffer.old ≤ 2 ^ 60 }

@@ -107,7 +107,7 @@ pub(crate) fn cut_wide(
     placed: &[PlacedEntry],
     met: &[bool],
 ) -> Result<(), AllocError>
-    requires narrow { layout.code < 2 ^ 32 }
+    requires narrow { layout.code < 2 ^ 63 + 2 ^ 32 }
     requires columns { All (λ e. HasPlace e.entry) placed.now }
     requires count { length met.now ≡ length placed.now }
     requires rows { row + 1 < length buffer.old }
@@ -135,7 +135,7 @@ fn cut_entry(
     entry: &LineAnnotation,
     met: bool,
 ) -> Result<(), AllocError>
-    requires narrow { layout.code < 2 ^ 32 }
+    requires narrow { layout.code < 2 ^ 63 + 2 ^ 32 }
     requires columns { HasPlace entry.now }
     requires small { row + 1 < 2 ^ 64 }
     ensures cut { OnOk result ((above : List (List Cell)) (source marks : List Cell) (below : List (List Cell))

@@ -22,7 +22,7 @@ pub(crate) fn draw_gap(
     open_bars: &[OpenBar],
 ) -> Result<(), AllocError>
     requires place { layout.gutter + 3 ≤ layout.code }
-    requires narrow { layout.code < 2 ^ 32 }
+    requires narrow { layout.code < 2 ^ 63 + 2 ^ 32 }
     requires room { All (HasRoom layout) open_bars.now }
     ensures added { OnOk result (AddsGap layout number rest.now buffer.old buffer.new) }
 {
@@ -44,7 +44,7 @@ fn draw_elision(
     open_bars: &[OpenBar],
 ) -> Result<(), AllocError>
     requires place { layout.gutter + 3 ≤ layout.code }
-    requires narrow { layout.code < 2 ^ 32 }
+    requires narrow { layout.code < 2 ^ 63 + 2 ^ 32 }
     requires room { All (HasRoom layout) open_bars.now }
     ensures added { OnOk result (AddsElision layout buffer.old buffer.new) }
 {
@@ -55,7 +55,7 @@ fn draw_elision(
 
 /// Begins that row, with its sign alone: from the first cell on, or in Unicode in the place of the separator.
 fn begin_elision_row(buffer: &mut StyledBuffer, layout: Layout) -> Result<(), AllocError>
-    requires narrow { layout.gutter < 2 ^ 32 }
+    requires narrow { layout.gutter < 2 ^ 63 + 2 ^ 32 }
     ensures added { OnOk result (buffer.new ≡ buffer.old ++ bare_elision_row layout.decor layout.gutter ∷ []) }
 {
     let row = buffer.num_lines();

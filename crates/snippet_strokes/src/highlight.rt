@@ -1,5 +1,5 @@
 //! The parts of the source that are coloured as their marks are.
-ghost use Rattle.std.specs.Prelude.{◌≡◌, ◌≢◌, ◌^◌, ◌<◌, OnOk, filter, length, not, ℕ};
+ghost use Rattle.std.specs.Prelude.{◌+◌, ◌≡◌, ◌≢◌, ◌^◌, ◌<◌, OnOk, filter, length, not, ℕ};
 ghost use Rattle.snippet_strokes.specs.Entries as spec;
 ghost use Rattle.snippet_style.specs.Grid.{row_at};
 ghost use Rattle.snippet_strokes.specs.Rows.{IsHighlighted, Restyled};
@@ -23,9 +23,9 @@ pub(crate) fn highlight_source(
     row: usize,
     entries: &[LineAnnotation],
 ) -> Result<(), AllocError>
-    requires narrow { layout.code < 2 ^ 32 }
-    requires short { length (row_at buffer.old row) < 2 ^ 62 }
-    requires near { dropped < 2 ^ 62 }
+    requires narrow { layout.code < 2 ^ 63 + 2 ^ 32 }
+    requires short { length (row_at buffer.old row) < 2 ^ 63 + 2 ^ 62 }
+    requires near { dropped < 2 ^ 61 }
     ensures highlighted { OnOk result (IsHighlighted layout.code dropped
         (filter (λ e. not (spec.is_end_part e.annotation_type)) entries.now) (row_at buffer.old row) (row_at buffer.new row)) }
     ensures others { OnOk result ((r : ℕ) → r ≢ row → row_at buffer.new r ≡ row_at buffer.old r) }
@@ -57,9 +57,9 @@ fn highlight_entry(
     row: usize,
     entry: &LineAnnotation,
 ) -> Result<(), AllocError>
-    requires narrow { layout.code < 2 ^ 32 }
-    requires short { length (row_at buffer.old row) < 2 ^ 62 }
-    requires near { dropped < 2 ^ 62 }
+    requires narrow { layout.code < 2 ^ 63 + 2 ^ 32 }
+    requires short { length (row_at buffer.old row) < 2 ^ 63 + 2 ^ 62 }
+    requires near { dropped < 2 ^ 61 }
     ensures restyled { OnOk result (Restyled layout.code dropped entry.now row buffer.old buffer.new) }
 {
     let primary = is_primary(entry.kind);

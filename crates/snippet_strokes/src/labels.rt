@@ -30,11 +30,12 @@ pub(crate) fn draw_labels(
     row: usize,
     placed: &[PlacedEntry],
 ) -> Result<(), AllocError>
-    requires narrow { layout.code < 2 ^ 32 }
+    requires narrow { layout.code < 2 ^ 63 + 2 ^ 32 }
     requires columns { All (λ e. HasPlace e.entry) placed.now }
     requires small { length buffer.old ≤ 2 ^ 60 }
     requires rows { All (HasRows row (length buffer.old)) placed.now }
     requires labels { All HasItsLabel placed.now }
+    requires short { All (λ e. length (label_text e.entry) < 2 ^ 60) placed.now }
     ensures draws { OnOk result ((from : ℕ) → All (λ e. StandsFrom layout.code from e.entry) placed.now
         → DrawsFrom row from buffer.old buffer.new) }
     ensures starts { OnOk result (MarksStarts layout.code [] buffer.old buffer.new) }
@@ -56,11 +57,12 @@ fn draw_label(
     row: usize,
     placed: &PlacedEntry,
 ) -> Result<(), AllocError>
-    requires narrow { layout.code < 2 ^ 32 }
+    requires narrow { layout.code < 2 ^ 63 + 2 ^ 32 }
     requires columns { HasPlace placed.now.entry }
     requires small { length buffer.old ≤ 2 ^ 60 }
     requires rows { HasRows row (length buffer.old) placed.now }
     requires label { HasItsLabel placed.now }
+    requires short { length (label_text placed.now.entry) < 2 ^ 60 }
     ensures draws { OnOk result ((from : ℕ) → StandsFrom layout.code from placed.now.entry
         → DrawsFrom row from buffer.old buffer.new) }
     ensures starts { OnOk result (MarksStarts layout.code [] buffer.old buffer.new) }

@@ -27,7 +27,7 @@ pub(crate) fn draw_marks(
     placed: &mut Vec<PlacedEntry>,
 ) -> Result<(), AllocError>
     requires row { row + 1 < 2 ^ 64 }
-    requires narrow { layout.code < 2 ^ 32 }
+    requires narrow { layout.code < 2 ^ 63 + 2 ^ 32 }
     requires columns { All (λ e. e.entry.end.display < 2 ^ 60) placed.old.items }
     ensures marked { OnOk result (AreMarked layout placed.old.items row buffer.old buffer.new) }
     ensures same { OnOk result (IsPermutation placed.old.items placed.new.items) }
@@ -64,7 +64,7 @@ fn paint_entries(
     placed: &[PlacedEntry],
 ) -> Result<(), AllocError>
     requires row { row + 1 < 2 ^ 64 }
-    requires narrow { layout.code < 2 ^ 32 }
+    requires narrow { layout.code < 2 ^ 63 + 2 ^ 32 }
     requires columns { All (λ e. e.entry.end.display < 2 ^ 60) placed.now }
     ensures painted { OnOk result (Painted layout placed.now row buffer.old buffer.new) }
 {
@@ -86,7 +86,7 @@ fn paint_entry(
     placed: &PlacedEntry,
 ) -> Result<(), AllocError>
     requires row { row + 1 < 2 ^ 64 }
-    requires narrow { layout.code < 2 ^ 32 }
+    requires narrow { layout.code < 2 ^ 63 + 2 ^ 32 }
     requires columns { placed.now.entry.end.display < 2 ^ 60 }
     ensures painted { OnOk result (Paints buffer.old buffer.new row (layout.code + placed.now.entry.start.display)
         (layout.code + mark_end placed.now) (mark_cell layout placed.now)) }

@@ -119,7 +119,7 @@ pub(crate) fn draw_bars(
     bars: &[OpenBar],
     stroke: RailStroke,
 ) -> Result<(), AllocError>
-    requires narrow { layout.code < 2 ^ 32 }
+    requires narrow { layout.code < 2 ^ 63 + 2 ^ 32 }
     requires room { All (HasRoom layout) bars.now }
     ensures draws { OnOk result (DrawsBars layout row buffer.old buffer.new) }
 {
@@ -137,7 +137,7 @@ fn draw_bar(
     bar: OpenBar,
     stroke: RailStroke,
 ) -> Result<(), AllocError>
-    requires narrow { layout.code < 2 ^ 32 }
+    requires narrow { layout.code < 2 ^ 63 + 2 ^ 32 }
     requires room { HasRoom layout bar }
     ensures draws { OnOk result (DrawsBars layout row buffer.old buffer.new) }
 {

@@ -1,5 +1,5 @@
 //! Rows that are begun below all that stands in the grid.
-ghost use Rattle.std.specs.Prelude.{◌≡◌, ◌-◌, ◌^◌, ◌<◌, ◌≤◌, ◌++◌, ◌∷◌, [], OnOk, IfOk, length, replicate};
+ghost use Rattle.std.specs.Prelude.{◌+◌, ◌≡◌, ◌-◌, ◌^◌, ◌<◌, ◌≤◌, ◌++◌, ◌∷◌, [], OnOk, IfOk, length, replicate};
 ghost use Rattle.snippet_style.specs.Glyphs.{file_start_of};
 ghost use Rattle.snippet_style.specs.Grid.{SPACE, drawn};
 ghost use Rattle.snippet_style.specs.declared.role.ElementStyle.TheVariants.{LineNumber};
@@ -19,7 +19,7 @@ use std::alloc::AllocError;
 ///
 /// There is no memory for the row.
 pub(crate) fn begin_row(buffer: &mut StyledBuffer, layout: Layout) -> Result<usize, AllocError>
-    requires narrow { layout.gutter < 2 ^ 32 }
+    requires narrow { layout.gutter < 2 ^ 63 + 2 ^ 32 }
     ensures added { OnOk result (buffer.new ≡ buffer.old ++ separator_row layout.decor layout.gutter ∷ []) }
     ensures row { IfOk result (λ row. row ≡ length buffer.old) }
     ensures small { length buffer.old < 2 ^ 60 }
@@ -44,7 +44,7 @@ pub(crate) fn begin_row(buffer: &mut StyledBuffer, layout: Layout) -> Result<usi
 ///
 /// There is no memory for the row.
 pub(crate) fn begin_closing_row(buffer: &mut StyledBuffer, layout: Layout) -> Result<(), AllocError>
-    requires narrow { layout.gutter < 2 ^ 32 }
+    requires narrow { layout.gutter < 2 ^ 63 + 2 ^ 32 }
     ensures added { OnOk result (buffer.new ≡ buffer.old ++ closing_row layout.decor layout.gutter ∷ []) }
     ensures small { length buffer.old < 2 ^ 60 }
 {
@@ -73,7 +73,7 @@ pub(crate) fn begin_first_row(
     layout: Layout,
     first: bool,
 ) -> Result<(), AllocError>
-    requires narrow { layout.gutter < 2 ^ 32 }
+    requires narrow { layout.gutter < 2 ^ 63 + 2 ^ 32 }
     ensures added { OnOk result (buffer.new ≡ buffer.old ++ first_row layout.decor first layout.gutter ∷ []) }
 {
     match layout.decor {
@@ -87,7 +87,7 @@ pub(crate) fn begin_first_row(
 
 /// Begins a row below all that stands in the grid, with the start of a file alone, from cell `gutter` on.
 fn begin_file_row(buffer: &mut StyledBuffer, layout: Layout, first: bool) -> Result<(), AllocError>
-    requires narrow { layout.gutter < 2 ^ 32 }
+    requires narrow { layout.gutter < 2 ^ 63 + 2 ^ 32 }
     ensures added { OnOk result (buffer.new ≡ buffer.old
         ++ (replicate layout.gutter SPACE ++ drawn LineNumber (file_start_of layout.decor first)) ∷ []) }
 {
@@ -118,7 +118,7 @@ pub(crate) fn begin_rows(
     count: usize,
 ) -> Result<usize, AllocError>
     requires some { 0 < count }
-    requires narrow { layout.gutter < 2 ^ 32 }
+    requires narrow { layout.gutter < 2 ^ 63 + 2 ^ 32 }
     ensures added { OnOk result (buffer.new ≡ buffer.old ++ replicate (count - 1) (separator_row layout.decor layout.gutter)
         ++ bare_row layout.decor layout.gutter closes ∷ []) }
     ensures row { IfOk result (λ row. row ≡ length buffer.old) }
@@ -134,7 +134,7 @@ pub(crate) fn begin_rows(
 
 /// Begins the last row of a line's strokes below all that stands in the grid.
 fn begin_last_row(buffer: &mut StyledBuffer, layout: Layout, closes: bool) -> Result<(), AllocError>
-    requires narrow { layout.gutter < 2 ^ 32 }
+    requires narrow { layout.gutter < 2 ^ 63 + 2 ^ 32 }
     ensures added { OnOk result (buffer.new ≡ buffer.old ++ bare_row layout.decor layout.gutter closes ∷ []) }
     ensures small { length buffer.old < 2 ^ 60 }
 {

@@ -56,7 +56,7 @@ pub fn draw_snippet(
     infos: &[AnnotatedLineInfo],
 ) -> Result<(), AllocError>
     requires place { layout.gutter + 3 ≤ layout.code }
-    requires narrow { layout.code < 2 ^ 32 }
+    requires narrow { layout.code < 2 ^ 63 + 2 ^ 32 }
     requires numbers { All (λ info. length (shown_number numbered layout.gutter info.line_index) ≤ layout.gutter + 1)
         infos.now }
     requires texts { All (λ info. length info.line.now < 2 ^ 56) infos.now }
@@ -98,7 +98,7 @@ fn draw_line(
     open_bars: &[OpenBar],
 ) -> Result<Vec<OpenBar>, AllocError>
     requires place { layout.gutter + 3 ≤ layout.code }
-    requires narrow { layout.code < 2 ^ 32 }
+    requires narrow { layout.code < 2 ^ 63 + 2 ^ 32 }
     requires number { length (shown_number numbered layout.gutter info.now.line_index) ≤ layout.gutter + 1 }
     requires text { length info.now.line.now < 2 ^ 56 }
     requires columns { All HasPlace info.now.annotations.items }
@@ -143,7 +143,7 @@ fn draw_entries(
     ends: &[OpenBar],
 ) -> Result<(), AllocError>
     requires place { layout.gutter + 3 ≤ layout.code }
-    requires narrow { layout.code < 2 ^ 32 }
+    requires narrow { layout.code < 2 ^ 63 + 2 ^ 32 }
     requires last { length buffer.old ≡ row + 1 }
     requires columns { All HasPlace info.now.annotations.items }
     requires clear { All (λ e. is_bar e.annotation_type ≡ false → dropped ≤ e.start.display) info.now.annotations.items }

@@ -37,7 +37,7 @@ pub(crate) fn draw_source_row(
     info: &AnnotatedLineInfo,
 ) -> Result<(usize, usize), AllocError>
     requires place { layout.gutter + 3 ≤ layout.code }
-    requires narrow { layout.code < 2 ^ 32 }
+    requires narrow { layout.code < 2 ^ 63 + 2 ^ 32 }
     requires number { length (shown_number numbered layout.gutter info.now.line_index) ≤ layout.gutter + 1 }
     requires text { length info.now.line.now < 2 ^ 56 }
     ensures added { OnOk result (AddsSourceRow layout (shown_number numbered layout.gutter info.now.line_index)
@@ -67,7 +67,7 @@ fn write_source_row(
     window: LineWindow,
 ) -> Result<usize, AllocError>
     requires place { layout.gutter + 3 ≤ layout.code }
-    requires narrow { layout.code < 2 ^ 32 }
+    requires narrow { layout.code < 2 ^ 63 + 2 ^ 32 }
     requires number { length (chars number.now) ≤ layout.gutter + 1 }
     requires number_free { list_any is_listed (chars number.now) ≡ false }
     requires placeholder { chars placeholder.now ≡ placeholder_of layout.decor }
@@ -97,7 +97,7 @@ fn write_beginning(
     start: Option<usize>,
     text: &str,
 ) -> Result<(), AllocError>
-    requires narrow { layout.code < 2 ^ 32 }
+    requires narrow { layout.code < 2 ^ 63 + 2 ^ 32 }
     requires row { row + 1 < 2 ^ 64 }
     requires placeholder { chars placeholder.now ≡ placeholder_of layout.decor }
     requires start { IfSome start (λ columns. columns < 2 ^ 59) }
@@ -123,7 +123,7 @@ fn write_end(
     placeholder: &str,
     end: Option<usize>,
 ) -> Result<(), AllocError>
-    requires narrow { layout.code < 2 ^ 32 }
+    requires narrow { layout.code < 2 ^ 63 + 2 ^ 32 }
     requires row { row + 1 < 2 ^ 64 }
     requires placeholder { chars placeholder.now ≡ placeholder_of layout.decor }
     requires end { IfSome end (λ at. at < 2 ^ 61) }

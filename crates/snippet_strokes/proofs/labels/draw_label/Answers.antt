@@ -4,7 +4,6 @@ use Rattle.std.proofs.lemmas.Bool.Decides.{nat_tests}
 use Rattle.std.proofs.lemmas.List.{nil_from_length}
 use Rattle.std.proofs.lemmas.Result.{on_ok_weaker}
 use Rattle.snippet_style.specs.Grid.{Cell, cell_at, drawn, cells_written, unlinked_cell}
-use Rattle.snippet_style.proofs.GridLemmas.{length-chars_le}
 use Rattle.snippet_model.specs.declared.snippet.AnnotationKind.{AnnotationKind}
 use Rattle.snippet_model.specs.declared.snippet.AnnotationKind.TheVariants.{Primary, Context, Visible}
 use Rattle.snippet_text.specs.Normalized.{is_listed}
@@ -21,7 +20,7 @@ puts-requires-clause-end c =
     let placed = c.args.placed.now in
     let column : c.label_place-below.result.1 ≡ (label_place placed).1 = ap (λ (x : ℕ × ℕ). x.1) c.label_place-below.ensures.value in
     let stands = label_column placed c.requires.columns in
-    omega (arith, column, stands.1, c.requires.narrow, length-chars_le c.as_str.result.now, c.as_str.ensures.len)
+    omega (arith, column, stands.1, c.requires.narrow, ap length (ap chars c.as_str.ensures.value ∙ c.requires.label), c.requires.short)
 
 pub returns-clause-draws : goal.returns-clause-draws
 returns-clause-draws c =

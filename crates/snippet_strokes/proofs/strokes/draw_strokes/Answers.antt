@@ -13,6 +13,7 @@ use Rattle.snippet_strokes.specs.Rows.{separator_row, bare_row}
 use Rattle.snippet_strokes.proofs.PositionLemmas.{entries_all, row_count_some, positions_of_placed}
 use Rattle.snippet_strokes.proofs.BegunLemmas.{rows_begun, rows_ready, wide_entries-permutation}
 use Rattle.snippet_strokes.proofs.StrokeLemmas.{strokes_drawn, strokes_none}
+use Rattle.snippet_strokes.proofs.TextLemmas.{labels_short}
 use Rattle.snippet_strokes.proofs.strokes.draw_strokes.Goals as goal
 
 pub row_count-requires : goal.row_count-requires
@@ -66,6 +67,11 @@ draw_labels-requires-clause-rows c =
 pub draw_labels-requires-clause-labels : goal.draw_labels-requires-clause-labels
 draw_labels-requires-clause-labels c =
     subst (All HasItsLabel) (sym c.deref-6.ensures.value) c.in_ok-placed.ensures.placed.labels
+
+pub draw_labels-requires-clause-short : goal.draw_labels-requires-clause-short
+draw_labels-requires-clause-short c =
+    let Q : LineAnnotation → Type 0 = λ e. length (label_text e) < 2 ^ 60 in
+    subst (All (λ (e : PlacedEntry). Q e.entry)) (sym c.deref-6.ensures.value) (entries_all Q (map (shifted c.args.dropped) c.args.entries.now) c.in_ok-placed.placed.items c.in_ok-placed.ensures.placed.same (labels_short c.args.dropped c.args.entries.now c.requires.labels))
 
 pub draw_marks-requires-clause-columns : goal.draw_marks-requires-clause-columns
 draw_marks-requires-clause-columns c = λ k d within. ((entries_all HasPlace (map (shifted c.args.dropped) c.args.entries.now) c.in_ok-placed.placed.items c.in_ok-placed.ensures.placed.same (shifted_places c.args.dropped c.args.entries.now c.requires.columns)) k d within).near
