@@ -3,11 +3,11 @@ use Rattle.std.proofs.Common.{◌≡◌, ℕ, zero, suc, ◌+◌, ◌-◌, ◌<�
 use Rattle.std.specs.List.{All, filter, list_all, list_any}
 use Rattle.std.specs.Cow.{cow_str_bytes}
 use Rattle.std.specs.Char.{is_ascii_alphanumeric}
-use Rattle.std.proofs.lemmas.Bool.{and_parts, and_from, cases_lt, cases_eq, cases_Bool, eqb-true, eq-eqb}
+use Rattle.std.proofs.lemmas.Bool.{and_parts, and_from, cases_lt, cases_eq, cases_Bool, eqb-true, eq-eqb, lt-ltb}
 use Rattle.std.proofs.lemmas.Bool.Decides.{nat_tests}
 use Rattle.std.proofs.lemmas.List.{take-map, drop-map, take-take, get_or-take, get_or-append_right, get_or-map, length-map, length-replicate}
-use Rattle.std.proofs.lemmas.List.Elements.{All-get_or, All-contains, All-head, All-map, All-tail}
-use Rattle.std.proofs.lemmas.List.Sums.{AllPass-from_list_all, sum_by-cons}
+use Rattle.std.proofs.lemmas.List.Elements.{All-get_or, All-contains, All-head, All-map, All-tail, Contains-get_or}
+use Rattle.std.proofs.lemmas.List.Sums.{AllPass-from_list_all, list_all-from_AllPass, sum_by-cons}
 use Rattle.snippet_model.specs.declared.snippet.Annotation.{Annotation}
 use Rattle.snippet_model.specs.declared.snippet.Snippet.{Snippet}
 use Rattle.snippet_style.specs.Grid.{Cell, SPACE, row_at, drawn, unlinked_cell}
@@ -32,7 +32,7 @@ use Rattle.snippet_parts.specs.Marked.{Entry, seen_entry, entry_of}
 use Rattle.snippet_parts.specs.Measures.{is_bar, is_single_part, is_wide_entry}
 use Rattle.snippet_lines.specs.Span.{IsSpan}
 use Rattle.snippet_parts.specs.Window.{AreReplaced, IsWindowOf, chars_at, dropped_part, stands_whole, window}
-use Rattle.snippet_strokes.specs.Entries.{IsEntryMark, IsMarkCell, IsRailCell, are_plain, has_mark_role, is_end_part, is_single, label_role, label_text, shifted, wide_entries}
+use Rattle.snippet_strokes.specs.Entries.{IsEntryMark, IsMarkCell, IsRailCell, are_plain, has_column, has_mark_role, is_end_part, is_single, label_role, label_text, shifted, wide_entries}
 use Rattle.snippet_strokes.specs.Rows.{shown_number, bare_row, HasNoNumber, IsSourceRow, IsStrokeRow, ShowsMarks}
 use Rattle.snippet_strokes.specs.Snippet as strokes
 use Rattle.snippet_strokes.specs.declared.layout.Layout.{Layout}
@@ -42,7 +42,7 @@ use Rattle.annotate_snippets.specs.declared.renderer.Renderer.{Renderer}
 use Rattle.annotate_snippets.specs.Drawn.{code_of, layout_of}
 use Rattle.annotate_snippets.specs.Gutter.{gutter_of, number_text, numbered_source}
 use Rattle.annotate_snippets.specs.Shown.{Frame, HasBarsAlone, HasStroke, IsRowBelow, ShowsMarksOf, ShowsSourceLine, bounds_in, room_of, shown_label, wide_spans}
-use Rattle.annotate_snippets.proofs.MarkLemmas.{from_any, IsEntryOf, mark_of_entries, unmarked_by_entries, entries_behind, unlabelled_entries, lone_entry, some_entry, shifted_mark, shifted_unmarked, shifted_behind}
+use Rattle.annotate_snippets.proofs.MarkLemmas.{from_any, span_of_entry, IsEntryOf, mark_of_entries, unmarked_by_entries, entries_behind, unlabelled_entries, lone_entry, some_entry, shifted_mark, shifted_unmarked, shifted_behind}
 use Rattle.annotate_snippets.proofs.PartsFacts.{stands_left, untouched, wide_on_line}
 use Rattle.annotate_snippets.proofs.WindowLemmas.{dropped-none}
 
@@ -329,10 +329,20 @@ module _ (r : Renderer) (unanonymized : r.anonymized_snippet_line_numbers ≡ fa
       clear : All (λ e. shows.dropped ≤ e.start.display) es
       clear = single_columns shows.dropped es single shows.clear
 
+      -- each entry covers a column, where it stands then
+      columns : list_all has_column moved ≡ true
+      columns =
+          list_all-from_AllPass has_column moved (All-map (λ e. has_column e ≡ true) (shifted shows.dropped) es (λ i d inside.
+              let e : LineAnnotation = get_or es i d in
+              let own = span_of_entry (numbered_source s) s.markers.items k es same e (Contains-get_or es i d inside) in
+              let is : IsEntryOf (numbered_source s) k own.0 e = own.2 in
+              lt-ltb (e.start.display - shows.dropped) (e.end.display - shows.dropped) (omega (arith, clear i d inside, is.start, is.end))))
+
       plain : are_plain margin.term_width r.decor_style moved ≡ true
       plain =
           let none : wide_spans (room_of r (frame_of s)) placeholder_width s k ≡ 0 = count-none (λ a. is_marked_on (cow_str_bytes s.source) k a && is_wide (room_of r (frame_of s)) placeholder_width (cow_str_bytes s.source) a) s.markers.items qualified_parts.1 in
-          and_from (list_all is_single moved) (wide_entries margin.term_width r.decor_style moved == 0) (single-shifted shows.dropped es single) (eq-eqb _ _ (wide_is ∙ none))
+          let narrow : (wide_entries margin.term_width r.decor_style moved == 0) ≡ true = eq-eqb (wide_entries margin.term_width r.decor_style moved) 0 (wide_is ∙ none) in
+          and_from (list_all is_single moved) (list_all has_column moved && wide_entries margin.term_width r.decor_style moved == 0) (single-shifted shows.dropped es single) (and_from (list_all has_column moved) (wide_entries margin.term_width r.decor_style moved == 0) columns narrow)
 
       -- there is a row below
       pub marks_there : 0 < length shows.below

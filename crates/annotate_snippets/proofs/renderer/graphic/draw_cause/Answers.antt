@@ -1,4 +1,5 @@
-use Rattle.std.proofs.Common.{◌≡◌, ◌∙◌, ◌+◌, ◌-◌, ◌<◌, ◌≤◌, ◌^◌, true, Bool, All, ap, sym, subst, arith, length, map, List, ℕ}
+use Rattle.std.proofs.Common.{◌≡◌, ◌∙◌, ◌+◌, ◌-◌, ◌<◌, ◌≤◌, ◌^◌, ◌==◌, cond, inl, inr, true, Bool, All, ap, sym, subst, arith, length, map, List, ℕ}
+use Rattle.std.proofs.lemmas.Bool.{cases_Bool}
 use Rattle.std.proofs.lemmas.Result.{on_ok_weaker}
 use Rattle.std.specs.Cow.{cow_str_bytes}
 use Rattle.snippet_model.specs.declared.snippet.Annotation.{Annotation}
@@ -69,7 +70,15 @@ shown_is c =
 
 pub draw_snippet-requires-clause-narrow : goal.draw_snippet-requires-clause-narrow
 draw_snippet-requires-clause-narrow c =
-    ?
+    let layout = c.layout_for-layout.ensures in
+    code_near c.gutter_of.result c.in_ok-depth.depth c.layout_for-layout.result.code layout.code (omega (arith, c.in_ok-depth.ensures.deepest, deepest_few c.in_ok-source.source c.deref.result.now, c.deref.ensures.len, c.gutter_of.ensures.small))
+  where
+    code_near : (gutter depth code : ℕ) → code ≡ code_behind gutter depth → gutter + depth < 2 ^ 63 + 2 ^ 31 → code < 2 ^ 63 + 2 ^ 32
+    code_near gutter depth code is near =
+        elim (cases_Bool (depth == 0)) [
+          | inl none ↦ omega (arith, is, ap (λ b. cond b (gutter + 3) (gutter + 3 + depth + 1)) none, near)
+          | inr some ↦ omega (arith, is, ap (λ b. cond b (gutter + 3) (gutter + 3 + depth + 1)) some, near)
+        ]
 
 pub draw_snippet-requires-clause-numbers : goal.draw_snippet-requires-clause-numbers
 draw_snippet-requires-clause-numbers c =
