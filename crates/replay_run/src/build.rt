@@ -65,14 +65,28 @@ fn group_of<'v>(alloc: Global, group: &case::Group<'v>) -> Result<Group<'v>, Ren
     let case::Head::Titled(title) = group.head else {
         return Err(RenderError::NotYet);
     };
-    let title = title_of(title)?;
-    match group.elements.as_slice() {
-        [] => Ok(Group::with_title(alloc, title)),
-        [element] => title
-            .element(alloc, element_of(alloc, element)?)
-            .map_err(RenderError::Memory),
-        _ => Err(RenderError::NotYet),
+    let built = Group::with_title(alloc, title_of(title)?);
+    with_elements(alloc, built, &group.elements)
+}
+
+/// The group with these elements, in order, behind those it has.
+fn with_elements<'v>(
+    alloc: Global,
+    group: Group<'v>,
+    elements: &[case::Element<'v>],
+) -> Result<Group<'v>, RenderError>
+    requires fits { GroupFits group }
+    ensures fits { IfOk result GroupFits }
+{
+    let mut built = group;
+    for element in elements {
+        let element = element_of(alloc, element)?;
+        match built.element(element) {
+            Ok(more) => built = more,
+            Err(refused) => return Err(RenderError::Memory(refused)),
+        }
     }
+    Ok(built)
 }
 
 /// A title.

@@ -122,9 +122,23 @@ impl<'a> Title<'a> {
         ensures level { IfOk result (λ g. g.level ≡ self.entry.level.kind) }
         ensures elements { IfOk result (λ g. g.elements.items ≡ element.entry ∷ []) }
     {
-        let mut group = Group::with_title(alloc, self);
-        group.elements.push(element)?;
-        Ok(group)
+        Group::with_title(alloc, self).element(element)
+    }
+
+    /// A group with this title and these elements, in their order. The one error is want of memory.
+    pub fn elements<I: IntoIterator<Item = Element<'a>>>(
+        self,
+        alloc: Global,
+        elements: I,
+    ) -> Result<Group<'a>, AllocError>
+        requires ends { IsFiniteIterable I.into_iter_gives I.IntoIter.can_next I.IntoIter.remaining elements }
+        ensures title { IfOk result (λ g. g.title ≡ Some self.entry) }
+        ensures level { IfOk result (λ g. g.level ≡ self.entry.level.kind) }
+        ensures elements { IfOk result (λ g. (it : I.IntoIter) × (xs : List Element)
+            × I.into_iter_gives elements it × Drains I.IntoIter.next_gives it xs
+            × (g.elements.items ≡ xs)) }
+    {
+        Group::with_title(alloc, self).elements(elements)
     }
 }
 
@@ -151,6 +165,33 @@ impl<'a> Group<'a> {
             title: Some(title),
             elements: Vec::new(alloc),
         }
+    }
+
+    /// The group with one more element behind those it has. The one error is want of memory.
+    pub fn element(mut self, element: Element<'a>) -> Result<Group<'a>, AllocError>
+        ensures title { IfOk result (λ g. g.title ≡ self.entry.title) }
+        ensures level { IfOk result (λ g. g.level ≡ self.entry.level) }
+        ensures elements { IfOk result
+            (λ g. g.elements.items ≡ self.entry.elements.items ++ element.entry ∷ []) }
+    {
+        self.elements.push(element)?;
+        Ok(self)
+    }
+
+    /// The group with these elements behind those it has, in their order. The one error is want of memory.
+    pub fn elements<I: IntoIterator<Item = Element<'a>>>(
+        mut self,
+        elements: I,
+    ) -> Result<Group<'a>, AllocError>
+        requires ends { IsFiniteIterable I.into_iter_gives I.IntoIter.can_next I.IntoIter.remaining elements }
+        ensures title { IfOk result (λ g. g.title ≡ self.entry.title) }
+        ensures level { IfOk result (λ g. g.level ≡ self.entry.level) }
+        ensures elements { IfOk result (λ g. (it : I.IntoIter) × (xs : List Element)
+            × I.into_iter_gives elements it × Drains I.IntoIter.next_gives it xs
+            × (g.elements.items ≡ self.entry.elements.items ++ xs)) }
+    {
+        self.elements.extend(elements)?;
+        Ok(self)
     }
 }
 

@@ -10,6 +10,7 @@ use snippet_parts::{SourceMap, check_span, newline_count};
 use snippet_splice::{SplicedLines, SubstitutionHighlight, as_substr, check_patches};
 use snippet_text::text_fits;
 use std::alloc::{AllocError, Global};
+use std::ops::Range;
 use std::test::Fail;
 
 #[test]
@@ -97,6 +98,24 @@ fn push_stretches(
     Ok(())
 }
 
+/// What one patch makes of a source, or that it is refused.
+fn described_one(
+    alloc: Global,
+    source: &str,
+    span: Range<usize>,
+    replacement: &str,
+    fold: bool,
+) -> Result<String, AllocError> {
+    if check_span(source, &span).is_some() || !text_fits(source) || 9 <= newline_count(source) {
+        return String::from_str(alloc, "refused");
+    }
+    let patches = [Patch::new(span, replacement)];
+    if check_patches(source, &patches).is_some() {
+        return String::from_str(alloc, "refused");
+    }
+    described(alloc, source, &patches, fold)
+}
+
 #[test]
 fn splices_of_one_patch(rt: HostRuntime) -> Result<(), Fail> {
     for (source, (start, end, replacement), fold, want) in [
@@ -116,11 +135,7 @@ fn splices_of_one_patch(rt: HostRuntime) -> Result<(), Fail> {
         ),
         ("a", (0, 1, "\tb"), true, "\tb / 0..1 \tb / 0-5 / 0-1"),
     ] {
-        assert!(rt; text_fits(source) && newline_count(source) < 9);
-        assert!(rt; check_span(source, &(start..end)).is_none());
-        let patches = [Patch::new(start..end, replacement)];
-        assert!(rt; check_patches(source, &patches).is_none());
-        let got = described(rt.alloc(), source, &patches, fold)?;
+        let got = described_one(rt.alloc(), source, start..end, replacement, fold)?;
         assert_eq!(rt; got.as_str(), want);
     }
     Ok(())

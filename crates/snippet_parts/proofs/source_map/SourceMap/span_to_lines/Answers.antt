@@ -1,4 +1,4 @@
-use Rattle.std.proofs.Common.{◌≡◌, ◌<◌, ◌≤◌, ◌+◌, ◌-◌, ◌∙◌, List, ℕ, length, map, ap, subst, arith}
+use Rattle.std.proofs.Common.{◌≡◌, ◌<◌, ◌≤◌, ◌+◌, ◌-◌, ◌∙◌, List, ℕ, length, map, ap, arith}
 use Rattle.std.specs.List.{range_with_len}
 use Rattle.snippet_lines.specs.Lines.{Line, source_lines}
 use Rattle.snippet_lines.specs.Place.{line_of}
