@@ -26,3 +26,5 @@ mod splice;
 mod strokes;
 #[cfg(test)]
 mod text;
+#[cfg(test)]
+mod widths;

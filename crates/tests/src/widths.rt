@@ -1,44 +1,240 @@
 //! Reports of narrow renderers: each is drawn at every width, and says the same wherever there is room.
 ghost use Rattle.std.specs.Prelude.{◌^◌, ◌<◌, IfOk, length};
-ghost use Rattle.snippet_model.specs.Fits.{AnnotationFits, GroupFits, SnippetFits};
+ghost use Rattle.snippet_model.specs.Fits.{AnnotationFits, SnippetFits};
 
 use annotate_snippets::level::ERROR;
 use annotate_snippets::renderer::RenderError;
 use annotate_snippets::text::text_fits;
-use annotate_snippets::{AnnotationKind, Element, Group, Renderer, Snippet};
+use annotate_snippets::{Annotation, AnnotationKind, Element, OptionCow, Renderer, Snippet};
 use std::alloc::{AllocError, Global};
-use std::ops::Range;
 use std::test::Fail;
 
-/// A source with one span, and what is drawn of it in these widths.
+/// A span: its kind, the byte at which it starts, and the one before which it ends.
+type Span = (AnnotationKind, usize, usize);
+
+/// A source with a span or two, and what is drawn of it in the widths that have room for this.
 #[derive(Clone, Copy)]
 struct Row {
     /// The source.
     source: &'static str,
-    /// The byte at which the primary span starts.
-    start: usize,
-    /// The byte before which it ends.
-    end: usize,
-    /// The least width in which this text is drawn.
-    from: usize,
-    /// The greatest one up to 40.
-    to: usize,
+    /// The first span, which has a label unless this is empty.
+    first: Span,
+    /// Its label.
+    label: &'static str,
+    /// The second one.
+    second: Option<Span>,
+    /// The widths, from the least to the greatest.
+    widths: (usize, usize),
     /// The text.
     text: &'static str,
 }
 
+/// A row with one primary span.
 const fn row(
     source: &'static str,
-    span: (usize, usize),
+    start: usize,
+    end: usize,
+    label: &'static str,
     widths: (usize, usize),
     text: &'static str,
 ) -> Row {
     Row {
         source,
-        start: span.0,
-        end: span.1,
-        from: widths.0,
-        to: widths.1,
+        first: (AnnotationKind::Primary, start, end),
+        label,
+        second: None,
+        widths,
         text,
     }
+}
+
+/// A row with a primary span and another one.
+const fn two(
+    source: &'static str,
+    first: (usize, usize),
+    second: Span,
+    widths: (usize, usize),
+    text: &'static str,
+) -> Row {
+    Row {
+        source,
+        first: (AnnotationKind::Primary, first.0, first.1),
+        label: "",
+        second: Some(second),
+        widths,
+        text,
+    }
+}
+
+/// The greatest width that rows are drawn in.
+const WIDEST: usize = 40;
+
+fn rows() -> [Row; 17] {
+    [
+        row(
+            "let x = 1;",
+            4,
+            5,
+            "here",
+            (14, WIDEST),
+            "error: e\n  |\n1 | let x = 1;\n  |     ^ here",
+        ),
+        row(
+            "ab",
+            2,
+            3,
+            "",
+            (6, WIDEST),
+            "error: e\n  |\n1 | ab\n  |   ^",
+        ),
+        row("", 0, 0, "", (0, WIDEST), "error: e\n  |\n1 |\n  | ^"),
+        row("ab", 0, 1, "", (0, 0), "error: e\n  |\n1 | ab\n  | ^"),
+        row(
+            "日本",
+            3,
+            6,
+            "",
+            (8, WIDEST),
+            "error: e\n  |\n1 | 日本\n  |   ^^",
+        ),
+        row(
+            "\tx",
+            1,
+            2,
+            "",
+            (9, WIDEST),
+            "error: e\n  |\n1 |     x\n  |     ^",
+        ),
+        two(
+            "abcdef",
+            (2, 4),
+            (AnnotationKind::Context, 0, 6),
+            (10, WIDEST),
+            "error: e\n  |\n1 | abcdef\n  | --^^--",
+        ),
+        row(
+            "aaaaaaaaaaaaaaaaaaaaaaaaaaaaaaTaaaaaaaaaaaaaaaaaaaaaaaaaaaaa",
+            30,
+            31,
+            "",
+            (20, 20),
+            "error: e\n  |\n1 | ...aaaaTaaaaa...\n  |        ^",
+        ),
+        row(
+            "aaaaaaaaaaaaaaaaaaaaaaaaaaaaaaaaaaaaaaaa",
+            0,
+            40,
+            "",
+            (20, 20),
+            "error: e\n  |\n1 | aaaaa...aaaaa\n  | ^^^^^...^^^^^",
+        ),
+        row(
+            "日日日日日日日日日日日日日日日Taaaaaaaaaaaaaaaaaaaaaaaaaaaaa",
+            45,
+            46,
+            "",
+            (20, 20),
+            "error: e\n  |\n1 | ... 日Taaaaaa...\n  |       ^",
+        ),
+        row(
+            "a {\n b\n}",
+            0,
+            8,
+            "",
+            (9, WIDEST),
+            "error: e\n  |\n1 | / a {\n2 | |  b\n3 | | }\n  | |_^",
+        ),
+        row(
+            "f(a,\n b)",
+            1,
+            8,
+            "x",
+            (10, WIDEST),
+            "error: e\n  |\n1 |   f(a,\n  |  __^\n2 | |  b)\n  | |___^ x",
+        ),
+        two(
+            "a\nb\nc\nd",
+            (0, 1),
+            (AnnotationKind::Context, 6, 7),
+            (5, WIDEST),
+            "error: e\n  |\n1 | a\n  | ^\n...\n4 | d\n  | -",
+        ),
+        two(
+            "a\nb\nc",
+            (0, 1),
+            (AnnotationKind::Context, 4, 5),
+            (5, WIDEST),
+            "error: e\n  |\n1 | a\n  | ^\n2 | b\n3 | c\n  | -",
+        ),
+        two(
+            "a\nb",
+            (0, 1),
+            (AnnotationKind::Visible, 2, 3),
+            (5, WIDEST),
+            "error: e\n  |\n1 | a\n  | ^\n2 | b\n  |",
+        ),
+        two(
+            "a\nb",
+            (0, 3),
+            (AnnotationKind::Context, 0, 3),
+            (7, WIDEST),
+            "error: e\n  |\n1 | / a\n2 | | b\n  | |_^",
+        ),
+        row(
+            "a\na\na\na\na\na\na\na\na\nb",
+            16,
+            18,
+            "",
+            (7, WIDEST),
+            "error: e\n  |\n9 | / a\n10| | b\n  | |_^",
+        ),
+    ]
+}
+
+/// The text of a row's report in a width; fails where the source is too long, or the report is refused.
+fn drawn(alloc: Global, row: &Row, width: usize) -> Result<String, Fail> {
+    if !text_fits(row.source) || !text_fits(row.label) {
+        return Err(Fail::new("a text that is too long"));
+    }
+    let snippet = marked(alloc, row)?;
+    let group = ERROR
+        .primary_title("e")
+        .element(alloc, Element::from(snippet))?;
+    Ok(Renderer::plain().term_width(width).render(alloc, &[group])?)
+}
+
+/// A row's snippet.
+fn marked<'a>(alloc: Global, row: &Row) -> Result<Snippet<'a, Annotation<'a>>, AllocError>
+    requires source { length row.now.source.now < 2 ^ 56 }
+    requires label { length row.now.label.now < 2 ^ 56 }
+    ensures fits { IfOk result (SnippetFits AnnotationFits) }
+{
+    let (kind, start, end) = row.first;
+    let label = if row.label.is_empty() {
+        OptionCow(None)
+    } else {
+        OptionCow::from(row.label)
+    };
+    let snippet = Snippet::source(alloc, row.source).annotation(
+        kind.span(start..end).label(label),
+    )?;
+    match row.second {
+        Some((kind, start, end)) => snippet.annotation(kind.span(start..end)),
+        None => Ok(snippet),
+    }
+}
+
+#[test]
+fn every_width_draws(rt: HostRuntime) -> Result<(), Fail> {
+    let alloc = rt.alloc();
+    for row in &rows() {
+        for width in 0..WIDEST + 1 {
+            let text = drawn(alloc, row, width)?;
+            assert!(rt; text.as_str().starts_with("error: e\n  |\n"));
+            if row.widths.0 <= width && width <= row.widths.1 {
+                assert_eq!(rt; text.as_str(), row.text);
+            }
+        }
+    }
+    Ok(())
 }
