@@ -16,6 +16,7 @@ pub mod MarkedLemmas
 pub mod PartLemmas
 pub mod PlaceBounds
 pub mod ShownFacts
+pub mod NearLemmas
 pub mod ShownLemmas
 pub mod SortLemmas
 pub mod TableLemmas

@@ -8,7 +8,7 @@ use Rattle.std.proofs.lemmas.List.Sums.{sum_by-cons, fold_push}
 use Rattle.std.proofs.lemmas.Bool.{le-leb}
 use Rattle.std.proofs.lemmas.Bool.Decides.{nat_tests}
 use Rattle.snippet_text.specs.Width.{char_width, width_of}
-use Rattle.snippet_parts.specs.Window.{reaching, fitting, reaching_last, bytes_of, window_left, dropped_part, uncovered_part}
+use Rattle.snippet_parts.specs.Window.{reaching, fitting, reaching_last, bytes_of, uncovered_part}
 
 -- the scalars of a list's two parts
 scalars_back : (xs ys : List ℕ) → scalars (xs ++ ys) ≡ true → scalars ys ≡ true
@@ -49,7 +49,7 @@ cut_back text n at utf8 is =
     ap chars bytes ∙ chars-encodes back (scalars_back front back (all_scalars text n utf8))
 
 -- one more character
-width-cons : (c : ℕ) (cs : List ℕ) → width_of (c ∷ cs) ≡ char_width c + width_of cs
+pub width-cons : (c : ℕ) (cs : List ℕ) → width_of (c ∷ cs) ≡ char_width c + width_of cs
 width-cons c cs = sum_by-cons char_width c cs
 
 width-push : (cs : List ℕ) (c : ℕ) → width_of (cs ++ c ∷ []) ≡ width_of cs + char_width c
@@ -84,10 +84,10 @@ pub record ReachesSoFar (columns : ℕ) (cs : List ℕ) (n at width : ℕ) : Typ
   pub width_is : width ≡ width_of (take n cs)
   pub rest : reaching columns cs ≡ n + reaching (columns - width) (drop n cs)
 
-reaching-cons : (k c : ℕ) (cs : List ℕ) → 0 < k → reaching k (c ∷ cs) ≡ reaching (k - char_width c) cs + 1
+pub reaching-cons : (k c : ℕ) (cs : List ℕ) → 0 < k → reaching k (c ∷ cs) ≡ reaching (k - char_width c) cs + 1
 reaching-cons k c cs some = grind (arith, nat_tests, some)
 
-reaching-none : (cs : List ℕ) → reaching 0 cs ≡ 0
+pub reaching-none : (cs : List ℕ) → reaching 0 cs ≡ 0
 reaching-none [] = refl
 reaching-none (c ∷ cs) = refl
 
@@ -126,10 +126,10 @@ pub record FitsSoFar (columns : ℕ) (cs : List ℕ) (n at left : ℕ) : Type 0 
   pub width_is : left + width_of (take n cs) ≡ columns
   pub rest : fitting columns cs ≡ n + fitting left (drop n cs)
 
-fitting-cons : (k c : ℕ) (cs : List ℕ) → char_width c ≤ k → fitting k (c ∷ cs) ≡ fitting (k - char_width c) cs + 1
+pub fitting-cons : (k c : ℕ) (cs : List ℕ) → char_width c ≤ k → fitting k (c ∷ cs) ≡ fitting (k - char_width c) cs + 1
 fitting-cons k c cs fits = grind (arith, nat_tests, fits)
 
-fitting-stop : (k c : ℕ) (cs : List ℕ) → k < char_width c → fitting k (c ∷ cs) ≡ 0
+pub fitting-stop : (k c : ℕ) (cs : List ℕ) → k < char_width c → fitting k (c ∷ cs) ≡ 0
 fitting-stop k c cs wide = grind (arith, nat_tests, wide)
 
 pub fits_start : (columns : ℕ) (cs : List ℕ) → FitsSoFar columns cs 0 0 columns
@@ -225,9 +225,3 @@ start_is_few (Some s) columns narrow few = omega (arith, narrow, few)
 pub cells_few : (start : Option ℕ) (columns left : ℕ) (placeholder inner shown : List ℕ) (n count : ℕ) → columns < 2 ^ 58 + 1 → IfSome start (λ s. s < columns + 4) → shown ≡ uncovered_part left placeholder inner → length inner < 2 ^ 60 → n ≡ unwrap_or start 0 → count ≡ length shown → n + count < 2 ^ 61
 cells_few start columns left placeholder inner shown n count narrow few is short n_is count_is =
     omega (arith, start_few start columns narrow few, ap length is, uncovered_short left placeholder inner)
-
--- nothing is dropped where the window begins at column 0
-pub dropped_none : (left dropped : ℕ) (cs : List ℕ) → left ≡ 0 → dropped ≡ width_of (dropped_part left cs) → dropped ≡ 0
-dropped_none left dropped cs none is =
-    let start : window_left left cs ≡ 0 = omega arith in
-    is ∙ ap (λ n. width_of (take (reaching n cs) cs)) start ∙ ap (λ n. width_of (take n cs)) (reaching-none cs)

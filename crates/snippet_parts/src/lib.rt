@@ -15,6 +15,7 @@ mod made_entries;
 pub mod margin;
 pub mod mark;
 pub mod marked_lines;
+pub mod near;
 pub mod prepare;
 pub mod source_map;
 mod weak_lines;
@@ -26,6 +27,7 @@ pub use extent::margin_for;
 pub use line_window::{LineWindow, window_of};
 pub use margin::Margin;
 pub use mark::{is_marking, mark_of};
+pub use near::{NearPart, near_part};
 pub use prepare::counted_number;
 pub use snippet_lines::{
     CursorLines, EndLine, Loc, SpanFault, check_span, counts, line_bounds, line_feed_count, lines,

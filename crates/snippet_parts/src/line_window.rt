@@ -1,7 +1,8 @@
 //! The window of a line: the part of it that is shown.
-ghost use Rattle.std.specs.Prelude.{◌≡◌, ◌+◌, ◌-◌, ◌*◌, ◌^◌, ◌<◌, ◌≤◌, IfSome, List, ℕ, length, take, drop, chars};
+ghost use Rattle.std.specs.Prelude.{◌≡◌, ◌+◌, ◌-◌, ◌*◌, ◌^◌, ◌<◌, ◌≤◌, IfSome, List, ℕ, length, take, drop, chars, min};
 ghost use Rattle.snippet_text.specs.Width.{width_of};
 ghost use Rattle.snippet_parts.specs.Margin.{bounds_of};
+ghost use Rattle.snippet_parts.specs.NearPart.{IsPartOf};
 ghost use Rattle.snippet_parts.specs.Window.{reaching, fitting, reaching_last, dropped_part, inner_part, bytes_of, covered_columns, uncovered_part, covered_end};
 
 use crate::margin::Margin;
@@ -30,36 +31,39 @@ pub struct LineWindow<'a> {
     pub end: Option<usize>,
 }
 
-/// The window of a line of this normalised text, which is so many columns wide, between the bounds of a margin.
+/// The window of a line of so many columns, between the bounds of a margin. Of the line's normalised text `text` is the part,
+/// behind `skipped` columns, that holds the window.
 pub fn window_of<'a>(
     margin: Margin,
     placeholder: &str,
+    skipped: usize,
     text: &'a str,
     width: usize,
 ) -> LineWindow<'a>
-    requires width { width ≡ width_of (chars text.now) }
     requires narrow { width < 2 ^ 60 }
+    requires skipped { skipped ≤ min (bounds_of margin).left width }
     requires short { length (chars text.now) < 2 ^ 60 }
     requires placeholder { length placeholder.now < 2 ^ 56 }
-    ensures dropped { result.dropped ≡ width_of (dropped_part (bounds_of margin).left (chars text.now)) }
+    ensures dropped { (line : List ℕ) → IsPartOf margin line width skipped (chars text.now)
+        → result.dropped ≡ width_of (dropped_part (bounds_of margin).left line) }
     // Few more columns are dropped than are left of the bound, and none where the bound is 0.
     ensures near { result.dropped < (bounds_of margin).left + 4 }
     ensures uncut { (bounds_of margin).left ≡ 0 → result.dropped ≡ 0 }
     ensures few_dropped { result.dropped < 2 ^ 61 }
     ensures few_start { IfSome result.start (λ start. start < 2 ^ 59) }
     ensures few_end { IfSome result.end (λ end. end < 2 ^ 61) }
-    ensures start { let bounds = bounds_of margin in let cs = chars text.now in
+    ensures start { (line : List ℕ) → IsPartOf margin line width skipped (chars text.now) → let bounds = bounds_of margin in
         result.start ≡ covered_columns bounds.left (chars placeholder.now)
-        (inner_part margin.term_width bounds.left bounds.right cs) }
-    ensures text { let bounds = bounds_of margin in let cs = chars text.now in
+        (inner_part margin.term_width bounds.left bounds.right line) }
+    ensures text { (line : List ℕ) → IsPartOf margin line width skipped (chars text.now) → let bounds = bounds_of margin in
         chars result.text.now ≡ uncovered_part bounds.left (chars placeholder.now)
-        (inner_part margin.term_width bounds.left bounds.right cs) }
-    ensures end { let bounds = bounds_of margin in
-        result.end ≡ covered_end margin.term_width bounds.left bounds.right (chars placeholder.now) (chars text.now) }
+        (inner_part margin.term_width bounds.left bounds.right line) }
+    ensures end { (line : List ℕ) → IsPartOf margin line width skipped (chars text.now) → let bounds = bounds_of margin in
+        result.end ≡ covered_end margin.term_width bounds.left bounds.right (chars placeholder.now) line }
 {
     let left = margin.left(width);
     let right = margin.right(width);
-    let (dropped, rest) = behind_columns(text, left);
+    let (reached, rest) = behind_columns(text, left - skipped);
     let (inner, inner_width) = within_columns(rest, right.saturating_sub(left));
     let columns = str_width(placeholder);
     let (start, shown) = uncovered(margin, columns, inner);
@@ -70,7 +74,7 @@ pub fn window_of<'a>(
         None
     };
     LineWindow {
-        dropped,
+        dropped: skipped + reached,
         start,
         text: shown,
         end,
@@ -107,7 +111,7 @@ fn behind_columns(text: &str, columns: usize) -> (usize, &str)
 }
 
 /// Where the fewest characters end that reach so many columns, or all, in bytes and in columns.
-fn reaching_end(text: &str, columns: usize) -> (usize, usize)
+pub(crate) fn reaching_end(text: &str, columns: usize) -> (usize, usize)
     requires few { columns < 2 ^ 60 }
     ensures bytes { let cs = chars text.now in result.0 ≡ bytes_of (take (reaching columns cs) cs) }
     ensures width { let cs = chars text.now in result.1 ≡ width_of (take (reaching columns cs) cs) }
@@ -135,9 +139,10 @@ fn within_columns(text: &str, columns: usize) -> (&str, usize)
 }
 
 /// Where the last of the characters ends that fit in so many columns, in bytes and in columns.
-fn fitting_end(text: &str, columns: usize) -> (usize, usize)
+pub(crate) fn fitting_end(text: &str, columns: usize) -> (usize, usize)
     ensures bytes { let cs = chars text.now in result.0 ≡ bytes_of (take (fitting columns cs) cs) }
     ensures width { let cs = chars text.now in result.1 ≡ width_of (take (fitting columns cs) cs) }
+    ensures near { columns < width_of (chars text.now) → columns < result.1 + 4 }
 {
     let mut at = 0;
     let mut left = columns;

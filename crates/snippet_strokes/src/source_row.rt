@@ -12,7 +12,7 @@ ghost use Rattle.snippet_text.specs.Width.{width_of};
 use crate::layout::Layout;
 use crate::number::number_text;
 use crate::row::begin_row;
-use snippet_parts::{AnnotatedLineInfo, LineWindow, Margin, window_of};
+use snippet_parts::{AnnotatedLineInfo, LineWindow, Margin, near_part, window_of};
 use snippet_style::{ElementStyle, StyledBuffer};
 use snippet_text::{normalized, str_width};
 use std::alloc::{AllocError, Global};
@@ -51,9 +51,11 @@ pub(crate) fn draw_source_row(
     ensures few { IfOk result (λ at. at.1 < 2 ^ 61) }
 {
     let number = number_text(alloc, numbered, layout.gutter, info.line_index)?;
-    let text = normalized(alloc, info.line)?;
+    let width = str_width(info.line);
+    let near = near_part(margin, info.line, width);
+    let text = normalized(alloc, near.text)?;
     let placeholder = layout.decor.placeholder();
-    let window = window_of(margin, placeholder, text.as_str(), str_width(info.line));
+    let window = window_of(margin, placeholder, near.skipped, text.as_str(), width);
     let row = write_source_row(buffer, layout, number.as_str(), placeholder, window)?;
     Ok((row, window.dropped))
 }

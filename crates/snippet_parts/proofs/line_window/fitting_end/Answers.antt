@@ -1,6 +1,6 @@
 use Rattle.std.proofs.Common.{◌≡◌, ◌∙◌, ◌-◌, length, take, ap, sym, arith, chars}
 use Rattle.std.proofs.lemmas.Iterator.{YieldsList-from_chars}
-use Rattle.std.proofs.lemmas.List.{length_push}
+use Rattle.std.proofs.lemmas.List.{length_push, take_all}
 use Rattle.std.proofs.lemmas.Iterator.Consumers.{YieldsList-turn, YieldsList-end}
 use Rattle.snippet_text.specs.Width.{width_of}
 use Rattle.snippet_parts.specs.Window.{bytes_of}
@@ -46,3 +46,10 @@ returns-clause-width c =
     let end = YieldsList-end (YieldsList-from_chars c.args.text.now c.utf8.text cc) c.loop-c.yielded _ c.loop-c.yielded_by _ _ c.in-None.is c.next.ensures.steps in
     let width : c.args.columns - c.loop-c.left ≡ width_of (take (length c.loop-c.yielded) cs) = omega (arith, c.loop-c.invariant.width_is) in
     width ∙ ap (λ n. width_of (take n cs)) (sym (fits_all c.args.columns cs (length c.loop-c.yielded) c.loop-c.at c.loop-c.left end.1 c.loop-c.invariant))
+
+pub returns-clause-near : goal.returns-clause-near
+returns-clause-near c less =
+    let cs = chars c.args.text.now in
+    let end = YieldsList-end (YieldsList-from_chars c.args.text.now c.utf8.text cc) c.loop-c.yielded _ c.loop-c.yielded_by _ _ c.in-None.is c.next.ensures.steps in
+    let all : take (length c.loop-c.yielded) cs ≡ cs = take_all (length c.loop-c.yielded) cs (omega (arith, end.1)) in
+    absurd (omega (arith, less, c.loop-c.invariant.width_is, ap width_of all))
