@@ -26,8 +26,7 @@ use Rattle.snippet_lines.specs.Span.{IsSpan}
 use Rattle.snippet_parts.proofs.DepthLemmas.{depths-within, same-true}
 use Rattle.snippet_parts.proofs.KeptPartLemmas.{lines-ordered}
 use Rattle.snippet_lines.proofs.LinesLemmas.{length-text_at-source}
-use Rattle.snippet_parts.proofs.MarkLemmas.{start-line, end-line, start_column-from, end_column-from}
-use Rattle.snippet_parts.proofs.MarkedLemmas.{entry_of-line, eqb-shift}
+use Rattle.snippet_parts.proofs.MarkLemmas.{start-line, end-line, start_column-from, end_column-from, entry_of-line, eqb-shift}
 use Rattle.snippet_parts.proofs.PartLemmas.{HoldsOfSpan, IsBarLine, All-unmapped, bar-lines, filter-none, longs-all, made-all}
 use Rattle.snippet_parts.proofs.PlaceBounds.{start-column-bound, end-column-bound}
 use Rattle.snippet_parts.proofs.ShownLemmas.{filter-map, place-among}

@@ -12,7 +12,6 @@ pub mod LineWindowLemmas
 pub mod LongLemmas
 pub mod MarginLaws
 pub mod MarkLemmas
-pub mod MarkedLemmas
 pub mod PartLemmas
 pub mod PlaceBounds
 pub mod ShownFacts
