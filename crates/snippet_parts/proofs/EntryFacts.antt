@@ -155,12 +155,12 @@ all-member p xs x all among =
     ]
 
 -- the entries on line k of spans on one line are those of the spans that are marked there
-singles-on : (s : Source) (marks : List Annotation) (k : ℕ) → filter (λ (p : PartEntry). eqb p.entry.start.line (s.first + k)) (map (single_part s) (filter (is_short s.text) marks)) ≡ map (single_part s) (filter (is_marked_on s.text k) marks)
+pub singles-on : (s : Source) (marks : List Annotation) (k : ℕ) → filter (λ (p : PartEntry). eqb p.entry.start.line (s.first + k)) (map (single_part s) (filter (is_short s.text) marks)) ≡ map (single_part s) (filter (is_marked_on s.text k) marks)
 singles-on s marks k =
     filter-map (λ (p : PartEntry). eqb p.entry.start.line (s.first + k)) (single_part s) (filter (is_short s.text) marks)
     ∙ ap (map (single_part s)) (filter-filter (λ (a : Annotation). eqb (entry_of s a).start.line (s.first + k)) (is_short s.text) marks ∙ filter_agree (λ (a : Annotation). is_short s.text a && eqb (entry_of s a).start.line (s.first + k)) (is_marked_on s.text k) (λ a. ap (λ b. is_short s.text a && b) (eqb-shift s.first (first_line s.text a) k (entry_of s a).start.line (entry_of-line s a))) marks)
 
-longs-off : (s : Source) (marks : List Annotation) (k : ℕ) → All (λ a. IsSpan s.text a.span.start a.span.end) marks → is_untouched s.text marks k ≡ true → filter (λ (p : PartEntry). eqb p.entry.start.line (s.first + k)) (long_parts s (long_places s marks) [] (long_spans s marks)) ≡ []
+pub longs-off : (s : Source) (marks : List Annotation) (k : ℕ) → All (λ a. IsSpan s.text a.span.start a.span.end) marks → is_untouched s.text marks k ≡ true → filter (λ (p : PartEntry). eqb p.entry.start.line (s.first + k)) (long_parts s (long_places s marks) [] (long_spans s marks)) ≡ []
 longs-off s marks k spans untouched =
     filter-none (λ (p : PartEntry). eqb p.entry.start.line (s.first + k)) (long_parts s (long_places s marks) [] (long_spans s marks)) (longs-all Off s marks long)
   where

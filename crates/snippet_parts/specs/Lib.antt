@@ -10,6 +10,7 @@ pub mod Margin
 pub mod Mark
 pub mod Marked
 pub mod Measures
+pub mod OnLine
 pub mod Prepare
 pub mod Stretches
 pub mod Weak
