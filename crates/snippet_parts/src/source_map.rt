@@ -138,7 +138,7 @@ impl<'a> SourceMap<'a> {
             → Contains (numbers_of drawn.1.items) (self.now.first + first_line self.now.text a)) }
         ensures last_lines { IfOk result (λ drawn. (a : Annotation) → Contains annotations.now a
             → Contains (numbers_of drawn.1.items) (self.now.first + last_line self.now.text a)) }
-        // So is each line of a span that isn't marked, and these lines alone are kept without being marked.
+        // So is each line of a span that isn't marked. `keep` is set on these lines and no others.
         ensures seen_lines { IfOk result (λ drawn. (a : Annotation) → Contains annotations.now a
             → (k : ℕ) → is_seen self.now.text k a ≡ true → Contains (numbers_of drawn.1.items) (self.now.first + k)) }
         ensures keep { IfOk result (λ drawn. All (λ info. info.keep
