@@ -1,6 +1,5 @@
 pub mod FaultLemmas
 pub mod GutterLemmas
-pub mod LabelLemmas
 pub mod LineLemmas
 pub mod ListLemmas
 pub mod MarkLemmas

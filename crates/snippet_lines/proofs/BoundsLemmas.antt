@@ -1,6 +1,6 @@
 -- The line around a byte, by the line feeds next to it.
 use Rattle.std.proofs.Common.{◌≡◌, ◌≢◌, ℕ, zero, suc, ◌+◌, ◌-◌, ◌<◌, ◌≤◌, ◌⊎◌, ◌↔◌, inl, inr, cond, List, [], ◌∷◌, ◌++◌, All, count_by, length, min, take, drop, get_or, refl, sym, ap, subst, ◌∙◌, ⊎_elim, arith, append_assoc}
-use Rattle.std.proofs.lemmas.List.{append-nil, length-append, take_at, drop_at, take-append-drop, drop-drop, length-take-le, length-drop, get_or-take, get_or-drop, get_or_default, drop_all, drop_more, nil_from_length}
+use Rattle.std.proofs.lemmas.List.{append-nil, length-append, take_at, drop_at, take-append-drop, drop-drop, length-take-le, length-drop, get_or-take, get_or-drop, get_or_default, drop_all, drop_more}
 use Rattle.std.specs.Str.{IsUtf8, IsCharBoundary}
 use Rattle.std.proofs.lemmas.Str.{IsCharBoundary-from_drop}
 use Rattle.std.proofs.lemmas.List.Concat.{flat_map-append}
@@ -9,10 +9,10 @@ use Rattle.std.proofs.lemmas.List.Sums.{sum_by-append}
 use Rattle.std.proofs.lemmas.Bool.{cases_lt, eqb-true}
 use Rattle.snippet_lines.specs.declared.lines.EndLine.{EndLine}
 use Rattle.snippet_lines.specs.declared.lines.EndLine.TheVariants.{Eof, Lf, Crlf}
-use Rattle.snippet_lines.specs.Lines.{Line, end_bytes, line_bytes, joined, last_byte, IsLine, AreLines, AreLinesOf, lines_of, source_lines, is_lf, text_at, start_of, IsOneLine}
+use Rattle.snippet_lines.specs.Lines.{Line, end_bytes, line_bytes, joined, last_byte, IsLine, AreLines, AreLinesOf, lines_of, source_lines, is_lf, start_of, IsOneLine}
 use Rattle.snippet_lines.specs.Place.{HoldsByte, line_of}
 use Rattle.snippet_lines.proofs.LinesLemmas.{split_last, joined-lines_of, lines_of-append, length-lines_of, source_lines-some, start_of-end, start_of-le, start_of-next, joined-source_lines, AreLinesOf-source_lines, IsUtf8-line}
-use Rattle.snippet_lines.proofs.CursorLemmas.{count_by-none, lines_of-first}
+use Rattle.snippet_lines.proofs.CursorLemmas.{count_by-none}
 use Rattle.snippet_lines.proofs.PlaceLemmas.{HoldsByte-source, line_of-is, line_of-within, start_of-inside}
 
 -- the bytes from `start` up to `end` are the line around byte `at`
@@ -200,12 +200,6 @@ line_bytes-slice source k within =
     let n : length (line_bytes l) ≡ start_of ls (k + 1) - start_of ls k = omega (arith, start_of-next ls k ([], Eof) within) in
     ap (λ s. take (start_of ls (k + 1) - start_of ls k) (drop (start_of ls k) s)) (sym (joined-source_lines source)) ∙ ap (take (start_of ls (k + 1) - start_of ls k)) (drop_lines ls k ∙ ap joined (drop_more ls k ([], Eof) within)) ∙ take_at (line_bytes l) (joined (drop (k + 1) ls)) (start_of ls (k + 1) - start_of ls k) n
 
--- what stands between the bounds of the line that holds a byte is that line
-pub line_bytes-between : (line source : List ℕ) (byte start end : ℕ) → line ≡ take (end - start) (drop start source) → start ≡ start_of (source_lines source) (line_of (source_lines source) byte) → end ≡ start_of (source_lines source) (line_of (source_lines source) byte + 1) → line ≡ line_bytes (get_or (source_lines source) (line_of (source_lines source) byte) ([], Eof))
-line_bytes-between line source byte start end is start_is end_is =
-    let k : ℕ = line_of (source_lines source) byte in
-    is ∙ ap (λ n. take (end - n) (drop n source)) start_is ∙ ap (λ n. take (n - start_of (source_lines source) k) (drop (start_of (source_lines source) k) source)) end_is ∙ line_bytes-slice source k (line_of-within source byte)
-
 IsUtf8-from_line : (ls : List Line) (k : ℕ) → AreLines ls → IsUtf8 (joined ls) → IsUtf8 (joined (drop k ls))
 IsUtf8-from_line ls zero lines utf8 = utf8
 IsUtf8-from_line [] (suc k) lines utf8 = utf8
@@ -249,20 +243,3 @@ IsOneLine-bytes text Crlf none =
 -- a line's bytes are one line
 pub IsOneLine-line : (l : Line) → IsLine l → IsOneLine (line_bytes l)
 IsOneLine-line l line = IsOneLine-bytes l.0 l.1 line.no_lf
-
-last_byte-no_lf : (text : List ℕ) → All (λ b. b ≢ 10) text → last_byte text ≢ 10
-last_byte-no_lf [] none = λ is. absurd (omega arith)
-last_byte-no_lf (b ∷ bs) none = none (length (b ∷ bs) - 1) 0 (omega arith)
-
--- the bytes of a line tell its text
-pub text-only : (line text : List ℕ) (ending : EndLine) (l : Line) → line ≡ line_bytes (text, ending) → IsLine (text, ending) → (ending ≡ Eof → last_byte line ≢ 10) → line ≡ line_bytes l → IsLine l → text ≡ l.0
-text-only line text ending l line_is fits no_end l_is l_fits =
-    let l_no_end : l.1 ≡ Eof → last_byte line ≢ 10 = λ eof is. last_byte-no_lf l.0 l_fits.no_lf (sym (ap last_byte (l_is ∙ ap (λ e. l.0 ++ end_bytes e) eof ∙ append-nil l.0)) ∙ is) in
-    let alone : (line ≡ line ++ []) = sym (append-nil line) in
-    ⊎_elim (λ some.
-    let one : lines_of line ≡ (text, ending) ∷ [] = lines_of-first line line [] text ending alone some (inr refl) line_is fits no_end in
-    let other : lines_of line ≡ (l.0, l.1) ∷ [] = lines_of-first line line [] l.0 l.1 alone some (inr refl) l_is l_fits l_no_end in
-    ap (λ ls. text_at ls 0) (sym one ∙ other))
-    (λ empty.
-    nil_from_length text (omega (arith, ap length line_is, length-append text (end_bytes ending))) ∙ sym (nil_from_length l.0 (omega (arith, ap length l_is, length-append l.0 (end_bytes l.1)))))
-    (cases_lt 0 (length line))

@@ -1,9 +1,8 @@
 //! The line around a byte, found without a walk over the source.
 ghost use Rattle.std.specs.Prelude.{◌≡◌, ◌≢◌, ℕ, ◌+◌, ◌-◌, ◌<◌, ◌≤◌, ◌⊎◌, ◌↔◌, length, slice_index};
-ghost use Rattle.snippet_lines.specs.Lines.{source_lines, text_at, start_of, StandsAt};
+ghost use Rattle.snippet_lines.specs.Lines.{source_lines, start_of};
 ghost use Rattle.snippet_lines.specs.Place.{HoldsByte, line_of};
 
-use crate::lines::without_line_end;
 use memchr::{memchr, memrchr};
 use std::ops::Range;
 
@@ -25,17 +24,6 @@ pub fn line_bounds(source: &str, byte: usize) -> Range<usize>
     let bytes = source.as_bytes();
     let at = byte.min(bytes.len().saturating_sub(1));
     line_start(bytes, at)..line_end(bytes, at)
-}
-
-/// The text of the line that holds a byte, without the line's end.
-pub fn line_text(source: &str, byte: usize) -> &str
-    ensures value { let ls = source_lines source.now in result.now ≡ text_at ls (line_of ls byte) }
-    ensures stands { let ls = source_lines source.now in
-        StandsAt source.now result.now (start_of ls (line_of ls byte)) }
-    ensures bound { length result.now ≤ length source.now }
-{
-    let (text, _) = without_line_end(&source[line_bounds(source, byte)]);
-    text
 }
 
 /// The byte behind the last line feed before `at`, or 0.

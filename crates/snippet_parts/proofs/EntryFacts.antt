@@ -26,8 +26,7 @@ use Rattle.snippet_lines.specs.Span.{IsSpan}
 use Rattle.snippet_parts.proofs.DepthLemmas.{depths-within, same-true}
 use Rattle.snippet_parts.proofs.KeptPartLemmas.{lines-ordered}
 use Rattle.snippet_lines.proofs.LinesLemmas.{length-text_at-source}
-use Rattle.snippet_parts.proofs.MarkLemmas.{start-line, end-line, start_column-from, end_column-from}
-use Rattle.snippet_parts.proofs.MarkedLemmas.{entry_of-line, eqb-shift}
+use Rattle.snippet_parts.proofs.MarkLemmas.{start-line, end-line, start_column-from, end_column-from, entry_of-line, eqb-shift}
 use Rattle.snippet_parts.proofs.PartLemmas.{HoldsOfSpan, IsBarLine, All-unmapped, bar-lines, filter-none, longs-all, made-all}
 use Rattle.snippet_parts.proofs.PlaceBounds.{start-column-bound, end-column-bound}
 use Rattle.snippet_parts.proofs.ShownLemmas.{filter-map, place-among}
@@ -156,12 +155,12 @@ all-member p xs x all among =
     ]
 
 -- the entries on line k of spans on one line are those of the spans that are marked there
-singles-on : (s : Source) (marks : List Annotation) (k : ℕ) → filter (λ (p : PartEntry). eqb p.entry.start.line (s.first + k)) (map (single_part s) (filter (is_short s.text) marks)) ≡ map (single_part s) (filter (is_marked_on s.text k) marks)
+pub singles-on : (s : Source) (marks : List Annotation) (k : ℕ) → filter (λ (p : PartEntry). eqb p.entry.start.line (s.first + k)) (map (single_part s) (filter (is_short s.text) marks)) ≡ map (single_part s) (filter (is_marked_on s.text k) marks)
 singles-on s marks k =
     filter-map (λ (p : PartEntry). eqb p.entry.start.line (s.first + k)) (single_part s) (filter (is_short s.text) marks)
     ∙ ap (map (single_part s)) (filter-filter (λ (a : Annotation). eqb (entry_of s a).start.line (s.first + k)) (is_short s.text) marks ∙ filter_agree (λ (a : Annotation). is_short s.text a && eqb (entry_of s a).start.line (s.first + k)) (is_marked_on s.text k) (λ a. ap (λ b. is_short s.text a && b) (eqb-shift s.first (first_line s.text a) k (entry_of s a).start.line (entry_of-line s a))) marks)
 
-longs-off : (s : Source) (marks : List Annotation) (k : ℕ) → All (λ a. IsSpan s.text a.span.start a.span.end) marks → is_untouched s.text marks k ≡ true → filter (λ (p : PartEntry). eqb p.entry.start.line (s.first + k)) (long_parts s (long_places s marks) [] (long_spans s marks)) ≡ []
+pub longs-off : (s : Source) (marks : List Annotation) (k : ℕ) → All (λ a. IsSpan s.text a.span.start a.span.end) marks → is_untouched s.text marks k ≡ true → filter (λ (p : PartEntry). eqb p.entry.start.line (s.first + k)) (long_parts s (long_places s marks) [] (long_spans s marks)) ≡ []
 longs-off s marks k spans untouched =
     filter-none (λ (p : PartEntry). eqb p.entry.start.line (s.first + k)) (long_parts s (long_places s marks) [] (long_spans s marks)) (longs-all Off s marks long)
   where

@@ -12,8 +12,7 @@ use Rattle.snippet_lines.specs.Lines.{Source, source_lines}
 use Rattle.snippet_parts.specs.Mark.{is_marking, touches}
 use Rattle.snippet_parts.specs.Marked.{first_line, last_line}
 use Rattle.snippet_lines.specs.Span.{IsSpan}
-use Rattle.snippet_parts.proofs.MarkLemmas.{start-line, end-line}
-use Rattle.snippet_parts.proofs.MarkedLemmas.{entry_of-line}
+use Rattle.snippet_parts.proofs.MarkLemmas.{start-line, end-line, entry_of-line}
 use Rattle.snippet_parts.proofs.PartLemmas.{HoldsOfSpan, IsBarLine, bar-lines, filter-none, made-all}
 use Rattle.snippet_lines.proofs.PlaceLemmas.{line_of-mono, line_of-within}
 
@@ -64,7 +63,7 @@ pub keeps-last : (source : List ℕ) (a : Annotation) (k : ℕ) → IsSpan sourc
 keeps-last source a k span is =
     second-of-four (eqb k (first_line source a)) (eqb k (last_line source a)) (not (is_marking a.kind)) (has_bar source a k) (touches source a k) (touched source a k (omega (arith, lines-ordered source a span)) (omega arith)) (eq-eqb k (last_line source a) is)
 
-keeps-unmarked : (source : List ℕ) (a : Annotation) (k : ℕ) → not (is_marking a.kind) ≡ true → touches source a k ≡ true → keeps source k a ≡ true
+pub keeps-unmarked : (source : List ℕ) (a : Annotation) (k : ℕ) → not (is_marking a.kind) ≡ true → touches source a k ≡ true → keeps source k a ≡ true
 keeps-unmarked source a k unmarked there =
     third-of-four (eqb k (first_line source a)) (eqb k (last_line source a)) (not (is_marking a.kind)) (has_bar source a k) (touches source a k) there unmarked
 

@@ -12,7 +12,7 @@ pub mod LineWindowLemmas
 pub mod LongLemmas
 pub mod MarginLaws
 pub mod MarkLemmas
-pub mod MarkedLemmas
+pub mod OnLineLemmas
 pub mod PartLemmas
 pub mod PlaceBounds
 pub mod ShownFacts

@@ -26,8 +26,7 @@ use Rattle.snippet_lines.specs.Place.{end_location, line_of, location_of, locati
 use Rattle.snippet_lines.specs.Span.{IsSpan}
 use Rattle.snippet_parts.specs.Window.{chars_at, end_mark_column, is_near, is_near_left, is_near_span, leading_whitespace, stands_whole}
 use Rattle.snippet_parts.proofs.AmongLemmas.{Among, all_among, among_left, among_right, append_cases, among_map, map_cases, among_filter, filter_cases, among_flat_map, flat_map_cases, among_in_order, in_order_cases, among_range, any_among, any_cases, least_same, greatest_same, least_le, greatest_most, all_pass, among_filter_map}
-use Rattle.snippet_parts.proofs.MarkLemmas.{start-line, end-line, start_column-from}
-use Rattle.snippet_parts.proofs.MarkedLemmas.{entry_of-line}
+use Rattle.snippet_parts.proofs.MarkLemmas.{start-line, end-line, start_column-from, entry_of-line}
 use Rattle.snippet_lines.proofs.PlaceLemmas.{line_of-mono, line_of-within, locations_of-start, locations_of-end}
 
 -- what is measured of an entry: some numbers, by where it starts and ends and by its label

@@ -1,18 +1,18 @@
 -- What is known of the mark of a column.
-use Rattle.std.proofs.Common.{◌≡◌, ℕ, ◌+◌, ◌<◌, ◌≤◌, true, false, ◌&&◌, eqb, Option, Some, None, List, [], ◌∷◌, ◌++◌, length, take, get_or, sym, ap, subst, ◌∙◌, ⊎_elim, arith}
+use Rattle.std.proofs.Common.{◌≡◌, ℕ, ◌+◌, ◌<◌, ◌≤◌, true, false, ◌&&◌, eqb, Option, Some, None, List, [], ◌∷◌, ◌++◌, length, take, get_or, refl, sym, ap, subst, ◌∙◌, ⊎_elim, arith}
 use Rattle.std.specs.List.{All, Contains}
 use Rattle.std.specs.Option.{IfSome, IfNone, option_map}
 use Rattle.std.proofs.lemmas.List.{take_more, take_all}
 use Rattle.std.proofs.lemmas.List.Elements.{All-contains, All-push, Contains-push, Contains-append_left, Contains-push_cases}
-use Rattle.std.proofs.lemmas.Bool.{cond_both, eqb-true, eq-eqb, and_from, and_parts, false_from_ne_true}
+use Rattle.std.proofs.lemmas.Bool.{cond_both, eqb-true, eq-eqb, ne_eqb, and_from, and_parts, false_from_ne_true}
 use Rattle.snippet_model.specs.declared.snippet.Annotation.{Annotation}
 use Rattle.snippet_model.specs.declared.snippet.AnnotationKind.{AnnotationKind}
 use Rattle.snippet_model.specs.declared.snippet.AnnotationKind.TheVariants.{Primary, Context}
 use Rattle.snippet_lines.specs.declared.place.Loc.{Loc}
 use Rattle.snippet_parts.specs.declared.mark.Mark.{Mark}
 use Rattle.snippet_lines.specs.Lines.{Source, source_lines}
-use Rattle.snippet_lines.specs.Place.{line_of, place_of, start_location, end_location, locations_of}
-use Rattle.snippet_parts.specs.Marked.{first_line, last_line}
+use Rattle.snippet_lines.specs.Place.{line_of, location_of, place_of, start_location, end_location, locations_of}
+use Rattle.snippet_parts.specs.Marked.{first_line, last_line, entry_of}
 use Rattle.snippet_parts.specs.Mark.{is_marking, is_marked_on, span_width, IsMarkedAt, IsMarkOf}
 use Rattle.snippet_lines.proofs.PlaceLemmas.{start_location-line, start_location-column, end_location-line, end_location-column}
 
@@ -52,6 +52,21 @@ last-from s a at is = ap (λ (l : Loc × Loc). l.1.line) is ∙ end-line s a.spa
 pub end_column-from : (s : Source) (a : Annotation) (at : Loc × Loc) (line : ℕ) → at ≡ locations_of s a.span.start a.span.end → at.0.line ≡ line → at.1.line ≡ line → at.1.display ≡ (place_of s.text a.span.end).column
 end_column-from s a at line is first last =
     ap (λ (l : Loc × Loc). l.1.display) is ∙ end-column s a.span.start a.span.end (omega (arith, first, last, first-from s a at is, last-from s a at is))
+
+-- an annotation's entry starts on the annotation's line
+pub entry_of-line : (s : Source) (a : Annotation) → (entry_of s a).start.line ≡ s.first + first_line s.text a
+unfolding locations_of start_location location_of place_of
+entry_of-line s a = refl
+
+pub eqb-shift : (f m k n : ℕ) → n ≡ f + m → eqb n (f + k) ≡ eqb m k
+eqb-shift f m k n is =
+    elim (eqb m k) as (λ b. eqb m k ≡ b → eqb n (f + k) ≡ b) [
+      | true ↦ λ yes. eq-eqb n (f + k) (omega (arith, eqb-true m k yes))
+      | false ↦ λ other. ne_eqb n (f + k) (λ same. eqb-not m k (omega arith) other)
+    ] refl
+  where
+    eqb-not : (m k : ℕ) → m ≡ k → eqb m k ≡ false → ⊥
+    eqb-not m k same other = let t : eqb m k ≡ true = eq-eqb m k same in cc
 
 -- ---- whether a span is marked on a line
 

@@ -29,7 +29,7 @@ All-put before Q x [] one all = All-cons Q x [] one (All-nil Q)
 All-put before Q x (y ∷ ys) one all =
     cond_both (before y x) (y ∷ put_in before x ys) (x ∷ y ∷ ys) (All Q) (λ _. All-cons Q y (put_in before x ys) (All-head Q y ys all) (All-put before Q x ys one (All-tail Q y ys all))) (λ _. All-cons Q x (y ∷ ys) one all)
 
-All-order : {X : Type 0} (before : X → X → Bool) (Q : X → Type 0) (xs : List X) → All Q xs → All Q (in_order before xs)
+pub All-order : {X : Type 0} (before : X → X → Bool) (Q : X → Type 0) (xs : List X) → All Q xs → All Q (in_order before xs)
 All-order before Q [] all = All-nil Q
 All-order before Q (x ∷ xs) all = All-put before Q x (in_order before xs) (All-head Q x xs all) (All-order before Q xs (All-tail Q x xs all))
 

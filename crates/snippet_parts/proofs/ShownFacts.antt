@@ -83,20 +83,20 @@ shown-within fold source marks i d within = (rises-at 0 (length (source_lines so
 
 -- ---- which lines are among them
 
-contains-here : {X : Type 0} (x y : X) (xs : List X) → y ≡ x → Contains (y ∷ xs) x
+pub contains-here : {X : Type 0} (x y : X) (xs : List X) → y ≡ x → Contains (y ∷ xs) x
 contains-here x y xs same = (0, omega arith, same)
 
-contains-there : {X : Type 0} (x y : X) (xs : List X) → Contains xs x → Contains (y ∷ xs) x
+pub contains-there : {X : Type 0} (x y : X) (xs : List X) → Contains xs x → Contains (y ∷ xs) x
 contains-there x y xs among = (suc among.0, omega (arith, among.1), among.2)
 
-contains-cases : {X : Type 0} (x y : X) (xs : List X) → Contains (y ∷ xs) x → (y ≡ x) ⊎ Contains xs x
+pub contains-cases : {X : Type 0} (x y : X) (xs : List X) → Contains (y ∷ xs) x → (y ≡ x) ⊎ Contains xs x
 contains-cases {X} x y xs among = at among.0 among.1 among.2
   where
     at : (i : ℕ) → i < length (y ∷ xs) → get_or (y ∷ xs) i x ≡ x → (y ≡ x) ⊎ Contains xs x
     at zero within same = inl same
     at (suc i) within same = inr (i, omega arith, same)
 
-contains-filter : {X : Type 0} (p : X → Bool) (x : X) (xs : List X) → p x ≡ true → Contains xs x → Contains (filter p xs) x
+pub contains-filter : {X : Type 0} (p : X → Bool) (x : X) (xs : List X) → p x ≡ true → Contains xs x → Contains (filter p xs) x
 contains-filter p x [] passes among = absurd (omega (arith, among.1))
 contains-filter p x (y ∷ xs) passes among =
     elim (contains-cases x y xs among) [

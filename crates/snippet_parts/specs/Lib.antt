@@ -11,6 +11,7 @@ pub mod Mark
 pub mod Marked
 pub mod Measures
 pub mod NearPart
+pub mod OnLine
 pub mod Prepare
 pub mod Stretches
 pub mod Weak

@@ -14,7 +14,6 @@ mod long_spans;
 mod made_entries;
 pub mod margin;
 pub mod mark;
-pub mod marked_lines;
 pub mod near;
 pub mod prepare;
 pub mod source_map;
@@ -30,8 +29,8 @@ pub use mark::{is_marking, mark_of};
 pub use near::{NearPart, near_part};
 pub use prepare::counted_number;
 pub use snippet_lines::{
-    CursorLines, EndLine, Loc, SpanFault, check_span, counts, line_bounds, line_feed_count, lines,
+    CursorLines, EndLine, Loc, SpanFault, check_span, counts, line_feed_count, lines,
     newline_count, newline_count_before, place, span,
 };
 pub use source_map::{LineInfo, SourceMap};
-pub use window::{column_of, leading_whitespace};
+pub use window::leading_whitespace;

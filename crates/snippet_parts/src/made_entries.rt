@@ -11,7 +11,6 @@ use crate::bars::{bars_end, has_closing_bar};
 use crate::entries::{LineAnnotation, LineAnnotationType};
 use crate::long_spans::LongSpan;
 use crate::mark::is_marking;
-use crate::marked_lines::entry;
 use crate::source_map::SourceMap;
 use snippet_lines::place::Loc;
 use snippet_model::snippet::{Annotation, AnnotationKind};
@@ -34,6 +33,23 @@ pub(crate) fn single_entries<'a>(
         }
     }
     Ok(entries)
+}
+
+/// The entry of an annotation that stands on one line: at least one column wide.
+fn entry<'a>(source: &SourceMap<'a>, annotation: &'a Annotation<'a>) -> LineAnnotation<'a>
+    requires span { IsSpan source.now.text annotation.now.span.start annotation.now.span.end }
+    ensures value { seen_part result ≡ spec.single_part source.now annotation.now }
+{
+    let (start, mut end) = source.span_to_locations(annotation.span.start..annotation.span.end);
+    end.display = end.display.max(start.display + 1);
+    LineAnnotation {
+        start,
+        end,
+        kind: annotation.kind,
+        label: annotation.label.as_ref().map(|label| label.as_str()),
+        annotation_type: LineAnnotationType::Singleline,
+        highlight_source: annotation.highlight_source,
+    }
 }
 
 /// Whether an annotation is a span on one line of a kind that is marked.

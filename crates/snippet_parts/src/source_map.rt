@@ -2,15 +2,19 @@
 ghost use Rattle.std.specs.Prelude.{◌≡◌, ◌≢◌, ◌↔◌, ℕ, List, [], ◌+◌, ◌-◌, ◌^◌, ◌<◌, ◌≤◌, true, All, Contains, map, length, IfOk, IfSome, IsNone};
 ghost use Rattle.std.specs.String.{string_bytes};
 ghost use Rattle.std.specs.Option.{option_copied};
-ghost use Rattle.std.specs.List.{HoldsAt};
+ghost use Rattle.std.specs.List.{HoldsAt, list_any};
 ghost use Rattle.std.specs.List.Sorted.{IsNonDecreasingBy};
 ghost use Rattle.snippet_lines.specs.Lines.{Line, AreLinesOf, line_at, lines_of, source_lines, text_at, start_of, newline_count, StandsAt};
 ghost use Rattle.snippet_parts.specs.LineTable.{entry_of, entry_at, entries_from, touched_entries};
 ghost use Rattle.snippet_lines.specs.Place.{line_of, location_of, steps_behind_text, locations_of};
 ghost use Rattle.snippet_lines.specs.Span.{IsSpan, IsSpanBorder};
 ghost use Rattle.snippet_parts.specs.Annotated as spec;
-ghost use Rattle.snippet_parts.specs.Annotated.{seen_kept};
+ghost use Rattle.snippet_parts.specs.Annotated.{seen_kept, seen_part};
 ghost use Rattle.snippet_parts.specs.Depths.{places_of, share_line, IsLongestChain};
+ghost use Rattle.snippet_parts.specs.Entries.{Ascends};
+ghost use Rattle.snippet_parts.specs.Marked.{first_line, last_line};
+ghost use Rattle.snippet_parts.specs.OnLine.{numbers_of, AreEntriesOn};
+ghost use Rattle.snippet_parts.specs.Stretches.{is_seen};
 ghost use Rattle.snippet_model.specs.declared.snippet.Annotation.{Annotation};
 ghost use Rattle.snippet_splice.specs.Edits.{edit_of, in_order, bounds_of, original_bounds_of, edited_from, patched, trimmed_edit_of, trimmed_edits};
 ghost use Rattle.snippet_splice.specs.Overlap.{AreDisjoint};
@@ -128,6 +132,20 @@ impl<'a> SourceMap<'a> {
         // The lines that are kept, ascending, each with its number, its text, its entries in the order made, and whether
         // a span keeps it without marking it.
         ensures lines { IfOk result (λ drawn. map seen_kept drawn.1.items ≡ spec.annotated_lines fold self.now annotations.now) }
+        // Their numbers ascend, and the first and the last line of each span are among them.
+        ensures ascending { IfOk result (λ drawn. Ascends (numbers_of drawn.1.items)) }
+        ensures first_lines { IfOk result (λ drawn. (a : Annotation) → Contains annotations.now a
+            → Contains (numbers_of drawn.1.items) (self.now.first + first_line self.now.text a)) }
+        ensures last_lines { IfOk result (λ drawn. (a : Annotation) → Contains annotations.now a
+            → Contains (numbers_of drawn.1.items) (self.now.first + last_line self.now.text a)) }
+        // So is each line of a span that isn't marked. `keep` is set on these lines and no others.
+        ensures seen_lines { IfOk result (λ drawn. (a : Annotation) → Contains annotations.now a
+            → (k : ℕ) → is_seen self.now.text k a ≡ true → Contains (numbers_of drawn.1.items) (self.now.first + k)) }
+        ensures keep { IfOk result (λ drawn. All (λ info. info.keep
+            ≡ list_any (is_seen self.now.text (info.line_index - self.now.first)) annotations.now) drawn.1.items) }
+        // The entries of each line.
+        ensures entries { IfOk result (λ drawn. All (λ info. AreEntriesOn self.now annotations.now
+            (info.line_index - self.now.first) (map seen_part info.annotations.items)) drawn.1.items) }
         ensures deepest { IfOk result (λ drawn. drawn.0 ≡ spec.deepest self.now annotations.now) }
         // The greatest depth is the length of a longest list of places, each of which shares a line with the next.
         ensures longest { IfOk result (λ drawn. IsLongestChain (places_of (spec.long_places self.now annotations.now)) drawn.0) }

@@ -1,21 +1,6 @@
-//! Where lines begin and spans stand, by which a line is cut or stands whole.
-ghost use Rattle.std.specs.Prelude.{◌≡◌, ◌<◌, ◌≤◌, ◌*◌, ◌^◌, length, chars};
-ghost use Rattle.snippet_lines.specs.Place.{place_of};
-ghost use Rattle.snippet_lines.specs.Span.{IsSpanBorder};
+//! The whitespace that a line begins with.
+ghost use Rattle.std.specs.Prelude.{◌≡◌, ◌<◌, ◌≤◌, ◌^◌, length, chars};
 ghost use Rattle.snippet_parts.specs.Window as spec;
-
-use snippet_lines::line_bounds::{line_bounds, line_text};
-use snippet_lines::place::Loc;
-
-/// The column at which a byte of a source stands on its line: the width of what stands before it there.
-pub fn column_of(source: &str, byte: usize) -> usize
-    requires fits { length source.now < 2 ^ 56 }
-    requires border { IsSpanBorder source.now byte }
-    ensures value { result ≡ (place_of source.now byte).column }
-{
-    let start = line_bounds(source, byte).start;
-    Loc::on_line(line_text(source, byte), 0, start, byte).display
-}
 
 /// The width of the whitespace that a line begins with, where a tab takes four columns and any other character one;
 /// `None` of a blank line, which is nothing else.
