@@ -23,7 +23,8 @@ use Rattle.snippet_parts.specs.Marked.{entry_of, first_line, last_line}
 use Rattle.snippet_parts.specs.Measures.{is_single_part, is_wide_entry}
 use Rattle.snippet_lines.specs.Place.{locations_of, place_of}
 use Rattle.snippet_lines.specs.Span.{IsSpan}
-use Rattle.snippet_parts.proofs.DepthLemmas.{depths-within, same-true}
+use Rattle.snippet_parts.proofs.DepthLemmas.{depths-within}
+use Rattle.snippet_parts.proofs.RawDepthLemmas.{same-true}
 use Rattle.snippet_parts.proofs.KeptPartLemmas.{lines-ordered}
 use Rattle.snippet_lines.proofs.LinesLemmas.{length-text_at-source}
 use Rattle.snippet_parts.proofs.MarkLemmas.{start-line, end-line, start_column-from, end_column-from, entry_of-line, eqb-shift}

@@ -2,6 +2,7 @@ pub mod AmongLemmas
 pub mod BarLemmas
 pub mod BetweenLemmas
 pub mod DepthLemmas
+pub mod DepthSearchLemmas
 pub mod EntryFacts
 pub mod EntryLemmas
 pub mod Examples
@@ -15,6 +16,7 @@ pub mod MarkLemmas
 pub mod OnLineLemmas
 pub mod PartLemmas
 pub mod PlaceBounds
+pub mod RawDepthLemmas
 pub mod ShownFacts
 pub mod NearLemmas
 pub mod ShownLemmas

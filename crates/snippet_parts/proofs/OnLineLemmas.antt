@@ -24,7 +24,7 @@ use Rattle.snippet_parts.specs.OnLine.{numbers_of, Begins, Closes, Labels, AreEn
 use Rattle.snippet_lines.specs.Place.{locations_of, start_location, end_location, location_of, place_of}
 use Rattle.snippet_lines.specs.Span.{IsSpan}
 use Rattle.snippet_parts.specs.Stretches.{is_seen}
-use Rattle.snippet_parts.proofs.DepthLemmas.{same-true, same-refl}
+use Rattle.snippet_parts.proofs.RawDepthLemmas.{same-true, same-refl}
 use Rattle.snippet_parts.proofs.EntryFacts.{each-line, entries-on, longs-off, singles-on}
 use Rattle.snippet_parts.proofs.KeptPartLemmas.{any-member, keeps-unmarked}
 use Rattle.snippet_parts.proofs.MarkLemmas.{start-line, end-line}

@@ -16,7 +16,8 @@ use Rattle.snippet_parts.specs.declared.entries.LineAnnotationType.TheVariants.{
 use Rattle.snippet_parts.specs.Annotated.{put_in, in_order, is_long, long_entry, long_place, long_places, long_spans, stands_before, depth_of, PartEntry, seen_part, KeptLine, seen_kept}
 use Rattle.snippet_lines.specs.Lines.{Source}
 use Rattle.snippet_parts.specs.Depths.{same_place, share_line}
-use Rattle.snippet_parts.proofs.DepthLemmas.{same-refl, distinct-places}
+use Rattle.snippet_parts.proofs.DepthLemmas.{distinct-places}
+use Rattle.snippet_parts.proofs.RawDepthLemmas.{same-refl}
 
 pub filter-map : {X Y : Type 0} (p : Y → Bool) (f : X → Y) (xs : List X) → filter p (map f xs) ≡ map f (filter (λ x. p (f x)) xs)
 filter-map p f [] = refl

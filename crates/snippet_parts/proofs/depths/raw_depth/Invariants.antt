@@ -1,5 +1,5 @@
 use Rattle.std.proofs.Common.{◌≡◌, ◌≤◌, take, drop, length}
-use Rattle.snippet_parts.proofs.DepthLemmas.{search_from}
+use Rattle.snippet_parts.proofs.DepthSearchLemmas.{search_from}
 use Rattle.snippet_parts.proofs.depths.raw_depth.Given as goal
 
 -- what is found from here on is what is sought

@@ -1,7 +1,7 @@
 use Rattle.std.proofs.Common.{◌≡◌, ◌+◌, ◌-◌, drop, subst, ◌∙◌, arith}
 use Rattle.std.proofs.lemmas.List.{length-set}
 use Rattle.snippet_parts.specs.Depths.{raw_depths}
-use Rattle.snippet_parts.proofs.DepthLemmas.{behind_in, filled}
+use Rattle.snippet_parts.proofs.DepthSearchLemmas.{behind_in, filled}
 use Rattle.snippet_parts.proofs.depths.raw_depths.Goals as goal
 
 pub raw_depth-requires-clause-behind : goal.raw_depth-requires-clause-behind
