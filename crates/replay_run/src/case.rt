@@ -25,7 +25,7 @@ pub struct Case<'v> {
 }
 
 /// The settings of the renderer, but for its sheet.
-#[derive(Clone, Copy, Debug, PartialEq, Eq)]
+#[derive(Clone, Copy)]
 pub struct Settings {
     pub no_graphics: bool,
     pub short_message: bool,
@@ -66,7 +66,7 @@ pub struct Level<'v> {
     pub name: LevelName<'v>,
 }
 
-#[derive(Clone, Copy, Debug, PartialEq, Eq)]
+#[derive(Clone, Copy)]
 pub enum LevelKind {
     Error,
     Warning,

@@ -4,16 +4,15 @@ ghost use Rattle.std.specs.Prelude.{◌≡◌, ◌+◌, ◌^◌, ◌<◌, ◌↔
 ghost use Rattle.replay_run.specs.Expected.{IsMet};
 
 use crate::expected::{Expected, expected_of, write_wanted};
-use crate::lines::{value_of, write_outcome};
+use crate::lines::{case_value, numbered_case, value_of, write_outcome};
 use crate::outcome::{Outcome, outcome_of};
-use crate::read::case_of;
 use crate::trouble::Trouble;
 use std::alloc::Global;
 use std::io;
 use std::io::{BufRead, Write};
 
 /// How many cases became what is expected, and how many didn't.
-#[derive(Clone, Copy, Debug, Default, PartialEq, Eq)]
+#[derive(Clone, Copy, Default)]
 pub struct Counts {
     pub passed: u64,
     pub failed: u64,
@@ -86,10 +85,21 @@ fn check_line<W: Write>(
 ) -> Result<bool, Trouble> {
     let answer = value_of(alloc, answer).map_err(|unread| unread.of_answer(number))?;
     let expected = expected_of(alloc, &answer).map_err(|fault| Trouble::Expected(number, fault))?;
-    let value = value_of(alloc, line).map_err(|unread| unread.of_case(number))?;
-    let case = case_of(alloc, &value).map_err(|fault| Trouble::Case(number, fault))?;
+    judge_line(alloc, number, &expected, line, out)
+}
+
+/// Whether the case of a line became what is expected; if not, it is written.
+fn judge_line<W: Write>(
+    alloc: Global,
+    number: u64,
+    expected: &Expected<'_>,
+    line: io::Result<String>,
+    out: &mut W,
+) -> Result<bool, Trouble> {
+    let value = case_value(alloc, line, number)?;
+    let case = numbered_case(alloc, &value, number)?;
     let outcome = outcome_of(alloc, &case)?;
-    judge_case(&expected, case.id, &outcome, out)
+    judge_case(expected, case.id, &outcome, out)
 }
 
 /// Whether the case of this name became what is expected; if not, it is written.
@@ -117,8 +127,7 @@ fn write_difference<W: Write>(
     out: &mut W,
 ) -> io::Result<()> {
     let name = expected.id;
-    out.writeln(format_args!("{id:?} differs"))?;
-    out.writeln(format_args!("expected of {name:?}:"))?;
+    out.writeln(format_args!("{id:?} differs\nexpected of {name:?}:"))?;
     write_wanted(&expected.wanted, out)?;
     out.writeln("answered:")?;
     write_outcome(outcome, out)?;

@@ -8,7 +8,7 @@ ghost use Rattle.replay_run.specs.declared.command.Command.{Command};
 use crate::lines::Form;
 
 /// What a command line asks for.
-#[derive(Clone, Copy, Debug, PartialEq, Eq)]
+#[derive(Clone, Copy)]
 pub enum Command<'a> {
     /// Answers the cases of these files, or of standard input where there are none.
     Answer(Form, &'a [&'a str]),

@@ -33,7 +33,7 @@ impl fmt::Display for Place<'_> {
 }
 
 /// Why a line gives no case.
-#[derive(Debug, Drop)]
+#[derive(Drop)]
 pub enum Fault {
     /// It is no UTF-8.
     NoText,

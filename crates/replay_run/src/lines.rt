@@ -15,7 +15,7 @@ use std::io;
 use std::io::{BufRead, Write};
 
 /// How answers are written.
-#[derive(Clone, Copy, Debug, PartialEq, Eq)]
+#[derive(Clone, Copy)]
 pub enum Form {
     /// As JSON, one a line.
     Json,
@@ -54,9 +54,23 @@ fn answer_line<W: Write>(
 ) -> Result<(), Trouble>
     ensures added { OnOk result (Grows (W.contents out.old) (W.contents out.new)) }
 {
-    let value = value_of(alloc, line).map_err(|unread| unread.of_case(number))?;
-    let case = case_of(alloc, &value).map_err(|fault| Trouble::Case(number, fault))?;
+    let value = case_value(alloc, line, number)?;
+    let case = numbered_case(alloc, &value, number)?;
     write_answer(alloc, &case, form, is_first, out)
+}
+
+/// What the line of this number holds, which is to describe a case.
+pub fn case_value(alloc: Global, line: io::Result<String>, number: u64) -> Result<Value, Trouble> {
+    value_of(alloc, line).map_err(|unread| unread.of_case(number))
+}
+
+/// The case that the line of this number describes.
+pub fn numbered_case<'v>(
+    alloc: Global,
+    value: &'v Value,
+    number: u64,
+) -> Result<Case<'v>, Trouble> {
+    case_of(alloc, value).map_err(|fault| Trouble::Case(number, fault))
 }
 
 /// What a line holds.

@@ -7,7 +7,7 @@ use serde_json::{Value, json};
 use std::alloc::{AllocError, Global};
 
 /// What becomes of a case.
-#[derive(Debug, Drop)]
+#[derive(Drop)]
 pub enum Outcome {
     /// A text under each sheet, in order.
     Texts(Vec<String>),

@@ -2,8 +2,7 @@
 
 use crate::build::{groups_of, renderer_of};
 use crate::case::Case;
-use crate::lines::value_of;
-use crate::read::case_of;
+use crate::lines::{case_value, numbered_case};
 use crate::trouble::Trouble;
 use annotate_snippets::renderer::RenderError;
 use std::alloc::Global;
@@ -13,7 +12,7 @@ use std::rt::Clock;
 use std::time::{Duration, Instant};
 
 /// What was drawn, and in which time.
-#[derive(Clone, Copy, Debug, Default, PartialEq, Eq)]
+#[derive(Clone, Copy, Default)]
 pub struct Tally {
     pub texts: u64,
     pub bytes: u64,
@@ -31,8 +30,8 @@ pub fn repeat_lines<K: Clock, B: BufRead + Drop>(
     let mut number = 0u64;
     for line in input.lines(alloc) {
         number = number.saturating_add(1);
-        let value = value_of(alloc, line).map_err(|unread| unread.of_case(number))?;
-        let case = case_of(alloc, &value).map_err(|fault| Trouble::Case(number, fault))?;
+        let value = case_value(alloc, line, number)?;
+        let case = numbered_case(alloc, &value, number)?;
         *tally = repeat_case(clock, alloc, &case, times, *tally)?;
     }
     Ok(())

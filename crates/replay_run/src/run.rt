@@ -28,7 +28,7 @@ const DIFFERS: u8 = 1;
 const STOPPED: u8 = 2;
 
 /// What stopped a run, and the file that was read.
-#[derive(Debug, Drop)]
+#[derive(Drop)]
 struct Stop<'a> {
     file: &'a str,
     trouble: Trouble,
@@ -39,6 +39,14 @@ impl fmt::Display for Stop<'_> {
         let file = self.file;
         let trouble = &self.trouble;
         write!(f, "replay: {file}: {trouble}")
+    }
+}
+
+/// What was tried with this file; trouble with it stops the run.
+fn or_stop<'a, T>(file: &'a str, tried: Result<T, Trouble>) -> Result<T, Stop<'a>> {
+    match tried {
+        Ok(done) => Ok(done),
+        Err(trouble) => Err(Stop { file, trouble }),
     }
 }
 
@@ -123,18 +131,18 @@ fn answer<'a, R: Files + Input + AllocGlobal, W: Write>(
 {
     let mut is_first = true;
     if files.is_empty() {
-        answer_input(rt, form, &mut is_first, out).map_err(|trouble| Stop {
-            file: INPUT,
-            trouble,
-        })?;
+        or_stop(INPUT, answer_input(rt, form, &mut is_first, out))?;
     }
     for file in files {
-        answer_file(rt, form, file, &mut is_first, out).map_err(|trouble| Stop {
-            file: *file,
-            trouble,
-        })?;
+        or_stop(file, answer_file(rt, form, file, &mut is_first, out))?;
     }
     Ok(DONE)
+}
+
+/// The bytes of a file.
+fn opened<R: Files + AllocGlobal>(rt: &R, file: &str) -> Result<BufReader<R::File>, Trouble> {
+    let input = fs::open(rt, file).map_err(Trouble::Read)?;
+    BufReader::new(rt.alloc(), input).map_err(Trouble::Read)
 }
 
 /// Answers the cases of standard input.
@@ -156,8 +164,7 @@ fn answer_file<R: Files + AllocGlobal, W: Write>(
     is_first: &mut bool,
     out: &mut W,
 ) -> Result<(), Trouble> {
-    let input = fs::open(rt, file).map_err(Trouble::Read)?;
-    let input = BufReader::new(rt.alloc(), input).map_err(Trouble::Read)?;
+    let input = opened(rt, file)?;
     answer_lines(rt.alloc(), input, form, is_first, out)
 }
 
@@ -171,18 +178,12 @@ fn check<'a, R: Files + AllocGlobal, W: Write>(
 {
     let mut counts = Counts::default();
     for pair in files.chunks_exact(2) {
-        let more = check_pair(rt, pair[0], pair[1], out).map_err(|trouble| Stop {
-            file: pair[1],
-            trouble,
-        })?;
+        let more = or_stop(pair[1], check_pair(rt, pair[0], pair[1], out))?;
         counts = counts.plus(more);
     }
     let (passed, failed) = (counts.passed, counts.failed);
-    out.writeln(format_args!("{passed} passed, {failed} failed"))
-        .map_err(|error| Stop {
-            file: OUTPUT,
-            trouble: Trouble::Write(error),
-        })?;
+    let written = out.writeln(format_args!("{passed} passed, {failed} failed"));
+    or_stop(OUTPUT, written.map_err(Trouble::Write))?;
     Ok(if failed == 0 { DONE } else { DIFFERS })
 }
 
@@ -196,10 +197,8 @@ fn check_pair<R: Files + AllocGlobal, W: Write>(
     cases: &str,
     out: &mut W,
 ) -> Result<Counts, Trouble> {
-    let expected = fs::open(rt, expected).map_err(Trouble::Read)?;
-    let expected = BufReader::new(rt.alloc(), expected).map_err(Trouble::Read)?;
-    let cases = fs::open(rt, cases).map_err(Trouble::Read)?;
-    let cases = BufReader::new(rt.alloc(), cases).map_err(Trouble::Read)?;
+    let expected = opened(rt, expected)?;
+    let cases = opened(rt, cases)?;
     check_lines(rt.alloc(), expected, cases, out)
 }
 
@@ -214,21 +213,12 @@ fn repeat<'a, R: Files + Input + Clock + AllocGlobal, W: Write>(
 {
     let mut tally = Tally::default();
     if files.is_empty() {
-        repeat_input(rt, times, &mut tally).map_err(|trouble| Stop {
-            file: INPUT,
-            trouble,
-        })?;
+        or_stop(INPUT, repeat_input(rt, times, &mut tally))?;
     }
     for file in files {
-        repeat_file(rt, file, times, &mut tally).map_err(|trouble| Stop {
-            file: *file,
-            trouble,
-        })?;
+        or_stop(file, repeat_file(rt, file, times, &mut tally))?;
     }
-    write_tally(&tally, out).map_err(|error| Stop {
-        file: OUTPUT,
-        trouble: Trouble::Write(error),
-    })?;
+    or_stop(OUTPUT, write_tally(&tally, out).map_err(Trouble::Write))?;
     Ok(DONE)
 }
 
@@ -249,7 +239,6 @@ fn repeat_file<R: Files + Clock + AllocGlobal>(
     times: u64,
     tally: &mut Tally,
 ) -> Result<(), Trouble> {
-    let input = fs::open(rt, file).map_err(Trouble::Read)?;
-    let input = BufReader::new(rt.alloc(), input).map_err(Trouble::Read)?;
+    let input = opened(rt, file)?;
     repeat_lines(rt, rt.alloc(), input, times, tally)
 }

@@ -3,7 +3,7 @@
 use std::fmt;
 
 /// An object of the format, which has fields of its own names.
-#[derive(Clone, Copy, Debug, PartialEq, Eq)]
+#[derive(Clone, Copy)]
 pub enum Shape {
     Case,
     Settings,
@@ -87,7 +87,7 @@ impl Shape {
 }
 
 /// What has to stand at a place.
-#[derive(Clone, Copy, Debug, PartialEq, Eq)]
+#[derive(Clone, Copy)]
 pub enum Expectation {
     Text,
     Number,

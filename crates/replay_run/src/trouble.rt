@@ -5,7 +5,7 @@ use std::alloc::{AllocError, AllocFailed};
 use std::{fmt, io};
 
 /// What stops a run.
-#[derive(Debug, Drop)]
+#[derive(Drop)]
 pub enum Trouble {
     /// A line, counted from 1, describes no case.
     Case(u64, Fault),
@@ -55,7 +55,7 @@ impl fmt::Display for Trouble {
 }
 
 /// Why a line gives no JSON.
-#[derive(Debug, Drop)]
+#[derive(Drop)]
 pub enum Unread {
     /// It can be read, and is none.
     Fault(Fault),

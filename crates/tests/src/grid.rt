@@ -1,22 +1,46 @@
 //! The grid of cells, by what it prints.
-use snippet_style::{AnsiColor, ElementStyle, LevelInner, StyledBuffer, Stylesheet};
+use snippet_style::{AnsiColor, ElementStyle, LevelInner, Style, StyledBuffer, Stylesheet};
+use std::alloc::{AllocError, Global};
 use std::test::Fail;
+
+/// A character's row and cell, the character, and its role.
+type Written = (u8, u8, char, ElementStyle);
+
+/// The grid of these characters.
+fn grid_of<'a>(alloc: Global, characters: &[Written]) -> Result<StyledBuffer<'a>, AllocError> {
+    let mut buffer = StyledBuffer::new(alloc);
+    for (row, cell, character, role) in characters {
+        buffer.putc(usize::from(*row), usize::from(*cell), *character, *role)?;
+    }
+    Ok(buffer)
+}
+
+/// The plain sheet but for the styles of these roles.
+fn sheet(none: Style, line_num: Style, addition: Style, removal: Style) -> Stylesheet {
+    Stylesheet {
+        none,
+        line_num,
+        addition,
+        removal,
+        ..Stylesheet::plain()
+    }
+}
 
 #[test]
 fn none_is_open_where_a_row_begins(rt: HostRuntime) -> Result<(), Fail> {
-    let mut buffer = StyledBuffer::new(rt.alloc());
+    let characters = [
+        (1, 2, '|', ElementStyle::LineNumber),
+        (2, 0, '1', ElementStyle::LineNumber),
+        (2, 2, '|', ElementStyle::LineNumber),
+        (2, 4, 'a', ElementStyle::Quotation),
+        (3, 2, '|', ElementStyle::LineNumber),
+        (3, 4, '^', ElementStyle::UnderlinePrimary),
+    ];
+    let mut buffer = grid_of(rt.alloc(), &characters)?;
     buffer.append(0, "error", ElementStyle::Level(LevelInner::Error))?;
     buffer.append(0, ": e", ElementStyle::MainHeaderMsg)?;
-    buffer.putc(1, 2, '|', ElementStyle::LineNumber)?;
-    buffer.putc(2, 0, '1', ElementStyle::LineNumber)?;
-    buffer.putc(2, 2, '|', ElementStyle::LineNumber)?;
-    buffer.putc(2, 4, 'a', ElementStyle::Quotation)?;
-    buffer.putc(3, 2, '|', ElementStyle::LineNumber)?;
-    buffer.putc(3, 4, '^', ElementStyle::UnderlinePrimary)?;
-    let sheet = Stylesheet {
-        none: AnsiColor::Red.on_default(),
-        ..Stylesheet::plain()
-    };
+    let plain = Style::new();
+    let sheet = sheet(AnsiColor::Red.on_default(), plain, plain, plain);
     let text = buffer.render(LevelInner::Error, &sheet)?;
     let expected =
         "\u{1b}[0merror: e\n  \u{1b}[0m|\n\u{1b}[0m1\u{1b}[31m \u{1b}[0m|\u{1b}[31m a\u{1b}[0m\n  \u{1b}[0m|\u{1b}[31m \u{1b}[0m^";
@@ -36,18 +60,22 @@ fn a_linked_id(rt: HostRuntime) -> Result<(), Fail> {
 
 #[test]
 fn links_begin_behind_an_opening_and_end_before_a_reset(rt: HostRuntime) -> Result<(), Fail> {
-    let mut buffer = StyledBuffer::new(rt.alloc());
-    buffer.putc(0, 0, 'a', ElementStyle::NoStyle)?;
-    buffer.putc(0, 1, 'b', ElementStyle::Addition)?;
-    buffer.putc(0, 2, 'c', ElementStyle::NoStyle)?;
-    buffer.link(0, 1..2, "u")?;
-    buffer.link(0, 2..9, "v")?;
-    buffer.link(0, 0..0, "w")?;
-    buffer.link(1, 0..9, "w")?;
-    let sheet = Stylesheet {
-        addition: AnsiColor::Red.on_default(),
-        ..Stylesheet::plain()
-    };
+    let characters = [
+        (0, 0, 'a', ElementStyle::NoStyle),
+        (0, 1, 'b', ElementStyle::Addition),
+        (0, 2, 'c', ElementStyle::NoStyle),
+    ];
+    let mut buffer = grid_of(rt.alloc(), &characters)?;
+    for (row, start, end, url) in [
+        (0, 1, 2, "u"),
+        (0, 2, 9, "v"),
+        (0, 0, 0, "w"),
+        (1, 0, 9, "w"),
+    ] {
+        buffer.link(row, start..end, url)?;
+    }
+    let plain = Style::new();
+    let sheet = sheet(plain, plain, AnsiColor::Red.on_default(), plain);
     let text = buffer.render(LevelInner::Error, &sheet)?;
     let expected =
         "a\u{1b}[31m\u{1b}]8;;u\u{1b}\\b\u{1b}]8;;\u{1b}\\\u{1b}[0m\u{1b}]8;;v\u{1b}\\c\u{1b}]8;;\u{1b}\\";
@@ -58,16 +86,6 @@ fn links_begin_behind_an_opening_and_end_before_a_reset(rt: HostRuntime) -> Resu
         "a\u{1b}]8;;u\u{1b}\\b\u{1b}]8;;\u{1b}\\\u{1b}]8;;v\u{1b}\\c\u{1b}]8;;\u{1b}\\"
     );
     Ok(())
-}
-
-/// A sheet in which the roles of the tests below differ.
-fn telling_sheet() -> Stylesheet {
-    Stylesheet {
-        line_num: AnsiColor::Blue.on_default(),
-        addition: AnsiColor::Green.on_default(),
-        removal: AnsiColor::Red.on_default(),
-        ..Stylesheet::plain()
-    }
 }
 
 #[test]
@@ -86,20 +104,31 @@ fn writes_grow_the_grid_as_far_as_they_reach(rt: HostRuntime) -> Result<(), Fail
 
 #[test]
 fn restyles_the_cells_that_are_there(rt: HostRuntime) -> Result<(), Fail> {
-    let sheet = telling_sheet();
-    let mut buffer = StyledBuffer::new(rt.alloc());
-    buffer.putc(0, 0, 'a', ElementStyle::Quotation)?;
-    buffer.putc(0, 1, 'b', ElementStyle::Quotation)?;
-    buffer.putc(0, 3, 'c', ElementStyle::LabelPrimary)?;
+    let sheet = sheet(
+        Style::new(),
+        AnsiColor::Blue.on_default(),
+        AnsiColor::Green.on_default(),
+        AnsiColor::Red.on_default(),
+    );
+    let characters = [
+        (0, 0, 'a', ElementStyle::Quotation),
+        (0, 1, 'b', ElementStyle::Quotation),
+        (0, 3, 'c', ElementStyle::LabelPrimary),
+    ];
+    let mut buffer = grid_of(rt.alloc(), &characters)?;
 
     // The source and the space give way, and the label does not.
     buffer.set_style_range(0, 1, 9, ElementStyle::Addition, false)?;
     let text = buffer.render(LevelInner::Error, &sheet)?;
     assert_eq!(rt; text.as_str(), "a\u{1b}[32mb \u{1b}[0mc");
 
-    buffer.set_style(0, 0, ElementStyle::LineNumber, false)?;
-    buffer.set_style(0, 1, ElementStyle::Removal, false)?;
-    buffer.set_style(0, 3, ElementStyle::Removal, true)?;
+    for (cell, role, overwrite) in [
+        (0, ElementStyle::LineNumber, false),
+        (1, ElementStyle::Removal, false),
+        (3, ElementStyle::Removal, true),
+    ] {
+        buffer.set_style(0, cell, role, overwrite)?;
+    }
     let restyled = "\u{1b}[34ma\u{1b}[0m\u{1b}[32mb \u{1b}[0m\u{1b}[31mc\u{1b}[0m";
     let text = buffer.render(LevelInner::Error, &sheet)?;
     assert_eq!(rt; text.as_str(), restyled);

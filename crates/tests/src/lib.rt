@@ -21,6 +21,8 @@ mod snip;
 #[cfg(test)]
 mod source;
 #[cfg(test)]
+mod spans;
+#[cfg(test)]
 mod splice;
 #[cfg(test)]
 mod strokes;

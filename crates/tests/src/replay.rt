@@ -75,82 +75,90 @@ fn built(alloc: Global) -> Result<Vec<String>, Fail> {
     Ok(texts(alloc, snippet)?)
 }
 
+/// The texts of the case that a line describes.
+fn drawn(alloc: Global, line: &str) -> Result<Vec<String>, Fail> {
+    let value = Value::from_str(alloc, line)?;
+    let Ok(case) = case_of(alloc, &value) else {
+        return Err(Fail::new("no case"));
+    };
+    match outcome_of(alloc, &case)? {
+        Outcome::Texts(texts) => Ok(texts),
+        Outcome::Refused(name, _) => Err(Fail::new(name)),
+    }
+}
+
 #[test]
 fn reads_each_field(rt: HostRuntime) -> Result<(), Fail> {
-    let alloc = rt.alloc();
-    let value = Value::from_str(alloc, FULL)?;
-    let case = case_of(alloc, &value)?;
-    let wanted = built(alloc)?;
+    let wanted = built(rt.alloc())?;
     assert_eq!(rt; wanted.len(), 3);
-    let Outcome::Texts(texts) = outcome_of(alloc, &case)? else {
-        return Err(Fail::new("refused"));
-    };
+    let texts = drawn(rt.alloc(), FULL)?;
     assert_eq!(rt; texts.as_slice(), wanted.as_slice());
     Ok(())
 }
 
+/// Lines, what is answered to them, and what is told.
+const ANSWERED: [(&str, &str, &str); 10] = [
+    ("", "", ""),
+    (
+        "{\"id\": \"a\", \"groups\": []}\n{}\n",
+        "{\"id\":\"a\",\"refused\":\"NotYet\",\"text\":\"not yet\"}\n",
+        "line 2: id: missing, expected a text of fewer than 2^56 bytes",
+    ),
+    ("[]", "", "line 1: the line: expected an object"),
+    (
+        "{\"id\": \"a\"",
+        "",
+        "line 1: no JSON: EOF while parsing at line 1 column 10",
+    ),
+    (
+        "{\"id\": \"a\", \"groups\": [], \"sheets\": [{\"none\": {\"effects\": [\"BOLD\", \"bold\"]}}]}",
+        "",
+        "line 1: sheets[0].none.effects[1]: expected the name of an effect, as \"BOLD\"",
+    ),
+    (
+        "{\"id\": \"a\", \"groups\": [], \"settings\": {\"term_width\": 18446744073709551616}}",
+        "",
+        "line 1: settings.term_width: expected a whole number from 0 to 18446744073709551615",
+    ),
+    (
+        "{\"id\": \"a\", \"groups\": [], \"settings\": {\"term_width\": 1.0}}",
+        "",
+        "line 1: settings.term_width: expected a whole number from 0 to 18446744073709551615",
+    ),
+    (
+        "{\"id\": \"a\", \"groups\": [{\"title\": null, \"level\": {\"kind\": \"hint\"}, \"elements\": []}]}",
+        "",
+        "line 1: groups[0].level.kind: expected \"error\", \"warning\", \"info\", \"note\" or \"help\"",
+    ),
+    (
+        "{\"id\": \"a\", \"groups\": [{\"title\": null, \"level\": {\"kind\": \"help\"}, \"elements\": [{\"padding\": {}, \"message\": {}}]}]}",
+        "",
+        "line 1: groups[0].elements[0]: expected an object with one of message, cause, suggestion, origin and padding",
+    ),
+    (
+        "{\"id\": \"a\", \"groups\": [{\"title\": null, \"level\": {\"kind\": \"help\"}, \"elements\": [{\"padding\": {}}, {\"cause\": {\"source\": \"\", \"annotations\": [{}]}}]}]}",
+        "",
+        "line 1: groups[0].elements[1].cause.annotations[0].kind: missing, expected \"primary\", \"context\" or \"visible\"",
+    ),
+];
+
+/// What is answered to these lines, and behind it what is told.
+fn answered(alloc: Global, lines: &str) -> Result<(Vec<u8>, String), Fail> {
+    let mut out = Vec::new(alloc);
+    let mut is_first = true;
+    let told = match answer_lines(alloc, lines.as_bytes(), Form::Json, &mut is_first, &mut out) {
+        Ok(()) => String::new(alloc),
+        Err(trouble) => format!(in alloc; "{trouble}")?,
+    };
+    Ok((out, told))
+}
+
 #[test]
 fn answers_line_by_line(rt: HostRuntime) -> Result<(), Fail> {
-    let rows: [(&str, &str, &str); 10] = [
-        ("", "", ""),
-        (
-            "{\"id\": \"a\", \"groups\": []}\n{}\n",
-            "{\"id\":\"a\",\"refused\":\"NotYet\",\"text\":\"not yet\"}\n",
-            "line 2: id: missing, expected a text of fewer than 2^56 bytes",
-        ),
-        ("[]", "", "line 1: the line: expected an object"),
-        (
-            "{\"id\": \"a\"",
-            "",
-            "line 1: no JSON: EOF while parsing at line 1 column 10",
-        ),
-        (
-            "{\"id\": \"a\", \"groups\": [], \"sheets\": [{\"none\": {\"effects\": [\"BOLD\", \"bold\"]}}]}",
-            "",
-            "line 1: sheets[0].none.effects[1]: expected the name of an effect, as \"BOLD\"",
-        ),
-        (
-            "{\"id\": \"a\", \"groups\": [], \"settings\": {\"term_width\": 18446744073709551616}}",
-            "",
-            "line 1: settings.term_width: expected a whole number from 0 to 18446744073709551615",
-        ),
-        (
-            "{\"id\": \"a\", \"groups\": [], \"settings\": {\"term_width\": 1.0}}",
-            "",
-            "line 1: settings.term_width: expected a whole number from 0 to 18446744073709551615",
-        ),
-        (
-            "{\"id\": \"a\", \"groups\": [{\"title\": null, \"level\": {\"kind\": \"hint\"}, \"elements\": []}]}",
-            "",
-            "line 1: groups[0].level.kind: expected \"error\", \"warning\", \"info\", \"note\" or \"help\"",
-        ),
-        (
-            "{\"id\": \"a\", \"groups\": [{\"title\": null, \"level\": {\"kind\": \"help\"}, \"elements\": [{\"padding\": {}, \"message\": {}}]}]}",
-            "",
-            "line 1: groups[0].elements[0]: expected an object with one of message, cause, suggestion, origin and padding",
-        ),
-        (
-            "{\"id\": \"a\", \"groups\": [{\"title\": null, \"level\": {\"kind\": \"help\"}, \"elements\": [{\"padding\": {}}, {\"cause\": {\"source\": \"\", \"annotations\": [{}]}}]}]}",
-            "",
-            "line 1: groups[0].elements[1].cause.annotations[0].kind: missing, expected \"primary\", \"context\" or \"visible\"",
-        ),
-    ];
-    let alloc = rt.alloc();
-    for (lines, answered, told) in rows {
-        let mut out = Vec::new(alloc);
-        let mut is_first = true;
-        let said = match answer_lines(
-            alloc,
-            lines.as_bytes(),
-            Form::Json,
-            &mut is_first,
-            &mut out,
-        ) {
-            Ok(()) => String::new(alloc),
-            Err(trouble) => format!(in alloc; "{trouble}")?,
-        };
-        assert_eq!(rt; said.as_str(), told);
-        assert_eq!(rt; out.as_slice(), answered.as_bytes());
+    for (lines, out, told) in &ANSWERED {
+        let (answered, said) = answered(rt.alloc(), lines)?;
+        assert_eq!(rt; said.as_str(), *told);
+        assert_eq!(rt; answered.as_slice(), out.as_bytes());
     }
     Ok(())
 }
@@ -185,36 +193,41 @@ const TITLES: &str =
 {"id": "b", "groups": [{"title": {"level": {"kind": "error"}, "text": "e", "primary": true}, "elements": []}]}
 "#;
 
+/// Expected answers to the second case, the numbers of cases that pass and that fail, and what is told.
+const COMPARED: [(&str, (u64, u64), &str); 4] = [
+    ("{\"id\": \"b\", \"ok\": [\"error: e\"]}", (2, 0), ""),
+    (
+        "{\"id\": \"b\", \"ok\": [\"error: f\"]}",
+        (1, 1),
+        "\"b\" differs\nexpected of \"b\":\nerror: f\nanswered:\nerror: e\n\n",
+    ),
+    (
+        "{\"id\": \"c\", \"ok\": [\"error: e\"]}",
+        (1, 1),
+        "\"b\" differs\nexpected of \"c\":\nerror: e\nanswered:\nerror: e\n\n",
+    ),
+    (
+        "{\"id\": \"b\", \"refused\": \"NotYet\", \"text\": \"not yet\"}",
+        (1, 1),
+        "\"b\" differs\nexpected of \"b\":\nnot yet\nanswered:\nerror: e\n\n",
+    ),
+];
+
+/// What passes and fails where this is the expected answer to the second case, and what is told.
+fn compared(alloc: Global, answer: &str) -> Result<((u64, u64), Vec<u8>), Fail> {
+    let expected = format!(in alloc; "{{\"id\": \"a\", \"ok\": [\"error: e\"]}}\n{answer}\n")?;
+    let mut out = Vec::new(alloc);
+    match check_lines(alloc, expected.as_bytes(), TITLES.as_bytes(), &mut out) {
+        Ok(counts) => Ok(((counts.passed, counts.failed), out)),
+        Err(_) => Err(Fail::new("stopped")),
+    }
+}
+
 #[test]
 fn tells_the_cases_that_differ(rt: HostRuntime) -> Result<(), Fail> {
-    let rows: [(&str, (u64, u64), &str); 4] = [
-        ("{\"id\": \"b\", \"ok\": [\"error: e\"]}", (2, 0), ""),
-        (
-            "{\"id\": \"b\", \"ok\": [\"error: f\"]}",
-            (1, 1),
-            "\"b\" differs\nexpected of \"b\":\nerror: f\nanswered:\nerror: e\n\n",
-        ),
-        (
-            "{\"id\": \"c\", \"ok\": [\"error: e\"]}",
-            (1, 1),
-            "\"b\" differs\nexpected of \"c\":\nerror: e\nanswered:\nerror: e\n\n",
-        ),
-        (
-            "{\"id\": \"b\", \"refused\": \"NotYet\", \"text\": \"not yet\"}",
-            (1, 1),
-            "\"b\" differs\nexpected of \"b\":\nnot yet\nanswered:\nerror: e\n\n",
-        ),
-    ];
-    let alloc = rt.alloc();
-    for (answer, (passed, failed), told) in rows {
-        let expected = format!(in alloc; "{{\"id\": \"a\", \"ok\": [\"error: e\"]}}\n{answer}\n")?;
-        let mut out = Vec::new(alloc);
-        let counts = match check_lines(alloc, expected.as_bytes(), TITLES.as_bytes(), &mut out) {
-            Ok(counts) => counts,
-            Err(_) => return Err(Fail::new("stopped")),
-        };
-        assert_eq!(rt; counts.passed, passed);
-        assert_eq!(rt; counts.failed, failed);
+    for (answer, counts, told) in &COMPARED {
+        let (found, out) = compared(rt.alloc(), answer)?;
+        assert_eq!(rt; found, *counts);
         assert_eq!(rt; out.as_slice(), told.as_bytes());
     }
     Ok(())

@@ -1,25 +1,32 @@
 //! Reports of builder calls: two calls under two sheets, and what refusals say.
 ghost use Rattle.std.specs.Prelude.{IfOk};
-ghost use Rattle.snippet_model.specs.Fits.{GroupFits};
+ghost use Rattle.snippet_model.specs.Fits.{AnnotationFits, GroupFits, SnippetFits};
 
 use annotate_snippets::level::ERROR;
 use annotate_snippets::renderer::RenderError;
 use annotate_snippets::renderer::style::Stylesheet;
-use annotate_snippets::{AnnotationKind, Element, Group, OptionCow, Renderer, Snippet};
+use annotate_snippets::{Annotation, AnnotationKind, Element, Group, OptionCow, Renderer, Snippet};
 use std::alloc::{AllocError, Global};
 use std::test::Fail;
+
+/// A line, of which a variable is marked.
+fn marked_line(alloc: Global) -> Result<Snippet<'static, Annotation<'static>>, AllocError>
+    ensures fits { IfOk result (SnippetFits AnnotationFits) }
+{
+    let mark = AnnotationKind::Primary
+        .span(4..5)
+        .label(OptionCow::from("here"));
+    Snippet::source(alloc, "let x = 1;\n").annotation(mark)
+}
 
 /// The report of an unused variable.
 fn unused_variable(alloc: Global) -> Result<Group<'static>, AllocError>
     ensures fits { IfOk result GroupFits }
 {
-    let mark = AnnotationKind::Primary
-        .span(4..5)
-        .label(OptionCow::from("here"));
-    let snippet = Snippet::source(alloc, "let x = 1;\n").annotation(mark)?;
+    let line = marked_line(alloc)?;
     ERROR
         .primary_title("unused")
-        .element(alloc, Element::from(snippet))
+        .element(alloc, Element::from(line))
 }
 
 /// Its text without codes.
@@ -46,15 +53,15 @@ fn texts(alloc: Global, group: Group<'_>, sheets: &[Stylesheet]) -> Result<Vec<S
 #[test]
 fn prints_under_the_sheet_of_the_renderer(rt: HostRuntime) -> Result<(), Fail> {
     let alloc = rt.alloc();
+    let sheets = [Stylesheet::plain(), Stylesheet::styled()];
+    let both = texts(alloc, unused_variable(alloc)?, &sheets)?;
+    assert_eq!(rt; both.len(), 2);
+    assert_eq!(rt; both[0].as_str(), UNUSED);
+    assert_eq!(rt; both[1].as_str(), STYLED_UNUSED);
     let plain = text(alloc, &Renderer::plain(), unused_variable(alloc)?)?;
     assert_eq!(rt; plain.as_str(), UNUSED);
     let styled = text(alloc, &Renderer::styled(), unused_variable(alloc)?)?;
     assert_eq!(rt; styled.as_str(), STYLED_UNUSED);
-    let sheets = [Stylesheet::plain(), Stylesheet::styled()];
-    let both = texts(alloc, unused_variable(alloc)?, &sheets)?;
-    assert_eq!(rt; both.len(), 2);
-    assert_eq!(rt; both[0].as_str(), plain.as_str());
-    assert_eq!(rt; both[1].as_str(), styled.as_str());
     Ok(())
 }
 

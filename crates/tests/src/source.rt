@@ -1,12 +1,10 @@
 //! The lines of a source, places in it, and the marks of its columns.
-ghost use Rattle.std.specs.Prelude.{◌+◌, ◌<◌, ◌^◌, All, length};
-ghost use Rattle.snippet_lines.specs.Lines.{newline_count};
-ghost use Rattle.snippet_lines.specs.Span.{IsSpan};
 
-use snippet_model::snippet::{Annotation, AnnotationKind};
+use crate::spans::{Marked, annotations_of};
+use snippet_model::snippet::AnnotationKind;
 use snippet_parts::{Loc, SourceMap, check_span, mark_of, newline_count};
 use snippet_text::text_fits;
-use std::alloc::{AllocError, Global};
+use std::alloc::Global;
 use std::test::Fail;
 
 #[test]
@@ -57,77 +55,46 @@ fn lines_of_spans(rt: HostRuntime) -> Result<(), Fail> {
     Ok(())
 }
 
-#[test]
-fn places_by_columns(rt: HostRuntime) -> Result<(), Fail> {
-    let source = "日本";
-    assert!(rt;
-        text_fits(source) && newline_count(source) < 9 && check_span(source, &(3..6)).is_none()
-    );
-    let (start, end) = SourceMap::new(rt.alloc(), source, 1)?.span_to_locations(3..6);
-    assert_eq!(rt;
-        start,
-        Loc {
-            line: 1,
-            char: 1,
-            display: 2,
-            byte: 3
-        }
-    );
-    assert_eq!(rt;
-        end,
-        Loc {
-            line: 1,
-            char: 2,
-            display: 4,
-            byte: 6
-        }
-    );
-    Ok(())
+/// The places of the two ends of a span of a source.
+fn places(alloc: Global, source: &str, start: usize, end: usize) -> Result<(Loc, Loc), Fail> {
+    if !text_fits(source) || newline_count(source) > 9 {
+        return Err(Fail::new("too long"));
+    }
+    if check_span(source, &(start..end)).is_some() {
+        return Err(Fail::new("no span of the source"));
+    }
+    Ok(SourceMap::new(alloc, source, 1)?.span_to_locations(start..end))
+}
+
+/// A place in the first line.
+fn place(byte: usize, char: usize, display: usize) -> Loc {
+    Loc {
+        line: 1,
+        char,
+        display,
+        byte,
+    }
 }
 
 #[test]
-fn places_behind_a_tab(rt: HostRuntime) -> Result<(), Fail> {
-    let source = "\tx";
-    assert!(rt;
-        text_fits(source) && newline_count(source) < 9 && check_span(source, &(1..2)).is_none()
-    );
-    let (start, end) = SourceMap::new(rt.alloc(), source, 1)?.span_to_locations(1..2);
-    assert_eq!(rt;
-        start,
-        Loc {
-            line: 1,
-            char: 1,
-            display: 4,
-            byte: 1
-        }
-    );
-    assert_eq!(rt;
-        end,
-        Loc {
-            line: 1,
-            char: 2,
-            display: 5,
-            byte: 2
-        }
-    );
+fn places_by_columns(rt: HostRuntime) -> Result<(), Fail> {
+    let wide = places(rt.alloc(), "日本", 3, 6)?;
+    assert_eq!(rt; wide, (place(3, 1, 2), place(6, 2, 4)));
+    let behind_a_tab = places(rt.alloc(), "\tx", 1, 2)?;
+    assert_eq!(rt; behind_a_tab, (place(1, 1, 4), place(2, 2, 5)));
     Ok(())
 }
 
 // The marks of the first columns of a source's first line: `^`, `-` or a space.
-fn marks(
-    alloc: Global,
-    source: &str,
-    annotations: &[Annotation<'_>],
-    columns: usize,
-) -> Result<String, AllocError>
-    requires fits { length source.now < 2 ^ 56 }
-    requires numbers { newline_count source.now + 2 < 2 ^ 64 }
-    requires spans { All (λ a. IsSpan source.now a.span.start a.span.end) annotations.now }
-{
+fn marks(alloc: Global, source: &str, spans: &[Marked], columns: usize) -> Result<String, Fail> {
+    if !text_fits(source) || newline_count(source) > 9 {
+        return Err(Fail::new("too long"));
+    }
+    let annotations = annotations_of(alloc, source, spans)?;
     let map = SourceMap::new(alloc, source, 1)?;
     let mut marks = String::new(alloc);
     for column in 0..columns {
-        marks.push(match mark_of(&map, annotations, 1, column) {
+        marks.push(match mark_of(&map, &annotations, 1, column) {
             Some(AnnotationKind::Primary) => '^',
             Some(_) => '-',
             None => ' ',
@@ -137,42 +104,20 @@ fn marks(
 }
 
 #[test]
-fn marks_of_a_span(rt: HostRuntime) -> Result<(), Fail> {
-    for (source, start, end, want) in [
-        ("日本", 3, 6, "  ^^ "),
-        ("\tx", 1, 2, "    ^ "),
-        ("e\u{301}x", 1, 3, " ^ "),
-        ("ab", 2, 3, "  ^ "),
-    ] {
-        assert!(rt; text_fits(source) && newline_count(source) < 9);
-        assert!(rt; check_span(source, &(start..end)).is_none());
-        let annotations = [AnnotationKind::Primary.span(start..end)];
-        let got = marks(rt.alloc(), source, &annotations, want.len())?;
-        assert_eq!(rt; got.as_str(), want);
-    }
-    Ok(())
-}
-
-#[test]
-fn marks_of_two_spans(rt: HostRuntime) -> Result<(), Fail> {
-    for (source, context, primary, want) in [
-        ("abcdef", (0, 6), (2, 4), "--^^--"),
-        ("abcd", (0, 2), (0, 2), "^^  "),
-    ] {
-        assert!(rt; text_fits(source) && newline_count(source) < 9);
-        assert!(rt; check_span(source, &(context.0..context.1)).is_none());
-        assert!(rt; check_span(source, &(primary.0..primary.1)).is_none());
-        let context_first = [
-            AnnotationKind::Context.span(context.0..context.1),
-            AnnotationKind::Primary.span(primary.0..primary.1),
-        ];
-        let got = marks(rt.alloc(), source, &context_first, want.len())?;
-        assert_eq!(rt; got.as_str(), want);
-        let primary_first = [
-            AnnotationKind::Primary.span(primary.0..primary.1),
-            AnnotationKind::Context.span(context.0..context.1),
-        ];
-        let got = marks(rt.alloc(), source, &primary_first, want.len())?;
+fn marks_of_spans(rt: HostRuntime) -> Result<(), Fail> {
+    let (primary, context) = (AnnotationKind::Primary, AnnotationKind::Context);
+    let rows: [(&str, &[Marked], &str); 8] = [
+        ("日本", &[(primary, 3, 6)], "  ^^ "),
+        ("\tx", &[(primary, 1, 2)], "    ^ "),
+        ("e\u{301}x", &[(primary, 1, 3)], " ^ "),
+        ("ab", &[(primary, 2, 3)], "  ^ "),
+        ("abcdef", &[(context, 0, 6), (primary, 2, 4)], "--^^--"),
+        ("abcdef", &[(primary, 2, 4), (context, 0, 6)], "--^^--"),
+        ("abcd", &[(context, 0, 2), (primary, 0, 2)], "^^  "),
+        ("abcd", &[(primary, 0, 2), (context, 0, 2)], "^^  "),
+    ];
+    for (source, spans, want) in rows {
+        let got = marks(rt.alloc(), source, spans, want.len())?;
         assert_eq!(rt; got.as_str(), want);
     }
     Ok(())
