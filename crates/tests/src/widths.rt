@@ -14,7 +14,7 @@ type Span = (AnnotationKind, usize, usize);
 
 /// A source with a span or two, and what is drawn of it in the widths that have room for this.
 #[derive(Clone, Copy)]
-struct Row {
+struct Case {
     /// The source.
     source: &'static str,
     /// The first span, which has a label unless this is empty.
@@ -37,8 +37,8 @@ const fn row(
     label: &'static str,
     widths: (usize, usize),
     text: &'static str,
-) -> Row {
-    Row {
+) -> Case {
+    Case {
         source,
         first: (AnnotationKind::Primary, start, end),
         label,
@@ -55,8 +55,8 @@ const fn two(
     second: Span,
     widths: (usize, usize),
     text: &'static str,
-) -> Row {
-    Row {
+) -> Case {
+    Case {
         source,
         first: (AnnotationKind::Primary, first.0, first.1),
         label: "",
@@ -69,7 +69,7 @@ const fn two(
 /// The greatest width that rows are drawn in.
 const WIDEST: usize = 40;
 
-fn rows() -> [Row; 17] {
+fn rows() -> [Case; 17] {
     [
         row(
             "let x = 1;",
@@ -192,7 +192,7 @@ fn rows() -> [Row; 17] {
 }
 
 /// The text of a row's report in a width; fails where the source is too long, or the report is refused.
-fn drawn(alloc: Global, row: &Row, width: usize) -> Result<String, Fail> {
+fn drawn(alloc: Global, row: &Case, width: usize) -> Result<String, Fail> {
     if !text_fits(row.source) || !text_fits(row.label) {
         return Err(Fail::new("a text that is too long"));
     }
@@ -204,7 +204,7 @@ fn drawn(alloc: Global, row: &Row, width: usize) -> Result<String, Fail> {
 }
 
 /// A row's snippet.
-fn marked<'a>(alloc: Global, row: &Row) -> Result<Snippet<'a, Annotation<'a>>, AllocError>
+fn marked<'a>(alloc: Global, row: &Case) -> Result<Snippet<'a, Annotation<'a>>, AllocError>
     requires source { length row.now.source.now < 2 ^ 56 }
     requires label { length row.now.label.now < 2 ^ 56 }
     ensures fits { IfOk result (SnippetFits AnnotationFits) }
