@@ -19,7 +19,6 @@ pub mod PlaceBounds
 pub mod RawDepthLemmas
 pub mod ShownFacts
 pub mod ShownLemmas
-pub mod SortLemmas
 pub mod TableLemmas
 pub mod WeakLemmas
 pub mod WindowLemmas

@@ -13,7 +13,8 @@ use Rattle.snippet_parts.specs.declared.depths.LongPlace.{LongPlace}
 use Rattle.snippet_parts.specs.declared.entries.AnnotatedLineInfo.{AnnotatedLineInfo}
 use Rattle.snippet_parts.specs.declared.entries.LineAnnotationType.TheVariants.{Singleline, MultilineStart, MultilineEnd}
 use Rattle.snippet_lines.specs.declared.place.Loc.{Loc}
-use Rattle.snippet_parts.specs.Annotated.{PartEntry, seen_part, KeptLine, seen_kept, kept_line, annotated_lines, put_in, in_order, is_short, is_long, long_entry, long_place, long_places, long_spans, long_parts, stands_before, stands_among, depth_of, single_part, start_part, bar_part, end_part, bar_lines, span_parts, made_parts, parts_on, drawn, is_drawn_primary}
+use Rattle.snippet_parts.specs.Annotated.{PartEntry, seen_part, KeptLine, seen_kept, kept_line, annotated_lines, is_short, is_long, long_entry, long_place, long_places, long_spans, long_parts, stands_before, stands_among, depth_of, single_part, start_part, bar_part, end_part, bar_lines, span_parts, made_parts, parts_on, drawn, is_drawn_primary}
+use Rattle.snippet_lines.specs.Order.{put_in, ordered_by}
 use Rattle.snippet_parts.specs.Depths.{depth_among, same_place}
 use Rattle.snippet_parts.specs.Entries.{is_untouched, Ascends}
 use Rattle.snippet_parts.specs.Kept.{keeps, kept_lines}
@@ -57,12 +58,12 @@ contains-put-old before x z (y ∷ ys) among =
     ])
     (λ _. contains-there z x (y ∷ ys) among)
 
-contains-order : {X : Type 0} (before : X → X → Bool) (z : X) (xs : List X) → Contains xs z → Contains (in_order before xs) z
+contains-order : {X : Type 0} (before : X → X → Bool) (z : X) (xs : List X) → Contains xs z → Contains (ordered_by before xs) z
 contains-order before z [] among = among
 contains-order before z (x ∷ xs) among =
     elim (contains-cases z x xs among) [
-      | inl same ↦ subst (Contains (put_in before x (in_order before xs))) same (contains-put-new before x (in_order before xs))
-      | inr later ↦ contains-put-old before x z (in_order before xs) (contains-order before z xs later)
+      | inl same ↦ subst (Contains (put_in before x (ordered_by before xs))) same (contains-put-new before x (ordered_by before xs))
+      | inr later ↦ contains-put-old before x z (ordered_by before xs) (contains-order before z xs later)
     ]
 
 -- each span of several lines stands in their order
