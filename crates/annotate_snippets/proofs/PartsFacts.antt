@@ -28,7 +28,8 @@ use Rattle.snippet_parts.proofs.EntryFacts.{depths-fit, each-line, labels-fit, p
 use Rattle.snippet_parts.proofs.MarginLaws.{margin_of_kept, margin_whole}
 use Rattle.snippet_parts.proofs.ShownFacts.{first-shown, last-shown, shown-ascends, shown-within}
 use Rattle.snippet_parts.specs.Depths.{greatest_raw_depth, places_of, raw_depth, same_place, share_line}
-use Rattle.snippet_parts.specs.Annotated.{KeptLine, PartEntry, seen_part, annotated_lines, deepest, in_order, is_long, kept_line, long_entry, long_place, long_places, long_spans, parts_on, put_in, seen_kept, single_part, stands_before}
+use Rattle.snippet_parts.specs.Annotated.{KeptLine, PartEntry, seen_part, annotated_lines, deepest, is_long, kept_line, long_entry, long_place, long_places, long_spans, parts_on, seen_kept, single_part, stands_before}
+use Rattle.snippet_lines.specs.Order.{ordered_by, put_in}
 use Rattle.snippet_parts.specs.Kept.{shown_lines}
 use Rattle.snippet_lines.specs.Lines.{Source, source_lines}
 use Rattle.snippet_parts.specs.Mark.{is_marked_on, is_marking, is_single_line, is_wide, touches}
@@ -181,9 +182,9 @@ length-put_in before x (y ∷ ys) =
       | inr f ↦ omega (arith, ap length (cond-false (before y x) (y ∷ put_in before x ys) (x ∷ y ∷ ys) f))
     ]
 
-length-in_order : {X : Type 0} (before : X → X → Bool) (xs : List X) → length (in_order before xs) ≡ length xs
+length-in_order : {X : Type 0} (before : X → X → Bool) (xs : List X) → length (ordered_by before xs) ≡ length xs
 length-in_order before [] = omega arith
-length-in_order before (x ∷ xs) = omega (arith, length-in_order before xs, length-put_in before x (in_order before xs))
+length-in_order before (x ∷ xs) = omega (arith, length-in_order before xs, length-put_in before x (ordered_by before xs))
 
 -- no deeper than there are spans
 pub deepest_few : (s : Source) (marks : List Annotation) → deepest s marks ≤ length marks

@@ -2,4 +2,5 @@ pub mod BoundsLemmas
 pub mod CountLemmas
 pub mod CursorLemmas
 pub mod LinesLemmas
+pub mod OrderLemmas
 pub mod PlaceLemmas

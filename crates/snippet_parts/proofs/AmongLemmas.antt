@@ -3,7 +3,7 @@ use Rattle.std.proofs.Common.{◌≡◌, ◌∙◌, ◌⊎◌, ℕ, zero, suc, �
 use Rattle.std.specs.List.{filter, flat_map, list_all, list_any, cons_option, filter_map, range_with_len}
 use Rattle.std.proofs.lemmas.Bool.{cases_Bool, cases_lt, cond-true, cond-false, or_left, or_right, and_parts}
 use Rattle.std.proofs.lemmas.List.Elements.{All-head, All-tail}
-use Rattle.snippet_parts.specs.Annotated.{put_in, in_order}
+use Rattle.snippet_lines.specs.Order.{put_in, ordered_by}
 use Rattle.snippet_parts.specs.Measures.{least, greatest}
 use Rattle.snippet_parts.proofs.ExtentLemmas.{least_below}
 
@@ -111,15 +111,15 @@ put_cases before y (z ∷ zs) x here =
     passed rest (inl same) = inr (inl same)
     passed rest (inr later) = moved (rest later)
 
-pub among_in_order : {X : Type 0} (before : X → X → Bool) (xs : List X) (x : X) → Among xs x → Among (in_order before xs) x
+pub among_in_order : {X : Type 0} (before : X → X → Bool) (xs : List X) (x : X) → Among xs x → Among (ordered_by before xs) x
 among_in_order before [] x here = here
-among_in_order before (y ∷ ys) x (inl same) = among_put before y (in_order before ys) x (inl same)
-among_in_order before (y ∷ ys) x (inr later) = among_put before y (in_order before ys) x (inr (among_in_order before ys x later))
+among_in_order before (y ∷ ys) x (inl same) = among_put before y (ordered_by before ys) x (inl same)
+among_in_order before (y ∷ ys) x (inr later) = among_put before y (ordered_by before ys) x (inr (among_in_order before ys x later))
 
-pub in_order_cases : {X : Type 0} (before : X → X → Bool) (xs : List X) (x : X) → Among (in_order before xs) x → Among xs x
+pub in_order_cases : {X : Type 0} (before : X → X → Bool) (xs : List X) (x : X) → Among (ordered_by before xs) x → Among xs x
 in_order_cases before [] x here = here
 in_order_cases before (y ∷ ys) x here =
-    elim (put_cases before y (in_order before ys) x here) [
+    elim (put_cases before y (ordered_by before ys) x here) [
       | inl same ↦ inl same
       | inr later ↦ inr (in_order_cases before ys x later)
     ]

@@ -20,7 +20,6 @@ pub mod RawDepthLemmas
 pub mod ShownFacts
 pub mod NearLemmas
 pub mod ShownLemmas
-pub mod SortLemmas
 pub mod TableLemmas
 pub mod WeakLemmas
 pub mod WindowLemmas

@@ -6,7 +6,8 @@ use Rattle.std.specs.List.Sorted.{IsNonDecreasingBy, IsSortedBy}
 use Rattle.std.specs.Ordering.{is_lt, ordering_then, nat_cmp}
 use Rattle.std.proofs.lemmas.Bool.Decides.{nat_tests}
 use Rattle.snippet_parts.specs.declared.long_spans.LongSpan.{LongSpan}
-use Rattle.snippet_parts.specs.Annotated.{in_order, long_entry, is_long, stands_before, long_spans}
+use Rattle.snippet_parts.specs.Annotated.{long_entry, is_long, stands_before, long_spans}
+use Rattle.snippet_lines.specs.Order.{ordered_by}
 use Rattle.snippet_parts.specs.LongSpans.{seen_long, HasFit}
 use Rattle.snippet_lines.specs.Lines.{Source, source_lines}
 use Rattle.snippet_parts.specs.Mark.{is_marking}
@@ -15,7 +16,7 @@ use Rattle.snippet_model.specs.declared.snippet.Annotation.{Annotation}
 use Rattle.std.proofs.lemmas.Bool.{cases_eq, cases_lt, eqb-false, ltb-false, not-true, and_parts, or_parts}
 use Rattle.snippet_parts.proofs.MarkLemmas.{start-line, end-line}
 use Rattle.snippet_lines.proofs.PlaceLemmas.{line_of-mono, line_of-within}
-use Rattle.snippet_parts.proofs.SortLemmas.{order-map}
+use Rattle.snippet_lines.proofs.OrderLemmas.{map-ordered_by}
 use Rattle.std.proofs.lemmas.List.Sorted.{sorted_far}
 
 -- which of two spans of several lines comes first
@@ -53,8 +54,8 @@ fit-long s a l ordered seen display end char long =
     record { display = display; end_display = end; char = omega arith; lines = omega (arith, ap (λ (e : Entry). e.start.line) seen, ap (λ (e : Entry). e.end.line) seen, long-lines s a ordered long); from = omega (arith, ap (λ (e : Entry). e.start.line) seen, start-line s a.span.start a.span.end); within = omega (arith, ap (λ (e : Entry). e.end.line) seen, end-line s a.span.start a.span.end, line_of-within s.text a.span.end) }
 
 -- the order of the code's spans is that of what is seen of them
-pub long_spans-is : (s : Source) (given sorted : List LongSpan) (marks : List Annotation) → sorted ≡ in_order long_before given → map seen_long given ≡ map (long_entry s) (filter (is_long s.text) marks) → map seen_long sorted ≡ long_spans s marks
-long_spans-is s given sorted marks is seen = ap (map seen_long) is ∙ order-map stands_before seen_long given ∙ ap (in_order stands_before) seen
+pub long_spans-is : (s : Source) (given sorted : List LongSpan) (marks : List Annotation) → sorted ≡ ordered_by long_before given → map seen_long given ≡ map (long_entry s) (filter (is_long s.text) marks) → map seen_long sorted ≡ long_spans s marks
+long_spans-is s given sorted marks is seen = ap (map seen_long) is ∙ map-ordered_by seen_long stands_before given ∙ ap (ordered_by stands_before) seen
 
 pub long-ordered : (xs : List LongSpan) → IsSortedBy long_before xs → IsNonDecreasingBy (λ (l : LongSpan). l.start.line) xs
 long-ordered xs sorted i j d le within =

@@ -1,27 +1,26 @@
 -- What stands on a line that is kept: of each span that begins or ends there an entry.
-use Rattle.std.proofs.Common.{◌≡◌, ℕ, suc, zero, ◌+◌, ◌-◌, ◌<◌, ◌≤◌, ◌⊎◌, Bool, true, false, ◌&&◌, ◌||◌, not, eqb, leb, List, [], ◌∷◌, ◌++◌, map, length, get_or, inl, inr, refl, sym, ap, subst, ◌∙◌, arith}
+use Rattle.std.proofs.Common.{◌≡◌, ℕ, ◌+◌, ◌-◌, ◌⊎◌, Bool, true, false, ◌||◌, not, eqb, leb, List, [], ◌∷◌, ◌++◌, map, length, get_or, inl, inr, refl, sym, ap, subst, ◌∙◌, arith}
 use Rattle.std.specs.List.{All, Contains, filter, list_any}
-use Rattle.std.specs.Option.{option_map}
-use Rattle.std.specs.Cow.{cow_str_bytes}
 use Rattle.std.proofs.lemmas.Bool.{and_parts, cases_Bool, cond_both, eqb-true, eq-eqb, leb-true}
 use Rattle.std.proofs.lemmas.List.{get_or-map, length-map}
 use Rattle.std.proofs.lemmas.Simd.{map-map}
-use Rattle.std.proofs.lemmas.List.Elements.{All-nil, All-cons, All-head, All-tail, All-map, All-contains, Contains-append_left, Contains-append_right, filter-append}
+use Rattle.std.proofs.lemmas.List.Elements.{All-head, All-tail, All-map, All-contains, Contains-append_left, Contains-append_right, filter-append}
 use Rattle.snippet_model.specs.declared.snippet.Annotation.{Annotation}
 use Rattle.snippet_model.specs.declared.snippet.AnnotationKind.TheVariants.{Primary}
 use Rattle.snippet_parts.specs.declared.depths.LongPlace.{LongPlace}
 use Rattle.snippet_parts.specs.declared.entries.AnnotatedLineInfo.{AnnotatedLineInfo}
 use Rattle.snippet_parts.specs.declared.entries.LineAnnotationType.TheVariants.{Singleline, MultilineStart, MultilineEnd}
 use Rattle.snippet_lines.specs.declared.place.Loc.{Loc}
-use Rattle.snippet_parts.specs.Annotated.{PartEntry, seen_part, KeptLine, seen_kept, kept_line, annotated_lines, put_in, in_order, is_short, is_long, long_entry, long_place, long_places, long_spans, long_parts, stands_before, stands_among, depth_of, single_part, start_part, bar_part, end_part, bar_lines, span_parts, made_parts, parts_on, drawn, is_drawn_primary}
+use Rattle.snippet_parts.specs.Annotated.{PartEntry, seen_part, KeptLine, seen_kept, kept_line, annotated_lines, is_short, is_long, long_entry, long_place, long_places, long_spans, long_parts, stands_before, stands_among, depth_of, single_part, start_part, bar_part, end_part, bar_lines, span_parts, parts_on, drawn, is_drawn_primary}
+use Rattle.snippet_lines.specs.Order.{put_in, ordered_by}
 use Rattle.snippet_parts.specs.Depths.{depth_among, same_place}
-use Rattle.snippet_parts.specs.Entries.{is_untouched, Ascends}
-use Rattle.snippet_parts.specs.Kept.{keeps, kept_lines}
-use Rattle.snippet_lines.specs.Lines.{Source, source_lines}
-use Rattle.snippet_parts.specs.Mark.{is_marking, is_marked_on, touches}
+use Rattle.snippet_parts.specs.Entries.{Ascends}
+use Rattle.snippet_parts.specs.Kept.{kept_lines}
+use Rattle.snippet_lines.specs.Lines.{Source}
+use Rattle.snippet_parts.specs.Mark.{is_marking, touches}
 use Rattle.snippet_parts.specs.Marked.{Entry, first_line, last_line}
-use Rattle.snippet_parts.specs.OnLine.{numbers_of, Begins, Closes, Labels, AreEntriesOn}
-use Rattle.snippet_lines.specs.Place.{locations_of, start_location, end_location, location_of, place_of}
+use Rattle.snippet_parts.specs.OnLine.{numbers_of, AreEntriesOn}
+use Rattle.snippet_lines.specs.Place.{locations_of, start_location, end_location, location_of}
 use Rattle.snippet_lines.specs.Span.{IsSpan}
 use Rattle.snippet_parts.specs.Stretches.{is_seen}
 use Rattle.snippet_parts.proofs.RawDepthLemmas.{same-true, same-refl}
@@ -57,12 +56,12 @@ contains-put-old before x z (y ∷ ys) among =
     ])
     (λ _. contains-there z x (y ∷ ys) among)
 
-contains-order : {X : Type 0} (before : X → X → Bool) (z : X) (xs : List X) → Contains xs z → Contains (in_order before xs) z
+contains-order : {X : Type 0} (before : X → X → Bool) (z : X) (xs : List X) → Contains xs z → Contains (ordered_by before xs) z
 contains-order before z [] among = among
 contains-order before z (x ∷ xs) among =
     elim (contains-cases z x xs among) [
-      | inl same ↦ subst (Contains (put_in before x (in_order before xs))) same (contains-put-new before x (in_order before xs))
-      | inr later ↦ contains-put-old before x z (in_order before xs) (contains-order before z xs later)
+      | inl same ↦ subst (Contains (put_in before x (ordered_by before xs))) same (contains-put-new before x (ordered_by before xs))
+      | inr later ↦ contains-put-old before x z (ordered_by before xs) (contains-order before z xs later)
     ]
 
 -- each span of several lines stands in their order

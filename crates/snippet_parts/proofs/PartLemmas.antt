@@ -9,7 +9,8 @@ use Rattle.snippet_model.specs.declared.snippet.AnnotationKind.{AnnotationKind}
 use Rattle.snippet_model.specs.declared.snippet.AnnotationKind.TheVariants.{Primary}
 use Rattle.snippet_parts.specs.declared.depths.LongPlace.{LongPlace}
 use Rattle.snippet_parts.specs.declared.entries.LineAnnotationType.TheVariants.{Singleline, MultilineEnd}
-use Rattle.snippet_parts.specs.Annotated.{PartEntry, put_in, in_order, is_short, is_long, long_entry, long_place, long_places, long_spans, stands_before, depth_of, single_part, start_part, bar_part, end_part, bar_lines, span_parts, long_parts, made_parts, drawn, is_drawn_primary}
+use Rattle.snippet_parts.specs.Annotated.{PartEntry, is_short, is_long, long_entry, long_place, long_places, long_spans, stands_before, depth_of, single_part, start_part, bar_part, end_part, bar_lines, span_parts, long_parts, made_parts, drawn, is_drawn_primary}
+use Rattle.snippet_lines.specs.Order.{put_in, ordered_by}
 use Rattle.snippet_parts.specs.Depths.{depth_among, same_place}
 use Rattle.snippet_parts.specs.Kept.{is_weak_line}
 use Rattle.snippet_lines.specs.Lines.{Source}
@@ -29,9 +30,9 @@ All-put before Q x [] one all = All-cons Q x [] one (All-nil Q)
 All-put before Q x (y ∷ ys) one all =
     cond_both (before y x) (y ∷ put_in before x ys) (x ∷ y ∷ ys) (All Q) (λ _. All-cons Q y (put_in before x ys) (All-head Q y ys all) (All-put before Q x ys one (All-tail Q y ys all))) (λ _. All-cons Q x (y ∷ ys) one all)
 
-pub All-order : {X : Type 0} (before : X → X → Bool) (Q : X → Type 0) (xs : List X) → All Q xs → All Q (in_order before xs)
+pub All-order : {X : Type 0} (before : X → X → Bool) (Q : X → Type 0) (xs : List X) → All Q xs → All Q (ordered_by before xs)
 All-order before Q [] all = All-nil Q
-All-order before Q (x ∷ xs) all = All-put before Q x (in_order before xs) (All-head Q x xs all) (All-order before Q xs (All-tail Q x xs all))
+All-order before Q (x ∷ xs) all = All-put before Q x (ordered_by before xs) (All-head Q x xs all) (All-order before Q xs (All-tail Q x xs all))
 
 pub All-range : (a n : ℕ) → All (λ k. (a ≤ k) × (k < a + n)) (range_with_len a n)
 All-range a n k d within =

@@ -13,7 +13,8 @@ use Rattle.snippet_model.specs.declared.snippet.AnnotationKind.TheVariants.{Prim
 use Rattle.snippet_parts.specs.declared.entries.AnnotatedLineInfo.{AnnotatedLineInfo}
 use Rattle.snippet_parts.specs.declared.entries.LineAnnotation.{LineAnnotation}
 use Rattle.snippet_parts.specs.declared.entries.LineAnnotationType.TheVariants.{Singleline}
-use Rattle.snippet_parts.specs.Annotated.{put_in, in_order, is_long, long_entry, long_place, long_places, long_spans, stands_before, depth_of, PartEntry, seen_part, KeptLine, seen_kept}
+use Rattle.snippet_parts.specs.Annotated.{is_long, long_entry, long_place, long_places, long_spans, stands_before, depth_of, PartEntry, seen_part, KeptLine, seen_kept}
+use Rattle.snippet_lines.specs.Order.{put_in, ordered_by}
 use Rattle.snippet_lines.specs.Lines.{Source}
 use Rattle.snippet_parts.specs.Depths.{same_place, share_line}
 use Rattle.snippet_parts.proofs.DepthLemmas.{distinct-places}
@@ -100,9 +101,9 @@ any-put before q x (y ∷ ys) =
     swapped false true c = refl
     swapped false false c = refl
 
-any-order : {X : Type 0} (before : X → X → Bool) (q : X → Bool) (xs : List X) → list_any q (in_order before xs) ≡ list_any q xs
+any-order : {X : Type 0} (before : X → X → Bool) (q : X → Bool) (xs : List X) → list_any q (ordered_by before xs) ≡ list_any q xs
 any-order before q [] = refl
-any-order before q (x ∷ xs) = any-put before q x (in_order before xs) ∙ ap (λ b. q x || b) (any-order before q xs)
+any-order before q (x ∷ xs) = any-put before q x (ordered_by before xs) ∙ ap (λ b. q x || b) (any-order before q xs)
 
 any-map : {X Y : Type 0} (q : Y → Bool) (f : X → Y) (xs : List X) → list_any q (map f xs) ≡ list_any (λ x. q (f x)) xs
 any-map q f [] = refl

@@ -15,6 +15,7 @@ use Rattle.snippet_lines.specs.declared.place.Loc.{Loc}
 use Rattle.snippet_parts.specs.Depths.{same_place, comes_before, greatest_depth, depth_among}
 use Rattle.snippet_parts.specs.Kept.{is_weak_line, kept_lines}
 use Rattle.snippet_lines.specs.Lines.{source_lines, text_at, Source}
+use Rattle.snippet_lines.specs.Order.{ordered_by}
 use Rattle.snippet_parts.specs.Mark.{is_marking, is_single_line, touches}
 use Rattle.snippet_parts.specs.Marked.{Entry, seen_entry, entry_of}
 use Rattle.snippet_lines.specs.Place.{locations_of}
@@ -43,21 +44,12 @@ long_place e = record { from = e.start.byte; to = e.end.byte; first = e.start.li
 abbrev pub is_long : List ℕ → Annotation → Bool
 is_long source a = is_marking a.kind && not (is_single_line source a)
 
--- some things in the order of a test, where those that it doesn't tell apart stay as they were given
-abbrev pub put_in : {X : Type 0} → (X → X → Bool) → X → List X → List X
-put_in before x [] = x ∷ []
-put_in before x (y ∷ ys) = if before y x then y ∷ put_in before x ys else x ∷ y ∷ ys
-
-abbrev pub in_order : {X : Type 0} → (X → X → Bool) → List X → List X
-in_order before [] = []
-in_order before (x ∷ xs) = put_in before x (in_order before xs)
-
 -- spans of several lines in their order: by first line, then the one with the later last line, else as given
 abbrev pub stands_before : Entry → Entry → Bool
 stands_before d e = comes_before (long_place d) (long_place e)
 
 abbrev pub long_spans : Source → List Annotation → List Entry
-long_spans s marks = in_order stands_before (map (long_entry s) (filter (is_long s.text) marks))
+long_spans s marks = ordered_by stands_before (map (long_entry s) (filter (is_long s.text) marks))
 
 abbrev pub long_places : Source → List Annotation → List LongPlace
 long_places s marks = map long_place (long_spans s marks)

@@ -8,7 +8,8 @@ use Rattle.std.proofs.lemmas.Bool.{cases_Bool, cond-true, cond-false, ltb-false,
 use Rattle.std.proofs.lemmas.Bool.Decides.{nat_tests}
 use Rattle.snippet_model.specs.declared.snippet.Patch.{Patch}
 use Rattle.snippet_lines.specs.Span.{IsSpan}
-use Rattle.snippet_splice.specs.Edits.{Edit, edit_of, precedes, put_in, in_order, AreApart}
+use Rattle.snippet_splice.specs.Edits.{Edit, edit_of, precedes, in_order, AreApart}
+use Rattle.snippet_lines.specs.Order.{put_in}
 use Rattle.snippet_splice.specs.Overlap.{overlap, overlap_at, no_edit, AreDisjoint, AreOverlapping, IsFirstOverlap, first_overlap_from, first_overlap}
 
 pub edit-at : (ps : List Patch) (k : ℕ) (p : Patch) → k < length ps → p ≡ get_or ps k p → get_or (map edit_of ps) k no_edit ≡ edit_of p

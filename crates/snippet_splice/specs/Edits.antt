@@ -3,6 +3,7 @@ use Rattle.std.specs.Prelude.{ℕ, ◌+◌, ◌-◌, ◌≤◌, nat_lt, nat_le, 
 use Rattle.std.specs.List.{slice_range}
 use Rattle.std.specs.Cow.{cow_str_bytes}
 use Rattle.snippet_model.specs.declared.snippet.Patch.{Patch}
+use Rattle.snippet_lines.specs.Order.{ordered_by}
 use Rattle.snippet_splice.specs.declared.patches.TrimmedPatch.{TrimmedPatch}
 use Rattle.snippet_splice.specs.Trim.{sandwich}
 
@@ -30,16 +31,6 @@ original_bounds_of p = (p.original_span.start, p.original_span.end)
 -- whether an edit comes before another whatever the order given: by start, then by end
 abbrev pub precedes : Edit → Edit → Bool
 precedes d e = nat_lt d.start e.start || (d.start == e.start && nat_lt d.end e.end)
-
--- an element put before the first of some others that it doesn't come behind, under a test that says what comes before
--- what; and a list put in order by such a test, ties as given
-abbrev pub put_in : {X : Type 0} → (X → X → Bool) → X → List X → List X
-put_in before x [] = x ∷ []
-put_in before x (y ∷ ys) = if before y x then y ∷ put_in before x ys else x ∷ y ∷ ys
-
-abbrev pub ordered_by : {X : Type 0} → (X → X → Bool) → List X → List X
-ordered_by before [] = []
-ordered_by before (x ∷ xs) = put_in before x (ordered_by before xs)
 
 -- edits in order: by start, then by end, else as given
 abbrev pub in_order : List Edit → List Edit
