@@ -5,7 +5,9 @@ ghost use Rattle.snippet_model.specs.Fits.{AnnotationFits, GroupFits, SnippetFit
 use annotate_snippets::level::ERROR;
 use annotate_snippets::renderer::RenderError;
 use annotate_snippets::renderer::style::Stylesheet;
-use annotate_snippets::{Annotation, AnnotationKind, Element, Group, OptionCow, Renderer, Snippet};
+use annotate_snippets::{
+    Annotation, AnnotationKind, Element, Group, OptionCow, Patch, Renderer, Snippet,
+};
 use std::alloc::{AllocError, Global};
 use std::test::Fail;
 
@@ -114,5 +116,46 @@ fn says_why_a_report_is_refused(rt: HostRuntime) -> Result<(), Fail> {
     for (refusal, text) in &refusals {
         assert_eq!(rt; format!(in rt.alloc(); "{refusal}")?.as_str(), *text);
     }
+    Ok(())
+}
+
+/// What a report of one suggestion is refused for.
+fn refusal_of(alloc: Global, snippet: Snippet<'_, Patch<'_>>) -> Result<String, Fail>
+    requires fits { SnippetFits PatchFits snippet }
+{
+    let group = ERROR
+        .primary_title("e")
+        .element(alloc, Element::from(snippet))?;
+    match text(alloc, &Renderer::plain(), group) {
+        Ok(_) => Err(Fail::new("a report that should be refused")),
+        Err(refusal) => Ok(format!(in alloc; "{refusal}")?),
+    }
+}
+
+#[test]
+fn refuses_patches_that_overlap(rt: HostRuntime) -> Result<(), Fail> {
+    let alloc = rt.alloc();
+    let snippet = Snippet::source(alloc, "abc")
+        .patch(Patch::new(0..2, "x"))?
+        .patch(Patch::new(1..3, "y"))?;
+    let refusal = refusal_of(alloc, snippet)?;
+    assert_eq!(rt;
+        refusal.as_str(),
+        "group 0, element 0: markers 0 and 1 overlap"
+    );
+    Ok(())
+}
+
+#[test]
+fn refuses_line_numbers_of_patches(rt: HostRuntime) -> Result<(), Fail> {
+    let alloc = rt.alloc();
+    let snippet = Snippet::source(alloc, "a")
+        .line_start(usize::MAX - 1)
+        .patch(Patch::new(0..0, "\n\n"))?;
+    let refusal = refusal_of(alloc, snippet)?;
+    assert_eq!(rt;
+        refusal.as_str(),
+        "group 0, element 0: line numbers are too large"
+    );
     Ok(())
 }
