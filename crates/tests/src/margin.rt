@@ -1,6 +1,8 @@
 //! The bounds between which the lines of a snippet are shown.
 
-use snippet_parts::Margin;
+use snippet_parts::{Margin, near_part};
+use snippet_text::str_width;
+use std::test::Fail;
 
 /// Whether lines are cut on the left, and the bounds of a line of so many columns.
 fn bounds(margin: Margin, width: usize) -> (bool, usize, usize) {
@@ -33,4 +35,25 @@ fn bounds_of_lines_that_do_not_fit(rt: HostRuntime) {
         bounds(Margin::new(0, 0, usize::MAX, usize::MAX, usize::MAX, 1), 1),
         (false, 0, 1)
     );
+}
+
+#[test]
+fn part_of_a_line_does_not_grow_with_it(rt: HostRuntime) -> Result<(), Fail> {
+    // 20 columns of a line are shown from column 3992 on. Each `x\tab+` takes 8 columns: before the part that is kept stand
+    // 3991 columns, which end where `b` does, and it has one column before the window and a few behind.
+    let margin = Margin::new(0, 4000, 4001, 4010, 20, 2_000_000);
+    for pieces in [20_000, 200_000] {
+        let mut line = String::new(rt.alloc());
+        for _ in 0..pieces {
+            line.push_str("x\tab+")?;
+        }
+        if line.len() < 10_000_000 {
+            let width = str_width(line.as_str());
+            let part = near_part(margin, line.as_str(), width);
+            assert_eq!(rt; width, 8 * pieces);
+            assert_eq!(rt; part.skipped, 3991);
+            assert_eq!(rt; part.text, "+x\tab+x\tab+x\tab+");
+        }
+    }
+    Ok(())
 }
