@@ -124,9 +124,9 @@ kept-counted s = by_cases s.fold refl
     by_cases true is =
         let p : ℕ → Bool = λ k. list_any (keeps source k) s.markers.items in
         All-weaker (λ k. p k ≡ true) (λ k. k ≤ newline_count (reached_source s) + 1) (λ k kept.
-            let found = from_any (keeps source k) s.markers.items kept in
-            let low : last_line source found.0 ≤ newline_count (reached_source s) + 1 = All-contains (λ a. last_line source a ≤ newline_count (reached_source s) + 1) s.markers.items found.0 (lines-counted s) found.1 in
-            omega (arith, low, kept_before source found.0 k found.2)) (filter p all) (filter_passes p all)
+        let found = from_any (keeps source k) s.markers.items kept in
+        let low : last_line source found.0 ≤ newline_count (reached_source s) + 1 = All-contains (λ a. last_line source a ≤ newline_count (reached_source s) + 1) s.markers.items found.0 (lines-counted s) found.1 in
+        omega (arith, low, kept_before source found.0 k found.2)) (filter p all) (filter_passes p all)
     by_cases false is =
         let same : newline_count (reached_source s) ≡ newline_count source = rw is refl in
         let bound : All (λ k. k ≤ newline_count (reached_source s) + 1) all = λ i d within. omega (arith, get_or-range_with_len 0 (length (source_lines source)) i d (omega (arith, within, length-range_with_len 0 (length (source_lines source)))), within, length-range_with_len 0 (length (source_lines source)), length-source_lines source, same) in

@@ -333,10 +333,10 @@ module _ (r : Renderer) (unanonymized : r.anonymized_snippet_line_numbers ≡ fa
       columns : list_all has_column moved ≡ true
       columns =
           list_all-from_AllPass has_column moved (All-map (λ e. has_column e ≡ true) (shifted shows.dropped) es (λ i d inside.
-              let e : LineAnnotation = get_or es i d in
-              let own = span_of_entry (numbered_source s) s.markers.items k es same e (Contains-get_or es i d inside) in
-              let is : IsEntryOf (numbered_source s) k own.0 e = own.2 in
-              lt-ltb (e.start.display - shows.dropped) (e.end.display - shows.dropped) (omega (arith, clear i d inside, is.start, is.end))))
+          let e : LineAnnotation = get_or es i d in
+          let own = span_of_entry (numbered_source s) s.markers.items k es same e (Contains-get_or es i d inside) in
+          let is : IsEntryOf (numbered_source s) k own.0 e = own.2 in
+          lt-ltb (e.start.display - shows.dropped) (e.end.display - shows.dropped) (omega (arith, clear i d inside, is.start, is.end))))
 
       plain : are_plain margin.term_width r.decor_style moved ≡ true
       plain =

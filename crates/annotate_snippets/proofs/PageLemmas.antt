@@ -174,8 +174,8 @@ module _ (r : Renderer) (unanonymized : r.anonymized_snippet_line_numbers ≡ fa
       let between : IsGapNamed k ks shown.1 = gap_named k ks info infos shown.1 here further shown.5 in
       let behind : List NamedRow = between.gap ++ rest.part in
       let ends : closes ≡ true → behind ≡ [] = λ last.
-          let none : ks ≡ [] = no_more ks infos last further in
-          ap (λ gap. gap ++ rest.part) (between.last none) ∙ no_cells rest.part (rest.cells ∙ none_shown (layout_of r.decor_style s) margin s.line_numbering true infos shown.2 last shown.6) in
+      let none : ks ≡ [] = no_more ks infos last further in
+      ap (λ gap. gap ++ rest.part) (between.last none) ∙ no_cells rest.part (rest.cells ∙ none_shown (layout_of r.decor_style s) margin s.line_numbering true infos shown.2 last shown.6) in
       record {
         part = source_row ∷ (others shows.below ++ behind);
         cells = ap (λ rs. shows.source ∷ rs) (cells_of-append (others shows.below) behind ∙ ap (λ rs. rs ++ cells_of behind) (cells_of-others shows.below) ∙ ap (λ rs. shows.below ++ rs) (cells_of-append between.gap rest.part ∙ ap (λ rs. rs ++ cells_of rest.part) between.cells ∙ ap (λ rs. shown.1 ++ rs) rest.cells)) ∙ ap (λ rs. rs ++ (shown.1 ++ shown.2)) (sym shows.rows_are) ∙ sym (append_assoc shown.0 shown.1 shown.2) ∙ sym shown.3;

@@ -287,8 +287,9 @@ impl Renderer {
         let decor = self.decor_style;
         let links = self.hyperlink;
         let width = self.term_width;
-        let grid =
-            graphic::page(alloc, decor, links, width, title, cause).map_err(RenderError::Memory)?;
+        let grid = graphic::page(alloc, decor, links, width, title, cause).map_err(
+            RenderError::Memory,
+        )?;
         Ok((level, grid))
     }
 }

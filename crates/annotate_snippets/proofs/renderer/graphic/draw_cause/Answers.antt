@@ -128,14 +128,14 @@ returns c =
     let bounds : bounds_of c.margin_for-margin.result ≡ margin_of (c.args.width - code_of s) s.fold (numbered_source s) s.markers.items = c.margin_for-margin.ensures.bounds ∙ bounds_of_kept c.saturating_sub.result s.fold (numbered_source s) s.markers.items c.deref-2.result.now c.requires.drawable.spans kept ∙ ap (λ n. margin_of n s.fold (numbered_source s) s.markers.items) room in
     record {
       added = on_ok_weaker c.draw_snippet.result (λ adds. record {
-          infos = c.deref-3.result.now;
-          lines = shown_of s c.requires.drawable c.in_ok-source.source c.deref.result.now c.in_ok-depth.kept.items c.in_ok-lines.lines.items c.deref-3.result.now source_is c.deref.ensures.value c.deref-3.ensures.value c.in_ok-depth.ensures.lines c.in_ok-lines.ensures.value;
-          margin = c.margin_for-margin.result;
-          room = c.margin_for-margin.ensures.room ∙ room;
-          bounds = bounds;
-          ordered = c.margin_for-margin.ensures.ordered;
-          rows = subst (λ l. AddsSnippet l c.margin_for-margin.result s.line_numbering true true c.deref-3.result.now c.args.buffer.now c.draw_snippet.new.buffer) layout_is adds;
-        }) c.draw_snippet.ensures.added;
+        infos = c.deref-3.result.now;
+        lines = shown_of s c.requires.drawable c.in_ok-source.source c.deref.result.now c.in_ok-depth.kept.items c.in_ok-lines.lines.items c.deref-3.result.now source_is c.deref.ensures.value c.deref-3.ensures.value c.in_ok-depth.ensures.lines c.in_ok-lines.ensures.value;
+        margin = c.margin_for-margin.result;
+        room = c.margin_for-margin.ensures.room ∙ room;
+        bounds = bounds;
+        ordered = c.margin_for-margin.ensures.ordered;
+        rows = subst (λ l. AddsSnippet l c.margin_for-margin.result s.line_numbering true true c.deref-3.result.now c.args.buffer.now c.draw_snippet.new.buffer) layout_is adds;
+      }) c.draw_snippet.ensures.added;
     }
   where
     same_layout : {a b : Layout} → a.gutter ≡ b.gutter → a.code ≡ b.code → a.decor ≡ b.decor → a ≡ b
