@@ -1,40 +1,38 @@
 //! Reports of narrow renderers: each is drawn at every width, and says the same wherever there is room.
-ghost use Rattle.std.specs.Prelude.{◌^◌, ◌<◌, IfOk, length};
-ghost use Rattle.snippet_model.specs.Fits.{AnnotationFits, SnippetFits};
+ghost use Rattle.std.specs.Prelude.{◌≡◌, ◌^◌, ◌<◌, IfSome, length, true};
 
 use annotate_snippets::level::ERROR;
-use annotate_snippets::renderer::RenderError;
 use annotate_snippets::text::text_fits;
-use annotate_snippets::{Annotation, AnnotationKind, Element, OptionCow, Renderer, Snippet};
-use std::alloc::{AllocError, Global};
+use annotate_snippets::{AnnotationKind, Element, OptionCow, Renderer, Snippet};
+use std::alloc::Global;
 use std::test::Fail;
 
 /// A span: its kind, the byte at which it starts, and the one before which it ends.
 type Span = (AnnotationKind, usize, usize);
 
-/// A source with a span or two, and what is drawn of it in the widths that have room for this.
+/// A source with two spans, and what is drawn of it in the widths that have room for this.
 #[derive(Clone, Copy)]
 struct Case {
     /// The source.
     source: &'static str,
-    /// The first span, which has a label unless this is empty.
+    /// The first span.
     first: Span,
-    /// Its label.
-    label: &'static str,
+    /// Its label, if it has one.
+    label: Option<&'static str>,
     /// The second one.
-    second: Option<Span>,
+    second: Span,
     /// The widths, from the least to the greatest.
     widths: (usize, usize),
     /// The text.
     text: &'static str,
 }
 
-/// A row with one primary span.
-const fn row(
+/// A case of one primary span; the second one keeps the line on which it starts, which is kept anyhow.
+fn row(
     source: &'static str,
     start: usize,
     end: usize,
-    label: &'static str,
+    label: Option<&'static str>,
     widths: (usize, usize),
     text: &'static str,
 ) -> Case {
@@ -42,14 +40,14 @@ const fn row(
         source,
         first: (AnnotationKind::Primary, start, end),
         label,
-        second: None,
+        second: (AnnotationKind::Visible, start, start),
         widths,
         text,
     }
 }
 
-/// A row with a primary span and another one.
-const fn two(
+/// A case of a primary span and another one.
+fn two(
     source: &'static str,
     first: (usize, usize),
     second: Span,
@@ -59,8 +57,8 @@ const fn two(
     Case {
         source,
         first: (AnnotationKind::Primary, first.0, first.1),
-        label: "",
-        second: Some(second),
+        label: None,
+        second,
         widths,
         text,
     }
@@ -75,7 +73,7 @@ fn rows() -> [Case; 17] {
             "let x = 1;",
             4,
             5,
-            "here",
+            Some("here"),
             (14, WIDEST),
             "error: e\n  |\n1 | let x = 1;\n  |     ^ here",
         ),
@@ -83,17 +81,17 @@ fn rows() -> [Case; 17] {
             "ab",
             2,
             3,
-            "",
+            None,
             (6, WIDEST),
             "error: e\n  |\n1 | ab\n  |   ^",
         ),
-        row("", 0, 0, "", (0, WIDEST), "error: e\n  |\n1 |\n  | ^"),
-        row("ab", 0, 1, "", (0, 0), "error: e\n  |\n1 | ab\n  | ^"),
+        row("", 0, 0, None, (0, WIDEST), "error: e\n  |\n1 |\n  | ^"),
+        row("ab", 0, 1, None, (0, 0), "error: e\n  |\n1 | ab\n  | ^"),
         row(
             "日本",
             3,
             6,
-            "",
+            None,
             (8, WIDEST),
             "error: e\n  |\n1 | 日本\n  |   ^^",
         ),
@@ -101,7 +99,7 @@ fn rows() -> [Case; 17] {
             "\tx",
             1,
             2,
-            "",
+            None,
             (9, WIDEST),
             "error: e\n  |\n1 |     x\n  |     ^",
         ),
@@ -116,7 +114,7 @@ fn rows() -> [Case; 17] {
             "aaaaaaaaaaaaaaaaaaaaaaaaaaaaaaTaaaaaaaaaaaaaaaaaaaaaaaaaaaaa",
             30,
             31,
-            "",
+            None,
             (20, 20),
             "error: e\n  |\n1 | ...aaaaTaaaaa...\n  |        ^",
         ),
@@ -124,7 +122,7 @@ fn rows() -> [Case; 17] {
             "aaaaaaaaaaaaaaaaaaaaaaaaaaaaaaaaaaaaaaaa",
             0,
             40,
-            "",
+            None,
             (20, 20),
             "error: e\n  |\n1 | aaaaa...aaaaa\n  | ^^^^^...^^^^^",
         ),
@@ -132,7 +130,7 @@ fn rows() -> [Case; 17] {
             "日日日日日日日日日日日日日日日Taaaaaaaaaaaaaaaaaaaaaaaaaaaaa",
             45,
             46,
-            "",
+            None,
             (20, 20),
             "error: e\n  |\n1 | ... 日Taaaaaa...\n  |       ^",
         ),
@@ -140,7 +138,7 @@ fn rows() -> [Case; 17] {
             "a {\n b\n}",
             0,
             8,
-            "",
+            None,
             (9, WIDEST),
             "error: e\n  |\n1 | / a {\n2 | |  b\n3 | | }\n  | |_^",
         ),
@@ -148,7 +146,7 @@ fn rows() -> [Case; 17] {
             "f(a,\n b)",
             1,
             8,
-            "x",
+            Some("x"),
             (10, WIDEST),
             "error: e\n  |\n1 |   f(a,\n  |  __^\n2 | |  b)\n  | |___^ x",
         ),
@@ -184,44 +182,39 @@ fn rows() -> [Case; 17] {
             "a\na\na\na\na\na\na\na\na\nb",
             16,
             18,
-            "",
+            None,
             (7, WIDEST),
             "error: e\n  |\n9 | / a\n10| | b\n  | |_^",
         ),
     ]
 }
 
-/// The text of a row's report in a width; fails where the source is too long, or the report is refused.
-fn drawn(alloc: Global, row: &Case, width: usize) -> Result<String, Fail> {
-    if !text_fits(row.source) || !text_fits(row.label) {
+/// Whether a label fits, if there is one.
+fn label_fits(label: Option<&str>) -> bool
+    ensures fits { result ≡ true → IfSome label (λ t. length t.now < 2 ^ 56) }
+{
+    match label {
+        Some(label) => text_fits(label),
+        None => true,
+    }
+}
+
+/// The text of a report in a width; fails where a text is too long, or the report is refused.
+fn drawn(alloc: Global, case: Case, width: usize) -> Result<String, Fail> {
+    let (source, label) = (case.source, case.label);
+    if !text_fits(source) || !label_fits(label) {
         return Err(Fail::new("a text that is too long"));
     }
-    let snippet = marked(alloc, row)?;
+    let (kind, start, end) = case.first;
+    let (second, from, to) = case.second;
+    let first = kind.span(start..end).label(OptionCow::from(label));
+    let snippet = Snippet::source(alloc, source)
+        .annotation(first)?
+        .annotation(second.span(from..to))?;
     let group = ERROR
         .primary_title("e")
         .element(alloc, Element::from(snippet))?;
     Ok(Renderer::plain().term_width(width).render(alloc, &[group])?)
-}
-
-/// A row's snippet.
-fn marked<'a>(alloc: Global, row: &Case) -> Result<Snippet<'a, Annotation<'a>>, AllocError>
-    requires source { length row.now.source.now < 2 ^ 56 }
-    requires label { length row.now.label.now < 2 ^ 56 }
-    ensures fits { IfOk result (SnippetFits AnnotationFits) }
-{
-    let (kind, start, end) = row.first;
-    let label = if row.label.is_empty() {
-        OptionCow(None)
-    } else {
-        OptionCow::from(row.label)
-    };
-    let snippet = Snippet::source(alloc, row.source).annotation(
-        kind.span(start..end).label(label),
-    )?;
-    match row.second {
-        Some((kind, start, end)) => snippet.annotation(kind.span(start..end)),
-        None => Ok(snippet),
-    }
 }
 
 #[test]
@@ -229,7 +222,7 @@ fn every_width_draws(rt: HostRuntime) -> Result<(), Fail> {
     let alloc = rt.alloc();
     for row in &rows() {
         for width in 0..WIDEST + 1 {
-            let text = drawn(alloc, row, width)?;
+            let text = drawn(alloc, *row, width)?;
             assert!(rt; text.as_str().starts_with("error: e\n  |\n"));
             if row.widths.0 <= width && width <= row.widths.1 {
                 assert_eq!(rt; text.as_str(), row.text);

@@ -1,5 +1,5 @@
 use Rattle.std.proofs.Common.{All}
-use Rattle.snippet_parts.specs.Span.{IsSpan}
+use Rattle.snippet_lines.specs.Span.{IsSpan}
 use Rattle.tests.proofs.spans.annotations_of.Given as goal
 
 abbrev pub invariant-loop-kind : goal.invariant-loop-kind
