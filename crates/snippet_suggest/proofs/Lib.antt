@@ -1,0 +1,2 @@
+pub mod GlyphLemmas
+pub mod SpanLemmas

@@ -1,0 +1,116 @@
+//! The rows of the lines of a spliced text.
+ghost use Rattle.std.specs.Prelude.{◌<◌, ◌^◌, ◌+◌};
+
+use crate::glyphs::SuggestionGlyph;
+use crate::kind::DisplaySuggestion;
+use crate::layout::SuggestionLayout;
+use crate::roles::{paint_stretches, stretches_of};
+use crate::row::{draw_gap, draw_line};
+use crate::shown::{ShownLine, shown_lines};
+use snippet_lines::CursorLines;
+use snippet_splice::{LineRange, SubstitutionHighlight};
+use snippet_style::{ElementStyle, StyledBuffer};
+use std::alloc::{AllocError, Global};
+
+/// The lines of a text, without their ends.
+pub(crate) fn text_lines<'a>(alloc: Global, text: &'a str) -> Result<Vec<&'a str>, AllocError> {
+    let mut lines = Vec::new(alloc);
+    for (line, _) in CursorLines::new(text) {
+        lines.push(line)?;
+    }
+    Ok(lines)
+}
+
+/// Draws the lines of a spliced text that are shown, below all that stands in the grid; the first line has the number
+/// `first`.
+///
+/// ```text
+///     1 ~ let x = 2;
+///     2 | let y = 1;
+///   ...
+///     9 | let z = 1;
+///    10 + x + y + z
+/// ```
+///
+/// # Errors
+///
+/// There is no memory for the rows or their texts.
+pub(crate) fn draw_lines(
+    alloc: Global,
+    buffer: &mut StyledBuffer,
+    layout: SuggestionLayout,
+    kind: DisplaySuggestion,
+    first: usize,
+    lines: &[&str],
+    ranges: &[LineRange],
+    stretches: &[Vec<SubstitutionHighlight>],
+    fold: bool,
+) -> Result<(), AllocError>
+    requires narrow { layout.gutter < 2 ^ 32 }
+{
+    let shown = shown_lines(alloc, lines.len(), ranges, fold)?;
+    for line in &shown {
+        match line {
+            ShownLine::Line(k) => {
+                draw_text_line(alloc, buffer, layout, kind, first, lines, stretches, *k)?;
+            }
+            ShownLine::Gap => draw_gap(buffer, layout)?,
+        }
+    }
+    Ok(())
+}
+
+/// Draws line `k` of some lines, from 0, below all that stands in the grid.
+fn draw_text_line(
+    alloc: Global,
+    buffer: &mut StyledBuffer,
+    layout: SuggestionLayout,
+    kind: DisplaySuggestion,
+    first: usize,
+    lines: &[&str],
+    stretches: &[Vec<SubstitutionHighlight>],
+    k: usize,
+) -> Result<(), AllocError>
+    requires narrow { layout.gutter < 2 ^ 32 }
+{
+    let line = match lines.get(k) {
+        Some(line) => *line,
+        None => "",
+    };
+    let stretches = stretches_of(stretches, k);
+    let glyph = glyph_of(kind, lines.len(), line, stretches);
+    let number = first.saturating_add(k);
+    let row = draw_line(alloc, buffer, layout, glyph, number, line)?;
+    paint_stretches(buffer, layout, row, line, stretches, ElementStyle::Addition)
+}
+
+/// The glyph beside a line of a text of `count` lines, which has these stretches.
+fn glyph_of(
+    kind: DisplaySuggestion,
+    count: usize,
+    line: &str,
+    stretches: &[SubstitutionHighlight],
+) -> SuggestionGlyph {
+    if count <= 1 {
+        return match kind {
+            DisplaySuggestion::Add => SuggestionGlyph::Added,
+            _ => SuggestionGlyph::Alone,
+        };
+    }
+    match stretches {
+        [] => SuggestionGlyph::Kept,
+        [only] => only_glyph(line, *only),
+        _ => SuggestionGlyph::Changed,
+    }
+}
+
+/// The glyph beside a line that has this stretch alone.
+fn only_glyph(line: &str, stretch: SubstitutionHighlight) -> SuggestionGlyph {
+    if stretch.start == 0 && stretch.end == line.len() {
+        SuggestionGlyph::Added
+    } else if stretch.start == 0 && stretch.end == 0 {
+        SuggestionGlyph::Kept
+    } else {
+        SuggestionGlyph::Changed
+    }
+}
