@@ -79,7 +79,6 @@ pub(crate) fn is_addition(source: &str, patch: &TrimmedPatch<'_>) -> bool {
 /// Whether a text is nothing but whitespace.
 pub(crate) fn is_blank(text: &str) -> bool
     ensures value { result ≡ list_all is_whitespace (chars text.now) }
-
 {
     text.chars().all(|c| c.is_whitespace())
 }

@@ -1,5 +1,9 @@
 //! The rows of the lines of a spliced text.
-ghost use Rattle.std.specs.Prelude.{◌<◌, ◌^◌, ◌+◌};
+ghost use Rattle.std.specs.Prelude.{◌≡◌, ◌<◌, ◌≤◌, ◌^◌, ◌+◌, [], All, OnOk, chars, length, map};
+ghost use Rattle.std.specs.List.{slice_index_or};
+ghost use Rattle.snippet_text.specs.Normalized.{norm};
+ghost use Rattle.snippet_suggest.specs.Shown.{is_touched, shown_lines};
+ghost use Rattle.snippet_suggest.specs.Rows.{AddsRow, AddsShown, HasRoom, IsLineRow, IsShownRow, number_after, shown_number};
 
 use crate::glyphs::SuggestionGlyph;
 use crate::kind::DisplaySuggestion;
@@ -47,17 +51,57 @@ pub(crate) fn draw_lines(
     fold: bool,
 ) -> Result<(), AllocError>
     requires narrow { layout.gutter < 2 ^ 32 }
+    ensures added { let shown = shown_lines (is_touched fold ranges.now) (length lines.now) in
+        All (HasRoom layout.numbered layout.gutter first) shown
+        → OnOk result (AddsShown layout.gutter (map (λ l. l.now) lines.now) shown buffer.old buffer.new) }
 {
     let shown = shown_lines(alloc, lines.len(), ranges, fold)?;
-    for line in &shown {
-        match line {
-            ShownLine::Line(k) => {
-                draw_text_line(alloc, buffer, layout, kind, first, lines, stretches, *k)?;
-            }
-            ShownLine::Gap => draw_gap(buffer, layout)?,
-        }
+    draw_shown(alloc, buffer, layout, kind, first, lines, stretches, &shown)?;
+    Ok(())
+}
+
+/// Draws these lines of a text, below all that stands in the grid.
+fn draw_shown(
+    alloc: Global,
+    buffer: &mut StyledBuffer,
+    layout: SuggestionLayout,
+    kind: DisplaySuggestion,
+    first: usize,
+    lines: &[&str],
+    stretches: &[Vec<SubstitutionHighlight>],
+    shown: &[ShownLine],
+) -> Result<(), AllocError>
+    requires narrow { layout.gutter < 2 ^ 32 }
+    ensures added { All (HasRoom layout.numbered layout.gutter first) shown.now
+        → OnOk result (AddsShown layout.gutter (map (λ l. l.now) lines.now) shown.now buffer.old buffer.new) }
+{
+    for line in shown {
+        draw_shown_line(alloc, buffer, layout, kind, first, lines, stretches, *line)?;
     }
     Ok(())
+}
+
+/// Draws a line of a text, or the placeholder for lines that are left out, below all that stands in the grid.
+fn draw_shown_line(
+    alloc: Global,
+    buffer: &mut StyledBuffer,
+    layout: SuggestionLayout,
+    kind: DisplaySuggestion,
+    first: usize,
+    lines: &[&str],
+    stretches: &[Vec<SubstitutionHighlight>],
+    line: ShownLine,
+) -> Result<(), AllocError>
+    requires narrow { layout.gutter < 2 ^ 32 }
+    ensures added { HasRoom layout.numbered layout.gutter first line
+        → OnOk result (AddsRow (IsShownRow layout.gutter (map (λ l. l.now) lines.now) line) buffer.old buffer.new) }
+{
+    match line {
+        ShownLine::Line(k) => {
+            draw_text_line(alloc, buffer, layout, kind, first, lines, stretches, k)
+        }
+        ShownLine::Gap => draw_gap(buffer, layout),
+    }
 }
 
 /// Draws line `k` of some lines, from 0, below all that stands in the grid.
@@ -72,16 +116,33 @@ fn draw_text_line(
     k: usize,
 ) -> Result<(), AllocError>
     requires narrow { layout.gutter < 2 ^ 32 }
+    ensures added { length (shown_number layout.numbered layout.gutter (number_after first k)) ≤ layout.gutter + 1
+        → OnOk result (AddsRow (IsLineRow layout.gutter (norm (chars (slice_index_or (map (λ l. l.now) lines.now) k [])))) buffer.old buffer.new) }
 {
-    let line = match lines.get(k) {
-        Some(line) => *line,
-        None => "",
-    };
+    let line = line_at(lines, k);
     let stretches = stretches_of(stretches, k);
     let glyph = glyph_of(kind, lines.len(), line, stretches);
-    let number = first.saturating_add(k);
+    let number = number_after(first, k);
     let row = draw_line(alloc, buffer, layout, glyph, number, line)?;
-    paint_stretches(buffer, layout, row, line, stretches, ElementStyle::Addition)
+    paint_stretches(buffer, layout, row, line, stretches, ElementStyle::Addition)?;
+    Ok(())
+}
+
+/// The text of line `k`, from 0; none of a line that isn't there.
+fn line_at<'a>(lines: &[&'a str], k: usize) -> &'a str
+    ensures value { result.now ≡ slice_index_or (map (λ l. l.now) lines.now) k [] }
+{
+    match lines.get(k) {
+        Some(line) => *line,
+        None => "",
+    }
+}
+
+/// The number of the line so many lines behind one.
+pub(crate) fn number_after(first: usize, lines: usize) -> usize
+    ensures value { result ≡ number_after first lines }
+{
+    first.saturating_add(lines)
 }
 
 /// The glyph beside a line of a text of `count` lines, which has these stretches.

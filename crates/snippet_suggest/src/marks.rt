@@ -95,11 +95,17 @@ fn patch_columns(map: &SourceMap<'_>, patch: &TrimmedPatch<'_>) -> PatchColumns
 }
 
 /// The columns below a replacement without its outer whitespace, or below all of it if it is blank.
-fn marked_columns(before: &[PatchColumns], columns: PatchColumns, replacement: &str) -> (usize, usize) {
+fn marked_columns(
+    before: &[PatchColumns],
+    columns: PatchColumns,
+    replacement: &str,
+) -> (usize, usize) {
     let (lead, width) = if is_blank(replacement) {
         (0, columns.width)
     } else {
-        let lead = replacement.len().saturating_sub(replacement.trim_start().len());
+        let lead = replacement
+            .len()
+            .saturating_sub(replacement.trim_start().len());
         (lead, text_width(replacement.trim()))
     };
     let from = columns.start.saturating_add(lead);
@@ -114,7 +120,9 @@ fn moved(before: &[PatchColumns], start: usize, column: usize) -> usize {
     let mut left = 0usize;
     for columns in before {
         if columns.end <= start {
-            right = right.saturating_add(columns.width).saturating_add(columns.start);
+            right = right
+                .saturating_add(columns.width)
+                .saturating_add(columns.start);
             left = left.saturating_add(columns.end);
         }
     }

@@ -1,4 +1,8 @@
 //! The roles of what is new in a line, and of what is removed.
+ghost use Rattle.std.specs.Prelude.{◌≡◌, ◌++◌, ◌∷◌, [], List, OnOk, length};
+ghost use Rattle.snippet_style.specs.Grid.{Cell};
+ghost use Rattle.snippet_suggest.specs.Rows.{IsRepainted};
+
 use crate::layout::SuggestionLayout;
 use snippet_splice::SubstitutionHighlight;
 use snippet_style::{ElementStyle, StyledBuffer};
@@ -12,7 +16,10 @@ pub(crate) fn paint_stretches(
     line: &str,
     stretches: &[SubstitutionHighlight],
     role: ElementStyle,
-) -> Result<(), AllocError> {
+) -> Result<(), AllocError>
+    ensures repaints { OnOk result ((above : List (List Cell)) (last : List Cell) → row ≡ length above
+        → buffer.old ≡ above ++ last ∷ [] → IsRepainted above last buffer.new) }
+{
     for stretch in stretches {
         if stretch.start != stretch.end {
             let start = stretch_cell(layout, line, stretch.start);

@@ -1,5 +1,7 @@
 //! The row of one line.
-ghost use Rattle.std.specs.Prelude.{◌<◌, ◌^◌, ◌+◌};
+ghost use Rattle.std.specs.Prelude.{◌≡◌, ◌<◌, ◌≤◌, ◌^◌, ◌+◌, IfOk, OnOk, chars, length};
+ghost use Rattle.snippet_text.specs.Normalized.{norm};
+ghost use Rattle.snippet_suggest.specs.Rows.{AddsRow, IsLineRow, IsOtherRow, shown_number};
 
 use crate::glyphs::SuggestionGlyph;
 use crate::layout::SuggestionLayout;
@@ -26,6 +28,9 @@ pub(crate) fn draw_line(
     line: &str,
 ) -> Result<usize, AllocError>
     requires narrow { layout.gutter < 2 ^ 32 }
+    ensures added { length (shown_number layout.numbered layout.gutter number) ≤ layout.gutter + 1
+        → OnOk result (AddsRow (IsLineRow layout.gutter (norm (chars line.now))) buffer.old buffer.new) }
+    ensures row { IfOk result (λ row. row ≡ length buffer.old) }
 {
     let row = buffer.num_lines();
     let sign = glyph.text(layout.decor);
@@ -79,9 +84,11 @@ pub(crate) fn draw_gap(
     layout: SuggestionLayout,
 ) -> Result<(), AllocError>
     requires narrow { layout.gutter < 2 ^ 32 }
+    ensures added { OnOk result (AddsRow (IsOtherRow layout.gutter) buffer.old buffer.new) }
 {
     let row = buffer.num_lines();
     let placeholder = layout.decor.placeholder();
     let cell = layout.gutter.saturating_sub(str_width(placeholder));
-    buffer.puts(row, cell, placeholder, ElementStyle::LineNumber)
+    buffer.puts(row, cell, placeholder, ElementStyle::LineNumber)?;
+    Ok(())
 }

@@ -1,4 +1,8 @@
 //! Which lines of the spliced text are shown.
+ghost use Rattle.std.specs.Prelude.{◌≡◌, ◌++◌, ◌≤◌, IfOk, OnOk};
+ghost use Rattle.snippet_suggest.specs.Shown as spec;
+ghost use Rattle.snippet_suggest.specs.Shown.{shown_run};
+
 use snippet_splice::LineRange;
 use std::alloc::{AllocError, Global};
 
@@ -18,7 +22,9 @@ pub(crate) fn shown_lines(
     count: usize,
     ranges: &[LineRange],
     fold: bool,
-) -> Result<Vec<ShownLine>, AllocError> {
+) -> Result<Vec<ShownLine>, AllocError>
+    ensures value { IfOk result (λ shown. shown.items ≡ spec.shown_lines (spec.is_touched fold ranges.now) count) }
+{
     let mut shown = Vec::new(alloc);
     let mut behind = 0;
     for line in 0..count {
@@ -32,23 +38,27 @@ pub(crate) fn shown_lines(
 }
 
 /// Whether a line is shown by itself: one of the ranges holds it, or lines aren't folded.
-pub(crate) fn is_touched(fold: bool, ranges: &[LineRange], line: usize) -> bool {
+pub(crate) fn is_touched(fold: bool, ranges: &[LineRange], line: usize) -> bool
+    ensures value { result ≡ spec.is_touched fold ranges.now line }
+{
     !fold || is_held(ranges, line)
 }
 
 /// Whether one of the ranges holds a line.
-fn is_held(ranges: &[LineRange], line: usize) -> bool {
-    for range in ranges {
-        if range.first <= line && line <= range.last {
-            return true;
-        }
-    }
-    false
+fn is_held(ranges: &[LineRange], line: usize) -> bool
+    ensures value { result ≡ spec.is_held ranges.now line }
+{
+    ranges
+        .iter()
+        .any(|range| range.first <= line && line <= range.last)
 }
 
 /// Adds what is shown of the untouched lines from `from` to before `to`.
-fn push_run(shown: &mut Vec<ShownLine>, from: usize, to: usize) -> Result<(), AllocError> {
-    if to.saturating_sub(from) > 3 {
+fn push_run(shown: &mut Vec<ShownLine>, from: usize, to: usize) -> Result<(), AllocError>
+    requires ordered { from ≤ to }
+    ensures added { OnOk result (shown.new.items ≡ shown.old.items ++ shown_run from to) }
+{
+    if to - from > 3 {
         shown.push(ShownLine::Line(from))?;
         shown.push(ShownLine::Gap)?;
         shown.push(ShownLine::Line(to - 1))?;

@@ -75,7 +75,16 @@ fn draw_body(
     ensures few { IfOk result (λ skipped. skipped < 2) }
 {
     let Some(line) = lines.first() else {
-        draw_emptied(alloc, buffer, layout, map, &splice.patches, kind, fold, shares)?;
+        draw_emptied(
+            alloc,
+            buffer,
+            layout,
+            map,
+            &splice.patches,
+            kind,
+            fold,
+            shares,
+        )?;
         return Ok(0);
     };
     draw_head(buffer, layout, shares)?;
@@ -119,7 +128,9 @@ fn draw_changed(
     let removed = map.span_to_lines(trimmed_span(map, &splice.patches))?;
     let added = stretches_of(&splice.highlights, 0);
     let replaced = &splice.replaced_highlights;
-    draw_diff(alloc, buffer, layout, first, &removed, replaced, line, added)?;
+    draw_diff(
+        alloc, buffer, layout, first, &removed, replaced, line, added,
+    )?;
     Ok(0)
 }
 
@@ -180,7 +191,9 @@ fn first_number(map: &SourceMap<'_>, patches: &[TrimmedPatch<'_>], fold: bool) -
 {
     match patches.first() {
         Some(patch) if fold => {
-            let (start, _) = map.span_to_locations(patch.original_span.start..patch.original_span.end);
+            let (start, _) = map.span_to_locations(
+                patch.original_span.start..patch.original_span.end,
+            );
             start.line
         }
         _ => map.line_start(),
