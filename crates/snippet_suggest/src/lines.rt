@@ -1,7 +1,8 @@
 //! The rows of the lines of a spliced text.
-ghost use Rattle.std.specs.Prelude.{◌≡◌, ◌<◌, ◌≤◌, ◌^◌, ◌+◌, [], All, OnOk, chars, length, map};
+ghost use Rattle.std.specs.Prelude.{◌≡◌, ℕ, ◌<◌, ◌≤◌, ◌^◌, ◌+◌, [], All, OnOk, chars, length, map};
 ghost use Rattle.std.specs.List.{slice_index_or};
 ghost use Rattle.snippet_text.specs.Normalized.{norm};
+ghost use Rattle.snippet_suggest.specs.declared.shown.ShownLine.TheVariants.{Line};
 ghost use Rattle.snippet_suggest.specs.Shown.{is_touched, shown_lines};
 ghost use Rattle.snippet_suggest.specs.Rows.{AddsRow, AddsShown, HasRoom, IsLineRow, IsShownRow, number_after, shown_number};
 
@@ -52,7 +53,7 @@ pub(crate) fn draw_lines(
 ) -> Result<(), AllocError>
     requires narrow { layout.gutter < 2 ^ 32 }
     ensures added { let shown = shown_lines (is_touched fold ranges.now) (length lines.now) in
-        All (HasRoom layout.numbered layout.gutter first) shown
+        ((k : ℕ) → k < length lines.now → HasRoom layout.numbered layout.gutter first (Line k))
         → OnOk result (AddsShown layout.gutter (map (λ l. l.now) lines.now) shown buffer.old buffer.new) }
 {
     let shown = shown_lines(alloc, lines.len(), ranges, fold)?;

@@ -1,7 +1,7 @@
 //! Which lines of the spliced text are shown.
-ghost use Rattle.std.specs.Prelude.{◌≡◌, ◌++◌, ◌≤◌, IfOk, OnOk};
+ghost use Rattle.std.specs.Prelude.{◌≡◌, ℕ, ◌++◌, ◌<◌, ◌≤◌, true, Contains, IfOk, OnOk};
 ghost use Rattle.snippet_suggest.specs.Shown as spec;
-ghost use Rattle.snippet_suggest.specs.Shown.{shown_run};
+ghost use Rattle.snippet_suggest.specs.Shown.{AreRising, numbers_shown, shown_run};
 
 use snippet_splice::LineRange;
 use std::alloc::{AllocError, Global};
@@ -24,6 +24,11 @@ pub(crate) fn shown_lines(
     fold: bool,
 ) -> Result<Vec<ShownLine>, AllocError>
     ensures value { IfOk result (λ shown. shown.items ≡ spec.shown_lines (spec.is_touched fold ranges.now) count) }
+    // Each line at most once, and one below the other.
+    ensures rising { IfOk result (λ shown. AreRising 0 count (numbers_shown shown.items)) }
+    // Each touched line, all where lines aren't folded.
+    ensures touched { IfOk result (λ shown. (k : ℕ) → k < count → spec.is_touched fold ranges.now k ≡ true
+        → Contains (numbers_shown shown.items) k) }
 {
     let mut shown = Vec::new(alloc);
     let mut behind = 0;

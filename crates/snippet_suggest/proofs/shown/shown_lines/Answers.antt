@@ -1,6 +1,7 @@
-use Rattle.std.proofs.Common.{◌≡◌, ◌+◌, ◌∙◌, sym, ap, subst, arith, ℕ, Vec, Global}
+use Rattle.std.proofs.Common.{◌≡◌, ◌+◌, ◌∙◌, sym, ap, subst, arith, ℕ, Vec, Global, List, Contains}
 use Rattle.snippet_suggest.specs.declared.shown.ShownLine.{ShownLine}
-use Rattle.snippet_suggest.specs.Shown.{is_touched}
+use Rattle.snippet_suggest.specs.Shown.{is_touched, shown_lines, numbers_shown, AreRising}
+use Rattle.snippet_suggest.proofs.RisingLemmas.{rising_shown, shown_all, touched_shown}
 use Rattle.snippet_suggest.proofs.ShownLemmas.{touched_step, untouched_step}
 use Rattle.snippet_suggest.proofs.shown.shown_lines.Invariants.{Shows}
 use Rattle.snippet_suggest.proofs.shown.shown_lines.Goals as goal
@@ -24,3 +25,17 @@ loop-line-preserved c =
             whole = untouched_step touched l.shown.items _ l.behind l.line count c.loop-line-test.true (sym c.is_touched.ensures.value ∙ w.if-is_touched.false) l.invariant.whole;
           }))
     ]
+
+pub returns-clause-rising : goal.returns-clause-rising
+returns-clause-rising c =
+    let touched = is_touched c.args.fold c.args.ranges.now in
+    let l = c.loop-line in
+    let all = shown_all touched l.shown.items (shown_lines touched c.args.count) l.behind l.line c.args.count (omega (arith, c.loop-line-test.false)) l.invariant.whole in
+    subst (λ (shown : List ShownLine). AreRising 0 c.args.count (numbers_shown shown)) (sym all) (rising_shown touched c.args.count)
+
+pub returns-clause-touched : goal.returns-clause-touched
+returns-clause-touched c = λ k below holds.
+    let touched = is_touched c.args.fold c.args.ranges.now in
+    let l = c.loop-line in
+    let all = shown_all touched l.shown.items (shown_lines touched c.args.count) l.behind l.line c.args.count (omega (arith, c.loop-line-test.false)) l.invariant.whole in
+    subst (λ (shown : List ShownLine). Contains (numbers_shown shown) k) (sym all) (touched_shown touched c.args.count k below holds)
