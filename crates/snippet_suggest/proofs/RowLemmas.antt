@@ -16,6 +16,9 @@ use Rattle.snippet_style.specs.declared.glyphs.DecorStyle.{DecorStyle}
 use Rattle.snippet_style.specs.declared.glyphs.DecorStyle.TheVariants.{Ascii, Unicode}
 use Rattle.snippet_style.specs.declared.role.ElementStyle.TheVariants.{LineNumber}
 use Rattle.snippet_style.specs.Glyphs.{placeholder_of}
+use Rattle.snippet_suggest.specs.declared.glyphs.SuggestionGlyph.{SuggestionGlyph}
+use Rattle.snippet_suggest.specs.Glyphs.{glyph_of}
+use Rattle.snippet_suggest.proofs.GlyphLemmas.{glyph_unlisted}
 
 -- writing into an empty row
 written-nil : (at : ℕ) (cells : List Cell) → written SPACE [] at cells ≡ replicate at SPACE ++ cells
@@ -155,3 +158,13 @@ gap_added gutter decor old new row at text below is writes =
     placeholder_free : (decor : DecorStyle) → All (λ ch. is_listed ch ≡ false) (placeholder_of decor)
     placeholder_free Ascii = let P : ℕ → Type 0 = λ ch. is_listed ch ≡ false in All-cons P 46 (46 ∷ 46 ∷ []) refl (All-cons P 46 (46 ∷ []) refl (All-cons P 46 [] refl (All-nil P)))
     placeholder_free Unicode = let P : ℕ → Type 0 = λ ch. is_listed ch ≡ false in All-cons P 0x2026 [] refl (All-nil P)
+
+-- a row of a glyph alone was added
+pub glyph_added : (gutter : ℕ) (decor : DecorStyle) (glyph : SuggestionGlyph) (old new : List (List Cell)) (row : ℕ) (text : List ℕ) → row ≡ length old → chars text ≡ glyph_of decor glyph → new ≡ cells_written old row (gutter + 1) (drawn LineNumber (chars text)) → AddsRow (IsOtherRow gutter) old new
+glyph_added gutter decor glyph old new row text below is writes =
+    let cells = drawn LineNumber (chars text) in
+    record {
+      row = replicate (gutter + 1) SPACE ++ cells;
+      added = begun_by old new row (gutter + 1) cells below writes;
+      is = led_other gutter cells (free_drawn LineNumber (chars text) (All-from_none (chars text) (ap (list_any is_listed) is ∙ glyph_unlisted decor glyph)));
+    }
