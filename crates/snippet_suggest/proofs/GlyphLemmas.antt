@@ -9,6 +9,10 @@ use Rattle.snippet_suggest.specs.declared.glyphs.SuggestionGlyph.TheVariants.{Op
 use Rattle.snippet_text.specs.Normalized.{is_listed}
 use Rattle.snippet_suggest.specs.Glyphs.{glyph_of}
 
+pub chars-minus : chars (45 ∷ 32 ∷ []) ≡ codes "- "
+unfolding lib.Utf8.encode
+chars-minus = chars-encodes (codes "- ") refl
+
 pub chars-bar : chars (124 ∷ []) ≡ codes "|"
 unfolding lib.Utf8.encode
 chars-bar = chars-encodes (codes "|") refl

@@ -14,7 +14,7 @@ use Rattle.snippet_text.specs.Normalized.{is_listed}
 use Rattle.snippet_suggest.specs.Rows.{IsFreeCell, IsFree, HasNoNumber, HasMinus, HoldsText, IsLineRow, IsOtherRow, AddsRow}
 use Rattle.snippet_style.specs.declared.glyphs.DecorStyle.{DecorStyle}
 use Rattle.snippet_style.specs.declared.glyphs.DecorStyle.TheVariants.{Ascii, Unicode}
-use Rattle.snippet_style.specs.declared.role.ElementStyle.TheVariants.{LineNumber}
+use Rattle.snippet_style.specs.declared.role.ElementStyle.TheVariants.{LineNumber, Removal}
 use Rattle.snippet_style.specs.Glyphs.{placeholder_of}
 use Rattle.snippet_suggest.specs.declared.glyphs.SuggestionGlyph.{SuggestionGlyph}
 use Rattle.snippet_suggest.specs.Glyphs.{glyph_of}
@@ -167,4 +167,38 @@ glyph_added gutter decor glyph old new row text below is writes =
       row = replicate (gutter + 1) SPACE ++ cells;
       added = begun_by old new row (gutter + 1) cells below writes;
       is = led_other gutter cells (free_drawn LineNumber (chars text) (All-from_none (chars text) (ap (list_any is_listed) is ∙ glyph_unlisted decor glyph)));
+    }
+
+-- a number, which may have no bytes, and a glyph behind it begin a row
+number_and_glyph : (old mid new : List (List Cell)) (r at : ℕ) (bytes : List ℕ) (cells sign : List Cell) → r ≡ length old → (0 < length bytes → mid ≡ cells_written old r 0 cells) → (bytes ≡ [] → mid ≡ old) → new ≡ cells_written mid r at sign → new ≡ old ++ written SPACE (texted bytes [] 0 cells) at sign ∷ []
+number_and_glyph old mid new r at [] cells sign below writes stays signs =
+    signs ∙ ap (λ rows. cells_written rows r at sign) (stays refl) ∙ ap (λ i. cells_written old i at sign) below ∙ cells_written_below old at sign
+number_and_glyph old mid new r at (b ∷ bs) cells sign below writes stays signs =
+    let put : mid ≡ old ++ written SPACE [] 0 cells ∷ [] = writes (omega arith) ∙ ap (λ i. cells_written old i 0 cells) below ∙ cells_written_below old 0 cells in
+    signs ∙ ap (λ rows. cells_written rows r at sign) put ∙ ap (λ i. cells_written (old ++ written SPACE [] 0 cells ∷ []) i at sign) below ∙ cells_written_last old (written SPACE [] 0 cells) at sign
+
+-- what is put behind the glyph leaves it
+kept_behind : (bytes : List ℕ) (row : List Cell) (at c : ℕ) (cells : List Cell) → c < at → slice_index_or (texted bytes row at cells) c SPACE ≡ slice_index_or row c SPACE
+kept_behind [] row at c cells left = refl
+kept_behind (b ∷ bs) row at c cells left = slice_index_or-written_before SPACE row at cells c left
+
+-- a row of a line that is removed was added
+pub removed_added : (gutter : ℕ) (role : ElementStyle) (old mid signed new : List (List Cell)) (r : ℕ) (number sign text : List ℕ) → r ≡ length old → chars sign ≡ 45 ∷ 32 ∷ [] → All (λ ch. is_listed ch ≡ false) (chars number) → All (λ ch. is_listed ch ≡ false) (chars text) → (0 < length number → mid ≡ cells_written old r 0 (drawn LineNumber (chars number))) → (number ≡ [] → mid ≡ old) → signed ≡ cells_written mid r (gutter + 1) (drawn Removal (chars sign)) → (0 < length text → new ≡ cells_written signed r (gutter + 3) (drawn role (chars text))) → (text ≡ [] → new ≡ signed) → AddsRow (IsOtherRow gutter) old new
+removed_added gutter role old mid signed new r number sign text below minus free_number free_text numbers no_number signs texts no_text =
+    let led = texted number [] 0 (drawn LineNumber (chars number)) in
+    let glyph = drawn Removal (45 ∷ 32 ∷ []) in
+    let row = written SPACE led (gutter + 1) glyph in
+    let whole = texted text row (gutter + 3) (drawn role (chars text)) in
+    let P : Cell → Type 0 = IsFreeCell in
+    let free_glyph : IsFree glyph = All-cons P (unlinked_cell Removal 45) (unlinked_cell Removal 32 ∷ []) (refl, refl) (All-cons P (unlinked_cell Removal 32) [] (refl, refl) (All-nil P)) in
+    let begun : signed ≡ old ++ row ∷ [] = number_and_glyph old mid signed r (gutter + 1) number (drawn LineNumber (chars number)) glyph below numbers no_number (signs ∙ ap (λ cs. cells_written mid r (gutter + 1) (drawn Removal cs)) minus) in
+    let here : gutter + 1 + 0 ≡ gutter + 1 = omega arith in
+    let at : slice_index_or whole (gutter + 1) SPACE ≡ unlinked_cell Removal 45 = kept_behind text row (gutter + 3) (gutter + 1) (drawn role (chars text)) (omega arith) ∙ subst (λ (n : ℕ). slice_index_or row n SPACE ≡ unlinked_cell Removal 45) here (slice_index_or-written_inside SPACE led (gutter + 1) glyph 0 SPACE (omega arith)) in
+    record {
+      row = whole;
+      added = text_put old signed new row r (gutter + 3) text (drawn role (chars text)) begun below texts no_text;
+      is = record {
+        other = inr (ap (λ (cell : Cell). cell.ch) at);
+        free = free_texted text row (gutter + 3) (drawn role (chars text)) (free_written led (gutter + 1) glyph (free_texted number [] 0 (drawn LineNumber (chars number)) (All-nil P) (free_drawn LineNumber (chars number) free_number)) free_glyph) (free_drawn role (chars text) free_text);
+      };
     }

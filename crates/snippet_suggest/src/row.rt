@@ -62,12 +62,14 @@ pub(crate) fn draw_removed_line(
 ) -> Result<(), AllocError>
     requires narrow { layout.gutter < 2 ^ 32 }
     requires row { row + 1 < 2 ^ 64 }
+    ensures added { row ≡ length buffer.old → OnOk result (AddsRow (IsOtherRow layout.gutter) buffer.old buffer.new) }
 {
     let number = number_text(alloc, layout.numbered, layout.gutter, number)?;
     buffer.puts(row, 0, number.as_str(), ElementStyle::LineNumber)?;
     buffer.puts(row, layout.gutter + 1, "- ", ElementStyle::Removal)?;
     let text = normalized(alloc, line)?;
-    buffer.puts(row, layout.gutter + 3, text.as_str(), role)
+    buffer.puts(row, layout.gutter + 3, text.as_str(), role)?;
+    Ok(())
 }
 
 /// Draws the placeholder for lines that are left out, below all that stands in the grid, right-aligned in the gutter.
