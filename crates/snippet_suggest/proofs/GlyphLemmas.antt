@@ -1,5 +1,5 @@
 -- The characters of the glyphs of suggestions, and what is known of each.
-use Rattle.std.proofs.Common.{◌≡◌, ◌≤◌, ◌∷◌, [], ℕ, false, codes, chars, refl, length, All, arith}
+use Rattle.std.proofs.Common.{◌≡◌, ◌≤◌, ◌∷◌, [], false, codes, chars, refl, length, arith}
 use Rattle.std.specs.List.{list_any}
 use Rattle.std.proofs.lemmas.Str.{chars-encodes}
 use Rattle.snippet_style.specs.declared.glyphs.DecorStyle.{DecorStyle}

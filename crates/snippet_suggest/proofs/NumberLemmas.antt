@@ -1,11 +1,10 @@
 -- The texts of line numbers.
-use Rattle.std.proofs.Common.{inl, inr, ◌≡◌, ℕ, zero, suc, ◌-◌, ◌+◌, ◌==◌, ◌^◌, ◌<◌, ◌≤◌, ◌/◌, ◌%◌, List, [], ◌∷◌, ◌++◌, length, replicate, refl, ap, All, chars, ◌∙◌, arith, encode_utf8, true, false, Bool}
-use Rattle.std.specs.List.{repeat, slice_index_or}
+use Rattle.std.proofs.Common.{◌≡◌, ℕ, zero, suc, ◌-◌, ◌+◌, ◌==◌, ◌^◌, ◌<◌, ◌%◌, List, [], ◌∷◌, length, replicate, refl, ap, All, chars, arith, encode_utf8, true, false, Bool}
+use Rattle.std.specs.List.{repeat}
 use Rattle.std.specs.Fmt.{decimal, styled_decimal, padded_integral, format_spec, char_count}
 use Rattle.std.proofs.lemmas.Bool.Decides.{nat_tests}
-use Rattle.std.proofs.lemmas.Bool.{cases_lt}
-use Rattle.std.proofs.lemmas.List.{append-nil, length-append, length-replicate, length_push}
-use Rattle.std.proofs.lemmas.Fmt.{decimal_digit, decimal_by_steps, IsAscii-decimal}
+use Rattle.std.proofs.lemmas.List.{append-nil}
+use Rattle.std.proofs.lemmas.Fmt.{decimal_by_steps, IsAscii-decimal}
 use Rattle.std.proofs.lemmas.List.Elements.{All-append, All-cons, All-nil, All-push, All-replicate}
 use Rattle.std.proofs.lemmas.Str.{chars-IsAscii, IsAscii-append}
 use Rattle.std.proofs.lemmas.Str.Ascii.{IsAscii-from_all}

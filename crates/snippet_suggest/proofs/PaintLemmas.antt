@@ -1,14 +1,12 @@
 -- Rows whose cells get other roles.
-use Rattle.std.proofs.Common.{◌≡◌, ◌⊎◌, ℕ, ◌+◌, ◌-◌, ◌<◌, ◌≤◌, max, true, false, Option, None, List, [], ◌∷◌, ◌++◌, length, take, drop, map, set, get_or, refl, sym, ap, ◌∙◌, arith, inl, inr, subst, All}
-use Rattle.std.specs.Char.{is_ascii_alphanumeric}
-use Rattle.std.specs.List.{slice_index_or}
+use Rattle.std.proofs.Common.{◌≡◌, ℕ, ◌+◌, ◌-◌, ◌<◌, max, true, false, Option, None, List, [], ◌∷◌, ◌++◌, length, take, drop, map, set, get_or, refl, sym, ap, ◌∙◌, arith, subst}
 use Rattle.std.proofs.lemmas.List.{places, same_lists, map-append, get_or_at, get_or-map, drop-map, length-append, length-map}
 use Rattle.snippet_text.specs.Normalized.{is_listed}
 use Rattle.snippet_style.proofs.ChangeLemmas.{changed_within_one}
 use Rattle.snippet_style.specs.declared.role.ElementStyle.{ElementStyle}
-use Rattle.snippet_style.specs.Grid.{Cell, SPACE, changed_within, cells_restyled, restyled}
+use Rattle.snippet_style.specs.Grid.{Cell, changed_within, cells_restyled, restyled}
 use Rattle.snippet_style.specs.Print.{row_text}
-use Rattle.snippet_suggest.specs.Rows.{without_role, IsRepainted, IsFreeCell, IsFree, HasNoNumber, HasMinus, HoldsText, IsLineRow, IsOtherRow, AddsRow}
+use Rattle.snippet_suggest.specs.Rows.{without_role, IsRepainted, IsFree, IsLineRow, AddsRow}
 
 -- a cell in another role
 restyled_same : (role : ElementStyle) (cells : List Cell) → map without_role (map (restyled role true) cells) ≡ map without_role cells

@@ -1,5 +1,5 @@
 -- What the writes of a row make of it.
-use Rattle.std.proofs.Common.{◌≡◌, ◌≢◌, ◌⊎◌, ℕ, ◌+◌, ◌-◌, ◌<◌, ◌≤◌, Bool, true, false, List, [], ◌∷◌, ◌++◌, length, take, drop, map, replicate, refl, sym, ap, ◌∙◌, arith, inl, inr, subst, All, chars}
+use Rattle.std.proofs.Common.{◌≡◌, ℕ, ◌+◌, ◌-◌, ◌<◌, ◌≤◌, false, List, [], ◌∷◌, ◌++◌, length, take, drop, replicate, refl, sym, ap, ◌∙◌, arith, inl, inr, subst, All, chars}
 use Rattle.std.specs.Char.{is_ascii_alphanumeric}
 use Rattle.std.specs.List.{slice_index_or, list_any}
 use Rattle.std.proofs.lemmas.Bool.{cases_lt}
@@ -9,9 +9,9 @@ use Rattle.std.proofs.lemmas.Str.{chars-nil}
 use Rattle.snippet_style.specs.declared.role.ElementStyle.{ElementStyle}
 use Rattle.snippet_style.specs.Grid.{Cell, SPACE, drawn, unlinked_cell, written, cells_written}
 use Rattle.snippet_style.specs.Print.{row_text}
-use Rattle.snippet_style.proofs.GridLemmas.{All-drawn, length-chars_le, length-drawn, length-written, drop-written, cells_written_below, cells_written_last, slice_index_or-written_before, slice_index_or-written_behind, slice_index_or-written_inside}
+use Rattle.snippet_style.proofs.GridLemmas.{All-drawn, length-chars_le, length-drawn, length-written, drop-written, cells_written_below, cells_written_last, slice_index_or-written_before, slice_index_or-written_inside}
 use Rattle.snippet_text.specs.Normalized.{is_listed}
-use Rattle.snippet_suggest.specs.Rows.{IsFreeCell, IsFree, HasNoNumber, HasMinus, HoldsText, IsLineRow, IsOtherRow, AddsRow}
+use Rattle.snippet_suggest.specs.Rows.{IsFreeCell, IsFree, HoldsText, IsLineRow, IsOtherRow, AddsRow}
 use Rattle.snippet_style.specs.declared.glyphs.DecorStyle.{DecorStyle}
 use Rattle.snippet_style.specs.declared.glyphs.DecorStyle.TheVariants.{Ascii, Unicode}
 use Rattle.snippet_style.specs.declared.role.ElementStyle.TheVariants.{LineNumber, Removal}

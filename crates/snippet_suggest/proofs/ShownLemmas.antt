@@ -1,5 +1,5 @@
 -- Which lines are shown, one line after another.
-use Rattle.std.proofs.Common.{◌≡◌, ℕ, suc, ◌+◌, ◌-◌, ◌<◌, ◌≤◌, Bool, true, false, List, [], ◌∷◌, ◌++◌, if◌then◌else◌, refl, sym, ap, ◌∙◌, arith, append_assoc}
+use Rattle.std.proofs.Common.{◌≡◌, ℕ, suc, ◌+◌, ◌-◌, ◌<◌, Bool, true, false, List, [], ◌∷◌, ◌++◌, if◌then◌else◌, sym, ap, ◌∙◌, arith, append_assoc}
 use Rattle.snippet_suggest.specs.declared.shown.ShownLine.{ShownLine}
 use Rattle.snippet_suggest.specs.declared.shown.ShownLine.TheVariants.{Line}
 use Rattle.snippet_suggest.specs.Shown.{lines_from, shown_run, shown_from}

@@ -1,5 +1,5 @@
 -- Spans of a source that are taken.
-use Rattle.std.proofs.Common.{◌≡◌, ℕ, List, length, inl, arith, subst, sym}
+use Rattle.std.proofs.Common.{◌≡◌, ℕ, List, length, inl, arith, subst}
 use Rattle.std.specs.Str.{IsUtf8}
 use Rattle.std.proofs.lemmas.Str.{IsCharBoundary-end, IsCharBoundary-start}
 use Rattle.snippet_lines.specs.Span.{IsSpan}

@@ -1,5 +1,5 @@
 -- What the rows of a suggestion show.
-use Rattle.std.specs.Prelude.{◌≡◌, ◌⊎◌, ℕ, zero, suc, ◌+◌, ◌-◌, ◌≤◌, min, ◌^◌, Bool, true, false, List, [], ◌∷◌, ◌++◌, All, Option, None, length, map, replicate, drop, chars}
+use Rattle.std.specs.Prelude.{◌≡◌, ◌⊎◌, ℕ, ◌+◌, ◌-◌, ◌≤◌, min, ◌^◌, Bool, true, false, List, [], ◌∷◌, ◌++◌, All, Option, None, length, map, replicate, drop, chars}
 use Rattle.std.specs.Char.{is_ascii_alphanumeric}
 use Rattle.std.specs.Fmt.{decimal}
 use Rattle.std.specs.List.{AllZip, slice_index_or}

@@ -1,4 +1,4 @@
-use Rattle.std.proofs.Common.{◌≡◌, ◌≤◌, ◌+◌, ◌∙◌, ap, sym, subst, chars, length, ℕ, List}
+use Rattle.std.proofs.Common.{◌≤◌, ◌+◌, ap, sym, subst, chars, length, ℕ}
 use Rattle.snippet_text.specs.Normalized.{norm}
 use Rattle.snippet_suggest.specs.Rows.{shown_number}
 use Rattle.snippet_suggest.proofs.PaintLemmas.{line_added_painted}

@@ -1,4 +1,4 @@
-use Rattle.std.proofs.Common.{◌≡◌, ◌++◌, ◌∷◌, [], List, length, sym, subst}
+use Rattle.std.proofs.Common.{List, sym, subst}
 use Rattle.snippet_style.specs.Grid.{Cell}
 use Rattle.snippet_suggest.specs.Rows.{IsRepainted}
 use Rattle.snippet_suggest.proofs.PaintLemmas.{repaint_none, repaint_more}

@@ -1,4 +1,4 @@
-use Rattle.std.proofs.Common.{◌≡◌, ◌≤◌, ◌+◌, ◌∙◌, ◌++◌, ◌∷◌, [], arith, ap, length, chars, sym, subst, replicate, ℕ, List, All, false}
+use Rattle.std.proofs.Common.{◌≡◌, ◌+◌, ◌∙◌, ◌++◌, arith, ap, length, chars, sym, subst, replicate, ℕ, List, All, false}
 use Rattle.std.specs.List.{list_any}
 use Rattle.snippet_style.specs.Grid.{SPACE, drawn}
 use Rattle.snippet_style.specs.declared.role.ElementStyle.TheVariants.{LineNumber, NoStyle}

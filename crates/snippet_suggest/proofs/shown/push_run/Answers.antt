@@ -1,4 +1,3 @@
-use Rattle.std.proofs.Common.{arith}
 use Rattle.snippet_suggest.proofs.ShownLemmas.{run_step}
 use Rattle.snippet_suggest.proofs.shown.push_run.Goals as goal
 

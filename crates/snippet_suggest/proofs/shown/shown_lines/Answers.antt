@@ -1,4 +1,4 @@
-use Rattle.std.proofs.Common.{◌≡◌, ◌+◌, ◌∙◌, sym, ap, subst, arith, ℕ, Vec, Global, List, Contains}
+use Rattle.std.proofs.Common.{◌+◌, ◌∙◌, sym, subst, arith, ℕ, Vec, Global, List, Contains}
 use Rattle.snippet_suggest.specs.declared.shown.ShownLine.{ShownLine}
 use Rattle.snippet_suggest.specs.Shown.{is_touched, shown_lines, numbers_shown, AreRising}
 use Rattle.snippet_suggest.proofs.RisingLemmas.{rising_shown, shown_all, touched_shown}

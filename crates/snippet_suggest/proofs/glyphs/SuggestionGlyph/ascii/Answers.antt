@@ -1,4 +1,4 @@
-use Rattle.std.proofs.Common.{◌∙◌, sym, ap, rules}
+use Rattle.std.proofs.Common.{◌∙◌, sym, ap}
 use Rattle.snippet_style.specs.declared.glyphs.DecorStyle.TheVariants.{Ascii}
 use Rattle.snippet_suggest.specs.Glyphs.{glyph_of}
 use Rattle.snippet_suggest.proofs.GlyphLemmas.{chars-bar, chars-bar_space, chars-plus, chars-tilde}

@@ -1,4 +1,4 @@
-use Rattle.std.proofs.Common.{◌∙◌, sym, ap, rules}
+use Rattle.std.proofs.Common.{◌∙◌, sym, ap}
 use Rattle.snippet_style.specs.declared.glyphs.DecorStyle.TheVariants.{Unicode}
 use Rattle.snippet_suggest.specs.Glyphs.{glyph_of}
 use Rattle.snippet_suggest.proofs.GlyphLemmas.{chars-branch, chars-corner, chars-end, chars-plus, chars-plus_minus, chars-stroke, chars-stroke_space}
