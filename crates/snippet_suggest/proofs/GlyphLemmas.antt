@@ -1,0 +1,92 @@
+-- The characters of the glyphs of suggestions, and what is known of each.
+use Rattle.std.proofs.Common.{◌≡◌, ◌≤◌, ◌∷◌, [], false, codes, chars, refl, length, arith}
+use Rattle.std.specs.List.{list_any}
+use Rattle.std.proofs.lemmas.Str.{chars-encodes}
+use Rattle.snippet_style.specs.declared.glyphs.DecorStyle.{DecorStyle}
+use Rattle.snippet_style.specs.declared.glyphs.DecorStyle.TheVariants.{Ascii, Unicode}
+use Rattle.snippet_suggest.specs.declared.glyphs.SuggestionGlyph.{SuggestionGlyph}
+use Rattle.snippet_suggest.specs.declared.glyphs.SuggestionGlyph.TheVariants.{Opening, Next, Leading, Closing, Kept, Alone, Changed, Added}
+use Rattle.snippet_text.specs.Normalized.{is_listed}
+use Rattle.snippet_suggest.specs.Glyphs.{glyph_of}
+
+pub chars-minus : chars (45 ∷ 32 ∷ []) ≡ codes "- "
+unfolding lib.Utf8.encode
+chars-minus = chars-encodes (codes "- ") refl
+
+pub chars-bar : chars (124 ∷ []) ≡ codes "|"
+unfolding lib.Utf8.encode
+chars-bar = chars-encodes (codes "|") refl
+
+pub chars-bar_space : chars (124 ∷ 32 ∷ []) ≡ codes "| "
+unfolding lib.Utf8.encode
+chars-bar_space = chars-encodes (codes "| ") refl
+
+pub chars-tilde : chars (126 ∷ 32 ∷ []) ≡ codes "~ "
+unfolding lib.Utf8.encode
+chars-tilde = chars-encodes (codes "~ ") refl
+
+pub chars-plus : chars (43 ∷ 32 ∷ []) ≡ codes "+ "
+unfolding lib.Utf8.encode
+chars-plus = chars-encodes (codes "+ ") refl
+
+pub chars-corner : chars (226 ∷ 149 ∷ 173 ∷ 226 ∷ 149 ∷ 180 ∷ []) ≡ codes "╭╴"
+unfolding lib.Utf8.encode
+chars-corner = chars-encodes (codes "╭╴") refl
+
+pub chars-branch : chars (226 ∷ 148 ∷ 156 ∷ 226 ∷ 149 ∷ 180 ∷ []) ≡ codes "├╴"
+unfolding lib.Utf8.encode
+chars-branch = chars-encodes (codes "├╴") refl
+
+pub chars-stroke : chars (226 ∷ 148 ∷ 130 ∷ []) ≡ codes "│"
+unfolding lib.Utf8.encode
+chars-stroke = chars-encodes (codes "│") refl
+
+pub chars-end : chars (226 ∷ 149 ∷ 176 ∷ 226 ∷ 149 ∷ 180 ∷ []) ≡ codes "╰╴"
+unfolding lib.Utf8.encode
+chars-end = chars-encodes (codes "╰╴") refl
+
+pub chars-stroke_space : chars (226 ∷ 148 ∷ 130 ∷ 32 ∷ []) ≡ codes "│ "
+unfolding lib.Utf8.encode
+chars-stroke_space = chars-encodes (codes "│ ") refl
+
+pub chars-plus_minus : chars (194 ∷ 177 ∷ 32 ∷ []) ≡ codes "± "
+unfolding lib.Utf8.encode
+chars-plus_minus = chars-encodes (codes "± ") refl
+
+-- each has a character or two
+pub glyph_short : (decor : DecorStyle) (glyph : SuggestionGlyph) → length (glyph_of decor glyph) ≤ 2
+glyph_short Ascii Opening = omega arith
+glyph_short Ascii Next = omega arith
+glyph_short Ascii Leading = omega arith
+glyph_short Ascii Closing = omega arith
+glyph_short Ascii Kept = omega arith
+glyph_short Ascii Alone = omega arith
+glyph_short Ascii Changed = omega arith
+glyph_short Ascii Added = omega arith
+glyph_short Unicode Opening = omega arith
+glyph_short Unicode Next = omega arith
+glyph_short Unicode Leading = omega arith
+glyph_short Unicode Closing = omega arith
+glyph_short Unicode Kept = omega arith
+glyph_short Unicode Alone = omega arith
+glyph_short Unicode Changed = omega arith
+glyph_short Unicode Added = omega arith
+
+-- none is listed
+pub glyph_unlisted : (decor : DecorStyle) (glyph : SuggestionGlyph) → list_any is_listed (glyph_of decor glyph) ≡ false
+glyph_unlisted Ascii Opening = refl
+glyph_unlisted Ascii Next = refl
+glyph_unlisted Ascii Leading = refl
+glyph_unlisted Ascii Closing = refl
+glyph_unlisted Ascii Kept = refl
+glyph_unlisted Ascii Alone = refl
+glyph_unlisted Ascii Changed = refl
+glyph_unlisted Ascii Added = refl
+glyph_unlisted Unicode Opening = refl
+glyph_unlisted Unicode Next = refl
+glyph_unlisted Unicode Leading = refl
+glyph_unlisted Unicode Closing = refl
+glyph_unlisted Unicode Kept = refl
+glyph_unlisted Unicode Alone = refl
+glyph_unlisted Unicode Changed = refl
+glyph_unlisted Unicode Added = refl

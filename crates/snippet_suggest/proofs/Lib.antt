@@ -1,0 +1,8 @@
+pub mod DrawnLemmas
+pub mod GlyphLemmas
+pub mod NumberLemmas
+pub mod PaintLemmas
+pub mod RisingLemmas
+pub mod RowLemmas
+pub mod ShownLemmas
+pub mod SpanLemmas

@@ -1,0 +1,68 @@
+-- The texts of line numbers.
+use Rattle.std.proofs.Common.{◌≡◌, ℕ, zero, suc, ◌-◌, ◌+◌, ◌==◌, ◌^◌, ◌<◌, ◌%◌, List, [], ◌∷◌, length, replicate, refl, ap, All, chars, arith, encode_utf8, true, false, Bool}
+use Rattle.std.specs.List.{repeat}
+use Rattle.std.specs.Fmt.{decimal, styled_decimal, padded_integral, format_spec, char_count}
+use Rattle.std.proofs.lemmas.Bool.Decides.{nat_tests}
+use Rattle.std.proofs.lemmas.List.{append-nil}
+use Rattle.std.proofs.lemmas.Fmt.{decimal_by_steps, IsAscii-decimal}
+use Rattle.std.proofs.lemmas.List.Elements.{All-append, All-cons, All-nil, All-push, All-replicate}
+use Rattle.std.proofs.lemmas.Str.{chars-IsAscii, IsAscii-append}
+use Rattle.std.proofs.lemmas.Str.Ascii.{IsAscii-from_all}
+use Rattle.std.specs.Str.{IsAscii}
+use Rattle.snippet_text.specs.Normalized.{is_listed}
+use Rattle.snippet_suggest.specs.Rows.{set_right, shown_number}
+
+-- copies of the space's bytes
+repeat-space : (n : ℕ) → repeat n (encode_utf8 32) ≡ replicate n 32
+unfolding lib.Utf8.encode
+repeat-space zero = refl
+repeat-space (suc n) = ap (λ t. 32 ∷ t) (repeat-space n)
+
+-- a text of one space, repeated
+pub repeat-one_space : (n : ℕ) → repeat {A = ℕ} n (32 ∷ []) ≡ replicate n 32
+repeat-one_space zero = refl
+repeat-one_space (suc n) = ap (λ t. 32 ∷ t) (repeat-one_space n)
+
+-- digits that are padded to a width
+padded_number : (ds : List ℕ) (w : ℕ) → padded_integral (format_spec 32 3 0 w (2 ^ 64 - 1)) false [] ds ≡ set_right w ds
+unfolding padded_integral char_count
+padded_number ds w =
+    let none : (k : ℕ) → k - k ≡ 0 = λ k. omega arith in
+    let all : (k : ℕ) → k - 0 ≡ k = λ k. omega arith in
+    simp (repeat-space, append-nil, none, all)
+
+-- what a hole writes that sets a number right in a field of w cells
+pub styled_decimal-right : (n w : ℕ) → styled_decimal (format_spec 32 3 0 w (2 ^ 64 - 1)) n ≡ set_right w (decimal n)
+styled_decimal-right n zero = let none : 0 - length (decimal n) ≡ 0 = omega arith in rw none
+styled_decimal-right n (suc k) = let other : (suc k == 0) ≡ false = grind (arith, nat_tests) in rw other (padded_number (decimal n) (suc k))
+
+-- a digit is no listed character
+digit_unlisted : (d : ℕ) → d < 10 → is_listed (48 + d) ≡ false
+digit_unlisted d small = grind (arith, nat_tests)
+
+decimal_unlisted : (n : ℕ) → n < 2 ^ 64 → All (λ c. is_listed c ≡ false) (decimal n)
+decimal_unlisted n fits =
+    let P : ℕ → Type 0 = λ c. is_listed c ≡ false in
+    decimal_by_steps (λ _ ds. All P ds) (λ m one. All-cons P (48 + m) [] (digit_unlisted m one) (All-nil P)) (λ m ds more so_far. All-push P ds (48 + m % 10) so_far (digit_unlisted (m % 10) (omega arith))) n fits
+
+-- what the gutter shows holds no listed character
+pub shown_number_unlisted : (numbered : Bool) (gutter number : ℕ) → number < 2 ^ 64 → All (λ c. is_listed c ≡ false) (shown_number numbered gutter number)
+shown_number_unlisted true gutter number fits =
+    let P : ℕ → Type 0 = λ c. is_listed c ≡ false in
+    All-append P (replicate (gutter - length (decimal number)) 32) (decimal number) (All-replicate P (gutter - length (decimal number)) 32 refl) (decimal_unlisted number fits)
+shown_number_unlisted false gutter number fits =
+    let P : ℕ → Type 0 = λ c. is_listed c ≡ false in
+    All-replicate P gutter 32 refl
+
+spaces_ascii : (n : ℕ) → IsAscii (replicate n 32)
+spaces_ascii n = let P : ℕ → Type 0 = λ b. b < 128 in IsAscii-from_all (replicate n 32) (All-replicate P n 32 (omega arith))
+
+-- its bytes are its characters
+shown_number_ascii : (numbered : Bool) (gutter number : ℕ) → number < 2 ^ 64 → IsAscii (shown_number numbered gutter number)
+shown_number_ascii true gutter number fits =
+    IsAscii-append (replicate (gutter - length (decimal number)) 32) (decimal number) (spaces_ascii (gutter - length (decimal number))) (IsAscii-decimal number fits)
+shown_number_ascii false gutter number fits = spaces_ascii gutter
+
+pub chars-shown_number : (numbered : Bool) (gutter number : ℕ) → number < 2 ^ 64 → chars (shown_number numbered gutter number) ≡ shown_number numbered gutter number
+chars-shown_number numbered gutter number fits =
+    chars-IsAscii (shown_number numbered gutter number) (shown_number_ascii numbered gutter number fits)

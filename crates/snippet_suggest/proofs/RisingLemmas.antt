@@ -1,0 +1,98 @@
+-- The lines that are shown ascend, and each touched line is among them.
+use Rattle.std.proofs.Common.{◌≡◌, ℕ, zero, suc, ◌+◌, ◌-◌, ◌<◌, ◌≤◌, nat_le, Bool, true, false, List, [], ◌∷◌, ◌++◌, if◌then◌else◌, refl, sym, ap, ◌∙◌, arith, subst, All, Contains, inl, inr}
+use Rattle.std.proofs.lemmas.Bool.Decides.{nat_tests}
+use Rattle.std.proofs.lemmas.List.Elements.{filter_map-append, All-cons, All-nil, Contains-append_right}
+use Rattle.std.proofs.lemmas.Bool.{cases_eq}
+use Rattle.std.proofs.lemmas.List.{append-nil}
+use Rattle.snippet_suggest.specs.declared.shown.ShownLine.{ShownLine}
+use Rattle.snippet_suggest.specs.declared.shown.ShownLine.TheVariants.{Line, Gap}
+use Rattle.snippet_suggest.specs.Rows.{HasRoom}
+use Rattle.snippet_suggest.specs.Shown.{lines_from, shown_run, shown_from, shown_lines, number_of, numbers_shown, AreRising}
+
+-- the bounds of ascending numbers, and two such lists joined
+rising_bound : (from to : ℕ) (ks : List ℕ) → AreRising from to ks → from ≤ to
+rising_bound from to [] rising = rising
+rising_bound from to (k ∷ ks) rising = omega (arith, rising.0, rising_bound (k + 1) to ks rising.1)
+
+rising_lower : (low from to : ℕ) (ks : List ℕ) → low ≤ from → AreRising from to ks → AreRising low to ks
+rising_lower low from to [] lower rising = omega (arith, lower, rising)
+rising_lower low from to (k ∷ ks) lower rising = (omega (arith, lower, rising.0), rising.1)
+
+rising_append : (from mid to : ℕ) (ks ls : List ℕ) → AreRising from mid ks → AreRising mid to ls → AreRising from to (ks ++ ls)
+rising_append from mid to [] ls front back = rising_lower from mid to ls front back
+rising_append from mid to (k ∷ ks) ls front back = (front.0, rising_append (k + 1) mid to ks ls front.1 back)
+
+-- those of a run
+rising_lines : (from n to : ℕ) → from + n ≡ to → AreRising from to (numbers_shown (lines_from from n))
+rising_lines from zero to is = omega (arith, is)
+rising_lines from (suc n) to is = (omega arith, rising_lines (from + 1) n to (omega (arith, is)))
+
+rising_run_by : (from to : ℕ) (few : Bool) → nat_le (to - from) 3 ≡ few → from ≤ to → AreRising from to (numbers_shown (if few then lines_from from (to - from) else Line from ∷ Gap ∷ Line (to - 1) ∷ []))
+rising_run_by from to true is ordered = rising_lines from (to - from) to (omega (arith, ordered))
+rising_run_by from to false is ordered =
+    let many : 3 < to - from = grind (arith, nat_tests) in
+    (omega arith, (omega (arith, many), omega (arith, many)))
+
+rising_run : (from to : ℕ) → from ≤ to → AreRising from to (numbers_shown (shown_run from to))
+rising_run from to ordered = rising_run_by from to (nat_le (to - from) 3) refl ordered
+
+-- those of all that is shown
+rising_from_by : (touched : ℕ → Bool) (from k left : ℕ) (is : Bool) → from ≤ k → AreRising (k + 1) (k + 1 + left) (numbers_shown (shown_from touched (k + 1) (k + 1) left)) → AreRising from (k + 1 + left) (numbers_shown (shown_from touched from (k + 1) left)) → AreRising from (k + 1 + left) (numbers_shown (if is then shown_run from k ++ (Line k ∷ shown_from touched (k + 1) (k + 1) left) else shown_from touched from (k + 1) left))
+rising_from_by touched from k left false ordered shown waiting = waiting
+rising_from_by touched from k left true ordered shown waiting =
+    let rest = Line k ∷ shown_from touched (k + 1) (k + 1) left in
+    subst (AreRising from (k + 1 + left)) (sym (filter_map-append number_of (shown_run from k) rest)) (rising_append from k (k + 1 + left) (numbers_shown (shown_run from k)) (numbers_shown rest) (rising_run from k ordered) (omega arith, shown))
+
+rising_from : (touched : ℕ → Bool) (from k left : ℕ) → from ≤ k → AreRising from (k + left) (numbers_shown (shown_from touched from k left))
+rising_from touched from k zero ordered = omega (arith, ordered)
+rising_from touched from k (suc left) ordered =
+    let same : k + 1 + left ≡ k + suc left = omega arith in
+    subst (λ (to : ℕ). AreRising from to (numbers_shown (shown_from touched from k (suc left)))) same (rising_from_by touched from k left (touched k) ordered (rising_from touched (k + 1) (k + 1) left (omega arith)) (rising_from touched from (k + 1) left (omega (arith, ordered))))
+
+pub rising_shown : (touched : ℕ → Bool) (count : ℕ) → AreRising 0 count (numbers_shown (shown_lines touched count))
+rising_shown touched count =
+    let same : 0 + count ≡ count = omega arith in
+    subst (λ (to : ℕ). AreRising 0 to (numbers_shown (shown_lines touched count))) same (rising_from touched 0 0 count (omega arith))
+
+-- where there is room for the number of each line, there is for those that are shown
+rooms_of : (numbered : Bool) (gutter first low count : ℕ) (shown : List ShownLine) → AreRising low count (numbers_shown shown) → ((k : ℕ) → k < count → HasRoom numbered gutter first (Line k)) → All (HasRoom numbered gutter first) shown
+rooms_of numbered gutter first low count [] rising rooms = All-nil (HasRoom numbered gutter first)
+rooms_of numbered gutter first low count (Line k ∷ shown) rising rooms =
+    All-cons (HasRoom numbered gutter first) (Line k) shown (rooms k (omega (arith, rising_bound (k + 1) count (numbers_shown shown) rising.1))) (rooms_of numbered gutter first (k + 1) count shown rising.1 rooms)
+rooms_of numbered gutter first low count (Gap ∷ shown) rising rooms =
+    All-cons (HasRoom numbered gutter first) Gap shown tt (rooms_of numbered gutter first low count shown rising rooms)
+
+pub rooms_shown : (numbered : Bool) (gutter first count : ℕ) (touched : ℕ → Bool) → ((k : ℕ) → k < count → HasRoom numbered gutter first (Line k)) → All (HasRoom numbered gutter first) (shown_lines touched count)
+rooms_shown numbered gutter first count touched rooms =
+    rooms_of numbered gutter first 0 count (shown_lines touched count) (rising_shown touched count) rooms
+
+-- at the end nothing is still to come
+pub shown_all : (touched : ℕ → Bool) (shown all : List ShownLine) (behind line count : ℕ) → count ≤ line → shown ++ shown_from touched behind line (count - line) ≡ all → shown ≡ all
+shown_all touched shown all behind line count past whole =
+    let none : count - line ≡ 0 = omega (arith, past) in
+    sym (append-nil shown) ∙ sym (ap (λ n. shown ++ shown_from touched behind line n) none) ∙ whole
+
+-- each touched line is among them
+touched_from_by : (touched : ℕ → Bool) (from k left j : ℕ) (is : Bool) → touched k ≡ is → k ≤ j → j < k + suc left → touched j ≡ true → ((next : ℕ) → k + 1 ≤ j → Contains (numbers_shown (shown_from touched next (k + 1) left)) j) → Contains (numbers_shown (if is then shown_run from k ++ (Line k ∷ shown_from touched (k + 1) (k + 1) left) else shown_from touched from (k + 1) left)) j
+touched_from_by touched from k left j true is low high holds later =
+    let rest = shown_from touched (k + 1) (k + 1) left in
+    let here : Contains (numbers_shown (Line k ∷ rest)) j = elim (cases_eq j k) [
+      | inl same ↦ subst (λ (n : ℕ). Contains (numbers_shown (Line k ∷ rest)) n) (sym same) (0, omega arith, refl)
+      | inr other ↦
+          let h = later (k + 1) (omega (arith, low, other)) in
+          (suc h.0, omega (arith, h.1), h.2)
+    ] in
+    subst (λ (ks : List ℕ). Contains ks j) (sym (filter_map-append number_of (shown_run from k) (Line k ∷ rest))) (Contains-append_right (numbers_shown (shown_run from k)) (numbers_shown (Line k ∷ rest)) j here)
+touched_from_by touched from k left j false is low high holds later =
+    elim (cases_eq j k) [
+      | inl same ↦ absurd (grind (arith, holds, ap touched same, is))
+      | inr other ↦ later from (omega (arith, low, other))
+    ]
+
+touched_from : (touched : ℕ → Bool) (from k left j : ℕ) → k ≤ j → j < k + left → touched j ≡ true → Contains (numbers_shown (shown_from touched from k left)) j
+touched_from touched from k zero j low high holds = absurd (omega (arith, low, high))
+touched_from touched from k (suc left) j low high holds =
+    touched_from_by touched from k left j (touched k) refl low high holds (λ next more. touched_from touched next (k + 1) left j more (omega (arith, high)) holds)
+
+pub touched_shown : (touched : ℕ → Bool) (count j : ℕ) → j < count → touched j ≡ true → Contains (numbers_shown (shown_lines touched count)) j
+touched_shown touched count j below holds = touched_from touched 0 0 count j (omega arith) (omega (arith, below)) holds

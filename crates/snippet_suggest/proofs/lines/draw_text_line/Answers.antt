@@ -1,0 +1,11 @@
+use Rattle.std.proofs.Common.{◌≤◌, ◌+◌, ap, sym, subst, chars, length, ℕ}
+use Rattle.snippet_text.specs.Normalized.{norm}
+use Rattle.snippet_suggest.specs.Rows.{shown_number}
+use Rattle.snippet_suggest.proofs.PaintLemmas.{line_added_painted}
+use Rattle.snippet_suggest.proofs.lines.draw_text_line.Goals as goal
+
+pub returns : goal.returns
+returns c =
+    record {
+      added = λ fits. line_added_painted c.args.layout.gutter _ _ c.args.buffer.now c.draw_line.new.buffer c.paint_stretches.new.buffer c.in_ok-row.row (ap (λ t. norm (chars t)) c.line_at-line.ensures.value) (c.in_ok-row.ensures.added (subst (λ (n : ℕ). length (shown_number c.args.layout.numbered c.args.layout.gutter n) ≤ c.args.layout.gutter + 1) (sym c.number_after-number.ensures.value) fits)) c.in_ok-row.ensures.row c.in_ok-paint_stretches.ensures.repaints;
+    }

@@ -1,0 +1,33 @@
+use Rattle.std.proofs.Common.{◌≡◌, ◌∷◌, [], ◌∙◌, ℕ, List, All, false, arith, ap, sym, subst, chars}
+use Rattle.std.specs.List.{list_any}
+use Rattle.snippet_text.specs.Normalized.{is_listed, norm}
+use Rattle.snippet_text.proofs.NormLemmas.{list_any-norm}
+use Rattle.snippet_suggest.specs.Rows.{shown_number}
+use Rattle.snippet_suggest.proofs.GlyphLemmas.{chars-minus}
+use Rattle.snippet_suggest.proofs.NumberLemmas.{chars-shown_number, shown_number_unlisted}
+use Rattle.snippet_suggest.proofs.RowLemmas.{All-from_none, removed_added}
+use Rattle.snippet_style.proofs.GridLemmas.{length-chars_le}
+use Rattle.snippet_suggest.proofs.row.draw_removed_line.Goals as goal
+
+pub puts-requires-clause-end : goal.puts-requires-clause-end
+puts-requires-clause-end c = omega (arith, length-chars_le c.as_str.result.now)
+
+pub puts-requires-2-clause-end : goal.puts-requires-2-clause-end
+puts-requires-2-clause-end c = omega (arith, length-chars_le (45 ∷ 32 ∷ []))
+
+pub puts-requires-3-clause-end : goal.puts-requires-3-clause-end
+puts-requires-3-clause-end c = omega (arith, length-chars_le c.as_str-2.result.now)
+
+pub returns : goal.returns
+returns c =
+    let a = c.args in
+    let g = a.layout.gutter in
+    let number = c.as_str.result.now in
+    let text = c.as_str-2.result.now in
+    let is_number : chars number ≡ shown_number a.layout.numbered g a.number = ap chars (c.as_str.ensures.value ∙ c.in_ok-number.ensures.text) ∙ chars-shown_number a.layout.numbered g a.number (omega arith) in
+    let is_text : chars text ≡ norm (chars a.line.now) = ap chars c.as_str-2.ensures.value ∙ c.in_ok-text.ensures.value in
+    let free_number : All (λ ch. is_listed ch ≡ false) (chars number) = subst (λ (t : List ℕ). All (λ ch. is_listed ch ≡ false) t) (sym is_number) (shown_number_unlisted a.layout.numbered g a.number (omega arith)) in
+    let free_text = All-from_none (chars text) (ap (list_any is_listed) is_text ∙ list_any-norm (chars a.line.now)) in
+    record {
+      added = λ below. removed_added g a.role a.buffer.now c.puts.new.self c.puts-2.new.self c.puts-3.new.self a.row number (45 ∷ 32 ∷ []) text below chars-minus free_number free_text c.in_ok-puts.ensures.ok c.puts.ensures.empty (c.in_ok-puts-2.ensures.ok (omega arith)) c.in_ok-puts-3.ensures.ok c.puts-3.ensures.empty;
+    }

@@ -1,0 +1,41 @@
+use Rattle.std.proofs.Common.{◌+◌, ◌∙◌, sym, subst, arith, ℕ, Vec, Global, List, Contains}
+use Rattle.snippet_suggest.specs.declared.shown.ShownLine.{ShownLine}
+use Rattle.snippet_suggest.specs.Shown.{is_touched, shown_lines, numbers_shown, AreRising}
+use Rattle.snippet_suggest.proofs.RisingLemmas.{rising_shown, shown_all, touched_shown}
+use Rattle.snippet_suggest.proofs.ShownLemmas.{touched_step, untouched_step}
+use Rattle.snippet_suggest.proofs.shown.shown_lines.Invariants.{Shows}
+use Rattle.snippet_suggest.proofs.shown.shown_lines.Goals as goal
+use Rattle.snippet_suggest.proofs.shown.shown_lines.Goals.{then-is_touched+in_ok-push_run+in_ok-push, else-is_touched}
+
+pub loop-line-preserved : goal.loop-line-preserved
+loop-line-preserved c =
+    let touched = is_touched c.args.fold c.args.ranges.now in
+    let l = c.loop-line in
+    let count = c.args.count in
+    let next = c.if-is_touched in
+    elim c.if-is_touched.branch [
+      | then-is_touched+in_ok-push_run+in_ok-push w ↦
+          subst (λ (b : ℕ). Shows touched count b (l.line + 1) next.shown.items) (sym w.behind-is) (subst (λ (v : Vec ShownLine Global). Shows touched count (l.line + 1) (l.line + 1) v.items) (sym w.shown-is) (record {
+            before = omega arith;
+            whole = touched_step touched l.shown.items w.push_run.new.shown.items w.push.new.self.items _ l.behind l.line count c.loop-line-test.true (sym c.is_touched.ensures.value ∙ w.if-is_touched.true) w.in_ok-push_run.ensures.added w.in_ok-push.ensures.items l.invariant.whole;
+          }))
+      | else-is_touched w ↦
+          subst (λ (b : ℕ). Shows touched count b (l.line + 1) next.shown.items) (sym w.behind-is) (subst (λ (v : Vec ShownLine Global). Shows touched count l.behind (l.line + 1) v.items) (sym w.shown-is) (record {
+            before = omega (arith, l.invariant.before);
+            whole = untouched_step touched l.shown.items _ l.behind l.line count c.loop-line-test.true (sym c.is_touched.ensures.value ∙ w.if-is_touched.false) l.invariant.whole;
+          }))
+    ]
+
+pub returns-clause-rising : goal.returns-clause-rising
+returns-clause-rising c =
+    let touched = is_touched c.args.fold c.args.ranges.now in
+    let l = c.loop-line in
+    let all = shown_all touched l.shown.items (shown_lines touched c.args.count) l.behind l.line c.args.count (omega (arith, c.loop-line-test.false)) l.invariant.whole in
+    subst (λ (shown : List ShownLine). AreRising 0 c.args.count (numbers_shown shown)) (sym all) (rising_shown touched c.args.count)
+
+pub returns-clause-touched : goal.returns-clause-touched
+returns-clause-touched c = λ k below holds.
+    let touched = is_touched c.args.fold c.args.ranges.now in
+    let l = c.loop-line in
+    let all = shown_all touched l.shown.items (shown_lines touched c.args.count) l.behind l.line c.args.count (omega (arith, c.loop-line-test.false)) l.invariant.whole in
+    subst (λ (shown : List ShownLine). Contains (numbers_shown shown) k) (sym all) (touched_shown touched c.args.count k below holds)

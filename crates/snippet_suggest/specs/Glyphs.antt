@@ -1,0 +1,30 @@
+-- The glyphs of suggestions.
+use Rattle.std.specs.Prelude.{ℕ, List, codes}
+use Rattle.snippet_style.specs.declared.glyphs.DecorStyle.{DecorStyle}
+use Rattle.snippet_style.specs.declared.glyphs.DecorStyle.TheVariants.{Ascii, Unicode}
+use Rattle.snippet_suggest.specs.declared.glyphs.SuggestionGlyph.{SuggestionGlyph}
+use Rattle.snippet_suggest.specs.declared.glyphs.SuggestionGlyph.TheVariants.{Opening, Next, Leading, Closing, Kept, Alone, Changed, Added}
+
+-- the characters of each glyph, in ASCII and in Unicode
+abbrev pub glyph_of : DecorStyle → SuggestionGlyph → List ℕ
+glyph_of Ascii Opening = codes "|"
+glyph_of Ascii Next = codes "|"
+glyph_of Ascii Leading = codes "|"
+glyph_of Ascii Closing = codes "|"
+glyph_of Ascii Kept = codes "|"
+glyph_of Ascii Alone = codes "| "
+glyph_of Ascii Changed = codes "~ "
+glyph_of Ascii Added = codes "+ "
+glyph_of Unicode Opening = codes "╭╴"
+glyph_of Unicode Next = codes "├╴"
+glyph_of Unicode Leading = codes "│"
+glyph_of Unicode Closing = codes "╰╴"
+glyph_of Unicode Kept = codes "│"
+glyph_of Unicode Alone = codes "│ "
+glyph_of Unicode Changed = codes "± "
+glyph_of Unicode Added = codes "+ "
+
+-- the mark below what is put in place of something else
+abbrev pub changed_mark_of : DecorStyle → ℕ
+changed_mark_of Ascii = 126
+changed_mark_of Unicode = 177

@@ -1,0 +1,108 @@
+//! A suggestion that is shown as the lines that are removed, and the one line that stands in their place.
+ghost use Rattle.std.specs.Prelude.{◌≡◌, ◌<◌, ◌^◌, true, length};
+
+use crate::glyphs::SuggestionGlyph;
+use crate::kind::is_blank;
+use crate::layout::SuggestionLayout;
+use crate::roles::{paint_stretches, stretches_of};
+use crate::row::{draw_line, draw_removed_line};
+use snippet_parts::LineInfo;
+use snippet_splice::SubstitutionHighlight;
+use snippet_style::{ElementStyle, StyledBuffer};
+use std::alloc::{AllocError, Global};
+
+/// Draws lines that are removed below all that stands in the grid, and the line in their place below them. Where this is
+/// the same as the last of them, neither is drawn; a blank one isn't drawn.
+///
+/// ```text
+///     1 - let x = 1;
+///     2 - x + 1
+///     1 + 2
+/// ```
+///
+/// # Errors
+///
+/// There is no memory for the rows or their texts.
+pub(crate) fn draw_diff(
+    alloc: Global,
+    buffer: &mut StyledBuffer,
+    layout: SuggestionLayout,
+    first: usize,
+    removed: &[LineInfo<'_>],
+    replaced: &[Vec<SubstitutionHighlight>],
+    line: &str,
+    added: &[SubstitutionHighlight],
+) -> Result<(), AllocError>
+    requires narrow { layout.gutter < 2 ^ 32 }
+{
+    let stays = is_last(removed, line);
+    let count = removed.len().saturating_sub(usize::from(stays));
+    draw_diff_removed(alloc, buffer, layout, first, &removed[..count], replaced)?;
+    if stays {
+        let row = buffer.num_lines().saturating_sub(1);
+        let stretches = diff_stretches(replaced, first, removed[count]);
+        paint_stretches(buffer, layout, row, line, stretches, ElementStyle::Removal)?;
+    }
+    let row = if stays || is_blank(line) {
+        buffer.num_lines().saturating_sub(1)
+    } else {
+        draw_line(alloc, buffer, layout, SuggestionGlyph::Added, first, line)?
+    };
+    paint_stretches(buffer, layout, row, line, added, ElementStyle::Addition)
+}
+
+/// Whether a line is the same as the last of those that are removed.
+fn is_last(removed: &[LineInfo<'_>], line: &str) -> bool
+    ensures some { result ≡ true → 0 < length removed.now }
+{
+    match removed {
+        [.., last] => last.line == line,
+        [] => false,
+    }
+}
+
+/// The stretches that are replaced on a line of the source, where those of the line of number `first` come first.
+fn diff_stretches<'a>(
+    replaced: &'a [Vec<SubstitutionHighlight>],
+    first: usize,
+    info: LineInfo<'_>,
+) -> &'a [SubstitutionHighlight] {
+    stretches_of(replaced, info.line_index.saturating_sub(first))
+}
+
+/// Draws lines that are removed below all that stands in the grid.
+fn draw_diff_removed(
+    alloc: Global,
+    buffer: &mut StyledBuffer,
+    layout: SuggestionLayout,
+    first: usize,
+    removed: &[LineInfo<'_>],
+    replaced: &[Vec<SubstitutionHighlight>],
+) -> Result<(), AllocError>
+    requires narrow { layout.gutter < 2 ^ 32 }
+{
+    for i in 0..removed.len() {
+        let info = removed[i];
+        let row = buffer.num_lines();
+        let number = first.saturating_add(i);
+        draw_removed_line(
+            alloc,
+            buffer,
+            layout,
+            row,
+            number,
+            info.line,
+            ElementStyle::NoStyle,
+        )?;
+        let stretches = diff_stretches(replaced, first, info);
+        paint_stretches(
+            buffer,
+            layout,
+            row,
+            info.line,
+            stretches,
+            ElementStyle::Removal,
+        )?;
+    }
+    Ok(())
+}

@@ -1,0 +1,86 @@
+//! The rows that a suggestion begins and ends with.
+ghost use Rattle.std.specs.Prelude.{◌≡◌, ◌<◌, ◌^◌, ◌+◌, IfOk, OnOk, false, length};
+ghost use Rattle.snippet_suggest.specs.Rows.{AddsRow, IsOtherRow};
+
+use crate::glyphs::SuggestionGlyph;
+use crate::layout::SuggestionLayout;
+use snippet_style::{ElementStyle, StyledBuffer};
+use std::alloc::AllocError;
+
+/// Draws what a suggestion begins with: a row below all that stands in the grid, or a glyph in the last row, if the
+/// element before is a suggestion for the same file.
+///
+/// ```text
+///      ╭╴      a row of its own
+///      ├╴      in the last row of a suggestion
+/// ```
+///
+/// # Errors
+///
+/// There is no memory for the row.
+pub(crate) fn draw_head(
+    buffer: &mut StyledBuffer,
+    layout: SuggestionLayout,
+    shares: bool,
+) -> Result<(), AllocError>
+    requires narrow { layout.gutter < 2 ^ 32 }
+    ensures added { shares ≡ false → OnOk result (AddsRow (IsOtherRow layout.gutter) buffer.old buffer.new) }
+{
+    let rows = buffer.num_lines();
+    if shares {
+        let row = rows.saturating_sub(1);
+        return draw_glyph(buffer, layout, row, SuggestionGlyph::Next);
+    }
+    draw_glyph(buffer, layout, rows, SuggestionGlyph::Opening)
+}
+
+/// Draws a glyph behind the gutter of a row, which stands alone if the row is the first below all that stands in the grid.
+fn draw_glyph(
+    buffer: &mut StyledBuffer,
+    layout: SuggestionLayout,
+    row: usize,
+    glyph: SuggestionGlyph,
+) -> Result<(), AllocError>
+    requires narrow { layout.gutter < 2 ^ 32 }
+    requires row { row + 1 < 2 ^ 64 }
+    ensures added { row ≡ length buffer.old → OnOk result (AddsRow (IsOtherRow layout.gutter) buffer.old buffer.new) }
+{
+    buffer.puts(
+        row,
+        layout.gutter + 1,
+        glyph.text(layout.decor),
+        ElementStyle::LineNumber,
+    )?;
+    Ok(())
+}
+
+/// Draws the row that a suggestion ends with, so many rows below all that stands in the grid, and gives its number.
+///
+/// ```text
+///      ╰╴      at the end of a group
+///      │       before a further element
+/// ```
+///
+/// # Errors
+///
+/// There is no memory for the row.
+pub(crate) fn draw_end(
+    buffer: &mut StyledBuffer,
+    layout: SuggestionLayout,
+    skipped: usize,
+    follows: bool,
+) -> Result<usize, AllocError>
+    requires narrow { layout.gutter < 2 ^ 32 }
+    requires few { skipped < 2 }
+    ensures added { skipped ≡ 0 → OnOk result (AddsRow (IsOtherRow layout.gutter) buffer.old buffer.new) }
+    ensures row { IfOk result (λ row. row + 1 < 2 ^ 64) }
+{
+    let row = buffer.num_lines() + skipped;
+    let glyph = if follows {
+        SuggestionGlyph::Leading
+    } else {
+        SuggestionGlyph::Closing
+    };
+    draw_glyph(buffer, layout, row, glyph)?;
+    Ok(row)
+}

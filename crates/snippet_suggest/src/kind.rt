@@ -1,0 +1,84 @@
+//! How a suggestion is shown.
+ghost use Rattle.std.specs.Prelude.{◌≡◌, ◌≤◌, chars};
+ghost use Rattle.std.specs.List.{list_all};
+ghost use Rattle.std.specs.Char.{is_whitespace};
+
+use snippet_splice::{SplicedLines, TrimmedPatch, as_substr};
+
+/// How a suggestion is shown.
+#[derive(Clone, Copy, Debug, PartialEq, Eq)]
+pub enum DisplaySuggestion {
+    /// As the one line that it gives, with marks below what is put in.
+    Underline,
+    /// As the lines that are removed, and the one line that stands in their place.
+    Diff,
+    /// As the lines that it gives.
+    Plain,
+    /// As lines that are new.
+    Add,
+}
+
+impl DisplaySuggestion {
+    /// How the patches of a source are shown, if they give this many lines.
+    pub fn new(source: &str, splice: &SplicedLines<'_>, lines: usize) -> DisplaySuggestion
+        ensures one_line { result ≡ DisplaySuggestion.Diff → lines ≤ 1 }
+    {
+        let several = lines > 1;
+        if !several && takes_away(source, &splice.patches) {
+            return DisplaySuggestion::Diff;
+        }
+        let whole = only_replacement(&splice.patches, splice.complete.as_str());
+        match whole {
+            Some(replacement) if replacement.ends_with('\n') => DisplaySuggestion::Add,
+            None if !several => DisplaySuggestion::Underline,
+            _ => DisplaySuggestion::Plain,
+        }
+    }
+}
+
+/// The replacement of the one patch, if there is just one and it gives the whole text, whitespace around them apart.
+fn only_replacement<'a>(patches: &[TrimmedPatch<'a>], text: &str) -> Option<&'a str> {
+    match patches {
+        [patch] if patch.replacement.trim() == text.trim() => Some(patch.replacement),
+        _ => None,
+    }
+}
+
+/// Whether one of some patches takes something away: it deletes or destroys text that isn't blank.
+fn takes_away(source: &str, patches: &[TrimmedPatch<'_>]) -> bool {
+    for patch in patches {
+        if overwrites(source, patch) && (is_blank(patch.replacement) || destroys(source, patch)) {
+            return true;
+        }
+    }
+    false
+}
+
+/// Whether a patch that overwrites text keeps less than all of it.
+fn destroys(source: &str, patch: &TrimmedPatch<'_>) -> bool {
+    match source.get(patch.span.start..patch.span.end) {
+        Some(text) => as_substr(text.trim(), patch.replacement.trim()).is_none(),
+        None => true,
+    }
+}
+
+/// Whether a patch stands over text that isn't blank. A span that isn't inside the source counts as such text, unless it
+/// is empty.
+fn overwrites(source: &str, patch: &TrimmedPatch<'_>) -> bool {
+    match source.get(patch.span.start..patch.span.end) {
+        Some(text) => !is_blank(text),
+        None => patch.span.start != patch.span.end,
+    }
+}
+
+/// Whether a patch adds text, and stands over nothing but whitespace.
+pub(crate) fn is_addition(source: &str, patch: &TrimmedPatch<'_>) -> bool {
+    !patch.replacement.is_empty() && !overwrites(source, patch)
+}
+
+/// Whether a text is nothing but whitespace.
+pub(crate) fn is_blank(text: &str) -> bool
+    ensures value { result ≡ list_all is_whitespace (chars text.now) }
+{
+    text.chars().all(|c| c.is_whitespace())
+}

@@ -1,0 +1,178 @@
+//! The rows of the lines of a spliced text.
+ghost use Rattle.std.specs.Prelude.{◌≡◌, ℕ, ◌<◌, ◌≤◌, ◌^◌, ◌+◌, [], All, OnOk, chars, length, map};
+ghost use Rattle.std.specs.List.{slice_index_or};
+ghost use Rattle.snippet_text.specs.Normalized.{norm};
+ghost use Rattle.snippet_suggest.specs.declared.shown.ShownLine.TheVariants.{Line};
+ghost use Rattle.snippet_suggest.specs.Shown.{is_touched, shown_lines};
+ghost use Rattle.snippet_suggest.specs.Rows.{AddsRow, AddsShown, HasRoom, IsLineRow, IsShownRow, number_after, shown_number};
+
+use crate::glyphs::SuggestionGlyph;
+use crate::kind::DisplaySuggestion;
+use crate::layout::SuggestionLayout;
+use crate::roles::{paint_stretches, stretches_of};
+use crate::row::{draw_gap, draw_line};
+use crate::shown::{ShownLine, shown_lines};
+use snippet_lines::CursorLines;
+use snippet_splice::{LineRange, SubstitutionHighlight};
+use snippet_style::{ElementStyle, StyledBuffer};
+use std::alloc::{AllocError, Global};
+
+/// The lines of a text, without their ends.
+pub(crate) fn text_lines<'a>(alloc: Global, text: &'a str) -> Result<Vec<&'a str>, AllocError> {
+    let mut lines = Vec::new(alloc);
+    for (line, _) in CursorLines::new(text) {
+        lines.push(line)?;
+    }
+    Ok(lines)
+}
+
+/// Draws the lines of a spliced text that are shown, below all that stands in the grid; the first line has the number
+/// `first`.
+///
+/// ```text
+///     1 ~ let x = 2;
+///     2 | let y = 1;
+///   ...
+///     9 | let z = 1;
+///    10 + x + y + z
+/// ```
+///
+/// # Errors
+///
+/// There is no memory for the rows or their texts.
+pub(crate) fn draw_lines(
+    alloc: Global,
+    buffer: &mut StyledBuffer,
+    layout: SuggestionLayout,
+    kind: DisplaySuggestion,
+    first: usize,
+    lines: &[&str],
+    ranges: &[LineRange],
+    stretches: &[Vec<SubstitutionHighlight>],
+    fold: bool,
+) -> Result<(), AllocError>
+    requires narrow { layout.gutter < 2 ^ 32 }
+    ensures added { let shown = shown_lines (is_touched fold ranges.now) (length lines.now) in
+        ((k : ℕ) → k < length lines.now → HasRoom layout.numbered layout.gutter first (Line k))
+        → OnOk result (AddsShown layout.gutter (map (λ l. l.now) lines.now) shown buffer.old buffer.new) }
+{
+    let shown = shown_lines(alloc, lines.len(), ranges, fold)?;
+    draw_shown(alloc, buffer, layout, kind, first, lines, stretches, &shown)?;
+    Ok(())
+}
+
+/// Draws these lines of a text, below all that stands in the grid.
+fn draw_shown(
+    alloc: Global,
+    buffer: &mut StyledBuffer,
+    layout: SuggestionLayout,
+    kind: DisplaySuggestion,
+    first: usize,
+    lines: &[&str],
+    stretches: &[Vec<SubstitutionHighlight>],
+    shown: &[ShownLine],
+) -> Result<(), AllocError>
+    requires narrow { layout.gutter < 2 ^ 32 }
+    ensures added { All (HasRoom layout.numbered layout.gutter first) shown.now
+        → OnOk result (AddsShown layout.gutter (map (λ l. l.now) lines.now) shown.now buffer.old buffer.new) }
+{
+    for line in shown {
+        draw_shown_line(alloc, buffer, layout, kind, first, lines, stretches, *line)?;
+    }
+    Ok(())
+}
+
+/// Draws a line of a text, or the placeholder for lines that are left out, below all that stands in the grid.
+fn draw_shown_line(
+    alloc: Global,
+    buffer: &mut StyledBuffer,
+    layout: SuggestionLayout,
+    kind: DisplaySuggestion,
+    first: usize,
+    lines: &[&str],
+    stretches: &[Vec<SubstitutionHighlight>],
+    line: ShownLine,
+) -> Result<(), AllocError>
+    requires narrow { layout.gutter < 2 ^ 32 }
+    ensures added { HasRoom layout.numbered layout.gutter first line
+        → OnOk result (AddsRow (IsShownRow layout.gutter (map (λ l. l.now) lines.now) line) buffer.old buffer.new) }
+{
+    match line {
+        ShownLine::Line(k) => {
+            draw_text_line(alloc, buffer, layout, kind, first, lines, stretches, k)
+        }
+        ShownLine::Gap => draw_gap(buffer, layout),
+    }
+}
+
+/// Draws line `k` of some lines, from 0, below all that stands in the grid.
+fn draw_text_line(
+    alloc: Global,
+    buffer: &mut StyledBuffer,
+    layout: SuggestionLayout,
+    kind: DisplaySuggestion,
+    first: usize,
+    lines: &[&str],
+    stretches: &[Vec<SubstitutionHighlight>],
+    k: usize,
+) -> Result<(), AllocError>
+    requires narrow { layout.gutter < 2 ^ 32 }
+    ensures added { length (shown_number layout.numbered layout.gutter (number_after first k)) ≤ layout.gutter + 1
+        → OnOk result (AddsRow (IsLineRow layout.gutter (norm (chars (slice_index_or (map (λ l. l.now) lines.now) k [])))) buffer.old buffer.new) }
+{
+    let line = line_at(lines, k);
+    let stretches = stretches_of(stretches, k);
+    let glyph = glyph_of(kind, lines.len(), line, stretches);
+    let number = number_after(first, k);
+    let row = draw_line(alloc, buffer, layout, glyph, number, line)?;
+    paint_stretches(buffer, layout, row, line, stretches, ElementStyle::Addition)?;
+    Ok(())
+}
+
+/// The text of line `k`, from 0; none of a line that isn't there.
+fn line_at<'a>(lines: &[&'a str], k: usize) -> &'a str
+    ensures value { result.now ≡ slice_index_or (map (λ l. l.now) lines.now) k [] }
+{
+    match lines.get(k) {
+        Some(line) => *line,
+        None => "",
+    }
+}
+
+/// The number of the line so many lines behind one.
+pub(crate) fn number_after(first: usize, lines: usize) -> usize
+    ensures value { result ≡ number_after first lines }
+{
+    first.saturating_add(lines)
+}
+
+/// The glyph beside a line of a text of `count` lines, which has these stretches.
+fn glyph_of(
+    kind: DisplaySuggestion,
+    count: usize,
+    line: &str,
+    stretches: &[SubstitutionHighlight],
+) -> SuggestionGlyph {
+    if count <= 1 {
+        return match kind {
+            DisplaySuggestion::Add => SuggestionGlyph::Added,
+            _ => SuggestionGlyph::Alone,
+        };
+    }
+    match stretches {
+        [] => SuggestionGlyph::Kept,
+        [only] => only_glyph(line, *only),
+        _ => SuggestionGlyph::Changed,
+    }
+}
+
+/// The glyph beside a line that has this stretch alone.
+fn only_glyph(line: &str, stretch: SubstitutionHighlight) -> SuggestionGlyph {
+    if stretch.start == 0 && stretch.end == line.len() {
+        SuggestionGlyph::Added
+    } else if stretch.start == 0 && stretch.end == 0 {
+        SuggestionGlyph::Kept
+    } else {
+        SuggestionGlyph::Changed
+    }
+}

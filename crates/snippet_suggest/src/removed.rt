@@ -1,0 +1,44 @@
+//! The rows of lines that are removed.
+ghost use Rattle.std.specs.Prelude.{◌<◌, ◌≤◌, ◌^◌, ◌+◌, length};
+
+use crate::layout::SuggestionLayout;
+use crate::row::draw_removed_line;
+use snippet_parts::LineInfo;
+use snippet_style::{ElementStyle, StyledBuffer};
+use std::alloc::{AllocError, Global};
+
+/// Draws lines of a source that are removed with nothing in their place, in rows from this one on.
+///
+/// ```text
+///     1 - let x = 1;
+///     2 -
+/// ```
+///
+/// # Errors
+///
+/// There is no memory for the rows or their texts.
+pub(crate) fn draw_removed_lines(
+    alloc: Global,
+    buffer: &mut StyledBuffer,
+    layout: SuggestionLayout,
+    row: usize,
+    lines: &[LineInfo<'_>],
+) -> Result<(), AllocError>
+    requires narrow { layout.gutter < 2 ^ 32 }
+    requires row { row < 2 ^ 60 }
+{
+    let mut row = row;
+    for info in lines {
+        draw_removed_line(
+            alloc,
+            buffer,
+            layout,
+            row,
+            info.line_index,
+            info.line,
+            ElementStyle::Removal,
+        )?;
+        row = buffer.num_lines();
+    }
+    Ok(())
+}

@@ -1,0 +1,96 @@
+//! The row of one line.
+ghost use Rattle.std.specs.Prelude.{◌≡◌, ◌<◌, ◌≤◌, ◌^◌, ◌+◌, IfOk, OnOk, chars, length};
+ghost use Rattle.snippet_text.specs.Normalized.{norm};
+ghost use Rattle.snippet_suggest.specs.Rows.{AddsRow, IsLineRow, IsOtherRow, shown_number};
+
+use crate::glyphs::SuggestionGlyph;
+use crate::layout::SuggestionLayout;
+use crate::number::number_text;
+use snippet_style::{ElementStyle, StyledBuffer};
+use snippet_text::{normalized, str_width};
+use std::alloc::{AllocError, Global};
+
+/// Draws a line as it will be, below all that stands in the grid, and gives the row's number.
+///
+/// ```text
+///     1 ~ let x = 1;
+/// ```
+///
+/// # Errors
+///
+/// There is no memory for the row or its texts.
+pub(crate) fn draw_line(
+    alloc: Global,
+    buffer: &mut StyledBuffer,
+    layout: SuggestionLayout,
+    glyph: SuggestionGlyph,
+    number: usize,
+    line: &str,
+) -> Result<usize, AllocError>
+    requires narrow { layout.gutter < 2 ^ 32 }
+    ensures added { length (shown_number layout.numbered layout.gutter number) ≤ layout.gutter + 1
+        → OnOk result (AddsRow (IsLineRow layout.gutter (norm (chars line.now))) buffer.old buffer.new) }
+    ensures row { IfOk result (λ row. row ≡ length buffer.old) }
+{
+    let row = buffer.num_lines();
+    let sign = glyph.text(layout.decor);
+    buffer.puts(row, layout.gutter + 1, sign, glyph.role())?;
+    let number = number_text(alloc, layout.numbered, layout.gutter, number)?;
+    buffer.puts(row, 0, number.as_str(), ElementStyle::LineNumber)?;
+    let text = normalized(alloc, line)?;
+    buffer.puts(row, layout.gutter + 3, text.as_str(), ElementStyle::NoStyle)?;
+    Ok(row)
+}
+
+/// Draws a line that is removed, in this row.
+///
+/// ```text
+///     1 - let x = 1;
+/// ```
+///
+/// # Errors
+///
+/// There is no memory for the row or its texts.
+pub(crate) fn draw_removed_line(
+    alloc: Global,
+    buffer: &mut StyledBuffer,
+    layout: SuggestionLayout,
+    row: usize,
+    number: usize,
+    line: &str,
+    role: ElementStyle,
+) -> Result<(), AllocError>
+    requires narrow { layout.gutter < 2 ^ 32 }
+    requires row { row + 1 < 2 ^ 64 }
+    ensures added { row ≡ length buffer.old → OnOk result (AddsRow (IsOtherRow layout.gutter) buffer.old buffer.new) }
+{
+    let number = number_text(alloc, layout.numbered, layout.gutter, number)?;
+    buffer.puts(row, 0, number.as_str(), ElementStyle::LineNumber)?;
+    buffer.puts(row, layout.gutter + 1, "- ", ElementStyle::Removal)?;
+    let text = normalized(alloc, line)?;
+    buffer.puts(row, layout.gutter + 3, text.as_str(), role)?;
+    Ok(())
+}
+
+/// Draws the placeholder for lines that are left out, below all that stands in the grid, right-aligned in the gutter.
+///
+/// ```text
+///   ...
+/// ```
+///
+/// # Errors
+///
+/// There is no memory for the row.
+pub(crate) fn draw_gap(
+    buffer: &mut StyledBuffer,
+    layout: SuggestionLayout,
+) -> Result<(), AllocError>
+    requires narrow { layout.gutter < 2 ^ 32 }
+    ensures added { OnOk result (AddsRow (IsOtherRow layout.gutter) buffer.old buffer.new) }
+{
+    let row = buffer.num_lines();
+    let placeholder = layout.decor.placeholder();
+    let cell = layout.gutter.saturating_sub(str_width(placeholder));
+    buffer.puts(row, cell, placeholder, ElementStyle::LineNumber)?;
+    Ok(())
+}

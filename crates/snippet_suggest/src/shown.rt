@@ -1,0 +1,76 @@
+//! Which lines of the spliced text are shown.
+ghost use Rattle.std.specs.Prelude.{◌≡◌, ℕ, ◌++◌, ◌<◌, ◌≤◌, true, Contains, IfOk, OnOk};
+ghost use Rattle.snippet_suggest.specs.Shown as spec;
+ghost use Rattle.snippet_suggest.specs.Shown.{AreRising, numbers_shown, shown_run};
+
+use snippet_splice::LineRange;
+use std::alloc::{AllocError, Global};
+
+/// A row of the lines that are shown.
+#[derive(Clone, Copy, Debug, PartialEq, Eq)]
+pub enum ShownLine {
+    /// The line of this number, from 0.
+    Line(usize),
+    /// The placeholder for lines that are left out.
+    Gap,
+}
+
+/// The lines that are shown of a text of `count` lines, on which these ranges are touched: folded not those behind the
+/// last touched one, and of more than three untouched ones between two touched the first and the last alone.
+pub(crate) fn shown_lines(
+    alloc: Global,
+    count: usize,
+    ranges: &[LineRange],
+    fold: bool,
+) -> Result<Vec<ShownLine>, AllocError>
+    ensures value { IfOk result (λ shown. shown.items ≡ spec.shown_lines (spec.is_touched fold ranges.now) count) }
+    // Each line at most once, and one below the other.
+    ensures rising { IfOk result (λ shown. AreRising 0 count (numbers_shown shown.items)) }
+    // Each touched line, all where lines aren't folded.
+    ensures touched { IfOk result (λ shown. (k : ℕ) → k < count → spec.is_touched fold ranges.now k ≡ true
+        → Contains (numbers_shown shown.items) k) }
+{
+    let mut shown = Vec::new(alloc);
+    let mut behind = 0;
+    for line in 0..count {
+        if is_touched(fold, ranges, line) {
+            push_run(&mut shown, behind, line)?;
+            shown.push(ShownLine::Line(line))?;
+            behind = line + 1;
+        }
+    }
+    Ok(shown)
+}
+
+/// Whether a line is shown by itself: one of the ranges holds it, or lines aren't folded.
+pub(crate) fn is_touched(fold: bool, ranges: &[LineRange], line: usize) -> bool
+    ensures value { result ≡ spec.is_touched fold ranges.now line }
+{
+    !fold || is_held(ranges, line)
+}
+
+/// Whether one of the ranges holds a line.
+fn is_held(ranges: &[LineRange], line: usize) -> bool
+    ensures value { result ≡ spec.is_held ranges.now line }
+{
+    ranges
+        .iter()
+        .any(|range| range.first <= line && line <= range.last)
+}
+
+/// Adds what is shown of the untouched lines from `from` to before `to`.
+fn push_run(shown: &mut Vec<ShownLine>, from: usize, to: usize) -> Result<(), AllocError>
+    requires ordered { from ≤ to }
+    ensures added { OnOk result (shown.new.items ≡ shown.old.items ++ shown_run from to) }
+{
+    if to - from > 3 {
+        shown.push(ShownLine::Line(from))?;
+        shown.push(ShownLine::Gap)?;
+        shown.push(ShownLine::Line(to - 1))?;
+        return Ok(());
+    }
+    for line in from..to {
+        shown.push(ShownLine::Line(line))?;
+    }
+    Ok(())
+}
