@@ -1,6 +1,6 @@
 //! Reports of builder calls: two calls under two sheets, and what refusals say.
 ghost use Rattle.std.specs.Prelude.{IfOk};
-ghost use Rattle.snippet_model.specs.Fits.{AnnotationFits, GroupFits, SnippetFits};
+ghost use Rattle.snippet_model.specs.Fits.{AnnotationFits, GroupFits, PatchFits, SnippetFits};
 
 use annotate_snippets::level::ERROR;
 use annotate_snippets::renderer::RenderError;

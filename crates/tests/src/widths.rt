@@ -1,9 +1,11 @@
 //! Reports of narrow renderers: each is drawn at every width, and says the same wherever there is room.
-ghost use Rattle.std.specs.Prelude.{◌≡◌, ◌^◌, ◌<◌, IfSome, length, true};
+ghost use Rattle.std.specs.Prelude.{◌≡◌, ◌^◌, ◌<◌, IfOk, IfSome, length, true};
+ghost use Rattle.snippet_model.specs.Fits.{GroupFits};
 
 use annotate_snippets::level::ERROR;
+use annotate_snippets::renderer::RenderError;
 use annotate_snippets::text::text_fits;
-use annotate_snippets::{AnnotationKind, Element, OptionCow, Renderer, Snippet};
+use annotate_snippets::{AnnotationKind, Element, Group, OptionCow, Renderer, Snippet};
 use std::alloc::Global;
 use std::test::Fail;
 
@@ -191,7 +193,7 @@ fn rows() -> [Case; 17] {
 
 /// Whether a label fits, if there is one.
 fn label_fits(label: Option<&str>) -> bool
-    ensures fits { result ≡ true → IfSome label (λ t. length t.now < 2 ^ 56) }
+    ensures fits { result ≡ true → IfSome label.entry (λ t. length t.now < 2 ^ 56) }
 {
     match label {
         Some(label) => text_fits(label),
@@ -199,8 +201,10 @@ fn label_fits(label: Option<&str>) -> bool
     }
 }
 
-/// The text of a report in a width; fails where a text is too long, or the report is refused.
-fn drawn(alloc: Global, case: Case, width: usize) -> Result<String, Fail> {
+/// A case's group; fails where a text is too long.
+fn built(alloc: Global, case: &Case) -> Result<Group<'static>, Fail>
+    ensures fits { IfOk result GroupFits }
+{
     let (source, label) = (case.source, case.label);
     if !text_fits(source) || !label_fits(label) {
         return Err(Fail::new("a text that is too long"));
@@ -214,7 +218,14 @@ fn drawn(alloc: Global, case: Case, width: usize) -> Result<String, Fail> {
     let group = ERROR
         .primary_title("e")
         .element(alloc, Element::from(snippet))?;
-    Ok(Renderer::plain().term_width(width).render(alloc, &[group])?)
+    Ok(group)
+}
+
+/// The text of a report of one group, in a width.
+fn drawn(alloc: Global, group: Group<'_>, width: usize) -> Result<String, RenderError>
+    requires fits { GroupFits group }
+{
+    Renderer::plain().term_width(width).render(alloc, &[group])
 }
 
 #[test]
@@ -222,7 +233,7 @@ fn every_width_draws(rt: HostRuntime) -> Result<(), Fail> {
     let alloc = rt.alloc();
     for row in &rows() {
         for width in 0..WIDEST + 1 {
-            let text = drawn(alloc, *row, width)?;
+            let text = drawn(alloc, built(alloc, row)?, width)?;
             assert!(rt; text.as_str().starts_with("error: e\n  |\n"));
             if row.widths.0 <= width && width <= row.widths.1 {
                 assert_eq!(rt; text.as_str(), row.text);
