@@ -120,7 +120,7 @@ fn says_why_a_report_is_refused(rt: HostRuntime) -> Result<(), Fail> {
 }
 
 /// What a report of one suggestion is refused for.
-fn refusal_of(alloc: Global, snippet: Snippet<'_, Patch<'_>>) -> Result<String, Fail>
+fn refusal_of<'a>(alloc: Global, snippet: Snippet<'a, Patch<'a>>) -> Result<String, Fail>
     requires fits { SnippetFits PatchFits snippet }
 {
     let group = ERROR
