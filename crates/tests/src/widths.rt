@@ -3,195 +3,372 @@ ghost use Rattle.std.specs.Prelude.{◌≡◌, ◌^◌, ◌<◌, IfOk, IfSome, l
 ghost use Rattle.snippet_model.specs.Fits.{GroupFits};
 
 use annotate_snippets::level::ERROR;
-use annotate_snippets::renderer::RenderError;
+use annotate_snippets::renderer::{DecorStyle, RenderError};
 use annotate_snippets::text::text_fits;
 use annotate_snippets::{AnnotationKind, Element, Group, OptionCow, Renderer, Snippet};
 use std::alloc::Global;
 use std::test::Fail;
 
-/// A span: its kind, the byte at which it starts, and the one before which it ends.
-type Span = (AnnotationKind, usize, usize);
+/// A span: its kind, the byte at which it starts, the one before which it ends, and its label.
+type Span = (AnnotationKind, usize, usize, Option<&'static str>);
 
-/// A source with two spans, and what is drawn of it in the widths that have room for this.
+/// A report of three spans, and what is drawn of it in the widths that have room for this.
 #[derive(Clone, Copy)]
 struct Case {
+    /// The title.
+    title: &'static str,
     /// The source.
     source: &'static str,
-    /// The first span.
-    first: Span,
-    /// Its label, if it has one.
-    label: Option<&'static str>,
-    /// The second one.
-    second: Span,
+    /// The number of its first line.
+    line_start: usize,
+    /// Whether lines far from any span are left out.
+    fold: bool,
+    /// The strokes.
+    decor: DecorStyle,
+    /// The spans.
+    spans: (Span, Span, Span),
     /// The widths, from the least to the greatest.
     widths: (usize, usize),
     /// The text.
     text: &'static str,
 }
 
-/// A case of one primary span; the second one keeps the line on which it starts, which is kept anyhow.
-fn row(
-    source: &'static str,
-    start: usize,
-    end: usize,
-    label: Option<&'static str>,
-    widths: (usize, usize),
-    text: &'static str,
-) -> Case {
-    Case {
-        source,
-        first: (AnnotationKind::Primary, start, end),
-        label,
-        second: (AnnotationKind::Visible, start, start),
-        widths,
-        text,
-    }
-}
-
-/// A case of a primary span and another one.
-fn two(
-    source: &'static str,
-    first: (usize, usize),
-    second: Span,
-    widths: (usize, usize),
-    text: &'static str,
-) -> Case {
-    Case {
-        source,
-        first: (AnnotationKind::Primary, first.0, first.1),
-        label: None,
-        second,
-        widths,
-        text,
-    }
-}
-
-/// The greatest width that rows are drawn in.
+/// The greatest width that reports are drawn in.
 const WIDEST: usize = 40;
 
-fn rows() -> [Case; 17] {
+/// A primary span.
+fn primary(start: usize, end: usize) -> Span {
+    (AnnotationKind::Primary, start, end, None)
+}
+
+/// A span for context.
+fn context(start: usize, end: usize) -> Span {
+    (AnnotationKind::Context, start, end, None)
+}
+
+/// A span with a label.
+fn labelled(span: Span, label: &'static str) -> Span {
+    (span.0, span.1, span.2, Some(label))
+}
+
+/// A span that marks nothing, and keeps the line on which another one starts, which is kept anyhow.
+fn beside(span: Span) -> Span {
+    (AnnotationKind::Visible, span.1, span.1, None)
+}
+
+/// A case of one span, from a least width on.
+fn row(source: &'static str, span: Span, from: usize, text: &'static str) -> Case {
+    two(source, span, beside(span), from, text)
+}
+
+/// A case of two spans.
+fn two(source: &'static str, first: Span, second: Span, from: usize, text: &'static str) -> Case {
+    Case {
+        title: "e",
+        source,
+        line_start: 1,
+        fold: true,
+        decor: DecorStyle::Ascii,
+        spans: (first, second, beside(first)),
+        widths: (from, WIDEST),
+        text,
+    }
+}
+
+/// The same case in Unicode strokes.
+fn unicode(case: Case) -> Case {
+    Case {
+        decor: DecorStyle::Unicode,
+        ..case
+    }
+}
+
+/// The same case in one width alone.
+fn only_in(width: usize, case: Case) -> Case {
+    Case {
+        widths: (width, width),
+        ..case
+    }
+}
+
+/// Thirty columns, `T`, and twenty-nine.
+const LONG: &str = "aaaaaaaaaaaaaaaaaaaaaaaaaaaaaaTaaaaaaaaaaaaaaaaaaaaaaaaaaaaa";
+
+/// Forty columns.
+const FORTY: &str = "aaaaaaaaaaaaaaaaaaaaaaaaaaaaaaaaaaaaaaaa";
+
+/// Lines of one span.
+fn single_lines() -> [Case; 15] {
     [
         row(
             "let x = 1;",
-            4,
-            5,
-            Some("here"),
-            (14, WIDEST),
+            labelled(primary(4, 5), "here"),
+            14,
             "error: e\n  |\n1 | let x = 1;\n  |     ^ here",
+        ),
+        unicode(row(
+            "let x = 1;",
+            labelled(primary(4, 5), "here"),
+            14,
+            "error: e\n  ╭▸ \n1 │ let x = 1;\n  ╰╴    ━ here",
+        )),
+        row("ab", primary(2, 3), 6, "error: e\n  |\n1 | ab\n  |   ^"),
+        row("", primary(0, 0), 0, "error: e\n  |\n1 |\n  | ^"),
+        only_in(
+            0,
+            row("ab", primary(0, 1), 0, "error: e\n  |\n1 | ab\n  | ^"),
+        ),
+        row("日本", primary(3, 6), 8, "error: e\n  |\n1 | 日本\n  |   ^^"),
+        row(
+            "\tx",
+            primary(1, 2),
+            9,
+            "error: e\n  |\n1 |     x\n  |     ^",
+        ),
+        row("a\r\nb", primary(3, 4), 5, "error: e\n  |\n2 | b\n  | ^"),
+        row(
+            "a\u{200d}b",
+            primary(4, 5),
+            6,
+            "error: e\n  |\n1 | ab\n  |  ^",
+        ),
+        row(
+            "e\u{301}x",
+            primary(1, 3),
+            6,
+            "error: e\n  |\n1 | e\u{301}x\n  |  ^",
+        ),
+        row(
+            "a\u{1b}b",
+            primary(1, 2),
+            7,
+            "error: e\n  |\n1 | a␛b\n  |  ^",
         ),
         row(
             "ab",
-            2,
-            3,
-            None,
-            (6, WIDEST),
-            "error: e\n  |\n1 | ab\n  |   ^",
-        ),
-        row("", 0, 0, None, (0, WIDEST), "error: e\n  |\n1 |\n  | ^"),
-        row("ab", 0, 1, None, (0, 0), "error: e\n  |\n1 | ab\n  | ^"),
-        row(
-            "日本",
-            3,
+            labelled(primary(0, 1), "\u{1b}[31mx"),
             6,
-            None,
-            (8, WIDEST),
-            "error: e\n  |\n1 | 日本\n  |   ^^",
+            "error: e\n  |\n1 | ab\n  | ^ ␛[31mx",
         ),
         row(
-            "\tx",
-            1,
-            2,
-            None,
-            (9, WIDEST),
-            "error: e\n  |\n1 |     x\n  |     ^",
+            "ab",
+            labelled(primary(0, 1), "\u{200d}"),
+            6,
+            "error: e\n  |\n1 | ab\n  | ^",
+        ),
+        Case {
+            title: "a\nb",
+            ..row(
+                "ab",
+                primary(0, 1),
+                6,
+                "error: a\n       b\n  |\n1 | ab\n  | ^",
+            )
+        },
+        Case {
+            line_start: usize::MAX - 1,
+            ..row(
+                "a",
+                primary(0, 1),
+                24,
+                "error: e\n                     |\n18446744073709551614 | a\n                     | ^",
+            )
+        },
+    ]
+}
+
+/// Lines of several spans, and several lines of one each.
+fn several_spans() -> [Case; 10] {
+    let a = labelled(context(0, 2), "a");
+    let c = labelled(primary(3, 5), "c");
+    [
+        two(
+            "ab\ncd",
+            primary(0, 1),
+            context(3, 5),
+            6,
+            "error: e\n  |\n1 | ab\n  | ^\n2 | cd\n  | --",
         ),
         two(
             "abcdef",
-            (2, 4),
-            (AnnotationKind::Context, 0, 6),
-            (10, WIDEST),
+            primary(2, 4),
+            context(0, 6),
+            10,
             "error: e\n  |\n1 | abcdef\n  | --^^--",
         ),
-        row(
-            "aaaaaaaaaaaaaaaaaaaaaaaaaaaaaaTaaaaaaaaaaaaaaaaaaaaaaaaaaaaa",
-            30,
-            31,
-            None,
-            (20, 20),
-            "error: e\n  |\n1 | ...aaaaTaaaaa...\n  |        ^",
-        ),
-        row(
-            "aaaaaaaaaaaaaaaaaaaaaaaaaaaaaaaaaaaaaaaa",
-            0,
-            40,
-            None,
-            (20, 20),
-            "error: e\n  |\n1 | aaaaa...aaaaa\n  | ^^^^^...^^^^^",
-        ),
-        row(
-            "日日日日日日日日日日日日日日日Taaaaaaaaaaaaaaaaaaaaaaaaaaaaa",
-            45,
-            46,
-            None,
-            (20, 20),
-            "error: e\n  |\n1 | ... 日Taaaaaa...\n  |       ^",
-        ),
-        row(
-            "a {\n b\n}",
-            0,
+        two(
+            "abcd",
+            context(0, 2),
+            primary(0, 2),
             8,
-            None,
-            (9, WIDEST),
-            "error: e\n  |\n1 | / a {\n2 | |  b\n3 | | }\n  | |_^",
+            "error: e\n  |\n1 | abcd\n  | ^^",
         ),
-        row(
-            "f(a,\n b)",
-            1,
+        two(
+            "abcd",
+            primary(0, 2),
+            context(0, 2),
             8,
-            Some("x"),
-            (10, WIDEST),
-            "error: e\n  |\n1 |   f(a,\n  |  __^\n2 | |  b)\n  | |___^ x",
+            "error: e\n  |\n1 | abcd\n  | ^^",
+        ),
+        two(
+            "ab cd",
+            a,
+            c,
+            9,
+            "error: e\n  |\n1 | ab cd\n  | -- ^^ c\n  | |\n  | a",
+        ),
+        unicode(two(
+            "ab cd",
+            a,
+            c,
+            9,
+            "error: e\n  ╭▸ \n1 │ ab cd\n  │ ┬─ ━━ c\n  │ │\n  ╰╴a",
+        )),
+        two(
+            "abcdef",
+            labelled(context(0, 6), "f"),
+            labelled(primary(2, 4), "x"),
+            10,
+            "error: e\n  |\n1 | abcdef\n  | --^^--\n  | | |\n  | | x\n  | f",
         ),
         two(
             "a\nb\nc\nd",
-            (0, 1),
-            (AnnotationKind::Context, 6, 7),
-            (5, WIDEST),
+            primary(0, 1),
+            context(6, 7),
+            5,
             "error: e\n  |\n1 | a\n  | ^\n...\n4 | d\n  | -",
         ),
         two(
             "a\nb\nc",
-            (0, 1),
-            (AnnotationKind::Context, 4, 5),
-            (5, WIDEST),
+            primary(0, 1),
+            context(4, 5),
+            5,
             "error: e\n  |\n1 | a\n  | ^\n2 | b\n3 | c\n  | -",
         ),
         two(
             "a\nb",
-            (0, 1),
-            (AnnotationKind::Visible, 2, 3),
-            (5, WIDEST),
+            primary(0, 1),
+            (AnnotationKind::Visible, 2, 3, None),
+            5,
             "error: e\n  |\n1 | a\n  | ^\n2 | b\n  |",
-        ),
-        two(
-            "a\nb",
-            (0, 3),
-            (AnnotationKind::Context, 0, 3),
-            (7, WIDEST),
-            "error: e\n  |\n1 | / a\n2 | | b\n  | |_^",
-        ),
-        row(
-            "a\na\na\na\na\na\na\na\na\nb",
-            16,
-            18,
-            None,
-            (7, WIDEST),
-            "error: e\n  |\n9 | / a\n10| | b\n  | |_^",
         ),
     ]
 }
 
-/// Whether a label fits, if there is one.
+/// Lines that are cut.
+fn windows() -> [Case; 5] {
+    [
+        only_in(
+            20,
+            row(
+                LONG,
+                primary(30, 31),
+                0,
+                "error: e\n  |\n1 | ...aaaaTaaaaa...\n  |        ^",
+            ),
+        ),
+        only_in(
+            20,
+            unicode(row(
+                LONG,
+                primary(30, 31),
+                0,
+                "error: e\n  ╭▸ \n1 │ …aaaaaaTaaaaaaa…\n  ╰╴       ━",
+            )),
+        ),
+        only_in(
+            20,
+            row(
+                FORTY,
+                primary(0, 40),
+                0,
+                "error: e\n  |\n1 | aaaaa...aaaaa\n  | ^^^^^...^^^^^",
+            ),
+        ),
+        only_in(
+            20,
+            row(
+                "日日日日日日日日日日日日日日日Taaaaaaaaaaaaaaaaaaaaaaaaaaaaa",
+                primary(45, 46),
+                0,
+                "error: e\n  |\n1 | ... 日Taaaaaa...\n  |       ^",
+            ),
+        ),
+        row(
+            "                              x = 1;",
+            primary(30, 31),
+            32,
+            "error: e\n  |\n1 | ...                   x = 1;\n  |                       ^",
+        ),
+    ]
+}
+
+/// Spans of several lines.
+fn blocks() -> [Case; 8] {
+    let whole = primary(0, 3);
+    [
+        row(
+            "a {\n b\n}",
+            primary(0, 8),
+            9,
+            "error: e\n  |\n1 | / a {\n2 | |  b\n3 | | }\n  | |_^",
+        ),
+        unicode(row(
+            "a {\n b\n}",
+            primary(0, 8),
+            9,
+            "error: e\n  ╭▸ \n1 │ ┏ a {\n2 │ ┃  b\n3 │ ┃ }\n  ╰╴┗━┛",
+        )),
+        row(
+            "f(a,\n b)",
+            labelled(primary(1, 8), "x"),
+            10,
+            "error: e\n  |\n1 |   f(a,\n  |  __^\n2 | |  b)\n  | |___^ x",
+        ),
+        two(
+            "a\nb",
+            whole,
+            context(0, 3),
+            7,
+            "error: e\n  |\n1 | / a\n2 | | b\n  | |_^",
+        ),
+        row(
+            "a\na\na\na\na\na\na\na\na\nb",
+            primary(16, 18),
+            7,
+            "error: e\n  |\n9 | / a\n10| | b\n  | |_^",
+        ),
+        Case {
+            fold: false,
+            ..row(
+                "a\nb\nc\nd",
+                primary(0, 1),
+                5,
+                "error: e\n  |\n1 | a\n  | ^\n2 | b\n3 | c\n4 | d\n  |",
+            )
+        },
+        Case {
+            spans: (whole, context(4, 7), primary(6, 9)),
+            ..row(
+                "a\nb\nc\nd\ne",
+                whole,
+                8,
+                "error: e\n  |\n1 |  / a\n2 |  | b\n  |  |_^\n3 | /  c\n4 | |  d\n  | |__^\n  |   _|\n  |  |\n5 |  | e\n  |  |_^",
+            )
+        },
+        Case {
+            line_start: usize::MAX - 2,
+            ..row(
+                "a\nb",
+                whole,
+                26,
+                "error: e\n                     |\n18446744073709551613 | / a\n18446744073709551614 | | b\n                     | |_^",
+            )
+        },
+    ]
+}
+
+/// Whether the label of a span fits, if it has one.
 fn label_fits(label: Option<&str>) -> bool
     ensures fits { result ≡ true → IfSome label.entry (λ t. length t.now < 2 ^ 56) }
 {
@@ -205,40 +382,78 @@ fn label_fits(label: Option<&str>) -> bool
 fn built(alloc: Global, case: &Case) -> Result<Group<'static>, Fail>
     ensures fits { IfOk result GroupFits }
 {
-    let (source, label) = (case.source, case.label);
-    if !text_fits(source) || !label_fits(label) {
+    let (title, source) = (case.title, case.source);
+    let (first, second, third) = case.spans;
+    let (one, other, last) = (first.3, second.3, third.3);
+    if !text_fits(title) || !text_fits(source) {
         return Err(Fail::new("a text that is too long"));
     }
-    let (kind, start, end) = case.first;
-    let (second, from, to) = case.second;
-    let first = kind.span(start..end).label(OptionCow::from(label));
+    if !label_fits(one) || !label_fits(other) || !label_fits(last) {
+        return Err(Fail::new("a label that is too long"));
+    }
     let snippet = Snippet::source(alloc, source)
-        .annotation(first)?
-        .annotation(second.span(from..to))?;
+        .line_start(case.line_start)
+        .fold(case.fold)
+        .annotation(first.0.span(first.1..first.2).label(OptionCow::from(one)))?
+        .annotation(
+            second
+                .0
+                .span(second.1..second.2)
+                .label(OptionCow::from(other)),
+        )?
+        .annotation(third.0.span(third.1..third.2).label(OptionCow::from(last)))?;
     let group = ERROR
-        .primary_title("e")
+        .primary_title(title)
         .element(alloc, Element::from(snippet))?;
     Ok(group)
 }
 
 /// The text of a report of one group, in a width.
-fn drawn(alloc: Global, group: Group<'_>, width: usize) -> Result<String, RenderError>
+fn drawn(
+    alloc: Global,
+    group: Group<'_>,
+    decor: DecorStyle,
+    width: usize,
+) -> Result<String, RenderError>
     requires fits { GroupFits group }
 {
-    Renderer::plain().term_width(width).render(alloc, &[group])
+    Renderer::plain()
+        .decor_style(decor)
+        .term_width(width)
+        .render(alloc, &[group])
 }
 
-#[test]
-fn every_width_draws(rt: HostRuntime) -> Result<(), Fail> {
-    let alloc = rt.alloc();
-    for row in &rows() {
+/// Draws cases in every width; fails where one is refused, or says something else where there is room.
+fn draws(alloc: Global, cases: &[Case]) -> Result<(), Fail> {
+    for case in cases {
         for width in 0..WIDEST + 1 {
-            let text = drawn(alloc, built(alloc, row)?, width)?;
-            assert!(rt; text.as_str().starts_with("error: e\n  |\n"));
-            if row.widths.0 <= width && width <= row.widths.1 {
-                assert_eq!(rt; text.as_str(), row.text);
+            let group = built(alloc, case)?;
+            let text = drawn(alloc, group, case.decor, width)?;
+            let has_room = case.widths.0 <= width && width <= case.widths.1;
+            if has_room && text.as_str() != case.text {
+                return Err(Fail::new("another text where there is room"));
             }
         }
     }
     Ok(())
+}
+
+#[test]
+fn single_lines_at_every_width(rt: HostRuntime) -> Result<(), Fail> {
+    draws(rt.alloc(), &single_lines())
+}
+
+#[test]
+fn several_spans_at_every_width(rt: HostRuntime) -> Result<(), Fail> {
+    draws(rt.alloc(), &several_spans())
+}
+
+#[test]
+fn windows_at_every_width(rt: HostRuntime) -> Result<(), Fail> {
+    draws(rt.alloc(), &windows())
+}
+
+#[test]
+fn blocks_at_every_width(rt: HostRuntime) -> Result<(), Fail> {
+    draws(rt.alloc(), &blocks())
 }
