@@ -25,8 +25,8 @@ use Rattle.snippet_parts.specs.Marked.{first_line, last_line}
 use Rattle.snippet_lines.proofs.LinesLemmas.{joined-source_lines, AreLines-lines_of, split_at_line, length-source_lines}
 use Rattle.snippet_lines.proofs.CountLemmas.{newline_count-take}
 use Rattle.snippet_lines.proofs.PlaceLemmas.{HoldsByte-source, line_of-within}
-use Rattle.snippet_strokes.specs.Rows.{shown_number}
-use Rattle.snippet_strokes.proofs.NumberLemmas.{length-decimal_monotone, length-decimal_more, length-decimal_last}
+use Rattle.snippet_lines.specs.Number.{shown_number}
+use Rattle.snippet_lines.proofs.NumberLemmas.{length-decimal_monotone, length-decimal_more, length-decimal_last}
 use Rattle.annotate_snippets.specs.Drawn.{IsDrawable}
 use Rattle.annotate_snippets.specs.Gutter.{gutter_of, numbered_source}
 use Rattle.annotate_snippets.proofs.MarkLemmas.{from_any}

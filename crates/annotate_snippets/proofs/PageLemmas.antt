@@ -22,7 +22,9 @@ use Rattle.snippet_lines.specs.Lines.{source_lines}
 use Rattle.snippet_parts.specs.Margin.{bounds_of}
 use Rattle.snippet_parts.specs.Marked.{first_line, last_line}
 use Rattle.snippet_lines.specs.Span.{IsSpan}
-use Rattle.snippet_strokes.specs.Rows.{bare_elision_row, first_row, HasNoNumber, IsElisionRow, shown_number}
+use Rattle.snippet_lines.specs.Number.{shown_number}
+use Rattle.snippet_parts.specs.Rows.{HasNoNumber}
+use Rattle.snippet_strokes.specs.Rows.{bare_elision_row, first_row, IsElisionRow}
 use Rattle.snippet_strokes.specs.declared.layout.Layout.{Layout}
 use Rattle.snippet_strokes.specs.Snippet as strokes
 use Rattle.snippet_strokes.proofs.RowLemmas.{HasNoNumber-first_row}

@@ -1,5 +1,5 @@
 -- The text of a covered report shows it.
-use Rattle.snippet_strokes.specs.Painting.{IsFreeCell}
+use Rattle.snippet_parts.specs.Rows.{IsFreeCell}
 use Rattle.snippet_style.specs.Stylesheet.{is_plain_sheet}
 use Rattle.std.proofs.Common.{◌≡◌, ℕ, zero, suc, ◌+◌, ◌<◌, ◌≤◌, ◌==◌, ◌||◌, fold, Bool, true, false, not, List, [], ◌∷◌, ◌++◌, length, chars, take, get_or, Result, Ok, Err, refl, sym, ap, subst, ◌∙◌, arith, Option, None, Some, IfSome, encode_utf8_all, inl, inr}
 use Rattle.std.specs.List.{All, AllZip, Contains, flat_map}
@@ -32,7 +32,9 @@ use Rattle.snippet_titles.proofs.FreeLemmas.{IsFreeText}
 use Rattle.snippet_titles.proofs.LinkLemmas.{title_rows-links}
 use Rattle.snippet_parts.specs.declared.entries.AnnotatedLineInfo.{AnnotatedLineInfo}
 use Rattle.snippet_parts.specs.Annotated.{deepest}
-use Rattle.snippet_strokes.specs.Rows.{first_row, shown_number, IsFree}
+use Rattle.snippet_lines.specs.Number.{shown_number}
+use Rattle.snippet_parts.specs.Rows.{IsFree}
+use Rattle.snippet_strokes.specs.Rows.{first_row}
 use Rattle.snippet_strokes.proofs.SnippetLemmas.{free_from_AddsSnippet}
 use Rattle.annotate_snippets.specs.declared.renderer.Renderer.{Renderer}
 use Rattle.annotate_snippets.specs.Covered.{is_covered_title, is_covered_renderer, IsReportOf}

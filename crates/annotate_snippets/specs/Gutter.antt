@@ -11,7 +11,7 @@ use Rattle.std.specs.Cow.{cow_str_bytes}
 use Rattle.snippet_parts.specs.Annotated.{deepest}
 use Rattle.snippet_lines.specs.Lines.{Source}
 use Rattle.snippet_parts.specs.Prepare.{counted_number}
-use Rattle.snippet_strokes.specs.Rows.{shown_number, set_right}
+use Rattle.snippet_lines.specs.Number.{shown_number, set_right}
 use Rattle.annotate_snippets.specs.declared.renderer.Renderer.{Renderer}
 
 -- the width that an annotated snippet wants: that of the greatest line number counted, or 0 where lines aren't numbered

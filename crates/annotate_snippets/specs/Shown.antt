@@ -35,7 +35,8 @@ use Rattle.snippet_parts.specs.Window.{chars_at, stands_whole, IsWindowOf}
 use Rattle.snippet_titles.specs.Title.{id_chars, id_address, id_links}
 use Rattle.snippet_style.specs.Glyphs.{separator_of, closing_of, placeholder_of}
 use Rattle.snippet_strokes.specs.Entries.{IsMarkCell, IsRailCell, has_mark_role}
-use Rattle.snippet_strokes.specs.Rows.{first_row, HasNoNumber, IsElisionRow}
+use Rattle.snippet_parts.specs.Rows.{HasNoNumber}
+use Rattle.snippet_strokes.specs.Rows.{first_row, IsElisionRow}
 use Rattle.annotate_snippets.specs.declared.renderer.Renderer.{Renderer}
 use Rattle.annotate_snippets.specs.Gutter.{code_behind, depth_of_group, gutter_of_report, number_text, numbered_source}
 use Rattle.annotate_snippets.specs.Page.{RowName, SourceRow, Elision, Other, NamedRow, lines_named, names_in, names_of_lines, cells_below, GroupPage, Page, page_text, PrintsPage, IsAscending, page_links}

@@ -2,5 +2,6 @@ pub mod BoundsLemmas
 pub mod CountLemmas
 pub mod CursorLemmas
 pub mod LinesLemmas
+pub mod NumberLemmas
 pub mod OrderLemmas
 pub mod PlaceLemmas

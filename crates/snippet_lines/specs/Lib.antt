@@ -1,4 +1,5 @@
 pub mod Lines
+pub mod Number
 pub mod Order
 pub mod Place
 pub mod Span

@@ -4,10 +4,12 @@
 pub mod counts;
 pub mod line_bounds;
 pub mod lines;
+pub mod number;
 pub mod place;
 pub mod span;
 
 pub use counts::{line_feed_count, newline_count_before};
 pub use lines::{CursorLines, EndLine, newline_count};
+pub use number::{gutter_width, number_text};
 pub use place::Loc;
 pub use span::{SpanFault, check_span};

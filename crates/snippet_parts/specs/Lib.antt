@@ -13,6 +13,7 @@ pub mod Measures
 pub mod NearPart
 pub mod OnLine
 pub mod Prepare
+pub mod Rows
 pub mod Stretches
 pub mod Weak
 pub mod Window

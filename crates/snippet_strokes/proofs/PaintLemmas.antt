@@ -19,7 +19,8 @@ use Rattle.snippet_style.specs.Grid.{Cell, cell_at, row_at, unlinked_cell, Write
 use Rattle.snippet_text.specs.Normalized.{is_listed}
 use Rattle.snippet_strokes.specs.declared.layout.Layout.{Layout}
 use Rattle.snippet_strokes.specs.Entries.{EntryCovers, is_end_part, is_primary, is_single, IsMarkCell}
-use Rattle.snippet_strokes.specs.Painting.{IsFreeCell, IsPaintedAt, Paints, Painted, ShowsFrom, first_glyph, mark_cell, mark_end}
+use Rattle.snippet_parts.specs.Rows.{IsFreeCell}
+use Rattle.snippet_strokes.specs.Painting.{IsPaintedAt, Paints, Painted, ShowsFrom, first_glyph, mark_cell, mark_end}
 
 -- no cell is painted yet
 pub Paints-none : (rows : List (List Cell)) (row from : ℕ) (cell : ℕ → Cell) → Paints rows rows row from from cell

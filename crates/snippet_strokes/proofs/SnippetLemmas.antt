@@ -14,7 +14,7 @@ use Rattle.snippet_style.specs.declared.role.ElementStyle.TheVariants.{LineNumbe
 use Rattle.snippet_style.specs.Grid.{Cell, SPACE, gives_way, row_at, unlinked_cell}
 use Rattle.snippet_style.specs.Print.{row_text}
 use Rattle.snippet_text.specs.Normalized.{norm}
-use Rattle.snippet_strokes.specs.Painting.{IsFreeCell}
+use Rattle.snippet_parts.specs.Rows.{IsFreeCell}
 use Rattle.snippet_strokes.specs.declared.layout.Layout.{Layout}
 use Rattle.snippet_parts.specs.declared.margin.Margin.{Margin}
 use Rattle.snippet_parts.specs.Margin.{bounds_of}
@@ -27,7 +27,9 @@ use Rattle.snippet_strokes.specs.Rails.{AddsGap, DrawsBars}
 use Rattle.snippet_strokes.proofs.RailLemmas.{AddsStrokes-drawn, rail_space}
 use Rattle.snippet_strokes.proofs.CellLemmas.{row_text-window_cells}
 use Rattle.snippet_strokes.proofs.WholeLemmas.{window_cells-whole}
-use Rattle.snippet_strokes.specs.Rows.{window_cells, shown_number, first_row, HasNoNumber, IsFree, IsSourceRow, IsStrokeRow, HasNoBars, IsHighlighted, AddsSourceRow, AddsStrokes}
+use Rattle.snippet_lines.specs.Number.{shown_number}
+use Rattle.snippet_parts.specs.Rows.{HasNoNumber, IsFree}
+use Rattle.snippet_strokes.specs.Rows.{window_cells, first_row, IsSourceRow, IsStrokeRow, HasNoBars, IsHighlighted, AddsSourceRow, AddsStrokes}
 use Rattle.snippet_strokes.proofs.RowLemmas.{bare_row_left, free_first_row}
 use Rattle.snippet_strokes.specs.Snippet.{ShowsLine, AreLinesShown, AddsLine, AddsSnippet, IsGap}
 

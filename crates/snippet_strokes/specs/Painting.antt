@@ -1,20 +1,16 @@
 -- How the strokes of a line are drawn, one over another.
-use Rattle.std.specs.Prelude.{◌≡◌, ◌≢◌, ℕ, ◌+◌, ◌<◌, ◌≤◌, ◌==◌, ◌&&◌, ◌||◌, max, Bool, false, true, List, [], ◌∷◌, All, None, IsPermutation, drop, length, map, slice_index_or, if◌then◌else◌}
+use Rattle.std.specs.Prelude.{◌≡◌, ◌≢◌, ℕ, ◌+◌, ◌<◌, ◌≤◌, ◌==◌, ◌&&◌, ◌||◌, max, Bool, false, true, List, [], ◌∷◌, All, IsPermutation, drop, length, map, slice_index_or, if◌then◌else◌}
 use Rattle.snippet_parts.specs.declared.entries.LineAnnotation.{LineAnnotation}
 use Rattle.snippet_parts.specs.declared.entries.LineAnnotationType.{LineAnnotationType}
 use Rattle.snippet_parts.specs.declared.entries.LineAnnotationType.TheVariants.{Singleline, MultilineStart, MultilineEnd, MultilineLine}
 use Rattle.snippet_style.specs.declared.glyphs.DecorStyle.{DecorStyle}
 use Rattle.snippet_style.specs.Glyphs.{glyph_of, underline_role}
 use Rattle.snippet_style.specs.Grid.{Cell, cell_at, row_at, unlinked_cell}
-use Rattle.snippet_text.specs.Normalized.{is_listed}
 use Rattle.snippet_strokes.specs.declared.layout.Layout.{Layout}
+use Rattle.snippet_parts.specs.Rows.{IsFreeCell}
 use Rattle.snippet_strokes.specs.declared.positions.PlacedEntry.{PlacedEntry}
 use Rattle.snippet_strokes.specs.Entries.{IsRailCell, entry_width, is_primary, has_mark_role}
 use Rattle.snippet_strokes.specs.Positions.{has_label, has_stem, takes_space}
-
--- a cell that holds no listed character and belongs to no link
-abbrev pub IsFreeCell : Cell → Type 0
-IsFreeCell cell = (is_listed cell.ch ≡ false) × (cell.link ≡ None)
 
 -- something was drawn: only in rows from `row` on, in cells from `from` on, and no listed character and no link came into a row
 pub record DrawsFrom (row from : ℕ) (old new : List (List Cell)) : Type 0 where

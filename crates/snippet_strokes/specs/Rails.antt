@@ -14,7 +14,8 @@ use Rattle.snippet_strokes.specs.declared.rails.OpenBar.{OpenBar}
 use Rattle.snippet_strokes.specs.declared.rails.RailStroke.{RailStroke}
 use Rattle.snippet_strokes.specs.declared.rails.RailStroke.TheVariants.{Top, Solid, Dotted}
 use Rattle.snippet_strokes.specs.Entries.{IsRailCell, is_primary}
-use Rattle.snippet_strokes.specs.Rows.{IsElisionRow, IsFree}
+use Rattle.snippet_parts.specs.Rows.{IsFree}
+use Rattle.snippet_strokes.specs.Rows.{IsElisionRow}
 use Rattle.snippet_strokes.specs.Snippet.{IsGap}
 use Rattle.snippet_parts.specs.declared.entries.AnnotatedLineInfo.{AnnotatedLineInfo}
 

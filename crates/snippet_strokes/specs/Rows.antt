@@ -1,7 +1,5 @@
 -- The rows of a line that is shown: its source row, and the rows of its strokes below it.
 use Rattle.std.specs.Prelude.{◌≡◌, ℕ, ◌≢◌, ◌+◌, ◌-◌, ◌<◌, ◌≤◌, ◌==◌, ◌&&◌, nat_le, nat_lt, Bool, true, false, Option, None, Some, List, [], ◌∷◌, ◌++◌, All, length, take, drop, replicate, if◌then◌else◌}
-use Rattle.std.specs.Char.{is_ascii_alphanumeric}
-use Rattle.std.specs.Fmt.{decimal}
 use Rattle.std.specs.List.{slice_index_or, list_any}
 use Rattle.snippet_model.specs.declared.snippet.AnnotationKind.{AnnotationKind}
 use Rattle.snippet_parts.specs.declared.entries.LineAnnotation.{LineAnnotation}
@@ -17,16 +15,8 @@ use Rattle.snippet_style.specs.Print.{row_text}
 use Rattle.snippet_style.specs.Grid.{Cell, SPACE, drawn, written, unlinked_cell, row_at, cell_at, gives_way, restyled}
 use Rattle.snippet_strokes.specs.declared.layout.Layout.{Layout}
 use Rattle.snippet_strokes.specs.Entries.{EntryCovers, is_primary, IsEntryMark, IsMarkCell, IsRailCell, are_plain, has_mark_role, label_text, label_role, wide_entries}
-use Rattle.snippet_strokes.specs.Painting.{IsFreeCell, StandsFrom}
-
--- these digits at the right end of a field of this width, filled up with spaces
-abbrev pub set_right : ℕ → List ℕ → List ℕ
-set_right width digits = replicate (width - length digits) 32 ++ digits
-
--- what stands in the gutter beside a line: its number, or spaces where lines aren't numbered
-abbrev pub shown_number : Bool → ℕ → ℕ → List ℕ
-shown_number true gutter number = set_right gutter (decimal number)
-shown_number false gutter number = replicate gutter 32
+use Rattle.snippet_parts.specs.Rows.{IsFree}
+use Rattle.snippet_strokes.specs.Painting.{StandsFrom}
 
 -- the row that sets a snippet off: the separator at cell gutter + 1, and nothing else
 abbrev pub separator_row : DecorStyle → ℕ → List Cell
@@ -46,15 +36,6 @@ bare_row decor gutter false = separator_row decor gutter
 abbrev pub first_row : DecorStyle → Bool → ℕ → List Cell
 first_row Ascii first gutter = separator_row Ascii gutter
 first_row Unicode first gutter = replicate gutter SPACE ++ drawn LineNumber (file_start_of Unicode first)
-
--- no cell up to the separator holds an ASCII letter or digit, so the row can't be taken for a line's source row
-abbrev pub HasNoNumber : ℕ → List Cell → Type 0
-HasNoNumber gutter row = (c : ℕ) → c ≤ gutter → is_ascii_alphanumeric (slice_index_or row c SPACE).ch ≡ false
-
--- no cell of the row holds a listed character, which could change how a terminal shows the text around it, and none
--- belongs to a link
-abbrev pub IsFree : List Cell → Type 0
-IsFree row = All IsFreeCell row
 
 -- the cells of a text with the placeholder before it, if lines are cut on the left: then the text stands behind as many
 -- columns. If there is none, the placeholder stands alone

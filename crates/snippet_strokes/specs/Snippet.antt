@@ -14,7 +14,9 @@ use Rattle.snippet_style.specs.Print.{row_text}
 use Rattle.snippet_text.specs.Normalized.{norm}
 use Rattle.snippet_text.specs.Width.{width_of}
 use Rattle.snippet_strokes.specs.Entries.{is_end_part, shifted, wide_entries}
-use Rattle.snippet_strokes.specs.Rows.{shown_number, first_row, HasNoNumber, IsFree, IsSourceRow, IsBeside, IsElisionRow, IsHighlighted, AreStrokes, window_cells}
+use Rattle.snippet_lines.specs.Number.{shown_number}
+use Rattle.snippet_parts.specs.Rows.{HasNoNumber, IsFree}
+use Rattle.snippet_strokes.specs.Rows.{first_row, IsSourceRow, IsBeside, IsElisionRow, IsHighlighted, AreStrokes, window_cells}
 
 -- the rows show this line: the first its number and the window of its source, normalised, with what its entries highlight
 -- (all of the line, if lines aren't cut on the left and the room holds it), with bars beside it, and cut where entries are

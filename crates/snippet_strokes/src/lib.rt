@@ -9,7 +9,6 @@ mod highlight;
 mod labels;
 pub mod layout;
 mod marks;
-mod number;
 mod positions;
 mod rails;
 mod roles;
@@ -21,5 +20,4 @@ mod strokes;
 mod whole_line;
 
 pub use layout::Layout;
-pub use number::gutter_width;
 pub use snippet::draw_snippet;

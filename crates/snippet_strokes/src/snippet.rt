@@ -3,7 +3,8 @@ ghost use Rattle.std.specs.Prelude.{◌≡◌, ◌+◌, ◌^◌, ◌<◌, ◌≤
 ghost use Rattle.snippet_parts.specs.Measures.{StandsClear, is_bar};
 ghost use Rattle.snippet_strokes.specs.Entries.{HasPlace, HasRail, shifted};
 ghost use Rattle.snippet_strokes.specs.Rails.{HasRoom, ends_of_bars, open_below};
-ghost use Rattle.snippet_strokes.specs.Rows.{AddsStrokes, HasNoBars, shown_number};
+ghost use Rattle.snippet_lines.specs.Number.{shown_number};
+ghost use Rattle.snippet_strokes.specs.Rows.{AddsStrokes, HasNoBars};
 ghost use Rattle.snippet_style.specs.Grid.{Cell};
 ghost use Rattle.snippet_strokes.specs.Snippet.{AddsLine, AddsSnippet};
 

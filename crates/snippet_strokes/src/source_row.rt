@@ -5,12 +5,13 @@ ghost use Rattle.std.specs.List.{list_any};
 ghost use Rattle.snippet_parts.specs.Margin.{bounds_of};
 ghost use Rattle.snippet_parts.specs.Window.{dropped_part};
 ghost use Rattle.snippet_style.specs.Glyphs.{placeholder_of};
-ghost use Rattle.snippet_strokes.specs.Rows.{AddsSourceRow, begun_cells, ended_cells, shown_cells, shown_number, window_cells, with_cells};
+ghost use Rattle.snippet_lines.specs.Number.{shown_number};
+ghost use Rattle.snippet_strokes.specs.Rows.{AddsSourceRow, begun_cells, ended_cells, shown_cells, window_cells, with_cells};
 ghost use Rattle.snippet_text.specs.Normalized.{is_listed, norm};
 ghost use Rattle.snippet_text.specs.Width.{width_of};
 
 use crate::layout::Layout;
-use crate::number::number_text;
+use snippet_lines::number_text;
 use crate::row::begin_row;
 use snippet_parts::{AnnotatedLineInfo, LineWindow, Margin, near_part, window_of};
 use snippet_style::{ElementStyle, StyledBuffer};

@@ -1,6 +1,5 @@
 pub mod DrawnLemmas
 pub mod GlyphLemmas
-pub mod NumberLemmas
 pub mod PaintLemmas
 pub mod RisingLemmas
 pub mod RowLemmas

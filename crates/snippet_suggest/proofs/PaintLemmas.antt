@@ -6,7 +6,8 @@ use Rattle.snippet_style.proofs.ChangeLemmas.{changed_within_one}
 use Rattle.snippet_style.specs.declared.role.ElementStyle.{ElementStyle}
 use Rattle.snippet_style.specs.Grid.{Cell, changed_within, cells_restyled, restyled}
 use Rattle.snippet_style.specs.Print.{row_text}
-use Rattle.snippet_suggest.specs.Rows.{without_role, IsRepainted, IsFree, IsLineRow, AddsRow}
+use Rattle.snippet_parts.specs.Rows.{IsFree}
+use Rattle.snippet_suggest.specs.Rows.{without_role, IsRepainted, IsLineRow, AddsRow}
 
 -- a cell in another role
 restyled_same : (role : ElementStyle) (cells : List Cell) → map without_role (map (restyled role true) cells) ≡ map without_role cells

@@ -1,37 +1,17 @@
 -- What the rows of a suggestion show.
 use Rattle.std.specs.Prelude.{◌≡◌, ◌⊎◌, ℕ, ◌+◌, ◌-◌, ◌≤◌, min, ◌^◌, Bool, true, false, List, [], ◌∷◌, ◌++◌, All, Option, None, length, map, replicate, drop, chars}
-use Rattle.std.specs.Char.{is_ascii_alphanumeric}
-use Rattle.std.specs.Fmt.{decimal}
 use Rattle.std.specs.List.{AllZip, slice_index_or}
 use Rattle.snippet_style.specs.Grid.{Cell, SPACE}
 use Rattle.snippet_style.specs.Print.{row_text}
 use Rattle.snippet_text.specs.Normalized.{is_listed, norm}
+use Rattle.snippet_lines.specs.Number.{shown_number}
+use Rattle.snippet_parts.specs.Rows.{HasNoNumber, IsFree}
 use Rattle.snippet_suggest.specs.declared.shown.ShownLine.{ShownLine}
 use Rattle.snippet_suggest.specs.declared.shown.ShownLine.TheVariants.{Line, Gap}
-
--- these digits at the right end of a field of this width, filled up with spaces
-abbrev pub set_right : ℕ → List ℕ → List ℕ
-set_right width digits = replicate (width - length digits) 32 ++ digits
-
--- what stands in the gutter beside a line: its number, or spaces where lines aren't numbered
-abbrev pub shown_number : Bool → ℕ → ℕ → List ℕ
-shown_number true gutter number = set_right gutter (decimal number)
-shown_number false gutter number = replicate gutter 32
 
 -- the number of the line so many lines behind one, as far as there are numbers
 abbrev pub number_after : ℕ → ℕ → ℕ
 number_after first lines = min (first + lines) (2 ^ 64 - 1)
-
--- a cell that holds no listed character and belongs to no link, and a row of such cells
-abbrev pub IsFreeCell : Cell → Type 0
-IsFreeCell cell = (is_listed cell.ch ≡ false) × (cell.link ≡ None)
-
-abbrev pub IsFree : List Cell → Type 0
-IsFree row = All IsFreeCell row
-
--- no cell up to the one before the glyph holds an ASCII letter or digit, so the row can't be taken for a line's
-abbrev pub HasNoNumber : ℕ → List Cell → Type 0
-HasNoNumber gutter row = (c : ℕ) → c ≤ gutter → is_ascii_alphanumeric (slice_index_or row c SPACE).ch ≡ false
 
 -- the glyph of a removed line stands one cell behind the gutter
 abbrev pub HasMinus : ℕ → List Cell → Type 0

@@ -8,7 +8,6 @@ pub mod kind;
 pub mod layout;
 pub mod lines;
 pub mod marks;
-pub mod number;
 pub mod removed;
 pub mod roles;
 pub mod row;

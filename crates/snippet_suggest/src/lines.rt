@@ -4,7 +4,8 @@ ghost use Rattle.std.specs.List.{slice_index_or};
 ghost use Rattle.snippet_text.specs.Normalized.{norm};
 ghost use Rattle.snippet_suggest.specs.declared.shown.ShownLine.TheVariants.{Line};
 ghost use Rattle.snippet_suggest.specs.Shown.{is_touched, shown_lines};
-ghost use Rattle.snippet_suggest.specs.Rows.{AddsRow, AddsShown, HasRoom, IsLineRow, IsShownRow, number_after, shown_number};
+ghost use Rattle.snippet_lines.specs.Number.{shown_number};
+ghost use Rattle.snippet_suggest.specs.Rows.{AddsRow, AddsShown, HasRoom, IsLineRow, IsShownRow, number_after};
 
 use crate::glyphs::SuggestionGlyph;
 use crate::kind::DisplaySuggestion;

@@ -1,11 +1,12 @@
 //! The row of one line.
 ghost use Rattle.std.specs.Prelude.{◌≡◌, ◌<◌, ◌≤◌, ◌^◌, ◌+◌, IfOk, OnOk, chars, length};
 ghost use Rattle.snippet_text.specs.Normalized.{norm};
-ghost use Rattle.snippet_suggest.specs.Rows.{AddsRow, IsLineRow, IsOtherRow, shown_number};
+ghost use Rattle.snippet_lines.specs.Number.{shown_number};
+ghost use Rattle.snippet_suggest.specs.Rows.{AddsRow, IsLineRow, IsOtherRow};
 
 use crate::glyphs::SuggestionGlyph;
 use crate::layout::SuggestionLayout;
-use crate::number::number_text;
+use snippet_lines::number_text;
 use snippet_style::{ElementStyle, StyledBuffer};
 use snippet_text::{normalized, str_width};
 use std::alloc::{AllocError, Global};

@@ -5,8 +5,8 @@ ghost use Rattle.snippet_lines.specs.Lines.{source_lines};
 ghost use Rattle.annotate_snippets.specs.Gutter as spec;
 
 use snippet_model::snippet::{Annotation, Snippet};
+use snippet_lines::gutter_width;
 use snippet_parts::counted_number;
-use snippet_strokes::gutter_width;
 
 /// The gutter's width, in cells: that of the greatest line number counted, or 0 where lines aren't numbered.
 pub fn gutter_of(snippet: &Snippet<Annotation>) -> usize

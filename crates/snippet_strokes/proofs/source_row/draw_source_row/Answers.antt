@@ -6,9 +6,9 @@ use Rattle.snippet_parts.specs.Window.{inner_part, uncovered_part}
 use Rattle.snippet_parts.proofs.NearLemmas.{part_of_norm}
 use Rattle.snippet_text.specs.Normalized.{is_listed, norm}
 use Rattle.snippet_text.proofs.NormLemmas.{list_any-norm}
-use Rattle.snippet_strokes.specs.Rows.{shown_number}
+use Rattle.snippet_lines.specs.Number.{shown_number}
 use Rattle.snippet_strokes.proofs.CellLemmas.{cells_are, part_few, unlisted_part}
-use Rattle.snippet_strokes.proofs.NumberLemmas.{chars-shown_number, shown_number_unlisted}
+use Rattle.snippet_lines.proofs.NumberLemmas.{chars-shown_number, shown_number_unlisted}
 use Rattle.snippet_strokes.proofs.RowLemmas.{AddsSourceRow-same}
 use Rattle.snippet_strokes.proofs.TextLemmas.{All-from_none, norm_short}
 use Rattle.snippet_strokes.proofs.source_row.draw_source_row.Goals as goal

@@ -1,6 +1,6 @@
 use Rattle.std.proofs.Common.{◌≤◌, ◌+◌, ap, sym, subst, chars, length, ℕ}
 use Rattle.snippet_text.specs.Normalized.{norm}
-use Rattle.snippet_suggest.specs.Rows.{shown_number}
+use Rattle.snippet_lines.specs.Number.{shown_number}
 use Rattle.snippet_suggest.proofs.PaintLemmas.{line_added_painted}
 use Rattle.snippet_suggest.proofs.lines.draw_text_line.Goals as goal
 

@@ -4,8 +4,8 @@ use Rattle.snippet_style.specs.Grid.{SPACE, drawn}
 use Rattle.snippet_style.specs.declared.role.ElementStyle.TheVariants.{LineNumber, NoStyle}
 use Rattle.snippet_text.specs.Normalized.{is_listed, norm}
 use Rattle.snippet_text.proofs.NormLemmas.{list_any-norm}
-use Rattle.snippet_suggest.specs.Rows.{shown_number}
-use Rattle.snippet_suggest.proofs.NumberLemmas.{chars-shown_number, shown_number_unlisted}
+use Rattle.snippet_lines.specs.Number.{shown_number}
+use Rattle.snippet_lines.proofs.NumberLemmas.{chars-shown_number, shown_number_unlisted}
 use Rattle.snippet_suggest.proofs.RowLemmas.{begun_by, text_put, texted, line_row, line_row_is}
 use Rattle.snippet_style.proofs.GridLemmas.{length-chars_le}
 use Rattle.snippet_suggest.proofs.GlyphLemmas.{glyph_short, glyph_unlisted}

@@ -2,9 +2,9 @@ use Rattle.std.proofs.Common.{◌≡◌, ◌∷◌, [], ◌∙◌, ℕ, List, Al
 use Rattle.std.specs.List.{list_any}
 use Rattle.snippet_text.specs.Normalized.{is_listed, norm}
 use Rattle.snippet_text.proofs.NormLemmas.{list_any-norm}
-use Rattle.snippet_suggest.specs.Rows.{shown_number}
+use Rattle.snippet_lines.specs.Number.{shown_number}
 use Rattle.snippet_suggest.proofs.GlyphLemmas.{chars-minus}
-use Rattle.snippet_suggest.proofs.NumberLemmas.{chars-shown_number, shown_number_unlisted}
+use Rattle.snippet_lines.proofs.NumberLemmas.{chars-shown_number, shown_number_unlisted}
 use Rattle.snippet_suggest.proofs.RowLemmas.{All-from_none, removed_added}
 use Rattle.snippet_style.proofs.GridLemmas.{length-chars_le}
 use Rattle.snippet_suggest.proofs.row.draw_removed_line.Goals as goal

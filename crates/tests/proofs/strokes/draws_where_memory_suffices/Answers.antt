@@ -1,8 +1,9 @@
 use Rattle.std.proofs.Common.{◌≤◌, ◌+◌, true, All, [], ◌∷◌, length, sym, arith}
 use Rattle.std.proofs.lemmas.List.Elements.{All-cons, All-nil}
 use Rattle.snippet_parts.specs.declared.entries.AnnotatedLineInfo.{AnnotatedLineInfo}
-use Rattle.snippet_strokes.specs.Rows.{shown_number}
-use Rattle.snippet_strokes.proofs.NumberLemmas.{length-decimal_last, shown_numbers_fit}
+use Rattle.snippet_lines.specs.Number.{shown_number}
+use Rattle.snippet_lines.proofs.NumberLemmas.{length-decimal_last}
+use Rattle.snippet_strokes.proofs.NumberLemmas.{shown_numbers_fit}
 use Rattle.tests.proofs.strokes.draws_where_memory_suffices.Goals as goal
 
 -- a line of number 1 alone

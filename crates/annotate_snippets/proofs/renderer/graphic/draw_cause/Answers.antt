@@ -12,7 +12,7 @@ use Rattle.snippet_lines.specs.Lines.{newline_count, Source}
 use Rattle.snippet_parts.specs.Margin.{bounds_of}
 use Rattle.snippet_parts.specs.Measures.{margin_of}
 use Rattle.snippet_lines.specs.Span.{IsSpan}
-use Rattle.snippet_strokes.specs.Rows.{shown_number}
+use Rattle.snippet_lines.specs.Number.{shown_number}
 use Rattle.snippet_strokes.specs.Snippet.{AddsSnippet}
 use Rattle.snippet_strokes.specs.declared.layout.Layout.{Layout}
 use Rattle.snippet_lines.proofs.LinesLemmas.{length-source_lines}

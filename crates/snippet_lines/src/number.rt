@@ -1,7 +1,7 @@
 //! Line numbers, as the gutter shows them.
 ghost use Rattle.std.specs.Prelude.{◌≡◌, IfOk, length, string_bytes};
 ghost use Rattle.std.specs.Fmt.{decimal};
-ghost use Rattle.snippet_strokes.specs.Rows.{shown_number};
+ghost use Rattle.snippet_lines.specs.Number.{shown_number};
 
 use std::alloc::{AllocError, Global};
 
@@ -24,7 +24,7 @@ pub fn gutter_width(number: usize) -> usize
 /// # Errors
 ///
 /// There is no memory for the text.
-pub(crate) fn number_text(
+pub fn number_text(
     alloc: Global,
     numbered: bool,
     gutter: usize,

@@ -1,6 +1,6 @@
 use Rattle.std.proofs.Common.{◌≡◌, ◌+◌, length}
 use Rattle.std.specs.Fmt.{decimal}
-use Rattle.snippet_strokes.proofs.number.gutter_width.Given as goal
+use Rattle.snippet_lines.proofs.number.gutter_width.Given as goal
 
 -- the digits of what is left and those that were counted are the number's
 abbrev pub invariant-loop-rest : goal.invariant-loop-rest

@@ -1,6 +1,6 @@
 use Rattle.std.proofs.Common.{rules}
-use Rattle.snippet_suggest.proofs.NumberLemmas.{repeat-one_space, styled_decimal-right}
-use Rattle.snippet_suggest.proofs.number.number_text.Goals as goal
+use Rattle.snippet_lines.proofs.NumberLemmas.{repeat-one_space, styled_decimal-right}
+use Rattle.snippet_lines.proofs.number.number_text.Goals as goal
 
 pub returns-then-numbered : goal.returns-then-numbered
 returns-then-numbered c =

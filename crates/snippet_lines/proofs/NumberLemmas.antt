@@ -1,16 +1,17 @@
 -- The texts of line numbers.
-use Rattle.std.proofs.Common.{◌≡◌, ℕ, zero, suc, ◌-◌, ◌+◌, ◌==◌, ◌^◌, ◌<◌, ◌%◌, List, [], ◌∷◌, length, replicate, refl, ap, All, chars, arith, encode_utf8, true, false, Bool}
+use Rattle.std.proofs.Common.{inl, inr, ◌≡◌, ℕ, zero, suc, ◌-◌, ◌+◌, ◌==◌, ◌^◌, ◌<◌, ◌≤◌, ◌/◌, ◌%◌, List, [], ◌∷◌, ◌++◌, length, replicate, refl, ap, All, chars, ◌∙◌, arith, encode_utf8, true, false, Bool}
 use Rattle.std.specs.List.{repeat}
 use Rattle.std.specs.Fmt.{decimal, styled_decimal, padded_integral, format_spec, char_count}
 use Rattle.std.proofs.lemmas.Bool.Decides.{nat_tests}
-use Rattle.std.proofs.lemmas.List.{append-nil}
-use Rattle.std.proofs.lemmas.Fmt.{decimal_by_steps, IsAscii-decimal}
+use Rattle.std.proofs.lemmas.Bool.{cases_lt}
+use Rattle.std.proofs.lemmas.List.{append-nil, length-append, length-replicate, length_push}
+use Rattle.std.proofs.lemmas.Fmt.{decimal_digit, decimal_step, decimal_by_steps, IsAscii-decimal}
 use Rattle.std.proofs.lemmas.List.Elements.{All-append, All-cons, All-nil, All-push, All-replicate}
 use Rattle.std.proofs.lemmas.Str.{chars-IsAscii, IsAscii-append}
 use Rattle.std.proofs.lemmas.Str.Ascii.{IsAscii-from_all}
 use Rattle.std.specs.Str.{IsAscii}
 use Rattle.snippet_text.specs.Normalized.{is_listed}
-use Rattle.snippet_suggest.specs.Rows.{set_right, shown_number}
+use Rattle.snippet_lines.specs.Number.{set_right, shown_number}
 
 -- copies of the space's bytes
 repeat-space : (n : ℕ) → repeat n (encode_utf8 32) ≡ replicate n 32
@@ -35,6 +36,13 @@ padded_number ds w =
 pub styled_decimal-right : (n w : ℕ) → styled_decimal (format_spec 32 3 0 w (2 ^ 64 - 1)) n ≡ set_right w (decimal n)
 styled_decimal-right n zero = let none : 0 - length (decimal n) ≡ 0 = omega arith in rw none
 styled_decimal-right n (suc k) = let other : (suc k == 0) ≡ false = grind (arith, nat_tests) in rw other (padded_number (decimal n) (suc k))
+
+-- a number of one digit, and one more digit
+pub length-decimal_last : (n : ℕ) → n < 10 → n < 2 ^ 64 → length (decimal n) ≡ 1
+length-decimal_last n one fits = ap length (decimal_digit n one)
+
+pub length-decimal_more : (n : ℕ) → 10 ≤ n → n < 2 ^ 64 → length (decimal n) ≡ length (decimal (n / 10)) + 1
+length-decimal_more n more fits = ap length (decimal_step n more fits) ∙ length_push (decimal (n / 10)) (48 + n % 10)
 
 -- a digit is no listed character
 digit_unlisted : (d : ℕ) → d < 10 → is_listed (48 + d) ≡ false
@@ -66,3 +74,22 @@ shown_number_ascii false gutter number fits = spaces_ascii gutter
 pub chars-shown_number : (numbered : Bool) (gutter number : ℕ) → number < 2 ^ 64 → chars (shown_number numbered gutter number) ≡ shown_number numbered gutter number
 chars-shown_number numbered gutter number fits =
     chars-IsAscii (shown_number numbered gutter number) (shown_number_ascii numbered gutter number fits)
+
+-- a smaller number has no more digits
+pub length-decimal_monotone : (m n : ℕ) → m ≤ n → n < 2 ^ 64 → length (decimal m) ≤ length (decimal n)
+length-decimal_monotone m n less fits =
+    let P : ℕ → List ℕ → Type 0 = λ large ds. large < 2 ^ 64 → (small : ℕ) → small ≤ large → length (decimal small) ≤ length ds in
+    let last : (large : ℕ) → large < 10 → P large ((48 + large) ∷ []) = λ large one _ small below. omega (arith, length-decimal_last small (omega arith) (omega arith)) in
+    let more : (large : ℕ) (ds : List ℕ) → 10 ≤ large → P (large / 10) ds → P large (ds ++ ((48 + large % 10) ∷ [])) = λ large ds many shorter large_fits small below.
+    let long : length (ds ++ ((48 + large % 10) ∷ [])) ≡ length ds + 1 = length_push ds (48 + large % 10) in
+    elim (cases_lt small 10) [
+      | inl one ↦ omega (arith, length-decimal_last small one (omega arith))
+      | inr digits ↦ omega (arith, length-decimal_more small digits (omega arith), shorter (omega arith) (small / 10) (omega arith))
+    ] in
+    decimal_by_steps P last more n fits fits m less
+
+-- a number that fits the gutter fills it
+pub length-shown_number : (numbered : Bool) (gutter number : ℕ) → length (decimal number) ≤ gutter → length (shown_number numbered gutter number) ≡ gutter
+length-shown_number true gutter number fits =
+    omega (arith, length-append (replicate (gutter - length (decimal number)) 32) (decimal number), length-replicate {A = ℕ} (gutter - length (decimal number)) 32)
+length-shown_number false gutter number fits = length-replicate {A = ℕ} gutter 32

@@ -1,8 +1,8 @@
 use Rattle.std.proofs.Common.{◌≤◌, length, arith}
 use Rattle.std.specs.Fmt.{decimal}
 use Rattle.std.proofs.lemmas.Fmt.{length-decimal-le}
-use Rattle.snippet_strokes.proofs.NumberLemmas.{length-decimal_last, length-decimal_more}
-use Rattle.snippet_strokes.proofs.number.gutter_width.Goals as goal
+use Rattle.snippet_lines.proofs.NumberLemmas.{length-decimal_last, length-decimal_more}
+use Rattle.snippet_lines.proofs.number.gutter_width.Goals as goal
 
 pub overflow_add-width : goal.overflow_add-width
 overflow_add-width c =
