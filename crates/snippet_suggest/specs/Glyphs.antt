@@ -1,5 +1,5 @@
 -- The glyphs of suggestions.
-use Rattle.std.specs.Prelude.{ℕ, List, codes}
+use Rattle.std.specs.Prelude.{ℕ, Bool, true, false, List, codes}
 use Rattle.snippet_style.specs.declared.glyphs.DecorStyle.{DecorStyle}
 use Rattle.snippet_style.specs.declared.glyphs.DecorStyle.TheVariants.{Ascii, Unicode}
 use Rattle.snippet_suggest.specs.declared.glyphs.SuggestionGlyph.{SuggestionGlyph}
@@ -23,6 +23,17 @@ glyph_of Unicode Kept = codes "│"
 glyph_of Unicode Alone = codes "│ "
 glyph_of Unicode Changed = codes "± "
 glyph_of Unicode Added = codes "+ "
+
+-- whether a glyph stands beside a line
+abbrev pub is_sign : SuggestionGlyph → Bool
+is_sign Opening = false
+is_sign Next = false
+is_sign Leading = false
+is_sign Closing = false
+is_sign Kept = true
+is_sign Alone = true
+is_sign Changed = true
+is_sign Added = true
 
 -- the mark below what is put in place of something else
 abbrev pub changed_mark_of : DecorStyle → ℕ

@@ -1,3 +1,6 @@
+pub mod Given
 pub mod Glyphs
+pub mod Kind
+pub mod Prepared
 pub mod Rows
 pub mod Shown

@@ -1,34 +1,65 @@
 -- What the rows of a suggestion show.
-use Rattle.std.specs.Prelude.{◌≡◌, ◌⊎◌, ℕ, ◌+◌, ◌-◌, ◌≤◌, min, ◌^◌, Bool, true, false, List, [], ◌∷◌, ◌++◌, All, Option, None, length, map, replicate, drop, chars}
+use Rattle.std.specs.Prelude.{◌≡◌, ◌⊎◌, ℕ, ◌+◌, ◌-◌, ◌<◌, ◌≤◌, min, ◌^◌, Bool, true, false, Option, List, [], ◌∷◌, ◌++◌, All, length, map, replicate, take, drop, chars}
+use Rattle.std.specs.Char.{is_ascii_alphanumeric}
+use Rattle.std.specs.Fmt.{decimal}
 use Rattle.std.specs.List.{AllZip, slice_index_or}
+use Rattle.snippet_model.specs.declared.snippet.Snippet.{Snippet}
+use Rattle.snippet_model.specs.declared.snippet.Patch.{Patch}
+use Rattle.snippet_style.specs.declared.glyphs.DecorStyle.{DecorStyle}
+use Rattle.snippet_style.specs.Glyphs.{separator_of}
 use Rattle.snippet_style.specs.Grid.{Cell, SPACE}
 use Rattle.snippet_style.specs.Print.{row_text}
-use Rattle.snippet_text.specs.Normalized.{is_listed, norm}
+use Rattle.snippet_text.specs.Normalized.{norm}
 use Rattle.snippet_lines.specs.Number.{shown_number}
 use Rattle.snippet_parts.specs.Rows.{HasNoNumber, IsFree}
+use Rattle.snippet_suggest.specs.declared.layout.SuggestionLayout.{SuggestionLayout}
 use Rattle.snippet_suggest.specs.declared.shown.ShownLine.{ShownLine}
 use Rattle.snippet_suggest.specs.declared.shown.ShownLine.TheVariants.{Line, Gap}
+use Rattle.snippet_suggest.specs.Given.{counted_line, first_given, given_lines, numbers_given}
+use Rattle.snippet_suggest.specs.Glyphs.{changed_mark_of}
+use Rattle.snippet_suggest.specs.Shown.{numbers_shown}
 
 -- the number of the line so many lines behind one, as far as there are numbers
 abbrev pub number_after : ℕ → ℕ → ℕ
 number_after first lines = min (first + lines) (2 ^ 64 - 1)
 
--- the glyph of a removed line stands one cell behind the gutter
-abbrev pub HasMinus : ℕ → List Cell → Type 0
-HasMinus gutter row = (slice_index_or row (gutter + 1) SPACE).ch ≡ 45
+-- what stands beside a line that is offered: a separator, the glyph of a changed line, or `+`
+abbrev pub IsSign : DecorStyle → ℕ → Type 0
+IsSign decor c = (c ≡ separator_of decor) ⊎ (c ≡ changed_mark_of decor) ⊎ (c ≡ 43)
+
+-- what stands in a row of marks: spaces, `+`, and the mark below what is changed
+abbrev pub IsMarkOrSpace : DecorStyle → ℕ → Type 0
+IsMarkOrSpace decor c = (c ≡ 32) ⊎ (c ≡ 43) ⊎ (c ≡ changed_mark_of decor)
 
 -- three cells behind the gutter the row holds this text, to its end
 abbrev pub HoldsText : ℕ → List ℕ → List Cell → Type 0
 HoldsText gutter text row = row_text (drop (gutter + 3) row) ≡ text
 
--- a row that offers a line of this normalised text, and one that offers none
-pub record IsLineRow (gutter : ℕ) (text : List ℕ) (row : List Cell) : Type 0 where
+-- a row that offers a line: its number, the sign behind it with a space, and no letter or digit between them and the line's
+-- normalised text, which goes from three cells behind the gutter to the row's end
+pub record IsLineRow (decor : DecorStyle) (gutter : ℕ) (number text : List ℕ) (row : List Cell) : Type 0 where
+  pub numbered : row_text (take (length number) row) ≡ number
+  pub beside : (c : ℕ) → length number ≤ c → c < gutter + 3 → is_ascii_alphanumeric (slice_index_or row c SPACE).ch ≡ false
+  pub sign : IsSign decor (slice_index_or row (gutter + 1) SPACE).ch
+  pub space : (slice_index_or row (gutter + 2) SPACE).ch ≡ 32
   pub holds : HoldsText gutter text row
   pub free : IsFree row
 
-pub record IsOtherRow (gutter : ℕ) (row : List Cell) : Type 0 where
-  pub other : HasNoNumber gutter row ⊎ HasMinus gutter row
+-- the row of a line that is removed: `-` and a space stand behind the gutter
+pub record IsRemovedRow (gutter : ℕ) (row : List Cell) : Type 0 where
+  pub minus : (slice_index_or row (gutter + 1) SPACE).ch ≡ 45
+  pub space : (slice_index_or row (gutter + 2) SPACE).ch ≡ 32
   pub free : IsFree row
+
+-- a row that shows no line: no letter or digit in the gutter, and three cells behind it nothing but marks
+pub record IsBareRow (decor : DecorStyle) (gutter : ℕ) (row : List Cell) : Type 0 where
+  pub unnumbered : HasNoNumber gutter row
+  pub marks : (c : ℕ) → gutter + 3 ≤ c → IsMarkOrSpace decor (slice_index_or row c SPACE).ch
+  pub free : IsFree row
+
+-- a row that offers no line
+abbrev pub IsOtherRow : DecorStyle → ℕ → List Cell → Type 0
+IsOtherRow decor gutter row = IsRemovedRow gutter row ⊎ IsBareRow decor gutter row
 
 -- one row of this kind was added below the rows that are there
 pub record AddsRow (P : List Cell → Type 0) (old new : List (List Cell)) : Type 0 where
@@ -46,18 +77,58 @@ pub record IsRepainted (above : List (List Cell)) (last : List Cell) (new : List
   pub is : new ≡ above ++ now ∷ []
   pub same : map without_role now ≡ map without_role last
 
--- the row that a line of some is shown by, and that stands for lines that are left out
-abbrev pub IsShownRow : ℕ → List (List ℕ) → ShownLine → List Cell → Type 0
-IsShownRow gutter lines (Line k) row = IsLineRow gutter (norm (chars (slice_index_or lines k []))) row
-IsShownRow gutter lines Gap row = IsOtherRow gutter row
+-- the row that a line of some is shown by, the first of which has this number; and one that shows none of them
+abbrev pub IsShownRow : SuggestionLayout → ℕ → List (List ℕ) → ShownLine → List Cell → Type 0
+IsShownRow layout first lines (Line k) row =
+    IsLineRow layout.decor layout.gutter (shown_number layout.numbered layout.gutter (number_after first k)) (norm (chars (slice_index_or lines k []))) row
+IsShownRow layout first lines Gap row = IsOtherRow layout.decor layout.gutter row
 
--- rows for these, one each, were added below the rows that are there
-pub record AddsShown (gutter : ℕ) (lines : List (List ℕ)) (shown : List ShownLine) (old new : List (List Cell)) : Type 0 where
+-- rows for these, one each, stand below some rows, and nothing else
+pub record AddsShown (layout : SuggestionLayout) (first : ℕ) (lines : List (List ℕ)) (shown : List ShownLine) (above new : List (List Cell)) : Type 0 where
   pub rows : List (List Cell)
-  pub added : new ≡ old ++ rows
-  pub are : AllZip (IsShownRow gutter lines) shown rows
+  pub added : new ≡ above ++ rows
+  pub are : AllZip (IsShownRow layout first lines) shown rows
 
--- the number of a line that is shown stands left of the glyph
-abbrev pub HasRoom : Bool → ℕ → ℕ → ShownLine → Type 0
-HasRoom numbered gutter first (Line k) = length (shown_number numbered gutter (number_after first k)) ≤ gutter + 1
-HasRoom numbered gutter first Gap = Unit {0}
+-- the same, where of the lines just these are shown, in this order
+pub record AddsLines (layout : SuggestionLayout) (first : ℕ) (lines : List (List ℕ)) (numbers : List ℕ) (above new : List (List Cell)) : Type 0 where
+  pub shown : List ShownLine
+  pub numbers_are : numbers_shown shown ≡ numbers
+  pub adds : AddsShown layout first lines shown above new
+
+-- rows of removed lines stand below some rows, and nothing else
+pub record AddsRemoved (layout : SuggestionLayout) (above new : List (List Cell)) : Type 0 where
+  pub rows : List (List Cell)
+  pub added : new ≡ above ++ rows
+  pub are : All (IsRemovedRow layout.gutter) rows
+
+-- a last row stands below some rows and so many empty ones
+pub record AddsEnd (layout : SuggestionLayout) (skipped : ℕ) (above new : List (List Cell)) : Type 0 where
+  pub last : List Cell
+  pub added : new ≡ above ++ (replicate skipped [] ++ last ∷ [])
+  pub is : IsBareRow layout.decor layout.gutter last
+
+-- the number of a line that is shown stands left of the sign
+abbrev pub NumberFits : SuggestionLayout → ℕ → ShownLine → Type 0
+NumberFits layout first (Line k) =
+    length (shown_number layout.numbered layout.gutter (number_after first k)) ≤ layout.gutter + 1
+NumberFits layout first Gap = Unit {0}
+
+-- what a suggestion finds below the rows above it: the last row of a suggestion before it, if it shares that, else nothing
+abbrev pub IsTail : SuggestionLayout → Bool → List (List Cell) → Type 0
+IsTail layout true tail = (row : List Cell) × (tail ≡ row ∷ []) × IsBareRow layout.decor layout.gutter row
+IsTail layout false tail = tail ≡ []
+
+-- the rows of a suggestion stand below some rows, and nothing else: for each line that it offers a row, in order, other rows
+-- between them, and as the last a row that shows no line, in which a further suggestion may begin
+pub record AddsSuggestion (layout : SuggestionLayout) (s : Snippet Patch) (above new : List (List Cell)) : Type 0 where
+  pub shown : List ShownLine
+  pub rows : List (List Cell)
+  pub last : List Cell
+  pub added : new ≡ above ++ (rows ++ last ∷ [])
+  pub are : AllZip (IsShownRow layout (s.line_start + first_given s) (given_lines s)) shown rows
+  pub numbers : numbers_shown shown ≡ numbers_given s
+  pub last_is : IsBareRow layout.decor layout.gutter last
+
+-- the gutter has room for the number that a suggestion counts
+abbrev pub HasGutter : SuggestionLayout → Snippet Patch → Type 0
+HasGutter layout s = layout.numbered ≡ true → length (decimal (counted_line s)) ≤ layout.gutter

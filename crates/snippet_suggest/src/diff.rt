@@ -1,5 +1,11 @@
 //! A suggestion that is shown as the lines that are removed, and the one line that stands in their place.
-ghost use Rattle.std.specs.Prelude.{◌≡◌, ◌<◌, ◌^◌, true, length};
+ghost use Rattle.std.specs.Prelude.{◌≡◌, ◌<◌, ◌^◌, ◌++◌, ◌∷◌, [], List, true, OnOk, length, if◌then◌else◌};
+ghost use Rattle.std.specs.Str.{bytes_eq};
+ghost use Rattle.snippet_style.specs.Grid.{Cell};
+ghost use Rattle.snippet_suggest.specs.declared.kind.DisplaySuggestion.TheVariants.{Diff};
+ghost use Rattle.snippet_suggest.specs.declared.shown.ShownLine.TheVariants.{Line};
+ghost use Rattle.snippet_suggest.specs.Given.{is_left_out, last_removed};
+ghost use Rattle.snippet_suggest.specs.Rows.{AddsLines, AddsRemoved, IsBareRow, NumberFits};
 
 use crate::glyphs::SuggestionGlyph;
 use crate::kind::is_blank;
@@ -34,6 +40,12 @@ pub(crate) fn draw_diff(
     added: &[SubstitutionHighlight],
 ) -> Result<(), AllocError>
     requires narrow { layout.gutter < 2 ^ 32 }
+    requires some { 0 < length removed.now }
+    // Below the row that the suggestion begins with, in which roles may change.
+    ensures added { (above : List (List Cell)) (last : List Cell) → buffer.old ≡ above ++ last ∷ []
+        → IsBareRow layout.decor layout.gutter last → NumberFits layout first (Line 0)
+        → OnOk result (AddsLines layout first (line.now ∷ [])
+        (if is_left_out Diff (line.now ∷ []) (last_removed removed.now) then [] else 0 ∷ []) above buffer.new) }
 {
     let stays = is_last(removed, line);
     let count = removed.len().saturating_sub(usize::from(stays));
@@ -54,6 +66,7 @@ pub(crate) fn draw_diff(
 /// Whether a line is the same as the last of those that are removed.
 fn is_last(removed: &[LineInfo<'_>], line: &str) -> bool
     ensures some { result ≡ true → 0 < length removed.now }
+    ensures value { 0 < length removed.now → result ≡ bytes_eq line.now (last_removed removed.now) }
 {
     match removed {
         [.., last] => last.line == line,
@@ -80,6 +93,7 @@ fn draw_diff_removed(
     replaced: &[Vec<SubstitutionHighlight>],
 ) -> Result<(), AllocError>
     requires narrow { layout.gutter < 2 ^ 32 }
+    ensures added { OnOk result (AddsRemoved layout buffer.old buffer.new) }
 {
     for i in 0..removed.len() {
         let info = removed[i];

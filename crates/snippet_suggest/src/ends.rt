@@ -1,6 +1,7 @@
 //! The rows that a suggestion begins and ends with.
-ghost use Rattle.std.specs.Prelude.{◌≡◌, ◌<◌, ◌^◌, ◌+◌, IfOk, OnOk, false, length};
-ghost use Rattle.snippet_suggest.specs.Rows.{AddsRow, IsOtherRow};
+ghost use Rattle.std.specs.Prelude.{◌≡◌, ◌<◌, ◌^◌, ◌+◌, ◌++◌, Bool, List, IfOk, OnOk, length};
+ghost use Rattle.snippet_suggest.specs.Rows.{AddsEnd, AddsRow, IsBareRow, IsTail};
+ghost use Rattle.snippet_style.specs.Grid.{Cell};
 
 use crate::glyphs::SuggestionGlyph;
 use crate::layout::SuggestionLayout;
@@ -24,7 +25,8 @@ pub(crate) fn draw_head(
     shares: bool,
 ) -> Result<(), AllocError>
     requires narrow { layout.gutter < 2 ^ 32 }
-    ensures added { shares ≡ false → OnOk result (AddsRow (IsOtherRow layout.gutter) buffer.old buffer.new) }
+    ensures added { (above tail : List (List Cell)) → buffer.old ≡ above ++ tail → IsTail layout shares tail
+        → OnOk result (AddsRow (IsBareRow layout.decor layout.gutter) above buffer.new) }
 {
     let rows = buffer.num_lines();
     if shares {
@@ -43,7 +45,8 @@ fn draw_glyph(
 ) -> Result<(), AllocError>
     requires narrow { layout.gutter < 2 ^ 32 }
     requires row { row + 1 < 2 ^ 64 }
-    ensures added { row ≡ length buffer.old → OnOk result (AddsRow (IsOtherRow layout.gutter) buffer.old buffer.new) }
+    ensures added { (above tail : List (List Cell)) (shares : Bool) → row ≡ length above → buffer.old ≡ above ++ tail
+        → IsTail layout shares tail → OnOk result (AddsRow (IsBareRow layout.decor layout.gutter) above buffer.new) }
 {
     buffer.puts(
         row,
@@ -72,8 +75,8 @@ pub(crate) fn draw_end(
 ) -> Result<usize, AllocError>
     requires narrow { layout.gutter < 2 ^ 32 }
     requires few { skipped < 2 }
-    ensures added { skipped ≡ 0 → OnOk result (AddsRow (IsOtherRow layout.gutter) buffer.old buffer.new) }
-    ensures row { IfOk result (λ row. row + 1 < 2 ^ 64) }
+    ensures added { OnOk result (AddsEnd layout skipped buffer.old buffer.new) }
+    ensures row { IfOk result (λ row. (row ≡ length buffer.old + skipped) × (row + 1 < 2 ^ 64)) }
 {
     let row = buffer.num_lines() + skipped;
     let glyph = if follows {

@@ -1,7 +1,11 @@
 //! How a suggestion is shown.
-ghost use Rattle.std.specs.Prelude.{◌≡◌, ◌≤◌, chars};
-ghost use Rattle.std.specs.List.{list_all};
-ghost use Rattle.std.specs.Char.{is_whitespace};
+ghost use Rattle.std.specs.Prelude.{◌≡◌, ◌&&◌, All, map};
+ghost use Rattle.std.specs.String.{string_bytes};
+ghost use Rattle.snippet_lines.specs.Span.{IsSpan};
+ghost use Rattle.snippet_splice.specs.Edits.{trimmed_edit_of};
+ghost use Rattle.snippet_splice.specs.Shown.{without_final_line_feeds};
+ghost use Rattle.snippet_suggest.specs.Kind.{kind_of};
+ghost use Rattle.snippet_suggest.specs.Kind as spec;
 
 use snippet_splice::{SplicedLines, TrimmedPatch, as_substr};
 
@@ -19,11 +23,13 @@ pub enum DisplaySuggestion {
 }
 
 impl DisplaySuggestion {
-    /// How the patches of a source are shown, if they give this many lines.
-    pub fn new(source: &str, splice: &SplicedLines<'_>, lines: usize) -> DisplaySuggestion
-        ensures one_line { result ≡ DisplaySuggestion.Diff → lines ≤ 1 }
+    /// How the patches of a source are shown, with the text that they give.
+    pub fn new(source: &str, splice: &SplicedLines<'_>) -> DisplaySuggestion
+        requires spans { All (λ p. IsSpan source.now p.span.start p.span.end) splice.now.patches.items }
+        requires ended { without_final_line_feeds (string_bytes splice.now.complete) ≡ string_bytes splice.now.complete }
+        ensures value { result ≡ kind_of source.now (map trimmed_edit_of splice.now.patches.items) (string_bytes splice.now.complete) }
     {
-        let several = lines > 1;
+        let several = splice.complete.as_str().contains('\n');
         if !several && takes_away(source, &splice.patches) {
             return DisplaySuggestion::Diff;
         }
@@ -78,7 +84,7 @@ pub(crate) fn is_addition(source: &str, patch: &TrimmedPatch<'_>) -> bool {
 
 /// Whether a text is nothing but whitespace.
 pub(crate) fn is_blank(text: &str) -> bool
-    ensures value { result ≡ list_all is_whitespace (chars text.now) }
+    ensures value { result ≡ spec.is_blank text.now }
 {
     text.chars().all(|c| c.is_whitespace())
 }

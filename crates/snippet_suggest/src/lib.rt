@@ -8,6 +8,7 @@ pub mod kind;
 pub mod layout;
 pub mod lines;
 pub mod marks;
+pub mod prepared;
 pub mod removed;
 pub mod roles;
 pub mod row;
@@ -16,4 +17,5 @@ pub mod suggestion;
 
 pub use kind::DisplaySuggestion;
 pub use layout::SuggestionLayout;
+pub use prepared::{PreparedSuggestion, prepare_suggestion};
 pub use suggestion::draw_suggestion;

@@ -1,11 +1,14 @@
 //! The rows of the lines of a spliced text.
-ghost use Rattle.std.specs.Prelude.{◌≡◌, ℕ, ◌<◌, ◌≤◌, ◌^◌, ◌+◌, [], All, OnOk, chars, length, map};
+ghost use Rattle.std.specs.Prelude.{◌≡◌, ℕ, ◌<◌, ◌≤◌, ◌^◌, ◌+◌, true, [], All, IfOk, OnOk, chars, length, map};
 ghost use Rattle.std.specs.List.{slice_index_or};
 ghost use Rattle.snippet_text.specs.Normalized.{norm};
+ghost use Rattle.snippet_lines.specs.Lines.{lines_of};
+ghost use Rattle.snippet_splice.specs.Spliced.{texts_of};
+ghost use Rattle.snippet_suggest.specs.Glyphs.{is_sign};
 ghost use Rattle.snippet_suggest.specs.declared.shown.ShownLine.TheVariants.{Line};
 ghost use Rattle.snippet_suggest.specs.Shown.{is_touched, shown_lines};
 ghost use Rattle.snippet_lines.specs.Number.{shown_number};
-ghost use Rattle.snippet_suggest.specs.Rows.{AddsRow, AddsShown, HasRoom, IsLineRow, IsShownRow, number_after};
+ghost use Rattle.snippet_suggest.specs.Rows.{AddsRow, AddsShown, NumberFits, IsLineRow, IsShownRow, number_after};
 
 use crate::glyphs::SuggestionGlyph;
 use crate::kind::DisplaySuggestion;
@@ -19,7 +22,9 @@ use snippet_style::{ElementStyle, StyledBuffer};
 use std::alloc::{AllocError, Global};
 
 /// The lines of a text, without their ends.
-pub(crate) fn text_lines<'a>(alloc: Global, text: &'a str) -> Result<Vec<&'a str>, AllocError> {
+pub(crate) fn text_lines<'a>(alloc: Global, text: &'a str) -> Result<Vec<&'a str>, AllocError>
+    ensures lines { IfOk result (λ lines. map (λ l. l.now) lines.items ≡ texts_of (lines_of text.now)) }
+{
     let mut lines = Vec::new(alloc);
     for (line, _) in CursorLines::new(text) {
         lines.push(line)?;
@@ -54,8 +59,8 @@ pub(crate) fn draw_lines(
 ) -> Result<(), AllocError>
     requires narrow { layout.gutter < 2 ^ 32 }
     ensures added { let shown = shown_lines (is_touched fold ranges.now) (length lines.now) in
-        ((k : ℕ) → k < length lines.now → HasRoom layout.numbered layout.gutter first (Line k))
-        → OnOk result (AddsShown layout.gutter (map (λ l. l.now) lines.now) shown buffer.old buffer.new) }
+        ((k : ℕ) → k < length lines.now → NumberFits layout first (Line k))
+        → OnOk result (AddsShown layout first (map (λ l. l.now) lines.now) shown buffer.old buffer.new) }
 {
     let shown = shown_lines(alloc, lines.len(), ranges, fold)?;
     draw_shown(alloc, buffer, layout, kind, first, lines, stretches, &shown)?;
@@ -74,8 +79,8 @@ fn draw_shown(
     shown: &[ShownLine],
 ) -> Result<(), AllocError>
     requires narrow { layout.gutter < 2 ^ 32 }
-    ensures added { All (HasRoom layout.numbered layout.gutter first) shown.now
-        → OnOk result (AddsShown layout.gutter (map (λ l. l.now) lines.now) shown.now buffer.old buffer.new) }
+    ensures added { All (NumberFits layout first) shown.now
+        → OnOk result (AddsShown layout first (map (λ l. l.now) lines.now) shown.now buffer.old buffer.new) }
 {
     for line in shown {
         draw_shown_line(alloc, buffer, layout, kind, first, lines, stretches, *line)?;
@@ -95,8 +100,8 @@ fn draw_shown_line(
     line: ShownLine,
 ) -> Result<(), AllocError>
     requires narrow { layout.gutter < 2 ^ 32 }
-    ensures added { HasRoom layout.numbered layout.gutter first line
-        → OnOk result (AddsRow (IsShownRow layout.gutter (map (λ l. l.now) lines.now) line) buffer.old buffer.new) }
+    ensures added { NumberFits layout first line
+        → OnOk result (AddsRow (IsShownRow layout first (map (λ l. l.now) lines.now) line) buffer.old buffer.new) }
 {
     match line {
         ShownLine::Line(k) => {
@@ -119,7 +124,8 @@ fn draw_text_line(
 ) -> Result<(), AllocError>
     requires narrow { layout.gutter < 2 ^ 32 }
     ensures added { length (shown_number layout.numbered layout.gutter (number_after first k)) ≤ layout.gutter + 1
-        → OnOk result (AddsRow (IsLineRow layout.gutter (norm (chars (slice_index_or (map (λ l. l.now) lines.now) k [])))) buffer.old buffer.new) }
+        → OnOk result (AddsRow (IsLineRow layout.decor layout.gutter (shown_number layout.numbered layout.gutter (number_after first k))
+        (norm (chars (slice_index_or (map (λ l. l.now) lines.now) k [])))) buffer.old buffer.new) }
 {
     let line = line_at(lines, k);
     let stretches = stretches_of(stretches, k);
@@ -153,7 +159,9 @@ fn glyph_of(
     count: usize,
     line: &str,
     stretches: &[SubstitutionHighlight],
-) -> SuggestionGlyph {
+) -> SuggestionGlyph
+    ensures sign { is_sign result ≡ true }
+{
     if count <= 1 {
         return match kind {
             DisplaySuggestion::Add => SuggestionGlyph::Added,
@@ -168,7 +176,9 @@ fn glyph_of(
 }
 
 /// The glyph beside a line that has this stretch alone.
-fn only_glyph(line: &str, stretch: SubstitutionHighlight) -> SuggestionGlyph {
+fn only_glyph(line: &str, stretch: SubstitutionHighlight) -> SuggestionGlyph
+    ensures sign { is_sign result ≡ true }
+{
     if stretch.start == 0 && stretch.end == line.len() {
         SuggestionGlyph::Added
     } else if stretch.start == 0 && stretch.end == 0 {

@@ -1,5 +1,7 @@
 //! The marks below what a suggestion puts in.
-ghost use Rattle.std.specs.Prelude.{◌<◌, ◌^◌, ◌+◌, All};
+ghost use Rattle.std.specs.Prelude.{◌≡◌, ◌<◌, ◌^◌, ◌+◌, ◌++◌, ◌∷◌, [], List, All, OnOk, length};
+ghost use Rattle.snippet_style.specs.Grid.{Cell};
+ghost use Rattle.snippet_suggest.specs.Rows.{AddsRow, IsBareRow};
 ghost use Rattle.snippet_lines.specs.Span.{IsSpan};
 
 use crate::glyphs::changed_mark;
@@ -47,6 +49,9 @@ pub(crate) fn draw_marks(
     requires narrow { layout.gutter < 2 ^ 32 }
     requires row { row + 1 < 2 ^ 64 }
     requires spans { All (λ p. IsSpan map.now.text p.span.start p.span.end) patches.now }
+    // Into the last row, which shows no line.
+    ensures marked { (above : List (List Cell)) (last : List Cell) → row ≡ length above → buffer.old ≡ above ++ last ∷ []
+        → IsBareRow layout.decor layout.gutter last → OnOk result (AddsRow (IsBareRow layout.decor layout.gutter) above buffer.new) }
 {
     let mut before = Vec::new(alloc);
     for patch in patches {

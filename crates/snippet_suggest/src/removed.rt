@@ -1,5 +1,7 @@
 //! The rows of lines that are removed.
-ghost use Rattle.std.specs.Prelude.{◌<◌, ◌≤◌, ◌^◌, ◌+◌, length};
+ghost use Rattle.std.specs.Prelude.{◌≡◌, ◌<◌, ◌≤◌, ◌^◌, ◌+◌, ◌++◌, Bool, List, OnOk, length};
+ghost use Rattle.snippet_style.specs.Grid.{Cell};
+ghost use Rattle.snippet_suggest.specs.Rows.{AddsRemoved, IsTail};
 
 use crate::layout::SuggestionLayout;
 use crate::row::draw_removed_line;
@@ -26,6 +28,10 @@ pub(crate) fn draw_removed_lines(
 ) -> Result<(), AllocError>
     requires narrow { layout.gutter < 2 ^ 32 }
     requires row { row < 2 ^ 60 }
+    requires some { 0 < length lines.now }
+    // Below some rows, the first of them perhaps over a row that shows no line.
+    ensures added { (above tail : List (List Cell)) (shares : Bool) → row ≡ length above → buffer.old ≡ above ++ tail
+        → IsTail layout shares tail → OnOk result (AddsRemoved layout above buffer.new) }
 {
     let mut row = row;
     for info in lines {

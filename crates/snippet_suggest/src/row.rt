@@ -1,8 +1,10 @@
 //! The row of one line.
-ghost use Rattle.std.specs.Prelude.{◌≡◌, ◌<◌, ◌≤◌, ◌^◌, ◌+◌, IfOk, OnOk, chars, length};
+ghost use Rattle.std.specs.Prelude.{◌≡◌, ◌<◌, ◌≤◌, ◌^◌, ◌+◌, ◌++◌, true, Bool, List, IfOk, OnOk, chars, length};
 ghost use Rattle.snippet_text.specs.Normalized.{norm};
 ghost use Rattle.snippet_lines.specs.Number.{shown_number};
-ghost use Rattle.snippet_suggest.specs.Rows.{AddsRow, IsLineRow, IsOtherRow};
+ghost use Rattle.snippet_style.specs.Grid.{Cell};
+ghost use Rattle.snippet_suggest.specs.Glyphs.{is_sign};
+ghost use Rattle.snippet_suggest.specs.Rows.{AddsRow, IsBareRow, IsLineRow, IsRemovedRow, IsTail};
 
 use crate::glyphs::SuggestionGlyph;
 use crate::layout::SuggestionLayout;
@@ -29,8 +31,9 @@ pub(crate) fn draw_line(
     line: &str,
 ) -> Result<usize, AllocError>
     requires narrow { layout.gutter < 2 ^ 32 }
-    ensures added { length (shown_number layout.numbered layout.gutter number) ≤ layout.gutter + 1
-        → OnOk result (AddsRow (IsLineRow layout.gutter (norm (chars line.now))) buffer.old buffer.new) }
+    requires sign { is_sign glyph ≡ true }
+    ensures added { let shown = shown_number layout.numbered layout.gutter number in length shown ≤ layout.gutter + 1
+        → OnOk result (AddsRow (IsLineRow layout.decor layout.gutter shown (norm (chars line.now))) buffer.old buffer.new) }
     ensures row { IfOk result (λ row. row ≡ length buffer.old) }
 {
     let row = buffer.num_lines();
@@ -63,7 +66,9 @@ pub(crate) fn draw_removed_line(
 ) -> Result<(), AllocError>
     requires narrow { layout.gutter < 2 ^ 32 }
     requires row { row + 1 < 2 ^ 64 }
-    ensures added { row ≡ length buffer.old → OnOk result (AddsRow (IsOtherRow layout.gutter) buffer.old buffer.new) }
+    // In a row of its own, or over one that shows no line.
+    ensures added { (above tail : List (List Cell)) (shares : Bool) → row ≡ length above → buffer.old ≡ above ++ tail
+        → IsTail layout shares tail → OnOk result (AddsRow (IsRemovedRow layout.gutter) above buffer.new) }
 {
     let number = number_text(alloc, layout.numbered, layout.gutter, number)?;
     buffer.puts(row, 0, number.as_str(), ElementStyle::LineNumber)?;
@@ -87,7 +92,7 @@ pub(crate) fn draw_gap(
     layout: SuggestionLayout,
 ) -> Result<(), AllocError>
     requires narrow { layout.gutter < 2 ^ 32 }
-    ensures added { OnOk result (AddsRow (IsOtherRow layout.gutter) buffer.old buffer.new) }
+    ensures added { OnOk result (AddsRow (IsBareRow layout.decor layout.gutter) buffer.old buffer.new) }
 {
     let row = buffer.num_lines();
     let placeholder = layout.decor.placeholder();

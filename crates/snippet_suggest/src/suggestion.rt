@@ -1,6 +1,12 @@
 //! The rows of a suggestion.
-ghost use Rattle.std.specs.Prelude.{◌<◌, ◌^◌, IfOk, All};
+ghost use Rattle.std.specs.Prelude.{◌≡◌, ◌<◌, ◌^◌, ◌+◌, ◌++◌, ◌∷◌, [], List, IfOk, OnOk, All, map};
+ghost use Rattle.snippet_style.specs.Grid.{Cell};
 ghost use Rattle.snippet_lines.specs.Span.{IsSpan};
+ghost use Rattle.snippet_suggest.specs.Prepared.{IsPrepared};
+ghost use Rattle.snippet_suggest.specs.Rows.{AddsLines, AddsSuggestion, HasGutter, IsBareRow, IsTail, NumberFits};
+ghost use Rattle.snippet_suggest.specs.Given.{first_given, given_lines, numbers_given};
+ghost use Rattle.snippet_suggest.specs.declared.kind.DisplaySuggestion.TheVariants.{Diff};
+ghost use Rattle.snippet_suggest.specs.declared.shown.ShownLine.TheVariants.{Line};
 
 use crate::diff::draw_diff;
 use crate::ends::{draw_end, draw_head};
@@ -8,11 +14,12 @@ use crate::kind::DisplaySuggestion;
 use crate::layout::SuggestionLayout;
 use crate::lines::{draw_lines, text_lines};
 use crate::marks::draw_marks;
+use crate::prepared::{PreparedSuggestion, first_number};
 use crate::removed::draw_removed_lines;
 use crate::roles::stretches_of;
 use crate::shown::is_touched;
-use snippet_parts::{LineInfo, SourceMap};
-use snippet_splice::{SplicedLines, TrimmedPatch};
+use snippet_parts::SourceMap;
+use snippet_splice::TrimmedPatch;
 use snippet_style::StyledBuffer;
 use std::alloc::{AllocError, Global};
 use std::ops::Range;
@@ -35,24 +42,23 @@ pub fn draw_suggestion(
     alloc: Global,
     buffer: &mut StyledBuffer,
     layout: SuggestionLayout,
-    map: &SourceMap<'_>,
-    splice: &SplicedLines<'_>,
-    fold: bool,
+    suggestion: &PreparedSuggestion<'_>,
     shares: bool,
     follows: bool,
 ) -> Result<(), AllocError>
     requires narrow { layout.gutter < 2 ^ 32 }
-    requires spans { All (λ p. IsSpan map.now.text p.span.start p.span.end) splice.now.patches.items }
-    requires originals { All (λ p. IsSpan map.now.text p.original_span.start p.original_span.end) splice.now.patches.items }
+    requires prepared { IsPrepared suggestion.now }
+    // Where the gutter has room for the number that it counts: rows that show it, and nothing else, below what stands there.
+    ensures added { HasGutter layout suggestion.now.snippet.now
+        → (above tail : List (List Cell)) → buffer.old ≡ above ++ tail → IsTail layout shares tail
+        → OnOk result (AddsSuggestion layout suggestion.now.snippet.now above buffer.new) }
 {
-    let lines = text_lines(alloc, splice.complete.as_str())?;
-    let kind = DisplaySuggestion::new(map.source(), splice, lines.len());
-    let skipped = draw_body(
-        alloc, buffer, layout, map, splice, &lines, kind, fold, shares,
-    )?;
+    let lines = text_lines(alloc, suggestion.splice.complete.as_str())?;
+    let skipped = draw_body(alloc, buffer, layout, suggestion, &lines, shares)?;
     let row = draw_end(buffer, layout, skipped, follows)?;
-    if kind == DisplaySuggestion::Underline {
-        draw_marks(alloc, buffer, layout, row, map, &splice.patches)?;
+    if suggestion.kind == DisplaySuggestion::Underline {
+        let patches = &suggestion.splice.patches;
+        draw_marks(alloc, buffer, layout, row, &suggestion.map, patches)?;
     }
     Ok(())
 }
@@ -62,41 +68,34 @@ fn draw_body(
     alloc: Global,
     buffer: &mut StyledBuffer,
     layout: SuggestionLayout,
-    map: &SourceMap<'_>,
-    splice: &SplicedLines<'_>,
+    suggestion: &PreparedSuggestion<'_>,
     lines: &[&str],
-    kind: DisplaySuggestion,
-    fold: bool,
     shares: bool,
 ) -> Result<usize, AllocError>
     requires narrow { layout.gutter < 2 ^ 32 }
-    requires spans { All (λ p. IsSpan map.now.text p.span.start p.span.end) splice.now.patches.items }
-    requires originals { All (λ p. IsSpan map.now.text p.original_span.start p.original_span.end) splice.now.patches.items }
+    requires prepared { IsPrepared suggestion.now }
+    requires lines { map (λ l. l.now) lines.now ≡ given_lines suggestion.now.snippet.now }
     ensures few { IfOk result (λ skipped. skipped < 2) }
+    ensures added { let s = suggestion.now.snippet.now in HasGutter layout s
+        → (above tail : List (List Cell)) → buffer.old ≡ above ++ tail → IsTail layout shares tail
+        → OnOk result (AddsLines layout (s.line_start + first_given s) (given_lines s) (numbers_given s) above buffer.new) }
 {
     let Some(line) = lines.first() else {
-        draw_emptied(
-            alloc,
-            buffer,
-            layout,
-            map,
-            &splice.patches,
-            kind,
-            fold,
-            shares,
-        )?;
+        draw_emptied(alloc, buffer, layout, suggestion, shares)?;
         return Ok(0);
     };
     draw_head(buffer, layout, shares)?;
-    let first = first_number(map, &splice.patches, fold);
-    if kind == DisplaySuggestion::Diff {
-        return draw_changed(alloc, buffer, layout, map, splice, first, *line, fold);
+    let splice = &suggestion.splice;
+    let fold = suggestion.snippet.fold;
+    let first = first_number(&suggestion.map, &splice.patches, fold);
+    if suggestion.kind == DisplaySuggestion::Diff {
+        return draw_changed(alloc, buffer, layout, suggestion, first, *line);
     }
     draw_lines(
         alloc,
         buffer,
         layout,
-        kind,
+        suggestion.kind,
         first,
         lines,
         &splice.ranges,
@@ -112,17 +111,23 @@ fn draw_changed(
     alloc: Global,
     buffer: &mut StyledBuffer,
     layout: SuggestionLayout,
-    map: &SourceMap<'_>,
-    splice: &SplicedLines<'_>,
+    suggestion: &PreparedSuggestion<'_>,
     first: usize,
     line: &str,
-    fold: bool,
 ) -> Result<usize, AllocError>
     requires narrow { layout.gutter < 2 ^ 32 }
-    requires spans { All (λ p. IsSpan map.now.text p.span.start p.span.end) splice.now.patches.items }
+    requires prepared { IsPrepared suggestion.now }
+    requires line { given_lines suggestion.now.snippet.now ≡ line.now ∷ [] }
+    requires diff { suggestion.now.kind ≡ Diff }
     ensures few { IfOk result (λ skipped. skipped < 2) }
+    ensures added { let s = suggestion.now.snippet.now in NumberFits layout first (Line 0)
+        → (above : List (List Cell)) (last : List Cell) → buffer.old ≡ above ++ last ∷ []
+        → IsBareRow layout.decor layout.gutter last
+        → OnOk result (AddsLines layout first (given_lines s) (numbers_given s) above buffer.new) }
 {
-    if !is_touched(fold, &splice.ranges, 0) {
+    let splice = &suggestion.splice;
+    let map = &suggestion.map;
+    if !is_touched(suggestion.snippet.fold, &splice.ranges, 0) {
         return Ok(1);
     }
     let removed = map.span_to_lines(trimmed_span(map, &splice.patches))?;
@@ -140,20 +145,23 @@ fn draw_emptied(
     alloc: Global,
     buffer: &mut StyledBuffer,
     layout: SuggestionLayout,
-    map: &SourceMap<'_>,
-    patches: &[TrimmedPatch<'_>],
-    kind: DisplaySuggestion,
-    fold: bool,
+    suggestion: &PreparedSuggestion<'_>,
     shares: bool,
 ) -> Result<(), AllocError>
     requires narrow { layout.gutter < 2 ^ 32 }
-    requires originals { All (λ p. IsSpan map.now.text p.original_span.start p.original_span.end) patches.now }
+    requires prepared { IsPrepared suggestion.now }
+    ensures added { let s = suggestion.now.snippet.now in (above tail : List (List Cell)) → buffer.old ≡ above ++ tail
+        → IsTail layout shares tail
+        → OnOk result (AddsLines layout (s.line_start + first_given s) (given_lines s) [] above buffer.new) }
 {
-    let removed = map.span_to_lines(given_span(map, patches, fold))?;
-    if kind == DisplaySuggestion::Diff {
+    let map = &suggestion.map;
+    let patches = &suggestion.splice.patches;
+    let removed = map.span_to_lines(given_span(map, patches, suggestion.snippet.fold))?;
+    let diff = suggestion.kind == DisplaySuggestion::Diff;
+    if diff {
         draw_head(buffer, layout, shares)?;
     }
-    let row = if shares && kind != DisplaySuggestion::Diff {
+    let row = if shares && !diff {
         buffer.num_lines().saturating_sub(1)
     } else {
         buffer.num_lines()
@@ -182,20 +190,5 @@ fn trimmed_span(map: &SourceMap<'_>, patches: &[TrimmedPatch<'_>]) -> Range<usiz
         [only] => only.span.start..only.span.end,
         [first, .., last] if first.span.start <= last.span.end => first.span.start..last.span.end,
         _ => 0..map.source().len(),
-    }
-}
-
-/// The number of the first line that is shown: folded that of the line on which the first patch starts.
-fn first_number(map: &SourceMap<'_>, patches: &[TrimmedPatch<'_>], fold: bool) -> usize
-    requires originals { All (λ p. IsSpan map.now.text p.original_span.start p.original_span.end) patches.now }
-{
-    match patches.first() {
-        Some(patch) if fold => {
-            let (start, _) = map.span_to_locations(
-                patch.original_span.start..patch.original_span.end,
-            );
-            start.line
-        }
-        _ => map.line_start(),
     }
 }

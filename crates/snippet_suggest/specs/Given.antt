@@ -1,0 +1,120 @@
+-- What a snippet of patches gives: the lines that are shown of the patched source, which of them a suggestion offers, and the
+-- number that it counts for the gutter's width.
+use Rattle.std.specs.Prelude.{◌≡◌, ℕ, ◌+◌, ◌-◌, ◌&&◌, ◌||◌, nat_le, Bool, true, false, not, List, [], ◌∷◌, All, length, map, if◌then◌else◌}
+use Rattle.std.specs.Cow.{cow_str_bytes}
+use Rattle.std.specs.List.{slice_index_or}
+use Rattle.std.specs.Str.{bytes_eq}
+use Rattle.snippet_model.specs.declared.snippet.Snippet.{Snippet}
+use Rattle.snippet_model.specs.declared.snippet.Patch.{Patch}
+use Rattle.snippet_parts.specs.declared.source_map.LineInfo.{LineInfo}
+use Rattle.snippet_lines.specs.Lines.{Source, lines_of, source_lines, text_at, newline_count}
+use Rattle.snippet_lines.specs.Place.{line_of}
+use Rattle.snippet_splice.specs.declared.patches.TrimmedPatch.{TrimmedPatch}
+use Rattle.snippet_splice.specs.declared.splice.LineRange.{LineRange}
+use Rattle.snippet_splice.specs.Copied.{written_ranges}
+use Rattle.snippet_splice.specs.Edits.{Edit, edit_of, in_order, trimmed_edits}
+use Rattle.snippet_splice.specs.Shown.{first_start, shown_line, shown_start, shown_text}
+use Rattle.snippet_splice.specs.Spliced.{HasNoCr, IsBeforeFinalLf, last_line_reached, spliced_text, texts_of}
+use Rattle.snippet_suggest.specs.declared.kind.DisplaySuggestion.{DisplaySuggestion}
+use Rattle.snippet_suggest.specs.declared.kind.DisplaySuggestion.TheVariants.{Underline, Diff, Plain, Add}
+use Rattle.snippet_suggest.specs.Kind.{is_blank, kind_of}
+use Rattle.snippet_suggest.specs.Shown.{is_touched, numbers_shown, shown_lines}
+
+-- the source of a snippet, with the number of its first line
+abbrev pub source_of : Snippet Patch → Source
+source_of s = record { text = cow_str_bytes s.source; first = s.line_start }
+
+-- the edits that its patches stand for, as they are given, and trimmed
+abbrev pub edits_of : Snippet Patch → List Edit
+edits_of s = map edit_of s.markers.items
+
+abbrev pub trimmed_of : Snippet Patch → List Edit
+trimmed_of s = trimmed_edits (cow_str_bytes s.source) (edits_of s)
+
+-- the text that is shown of the patched source, and its lines
+abbrev pub given_text : Snippet Patch → List ℕ
+given_text s = shown_text s.fold (cow_str_bytes s.source) (edits_of s)
+
+abbrev pub given_lines : Snippet Patch → List (List ℕ)
+given_lines s = texts_of (lines_of (given_text s))
+
+-- which line of the patched source the first of them is
+abbrev pub first_given : Snippet Patch → ℕ
+first_given s = shown_line s.fold (cow_str_bytes s.source) (edits_of s)
+
+-- for each trimmed patch the lines among them on which its text stands
+abbrev pub given_ranges : Snippet Patch → List LineRange
+given_ranges s =
+    written_ranges (cow_str_bytes s.source) 0 (shown_start s.fold (cow_str_bytes s.source) (first_start (in_order (edits_of s)))) (trimmed_of s)
+
+-- how they are shown
+abbrev pub shown_kind : Snippet Patch → DisplaySuggestion
+shown_kind s = kind_of (cow_str_bytes s.source) (trimmed_of s) (given_text s)
+
+-- the text of the last source line that is reached
+abbrev pub last_reached : Snippet Patch → List ℕ
+last_reached s =
+    text_at (source_lines (cow_str_bytes s.source)) (last_line_reached (cow_str_bytes s.source) (edits_of s))
+
+-- whether one line, in place of the lines that are removed, isn't shown: it is blank, or the same as the last of them
+abbrev pub is_left_out : DisplaySuggestion → List (List ℕ) → List ℕ → Bool
+is_left_out Diff lines last =
+    is_blank (slice_index_or lines 0 []) || bytes_eq (slice_index_or lines 0 []) last
+is_left_out Underline lines last = false
+is_left_out Plain lines last = false
+is_left_out Add lines last = false
+
+-- the text of the last of some lines
+abbrev pub last_removed : List LineInfo → List ℕ
+last_removed infos = slice_index_or (map (λ info. info.line.now) infos) (length infos - 1) []
+
+-- which of some lines are shown, counted from the first of them
+abbrev pub numbers_of : DisplaySuggestion → Bool → List LineRange → List (List ℕ) → List ℕ → List ℕ
+numbers_of kind folds ranges lines last =
+    if is_left_out kind lines last then [] else numbers_shown (shown_lines (is_touched folds ranges) (length lines))
+
+-- which of its lines a suggestion shows: unfolded all; folded those that patches touch, and of the lines between two of
+-- these all, or of more than three the first and the last; but not one that is left out
+abbrev pub numbers_given : Snippet Patch → List ℕ
+numbers_given s = numbers_of (shown_kind s) s.fold (given_ranges s) (given_lines s) (last_reached s)
+
+-- which lines of the patched source it offers
+abbrev pub offered_lines : Snippet Patch → List ℕ
+offered_lines s = map (λ k. first_given s + k) (numbers_given s)
+
+-- what the promise on offered lines asks of a snippet: no CR in its source and its replacements, and no trimmed patch that
+-- starts behind an LF that ends the source
+pub record IsOfferable (s : Snippet Patch) : Type 0 where
+  pub no_cr : HasNoCr (cow_str_bytes s.source)
+  pub no_cr_in : All (λ e. HasNoCr e.text) (edits_of s)
+  pub before : All (λ e. IsBeforeFinalLf (cow_str_bytes s.source) e.start) (trimmed_of s)
+
+-- the spliced text has one line, and that is the last source line that is reached
+abbrev pub IsAsItWas : Snippet Patch → Type 0
+IsAsItWas s =
+    texts_of (lines_of (spliced_text s.fold (cow_str_bytes s.source) (edits_of s))) ≡ last_reached s ∷ []
+
+-- where the first of some patches started before it was trimmed
+abbrev pub first_original : List TrimmedPatch → ℕ
+first_original [] = 0
+first_original (p ∷ ps) = p.original_span.start
+
+-- where the first of some edits ends
+abbrev pub first_end : List Edit → ℕ
+first_end [] = 0
+first_end (e ∷ es) = e.end
+
+-- the number that is counted where lines are folded, by the kind: where there is one line, its own, or that of the last of the
+-- lines that the first patch takes away; else that of the last line
+abbrev pub counted_folded : DisplaySuggestion → ℕ → ℕ → ℕ → ℕ
+counted_folded Underline first removed last = first
+counted_folded Diff first removed last = removed
+counted_folded Plain first removed last = last
+counted_folded Add first removed last = last
+
+-- the line number that a suggestion counts for the gutter's width
+abbrev pub counted_line : Snippet Patch → ℕ
+counted_line s =
+    let first = s.line_start + first_given s in
+    let last = first + newline_count (given_text s) in
+    if s.fold then counted_folded (shown_kind s) first (s.line_start + line_of (source_lines (cow_str_bytes s.source)) (first_end (trimmed_of s))) last else last

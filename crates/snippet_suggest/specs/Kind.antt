@@ -1,0 +1,54 @@
+-- How a suggestion is shown: as a value, by what its patches do.
+use Rattle.std.specs.Prelude.{ℕ, nat_le, ◌==◌, ◌&&◌, ◌||◌, not, Bool, true, false, Option, Some, None, is_none, List, [], ◌∷◌, length, chars, if◌then◌else◌}
+use Rattle.std.specs.Char.{is_whitespace}
+use Rattle.std.specs.List.{list_all, list_any, slice_range}
+use Rattle.std.specs.Str.{bytes_eq, trim}
+use Rattle.snippet_lines.specs.Lines.{last_byte, lines_of}
+use Rattle.snippet_splice.specs.Edits.{Edit}
+use Rattle.snippet_splice.specs.Trim.{sandwich}
+use Rattle.snippet_suggest.specs.declared.kind.DisplaySuggestion.{DisplaySuggestion}
+use Rattle.snippet_suggest.specs.declared.kind.DisplaySuggestion.TheVariants.{Underline, Diff, Plain, Add}
+
+-- whether a text is nothing but whitespace
+abbrev pub is_blank : List ℕ → Bool
+is_blank text = list_all is_whitespace (chars text)
+
+-- the text of the source that an edit stands over, if its span is inside the source
+abbrev pub text_under : List ℕ → Edit → Option (List ℕ)
+text_under source e = if nat_le e.end (length source) then Some (slice_range source e.start e.end) else None
+
+-- whether it stands over text that isn't blank. A span that isn't inside the source counts as such text, unless it is empty
+abbrev pub is_under_text : Edit → Option (List ℕ) → Bool
+is_under_text e None = not (e.start == e.end)
+is_under_text e (Some text) = not (is_blank text)
+
+-- whether its text keeps less than all of that text, whitespace around both apart
+abbrev pub loses_text : Edit → Option (List ℕ) → Bool
+loses_text e None = true
+loses_text e (Some text) = is_none (sandwich (trim text) (trim e.text))
+
+-- whether a trimmed edit deletes or destroys text that isn't blank
+abbrev pub takes_away : List ℕ → Edit → Bool
+takes_away source e =
+    is_under_text e (text_under source e) && (is_blank e.text || loses_text e (text_under source e))
+
+-- whether a text is that of the one edit, whitespace around both apart
+abbrev pub is_replacement : List Edit → List ℕ → Bool
+is_replacement [] text = false
+is_replacement (e ∷ []) text = bytes_eq (trim e.text) (trim text)
+is_replacement (e ∷ d ∷ es) text = false
+
+-- whether the text of the one edit ends with LF
+abbrev pub adds_lines : List Edit → Bool
+adds_lines [] = false
+adds_lines (e ∷ es) = last_byte e.text == 10
+
+-- how these trimmed edits of a source are shown, if they give this text: as removed lines and one in their place where something
+-- is taken away and there is at most one line; as new lines where the one edit gives all of it and ends with LF; as one line
+-- with marks where several or a part give it; else as the lines that it has
+abbrev pub kind_of : List ℕ → List Edit → List ℕ → DisplaySuggestion
+kind_of source ts text =
+    if nat_le (length (lines_of text)) 1 && list_any (takes_away source) ts then Diff
+    else if is_replacement ts text then (if adds_lines ts then Add else Plain)
+    else if nat_le (length (lines_of text)) 1 then Underline
+    else Plain

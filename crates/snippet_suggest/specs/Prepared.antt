@@ -1,0 +1,33 @@
+-- What is known of a suggestion before any row is drawn.
+use Rattle.std.specs.Prelude.{◌≡◌, ◌≢◌, ℕ, ◌+◌, ◌≤◌, ◌<◌, ◌^◌, [], All, length, map}
+use Rattle.std.specs.String.{string_bytes}
+use Rattle.std.specs.Cow.{cow_str_bytes}
+use Rattle.snippet_model.specs.declared.snippet.Snippet.{Snippet}
+use Rattle.snippet_model.specs.declared.snippet.Patch.{Patch}
+use Rattle.snippet_lines.specs.Lines.{source_lines}
+use Rattle.snippet_lines.specs.Span.{IsSpan}
+use Rattle.snippet_splice.specs.Edits.{bounds_of, in_order, original_bounds_of, trimmed_edit_of}
+use Rattle.snippet_splice.specs.Overlap.{AreDisjoint}
+use Rattle.snippet_suggest.specs.declared.prepared.PreparedSuggestion.{PreparedSuggestion}
+use Rattle.snippet_suggest.specs.Given.{counted_line, edits_of, first_given, given_lines, given_ranges, given_text, shown_kind, source_of, trimmed_of}
+
+-- what preparing a snippet of patches asks of it: that its source fits, that each patch has a span, that no two of them
+-- overlap, and that there are numbers for the lines that it gives
+pub record IsSuggestible (s : Snippet Patch) : Type 0 where
+  pub source : length (cow_str_bytes s.source) < 2 ^ 56
+  pub lines : s.line_start + length (source_lines (cow_str_bytes s.source)) < 2 ^ 64
+  pub spans : All (λ p. IsSpan (cow_str_bytes s.source) p.span.start p.span.end) s.markers.items
+  pub disjoint : AreDisjoint (edits_of s)
+  pub numbers : s.line_start + first_given s + length (given_lines s) ≤ 2 ^ 64
+
+-- what was prepared is that of its snippet, which has patches
+pub record IsPrepared (p : PreparedSuggestion) : Type 0 where
+  pub suggestible : IsSuggestible p.snippet.now
+  pub some : p.snippet.now.markers.items ≢ []
+  pub lines : p.map ≡ source_of p.snippet.now
+  pub text : string_bytes p.splice.complete ≡ given_text p.snippet.now
+  pub edits : map trimmed_edit_of p.splice.patches.items ≡ trimmed_of p.snippet.now
+  pub originals : map original_bounds_of p.splice.patches.items ≡ map bounds_of (in_order (edits_of p.snippet.now))
+  pub ranges : p.splice.ranges.items ≡ given_ranges p.snippet.now
+  pub kind : p.kind ≡ shown_kind p.snippet.now
+  pub counted : p.counted ≡ counted_line p.snippet.now
