@@ -1,7 +1,7 @@
 -- What the grid holds: a title, an annotated snippet below it, and with both a whole report.
 use Rattle.snippet_style.specs.Woven.{links_of}
-use Rattle.std.specs.Prelude.{◌≡◌, ℕ, ◌+◌, ◌-◌, ◌<◌, ◌≤◌, ◌^◌, All, length, Bool, true, List, [], ◌∷◌, Option, None, Some, map}
-use Rattle.std.specs.List.{AllZip}
+use Rattle.std.specs.Prelude.{◌≡◌, ℕ, ◌+◌, ◌-◌, ◌<◌, ◌≤◌, nat_lt, ◌==◌, ◌^◌, max, fold, All, length, Bool, true, List, [], ◌∷◌, ◌++◌, Option, None, Some, map, if◌then◌else◌}
+use Rattle.std.specs.List.{AllZip, filter_map, flat_map}
 use Rattle.std.specs.Cow.{cow_str_bytes}
 use Rattle.snippet_style.specs.Grid.{Cell}
 use Rattle.snippet_style.specs.Print.{plain_text}
@@ -13,6 +13,9 @@ use Rattle.snippet_style.specs.declared.role.LevelInner.{LevelInner}
 use Rattle.snippet_style.specs.declared.glyphs.DecorStyle.{DecorStyle}
 use Rattle.snippet_model.specs.declared.snippet.Snippet.{Snippet}
 use Rattle.snippet_model.specs.declared.snippet.Annotation.{Annotation}
+use Rattle.snippet_model.specs.declared.snippet.Patch.{Patch}
+use Rattle.snippet_model.specs.declared.snippet.Element.{Element}
+use Rattle.snippet_model.specs.declared.snippet.Element.TheVariants.{Message, Cause, Suggestion, Origin, Padding}
 use Rattle.snippet_parts.specs.declared.entries.AnnotatedLineInfo.{AnnotatedLineInfo}
 use Rattle.snippet_parts.specs.Annotated.{deepest, kept_line, seen_kept}
 use Rattle.snippet_parts.specs.Kept.{shown_lines}
@@ -24,8 +27,14 @@ use Rattle.snippet_parts.specs.declared.margin.Margin.{Margin}
 use Rattle.snippet_model.specs.Fits.{AnnotationFits}
 use Rattle.snippet_strokes.specs.declared.layout.Layout.{Layout}
 use Rattle.snippet_strokes.specs.Snippet.{AddsSnippet}
+use Rattle.snippet_suggest.specs.declared.layout.SuggestionLayout.{SuggestionLayout}
+use Rattle.snippet_suggest.specs.declared.shown.ShownLine.{ShownLine}
+use Rattle.snippet_suggest.specs.Given.{first_given, given_lines, numbers_given}
+use Rattle.snippet_suggest.specs.Prepared.{IsSuggestible}
+use Rattle.snippet_suggest.specs.Rows.{IsShownRow, IsTail}
+use Rattle.snippet_suggest.specs.Shown.{numbers_shown}
 use Rattle.annotate_snippets.specs.declared.renderer.Renderer.{Renderer}
-use Rattle.annotate_snippets.specs.Gutter.{code_behind, gutter_of, gutter_of_report, numbered_source}
+use Rattle.annotate_snippets.specs.Gutter.{code_behind, gutter_of, gutter_of_report, gutter_of_suggestion, numbered_source}
 use Rattle.annotate_snippets.specs.Page.{GroupPage, group_rows}
 use Rattle.annotate_snippets.specs.Shown.{levels_of, report_links, ShowsGroup, IsFreeBut}
 
@@ -56,12 +65,56 @@ pub record IsDrawable (s : Snippet Annotation) : Type 0 where
   pub spans : All (λ a. IsSpan (cow_str_bytes s.source) a.span.start a.span.end) s.markers.items
   pub labels : All AnnotationFits s.markers.items
 
--- the grid holds the rows of this title, with links or without, and below them those of this snippet, if there is one, in
--- this width
-abbrev pub IsGridOf : DecorStyle → Bool → ℕ → Title → Option (Snippet Annotation) → List (List Cell) → Type 0
-IsGridOf decor hyperlink width title None rows = rows ≡ title_rows hyperlink title
-IsGridOf decor hyperlink width title (Some s) rows =
+-- the snippets of patches among some elements that have patches: the others aren't there
+abbrev pub suggestion_of : Element → Option (Snippet Patch)
+suggestion_of (Message message) = None
+suggestion_of (Cause snippet) = None
+suggestion_of (Suggestion snippet) = if length snippet.markers.items == 0 then None else Some snippet
+suggestion_of (Origin origin) = None
+suggestion_of (Padding padding) = None
+
+abbrev pub suggested : List Element → List (Snippet Patch)
+suggested es = filter_map suggestion_of es
+
+-- the gutter's width for some suggestions: the greatest that one of them wants
+abbrev pub gutter_of_suggestions : List (Snippet Patch) → ℕ
+gutter_of_suggestions ss = fold (λ gutter s. max (gutter_of_suggestion s) gutter) 0 ss
+
+-- where the parts of a suggestion's rows stand
+abbrev pub suggestion_layout : DecorStyle → ℕ → Snippet Patch → SuggestionLayout
+suggestion_layout decor gutter s = record { gutter = gutter; numbered = s.line_numbering; decor = decor }
+
+-- rows of a suggestion, the last one apart: for each line that it offers a row, in order, and other rows between them
+pub record AreSuggestionRows (layout : SuggestionLayout) (s : Snippet Patch) (rows : List (List Cell)) : Type 0 where
+  pub shown : List ShownLine
+  pub are : AllZip (IsShownRow layout (s.line_start + first_given s) (given_lines s)) shown rows
+  pub numbers : numbers_shown shown ≡ numbers_given s
+
+-- suggestions stand below some rows, and nothing else: the rows of each, from the row with which the one above it ends, and below
+-- them the row with which the last of them ends
+pub record AddsSuggestions (decor : DecorStyle) (ss : List (Snippet Patch)) (above new : List (List Cell)) : Type 0 where
+  pub parts : List (List (List Cell))
+  pub last : List (List Cell)
+  pub added : new ≡ above ++ (flat_map (λ part. part) parts ++ last)
+  pub are : AllZip (λ s part. AreSuggestionRows (suggestion_layout decor (gutter_of_suggestions ss) s) s part) ss parts
+  pub ends : (s : Snippet Patch) → IsTail (suggestion_layout decor (gutter_of_suggestions ss) s) (nat_lt 0 (length ss)) last
+
+-- what drawing elements asks of them
+abbrev pub AreDrawable : List Element → Type 0
+AreDrawable [] = Unit {0}
+AreDrawable (Cause s ∷ es) = IsDrawable s × AreDrawable es
+AreDrawable (Suggestion s ∷ es) = IsSuggestible s × AreDrawable es
+AreDrawable (Message message ∷ es) = AreDrawable es
+AreDrawable (Origin origin ∷ es) = AreDrawable es
+AreDrawable (Padding padding ∷ es) = AreDrawable es
+
+-- the grid holds the rows of this title, with links or without, and below them those of these elements, in this width: an
+-- annotated snippet, or suggestions
+abbrev pub IsGridOf : DecorStyle → Bool → ℕ → Title → List Element → List (List Cell) → Type 0
+IsGridOf decor hyperlink width title (Cause s ∷ []) rows =
     AddsCause decor width s (title_rows hyperlink title) rows
+IsGridOf decor hyperlink width title es rows =
+    AddsSuggestions decor (suggested es) (title_rows hyperlink title) rows
 
 -- the grid of a report of one group, which is printed in this level: its rows are a page that shows the group, and each
 -- listed character of them is one of a trusted text; they link to what the report links to

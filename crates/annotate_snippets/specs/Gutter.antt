@@ -1,10 +1,11 @@
 -- The gutter: how wide it is, and what stands in it beside a line.
-use Rattle.std.specs.Prelude.{ℕ, ◌+◌, ◌==◌, ◌&&◌, max, Bool, List, length, fold, codes, if◌then◌else◌}
+use Rattle.std.specs.Prelude.{ℕ, ◌+◌, ◌==◌, ◌&&◌, max, not, Bool, List, length, fold, codes, if◌then◌else◌}
 use Rattle.std.specs.List.{flat_map}
 use Rattle.std.specs.Fmt.{decimal}
 use Rattle.snippet_model.specs.declared.snippet.Group.{Group}
 use Rattle.snippet_model.specs.declared.snippet.Snippet.{Snippet}
 use Rattle.snippet_model.specs.declared.snippet.Annotation.{Annotation}
+use Rattle.snippet_model.specs.declared.snippet.Patch.{Patch}
 use Rattle.snippet_model.specs.declared.snippet.Element.{Element}
 use Rattle.snippet_model.specs.declared.snippet.Element.TheVariants.{Message, Cause, Suggestion, Origin, Padding}
 use Rattle.std.specs.Cow.{cow_str_bytes}
@@ -12,16 +13,22 @@ use Rattle.snippet_parts.specs.Annotated.{deepest}
 use Rattle.snippet_lines.specs.Lines.{Source}
 use Rattle.snippet_parts.specs.Prepare.{counted_number}
 use Rattle.snippet_lines.specs.Number.{shown_number, set_right}
+use Rattle.snippet_suggest.specs.Given.{counted_line}
 use Rattle.annotate_snippets.specs.declared.renderer.Renderer.{Renderer}
 
 -- the width that an annotated snippet wants: that of the greatest line number counted, or 0 where lines aren't numbered
 abbrev pub gutter_of : Snippet Annotation → ℕ
 gutter_of s = if s.line_numbering then length (decimal (counted_number s)) else 0
 
+-- the width that a suggestion wants: the same of the number that it counts; one without patches isn't there
+abbrev pub gutter_of_suggestion : Snippet Patch → ℕ
+gutter_of_suggestion s =
+    if s.line_numbering && not (length s.markers.items == 0) then length (decimal (counted_line s)) else 0
+
 -- the width that is wanted by some elements and by one more
 abbrev pub gutter_of_element : ℕ → Element → ℕ
 gutter_of_element gutter (Cause snippet) = max (gutter_of snippet) gutter
-gutter_of_element gutter (Suggestion snippet) = gutter
+gutter_of_element gutter (Suggestion snippet) = max (gutter_of_suggestion snippet) gutter
 gutter_of_element gutter (Message message) = gutter
 gutter_of_element gutter (Origin origin) = gutter
 gutter_of_element gutter (Padding padding) = gutter

@@ -7,10 +7,12 @@ use Rattle.snippet_style.specs.Woven.{Prints, links_of}
 use Rattle.snippet_style.specs.declared.role.LevelInner.{LevelInner}
 use Rattle.snippet_style.specs.declared.stylesheet.Stylesheet.{Stylesheet}
 
--- what a row of an element shows: a line of the element's source, from 0; that lines are left out; or something else
+-- what a row of an element shows: a line of the element's source, from 0; that lines are left out; a line of the patched source,
+-- from 0; or something else
 pub data RowName : Type 0 where
   SourceRow : (k : ℕ) → RowName
   Elision : RowName
+  OfferedLine : (j : ℕ) → RowName
   Other : RowName
 
 -- a row of an element: its name and its cells
@@ -22,16 +24,28 @@ pub record NamedRow : Type 0 where
 abbrev pub line_named : RowName → Option ℕ
 line_named (SourceRow k) = Some k
 line_named Elision = None
+line_named (OfferedLine j) = None
 line_named Other = None
 
 -- the lines that some rows are named by
 abbrev pub lines_named : List NamedRow → List ℕ
 lines_named rows = filter_map (λ row. line_named row.name) rows
 
--- whether a row shows a line, or that lines are left out
+-- the line of the patched source that a row is named by, and those that some rows are named by
+abbrev pub line_offered : RowName → Option ℕ
+line_offered (SourceRow k) = None
+line_offered Elision = None
+line_offered (OfferedLine j) = Some j
+line_offered Other = None
+
+abbrev pub lines_offered : List NamedRow → List ℕ
+lines_offered rows = filter_map (λ row. line_offered row.name) rows
+
+-- whether a row shows a line of the source, or that lines are left out
 abbrev pub shows_lines : RowName → Bool
 shows_lines (SourceRow k) = true
 shows_lines Elision = true
+shows_lines (OfferedLine j) = false
 shows_lines Other = false
 
 -- the names of some rows, from top to bottom, without those of rows that show something else

@@ -22,11 +22,17 @@ use Rattle.snippet_model.specs.declared.snippet.Title.{Title}
 use Rattle.snippet_model.specs.declared.snippet.Group.{Group}
 use Rattle.snippet_model.specs.declared.snippet.Snippet.{Snippet}
 use Rattle.snippet_model.specs.declared.snippet.Annotation.{Annotation}
+use Rattle.snippet_model.specs.declared.snippet.Patch.{Patch}
 use Rattle.snippet_model.specs.declared.snippet.AnnotationKind.{AnnotationKind}
 use Rattle.snippet_model.specs.declared.snippet.Element.{Element}
 use Rattle.snippet_model.specs.declared.snippet.Element.TheVariants.{Message, Cause, Suggestion, Origin, Padding}
 use Rattle.snippet_parts.specs.Kept.{shown_lines}
-use Rattle.snippet_lines.specs.Lines.{source_lines}
+use Rattle.snippet_lines.specs.Lines.{source_lines, text_at}
+use Rattle.snippet_splice.specs.Edits.{patched}
+use Rattle.snippet_splice.specs.Spliced.{IsTouched}
+use Rattle.snippet_suggest.specs.Given.{IsAsItWas, IsOfferable, edits_of, first_given, given_lines, offered_lines}
+use Rattle.snippet_suggest.specs.Kind.{is_blank}
+use Rattle.snippet_suggest.specs.Rows.{IsOtherRow, IsSign}
 use Rattle.snippet_parts.specs.Margin.{Bounds}
 use Rattle.snippet_parts.specs.Measures.{margin_of}
 use Rattle.snippet_parts.specs.Marked.{first_line, last_line}
@@ -39,7 +45,7 @@ use Rattle.snippet_parts.specs.Rows.{HasNoNumber}
 use Rattle.snippet_strokes.specs.Rows.{first_row, IsElisionRow}
 use Rattle.annotate_snippets.specs.declared.renderer.Renderer.{Renderer}
 use Rattle.annotate_snippets.specs.Gutter.{code_behind, depth_of_group, gutter_of_report, number_text, numbered_source}
-use Rattle.annotate_snippets.specs.Page.{RowName, SourceRow, Elision, Other, NamedRow, lines_named, names_in, names_of_lines, cells_below, GroupPage, Page, page_text, PrintsPage, IsAscending, page_links}
+use Rattle.annotate_snippets.specs.Page.{RowName, SourceRow, Elision, OfferedLine, Other, NamedRow, lines_named, lines_offered, names_in, names_of_lines, cells_below, GroupPage, Page, page_text, PrintsPage, IsAscending, page_links}
 
 -- the characters of a title's text as it is drawn: a trusted one as it is, any other normalised
 abbrev pub drawn_text : Title → List ℕ
@@ -188,6 +194,7 @@ pub record IsElided (decor : DecorStyle) (frame : Frame) (row : List Cell) : Typ
 abbrev pub IsRowOf : Renderer → Frame → Snippet Annotation → RowName → List Cell → List NamedRow → Type 0
 IsRowOf r frame s (SourceRow k) row rows = ShowsLineAndMarks r frame s k row (cells_below rows)
 IsRowOf r frame s Elision row rows = IsElided r.decor_style frame row
+IsRowOf r frame s (OfferedLine j) row rows = ⊥
 IsRowOf r frame s Other row rows = IsRowBelow r.decor_style frame (length rows == 0) row
 
 -- each row is what its name says
@@ -212,13 +219,52 @@ pub record ShowsSnippet (r : Renderer) (frame : Frame) (first : Bool) (s : Snipp
   pub ordered : IsAscending (lines_named behind)
   pub named : AreRowsOf r frame s behind
 
--- the rows show an element, which is the group's first or a later one. Only of annotated snippets is anything said yet
+-- the row offers line j of the patched source: its number in the gutter, a separator, `+` or the glyph of a changed line behind
+-- it and no other letter or digit between them and the line; and three cells behind the gutter, to the row's end, the
+-- normalised line of the text that is shown, which is the patched source's, for all sources that the promise speaks of
+pub record IsOfferedRow (r : Renderer) (gutter : ℕ) (s : Snippet Patch) (j : ℕ) (row : List Cell) : Type 0 where
+  pub from : first_given s ≤ j
+  pub within : j < first_given s + length (given_lines s)
+  pub number : let shown = number_text r s.line_numbering gutter (s.line_start + j) in row_text (take (length shown) row) ≡ shown
+  pub beside : (c : ℕ) → length (number_text r s.line_numbering gutter (s.line_start + j)) ≤ c → c < gutter + 3 → is_ascii_alphanumeric (slice_index_or row c SPACE).ch ≡ false
+  pub sign : IsSign r.decor_style (slice_index_or row (gutter + 1) SPACE).ch
+  pub space : (slice_index_or row (gutter + 2) SPACE).ch ≡ 32
+  pub line : row_text (drop (gutter + 3) row) ≡ norm (chars (slice_index_or (given_lines s) (j - first_given s) []))
+  pub patched_line : IsOfferable s → (j < length (source_lines (patched (cow_str_bytes s.source) (edits_of s)))) × (row_text (drop (gutter + 3) row) ≡ norm (chars (text_at (source_lines (patched (cow_str_bytes s.source) (edits_of s))) j)))
+
+-- a row of a suggestion is what its name says: it offers a line, or has `-` behind the gutter, or has no letter or digit in the
+-- gutter and nothing but marks behind it
+abbrev pub IsSuggestionRow : Renderer → ℕ → Snippet Patch → RowName → List Cell → Type 0
+IsSuggestionRow r gutter s (SourceRow k) row = ⊥
+IsSuggestionRow r gutter s Elision row = ⊥
+IsSuggestionRow r gutter s (OfferedLine j) row = IsOfferedRow r gutter s j row
+IsSuggestionRow r gutter s Other row = IsOtherRow r.decor_style gutter row
+
+-- the rows show a suggestion: they offer lines of the patched source, each once and in order, and each row is what its name
+-- says. Each line that a patch touches is offered, if it isn't blank; but not where the spliced text has one line, and that is
+-- the last source line that is reached
+pub record ShowsSuggestion (r : Renderer) (gutter : ℕ) (s : Snippet Patch) (rows : List NamedRow) : Type 0 where
+  pub offered : IsOfferable s → (j : ℕ) → IsTouched (cow_str_bytes s.source) (edits_of s) j → is_blank (text_at (source_lines (patched (cow_str_bytes s.source) (edits_of s))) j) ≡ false → IsAsItWas s ⊎ Contains (lines_offered rows) j
+  pub ordered : IsAscending (lines_offered rows)
+  pub lines : lines_offered rows ≡ offered_lines s
+  pub named : All (λ row. IsSuggestionRow r gutter s row.name row.cells) rows
+
+-- the rows show an element, which is the group's first or a later one. Of annotated snippets and of suggestions something is
+-- said so far
 abbrev pub ShowsElement : Renderer → Frame → Bool → Element → List NamedRow → Type 0
 ShowsElement r frame first (Cause snippet) rows = ShowsSnippet r frame first snippet rows
-ShowsElement r frame first (Suggestion snippet) rows = Unit {0}
+ShowsElement r frame first (Suggestion snippet) rows = ShowsSuggestion r frame.gutter snippet rows
 ShowsElement r frame first (Message message) rows = Unit {0}
 ShowsElement r frame first (Origin origin) rows = Unit {0}
 ShowsElement r frame first (Padding padding) rows = Unit {0}
+
+-- whether an element is drawn: a snippet of patches without patches is left out, as if it weren't there
+abbrev pub is_drawn : Element → Bool
+is_drawn (Message message) = true
+is_drawn (Cause snippet) = true
+is_drawn (Suggestion snippet) = not (length snippet.markers.items == 0)
+is_drawn (Origin origin) = true
+is_drawn (Padding padding) = true
 
 -- the parts of a group's page show its elements, one by one
 abbrev pub AreElementsShown : Renderer → Frame → Bool → List Element → List (List NamedRow) → Type 0
@@ -227,14 +273,15 @@ AreElementsShown r frame first (e ∷ es) (rows ∷ parts) =
     ShowsElement r frame first e rows × AreElementsShown r frame false es parts
 AreElementsShown r frame first es parts = ⊥
 
--- the rows show a group: its title, and each element in order. The code's cell is three behind the gutter, and more
+-- the rows show a group: its title, and each element that is drawn, in order. Where a suggestion begins in the row with which
+-- the one above it ends, this is its row. The code's cell is three behind the gutter, and more
 -- where bars stand between, as many as its spans of several lines need
 pub record ShowsGroup (r : Renderer) (gutter : ℕ) (g : Group) (page : GroupPage) : Type 0 where
   pub frame : Frame
   pub gutter_is : frame.gutter ≡ gutter
   pub code_is : frame.code ≡ code_behind gutter (depth_of_group g)
   pub title : ShowsTitle r.hyperlink gutter g.title page.title
-  pub elements : AreElementsShown r frame true g.elements.items page.elements
+  pub elements : AreElementsShown r frame true (filter is_drawn g.elements.items) page.elements
 
 -- each listed character is one of a trusted text
 abbrev pub IsFreeBut : List (List ℕ) → List ℕ → Type 0

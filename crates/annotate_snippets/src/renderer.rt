@@ -9,6 +9,7 @@ mod gutter;
 mod judge;
 pub mod parts;
 pub mod style;
+mod suggestions;
 
 use crate::snippet::Report;
 use coverage::covered;
@@ -281,13 +282,13 @@ impl Renderer {
         if let Some(fault) = first_fault(groups) {
             return Err(fault);
         }
-        let Some((level, title, cause)) = covered(self, groups) else {
+        let Some((level, title, elements)) = covered(self, groups) else {
             return Err(RenderError::NotYet);
         };
         let decor = self.decor_style;
         let links = self.hyperlink;
         let width = self.term_width;
-        let grid = graphic::page(alloc, decor, links, width, title, cause).map_err(
+        let grid = graphic::page(alloc, decor, links, width, title, elements).map_err(
             RenderError::Memory,
         )?;
         Ok((level, grid))

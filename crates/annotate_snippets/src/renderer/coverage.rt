@@ -1,34 +1,25 @@
 //! Which reports are drawn so far. A report outside is answered `NotYet`, and looking for it takes no memory.
-ghost use Rattle.std.specs.Prelude.{◌≡◌, ◌≢◌, [], ◌∷◌, true, IfSome, IfNone, is_some};
-ghost use Rattle.std.specs.Option.{option_copied};
+ghost use Rattle.std.specs.Prelude.{◌≡◌, [], ◌∷◌, true, IfSome, is_some};
 ghost use Rattle.annotate_snippets.specs.Covered.{IsReportOf};
 ghost use Rattle.annotate_snippets.specs.Covered as spec;
 ghost use Rattle.annotate_snippets.specs.Shown.{levels_of};
-ghost use Rattle.snippet_model.specs.declared.snippet.Element.TheVariants.{Cause};
-ghost use Rattle.snippet_model.specs.declared.snippet.Snippet.{Snippet};
-ghost use Rattle.snippet_model.specs.declared.snippet.Annotation.{Annotation};
 
 use crate::renderer::Renderer;
 use snippet_model::level::LevelName;
-use snippet_model::snippet::{Annotation, Element, Group, Snippet, Title};
+use snippet_model::snippet::{Element, Group, Title};
 use snippet_style::LevelInner;
 
-/// The one group of a report as it is drawn: its level, its title and its snippet, if it has one.
-pub type CoveredGroup<'r, 'a> = (
-    LevelInner,
-    &'r Title<'a>,
-    Option<&'r Snippet<'a, Annotation<'a>>>,
-);
+/// The one group of a report as it is drawn: its level, its title and its elements.
+pub type CoveredGroup<'r, 'a> = (LevelInner, &'r Title<'a>, &'r [Element<'a>]);
 
-/// The level, the title and the snippet of a report, if this renderer draws it so far.
+/// The level, the title and the elements of a report, if this renderer draws it so far.
 pub fn covered<'r, 'a>(renderer: &Renderer, groups: &'r [Group<'a>]) -> Option<CoveredGroup<'r, 'a>>
     ensures covered { is_some result ≡ spec.is_covered renderer.now groups.now }
     ensures level { IfSome result (λ parts. levels_of groups.now ≡ parts.0 ∷ []) }
-    ensures parts { IfSome result (λ parts. IsReportOf parts.1.now (option_copied parts.2) groups.now) }
+    ensures parts { IfSome result (λ parts. IsReportOf parts.1.now parts.2.now groups.now) }
     ensures renderer { IfSome result (λ parts. spec.is_covered_renderer renderer.now ≡ true) }
     ensures title { IfSome result (λ parts. spec.is_covered_title parts.1.now ≡ true) }
-    ensures snippet { IfSome result (λ parts.
-        IfSome parts.2 (λ snippet. spec.is_covered_snippet snippet.now ≡ true)) }
+    ensures elements { IfSome result (λ parts. spec.are_covered_elements parts.2.now ≡ true) }
 {
     let [group] = groups else {
         return None;
@@ -36,31 +27,31 @@ pub fn covered<'r, 'a>(renderer: &Renderer, groups: &'r [Group<'a>]) -> Option<C
     let Some(title) = &group.title else {
         return None;
     };
-    if !is_covered_renderer(renderer) || !is_covered_title(title) {
-        return None;
-    }
-    if group.elements.is_empty() {
-        return Some((group.level, title, None));
-    }
-    let snippet = sole_snippet(&group.elements)?;
-    if is_covered_snippet(snippet) {
-        Some((group.level, title, Some(snippet)))
+    let elements = &group.elements;
+    if is_covered_renderer(renderer) && is_covered_title(title) && are_covered_elements(elements) {
+        Some((group.level, title, elements))
     } else {
         None
     }
 }
 
-/// The annotated snippet that is a group's one element.
-fn sole_snippet<'r, 'a>(elements: &'r [Element<'a>]) -> Option<&'r Snippet<'a, Annotation<'a>>>
-    ensures sole { IfSome result (λ snippet. elements.now ≡ Cause snippet.now ∷ []) }
-    ensures none { IfNone result ((snippet : Snippet Annotation) → elements.now ≢ Cause snippet ∷ []) }
+/// Whether elements are drawn so far: none, one annotated snippet, or snippets of patches; none of them with a path.
+fn are_covered_elements(elements: &[Element]) -> bool
+    ensures value { result ≡ spec.are_covered_elements elements.now }
 {
-    let [element] = elements else {
-        return None;
-    };
+    match elements {
+        [Element::Cause(snippet)] => snippet.path.is_none(),
+        _ => elements.iter().all(is_covered_suggestion),
+    }
+}
+
+/// Whether an element is a suggestion that is drawn so far: a snippet of patches without a path.
+fn is_covered_suggestion(element: &Element) -> bool
+    ensures value { result ≡ spec.is_covered_suggestion element.now }
+{
     match element {
-        Element::Cause(snippet) => Some(snippet),
-        _ => None,
+        Element::Suggestion(snippet) => snippet.path.is_none(),
+        _ => false,
     }
 }
 
@@ -89,11 +80,4 @@ fn is_standard(name: &LevelName) -> bool
         LevelName::Standard => true,
         LevelName::Hidden | LevelName::Own(_) => false,
     }
-}
-
-/// Whether a snippet is drawn so far: one without a path.
-fn is_covered_snippet(snippet: &Snippet<Annotation>) -> bool
-    ensures value { result ≡ spec.is_covered_snippet snippet.now }
-{
-    snippet.path.is_none()
 }

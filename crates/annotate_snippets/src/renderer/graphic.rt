@@ -6,44 +6,43 @@
 //! 1 | let x = 1;
 //!   |     ^
 //! ```
-ghost use Rattle.std.specs.Prelude.{◌≡◌, ◌+◌, ◌<◌, ◌^◌, length, IfSome, OnOk, IfOk, map, string_bytes};
+ghost use Rattle.std.specs.Prelude.{◌≡◌, ◌+◌, ◌<◌, ◌^◌, length, OnOk, IfOk, map, string_bytes};
 ghost use Rattle.std.specs.List.{AllZip};
-ghost use Rattle.std.specs.Option.{option_copied};
 ghost use Rattle.snippet_model.specs.Fits.{TitleFits};
 ghost use Rattle.snippet_model.specs.Level.{name_of};
-ghost use Rattle.annotate_snippets.specs.Drawn.{AddsCause, IsDrawable, IsGridOf};
+ghost use Rattle.annotate_snippets.specs.Drawn.{AddsCause, AreDrawable, IsDrawable, IsGridOf};
 ghost use Rattle.annotate_snippets.specs.Gutter.{code_behind};
 ghost use Rattle.snippet_style.specs.Woven.{Prints};
 
 use crate::renderer::gutter::gutter_of;
-use snippet_model::snippet::{Annotation, Snippet, Title};
+use crate::renderer::suggestions::draw_suggestions;
+use snippet_model::snippet::{Annotation, Element, Snippet, Title};
 use snippet_parts::{SourceMap, margin_for, with_lines_between};
 use snippet_strokes::{Layout, draw_snippet};
 use snippet_style::{DecorStyle, LevelInner, StyledBuffer, Stylesheet};
 use snippet_titles::draw_title;
 use std::alloc::{AllocError, Global};
 
-/// The grid of a title and an annotated snippet below it, if there is one, drawn with these strokes, with links or without,
-/// in this width, in columns.
+/// The grid of a title and the elements below it, drawn with these strokes, with links or without, in this width, in columns.
 pub fn page<'a>(
     alloc: Global,
     decor: DecorStyle,
     hyperlink: bool,
     width: usize,
     title: &'a Title<'a>,
-    cause: Option<&Snippet<'a, Annotation<'a>>>,
+    elements: &'a [Element<'a>],
 ) -> Result<StyledBuffer<'a>, AllocError>
     requires named { 0 < length (name_of title.now.level) }
     requires fits { TitleFits title.now }
-    requires cause { IfSome cause (λ snippet. IsDrawable snippet.now) }
-    ensures drawn { IfOk result (λ grid. IsGridOf decor hyperlink width title.now (option_copied cause.entry) grid) }
+    requires elements { AreDrawable elements.now }
+    ensures drawn { IfOk result (λ grid. IsGridOf decor hyperlink width title.now elements.now grid) }
 {
     let mut buffer = StyledBuffer::new(alloc);
     draw_title(alloc, &mut buffer, hyperlink, title)?;
-    let Some(snippet) = cause else {
-        return Ok(buffer);
-    };
-    draw_cause(alloc, &mut buffer, decor, width, snippet)?;
+    match elements {
+        [Element::Cause(snippet)] => draw_cause(alloc, &mut buffer, decor, width, snippet)?,
+        _ => draw_suggestions(alloc, &mut buffer, decor, elements)?,
+    }
     Ok(buffer)
 }
 
