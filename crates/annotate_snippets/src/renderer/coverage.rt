@@ -1,12 +1,15 @@
 //! Which reports are drawn so far. A report outside is answered `NotYet`, and looking for it takes no memory.
-ghost use Rattle.std.specs.Prelude.{◌≡◌, [], ◌∷◌, true, IfSome, is_some};
+ghost use Rattle.std.specs.Prelude.{◌≡◌, ◌≢◌, [], ◌∷◌, true, IfNone, IfSome, is_some};
+ghost use Rattle.snippet_model.specs.declared.snippet.Element.TheVariants.{Cause};
+ghost use Rattle.snippet_model.specs.declared.snippet.Snippet.{Snippet};
+ghost use Rattle.snippet_model.specs.declared.snippet.Annotation.{Annotation};
 ghost use Rattle.annotate_snippets.specs.Covered.{IsReportOf};
 ghost use Rattle.annotate_snippets.specs.Covered as spec;
 ghost use Rattle.annotate_snippets.specs.Shown.{levels_of};
 
 use crate::renderer::Renderer;
 use snippet_model::level::LevelName;
-use snippet_model::snippet::{Element, Group, Title};
+use snippet_model::snippet::{Annotation, Element, Group, Snippet, Title};
 use snippet_style::LevelInner;
 
 /// The one group of a report as it is drawn: its level, its title and its elements.
@@ -39,9 +42,23 @@ pub fn covered<'r, 'a>(renderer: &Renderer, groups: &'r [Group<'a>]) -> Option<C
 fn are_covered_elements(elements: &[Element]) -> bool
     ensures value { result ≡ spec.are_covered_elements elements.now }
 {
-    match elements {
-        [Element::Cause(snippet)] => snippet.path.is_none(),
-        _ => elements.iter().all(is_covered_suggestion),
+    match sole_snippet(elements) {
+        Some(snippet) => snippet.path.is_none(),
+        None => elements.iter().all(is_covered_suggestion),
+    }
+}
+
+/// The annotated snippet that is a group's one element.
+pub fn sole_snippet<'r, 'a>(elements: &'r [Element<'a>]) -> Option<&'r Snippet<'a, Annotation<'a>>>
+    ensures sole { IfSome result (λ snippet. elements.now ≡ Cause snippet.now ∷ []) }
+    ensures none { IfNone result ((snippet : Snippet Annotation) → elements.now ≢ Cause snippet ∷ []) }
+{
+    let [element] = elements else {
+        return None;
+    };
+    match element {
+        Element::Cause(snippet) => Some(snippet),
+        _ => None,
     }
 }
 

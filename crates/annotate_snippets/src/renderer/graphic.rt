@@ -14,6 +14,7 @@ ghost use Rattle.annotate_snippets.specs.Drawn.{AddsCause, AreDrawable, IsDrawab
 ghost use Rattle.annotate_snippets.specs.Gutter.{code_behind};
 ghost use Rattle.snippet_style.specs.Woven.{Prints};
 
+use crate::renderer::coverage::sole_snippet;
 use crate::renderer::gutter::gutter_of;
 use crate::renderer::suggestions::draw_suggestions;
 use snippet_model::snippet::{Annotation, Element, Snippet, Title};
@@ -39,9 +40,9 @@ pub fn page<'a>(
 {
     let mut buffer = StyledBuffer::new(alloc);
     draw_title(alloc, &mut buffer, hyperlink, title)?;
-    match elements {
-        [Element::Cause(snippet)] => draw_cause(alloc, &mut buffer, decor, width, snippet)?,
-        _ => draw_suggestions(alloc, &mut buffer, decor, elements)?,
+    match sole_snippet(elements) {
+        Some(snippet) => draw_cause(alloc, &mut buffer, decor, width, snippet)?,
+        None => draw_suggestions(alloc, &mut buffer, decor, elements)?,
     }
     Ok(buffer)
 }

@@ -8,9 +8,9 @@
 //!   |     +
 //! ```
 ghost use Rattle.std.specs.Prelude.{◌≡◌, ◌<◌, ◌≤◌, ◌^◌, All, IfOk, OnOk, map};
-ghost use Rattle.annotate_snippets.specs.Drawn.{AddsSuggestions, suggested};
+ghost use Rattle.annotate_snippets.specs.Drawn.{AddsSuggestions, AreDrawable, suggested};
 ghost use Rattle.annotate_snippets.specs.Gutter.{gutter_of_suggestion};
-ghost use Rattle.snippet_suggest.specs.Prepared.{IsPrepared, IsSuggestible};
+ghost use Rattle.snippet_suggest.specs.Prepared.{IsPrepared};
 
 use crate::renderer::gutter::gutter_of_suggestions;
 use snippet_model::snippet::Element;
@@ -25,7 +25,7 @@ pub fn draw_suggestions<'a>(
     decor: DecorStyle,
     elements: &'a [Element<'a>],
 ) -> Result<(), AllocError>
-    requires suggestible { All IsSuggestible (suggested elements.now) }
+    requires drawable { AreDrawable elements.now }
     ensures added { OnOk result (AddsSuggestions decor (suggested elements.now) buffer.old buffer.new) }
 {
     let suggestions = prepared_suggestions(alloc, elements)?;
@@ -48,7 +48,7 @@ fn prepared_suggestions<'a>(
     alloc: Global,
     elements: &'a [Element<'a>],
 ) -> Result<Vec<PreparedSuggestion<'a>>, AllocError>
-    requires suggestible { All IsSuggestible (suggested elements.now) }
+    requires drawable { AreDrawable elements.now }
     ensures snippets { IfOk result (λ ps. map (λ p. p.snippet.now) ps.items ≡ suggested elements.now) }
     ensures prepared { IfOk result (λ ps. All IsPrepared ps.items) }
 {
