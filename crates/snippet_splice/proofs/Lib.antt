@@ -1,5 +1,6 @@
 pub mod EditLemmas
 pub mod Examples
+pub mod FeedLemmas
 pub mod LineLemmas
 pub mod OrderLemmas
 pub mod OverlapLemmas

@@ -1,6 +1,6 @@
 -- The lines of the text that is shown are lines of the patched source, one behind the other.
-use Rattle.std.proofs.Common.{◌≡◌, ◌≢◌, ℕ, zero, suc, ◌-◌, ◌<◌, ◌⊎◌, inl, inr, Bool, true, false, cond, eqb, List, [], ◌∷◌, ◌++◌, All, length, take, drop, refl, sym, ap, subst, ◌∙◌, ⊎_elim, arith, append_assoc}
-use Rattle.std.proofs.lemmas.List.{append-nil, length-append, length-map, length-take-le, take_at, drop_at, map-append}
+use Rattle.std.proofs.Common.{◌≡◌, ◌≢◌, ℕ, zero, suc, ◌+◌, ◌-◌, ◌<◌, ◌⊎◌, inl, inr, Bool, true, false, cond, eqb, List, [], ◌∷◌, ◌++◌, All, length, take, drop, get_or, refl, sym, ap, subst, ◌∙◌, ⊎_elim, arith, append_assoc}
+use Rattle.std.proofs.lemmas.List.{append-nil, length-append, length-map, length-take-le, take_at, drop_at, map-append, get_or-take, get_or-drop}
 use Rattle.std.proofs.lemmas.List.Elements.{All-nil, All-cons, All-same, All-head, All-tail, All-take, All-drop, All-append}
 use Rattle.std.proofs.lemmas.Bool.{cases_Bool, cond-true, cond-false, eqb-true, eqb-false, ne_eqb}
 use Rattle.std.specs.List.{slice_range}
@@ -183,6 +183,13 @@ AreFrom-append before some more k size = record {
   within = omega (arith, length-append before (some ++ more), length-append some more, size);
   are = sym (ap (take (length some)) (drop_at before (some ++ more) k size) ∙ take_at some more (length some) refl);
 }
+
+-- such lines, one by one
+pub AreFrom-at : (some all : List (List ℕ)) (k i : ℕ) (d : List ℕ) → AreFrom k some all → i < length some → (k + i < length all) × (get_or some i d ≡ get_or all (k + i) d)
+AreFrom-at some all k i d h low = (
+  omega (arith, h.within, low),
+  ap (λ ts. get_or ts i d) h.are ∙ get_or-take (length some) (drop k all) i d low ∙ get_or-drop k all i d,
+)
 
 AreFrom-source : (d : List ℕ) (k : ℕ) (some : List (List ℕ)) → AreFrom k some (texts_of (lines_of d)) → AreFrom k some (texts_of (source_lines d))
 AreFrom-source [] k [] h =

@@ -22,15 +22,20 @@ put_in-some lt x [] = λ e. cc
 put_in-some lt x (y ∷ ys) =
     cond_both (lt y x) (y ∷ put_in lt x ys) (x ∷ y ∷ ys) (λ l. l ≢ []) (λ _ e. cc) (λ _ e. cc)
 
+map-some : (source : List ℕ) (es : List Edit) → es ≢ [] → map (trimmed_edit source) es ≢ []
+map-some source [] some = some
+map-some source (d ∷ es) some = λ e. cc
+
+-- where there are patches there are trimmed edits
+pub some-edits : (source : List ℕ) (ps : List Patch) → ps ≢ [] → trimmed_edits source (map edit_of ps) ≢ []
+some-edits source [] some = absurd (some refl)
+some-edits source (p ∷ ps) some =
+    map-some source (put_in precedes (edit_of p) (in_order (map edit_of ps))) (put_in-some precedes (edit_of p) (in_order (map edit_of ps)))
+
 -- where nothing is left there was nothing
 pub none-given : (source : List ℕ) (ps : List Patch) (ts : List TrimmedPatch) → map trimmed_edit_of ts ≡ trimmed_edits source (map edit_of ps) → slice_get ts 0 ≡ None → ps ≡ []
 none-given source [] ts same none = refl
-none-given source (p ∷ ps) [] same none =
-    absurd (map-some (put_in precedes (edit_of p) (in_order (map edit_of ps))) (put_in-some precedes (edit_of p) (in_order (map edit_of ps))) (sym same))
-  where
-    map-some : (es : List Edit) → es ≢ [] → map (trimmed_edit source) es ≡ [] → ⊥
-    map-some [] some e = some refl
-    map-some (d ∷ es) some e = cc
+none-given source (p ∷ ps) [] same none = absurd (some-edits source (p ∷ ps) (λ e. cc) (sym same))
 none-given source (p ∷ ps) (t ∷ ts) same none = absurd (cc)
 
 -- where nothing was given nothing is left

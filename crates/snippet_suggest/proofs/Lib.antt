@@ -1,7 +1,11 @@
+pub mod AscendLemmas
 pub mod DrawnLemmas
 pub mod GlyphLemmas
+pub mod NumberLaws
+pub mod OfferLaws
 pub mod PaintLemmas
 pub mod RisingLemmas
 pub mod RowLemmas
 pub mod ShownLemmas
 pub mod SpanLemmas
+pub mod TouchLaws

@@ -1,0 +1,149 @@
+-- How many LF, and so how many lines, the text that is shown has at most.
+use Rattle.std.proofs.Common.{◌≡◌, ℕ, zero, suc, ◌+◌, ◌-◌, ◌<◌, ◌≤◌, Bool, true, false, cond, ◌&&◌, eqb, ltb, min, List, [], ◌∷◌, ◌++◌, length, map, take, drop, get_or, refl, sym, ap, ◌∙◌, arith}
+use Rattle.std.proofs.lemmas.Bool.{and_parts, cond_both, eqb-true, ltb-true}
+use Rattle.std.proofs.lemmas.List.{take-append-drop}
+use Rattle.std.proofs.lemmas.List.Sums.{sum_by-cons, sum_by_more}
+use Rattle.std.proofs.Math.Seq.{take-add}
+use Rattle.std.specs.List.{slice_range, sum_by}
+use Rattle.snippet_lines.specs.Lines.{lines_of, source_lines, start_of, text_at, last_byte, is_lf, newline_count}
+use Rattle.snippet_lines.specs.Order.{put_in}
+use Rattle.snippet_lines.specs.Place.{line_of}
+use Rattle.snippet_lines.proofs.BoundsLemmas.{IsLine-at}
+use Rattle.snippet_lines.proofs.LinesLemmas.{length-lines_of, length-source_lines, start_of-zero}
+use Rattle.snippet_lines.proofs.PlaceLemmas.{line_of-within, start_of-inside}
+use Rattle.snippet_splice.specs.Copied.{copied, end_from, in_text, is_inside_line_end, text_end, written}
+use Rattle.snippet_splice.specs.Edits.{Edit, AreApart, in_order, precedes, trimmed_edit, trimmed_edits}
+use Rattle.snippet_splice.specs.Shown.{closes_line, first_start, shown_line, shown_rest, shown_start, shown_text, without_final_line_feeds}
+use Rattle.snippet_splice.proofs.EditLemmas.{IsShrunk, trimmed_edit-shrunk}
+use Rattle.snippet_splice.proofs.LineLemmas.{Shortens, Shortens-final}
+use Rattle.snippet_splice.proofs.RangeLemmas.{feeds, feeds-append, feeds-none, feeds-shown}
+use Rattle.snippet_splice.proofs.ShownLemmas.{shown-apart}
+use Rattle.snippet_splice.proofs.WriteLemmas.{count-with_line_feeds, in_text-mono}
+
+-- a text has at most one line more than LF, and a source no more LF than lines
+lines-feeds : (text : List ℕ) → length (lines_of text) ≤ feeds text + 1
+lines-feeds [] = omega arith
+lines-feeds (b ∷ bs) = omega (arith, length-lines_of b bs)
+
+feeds-source : (source : List ℕ) → feeds source ≤ length (source_lines source)
+unfolding newline_count
+feeds-source source =
+    let one : (b : Bool) → cond b 1 0 ≤ 1 = λ b. elim b as (λ v. cond v 1 0 ≤ 1) [ true ↦ omega arith | false ↦ omega arith ] in
+    omega (arith, length-source_lines source, one (is_lf (last_byte source)))
+
+-- ---- the LF before a byte
+
+feeds-between : (text : List ℕ) (a b : ℕ) → a ≤ b → feeds (take b text) ≡ feeds (take a text) + feeds (slice_range text a b)
+feeds-between text a b low =
+    let e : a + (b - a) ≡ b = omega arith in
+    ap feeds (ap (λ n. take n text) (sym e) ∙ take-add a (b - a) text) ∙ feeds-append (take a text) (slice_range text a b)
+
+feeds-behind : (text : List ℕ) (b : ℕ) → feeds (take b text) + feeds (drop b text) ≡ feeds text
+feeds-behind text b = sym (feeds-append (take b text) (drop b text)) ∙ ap feeds (take-append-drop b text)
+
+-- a byte is moved to the left, and over no LF from before the end of the source
+in_text-le : (source : List ℕ) (b : ℕ) → in_text source b ≤ b
+in_text-le source b =
+    let at : ℕ = min b (text_end source) in
+    cond_both (is_inside_line_end source at) (at - 1) at (λ n. n ≤ b) (λ _. omega arith) (λ _. omega arith)
+
+in_text-feeds : (source : List ℕ) (b : ℕ) → b ≤ text_end source → feeds (take b source) ≤ feeds (take (in_text source b) source)
+in_text-feeds source b inside =
+    let at : ℕ = min b (text_end source) in
+    let same : at ≡ b = omega (arith, inside) in
+    cond_both (is_inside_line_end source at) (at - 1) at (λ n. feeds (take b source) ≤ feeds (take n source))
+    (λ t. let cr = and_parts (ltb 0 at && ltb at (length source) && eqb (get_or source at 0) 10) (eqb (get_or source (at - 1) 0) 13) t in
+    let lf = and_parts (ltb 0 at && ltb at (length source)) (eqb (get_or source at 0) 10) cr.0 in
+    let bounds = and_parts (ltb 0 at) (ltb at (length source)) lf.0 in
+    let low : 0 < at = ltb-true 0 at bounds.0 in
+    let high : at < length source = ltb-true at (length source) bounds.1 in
+    let next : at - 1 + 1 ≡ b = omega (arith, low, same) in
+    let one : ℕ → ℕ = λ c. cond (is_lf c) 1 0 in
+    let none : one (get_or source (at - 1) 0) ≡ 0 = ap one (eqb-true (get_or source (at - 1) 0) 13 cr.1) in
+    let more : feeds (take (at - 1 + 1) source) ≡ feeds (take (at - 1) source) + one (get_or source (at - 1) 0) = sum_by_more one source (at - 1) 0 (omega (arith, high)) in
+    omega (arith, ap (λ n. feeds (take n source)) next, more, none))
+    (λ _. omega (arith, ap (λ n. feeds (take n source)) same))
+
+-- the text that is shown begins before the end of the source
+start-inside : (source : List ℕ) (k : ℕ) → k < length (source_lines source) → start_of (source_lines source) k ≤ text_end source
+start-inside source zero within = omega (arith, start_of-zero (source_lines source))
+start-inside source (suc k) within =
+    let next : k + 1 ≡ suc k = omega arith in
+    let short : start_of (source_lines source) (k + 1) < length source = start_of-inside source k (omega (arith, within)) in
+    let all : length source ≤ text_end source + 1 = cond_both (eqb (last_byte source) 10) (length source - 1) (length source) (λ n. length source ≤ n + 1) (λ _. omega arith) (λ _. omega arith) in
+    omega (arith, ap (start_of (source_lines source)) next, short, all)
+
+shown_start-inside : (fold : Bool) (source : List ℕ) (first : ℕ) → shown_start fold source first ≤ text_end source
+shown_start-inside fold source first =
+    cond_both fold (start_of (source_lines source) (line_of (source_lines source) first)) 0 (λ n. n ≤ text_end source) (λ _. start-inside source (line_of (source_lines source) first) (line_of-within source first)) (λ _. omega arith)
+
+-- ---- the LF of the texts of edits
+abbrev pub text_feeds : List Edit → ℕ
+text_feeds es = sum_by (λ e. feeds e.text) es
+
+-- trimmed they have no more
+text_feeds-trimmed : (source : List ℕ) (at : ℕ) (es : List Edit) → AreApart at es → text_feeds (map (trimmed_edit source) es) ≤ text_feeds es
+text_feeds-trimmed source at [] apart = omega arith
+text_feeds-trimmed source at (e ∷ es) apart =
+    let t : Edit = trimmed_edit source e in
+    let h : IsShrunk source e t = trimmed_edit-shrunk source e apart.1 in
+    let before : List ℕ = slice_range source e.start t.start in
+    let behind : List ℕ = slice_range source t.end e.end in
+    let size : feeds e.text ≡ feeds before + (feeds t.text + feeds behind) = ap feeds h.text ∙ feeds-append before (t.text ++ behind) ∙ ap (λ n. feeds before + n) (feeds-append t.text behind) in
+    omega (arith, size, text_feeds-trimmed source e.end es apart.2, sum_by-cons (λ d. feeds d.text) e es, sum_by-cons (λ d. feeds d.text) t (map (trimmed_edit source) es))
+
+-- in order they have as many
+text_feeds-put_in : (e : Edit) (ds : List Edit) → text_feeds (put_in precedes e ds) ≡ feeds e.text + text_feeds ds
+text_feeds-put_in e [] = sum_by-cons (λ d. feeds d.text) e []
+text_feeds-put_in e (d ∷ ds) =
+    cond_both (precedes d e) (d ∷ put_in precedes e ds) (e ∷ d ∷ ds) (λ xs. text_feeds xs ≡ feeds e.text + text_feeds (d ∷ ds))
+    (λ _. omega (arith, sum_by-cons (λ x. feeds x.text) d (put_in precedes e ds), sum_by-cons (λ x. feeds x.text) d ds, text_feeds-put_in e ds))
+    (λ _. sum_by-cons (λ x. feeds x.text) e (d ∷ ds))
+
+text_feeds-in_order : (es : List Edit) → text_feeds (in_order es) ≡ text_feeds es
+text_feeds-in_order [] = refl
+text_feeds-in_order (e ∷ es) =
+    text_feeds-put_in e (in_order es) ∙ ap (λ n. feeds e.text + n) (text_feeds-in_order es) ∙ sym (sum_by-cons (λ d. feeds d.text) e es)
+
+-- ---- the LF of what is written
+
+written-feeds : (source : List ℕ) (at : ℕ) (ts : List Edit) → AreApart at ts → feeds (take (in_text source at) source) + feeds (written source at ts) ≤ feeds (take (in_text source (end_from at ts)) source) + text_feeds ts
+written-feeds source at [] apart = omega arith
+written-feeds source at (t ∷ ts) apart =
+    let rest : List ℕ = written source t.end ts in
+    let between : feeds (copied source at t.start) ≡ feeds (slice_range source (in_text source at) (in_text source t.start)) = count-with_line_feeds (slice_range source (in_text source at) (in_text source t.start)) in
+    let before = feeds-between source (in_text source at) (in_text source t.start) (in_text-mono source at t.start apart.0) in
+    let under = feeds-between source (in_text source t.start) (in_text source t.end) (in_text-mono source t.start t.end apart.1) in
+    omega (arith, between, before, under, written-feeds source t.end ts apart.2, feeds-append (copied source at t.start) (t.text ++ rest), feeds-append t.text rest, sum_by-cons (λ d. feeds d.text) t ts)
+
+-- what is shown of the rest has no more than the rest
+rest-feeds : (fold closed : Bool) (rest : List ℕ) → feeds (shown_rest fold closed rest) ≤ feeds rest
+rest-feeds false closed rest = omega arith
+rest-feeds true true rest = omega arith
+rest-feeds true false rest =
+    omega (arith, feeds-none (text_at (source_lines rest) 0) (IsLine-at rest 0 (omega (arith, length-source_lines rest))).no_lf)
+
+final-feeds : (text : List ℕ) → feeds (without_final_line_feeds text) ≤ feeds text
+final-feeds text =
+    let h : Shortens text (without_final_line_feeds text) = Shortens-final text in
+    omega (arith, ap feeds h.whole, feeds-append (without_final_line_feeds text) h.tail)
+
+-- the lines that are shown, and those of the source before them, are at most those of the source, one for each LF of the
+-- edits' texts, and one more
+pub shown-bound : (fold : Bool) (source : List ℕ) (es : List Edit) → AreApart 0 (in_order es) → shown_line fold source es + length (lines_of (shown_text fold source es)) ≤ length (source_lines source) + text_feeds es + 1
+unfolding shown_text
+shown-bound fold source es apart =
+    let first : ℕ = first_start (in_order es) in
+    let s : ℕ = shown_start fold source first in
+    let ts : List Edit = trimmed_edits source es in
+    let end : ℕ = end_from s ts in
+    let w : List ℕ = written source s ts in
+    let rest : List ℕ = shown_rest fold (closes_line ts) (drop end source) in
+    let zero_less : s - 0 ≡ s = omega arith in
+    let before : feeds (take s source) ≡ shown_line fold source es = ap (λ n. feeds (take n source)) (sym zero_less) ∙ feeds-shown fold source es in
+    let to : feeds (take end source) ≡ feeds (take (in_text source end) source) + feeds (slice_range source (in_text source end) end) = feeds-between source (in_text source end) end (in_text-le source end) in
+    let behind : feeds (take end source) + feeds (drop end source) ≡ feeds source = feeds-behind source end in
+    let texts : text_feeds ts ≤ text_feeds es = omega (arith, text_feeds-trimmed source 0 (in_order es) apart, text_feeds-in_order es) in
+    let all : length (lines_of (without_final_line_feeds (w ++ rest))) ≤ feeds w + feeds rest + 1 = omega (arith, lines-feeds (without_final_line_feeds (w ++ rest)), final-feeds (w ++ rest), feeds-append w rest) in
+    let from : feeds (take s source) ≤ feeds (take (in_text source s) source) = in_text-feeds source s (shown_start-inside fold source first) in
+    omega (arith, before, from, written-feeds source s ts (shown-apart fold source es apart), to, behind, texts, all, rest-feeds fold (closes_line ts) (drop end source), feeds-source source)

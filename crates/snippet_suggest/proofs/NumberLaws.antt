@@ -1,0 +1,30 @@
+-- There are numbers for the lines that a suggestion gives.
+use Rattle.std.proofs.Common.{◌≡◌, ℕ, ◌+◌, ◌<◌, ◌≤◌, ◌^◌, ◌==◌, List, [], ◌∷◌, length, map, count_by, refl, sym, ap, ◌∙◌, arith}
+use Rattle.std.proofs.lemmas.List.{length-map}
+use Rattle.std.proofs.lemmas.List.Sums.{sum_by-cons}
+use Rattle.std.specs.Cow.{cow_str_bytes}
+use Rattle.std.specs.List.{sum_by}
+use Rattle.snippet_model.specs.declared.snippet.Snippet.{Snippet}
+use Rattle.snippet_model.specs.declared.snippet.Patch.{Patch}
+use Rattle.snippet_lines.specs.Lines.{lines_of, source_lines}
+use Rattle.snippet_splice.specs.Edits.{edit_of}
+use Rattle.snippet_splice.specs.Overlap.{AreDisjoint}
+use Rattle.snippet_splice.proofs.FeedLemmas.{shown-bound, text_feeds}
+use Rattle.snippet_suggest.specs.Given.{edits_of, first_given, given_lines, given_text}
+use Rattle.snippet_suggest.proofs.OfferLaws.{HaveSpans, edits-apart}
+
+-- how many LF the replacements of some patches have
+abbrev pub replacement_feeds : List Patch → ℕ
+replacement_feeds ps = sum_by (λ p. count_by (λ b. b == 10) (cow_str_bytes p.replacement)) ps
+
+edits-feeds : (ps : List Patch) → text_feeds (map edit_of ps) ≡ replacement_feeds ps
+edits-feeds [] = refl
+edits-feeds (p ∷ ps) =
+    sum_by-cons (λ e. count_by (λ b. b == 10) e.text) (edit_of p) (map edit_of ps) ∙ ap (λ n. count_by (λ b. b == 10) (cow_str_bytes p.replacement) + n) (edits-feeds ps) ∙ sym (sum_by-cons (λ q. count_by (λ b. b == 10) (cow_str_bytes q.replacement)) p ps)
+
+-- the lines that are given have numbers, where the source's lines have, and one more for each LF of the replacements
+pub numbers-bound : (s : Snippet Patch) → HaveSpans s → AreDisjoint (edits_of s) → s.line_start + length (source_lines (cow_str_bytes s.source)) + sum_by (λ p. count_by (λ b. b == 10) (cow_str_bytes p.replacement)) s.markers.items < 2 ^ 64 → s.line_start + first_given s + length (given_lines s) ≤ 2 ^ 64
+numbers-bound s spans disjoint fits =
+    let bound = shown-bound s.fold (cow_str_bytes s.source) (edits_of s) (edits-apart s spans disjoint) in
+    let count : length (given_lines s) ≡ length (lines_of (given_text s)) = length-map (lines_of (given_text s)) (λ l. l.0) in
+    omega (arith, fits, bound, count, edits-feeds s.markers.items)

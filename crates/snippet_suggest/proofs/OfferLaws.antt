@@ -1,0 +1,59 @@
+-- What a suggestion offers: lines of the patched source, in ascending order.
+use Rattle.std.proofs.Common.{◌≡◌, ◌≢◌, ℕ, ◌+◌, ◌<◌, Bool, true, false, if◌then◌else◌, List, [], All, length, sym, subst, ◌∙◌, arith}
+use Rattle.std.proofs.lemmas.List.{length-map, get_or-map}
+use Rattle.std.specs.Cow.{cow_str_bytes}
+use Rattle.std.specs.List.{slice_index_or}
+use Rattle.snippet_model.specs.declared.snippet.Snippet.{Snippet}
+use Rattle.snippet_model.specs.declared.snippet.Patch.{Patch}
+use Rattle.snippet_lines.specs.declared.lines.EndLine.TheVariants.{Eof}
+use Rattle.snippet_lines.specs.Lines.{Line, lines_of, source_lines, text_at}
+use Rattle.snippet_lines.specs.Span.{IsSpan}
+use Rattle.snippet_splice.specs.Edits.{in_order, patched, AreApart}
+use Rattle.snippet_splice.specs.Overlap.{AreDisjoint}
+use Rattle.snippet_splice.specs.Spliced.{AreFrom, texts_of}
+use Rattle.snippet_splice.proofs.OverlapLemmas.{apart-in_order, ordered-spans}
+use Rattle.snippet_splice.proofs.ShownLemmas.{some-edits}
+use Rattle.snippet_splice.proofs.SpliceLemmas.{IsShownPart, shown-part}
+use Rattle.snippet_splice.proofs.LineLemmas.{AreFrom-at, shown-lines}
+use Rattle.snippet_suggest.specs.Given.{IsOfferable, edits_of, first_given, given_lines, given_ranges, is_left_out, last_reached, numbers_given, offered_lines, shown_kind}
+use Rattle.snippet_suggest.specs.Shown.{AreRising, is_touched, numbers_shown, shown_lines}
+use Rattle.snippet_suggest.proofs.AscendLemmas.{rising-moved}
+use Rattle.snippet_suggest.proofs.RisingLemmas.{rising_shown}
+
+-- each patch of a snippet has a span
+abbrev pub HaveSpans : Snippet Patch → Type 0
+HaveSpans s = All (λ p. IsSpan (cow_str_bytes s.source) p.span.start p.span.end) s.markers.items
+
+-- the edits of its patches stand apart once they are in order
+pub edits-apart : (s : Snippet Patch) → HaveSpans s → AreDisjoint (edits_of s) → AreApart 0 (in_order (edits_of s))
+edits-apart s spans disjoint =
+    apart-in_order (edits_of s) (ordered-spans (cow_str_bytes s.source) s.markers.items spans) disjoint
+
+-- the part of the patched source that is given
+pub given-part : (s : Snippet Patch) → HaveSpans s → AreDisjoint (edits_of s) → s.markers.items ≢ [] → IsOfferable s → IsShownPart s.fold (cow_str_bytes s.source) (edits_of s)
+given-part s spans disjoint some offerable =
+    shown-part s.fold (cow_str_bytes s.source) (edits_of s) offerable.no_cr offerable.before (edits-apart s spans disjoint) (some-edits (cow_str_bytes s.source) s.markers.items some)
+
+-- the lines that are given are lines of the patched source, one behind the other
+pub given-from : (s : Snippet Patch) → HaveSpans s → AreDisjoint (edits_of s) → s.markers.items ≢ [] → IsOfferable s → AreFrom (first_given s) (given_lines s) (texts_of (source_lines (patched (cow_str_bytes s.source) (edits_of s))))
+given-from s spans disjoint some offerable =
+    let source : List ℕ = cow_str_bytes s.source in
+    let part : IsShownPart s.fold source (edits_of s) = given-part s spans disjoint some offerable in
+    subst (λ t. AreFrom (first_given s) (texts_of (lines_of t)) (texts_of (source_lines (patched source (edits_of s))))) (sym part.text) (shown-lines s.fold source (edits_of s) offerable.no_cr offerable.no_cr_in part)
+
+pub given-is-patched : (s : Snippet Patch) → HaveSpans s → AreDisjoint (edits_of s) → s.markers.items ≢ [] → IsOfferable s → (k : ℕ) → k < length (given_lines s) → (first_given s + k < length (source_lines (patched (cow_str_bytes s.source) (edits_of s)))) × (slice_index_or (given_lines s) k [] ≡ text_at (source_lines (patched (cow_str_bytes s.source) (edits_of s))) (first_given s + k))
+given-is-patched s spans disjoint some offerable k low =
+    let ls : List Line = source_lines (patched (cow_str_bytes s.source) (edits_of s)) in
+    let at = AreFrom-at (given_lines s) (texts_of ls) (first_given s) k [] (given-from s spans disjoint some offerable) low in
+    let within : first_given s + k < length ls = omega (arith, at.0, length-map ls (λ l. l.0)) in
+    (within, at.1 ∙ get_or-map (λ l. l.0) ls (first_given s + k) ([], Eof) [] within)
+
+-- the lines that it offers ascend, and are among those that are given
+numbers-ascend : (left_out : Bool) (touched : ℕ → Bool) (count : ℕ) → AreRising 0 count (if left_out then [] else numbers_shown (shown_lines touched count))
+numbers-ascend true touched count = omega arith
+numbers-ascend false touched count = rising_shown touched count
+
+pub offered-ascends : (s : Snippet Patch) → AreRising (first_given s) (first_given s + length (given_lines s)) (offered_lines s)
+offered-ascends s =
+    let base : first_given s + 0 ≡ first_given s = omega arith in
+    subst (λ n. AreRising n (first_given s + length (given_lines s)) (offered_lines s)) base (rising-moved (first_given s) 0 (length (given_lines s)) (numbers_given s) (numbers-ascend (is_left_out (shown_kind s) (given_lines s) (last_reached s)) (is_touched s.fold (given_ranges s)) (length (given_lines s))))

@@ -1,0 +1,126 @@
+-- Each line that a patch touches is offered, unless it is blank or the suggestion's text is as it was.
+use Rattle.std.proofs.Common.{◌≡◌, ◌≢◌, ℕ, ◌+◌, ◌-◌, ◌<◌, ◌≤◌, ◌⊎◌, inl, inr, Bool, true, false, not, nat_le, ◌&&◌, if◌then◌else◌, List, [], ◌∷◌, Contains, length, map, get_or, refl, sym, ap, subst, ◌∙◌, ⊎_elim, arith}
+use Rattle.std.proofs.lemmas.List.{length-map, get_or-map}
+use Rattle.std.proofs.lemmas.List.Folds.{list_any_at}
+use Rattle.std.proofs.lemmas.Bool.{true≢false, and_from, or_cases, or_right, le-leb, leb-true, cases_Bool}
+use Rattle.std.proofs.lemmas.Slice.Eq.{bytes_eq-Decides}
+use Rattle.std.proofs.lemmas.Str.{chars-nil}
+use Rattle.std.specs.Cow.{cow_str_bytes}
+use Rattle.std.specs.Char.{is_whitespace}
+use Rattle.std.specs.List.{list_all, list_any}
+use Rattle.std.specs.Str.{bytes_eq}
+use Rattle.snippet_model.specs.declared.snippet.Snippet.{Snippet}
+use Rattle.snippet_model.specs.declared.snippet.Patch.{Patch}
+use Rattle.snippet_lines.specs.Lines.{Line, lines_of, source_lines, text_at}
+use Rattle.snippet_splice.specs.declared.splice.LineRange.{LineRange}
+use Rattle.snippet_splice.specs.Edits.{Edit, edit_of, patched, trimmed_edits}
+use Rattle.snippet_splice.specs.Overlap.{AreDisjoint}
+use Rattle.snippet_splice.specs.Shown.{without_final_line_feeds}
+use Rattle.snippet_splice.specs.Spliced.{IsTouched, line_ranges, ranges_from, spliced_text, stands, texts_of}
+use Rattle.snippet_splice.proofs.RangeLemmas.{written-ranges}
+use Rattle.snippet_splice.proofs.SpliceLemmas.{IsShownPart}
+use Rattle.snippet_splice.proofs.TouchLemmas.{IsHeld, shown-touched, touched-held}
+use Rattle.snippet_suggest.specs.declared.kind.DisplaySuggestion.{DisplaySuggestion}
+use Rattle.snippet_suggest.specs.declared.kind.DisplaySuggestion.TheVariants.{Underline, Diff, Plain, Add}
+use Rattle.snippet_suggest.specs.Given.{IsAsItWas, IsOfferable, edits_of, first_given, given_lines, given_ranges, given_text, is_left_out, last_reached, numbers_given, numbers_of, offered_lines, shown_kind, trimmed_of}
+use Rattle.snippet_suggest.specs.Kind.{adds_lines, is_blank, is_replacement, kind_of, takes_away}
+use Rattle.snippet_suggest.specs.Shown.{is_held, is_touched, numbers_shown, shown_lines}
+use Rattle.snippet_suggest.proofs.RisingLemmas.{touched_shown}
+use Rattle.snippet_suggest.proofs.OfferLaws.{HaveSpans, edits-apart, given-is-patched, given-part}
+
+-- a line in one of some ranges of the patched source is held by the same range counted from a later line on
+held-later : (base j : ℕ) (ranges : List LineRange) → IsHeld (ranges_from base ranges) j → is_held ranges (j - base) ≡ true
+held-later base j ranges h =
+    let shift : LineRange → LineRange = λ r. record { first = base + r.first; last = base + r.last } in
+    let i : ℕ = h.among.0 in
+    let within : i < length ranges = omega (arith, h.among.1, length-map ranges shift) in
+    let r : LineRange = get_or ranges i h.range in
+    let same : shift r ≡ h.range = sym (get_or-map shift ranges i h.range h.range within) ∙ h.among.2 in
+    let from : base + r.first ≤ j = omega (arith, h.from, ap (λ q. q.first) same) in
+    let to : j ≤ base + r.last = omega (arith, h.to, ap (λ q. q.last) same) in
+    list_any_at (λ q. nat_le q.first (j - base) && nat_le (j - base) q.last) ranges i h.range within (and_from _ _ (le-leb r.first (j - base) (omega (arith, from))) (le-leb (j - base) r.last (omega (arith, to))))
+
+-- a line is left out only of a diff: it is blank, or the same as the last that is removed
+left-out : (kind : DisplaySuggestion) (lines : List (List ℕ)) (last : List ℕ) → is_left_out kind lines last ≡ true → (kind ≡ Diff) × ((is_blank (get_or lines 0 []) ≡ true) ⊎ (get_or lines 0 [] ≡ last))
+left-out Diff lines last is =
+    (refl, ⊎_elim (λ blank. inl blank) (λ same. inr ((bytes_eq-Decides (get_or lines 0 []) last).0 same)) (or_cases (is_blank (get_or lines 0 [])) (bytes_eq (get_or lines 0 []) last) is))
+left-out Underline lines last is = absurd (true≢false (sym is))
+left-out Plain lines last is = absurd (true≢false (sym is))
+left-out Add lines last is = absurd (true≢false (sym is))
+
+-- a diff has at most one line
+diff-by : (few takes whole closes : Bool) → (if few && takes then Diff else if whole then (if closes then Add else Plain) else if few then Underline else Plain) ≡ Diff → few ≡ true
+diff-by true takes whole closes is = refl
+diff-by false takes true true is = absurd (cc)
+diff-by false takes true false is = absurd (cc)
+diff-by false takes false closes is = absurd (cc)
+
+diff-one : (source : List ℕ) (ts : List Edit) (text : List ℕ) → kind_of source ts text ≡ Diff → length (lines_of text) ≤ 1
+diff-one source ts text is =
+    leb-true (length (lines_of text)) 1 (diff-by (nat_le (length (lines_of text)) 1) (list_any (takes_away source) ts) (is_replacement ts text) (adds_lines ts) is)
+
+-- a line that isn't blank isn't empty
+not-empty : (text : List ℕ) → is_blank text ≡ false → text ≢ []
+not-empty text filled none =
+    let blank : is_blank [] ≡ true = ap (list_all is_whitespace) chars-nil in
+    true≢false (sym (ap is_blank none ∙ blank) ∙ filled)
+
+-- a list of one element
+only : {X : Type 0} (xs : List X) (d : X) → 0 < length xs → length xs ≤ 1 → xs ≡ get_or xs 0 d ∷ []
+only [] d some few = absurd (omega (arith, some))
+only (x ∷ []) d some few = refl
+only (x ∷ y ∷ xs) d some few = absurd (omega (arith, few))
+
+-- numbers counted from elsewhere
+contains-moved : (base k j : ℕ) (ks : List ℕ) → base + k ≡ j → Contains ks k → Contains (map (λ n. base + n) ks) j
+contains-moved base k j ks is among =
+    let move : ℕ → ℕ = λ n. base + n in
+    (among.0, omega (arith, among.1, length-map ks move), get_or-map move ks among.0 k j among.1 ∙ ap move among.2 ∙ is)
+
+-- where none is left out they are those that are shown
+none-left-out : (kind : DisplaySuggestion) (folds : Bool) (ranges : List LineRange) (lines : List (List ℕ)) (last : List ℕ) → is_left_out kind lines last ≡ false → numbers_of kind folds ranges lines last ≡ numbers_shown (shown_lines (is_touched folds ranges) (length lines))
+none-left-out kind folds ranges lines last none =
+    ap (λ b. if b then [] else numbers_shown (shown_lines (is_touched folds ranges) (length lines))) none
+
+-- where the line of a text is left out, it is blank or the text is as it was
+one-left-out : (s : Snippet Patch) → HaveSpans s → AreDisjoint (edits_of s) → s.markers.items ≢ [] → IsOfferable s → 0 < length (given_lines s) → is_left_out (shown_kind s) (given_lines s) (last_reached s) ≡ true → (length (given_lines s) ≤ 1) × ((is_blank (get_or (given_lines s) 0 []) ≡ true) ⊎ IsAsItWas s)
+one-left-out s spans disjoint some offerable first is =
+    let source : List ℕ = cow_str_bytes s.source in
+    let why = left-out (shown_kind s) (given_lines s) (last_reached s) is in
+    let one : length (given_lines s) ≤ 1 = omega (arith, diff-one source (trimmed_of s) (given_text s) why.0, length-map (lines_of (given_text s)) (λ l. l.0)) in
+    let part : IsShownPart s.fold source (edits_of s) = given-part s spans disjoint some offerable in
+    let text : spliced_text s.fold source (edits_of s) ≡ given_text s = part.spliced ∙ sym part.text in
+    (one, ⊎_elim (λ blank. inl blank) (λ same. inr (ap (λ t. texts_of (lines_of t)) text ∙ only (given_lines s) [] first one ∙ ap (λ t. t ∷ []) same)) why.1)
+
+-- where a line is touched there are patches
+touched-some : (s : Snippet Patch) (j : ℕ) → IsTouched (cow_str_bytes s.source) (edits_of s) j → s.markers.items ≢ []
+touched-some s j touched none =
+    let source : List ℕ = cow_str_bytes s.source in
+    omega (arith, touched.among.1, ap (λ ps. length (stands source (trimmed_edits source (map edit_of ps)))) none)
+
+-- each touched line that isn't blank is offered, unless the text is as it was
+pub touched-offered : (s : Snippet Patch) → HaveSpans s → AreDisjoint (edits_of s) → IsOfferable s → (j : ℕ) → IsTouched (cow_str_bytes s.source) (edits_of s) j → is_blank (text_at (source_lines (patched (cow_str_bytes s.source) (edits_of s))) j) ≡ false → IsAsItWas s ⊎ Contains (offered_lines s) j
+touched-offered s spans disjoint offerable j touched filled =
+    let some : s.markers.items ≢ [] = touched-some s j touched in
+    let source : List ℕ = cow_str_bytes s.source in
+    let es : List Edit = edits_of s in
+    let base : ℕ = first_given s in
+    let ls : List Line = source_lines (patched source es) in
+    let part : IsShownPart s.fold source es = given-part s spans disjoint some offerable in
+    let bounds = shown-touched s.fold source es offerable.no_cr offerable.before (edits-apart s spans disjoint) part j touched (not-empty (text_at ls j) filled) in
+    let count : length (given_lines s) ≡ length (lines_of (without_final_line_feeds part.part)) = length-map (lines_of (given_text s)) (λ l. l.0) ∙ ap (λ t. length (lines_of t)) part.text in
+    let k : ℕ = j - base in
+    let low : k < length (given_lines s) = omega (arith, bounds.0, bounds.1, count) in
+    let is_j : base + k ≡ j = omega (arith, bounds.0) in
+    ⊎_elim
+    (λ out. let why = one-left-out s spans disjoint some offerable (omega (arith, low)) out in
+    ⊎_elim
+    (λ blank. let zero_k : k ≡ 0 = omega (arith, low, why.0) in
+    let at : get_or (given_lines s) 0 [] ≡ text_at ls j = ap (λ n. get_or (given_lines s) n []) (sym zero_k) ∙ (given-is-patched s spans disjoint some offerable k low).1 ∙ ap (text_at ls) is_j in
+    absurd (true≢false (sym blank ∙ ap is_blank at ∙ filled)))
+    (λ as_it_was. inl as_it_was) why.1)
+    (λ shown. let ranges : ranges_from base (given_ranges s) ≡ line_ranges source es = written-ranges s.fold source es offerable.no_cr offerable.before (edits-apart s spans disjoint) in
+    let held : is_held (given_ranges s) k ≡ true = held-later base j (given_ranges s) (subst (λ rs. IsHeld rs j) (sym ranges) (touched-held source es j touched)) in
+    let among : Contains (numbers_shown (shown_lines (is_touched s.fold (given_ranges s)) (length (given_lines s)))) k = touched_shown (is_touched s.fold (given_ranges s)) (length (given_lines s)) k low (or_right (not s.fold) (is_held (given_ranges s) k) held) in
+    inr (contains-moved base k j (numbers_given s) is_j (subst (λ ks. Contains ks k) (sym (none-left-out (shown_kind s) s.fold (given_ranges s) (given_lines s) (last_reached s) shown)) among)))
+    (cases_Bool (is_left_out (shown_kind s) (given_lines s) (last_reached s)))
