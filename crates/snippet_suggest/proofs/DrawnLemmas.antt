@@ -3,6 +3,7 @@ use Rattle.std.proofs.Common.{◌≡◌, ℕ, ◌+◌, ◌<◌, List, [], ◌∷
 use Rattle.std.specs.List.{AllZip}
 use Rattle.std.proofs.lemmas.List.{append-nil, places, same_lists}
 use Rattle.snippet_style.specs.Grid.{Cell}
+use Rattle.snippet_suggest.specs.declared.layout.SuggestionLayout.{SuggestionLayout}
 use Rattle.snippet_suggest.specs.declared.shown.ShownLine.{ShownLine}
 use Rattle.snippet_suggest.specs.Rows.{AddsRow, AddsShown, IsShownRow}
 
@@ -14,26 +15,26 @@ zip_push R (a ∷ xs) [] x y all is = elim all [ ]
 zip_push R (a ∷ xs) (b ∷ ys) x y all is = (all.0, zip_push R xs ys x y all.1 is)
 
 -- nothing is drawn yet, and one row more is
-pub shown_none : (gutter : ℕ) (lines : List (List ℕ)) (old : List (List Cell)) → AddsShown gutter lines [] old old
-shown_none gutter lines old =
+pub shown_none : (layout : SuggestionLayout) (first : ℕ) (lines : List (List ℕ)) (old : List (List Cell)) → AddsShown layout first lines [] old old
+shown_none layout first lines old =
     record {
       rows = [];
       added = sym (append-nil old);
       are = tt;
     }
 
-pub shown_more : (gutter : ℕ) (lines : List (List ℕ)) (shown now : List ShownLine) (line : ShownLine) (old mid new : List (List Cell)) → now ≡ shown ++ line ∷ [] → AddsShown gutter lines shown old mid → AddsRow (IsShownRow gutter lines line) mid new → AddsShown gutter lines now old new
-shown_more gutter lines shown now line old mid new more adds row =
-    subst (λ (s : List ShownLine). AddsShown gutter lines s old new) (sym more) (record {
+pub shown_more : (layout : SuggestionLayout) (first : ℕ) (lines : List (List ℕ)) (shown now : List ShownLine) (line : ShownLine) (old mid new : List (List Cell)) → now ≡ shown ++ line ∷ [] → AddsShown layout first lines shown old mid → AddsRow (IsShownRow layout first lines line) mid new → AddsShown layout first lines now old new
+shown_more layout first lines shown now line old mid new more adds row =
+    subst (λ (s : List ShownLine). AddsShown layout first lines s old new) (sym more) (record {
       rows = adds.rows ++ row.row ∷ [];
       added = row.added ∙ ap (λ t. t ++ row.row ∷ []) adds.added ∙ append_assoc old adds.rows (row.row ∷ []);
-      are = zip_push (IsShownRow gutter lines) shown adds.rows line row.row adds.are row.is;
+      are = zip_push (IsShownRow layout first lines) shown adds.rows line row.row adds.are row.is;
     })
 
 -- the first of some and one more
 next_of : (xs : List ShownLine) (i : ℕ) (d : ShownLine) → i < length xs → take (i + 1) xs ≡ take i xs ++ get_or xs i d ∷ []
 next_of xs i d within = same_lists _ _ (grind (arith, places)) (λ k e h. grind (arith, places))
 
-pub shown_next : (gutter : ℕ) (lines : List (List ℕ)) (shown : List ShownLine) (i : ℕ) (d : ShownLine) (old mid new : List (List Cell)) → i < length shown → AddsShown gutter lines (take i shown) old mid → AddsRow (IsShownRow gutter lines (get_or shown i d)) mid new → AddsShown gutter lines (take (i + 1) shown) old new
-shown_next gutter lines shown i d old mid new within adds row =
-    shown_more gutter lines (take i shown) (take (i + 1) shown) (get_or shown i d) old mid new (next_of shown i d within) adds row
+pub shown_next : (layout : SuggestionLayout) (first : ℕ) (lines : List (List ℕ)) (shown : List ShownLine) (i : ℕ) (d : ShownLine) (old mid new : List (List Cell)) → i < length shown → AddsShown layout first lines (take i shown) old mid → AddsRow (IsShownRow layout first lines (get_or shown i d)) mid new → AddsShown layout first lines (take (i + 1) shown) old new
+shown_next layout first lines shown i d old mid new within adds row =
+    shown_more layout first lines (take i shown) (take (i + 1) shown) (get_or shown i d) old mid new (next_of shown i d within) adds row

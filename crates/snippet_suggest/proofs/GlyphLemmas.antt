@@ -1,13 +1,15 @@
 -- The characters of the glyphs of suggestions, and what is known of each.
-use Rattle.std.proofs.Common.{◌≡◌, ◌≤◌, ◌∷◌, [], false, codes, chars, refl, length, arith}
-use Rattle.std.specs.List.{list_any}
+use Rattle.std.proofs.Common.{◌≡◌, ◌≤◌, ◌∷◌, [], true, false, codes, chars, refl, inl, inr, length, arith}
+use Rattle.std.specs.Char.{is_ascii_alphanumeric}
+use Rattle.std.specs.List.{list_any, slice_index_or}
 use Rattle.std.proofs.lemmas.Str.{chars-encodes}
 use Rattle.snippet_style.specs.declared.glyphs.DecorStyle.{DecorStyle}
 use Rattle.snippet_style.specs.declared.glyphs.DecorStyle.TheVariants.{Ascii, Unicode}
 use Rattle.snippet_suggest.specs.declared.glyphs.SuggestionGlyph.{SuggestionGlyph}
 use Rattle.snippet_suggest.specs.declared.glyphs.SuggestionGlyph.TheVariants.{Opening, Next, Leading, Closing, Kept, Alone, Changed, Added}
 use Rattle.snippet_text.specs.Normalized.{is_listed}
-use Rattle.snippet_suggest.specs.Glyphs.{glyph_of}
+use Rattle.snippet_suggest.specs.Glyphs.{glyph_of, is_sign}
+use Rattle.snippet_suggest.specs.Rows.{IsSign}
 
 pub chars-minus : chars (45 ∷ 32 ∷ []) ≡ codes "- "
 unfolding lib.Utf8.encode
@@ -90,3 +92,59 @@ glyph_unlisted Unicode Kept = refl
 glyph_unlisted Unicode Alone = refl
 glyph_unlisted Unicode Changed = refl
 glyph_unlisted Unicode Added = refl
+
+-- none holds a letter or digit
+pub glyph_plain : (decor : DecorStyle) (glyph : SuggestionGlyph) → list_any is_ascii_alphanumeric (glyph_of decor glyph) ≡ false
+glyph_plain Ascii Opening = refl
+glyph_plain Ascii Next = refl
+glyph_plain Ascii Leading = refl
+glyph_plain Ascii Closing = refl
+glyph_plain Ascii Kept = refl
+glyph_plain Ascii Alone = refl
+glyph_plain Ascii Changed = refl
+glyph_plain Ascii Added = refl
+glyph_plain Unicode Opening = refl
+glyph_plain Unicode Next = refl
+glyph_plain Unicode Leading = refl
+glyph_plain Unicode Closing = refl
+glyph_plain Unicode Kept = refl
+glyph_plain Unicode Alone = refl
+glyph_plain Unicode Changed = refl
+glyph_plain Unicode Added = refl
+
+-- a sign begins with what may stand beside a line, and a space stands behind that
+pub sign_first : (decor : DecorStyle) (glyph : SuggestionGlyph) → is_sign glyph ≡ true → IsSign decor (slice_index_or (glyph_of decor glyph) 0 32)
+sign_first Ascii Opening is = absurd (cc)
+sign_first Ascii Next is = absurd (cc)
+sign_first Ascii Leading is = absurd (cc)
+sign_first Ascii Closing is = absurd (cc)
+sign_first Ascii Kept is = inl refl
+sign_first Ascii Alone is = inl refl
+sign_first Ascii Changed is = inr (inl refl)
+sign_first Ascii Added is = inr (inr refl)
+sign_first Unicode Opening is = absurd (cc)
+sign_first Unicode Next is = absurd (cc)
+sign_first Unicode Leading is = absurd (cc)
+sign_first Unicode Closing is = absurd (cc)
+sign_first Unicode Kept is = inl refl
+sign_first Unicode Alone is = inl refl
+sign_first Unicode Changed is = inr (inl refl)
+sign_first Unicode Added is = inr (inr refl)
+
+pub sign_second : (decor : DecorStyle) (glyph : SuggestionGlyph) → is_sign glyph ≡ true → slice_index_or (glyph_of decor glyph) 1 32 ≡ 32
+sign_second Ascii Opening is = absurd (cc)
+sign_second Ascii Next is = absurd (cc)
+sign_second Ascii Leading is = absurd (cc)
+sign_second Ascii Closing is = absurd (cc)
+sign_second Ascii Kept is = refl
+sign_second Ascii Alone is = refl
+sign_second Ascii Changed is = refl
+sign_second Ascii Added is = refl
+sign_second Unicode Opening is = absurd (cc)
+sign_second Unicode Next is = absurd (cc)
+sign_second Unicode Leading is = absurd (cc)
+sign_second Unicode Closing is = absurd (cc)
+sign_second Unicode Kept is = refl
+sign_second Unicode Alone is = refl
+sign_second Unicode Changed is = refl
+sign_second Unicode Added is = refl

@@ -1,6 +1,9 @@
 pub mod AscendLemmas
+pub mod BareLemmas
 pub mod DrawnLemmas
 pub mod GlyphLemmas
+pub mod LineRowLemmas
+pub mod MarkLemmas
 pub mod NumberLaws
 pub mod OfferLaws
 pub mod PaintLemmas
@@ -8,4 +11,5 @@ pub mod RisingLemmas
 pub mod RowLemmas
 pub mod ShownLemmas
 pub mod SpanLemmas
+pub mod TailLemmas
 pub mod TouchLaws

@@ -1,13 +1,17 @@
 -- Rows whose cells get other roles.
 use Rattle.std.proofs.Common.{◌≡◌, ℕ, ◌+◌, ◌-◌, ◌<◌, max, true, false, Option, None, List, [], ◌∷◌, ◌++◌, length, take, drop, map, set, get_or, refl, sym, ap, ◌∙◌, arith, subst}
-use Rattle.std.proofs.lemmas.List.{places, same_lists, map-append, get_or_at, get_or-map, drop-map, length-append, length-map}
+use Rattle.std.specs.Char.{is_ascii_alphanumeric}
+use Rattle.std.specs.List.{slice_index_or}
+use Rattle.std.proofs.lemmas.List.{places, same_lists, map-append, get_or_at, get_or-map, drop-map, take-map, length-append, length-map}
 use Rattle.snippet_text.specs.Normalized.{is_listed}
 use Rattle.snippet_style.proofs.ChangeLemmas.{changed_within_one}
 use Rattle.snippet_style.specs.declared.role.ElementStyle.{ElementStyle}
-use Rattle.snippet_style.specs.Grid.{Cell, changed_within, cells_restyled, restyled}
+use Rattle.snippet_style.specs.declared.glyphs.DecorStyle.{DecorStyle}
+use Rattle.snippet_style.specs.Grid.{Cell, SPACE, changed_within, cells_restyled, restyled}
 use Rattle.snippet_style.specs.Print.{row_text}
 use Rattle.snippet_parts.specs.Rows.{IsFree}
-use Rattle.snippet_suggest.specs.Rows.{without_role, IsRepainted, IsLineRow, AddsRow}
+use Rattle.snippet_suggest.specs.Rows.{without_role, IsRepainted, IsLineRow, IsSign, AddsRow}
+use Rattle.snippet_suggest.proofs.RowLemmas.{ch_at}
 
 -- a cell in another role
 restyled_same : (role : ElementStyle) (cells : List Cell) → map without_role (map (restyled role true) cells) ≡ map without_role cells
@@ -78,19 +82,29 @@ seen_free xs ys same free k d within =
     let P : ℕ × Option (List ℕ) → Type 0 = λ p. (is_listed p.0 ≡ false) × (p.1 ≡ None) in
     subst P (sym (get_or-map without_role ys k d (without_role d) there) ∙ ap (λ zs. get_or zs k (without_role d)) (sym same) ∙ get_or-map without_role xs k d (without_role d) within) (free k d there)
 
-pub line_row_painted : (gutter : ℕ) (text : List ℕ) (row now : List Cell) → map without_role now ≡ map without_role row → IsLineRow gutter text row → IsLineRow gutter text now
-line_row_painted gutter text row now same is =
+seen_take : (n : ℕ) (xs ys : List Cell) → map without_role xs ≡ map without_role ys → map without_role (take n xs) ≡ map without_role (take n ys)
+seen_take n xs ys same = sym (take-map without_role n xs) ∙ ap (take n) same ∙ take-map without_role n ys
+
+seen_ch : (c : ℕ) (xs ys : List Cell) → map without_role xs ≡ map without_role ys → (slice_index_or xs c SPACE).ch ≡ (slice_index_or ys c SPACE).ch
+seen_ch c xs ys same = ch_at xs c ∙ ap (λ t. slice_index_or t c 32) (seen_text xs ys same) ∙ sym (ch_at ys c)
+
+pub line_row_painted : (decor : DecorStyle) (gutter : ℕ) (number text : List ℕ) (row now : List Cell) → map without_role now ≡ map without_role row → IsLineRow decor gutter number text row → IsLineRow decor gutter number text now
+line_row_painted decor gutter number text row now same is =
     record {
+      numbered = seen_text (take (length number) now) (take (length number) row) (seen_take (length number) now row same) ∙ is.numbered;
+      beside = λ c behind left. ap is_ascii_alphanumeric (seen_ch c now row same) ∙ is.beside c behind left;
+      sign = subst (λ (ch : ℕ). IsSign decor ch) (sym (seen_ch (gutter + 1) now row same)) is.sign;
+      space = seen_ch (gutter + 2) now row same ∙ is.space;
       holds = seen_text (drop (gutter + 3) now) (drop (gutter + 3) row) (seen_drop (gutter + 3) now row same) ∙ is.holds;
       free = seen_free now row same is.free;
     }
 
 -- a line's row that was added, and then painted
-pub line_added_painted : (gutter : ℕ) (text other : List ℕ) (old mid new : List (List Cell)) (row : ℕ) → text ≡ other → AddsRow (IsLineRow gutter text) old mid → row ≡ length old → ((above : List (List Cell)) (last : List Cell) → row ≡ length above → mid ≡ above ++ last ∷ [] → IsRepainted above last new) → AddsRow (IsLineRow gutter other) old new
-line_added_painted gutter text other old mid new row same adds here paints =
+pub line_added_painted : (decor : DecorStyle) (gutter : ℕ) (number counted text other : List ℕ) (old mid new : List (List Cell)) (row : ℕ) → number ≡ counted → text ≡ other → AddsRow (IsLineRow decor gutter number text) old mid → row ≡ length old → ((above : List (List Cell)) (last : List Cell) → row ≡ length above → mid ≡ above ++ last ∷ [] → IsRepainted above last new) → AddsRow (IsLineRow decor gutter counted other) old new
+line_added_painted decor gutter number counted text other old mid new row numbers same adds here paints =
     let painted = paints old adds.row here adds.added in
     record {
       row = painted.now;
       added = painted.is;
-      is = subst (λ (t : List ℕ). IsLineRow gutter t painted.now) same (line_row_painted gutter text adds.row painted.now painted.same adds.is);
+      is = subst (λ (n : List ℕ). IsLineRow decor gutter n other painted.now) numbers (subst (λ (t : List ℕ). IsLineRow decor gutter number t painted.now) same (line_row_painted decor gutter number text adds.row painted.now painted.same adds.is));
     }

@@ -4,9 +4,10 @@ use Rattle.std.proofs.lemmas.Bool.Decides.{nat_tests}
 use Rattle.std.proofs.lemmas.List.Elements.{filter_map-append, All-cons, All-nil, Contains-append_right}
 use Rattle.std.proofs.lemmas.Bool.{cases_eq}
 use Rattle.std.proofs.lemmas.List.{append-nil}
+use Rattle.snippet_suggest.specs.declared.layout.SuggestionLayout.{SuggestionLayout}
 use Rattle.snippet_suggest.specs.declared.shown.ShownLine.{ShownLine}
 use Rattle.snippet_suggest.specs.declared.shown.ShownLine.TheVariants.{Line, Gap}
-use Rattle.snippet_suggest.specs.Rows.{HasRoom}
+use Rattle.snippet_suggest.specs.Rows.{NumberFits}
 use Rattle.snippet_suggest.specs.Shown.{lines_from, shown_run, shown_from, shown_lines, number_of, numbers_shown, AreRising}
 
 -- the bounds of ascending numbers, and two such lists joined
@@ -55,16 +56,16 @@ rising_shown touched count =
     subst (λ (to : ℕ). AreRising 0 to (numbers_shown (shown_lines touched count))) same (rising_from touched 0 0 count (omega arith))
 
 -- where there is room for the number of each line, there is for those that are shown
-rooms_of : (numbered : Bool) (gutter first low count : ℕ) (shown : List ShownLine) → AreRising low count (numbers_shown shown) → ((k : ℕ) → k < count → HasRoom numbered gutter first (Line k)) → All (HasRoom numbered gutter first) shown
-rooms_of numbered gutter first low count [] rising rooms = All-nil (HasRoom numbered gutter first)
-rooms_of numbered gutter first low count (Line k ∷ shown) rising rooms =
-    All-cons (HasRoom numbered gutter first) (Line k) shown (rooms k (omega (arith, rising_bound (k + 1) count (numbers_shown shown) rising.1))) (rooms_of numbered gutter first (k + 1) count shown rising.1 rooms)
-rooms_of numbered gutter first low count (Gap ∷ shown) rising rooms =
-    All-cons (HasRoom numbered gutter first) Gap shown tt (rooms_of numbered gutter first low count shown rising rooms)
+rooms_of : (layout : SuggestionLayout) (first low count : ℕ) (shown : List ShownLine) → AreRising low count (numbers_shown shown) → ((k : ℕ) → k < count → NumberFits layout first (Line k)) → All (NumberFits layout first) shown
+rooms_of layout first low count [] rising rooms = All-nil (NumberFits layout first)
+rooms_of layout first low count (Line k ∷ shown) rising rooms =
+    All-cons (NumberFits layout first) (Line k) shown (rooms k (omega (arith, rising_bound (k + 1) count (numbers_shown shown) rising.1))) (rooms_of layout first (k + 1) count shown rising.1 rooms)
+rooms_of layout first low count (Gap ∷ shown) rising rooms =
+    All-cons (NumberFits layout first) Gap shown tt (rooms_of layout first low count shown rising rooms)
 
-pub rooms_shown : (numbered : Bool) (gutter first count : ℕ) (touched : ℕ → Bool) → ((k : ℕ) → k < count → HasRoom numbered gutter first (Line k)) → All (HasRoom numbered gutter first) (shown_lines touched count)
-rooms_shown numbered gutter first count touched rooms =
-    rooms_of numbered gutter first 0 count (shown_lines touched count) (rising_shown touched count) rooms
+pub rooms_shown : (layout : SuggestionLayout) (first count : ℕ) (touched : ℕ → Bool) → ((k : ℕ) → k < count → NumberFits layout first (Line k)) → All (NumberFits layout first) (shown_lines touched count)
+rooms_shown layout first count touched rooms =
+    rooms_of layout first 0 count (shown_lines touched count) (rising_shown touched count) rooms
 
 -- at the end nothing is still to come
 pub shown_all : (touched : ℕ → Bool) (shown all : List ShownLine) (behind line count : ℕ) → count ≤ line → shown ++ shown_from touched behind line (count - line) ≡ all → shown ≡ all

@@ -1,5 +1,5 @@
 //! The rows that a suggestion begins and ends with.
-ghost use Rattle.std.specs.Prelude.{◌≡◌, ◌<◌, ◌^◌, ◌+◌, ◌++◌, Bool, List, IfOk, OnOk, length};
+ghost use Rattle.std.specs.Prelude.{◌≡◌, ℕ, ◌<◌, ◌^◌, ◌+◌, ◌++◌, Bool, List, IfOk, OnOk, length};
 ghost use Rattle.snippet_suggest.specs.Rows.{AddsEnd, AddsRow, IsBareRow, IsTail};
 ghost use Rattle.snippet_style.specs.Grid.{Cell};
 
@@ -36,7 +36,7 @@ pub(crate) fn draw_head(
     draw_glyph(buffer, layout, rows, SuggestionGlyph::Opening)
 }
 
-/// Draws a glyph behind the gutter of a row, which stands alone if the row is the first below all that stands in the grid.
+/// Draws a glyph behind the gutter of a row, which stands alone unless the row is one that is there.
 fn draw_glyph(
     buffer: &mut StyledBuffer,
     layout: SuggestionLayout,
@@ -47,6 +47,7 @@ fn draw_glyph(
     requires row { row + 1 < 2 ^ 64 }
     ensures added { (above tail : List (List Cell)) (shares : Bool) → row ≡ length above → buffer.old ≡ above ++ tail
         → IsTail layout shares tail → OnOk result (AddsRow (IsBareRow layout.decor layout.gutter) above buffer.new) }
+    ensures end { (skipped : ℕ) → row ≡ length buffer.old + skipped → OnOk result (AddsEnd layout skipped buffer.old buffer.new) }
 {
     buffer.puts(
         row,

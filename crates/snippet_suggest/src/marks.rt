@@ -1,7 +1,7 @@
 //! The marks below what a suggestion puts in.
 ghost use Rattle.std.specs.Prelude.{◌≡◌, ◌<◌, ◌^◌, ◌+◌, ◌++◌, ◌∷◌, [], List, All, OnOk, length};
 ghost use Rattle.snippet_style.specs.Grid.{Cell};
-ghost use Rattle.snippet_suggest.specs.Rows.{AddsRow, IsBareRow};
+ghost use Rattle.snippet_suggest.specs.Rows.{AddsRow, IsBareRow, IsMarkOrSpace};
 ghost use Rattle.snippet_lines.specs.Span.{IsSpan};
 
 use crate::glyphs::changed_mark;
@@ -57,18 +57,25 @@ pub(crate) fn draw_marks(
     for patch in patches {
         let columns = patch_columns(map, patch);
         let (start, end) = marked_columns(&before, columns, patch.replacement);
-        let mark = if is_addition(map.source(), patch) {
-            '+'
-        } else {
-            changed_mark(layout.decor)
-        };
+        let mark = patch_mark(layout, map, patch);
         draw_mark(buffer, layout, row, start, end, mark)?;
         before.push(columns)?;
     }
     Ok(())
 }
 
-/// Draws a mark into the columns from `start` to before `end` of a row.
+/// The mark below what a patch puts in.
+fn patch_mark(layout: SuggestionLayout, map: &SourceMap<'_>, patch: &TrimmedPatch<'_>) -> char
+    ensures mark { IsMarkOrSpace layout.decor result }
+{
+    if is_addition(map.source(), patch) {
+        '+'
+    } else {
+        changed_mark(layout.decor)
+    }
+}
+
+/// Draws a mark into the columns from `start` to before `end` of a row, which shows no line.
 fn draw_mark(
     buffer: &mut StyledBuffer,
     layout: SuggestionLayout,
@@ -79,6 +86,9 @@ fn draw_mark(
 ) -> Result<(), AllocError>
     requires narrow { layout.gutter < 2 ^ 32 }
     requires row { row + 1 < 2 ^ 64 }
+    ensures marked { (above : List (List Cell)) (last : List Cell) → row ≡ length above → buffer.old ≡ above ++ last ∷ []
+        → IsBareRow layout.decor layout.gutter last → IsMarkOrSpace layout.decor mark
+        → OnOk result (AddsRow (IsBareRow layout.decor layout.gutter) above buffer.new) }
 {
     for column in start..end.min(MAX_COLUMN) {
         let cell = layout.gutter + 3 + column;

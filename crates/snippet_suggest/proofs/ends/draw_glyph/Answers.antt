@@ -1,6 +1,6 @@
 use Rattle.std.proofs.Common.{arith, ap, length}
 use Rattle.snippet_suggest.proofs.GlyphLemmas.{glyph_short}
-use Rattle.snippet_suggest.proofs.RowLemmas.{glyph_added}
+use Rattle.snippet_suggest.proofs.TailLemmas.{end_added, glyph_added}
 use Rattle.snippet_suggest.proofs.ends.draw_glyph.Goals as goal
 
 pub puts-requires-clause-end : goal.puts-requires-clause-end
@@ -9,6 +9,8 @@ puts-requires-clause-end c =
 
 pub returns : goal.returns
 returns c =
+    let drawn = c.in_ok-puts.ensures.ok c.text.ensures.some in
     record {
-      added = λ below. glyph_added c.args.layout.gutter c.args.layout.decor c.args.glyph c.args.buffer.now c.puts.new.self c.args.row c.text.result.now below c.text.ensures.value (c.in_ok-puts.ensures.ok c.text.ensures.some);
+      added = λ above tail shares. glyph_added c.args.layout shares c.args.glyph above tail c.args.buffer.now c.puts.new.self c.args.row c.text.result.now c.text.ensures.value drawn;
+      end = λ skipped. end_added c.args.layout c.args.glyph skipped c.args.buffer.now c.puts.new.self c.args.row c.text.result.now c.text.ensures.value drawn;
     }

@@ -1,6 +1,6 @@
 use Rattle.std.proofs.Common.{◌∙◌, sym, subst, map, length, All, List}
 use Rattle.snippet_suggest.specs.declared.shown.ShownLine.{ShownLine}
-use Rattle.snippet_suggest.specs.Rows.{AddsShown, HasRoom}
+use Rattle.snippet_suggest.specs.Rows.{AddsShown, NumberFits}
 use Rattle.snippet_suggest.specs.Shown.{is_touched}
 use Rattle.snippet_suggest.proofs.RisingLemmas.{rooms_shown}
 use Rattle.snippet_suggest.proofs.lines.draw_lines.Goals as goal
@@ -10,5 +10,5 @@ returns c =
     let a = c.args in
     let is = c.deref.ensures.value ∙ c.in_ok-shown.ensures.value in
     record {
-      added = λ rooms. subst (λ (s : List ShownLine). AddsShown a.layout.gutter (map (λ l. l.now) a.lines.now) s a.buffer.now c.draw_shown.new.buffer) is (c.in_ok-draw_shown.ensures.added (subst (All (HasRoom a.layout.numbered a.layout.gutter a.first)) (sym is) (rooms_shown a.layout.numbered a.layout.gutter a.first (length a.lines.now) (is_touched a.fold a.ranges.now) rooms)));
+      added = λ rooms. subst (λ (s : List ShownLine). AddsShown a.layout a.first (map (λ l. l.now) a.lines.now) s a.buffer.now c.draw_shown.new.buffer) is (c.in_ok-draw_shown.ensures.added (subst (All (NumberFits a.layout a.first)) (sym is) (rooms_shown a.layout a.first (length a.lines.now) (is_touched a.fold a.ranges.now) rooms)));
     }

@@ -5,7 +5,8 @@ use Rattle.snippet_text.proofs.NormLemmas.{list_any-norm}
 use Rattle.snippet_lines.specs.Number.{shown_number}
 use Rattle.snippet_suggest.proofs.GlyphLemmas.{chars-minus}
 use Rattle.snippet_lines.proofs.NumberLemmas.{chars-shown_number, shown_number_unlisted}
-use Rattle.snippet_suggest.proofs.RowLemmas.{All-from_none, removed_added}
+use Rattle.snippet_suggest.proofs.RowLemmas.{All-from_none}
+use Rattle.snippet_suggest.proofs.TailLemmas.{removed_added}
 use Rattle.snippet_style.proofs.GridLemmas.{length-chars_le}
 use Rattle.snippet_suggest.proofs.row.draw_removed_line.Goals as goal
 
@@ -27,7 +28,7 @@ returns c =
     let is_number : chars number ≡ shown_number a.layout.numbered g a.number = ap chars (c.as_str.ensures.value ∙ c.in_ok-number.ensures.text) ∙ chars-shown_number a.layout.numbered g a.number (omega arith) in
     let is_text : chars text ≡ norm (chars a.line.now) = ap chars c.as_str-2.ensures.value ∙ c.in_ok-text.ensures.value in
     let free_number : All (λ ch. is_listed ch ≡ false) (chars number) = subst (λ (t : List ℕ). All (λ ch. is_listed ch ≡ false) t) (sym is_number) (shown_number_unlisted a.layout.numbered g a.number (omega arith)) in
-    let free_text = All-from_none (chars text) (ap (list_any is_listed) is_text ∙ list_any-norm (chars a.line.now)) in
+    let free_text = All-from_none is_listed (chars text) (ap (list_any is_listed) is_text ∙ list_any-norm (chars a.line.now)) in
     record {
-      added = λ below. removed_added g a.role a.buffer.now c.puts.new.self c.puts-2.new.self c.puts-3.new.self a.row number (45 ∷ 32 ∷ []) text below chars-minus free_number free_text c.in_ok-puts.ensures.ok c.puts.ensures.empty (c.in_ok-puts-2.ensures.ok (omega arith)) c.in_ok-puts-3.ensures.ok c.puts-3.ensures.empty;
+      added = λ above tail shares. removed_added a.layout shares a.role above tail a.buffer.now c.puts.new.self c.puts-2.new.self c.puts-3.new.self a.row number (45 ∷ 32 ∷ []) text chars-minus free_number free_text c.in_ok-puts.ensures.ok c.puts.ensures.empty (c.in_ok-puts-2.ensures.ok (omega arith)) c.in_ok-puts-3.ensures.ok c.puts-3.ensures.empty;
     }
