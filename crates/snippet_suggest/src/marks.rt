@@ -27,6 +27,81 @@ pub(crate) struct PatchColumns {
     width: usize,
 }
 
+/// How far columns move: so many to the right, and then so many to the left.
+#[derive(Clone, Copy, Drop)]
+struct Shift {
+    right: usize,
+    left: usize,
+}
+
+impl Shift {
+    /// Columns stay.
+    fn none() -> Shift {
+        Shift { right: 0, left: 0 }
+    }
+
+    /// The same with what one more patch makes the line longer or shorter.
+    fn with(self, columns: PatchColumns) -> Shift {
+        Shift {
+            right: self
+                .right
+                .saturating_add(columns.width)
+                .saturating_add(columns.start),
+            left: self.left.saturating_add(columns.end),
+        }
+    }
+
+    /// Where a column stands then.
+    fn moved(self, column: usize) -> usize {
+        column.saturating_add(self.right).saturating_sub(self.left)
+    }
+}
+
+/// The patches before one, which move it.
+#[derive(Drop)]
+struct Moves {
+    /// Their columns.
+    patches: Vec<PatchColumns>,
+    /// What they move together.
+    all: Shift,
+    /// The greatest column at which one of them ends.
+    end: usize,
+}
+
+impl Moves {
+    /// No patches.
+    fn none(alloc: Global) -> Moves {
+        Moves {
+            patches: Vec::new(alloc),
+            all: Shift::none(),
+            end: 0,
+        }
+    }
+
+    /// Adds a patch.
+    fn push(&mut self, columns: PatchColumns) -> Result<(), AllocError> {
+        self.patches.push(columns)?;
+        self.all = self.all.with(columns);
+        self.end = self.end.max(columns.end);
+        Ok(())
+    }
+
+    /// How those that end at a column or left of it move what starts there. Patches of one line all do, and are not looked at one
+    /// by one.
+    fn before(&self, start: usize) -> Shift {
+        if self.end <= start {
+            return self.all;
+        }
+        let mut shift = Shift::none();
+        for columns in &self.patches {
+            if columns.end <= start {
+                shift = shift.with(*columns);
+            }
+        }
+        shift
+    }
+}
+
 /// Draws the marks below the one line of a suggestion, into a row that is there: `+` below what is added, else the
 /// glyph of what is changed. Each patch moves those behind it by what it makes the line longer or shorter.
 ///
@@ -53,13 +128,13 @@ pub(crate) fn draw_marks(
     ensures marked { (above : List (List Cell)) (last : List Cell) → row ≡ length above → buffer.old ≡ above ++ last ∷ []
         → IsBareRow layout.decor layout.gutter last → OnOk result (AddsRow (IsBareRow layout.decor layout.gutter) above buffer.new) }
 {
-    let mut before = Vec::new(alloc);
+    let mut moves = Moves::none(alloc);
     for patch in patches {
         let columns = patch_columns(map, patch);
-        let (start, end) = marked_columns(&before, columns, patch.replacement);
+        let (start, end) = marked_columns(moves.before(columns.start), columns, patch.replacement);
         let mark = patch_mark(layout, map, patch);
         draw_mark(buffer, layout, row, start, end, mark)?;
-        before.push(columns)?;
+        moves.push(columns)?;
     }
     Ok(())
 }
@@ -109,12 +184,8 @@ fn patch_columns(map: &SourceMap<'_>, patch: &TrimmedPatch<'_>) -> PatchColumns
     }
 }
 
-/// The columns below a replacement without its outer whitespace, or below all of it if it is blank.
-fn marked_columns(
-    before: &[PatchColumns],
-    columns: PatchColumns,
-    replacement: &str,
-) -> (usize, usize) {
+/// The columns below a replacement, so far moved, without its outer whitespace, or below all of it if it is blank.
+fn marked_columns(shift: Shift, columns: PatchColumns, replacement: &str) -> (usize, usize) {
     let (lead, width) = if is_blank(replacement) {
         (0, columns.width)
     } else {
@@ -124,24 +195,7 @@ fn marked_columns(
         (lead, text_width(replacement.trim()))
     };
     let from = columns.start.saturating_add(lead);
-    let start = moved(before, columns.start, from);
-    let end = moved(before, columns.start, from.saturating_add(width));
-    (start, end)
-}
-
-/// A column of a patch that starts at column `start`, moved by those patches before it that end there or left of it.
-fn moved(before: &[PatchColumns], start: usize, column: usize) -> usize {
-    let mut right = column;
-    let mut left = 0usize;
-    for columns in before {
-        if columns.end <= start {
-            right = right
-                .saturating_add(columns.width)
-                .saturating_add(columns.start);
-            left = left.saturating_add(columns.end);
-        }
-    }
-    right.saturating_sub(left)
+    (shift.moved(from), shift.moved(from.saturating_add(width)))
 }
 
 /// The columns of a text.
