@@ -1,5 +1,5 @@
 -- What no row of a page may hold, whatever it shows.
-use Rattle.std.specs.Prelude.{◌≡◌, ℕ, ◌≤◌, Bool, false, Option, None, List, All}
+use Rattle.std.specs.Prelude.{◌≡◌, ℕ, ◌≤◌, false, None, List, All}
 use Rattle.std.specs.Char.{is_ascii_alphanumeric}
 use Rattle.std.specs.List.{slice_index_or}
 use Rattle.snippet_style.specs.Grid.{Cell, SPACE}

@@ -126,6 +126,16 @@ without_final-stays (b ∷ []) unclosed =
 without_final-stays (b ∷ c ∷ cs) unclosed =
     ap (unless_lone_line_feed b) (without_final-stays (c ∷ cs) (λ front e. unclosed (b ∷ front) (ap (λ l. b ∷ l) e)))
 
+-- nothing is taken from a text twice
+without_lone-twice : (b : ℕ) (xs : List ℕ) → without_final_line_feeds xs ≡ xs → without_final_line_feeds (unless_lone_line_feed b xs) ≡ unless_lone_line_feed b xs
+without_lone-twice b [] stays =
+    cond_both (is_lf b) [] (b ∷ []) (λ l. without_final_line_feeds l ≡ l) (λ _. refl) (λ other. cond-false (is_lf b) [] (b ∷ []) other)
+without_lone-twice b (c ∷ cs) stays = ap (unless_lone_line_feed b) stays
+
+pub without_final-twice : (xs : List ℕ) → without_final_line_feeds (without_final_line_feeds xs) ≡ without_final_line_feeds xs
+without_final-twice [] = refl
+without_final-twice (b ∷ bs) = without_lone-twice b (without_final_line_feeds bs) (without_final-twice bs)
+
 -- a front of a front is a front
 pub front-shorter : (rest text front : List ℕ) → rest ≡ take (length rest) text → rest ≡ front ++ 10 ∷ [] → front ≡ take (length front) text
 front-shorter rest text front is cut =

@@ -35,6 +35,8 @@ pub fn trimmed_patches<'a>(
     ensures originals { IfOk result (λ ts. map original_bounds_of ts.items
         ≡ map bounds_of (in_order (map edit_of patches.now))) }
     ensures spans { IfOk result (λ ts. All (λ t. IsSpan source.now t.span.start t.span.end) ts.items) }
+    ensures original_spans { IfOk result
+        (λ ts. All (λ t. IsSpan source.now t.original_span.start t.original_span.end) ts.items) }
     // Applied as they stand they give the patched source.
     ensures law { AreApart 0 (in_order (map edit_of patches.now)) → IfOk result (λ ts.
         edited_from source.now 0 (map trimmed_edit_of ts.items) ≡ patched source.now (map edit_of patches.now)) }

@@ -7,7 +7,7 @@ ghost use Rattle.snippet_splice.specs.Edits.{edit_of, in_order, bounds_of, origi
 ghost use Rattle.snippet_splice.specs.Overlap.{AreDisjoint};
 ghost use Rattle.snippet_splice.specs.Copied.{written, written_ranges, end_from};
 ghost use Rattle.snippet_splice.specs.Spliced.{HasNoCr, IsBeforeFinalLf, IsTouched, texts_of, AreFrom, spliced_text, line_ranges, ranges_from};
-ghost use Rattle.snippet_splice.specs.Shown.{closes_line, shown_line, shown_start, shown_rest, without_final_line_feeds, shown_text};
+ghost use Rattle.snippet_splice.specs.Shown.{closes_line, first_start, shown_line, shown_start, shown_rest, without_final_line_feeds, shown_text};
 
 use crate::copy::{push_copied, text_place};
 use crate::patches::{TrimmedPatch, trimmed_patches};
@@ -61,12 +61,19 @@ pub fn spliced_lines<'a>(
         map original_bounds_of s.patches.items ≡ map bounds_of (in_order (map edit_of patches.now)))) }
     ensures spans { IfOk result (λ t. IfSome t
         (λ s. All (λ p. IsSpan source.now p.span.start p.span.end) s.patches.items)) }
+    ensures original_spans { IfOk result (λ t. IfSome t
+        (λ s. All (λ p. IsSpan source.now p.original_span.start p.original_span.end) s.patches.items)) }
     // The trimmed patches, applied as they stand, give the patched source.
     ensures law { let es = map edit_of patches.now in IfOk result (λ t. IfSome t (λ s.
         edited_from source.now 0 (map trimmed_edit_of s.patches.items) ≡ patched source.now es)) }
     // The text, also of sources with carriage returns.
     ensures value { IfOk result (λ t. IfSome t
         (λ s. string_bytes s.complete ≡ shown_text fold source.now (map edit_of patches.now))) }
+    ensures ended { IfOk result (λ t. IfSome t
+        (λ s. without_final_line_feeds (string_bytes s.complete) ≡ string_bytes s.complete)) }
+    // The lines of the text on which the replacements stand, also of sources with carriage returns.
+    ensures written { let es = map edit_of patches.now in IfOk result (λ t. IfSome t (λ s.
+        s.ranges.items ≡ written_ranges source.now 0 (shown_start fold source.now (first_start (in_order es))) (trimmed_edits source.now es))) }
     // Without carriage returns in the source, and where no trimmed patch starts behind a final line feed.
     ensures text { let es = map edit_of patches.now in
         HasNoCr source.now → All (λ e. IsBeforeFinalLf source.now e.start) (trimmed_edits source.now es)

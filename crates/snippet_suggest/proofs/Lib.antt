@@ -7,6 +7,7 @@ pub mod MarkLemmas
 pub mod NumberLaws
 pub mod OfferLaws
 pub mod PaintLemmas
+pub mod PreparedLemmas
 pub mod RisingLemmas
 pub mod RowLemmas
 pub mod ShownLemmas

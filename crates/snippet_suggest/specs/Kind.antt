@@ -1,5 +1,5 @@
 -- How a suggestion is shown: as a value, by what its patches do.
-use Rattle.std.specs.Prelude.{ℕ, nat_le, ◌==◌, ◌&&◌, ◌||◌, not, Bool, true, false, Option, Some, None, is_none, List, [], ◌∷◌, length, chars, if◌then◌else◌}
+use Rattle.std.specs.Prelude.{ℕ, nat_lt, nat_le, ◌==◌, ◌&&◌, ◌||◌, not, Bool, true, false, Option, Some, None, is_none, List, [], ◌∷◌, length, chars, if◌then◌else◌}
 use Rattle.std.specs.Char.{is_whitespace}
 use Rattle.std.specs.List.{list_all, list_any, slice_range}
 use Rattle.std.specs.Str.{bytes_eq, trim}
@@ -31,6 +31,11 @@ loses_text e (Some text) = is_none (sandwich (trim text) (trim e.text))
 abbrev pub takes_away : List ℕ → Edit → Bool
 takes_away source e =
     is_under_text e (text_under source e) && (is_blank e.text || loses_text e (text_under source e))
+
+-- whether a trimmed edit adds text, and stands over nothing but whitespace
+abbrev pub adds_text : List ℕ → Edit → Bool
+adds_text source e =
+    nat_lt 0 (length e.text) && not (is_under_text e (text_under source e))
 
 -- whether a text is that of the one edit, whitespace around both apart
 abbrev pub is_replacement : List Edit → List ℕ → Bool

@@ -1,12 +1,15 @@
 //! How a suggestion is shown.
-ghost use Rattle.std.specs.Prelude.{◌≡◌, ◌&&◌, All, map};
+ghost use Rattle.std.specs.Prelude.{◌≡◌, ◌==◌, nat_le, true, false, All, IfSome, IfNone, length, map};
+ghost use Rattle.std.specs.List.{list_any};
+ghost use Rattle.std.specs.Option.{option_copied};
 ghost use Rattle.std.specs.String.{string_bytes};
+ghost use Rattle.snippet_lines.specs.Lines.{last_byte, lines_of};
 ghost use Rattle.snippet_lines.specs.Span.{IsSpan};
 ghost use Rattle.snippet_splice.specs.Edits.{trimmed_edit_of};
-ghost use Rattle.snippet_splice.specs.Shown.{without_final_line_feeds};
-ghost use Rattle.snippet_suggest.specs.Kind.{kind_of};
+ghost use Rattle.snippet_suggest.specs.Kind.{adds_lines, adds_text, is_replacement, is_under_text, kind_of, loses_text, text_under};
 ghost use Rattle.snippet_suggest.specs.Kind as spec;
 
+use snippet_lines::newline_count;
 use snippet_splice::{SplicedLines, TrimmedPatch, as_substr};
 
 /// How a suggestion is shown.
@@ -26,24 +29,42 @@ impl DisplaySuggestion {
     /// How the patches of a source are shown, with the text that they give.
     pub fn new(source: &str, splice: &SplicedLines<'_>) -> DisplaySuggestion
         requires spans { All (λ p. IsSpan source.now p.span.start p.span.end) splice.now.patches.items }
-        requires ended { without_final_line_feeds (string_bytes splice.now.complete) ≡ string_bytes splice.now.complete }
         ensures value { result ≡ kind_of source.now (map trimmed_edit_of splice.now.patches.items) (string_bytes splice.now.complete) }
     {
-        let several = splice.complete.as_str().contains('\n');
-        if !several && takes_away(source, &splice.patches) {
+        let text = splice.complete.as_str();
+        let single = has_one_line(text);
+        if single && takes_away(source, &splice.patches) {
             return DisplaySuggestion::Diff;
         }
-        let whole = only_replacement(&splice.patches, splice.complete.as_str());
-        match whole {
-            Some(replacement) if replacement.ends_with('\n') => DisplaySuggestion::Add,
-            None if !several => DisplaySuggestion::Underline,
-            _ => DisplaySuggestion::Plain,
+        match only_replacement(&splice.patches, text) {
+            Some(replacement) if ends_with_line_feed(replacement) => DisplaySuggestion::Add,
+            Some(_) => DisplaySuggestion::Plain,
+            None if single => DisplaySuggestion::Underline,
+            None => DisplaySuggestion::Plain,
         }
     }
 }
 
+/// Whether a text has at most one line.
+fn has_one_line(text: &str) -> bool
+    ensures value { result ≡ nat_le (length (lines_of text.now)) 1 }
+{
+    newline_count(text) == 0
+}
+
+/// Whether a line feed ends a text.
+fn ends_with_line_feed(text: &str) -> bool
+    ensures value { result ≡ (last_byte text.now == 10) }
+{
+    text.ends_with('\n')
+}
+
 /// The replacement of the one patch, if there is just one and it gives the whole text, whitespace around them apart.
-fn only_replacement<'a>(patches: &[TrimmedPatch<'a>], text: &str) -> Option<&'a str> {
+fn only_replacement<'a>(patches: &[TrimmedPatch<'a>], text: &str) -> Option<&'a str>
+    ensures some { let ts = map trimmed_edit_of patches.now in IfSome result (λ t.
+        (is_replacement ts text.now ≡ true) × ((last_byte t.now == 10) ≡ adds_lines ts)) }
+    ensures none { IfNone result (is_replacement (map trimmed_edit_of patches.now) text.now ≡ false) }
+{
     match patches {
         [patch] if patch.replacement.trim() == text.trim() => Some(patch.replacement),
         _ => None,
@@ -51,18 +72,32 @@ fn only_replacement<'a>(patches: &[TrimmedPatch<'a>], text: &str) -> Option<&'a 
 }
 
 /// Whether one of some patches takes something away: it deletes or destroys text that isn't blank.
-fn takes_away(source: &str, patches: &[TrimmedPatch<'_>]) -> bool {
+fn takes_away(source: &str, patches: &[TrimmedPatch<'_>]) -> bool
+    requires spans { All (λ p. IsSpan source.now p.span.start p.span.end) patches.now }
+    ensures value { result ≡ list_any (spec.takes_away source.now) (map trimmed_edit_of patches.now) }
+{
     for patch in patches {
-        if overwrites(source, patch) && (is_blank(patch.replacement) || destroys(source, patch)) {
+        if deletes_or_destroys(source, patch) {
             return true;
         }
     }
     false
 }
 
+/// Whether a patch deletes or destroys text that isn't blank.
+fn deletes_or_destroys(source: &str, patch: &TrimmedPatch<'_>) -> bool
+    requires span { IsSpan source.now patch.now.span.start patch.now.span.end }
+    ensures value { result ≡ spec.takes_away source.now (trimmed_edit_of patch.now) }
+{
+    overwrites(source, patch) && (is_blank(patch.replacement) || destroys(source, patch))
+}
+
 /// Whether a patch that overwrites text keeps less than all of it.
-fn destroys(source: &str, patch: &TrimmedPatch<'_>) -> bool {
-    match source.get(patch.span.start..patch.span.end) {
+fn destroys(source: &str, patch: &TrimmedPatch<'_>) -> bool
+    requires span { IsSpan source.now patch.now.span.start patch.now.span.end }
+    ensures value { let e = trimmed_edit_of patch.now in result ≡ loses_text e (text_under source.now e) }
+{
+    match text_under(source, patch) {
         Some(text) => as_substr(text.trim(), patch.replacement.trim()).is_none(),
         None => true,
     }
@@ -70,15 +105,29 @@ fn destroys(source: &str, patch: &TrimmedPatch<'_>) -> bool {
 
 /// Whether a patch stands over text that isn't blank. A span that isn't inside the source counts as such text, unless it
 /// is empty.
-fn overwrites(source: &str, patch: &TrimmedPatch<'_>) -> bool {
-    match source.get(patch.span.start..patch.span.end) {
+fn overwrites(source: &str, patch: &TrimmedPatch<'_>) -> bool
+    ensures value { let e = trimmed_edit_of patch.now in IsSpan source.now patch.now.span.start patch.now.span.end
+        → result ≡ is_under_text e (text_under source.now e) }
+{
+    match text_under(source, patch) {
         Some(text) => !is_blank(text),
         None => patch.span.start != patch.span.end,
     }
 }
 
+/// The text of the source that a patch stands over; `None` where its span isn't inside the source.
+fn text_under<'a>(source: &'a str, patch: &TrimmedPatch<'_>) -> Option<&'a str>
+    ensures value { IsSpan source.now patch.now.span.start patch.now.span.end
+        → option_copied result ≡ text_under source.now (trimmed_edit_of patch.now) }
+{
+    source.get(patch.span.start..patch.span.end)
+}
+
 /// Whether a patch adds text, and stands over nothing but whitespace.
-pub(crate) fn is_addition(source: &str, patch: &TrimmedPatch<'_>) -> bool {
+pub(crate) fn is_addition(source: &str, patch: &TrimmedPatch<'_>) -> bool
+    ensures value { IsSpan source.now patch.now.span.start patch.now.span.end
+        → result ≡ adds_text source.now (trimmed_edit_of patch.now) }
+{
     !patch.replacement.is_empty() && !overwrites(source, patch)
 }
 

@@ -5,7 +5,7 @@ ghost use Rattle.snippet_lines.specs.Lines.{newline_count, source_lines};
 ghost use Rattle.snippet_lines.specs.Place.{line_of};
 ghost use Rattle.snippet_lines.specs.Span.{IsSpan};
 ghost use Rattle.snippet_splice.specs.Edits.{trimmed_edit_of};
-ghost use Rattle.snippet_suggest.specs.Given.{first_end, first_original};
+ghost use Rattle.snippet_suggest.specs.Given.{counted_folded, first_end, first_original};
 ghost use Rattle.snippet_suggest.specs.Prepared.{IsPrepared, IsSuggestible};
 
 use crate::kind::DisplaySuggestion;
@@ -62,19 +62,24 @@ pub fn prepare_suggestion<'a>(
 /// The line number that a suggestion counts for the gutter's width: that of its last line, or folded, where it has one line,
 /// that line's, or in a diff that of the last line that the first patch changes.
 fn counted_line(
-    map: &SourceMap<'_>,
+    source: &SourceMap<'_>,
     splice: &SplicedLines<'_>,
     kind: DisplaySuggestion,
     fold: bool,
 ) -> usize
     requires some { 0 < length splice.now.patches.items }
-    requires spans { All (λ p. IsSpan map.now.text p.span.start p.span.end) splice.now.patches.items }
-    requires originals { All (λ p. IsSpan map.now.text p.original_span.start p.original_span.end) splice.now.patches.items }
+    requires spans { All (λ p. IsSpan source.now.text p.span.start p.span.end) splice.now.patches.items }
+    requires originals { All (λ p. IsSpan source.now.text p.original_span.start p.original_span.end) splice.now.patches.items }
+    ensures value { let ls = source_lines source.now.text in
+        let first = source.now.first + (if fold then line_of ls (first_original splice.now.patches.items) else 0) in
+        let removed = source.now.first + line_of ls (first_end (map trimmed_edit_of splice.now.patches.items)) in
+        let last = first + newline_count (string_bytes splice.now.complete) in
+        last < 2 ^ 64 → result ≡ (if fold then counted_folded kind first removed last else last) }
 {
-    let first = first_number(map, &splice.patches, fold);
+    let first = first_number(source, &splice.patches, fold);
     match kind {
         DisplaySuggestion::Underline if fold => first,
-        DisplaySuggestion::Diff if fold => first_end_number(map, &splice.patches),
+        DisplaySuggestion::Diff if fold => first_end_number(source, &splice.patches),
         _ => first.saturating_add(newline_count(splice.complete.as_str())),
     }
 }

@@ -1,5 +1,6 @@
 //! Which lines of the spliced text are shown.
-ghost use Rattle.std.specs.Prelude.{◌≡◌, ℕ, ◌++◌, ◌<◌, ◌≤◌, true, Contains, IfOk, OnOk};
+ghost use Rattle.std.specs.Prelude.{◌≡◌, ℕ, ◌++◌, ◌<◌, ◌≤◌, nat_le, ◌&&◌, ◌||◌, true, false, Contains, IfOk, OnOk, length};
+ghost use Rattle.std.specs.List.{slice_index_or};
 ghost use Rattle.snippet_suggest.specs.Shown as spec;
 ghost use Rattle.snippet_suggest.specs.Shown.{AreRising, numbers_shown, shown_run};
 
@@ -30,16 +31,47 @@ pub(crate) fn shown_lines(
     ensures touched { IfOk result (λ shown. (k : ℕ) → k < count → spec.is_touched fold ranges.now k ≡ true
         → Contains (numbers_shown shown.items) k) }
 {
+    let touched = touched_table(alloc, count, ranges, fold)?;
     let mut shown = Vec::new(alloc);
     let mut behind = 0;
     for line in 0..count {
-        if is_touched(fold, ranges, line) {
+        if touched[line] {
             push_run(&mut shown, behind, line)?;
             shown.push(ShownLine::Line(line))?;
             behind = line + 1;
         }
     }
     Ok(shown)
+}
+
+/// Which of so many lines are shown by themselves: those that a range holds, or all, if lines aren't folded.
+fn touched_table(
+    alloc: Global,
+    count: usize,
+    ranges: &[LineRange],
+    fold: bool,
+) -> Result<Vec<bool>, AllocError>
+    ensures size { IfOk result (λ t. length t.items ≡ count) }
+    ensures value { IfOk result (λ t. (k : ℕ) → k < count
+        → slice_index_or t.items k false ≡ spec.is_touched fold ranges.now k) }
+{
+    let mut touched = vec![in alloc; !fold; count]?;
+    for range in ranges {
+        touch_range(&mut touched, *range);
+    }
+    Ok(touched)
+}
+
+/// Marks the lines of a range, as far as they are there.
+fn touch_range(touched: &mut [bool], range: LineRange)
+    ensures size { length touched.new ≡ length touched.old }
+    ensures value { (k : ℕ) → k < length touched.old → slice_index_or touched.new k false
+        ≡ (slice_index_or touched.old k false || (nat_le range.first k && nat_le k range.last)) }
+{
+    let end = range.last.saturating_add(1).min(touched.len());
+    for line in range.first..end {
+        touched[line] = true;
+    }
 }
 
 /// Whether a line is shown by itself: one of the ranges holds it, or lines aren't folded.

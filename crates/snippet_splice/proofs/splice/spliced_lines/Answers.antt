@@ -1,4 +1,4 @@
-use Rattle.std.proofs.Common.{◌≡◌, ◌≢◌, ◌+◌, ◌<◌, ◌≤◌, ℕ, List, [], map, drop, min, length, refl, sym, ap, subst, ◌∙◌, inl}
+use Rattle.std.proofs.Common.{◌≡◌, ◌≢◌, ◌++◌, ◌+◌, ◌<◌, ◌≤◌, ℕ, List, [], map, drop, min, length, refl, sym, ap, subst, ◌∙◌, inl}
 use Rattle.std.specs.List.{slice_get}
 use Rattle.std.specs.Str.{IsCharBoundary}
 use Rattle.std.specs.String.{string_bytes}
@@ -6,10 +6,11 @@ use Rattle.snippet_lines.specs.Lines.{lines_of, source_lines}
 use Rattle.snippet_splice.specs.Edits.{Edit, edit_of, trimmed_edit_of, trimmed_edits, in_order, patched, AreApart}
 use Rattle.snippet_splice.specs.Copied.{written_ranges}
 use Rattle.snippet_splice.specs.Spliced.{ranges_from, texts_of, AreFrom}
-use Rattle.snippet_splice.specs.Shown.{first_start, shown_line, shown_start, shown_rest, closes_line}
+use Rattle.snippet_splice.specs.Shown.{first_start, shown_line, shown_start, shown_rest, closes_line, without_final_line_feeds}
 use Rattle.snippet_splice.proofs.OverlapLemmas.{apart-in_order, ordered-spans}
 use Rattle.snippet_splice.proofs.ShownLemmas.{none-given, first-given, shown_start-border, shown-apart, shown-value, some-trimmed}
 use Rattle.snippet_splice.proofs.SpliceLemmas.{IsShownPart, shown-part}
+use Rattle.snippet_splice.proofs.WriteLemmas.{without_final-twice}
 use Rattle.snippet_splice.proofs.LineLemmas.{shown-lines}
 use Rattle.snippet_splice.proofs.TouchLemmas.{shown-touched}
 use Rattle.snippet_splice.proofs.RangeLemmas.{written-ranges}
@@ -55,15 +56,25 @@ returns-clause-text c = λ none before.
     let part : IsShownPart c.args.fold source es = shown-part c.args.fold source es none before (apart-in_order es (ordered-spans source c.args.patches.now c.requires.spans) c.requires.disjoint) some in
     returns-clause-value c ∙ part.text ∙ sym part.spliced
 
-pub returns-clause-ranges : goal.returns-clause-ranges
-returns-clause-ranges c = λ none before.
+pub returns-clause-ended : goal.returns-clause-ended
+returns-clause-ended c =
+    let is : string_bytes c.in_ok-complete.complete ≡ without_final_line_feeds (string_bytes c.in_ok-written.written.text ++ c.shown_rest-rest.result.now) = c.in_ok-complete.ensures.value in
+    ap without_final_line_feeds is ∙ without_final-twice (string_bytes c.in_ok-written.written.text ++ c.shown_rest-rest.result.now) ∙ sym is
+
+pub returns-clause-written : goal.returns-clause-written
+returns-clause-written c =
     let source : List ℕ = c.args.source.now in
     let es : List Edit = map edit_of c.args.patches.now in
     let edits : map trimmed_edit_of c.deref-2.result.now ≡ trimmed_edits source es = ap (map trimmed_edit_of) c.deref-2.ensures.value ∙ c.in_ok-patches.ensures.edits in
     let first : c.in-Some.first.now.original_span.start ≡ first_start (in_order es) = first-given c.in_ok-patches.patches.items (in_order es) c.in-Some.first.now c.in_ok-patches.ensures.originals (sym (c.in-Some.ensures.value ∙ ap (λ l. slice_get l 0) c.deref.ensures.value)) in
     let begin : c.shown_start-start.result ≡ shown_start c.args.fold source (first_start (in_order es)) = c.shown_start-start.ensures.value ∙ ap (shown_start c.args.fold source) first in
-    let ranges : c.in_ok-written.written.ranges.items ≡ written_ranges source 0 (shown_start c.args.fold source (first_start (in_order es))) (trimmed_edits source es) = c.in_ok-written.ensures.ranges ∙ ap (λ n. written_ranges source 0 n (map trimmed_edit_of c.deref-2.result.now)) begin ∙ ap (written_ranges source 0 (shown_start c.args.fold source (first_start (in_order es)))) edits in
-    ap (ranges_from (shown_line c.args.fold source es)) ranges ∙ written-ranges c.args.fold source es none before (apart-in_order es (ordered-spans source c.args.patches.now c.requires.spans) c.requires.disjoint)
+    c.in_ok-written.ensures.ranges ∙ ap (λ n. written_ranges source 0 n (map trimmed_edit_of c.deref-2.result.now)) begin ∙ ap (written_ranges source 0 (shown_start c.args.fold source (first_start (in_order es)))) edits
+
+pub returns-clause-ranges : goal.returns-clause-ranges
+returns-clause-ranges c = λ none before.
+    let source : List ℕ = c.args.source.now in
+    let es : List Edit = map edit_of c.args.patches.now in
+    ap (ranges_from (shown_line c.args.fold source es)) (returns-clause-written c) ∙ written-ranges c.args.fold source es none before (apart-in_order es (ordered-spans source c.args.patches.now c.requires.spans) c.requires.disjoint)
 
 pub returns-clause-lines : goal.returns-clause-lines
 returns-clause-lines c = λ none texts_none before.

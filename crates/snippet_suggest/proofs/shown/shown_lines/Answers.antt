@@ -1,28 +1,32 @@
-use Rattle.std.proofs.Common.{◌+◌, ◌∙◌, sym, subst, arith, ℕ, Vec, Global, List, Contains}
+use Rattle.std.proofs.Common.{◌≡◌, ◌+◌, ◌<◌, ◌∙◌, false, length, get_or, sym, subst, arith, ℕ, Vec, Global, List, Contains}
+use Rattle.std.proofs.lemmas.List.{get_or_default}
 use Rattle.snippet_suggest.specs.declared.shown.ShownLine.{ShownLine}
 use Rattle.snippet_suggest.specs.Shown.{is_touched, shown_lines, numbers_shown, AreRising}
 use Rattle.snippet_suggest.proofs.RisingLemmas.{rising_shown, shown_all, touched_shown}
 use Rattle.snippet_suggest.proofs.ShownLemmas.{touched_step, untouched_step}
 use Rattle.snippet_suggest.proofs.shown.shown_lines.Invariants.{Shows}
 use Rattle.snippet_suggest.proofs.shown.shown_lines.Goals as goal
-use Rattle.snippet_suggest.proofs.shown.shown_lines.Goals.{then-is_touched+in_ok-push_run+in_ok-push, else-is_touched}
+use Rattle.snippet_suggest.proofs.shown.shown_lines.Goals.{then-index+in_ok-push_run+in_ok-push, else-index}
 
 pub loop-line-preserved : goal.loop-line-preserved
 loop-line-preserved c =
     let touched = is_touched c.args.fold c.args.ranges.now in
     let l = c.loop-line in
     let count = c.args.count in
-    let next = c.if-is_touched in
-    elim c.if-is_touched.branch [
-      | then-is_touched+in_ok-push_run+in_ok-push w ↦
+    let next = c.if-index in
+    let at : touched l.line ≡ get_or c.in_ok-touched.touched.items l.line false = sym (c.in_ok-touched.ensures.value l.line c.loop-line-test.true) in
+    let within : l.line < length c.in_ok-touched.touched.items = omega (arith, c.loop-line-test.true, c.in_ok-touched.ensures.size) in
+    let told : touched l.line ≡ c.index.result.now = at ∙ get_or_default c.in_ok-touched.touched.items l.line false c.index.result.now within ∙ sym c.index.ensures in
+    elim c.if-index.branch [
+      | then-index+in_ok-push_run+in_ok-push w ↦
           subst (λ (b : ℕ). Shows touched count b (l.line + 1) next.shown.items) (sym w.behind-is) (subst (λ (v : Vec ShownLine Global). Shows touched count (l.line + 1) (l.line + 1) v.items) (sym w.shown-is) (record {
             before = omega arith;
-            whole = touched_step touched l.shown.items w.push_run.new.shown.items w.push.new.self.items _ l.behind l.line count c.loop-line-test.true (sym c.is_touched.ensures.value ∙ w.if-is_touched.true) w.in_ok-push_run.ensures.added w.in_ok-push.ensures.items l.invariant.whole;
+            whole = touched_step touched l.shown.items w.push_run.new.shown.items w.push.new.self.items _ l.behind l.line count c.loop-line-test.true (told ∙ w.if-index.true) w.in_ok-push_run.ensures.added w.in_ok-push.ensures.items l.invariant.whole;
           }))
-      | else-is_touched w ↦
+      | else-index w ↦
           subst (λ (b : ℕ). Shows touched count b (l.line + 1) next.shown.items) (sym w.behind-is) (subst (λ (v : Vec ShownLine Global). Shows touched count l.behind (l.line + 1) v.items) (sym w.shown-is) (record {
             before = omega (arith, l.invariant.before);
-            whole = untouched_step touched l.shown.items _ l.behind l.line count c.loop-line-test.true (sym c.is_touched.ensures.value ∙ w.if-is_touched.false) l.invariant.whole;
+            whole = untouched_step touched l.shown.items _ l.behind l.line count c.loop-line-test.true (told ∙ w.if-index.false) l.invariant.whole;
           }))
     ]
 

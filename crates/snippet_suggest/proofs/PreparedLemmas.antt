@@ -1,0 +1,79 @@
+-- Laws of what is known of a suggestion before any row is drawn.
+use Rattle.std.proofs.Common.{◌≡◌, ◌≢◌, ℕ, ◌+◌, ◌<◌, ◌≤◌, ◌^◌, Bool, if◌then◌else◌, Some, List, [], ◌∷◌, length, map, refl, sym, ap, ◌∙◌, arith}
+use Rattle.std.proofs.lemmas.Bool.{cond_both}
+use Rattle.std.proofs.lemmas.List.{length-map}
+use Rattle.std.specs.Cow.{cow_str_bytes}
+use Rattle.std.specs.List.{slice_get}
+use Rattle.snippet_lines.specs.Lines.{Line, Source, lines_of, source_lines, newline_count}
+use Rattle.snippet_lines.specs.Place.{line_of}
+use Rattle.snippet_lines.proofs.LinesLemmas.{length-source_lines}
+use Rattle.snippet_lines.proofs.PlaceLemmas.{line_of-within}
+use Rattle.snippet_model.specs.declared.snippet.Patch.{Patch}
+use Rattle.snippet_model.specs.declared.snippet.Snippet.{Snippet}
+use Rattle.snippet_splice.specs.declared.patches.TrimmedPatch.{TrimmedPatch}
+use Rattle.snippet_splice.specs.Edits.{Edit, bounds_of, edit_of, in_order, original_bounds_of, trimmed_edit_of, trimmed_edits}
+use Rattle.snippet_splice.specs.Shown.{first_start}
+use Rattle.snippet_splice.specs.Spliced.{texts_of}
+use Rattle.snippet_splice.proofs.ShownLemmas.{none-given}
+use Rattle.snippet_suggest.specs.declared.kind.DisplaySuggestion.{DisplaySuggestion}
+use Rattle.snippet_suggest.specs.Given.{counted_folded, counted_line, edits_of, first_end, first_given, first_original, given_text, shown_kind, source_of, trimmed_of}
+use Rattle.snippet_suggest.specs.Prepared.{IsSuggestible}
+
+-- the first of the trimmed patches started where the first edit does
+pub first-original : (ts : List TrimmedPatch) (os : List Edit) → map original_bounds_of ts ≡ map bounds_of os → first_original ts ≡ first_start os
+first-original [] [] same = refl
+first-original [] (o ∷ os) same = absurd (cc)
+first-original (t ∷ ts) [] same = absurd (cc)
+first-original (t ∷ ts) (o ∷ os) same =
+    let pair : ◌≡◌ {A = ℕ × ℕ} (original_bounds_of t) (bounds_of o) = cc in
+    ap (λ p. p.0) pair
+
+-- where the first of them starts and ends
+pub first_original-of : (ts : List TrimmedPatch) (t : TrimmedPatch) → slice_get ts 0 ≡ Some t → t.original_span.start ≡ first_original ts
+first_original-of [] t is = absurd (cc)
+first_original-of (s ∷ ts) t is =
+    let same : s ≡ t = cc in
+    ap (λ (u : TrimmedPatch). u.original_span.start) (sym same)
+
+pub first_end-of : (ts : List TrimmedPatch) (t : TrimmedPatch) → slice_get ts 0 ≡ Some t → t.span.end ≡ first_end (map trimmed_edit_of ts)
+first_end-of [] t is = absurd (cc)
+first_end-of (s ∷ ts) t is =
+    let same : s ≡ t = cc in
+    ap (λ (u : TrimmedPatch). u.span.end) (sym same)
+
+-- where patches are given some are left
+pub some-left : (source : List ℕ) (ps : List Patch) (ts : List TrimmedPatch) → ps ≢ [] → map trimmed_edit_of ts ≡ trimmed_edits source (map edit_of ps) → 0 < length ts
+some-left source ps [] some same = absurd (some (none-given source ps [] same refl))
+some-left source ps (t ∷ ts) some same = omega arith
+
+-- where there are numbers for all lines of a text, there is one for the last
+lines-counted : (text : List ℕ) (first : ℕ) → first < 2 ^ 64 → first + length (texts_of (lines_of text)) ≤ 2 ^ 64 → first + newline_count text < 2 ^ 64
+lines-counted [] first small fits = omega (arith, length-source_lines [])
+lines-counted (b ∷ bs) first small fits =
+    omega (arith, length-source_lines (b ∷ bs), length-map (lines_of (b ∷ bs)) (λ (l : Line). l.0))
+
+-- there is a number for the last line that is given
+pub last-fits : (s : Snippet Patch) → IsSuggestible s → s.line_start + first_given s + newline_count (given_text s) < 2 ^ 64
+last-fits s h =
+    let source : List ℕ = cow_str_bytes s.source in
+    let k : ℕ = line_of (source_lines source) (first_start (in_order (edits_of s))) in
+    let below : first_given s < length (source_lines source) = cond_both s.fold k 0 (λ n. n < length (source_lines source)) (λ _. line_of-within source (first_start (in_order (edits_of s)))) (λ _. omega (arith, length-source_lines source)) in
+    lines-counted (given_text s) (s.line_start + first_given s) (omega (arith, h.lines, below)) h.numbers
+
+-- the number that is counted of a source, by the bytes at which its first patch starts and ends
+abbrev counted_from : Source → Bool → List ℕ → DisplaySuggestion → ℕ → ℕ → ℕ
+counted_from source fold text kind start end =
+    let ls = source_lines source.text in
+    let first = source.first + (if fold then line_of ls start else 0) in
+    let last = first + newline_count text in
+    if fold then counted_folded kind first (source.first + line_of ls end) last else last
+
+-- it is that of the snippet
+pub counted-is : (s : Snippet Patch) (source : Source) (ps : List TrimmedPatch) (text : List ℕ) (kind : DisplaySuggestion) (count : ℕ) → IsSuggestible s → source ≡ source_of s → text ≡ given_text s → map trimmed_edit_of ps ≡ trimmed_of s → map original_bounds_of ps ≡ map bounds_of (in_order (edits_of s)) → kind ≡ shown_kind s → (source.first + (if s.fold then line_of (source_lines source.text) (first_original ps) else 0) + newline_count text < 2 ^ 64 → count ≡ counted_from source s.fold text kind (first_original ps) (first_end (map trimmed_edit_of ps))) → count ≡ counted_line s
+counted-is s source ps text kind count h of given edits originals shown counted =
+    let start : ℕ = first_original ps in
+    let end : ℕ = first_end (map trimmed_edit_of ps) in
+    let begin : start ≡ first_start (in_order (edits_of s)) = first-original ps (in_order (edits_of s)) originals in
+    let first : source.first + (if s.fold then line_of (source_lines source.text) start else 0) ≡ s.line_start + first_given s = ap (λ (m : Source). m.first + (if s.fold then line_of (source_lines m.text) start else 0)) of ∙ ap (λ at. s.line_start + (if s.fold then line_of (source_lines (cow_str_bytes s.source)) at else 0)) begin in
+    let small : source.first + (if s.fold then line_of (source_lines source.text) start else 0) + newline_count text < 2 ^ 64 = omega (arith, first, ap newline_count given, last-fits s h) in
+    counted small ∙ ap (λ (m : Source). counted_from m s.fold text kind start end) of ∙ ap (λ t. counted_from (source_of s) s.fold t kind start end) given ∙ ap (λ k. counted_from (source_of s) s.fold (given_text s) k start end) shown ∙ ap (λ at. counted_from (source_of s) s.fold (given_text s) (shown_kind s) at end) begin ∙ ap (λ ts. counted_from (source_of s) s.fold (given_text s) (shown_kind s) (first_start (in_order (edits_of s))) (first_end ts)) edits

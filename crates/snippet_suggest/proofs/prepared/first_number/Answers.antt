@@ -1,0 +1,17 @@
+use Rattle.std.proofs.Common.{◌≡◌, ◌+◌, ◌∙◌, ℕ, Bool, ap, sym, if◌then◌else◌}
+use Rattle.snippet_lines.specs.Lines.{Source, source_lines}
+use Rattle.snippet_lines.specs.Place.{line_of}
+use Rattle.snippet_parts.proofs.MarkLemmas.{start-line}
+use Rattle.snippet_suggest.specs.Given.{first_original}
+use Rattle.snippet_suggest.proofs.PreparedLemmas.{first_original-of}
+use Rattle.snippet_suggest.proofs.prepared.first_number.Goals as goal
+
+pub returns-in-Some : goal.returns-in-Some
+returns-in-Some c =
+    let s : Source = c.args.map.now in
+    let start : ℕ = c.in-Some.patch.now.original_span.start in
+    let located = ap (λ p. p.0.line) c.span_to_locations.ensures.value ∙ start-line s start c.in-Some.patch.now.original_span.end in
+    let first : start ≡ first_original c.args.patches.now = first_original-of c.args.patches.now c.in-Some.patch.now (sym c.in-Some.ensures.value) in
+    record {
+      value = located ∙ ap (λ b. s.first + line_of (source_lines s.text) b) first ∙ ap (λ (b : Bool). s.first + (if b then line_of (source_lines s.text) (first_original c.args.patches.now) else 0)) (sym c.if-fold.true);
+    }

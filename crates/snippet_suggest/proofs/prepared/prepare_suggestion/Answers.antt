@@ -1,0 +1,56 @@
+use Rattle.std.proofs.Common.{◌≡◌, ◌≢◌, ◌∙◌, ℕ, List, [], map, ap, arith}
+use Rattle.std.specs.Cow.{cow_str_bytes}
+use Rattle.std.specs.String.{string_bytes}
+use Rattle.snippet_model.specs.declared.snippet.Patch.{Patch}
+use Rattle.snippet_model.specs.declared.snippet.Snippet.{Snippet}
+use Rattle.snippet_lines.specs.Lines.{Source, newline_count}
+use Rattle.snippet_lines.proofs.LinesLemmas.{length-source_lines}
+use Rattle.snippet_splice.specs.declared.patches.TrimmedPatch.{TrimmedPatch}
+use Rattle.snippet_splice.specs.Copied.{written_ranges}
+use Rattle.snippet_splice.specs.Edits.{Edit, bounds_of, edit_of, in_order, original_bounds_of, trimmed_edit_of, trimmed_edits}
+use Rattle.snippet_splice.specs.Shown.{first_start, shown_start, shown_text}
+use Rattle.snippet_suggest.specs.Given.{edits_of, given_ranges, given_text, shown_kind, source_of, trimmed_of}
+use Rattle.snippet_suggest.specs.Kind.{kind_of}
+use Rattle.snippet_suggest.proofs.PreparedLemmas.{counted-is, some-left}
+use Rattle.snippet_suggest.proofs.prepared.prepare_suggestion.Goals as goal
+
+pub new-requires-clause-numbers : goal.new-requires-clause-numbers
+new-requires-clause-numbers c =
+    omega (arith, c.requires.suggestible.lines, length-source_lines (cow_str_bytes c.args.snippet.now.source), ap newline_count c.as_str.ensures.value)
+
+pub counted_line-counted-requires-clause-some : goal.counted_line-counted-requires-clause-some
+counted_line-counted-requires-clause-some c =
+    let none = rw c.in-Some.is at c.in_ok-splice.ensures.none in
+    let edits = rw c.in-Some.is at c.in_ok-splice.ensures.edits in
+    let given : c.deref.result.now ≢ [] = λ e. let other = none.1 e in cc in
+    some-left c.in_ok-map.map.text c.deref.result.now c.in-Some.splice.patches.items given edits
+
+pub returns-clause-prepared : goal.returns-clause-prepared
+returns-clause-prepared c =
+    let s : Snippet Patch = c.args.snippet.now in
+    let source : List ℕ = cow_str_bytes s.source in
+    let ps : List TrimmedPatch = c.in-Some.splice.patches.items in
+    let lines : c.in_ok-map.map ≡ source_of s = c.in_ok-map.ensures.ok ∙ ap (λ (t : List ℕ). record { text = t; first = s.line_start }) c.as_str.ensures.value in
+    let of : c.in_ok-map.map.text ≡ source = ap (λ (m : Source). m.text) lines in
+    let given : c.deref.result.now ≡ s.markers.items = c.deref.ensures.value in
+    let none = rw c.in-Some.is at c.in_ok-splice.ensures.none in
+    let value = rw c.in-Some.is at c.in_ok-splice.ensures.value in
+    let edits_is = rw c.in-Some.is at c.in_ok-splice.ensures.edits in
+    let originals_is = rw c.in-Some.is at c.in_ok-splice.ensures.originals in
+    let written = rw c.in-Some.is at c.in_ok-splice.ensures.written in
+    let text : string_bytes c.in-Some.splice.complete ≡ given_text s = value ∙ ap (λ (t : List ℕ). shown_text s.fold t (map edit_of c.deref.result.now)) of ∙ ap (λ (ms : List Patch). shown_text s.fold source (map edit_of ms)) given in
+    let edits : map trimmed_edit_of ps ≡ trimmed_of s = edits_is ∙ ap (λ (t : List ℕ). trimmed_edits t (map edit_of c.deref.result.now)) of ∙ ap (λ (ms : List Patch). trimmed_edits source (map edit_of ms)) given in
+    let originals : map original_bounds_of ps ≡ map bounds_of (in_order (edits_of s)) = originals_is ∙ ap (λ (ms : List Patch). map bounds_of (in_order (map edit_of ms))) given in
+    let ranges : c.in-Some.splice.ranges.items ≡ given_ranges s = written ∙ ap (λ (t : List ℕ). written_ranges t 0 (shown_start s.fold t (first_start (in_order (map edit_of c.deref.result.now)))) (trimmed_edits t (map edit_of c.deref.result.now))) of ∙ ap (λ (ms : List Patch). written_ranges source 0 (shown_start s.fold source (first_start (in_order (map edit_of ms)))) (trimmed_edits source (map edit_of ms))) given in
+    let kind : c.new-kind.result ≡ shown_kind s = c.new-kind.ensures.value ∙ ap (λ (t : List ℕ). kind_of t (map trimmed_edit_of ps) (string_bytes c.in-Some.splice.complete)) (c.source.ensures.value ∙ of) ∙ ap (λ (ts : List Edit). kind_of source ts (string_bytes c.in-Some.splice.complete)) edits ∙ ap (kind_of source (trimmed_of s)) text in
+    record {
+      suggestible = c.requires.suggestible;
+      some = λ e. let other = none.1 (given ∙ e) in cc;
+      lines = lines;
+      text = text;
+      edits = edits;
+      originals = originals;
+      ranges = ranges;
+      kind = kind;
+      counted = counted-is s c.in_ok-map.map ps (string_bytes c.in-Some.splice.complete) c.new-kind.result c.counted_line-counted.result c.requires.suggestible lines text edits originals kind c.counted_line-counted.ensures.value;
+    }
