@@ -2,7 +2,7 @@
 use Rattle.std.proofs.Common.{◌≡◌, ℕ, ◌+◌, ◌<◌, ◌&&◌, ◌==◌, nat_lt, Bool, true, false, List, [], ◌∷◌, ◌++◌, Option, Some, None, All, length, map, get_or, refl, sym, ap, ◌∙◌, arith, inl, inr, cond, subst, ◌^◌, IfSome}
 use Rattle.std.specs.Option.{option_map, option_to_list}
 use Rattle.std.proofs.lemmas.Bool.Decides.{nat_tests}
-use Rattle.std.proofs.lemmas.List.Elements.{All-nil, All-cons, All-head, All-same}
+use Rattle.std.proofs.lemmas.List.Elements.{All-nil, All-cons, All-head, All-same, All-tail}
 use Rattle.std.specs.Str.{IsCharBoundary}
 use Rattle.snippet_model.specs.declared.snippet.Group.{Group}
 use Rattle.std.specs.declared.ops.Range.{Range}
@@ -10,17 +10,21 @@ use Rattle.snippet_model.specs.declared.snippet.Annotation.{Annotation}
 use Rattle.snippet_model.specs.declared.snippet.Patch.{Patch}
 use Rattle.std.specs.Cow.{cow_str_bytes}
 use Rattle.snippet_model.specs.declared.snippet.Snippet.{Snippet}
-use Rattle.snippet_model.specs.declared.snippet.Element.TheVariants.{Cause}
+use Rattle.snippet_model.specs.declared.snippet.Element.{Element}
+use Rattle.snippet_model.specs.declared.snippet.Element.TheVariants.{Message, Cause, Suggestion, Origin, Padding}
 use Rattle.snippet_lines.specs.declared.span.SpanFault.{SpanFault}
 use Rattle.snippet_lines.specs.declared.span.SpanFault.TheVariants.{Reversed, PastEnd, OffBoundary}
 use Rattle.snippet_lines.specs.Span.{IsSpan, IsSpanBorder, is_span_border, is_character_border, span_fault}
 use Rattle.snippet_splice.specs.Edits.{edit_of}
 use Rattle.snippet_splice.specs.Overlap.{first_overlap}
-use Rattle.annotate_snippets.specs.Fault.{faults_from, first_of, span_faults, overlap_faults, group_faults, element_faults, first_fault, refusal_of, number_faults}
-use Rattle.annotate_snippets.specs.Covered.{IsReportOf}
+use Rattle.annotate_snippets.specs.Fault.{added_lines, faults_from, number_behind, first_of, span_faults, overlap_faults, group_faults, element_faults, first_fault, refusal_of, number_faults}
+use Rattle.snippet_suggest.specs.Prepared.{IsSuggestible}
+use Rattle.annotate_snippets.specs.Covered.{IsReportOf, are_covered_elements}
+use Rattle.annotate_snippets.specs.Drawn.{AreDrawable, IsDrawable}
+use Rattle.annotate_snippets.proofs.DisjointLemmas.{first_overlap-clear}
+use Rattle.snippet_suggest.proofs.NumberLaws.{numbers-bound}
 use Rattle.snippet_model.specs.Fits.{ReportFits, GroupFits, ElementFits, SnippetFits, AnnotationFits, TitleFits}
 use Rattle.snippet_model.specs.declared.snippet.Title.{Title}
-use Rattle.snippet_lines.specs.Lines.{source_lines}
 use Rattle.annotate_snippets.specs.declared.renderer.error.RenderError.TheVariants.{PatchesOverlap, LineNumberTooLarge}
 use Rattle.annotate_snippets.specs.declared.renderer.error.RenderError.{RenderError}
 
@@ -98,32 +102,65 @@ number-faultless group element number none = by_cases (nat_lt number (2 ^ 64)) r
     by_cases true is h = grind (arith, nat_tests)
     by_cases false is h = cc
 
--- what a report of one annotated snippet is where it has no fault: the faults of the snippet are none
-snippet-faultless : (title : Title) (snippet : Snippet Annotation) (groups : List Group) → IsReportOf title (Some snippet) groups → first_fault groups ≡ None → element_faults 0 0 (Cause snippet) ≡ []
+-- no overlap is named where none is a fault
+no_overlap : (group element : ℕ) (pair : Option (ℕ × ℕ)) → option_to_list (option_map (λ t. PatchesOverlap group element t.0 t.1) pair) ≡ [] → pair ≡ None
+no_overlap group element None none = refl
+no_overlap group element (Some t) none = cc
+
+-- an annotated snippet without faults can be drawn
+cause-drawable : (group element : ℕ) (s : Snippet Annotation) → element_faults group element (Cause s) ≡ [] → ElementFits (Cause s) → IsDrawable s
+cause-drawable group element s none fits = record {
+  source = fits.0;
+  numbers = number-faultless group element _ (back_none _ _ none);
+  spans = spans-faultless (λ (a : Annotation). a.span) group element 0 (cow_str_bytes s.source) s.markers.items (front_none _ _ none);
+  labels = fits.2;
+}
+
+-- less than a bound with more, less without
+without_more : (number more : ℕ) → number + more < 2 ^ 64 → number < 2 ^ 64
+without_more number more fits = omega arith
+
+-- so can a snippet of patches
+suggestion-drawable : (group element : ℕ) (s : Snippet Patch) → element_faults group element (Suggestion s) ≡ [] → ElementFits (Suggestion s) → IsSuggestible s
+suggestion-drawable group element s none fits =
+    let last : ℕ = number_behind s.line_start (cow_str_bytes s.source) in
+    let all = number-faultless group element (last + added_lines s.markers.items) (back_none _ _ none) in
+    let spans = spans-faultless (λ (p : Patch). p.span) group element 0 (cow_str_bytes s.source) s.markers.items (front_none _ _ (front_none _ _ none)) in
+    let disjoint = first_overlap-clear (map edit_of s.markers.items) (no_overlap group element (first_overlap (map edit_of s.markers.items)) (back_none _ _ (front_none _ _ none))) in
+    record { source = fits.0; lines = without_more last _ all; spans = spans; disjoint = disjoint; numbers = numbers-bound s spans disjoint all }
+
+-- and elements without faults
+elements-drawable : (group n : ℕ) (es : List Element) → faults_from (element_faults group) n es ≡ [] → All ElementFits es → AreDrawable es
+elements-drawable group n [] none fit = tt
+elements-drawable group n (Cause s ∷ es) none fit =
+    (cause-drawable group n s (front_none _ _ none) (All-head ElementFits (Cause s) es fit), elements-drawable group (n + 1) es (back_none _ _ none) (All-tail ElementFits (Cause s) es fit))
+elements-drawable group n (Suggestion s ∷ es) none fit =
+    (suggestion-drawable group n s (front_none _ _ none) (All-head ElementFits (Suggestion s) es fit), elements-drawable group (n + 1) es (back_none _ _ none) (All-tail ElementFits (Suggestion s) es fit))
+elements-drawable group n (Message m ∷ es) none fit =
+    elements-drawable group (n + 1) es none (All-tail ElementFits (Message m) es fit)
+elements-drawable group n (Origin o ∷ es) none fit =
+    elements-drawable group (n + 1) es none (All-tail ElementFits (Origin o) es fit)
+elements-drawable group n (Padding p ∷ es) none fit =
+    elements-drawable group (n + 1) es none (All-tail ElementFits (Padding p) es fit)
+
+-- the elements of a report of one group have no faults where the report has none
+elements-faultless : (title : Title) (elements : List Element) (groups : List Group) → IsReportOf title elements groups → first_fault groups ≡ None → faults_from (element_faults 0) 0 elements ≡ []
 unfolding first_fault
-snippet-faultless title snippet groups of none =
-    front_none _ [] (ap (faults_from (element_faults 0) 0) (sym of.elements_are) ∙ front_none (group_faults 0 of.group) [] (none_first _ (ap (λ (gs : List Group). first_of (faults_from group_faults 0 gs)) (sym of.groups_are) ∙ none)))
+elements-faultless title elements groups of none =
+    ap (faults_from (element_faults 0) 0) (sym of.elements_are) ∙ front_none (group_faults 0 of.group) [] (none_first _ (ap (λ (gs : List Group). first_of (faults_from group_faults 0 gs)) (sym of.groups_are) ∙ none))
 
--- its spans are spans
-pub spans-of_report : (title : Title) (snippet : Snippet Annotation) (groups : List Group) → IsReportOf title (Some snippet) groups → first_fault groups ≡ None → All (λ a. IsSpan (cow_str_bytes snippet.source) a.span.start a.span.end) snippet.markers.items
-spans-of_report title snippet groups of none =
-    spans-faultless (λ (a : Annotation). a.span) 0 0 0 (cow_str_bytes snippet.source) snippet.markers.items (front_none _ _ (snippet-faultless title snippet groups of none))
-
--- its line numbers fit
-pub numbers-of_report : (title : Title) (snippet : Snippet Annotation) (groups : List Group) → IsReportOf title (Some snippet) groups → first_fault groups ≡ None → snippet.line_start + length (source_lines (cow_str_bytes snippet.source)) < 2 ^ 64
-numbers-of_report title snippet groups of none =
-    number-faultless 0 0 _ (back_none _ _ (snippet-faultless title snippet groups of none))
-
--- its texts fit
-group-fits : (title : Title) (cause : Option (Snippet Annotation)) (groups : List Group) (of : IsReportOf title cause groups) → ReportFits groups → GroupFits of.group
-group-fits title cause groups of fits =
+-- its texts fit where those of the report do
+group-fits : (title : Title) (elements : List Element) (groups : List Group) (of : IsReportOf title elements groups) → ReportFits groups → GroupFits of.group
+group-fits title elements groups of fits =
     All-head GroupFits of.group [] (All-same GroupFits (of.group ∷ []) groups (sym of.groups_are) fits)
 
-pub source-of_report : (title : Title) (snippet : Snippet Annotation) (groups : List Group) → IsReportOf title (Some snippet) groups → ReportFits groups → SnippetFits AnnotationFits snippet
-source-of_report title snippet groups of fits =
-    All-head ElementFits (Cause snippet) [] (All-same ElementFits (Cause snippet ∷ []) of.group.elements.items (sym of.elements_are) (group-fits title (Some snippet) groups of fits).1)
+-- the elements of a covered report without faults can be drawn
+pub drawable-of_report : (title : Title) (elements : List Element) (groups : List Group) → IsReportOf title elements groups → are_covered_elements elements ≡ true → ReportFits groups → first_fault groups ≡ None → AreDrawable elements
+drawable-of_report title elements groups of covered fits none =
+    elements-drawable 0 0 elements (elements-faultless title elements groups of none) (All-same ElementFits elements of.group.elements.items (sym of.elements_are) (group-fits title elements groups of fits).1)
 
-pub title-of_report : (title : Title) (cause : Option (Snippet Annotation)) (groups : List Group) → IsReportOf title cause groups → ReportFits groups → TitleFits title
-title-of_report title cause groups of fits =
-    let one : IfSome of.group.title TitleFits = (group-fits title cause groups of fits).0 in
+-- and its title fits
+pub title-of_report : (title : Title) (elements : List Element) (groups : List Group) → IsReportOf title elements groups → ReportFits groups → TitleFits title
+title-of_report title elements groups of fits =
+    let one : IfSome of.group.title TitleFits = (group-fits title elements groups of fits).0 in
     subst (λ t. IfSome t TitleFits) of.title_is one

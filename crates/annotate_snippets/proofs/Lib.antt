@@ -1,3 +1,5 @@
+pub mod DisjointLemmas
+pub mod DrawnLemmas
 pub mod FaultLemmas
 pub mod GutterLemmas
 pub mod LineLemmas
@@ -7,5 +9,7 @@ pub mod PartsFacts
 pub mod NotShown
 pub mod PageLemmas
 pub mod ReportLemmas
+pub mod SoleLemmas
+pub mod SuggestedLemmas
 pub mod TitleLemmas
 pub mod WindowLemmas

@@ -7,9 +7,8 @@
 //! 1 | foo(y)      begins in the last row of the one above
 //!   |     +
 //! ```
-ghost use Rattle.std.specs.Prelude.{◌≡◌, ◌<◌, ◌≤◌, ◌^◌, All, IfOk, OnOk, map};
+ghost use Rattle.std.specs.Prelude.{◌≡◌, All, IfOk, OnOk, map};
 ghost use Rattle.annotate_snippets.specs.Drawn.{AddsSuggestions, AreDrawable, suggested};
-ghost use Rattle.annotate_snippets.specs.Gutter.{gutter_of_suggestion};
 ghost use Rattle.snippet_suggest.specs.Prepared.{IsPrepared};
 
 use crate::renderer::gutter::gutter_of_suggestions;
@@ -30,8 +29,7 @@ pub fn draw_suggestions<'a>(
 {
     let suggestions = prepared_suggestions(alloc, elements)?;
     let gutter = gutter_of_suggestions(&suggestions);
-    for i in 0..suggestions.len() {
-        let suggestion = &suggestions[i];
+    for (i, suggestion) in suggestions.iter().enumerate() {
         let layout = SuggestionLayout {
             gutter,
             numbered: suggestion.snippet.line_numbering,

@@ -5,7 +5,6 @@ use Rattle.std.specs.Cow.{cow_str_bytes}
 use Rattle.snippet_model.specs.declared.snippet.Annotation.{Annotation}
 use Rattle.snippet_model.specs.declared.snippet.Snippet.{Snippet}
 use Rattle.snippet_parts.specs.declared.entries.AnnotatedLineInfo.{AnnotatedLineInfo}
-use Rattle.snippet_parts.specs.declared.entries.LineAnnotation.{LineAnnotation}
 use Rattle.snippet_parts.specs.Annotated.{annotated_lines, deepest, kept_line, seen_kept}
 use Rattle.snippet_parts.specs.Kept.{kept_lines, shown_lines}
 use Rattle.snippet_lines.specs.Lines.{newline_count, Source}
@@ -17,7 +16,7 @@ use Rattle.snippet_strokes.specs.Snippet.{AddsSnippet}
 use Rattle.snippet_strokes.specs.declared.layout.Layout.{Layout}
 use Rattle.snippet_lines.proofs.LinesLemmas.{length-source_lines}
 use Rattle.snippet_style.specs.declared.glyphs.DecorStyle.{DecorStyle}
-use Rattle.annotate_snippets.specs.Drawn.{AddsCause, IsDrawable, code_of, layout_of}
+use Rattle.annotate_snippets.specs.Drawn.{IsDrawable, code_of, layout_of}
 use Rattle.annotate_snippets.specs.Gutter.{code_behind, gutter_of, numbered_source}
 use Rattle.annotate_snippets.proofs.GutterLemmas.{numbers_fit}
 use Rattle.annotate_snippets.proofs.PartsFacts.{deepest_few, lines_labels, lines_places, lines_rails, lines_texts, bounds_of_kept, shown_clear}
