@@ -1,8 +1,18 @@
 -- Spans of a source that are taken.
-use Rattle.std.proofs.Common.{◌≡◌, ℕ, List, length, inl, arith, subst}
-use Rattle.std.specs.Str.{IsUtf8}
+use Rattle.std.proofs.Common.{◌≡◌, ℕ, ◌+◌, ◌-◌, ◌≤◌, min, ◌&&◌, ltb, leb, Option, Some, None, List, [], ◌∷◌, All, drop, get_or, length, map, inl, inr, refl, sym, ◌∙◌, arith, subst}
+use Rattle.std.specs.List.{slice_range}
+use Rattle.std.specs.Str.{IsCharBoundary, IsUtf8}
+use Rattle.std.proofs.lemmas.Bool.{and_parts, cases_lt, cond_both, leb-true}
+use Rattle.std.proofs.lemmas.List.{get_or-drop, get_or-take, length-drop, length-take-le}
+use Rattle.std.proofs.lemmas.List.Elements.{All-head, All-map, All-tail}
 use Rattle.std.proofs.lemmas.Str.{IsCharBoundary-end, IsCharBoundary-start}
-use Rattle.snippet_lines.specs.Span.{IsSpan}
+use Rattle.snippet_lines.specs.Span.{IsSpan, IsSpanBorder}
+use Rattle.snippet_lines.proofs.OrderLemmas.{All-put_in}
+use Rattle.snippet_parts.proofs.PartLemmas.{All-unmapped}
+use Rattle.snippet_splice.specs.declared.patches.TrimmedPatch.{TrimmedPatch}
+use Rattle.snippet_splice.specs.Edits.{Edit, bounds_of, in_order, original_bounds_of, precedes, shrunk, trimmed_edit, trimmed_edit_of, trimmed_edits}
+use Rattle.snippet_splice.specs.Trim.{sandwich}
+use Rattle.snippet_splice.proofs.TrimLemmas.{sandwich-sandwiched}
 
 -- that of the whole source
 pub whole_span : (source text : List ℕ) → IsUtf8 text → text ≡ source → IsSpan source 0 (length text)
@@ -13,3 +23,71 @@ whole_span source text valid is =
       from = inl (IsCharBoundary-start text valid);
       to = inl (IsCharBoundary-end text);
     })
+
+-- from the start of one to the end of another, or to that end alone
+pub joined_span : (source : List ℕ) (a b c d from : ℕ) → from ≡ min a d → IsSpan source a b → IsSpan source c d → IsSpan source from d
+joined_span source a b c d from is first last =
+    elim (cases_lt d a) [
+      | inl past ↦ let at : d ≡ from = omega arith in record { ordered = omega arith; within = last.within; from = subst (IsSpanBorder source) at last.to; to = last.to }
+      | inr before ↦ let at : a ≡ from = omega arith in record { ordered = omega arith; within = last.within; from = subst (IsSpanBorder source) at first.from; to = last.to }
+    ]
+
+-- a part of a source may be cut where the source may
+border_inside : (source : List ℕ) (start end before : ℕ) → start ≤ end → end ≤ length source → IsSpanBorder source end → IsCharBoundary (slice_range source start end) before → IsCharBoundary source (start + before)
+border_inside source start end before ordered within to border =
+    let part : List ℕ = slice_range source start end in
+    let size : length part ≡ end - start = length-take-le (end - start) (drop start source) (omega (arith, length-drop start source)) in
+    elim (cases_lt before (length part)) [
+      | inl inside ↦
+          let same : get_or part before 0 ≡ get_or source (start + before) 0 = get_or-take (end - start) (drop start source) before 0 (omega arith) ∙ get_or-drop start source before 0 in
+          (omega arith, λ left high. let lead : 192 ≤ get_or part before 0 = border.1 inside (omega arith) in omega arith)
+      | inr past ↦
+          let at : end ≡ start + before = omega (arith, border.0) in
+          elim to [
+            | inl boundary ↦ subst (IsCharBoundary source) at boundary
+            | inr behind ↦ absurd (omega arith)
+          ]
+    ]
+
+-- a trimmed edit's span is taken where the untrimmed one's is
+edit_span : (source : List ℕ) (e : Edit) → IsSpan source e.start e.end → IsSpan source (trimmed_edit source e).start (trimmed_edit source e).end
+unfolding trimmed_edit
+edit_span source e span =
+    let Taken : Edit → Type 0 = λ t. IsSpan source t.start t.end in
+    cond_both (ltb 0 (length e.text) && leb e.end (length source)) (shrunk e (sandwich (slice_range source e.start e.end) e.text)) e Taken
+    (λ t. kept (sandwich (slice_range source e.start e.end) e.text) (leb-true e.end (length source) (and_parts (ltb 0 (length e.text)) (leb e.end (length source)) t).1) refl)
+    (λ _. span)
+  where
+    kept : (r : Option (ℕ × List ℕ × ℕ)) → e.end ≤ length source → sandwich (slice_range source e.start e.end) e.text ≡ r → IsSpan source (shrunk e r).start (shrunk e r).end
+    kept None within is = span
+    kept (Some k) within is =
+        let h = sandwich-sandwiched (slice_range source e.start e.end) e.text k.0 k.1 k.2 is in
+        let size : length (slice_range source e.start e.end) ≡ e.end - e.start = length-take-le (e.end - e.start) (drop e.start source) (omega (arith, length-drop e.start source)) in
+        let here : e.start + k.0 ≡ e.end - k.2 = omega (arith, h.parts, size, span.ordered) in
+        let border : IsCharBoundary source (e.start + k.0) = border_inside source e.start e.end k.0 span.ordered within span.to h.border in
+        record {
+          ordered = omega arith;
+          within = omega (arith, border.0);
+          from = inl border;
+          to = inl (subst (IsCharBoundary source) here border);
+        }
+
+-- spans are taken in whatever order
+pub spans_in_order : (source : List ℕ) (es : List Edit) → All (λ e. IsSpan source e.start e.end) es → All (λ e. IsSpan source e.start e.end) (in_order es)
+spans_in_order source [] all = all
+spans_in_order source (e ∷ es) all =
+    let P : Edit → Type 0 = λ d. IsSpan source d.start d.end in
+    All-put_in precedes P e (in_order es) (All-head P e es all) (spans_in_order source es (All-tail P e es all))
+
+-- so are those of patches whose edits are known, and those that they had before they were trimmed
+pub trimmed_spans : (source : List ℕ) (es : List Edit) (ps : List TrimmedPatch) → All (λ e. IsSpan source e.start e.end) es → map trimmed_edit_of ps ≡ trimmed_edits source es → All (λ p. IsSpan source p.span.start p.span.end) ps
+trimmed_spans source es ps all same =
+    let P : Edit → Type 0 = λ d. IsSpan source d.start d.end in
+    let given : All P (in_order es) = spans_in_order source es all in
+    let trimmed : All P (trimmed_edits source es) = All-map P (trimmed_edit source) (in_order es) (λ k d within. edit_span source (get_or (in_order es) k d) (given k d within)) in
+    All-unmapped P trimmed_edit_of ps (subst (All P) (sym same) trimmed)
+
+pub original_spans : (source : List ℕ) (es : List Edit) (ps : List TrimmedPatch) → All (λ e. IsSpan source e.start e.end) es → map original_bounds_of ps ≡ map bounds_of (in_order es) → All (λ p. IsSpan source p.original_span.start p.original_span.end) ps
+original_spans source es ps all same =
+    let P : ℕ × ℕ → Type 0 = λ b. IsSpan source b.0 b.1 in
+    All-unmapped P original_bounds_of ps (subst (All P) (sym same) (All-map P bounds_of (in_order es) (spans_in_order source es all)))

@@ -1,11 +1,11 @@
 //! A suggestion that is shown as the lines that are removed, and the one line that stands in their place.
-ghost use Rattle.std.specs.Prelude.{◌≡◌, ◌<◌, ◌^◌, ◌++◌, ◌∷◌, [], List, true, OnOk, length, if◌then◌else◌};
+ghost use Rattle.std.specs.Prelude.{◌≡◌, ◌<◌, ◌^◌, ◌++◌, ◌∷◌, [], List, true, false, OnOk, length, if◌then◌else◌};
 ghost use Rattle.std.specs.Str.{bytes_eq};
 ghost use Rattle.snippet_style.specs.Grid.{Cell};
 ghost use Rattle.snippet_suggest.specs.declared.kind.DisplaySuggestion.TheVariants.{Diff};
 ghost use Rattle.snippet_suggest.specs.declared.shown.ShownLine.TheVariants.{Line};
 ghost use Rattle.snippet_suggest.specs.Given.{is_left_out, last_removed};
-ghost use Rattle.snippet_suggest.specs.Rows.{AddsLines, AddsRemoved, IsBareRow, NumberFits};
+ghost use Rattle.snippet_suggest.specs.Rows.{AddsLines, AddsRemoved, IsBareRow, IsRepainted, NumberFits};
 
 use crate::glyphs::SuggestionGlyph;
 use crate::kind::is_blank;
@@ -51,16 +51,56 @@ pub(crate) fn draw_diff(
     let count = removed.len().saturating_sub(usize::from(stays));
     draw_diff_removed(alloc, buffer, layout, first, &removed[..count], replaced)?;
     if stays {
-        let row = buffer.num_lines().saturating_sub(1);
         let stretches = diff_stretches(replaced, first, removed[count]);
-        paint_stretches(buffer, layout, row, line, stretches, ElementStyle::Removal)?;
+        paint_last(buffer, layout, line, stretches, ElementStyle::Removal)?;
     }
-    let row = if stays || is_blank(line) {
-        buffer.num_lines().saturating_sub(1)
-    } else {
-        draw_line(alloc, buffer, layout, SuggestionGlyph::Added, first, line)?
-    };
-    paint_stretches(buffer, layout, row, line, added, ElementStyle::Addition)
+    let left_out = is_left_out(removed, line);
+    draw_diff_line(alloc, buffer, layout, first, line, left_out, added)
+}
+
+/// Draws the line that stands in place of those that are removed below all that stands in the grid, unless it is left out,
+/// and gives the stretches that are new in it their role.
+fn draw_diff_line(
+    alloc: Global,
+    buffer: &mut StyledBuffer,
+    layout: SuggestionLayout,
+    first: usize,
+    line: &str,
+    left_out: bool,
+    added: &[SubstitutionHighlight],
+) -> Result<(), AllocError>
+    requires narrow { layout.gutter < 2 ^ 32 }
+    ensures left { (above : List (List Cell)) (last : List Cell) → left_out ≡ true → buffer.old ≡ above ++ last ∷ []
+        → OnOk result (IsRepainted above last buffer.new) }
+    ensures added { left_out ≡ false → NumberFits layout first (Line 0)
+        → OnOk result (AddsLines layout first (line.now ∷ []) (0 ∷ []) buffer.old buffer.new) }
+{
+    if !left_out {
+        draw_line(alloc, buffer, layout, SuggestionGlyph::Added, first, line)?;
+    }
+    paint_last(buffer, layout, line, added, ElementStyle::Addition)
+}
+
+/// Gives the cells of stretches of a line, which stands in the last row, a role.
+fn paint_last(
+    buffer: &mut StyledBuffer,
+    layout: SuggestionLayout,
+    line: &str,
+    stretches: &[SubstitutionHighlight],
+    role: ElementStyle,
+) -> Result<(), AllocError>
+    ensures repaints { (above : List (List Cell)) (last : List Cell) → buffer.old ≡ above ++ last ∷ []
+        → OnOk result (IsRepainted above last buffer.new) }
+{
+    let row = buffer.num_lines().saturating_sub(1);
+    paint_stretches(buffer, layout, row, line, stretches, role)
+}
+
+/// Whether a line in place of those that are removed isn't drawn: it is blank, or the same as the last of them.
+fn is_left_out(removed: &[LineInfo<'_>], line: &str) -> bool
+    ensures value { 0 < length removed.now → result ≡ is_left_out Diff (line.now ∷ []) (last_removed removed.now) }
+{
+    is_blank(line) || is_last(removed, line)
 }
 
 /// Whether a line is the same as the last of those that are removed.
@@ -69,7 +109,7 @@ fn is_last(removed: &[LineInfo<'_>], line: &str) -> bool
     ensures value { 0 < length removed.now → result ≡ bytes_eq line.now (last_removed removed.now) }
 {
     match removed {
-        [.., last] => last.line == line,
+        [.., last] => line == last.line,
         [] => false,
     }
 }

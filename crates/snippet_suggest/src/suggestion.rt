@@ -1,7 +1,9 @@
 //! The rows of a suggestion.
-ghost use Rattle.std.specs.Prelude.{◌≡◌, ◌<◌, ◌^◌, ◌+◌, ◌++◌, ◌∷◌, [], List, IfOk, OnOk, All, map};
+ghost use Rattle.std.specs.Prelude.{◌≡◌, ◌<◌, ◌^◌, ◌+◌, ◌-◌, ◌++◌, ◌∷◌, [], List, IfOk, OnOk, All, length, map, if◌then◌else◌};
 ghost use Rattle.snippet_style.specs.Grid.{Cell};
 ghost use Rattle.snippet_lines.specs.Span.{IsSpan};
+ghost use Rattle.snippet_splice.specs.Copied.{end_from};
+ghost use Rattle.snippet_splice.specs.Edits.{AreApart, trimmed_edit_of};
 ghost use Rattle.snippet_suggest.specs.Prepared.{IsPrepared};
 ghost use Rattle.snippet_suggest.specs.Rows.{AddsLines, AddsSuggestion, HasGutter, IsBareRow, IsTail, NumberFits};
 ghost use Rattle.snippet_suggest.specs.Given.{first_given, given_lines, numbers_given};
@@ -157,16 +159,25 @@ fn draw_emptied(
     let map = &suggestion.map;
     let patches = &suggestion.splice.patches;
     let removed = map.span_to_lines(given_span(map, patches, suggestion.snippet.fold))?;
-    let diff = suggestion.kind == DisplaySuggestion::Diff;
-    if diff {
+    if suggestion.kind == DisplaySuggestion::Diff {
         draw_head(buffer, layout, shares)?;
+        let row = buffer.num_lines();
+        return draw_removed_lines(alloc, buffer, layout, row, &removed);
     }
-    let row = if shares && !diff {
+    let row = first_row(buffer, shares);
+    draw_removed_lines(alloc, buffer, layout, row, &removed)
+}
+
+/// The row that a suggestion begins with: the last one, if it `shares` that, else the one below.
+fn first_row(buffer: &StyledBuffer, shares: bool) -> usize
+    ensures value { result ≡ length buffer.now - (if shares then 1 else 0) }
+    ensures small { result < 2 ^ 60 }
+{
+    if shares {
         buffer.num_lines().saturating_sub(1)
     } else {
         buffer.num_lines()
-    };
-    draw_removed_lines(alloc, buffer, layout, row, &removed)
+    }
 }
 
 /// The bytes whose lines are removed where nothing stands in their place: those of the first patch as it was given, or of
@@ -182,13 +193,16 @@ fn given_span(map: &SourceMap<'_>, patches: &[TrimmedPatch<'_>], fold: bool) -> 
 }
 
 /// The bytes from the start of the first patch to the end of the last.
-fn trimmed_span(map: &SourceMap<'_>, patches: &[TrimmedPatch<'_>]) -> Range<usize>
-    requires spans { All (λ p. IsSpan map.now.text p.span.start p.span.end) patches.now }
-    ensures span { IsSpan map.now.text result.start result.end }
+fn trimmed_span(source: &SourceMap<'_>, patches: &[TrimmedPatch<'_>]) -> Range<usize>
+    requires spans { All (λ p. IsSpan source.now.text p.span.start p.span.end) patches.now }
+    ensures span { IsSpan source.now.text result.start result.end }
+    // Of patches that stand apart the last one's end is the greatest.
+    ensures end { let ts = map trimmed_edit_of patches.now in 0 < length patches.now → AreApart 0 ts → result.end ≡ end_from 0 ts }
 {
     match patches {
+        [] => 0..source.source().len(),
         [only] => only.span.start..only.span.end,
-        [first, .., last] if first.span.start <= last.span.end => first.span.start..last.span.end,
-        _ => 0..map.source().len(),
+        // Patches that stand apart start in front of the end of the last.
+        [first, .., last] => first.span.start.min(last.span.end)..last.span.end,
     }
 }

@@ -1,6 +1,12 @@
-use Rattle.std.proofs.Common.{◌<◌, ◌^◌}
+use Rattle.std.proofs.Common.{◌≡◌, ◌<◌, ◌^◌, ◌++◌, Bool, List, length}
+use Rattle.snippet_style.specs.Grid.{Cell}
+use Rattle.snippet_suggest.specs.Rows.{IsTail}
+use Rattle.snippet_suggest.proofs.RemovedRows.{RemovesAt}
 use Rattle.snippet_suggest.proofs.removed.draw_removed_lines.Given as goal
 
--- a row has a number below that of the greatest
+-- a row has a number below that of the greatest, and the next row is drawn below those so far
 abbrev pub invariant-loop-info : goal.invariant-loop-info
-invariant-loop-info l = l.row < 2 ^ 60
+invariant-loop-info l = record {
+  small : l.row < 2 ^ 60;
+  drawn : (above tail : List (List Cell)) (shares : Bool) → l.initial.row ≡ length above → l.initial.buffer ≡ above ++ tail → IsTail l.layout shares tail → RemovesAt l.layout above l.row l.info-index l.buffer;
+}

@@ -1,5 +1,19 @@
-use Rattle.snippet_suggest.proofs.SpanLemmas.{whole_span}
+use Rattle.std.proofs.Common.{◌-◌, arith, length}
+use Rattle.snippet_suggest.proofs.ReachLemmas.{last_end, only_end}
+use Rattle.snippet_suggest.proofs.SpanLemmas.{joined_span, whole_span}
 use Rattle.snippet_suggest.proofs.suggestion.trimmed_span.Goals as goal
 
-pub returns-in_default : goal.returns-in_default
-returns-in_default c = record { span = whole_span c.args.map.now.text c.source.result.now c.source.utf8 c.source.ensures.value }
+pub returns-in-empty-clause-span : goal.returns-in-empty-clause-span
+returns-in-empty-clause-span c =
+    whole_span c.args.source.now.text c.source.result.now c.source.utf8 c.source.ensures.value
+
+pub returns-in-len1-clause-end : goal.returns-in-len1-clause-end
+returns-in-len1-clause-end c = λ some apart.
+    only_end 0 c.args.patches.now _ some c.in-len1.len_below
+
+pub returns-in-len2-up-clause-span : goal.returns-in-len2-up-clause-span
+returns-in-len2-up-clause-span c =
+    joined_span c.args.source.now.text _ _ _ _ c.min.result c.min.ensures (c.requires.spans 0 _ (omega arith)) (c.requires.spans (length c.args.patches.now - 1) _ (omega arith))
+
+pub returns-in-len2-up-clause-end : goal.returns-in-len2-up-clause-end
+returns-in-len2-up-clause-end c = λ some apart. last_end 0 c.args.patches.now _ some

@@ -1,0 +1,109 @@
+-- Why the gutter that has room for the number that a suggestion counts has room for the number of each line that it gives.
+use Rattle.std.proofs.Common.{◌≡◌, ℕ, ◌+◌, ◌<◌, ◌≤◌, ◌^◌, nat_le, ◌&&◌, Bool, true, false, if◌then◌else◌, List, [], ◌∷◌, All, length, map, refl, sym, ap, ◌∙◌, arith, subst}
+use Rattle.std.specs.Cow.{cow_str_bytes}
+use Rattle.std.specs.Fmt.{decimal}
+use Rattle.std.specs.List.{list_any}
+use Rattle.std.proofs.lemmas.Bool.{cond-true, cond_both}
+use Rattle.std.proofs.lemmas.Bool.Decides.{nat_tests}
+use Rattle.std.proofs.lemmas.List.{length-map, length-replicate}
+use Rattle.std.proofs.lemmas.List.Elements.{All-map}
+use Rattle.snippet_model.specs.declared.snippet.Snippet.{Snippet}
+use Rattle.snippet_model.specs.declared.snippet.Patch.{Patch}
+use Rattle.snippet_lines.specs.Lines.{lines_of, source_lines, newline_count}
+use Rattle.snippet_lines.specs.Number.{shown_number}
+use Rattle.snippet_lines.specs.Place.{line_of}
+use Rattle.snippet_lines.specs.Span.{IsSpan}
+use Rattle.snippet_lines.proofs.LinesLemmas.{length-source_lines}
+use Rattle.snippet_lines.proofs.NumberLemmas.{length-decimal_monotone, length-shown_number}
+use Rattle.snippet_lines.proofs.PlaceLemmas.{line_of-mono, line_of-within}
+use Rattle.snippet_splice.specs.Edits.{Edit, edit_of, in_order, trimmed_edit}
+use Rattle.snippet_splice.specs.Shown.{first_start}
+use Rattle.snippet_splice.proofs.EditLemmas.{trimmed_edit-shrunk}
+use Rattle.snippet_suggest.specs.declared.kind.DisplaySuggestion.{DisplaySuggestion}
+use Rattle.snippet_suggest.specs.declared.kind.DisplaySuggestion.TheVariants.{Underline, Diff, Plain, Add}
+use Rattle.snippet_suggest.specs.declared.layout.SuggestionLayout.{SuggestionLayout}
+use Rattle.snippet_suggest.specs.declared.shown.ShownLine.TheVariants.{Line}
+use Rattle.snippet_suggest.specs.Given.{counted_folded, counted_line, edits_of, first_end, first_given, given_lines, given_text, shown_kind, trimmed_of}
+use Rattle.snippet_suggest.specs.Kind.{adds_lines, is_replacement, kind_of, takes_away}
+use Rattle.snippet_suggest.specs.Prepared.{IsSuggestible}
+use Rattle.snippet_suggest.specs.Rows.{HasGutter, NumberFits, number_after}
+use Rattle.snippet_suggest.proofs.SpanLemmas.{spans_in_order}
+
+-- the test of the kinds, each question answered. Of a kind that gives one line at most the last one is never counted
+abbrev kind_by : Bool → Bool → Bool → Bool → DisplaySuggestion
+kind_by few takes replaces adds =
+    if few && takes then Diff else if replaces then (if adds then Add else Plain) else if few then Underline else Plain
+
+few_by : (few takes replaces adds : Bool) (kind : DisplaySuggestion) → kind_by few takes replaces adds ≡ kind → counted_folded kind 0 0 1 ≡ 0 → few ≡ true
+few_by true takes replaces adds kind is one = refl
+few_by false takes true true kind is one = let same : counted_folded Add 0 0 1 ≡ 0 = ap (λ k. counted_folded k 0 0 1) is ∙ one in absurd (omega (arith, same))
+few_by false takes true false kind is one = let same : counted_folded Plain 0 0 1 ≡ 0 = ap (λ k. counted_folded k 0 0 1) is ∙ one in absurd (omega (arith, same))
+few_by false takes false adds kind is one = let same : counted_folded Plain 0 0 1 ≡ 0 = ap (λ k. counted_folded k 0 0 1) is ∙ one in absurd (omega (arith, same))
+
+-- in a diff, and as one line with marks, at most one line is given
+pub one_given : (source : List ℕ) (ts : List Edit) (text : List ℕ) → counted_folded (kind_of source ts text) 0 0 1 ≡ 0 → length (lines_of text) ≤ 1
+one_given source ts text one =
+    let few : nat_le (length (lines_of text)) 1 ≡ true = few_by (nat_le (length (lines_of text)) 1) (list_any (takes_away source) ts) (is_replacement ts text) (adds_lines ts) (kind_of source ts text) refl one in
+    grind (arith, nat_tests)
+
+-- a text that has lines has one more than newlines are counted in it
+lines_counted : (text : List ℕ) → 0 < length (lines_of text) → length (lines_of text) ≡ newline_count text + 1
+lines_counted [] some = absurd (omega (arith, some))
+lines_counted (b ∷ bs) some = length-source_lines (b ∷ bs)
+
+-- the number of a line is at most the one that is counted, folded
+folded_fits : (kind : DisplaySuggestion) (first removed last k : ℕ) → (counted_folded kind 0 0 1 ≡ 0 → k ≡ 0) → first ≤ removed → first + k ≤ last → first + k ≤ counted_folded kind first removed last
+folded_fits Underline first removed last k one before within = omega (arith, one refl)
+folded_fits Diff first removed last k one before within = omega (arith, one refl, before)
+folded_fits Plain first removed last k one before within = within
+folded_fits Add first removed last k one before within = within
+
+folded_small : (kind : DisplaySuggestion) (first removed last : ℕ) → first < 2 ^ 64 → removed < 2 ^ 64 → last < 2 ^ 64 → counted_folded kind first removed last < 2 ^ 64
+folded_small Underline first removed last a b c = a
+folded_small Diff first removed last a b c = b
+folded_small Plain first removed last a b c = c
+folded_small Add first removed last a b c = c
+
+-- trimmed the first edit ends no sooner than it started
+first_before : (source : List ℕ) (es : List Edit) → All (λ e. IsSpan source e.start e.end) es → first_start es ≤ first_end (map (trimmed_edit source) es)
+first_before source [] spans = omega arith
+first_before source (e ∷ es) spans =
+    let h = trimmed_edit-shrunk source e (spans 0 e (omega arith)).ordered in
+    omega (arith, h.start, h.ordered)
+
+-- the number of each line that is given is at most the one that is counted, and that one fits
+counted_last : (s : Snippet Patch) → IsSuggestible s → (k : ℕ) → k < length (given_lines s) → (s.line_start + first_given s + k ≤ counted_line s) × (counted_line s < 2 ^ 64)
+counted_last s can k within =
+    let source : List ℕ = cow_str_bytes s.source in
+    let ls = source_lines source in
+    let first : ℕ = s.line_start + first_given s in
+    let removed : ℕ = s.line_start + line_of ls (first_end (trimmed_of s)) in
+    let last : ℕ = first + newline_count (given_text s) in
+    let size : length (given_lines s) ≡ length (lines_of (given_text s)) = length-map (lines_of (given_text s)) (λ l. l.0) in
+    let lines : length (lines_of (given_text s)) ≡ newline_count (given_text s) + 1 = lines_counted (given_text s) (omega (arith, within, size)) in
+    let spans : All (λ e. IsSpan source e.start e.end) (in_order (edits_of s)) = spans_in_order source (edits_of s) (All-map (λ e. IsSpan source e.start e.end) edit_of s.markers.items can.spans) in
+    let Holds : ℕ → Type 0 = λ n. (first + k ≤ n) × (n < 2 ^ 64) in
+    let low : first + k ≤ last = omega (arith, within, size, lines) in
+    let small : last < 2 ^ 64 = omega (arith, can.numbers, size, lines) in
+    cond_both s.fold (counted_folded (shown_kind s) first removed last) last Holds
+    (λ folds.
+    let shown : first_given s ≡ line_of ls (first_start (in_order (edits_of s))) = cond-true s.fold (line_of ls (first_start (in_order (edits_of s)))) 0 folds in
+    let before : first ≤ removed = omega (arith, shown, line_of-mono ls (first_start (in_order (edits_of s))) (first_end (trimmed_of s)) (omega (arith, length-source_lines source)) (first_before source (in_order (edits_of s)) spans)) in
+    let one : counted_folded (shown_kind s) 0 0 1 ≡ 0 → k ≡ 0 = λ is. omega (arith, one_given source (trimmed_of s) (given_text s) is, within, size) in
+    let there : removed < 2 ^ 64 = omega (arith, can.lines, line_of-within source (first_end (trimmed_of s))) in
+    (folded_fits (shown_kind s) first removed last k one before low, folded_small (shown_kind s) first removed last (omega (arith, small)) there small))
+    (λ _. (low, small))
+
+-- a number that is at most one for which there is room has room
+shown_fits : (numbered : Bool) (gutter number counted : ℕ) → (numbered ≡ true → length (decimal counted) ≤ gutter) → number ≤ counted → counted < 2 ^ 64 → length (shown_number numbered gutter number) ≤ gutter + 1
+shown_fits true gutter number counted room low small =
+    omega (arith, length-shown_number true gutter number (omega (arith, length-decimal_monotone number counted low small, room refl)))
+shown_fits false gutter number counted room low small = omega (arith, length-replicate {A = ℕ} gutter 32)
+
+-- what the gutter shows beside a line that is given stands left of the sign
+pub numbers_fit : (layout : SuggestionLayout) (s : Snippet Patch) → IsSuggestible s → HasGutter layout s → (k : ℕ) → k < length (given_lines s) → NumberFits layout (s.line_start + first_given s) (Line k)
+numbers_fit layout s can room k within =
+    let first : ℕ = s.line_start + first_given s in
+    let counted = counted_last s can k within in
+    let same : number_after first k ≡ first + k = omega (arith, counted.0, counted.1) in
+    subst (λ (n : ℕ). length (shown_number layout.numbered layout.gutter n) ≤ layout.gutter + 1) (sym same) (shown_fits layout.numbered layout.gutter (first + k) (counted_line s) room counted.0 counted.1)

@@ -1,0 +1,73 @@
+-- What follows for a suggestion that is prepared.
+use Rattle.std.proofs.Common.{◌≡◌, ℕ, ◌+◌, ◌<◌, ◌≤◌, List, [], ◌∷◌, All, length, map, refl, sym, ap, ◌∙◌, arith, subst, if◌then◌else◌}
+use Rattle.std.specs.Cow.{cow_str_bytes}
+use Rattle.std.proofs.lemmas.List.Elements.{All-map}
+use Rattle.snippet_lines.specs.Lines.{source_lines, text_at}
+use Rattle.snippet_lines.specs.Place.{line_of}
+use Rattle.snippet_lines.specs.Span.{IsSpan}
+use Rattle.snippet_parts.specs.declared.source_map.LineInfo.{LineInfo}
+use Rattle.snippet_parts.specs.LineTable.{entry_of, touched_entries}
+use Rattle.snippet_splice.specs.Copied.{end_from}
+use Rattle.snippet_splice.specs.declared.patches.TrimmedPatch.{TrimmedPatch}
+use Rattle.snippet_splice.specs.Edits.{AreApart, Edit, bounds_of, edit_of, in_order, original_bounds_of, trimmed_edit_of, trimmed_edits}
+use Rattle.snippet_splice.specs.Shown.{first_start}
+use Rattle.snippet_splice.proofs.EditLemmas.{trimmed-apart}
+use Rattle.snippet_splice.proofs.OverlapLemmas.{apart-in_order, ordered-spans}
+use Rattle.snippet_splice.proofs.ShownLemmas.{none-given}
+use Rattle.snippet_suggest.specs.declared.prepared.PreparedSuggestion.{PreparedSuggestion}
+use Rattle.snippet_suggest.specs.Given.{edits_of, first_given, first_original, last_reached, last_removed}
+use Rattle.snippet_suggest.proofs.ReachLemmas.{reached, touched_last}
+use Rattle.snippet_suggest.specs.Prepared.{IsPrepared}
+use Rattle.snippet_suggest.proofs.SpanLemmas.{original_spans, trimmed_spans}
+
+-- the spans of its edits are taken
+edit_spans : (p : PreparedSuggestion) → IsPrepared p → All (λ e. IsSpan p.map.text e.start e.end) (edits_of p.snippet.now)
+edit_spans p is =
+    let source : List ℕ = cow_str_bytes p.snippet.now.source in
+    subst (λ text. All (λ (e : Edit). IsSpan text e.start e.end) (edits_of p.snippet.now)) (sym (ap (λ m. m.text) is.lines)) (All-map (λ e. IsSpan source e.start e.end) edit_of p.snippet.now.markers.items is.suggestible.spans)
+
+-- so are those of its patches, and those that they had before they were trimmed
+pub known_spans : (p : PreparedSuggestion) → IsPrepared p → All (λ t. IsSpan p.map.text t.span.start t.span.end) p.splice.patches.items
+known_spans p is =
+    let text : cow_str_bytes p.snippet.now.source ≡ p.map.text = sym (ap (λ m. m.text) is.lines) in
+    trimmed_spans p.map.text (edits_of p.snippet.now) p.splice.patches.items (edit_spans p is) (is.edits ∙ ap (λ source. trimmed_edits source (edits_of p.snippet.now)) text)
+
+pub known_originals : (p : PreparedSuggestion) → IsPrepared p → All (λ t. IsSpan p.map.text t.original_span.start t.original_span.end) p.splice.patches.items
+known_originals p is =
+    original_spans p.map.text (edits_of p.snippet.now) p.splice.patches.items (edit_spans p is) is.originals
+
+-- it has a patch
+pub known_some : (p : PreparedSuggestion) → IsPrepared p → 0 < length p.splice.patches.items
+known_some p is = go p.splice.patches.items is.edits
+  where
+    go : (ts : List TrimmedPatch) → map trimmed_edit_of ts ≡ trimmed_edits (cow_str_bytes p.snippet.now.source) (edits_of p.snippet.now) → 0 < length ts
+    go [] same = absurd (is.some (none-given (cow_str_bytes p.snippet.now.source) p.snippet.now.markers.items [] same refl))
+    go (t ∷ ts) same = omega arith
+
+-- its trimmed edits stand apart
+pub known_apart : (p : PreparedSuggestion) → IsPrepared p → AreApart 0 (trimmed_edits (cow_str_bytes p.snippet.now.source) (edits_of p.snippet.now))
+known_apart p is =
+    let source : List ℕ = cow_str_bytes p.snippet.now.source in
+    trimmed-apart source 0 (in_order (edits_of p.snippet.now)) (apart-in_order (edits_of p.snippet.now) (ordered-spans source p.snippet.now.markers.items is.suggestible.spans) is.suggestible.disjoint)
+
+-- the last of the lines that are removed is the last that its patches reach
+pub known_reached : (p : PreparedSuggestion) → IsPrepared p → (infos : List LineInfo) (start end : ℕ) → start ≤ end → end ≡ end_from 0 (map trimmed_edit_of p.splice.patches.items) → map entry_of infos ≡ touched_entries p.map start end → last_removed infos ≡ last_reached p.snippet.now
+known_reached p is infos start end ordered ends are =
+    let source : List ℕ = cow_str_bytes p.snippet.now.source in
+    let es : List Edit = edits_of p.snippet.now in
+    let text : p.map.text ≡ source = ap (λ m. m.text) is.lines in
+    touched_last p.map infos start end ordered are ∙ ap (λ t. text_at (source_lines t) (line_of (source_lines t) end)) text ∙ ap (λ n. text_at (source_lines source) (line_of (source_lines source) n)) (ends ∙ ap (end_from 0) is.edits) ∙ ap (text_at (source_lines source)) (sym (reached source es (known_apart p is)))
+
+-- the number of its first line
+first_of : (ts : List TrimmedPatch) (es : List Edit) → map original_bounds_of ts ≡ map bounds_of es → first_original ts ≡ first_start es
+first_of [] [] same = refl
+first_of [] (e ∷ es) same = absurd (cc)
+first_of (t ∷ ts) [] same = absurd (cc)
+first_of (t ∷ ts) (e ∷ es) same =
+    let pair : ◌≡◌ {A = ℕ × ℕ} (original_bounds_of t) (bounds_of e) = cc in
+    ap (λ b. b.0) pair
+
+pub known_first : (p : PreparedSuggestion) → IsPrepared p → p.map.first + (if p.snippet.now.fold then line_of (source_lines p.map.text) (first_original p.splice.patches.items) else 0) ≡ p.snippet.now.line_start + first_given p.snippet.now
+known_first p is =
+    let s = p.snippet.now in
+    ap (λ m. m.first + (if s.fold then line_of (source_lines m.text) (first_original p.splice.patches.items) else 0)) is.lines ∙ ap (λ b. s.line_start + (if s.fold then line_of (source_lines (cow_str_bytes s.source)) b else 0)) (first_of p.splice.patches.items (in_order (edits_of s)) is.originals)

@@ -1,0 +1,76 @@
+-- The last line that edits reach, and the lines that are removed up to it.
+use Rattle.std.proofs.Common.{◌≡◌, ℕ, zero, suc, ◌+◌, ◌-◌, ◌<◌, ◌≤◌, max, List, [], ◌∷◌, fold, get_or, length, map, refl, sym, ap, ◌∙◌, arith}
+use Rattle.std.proofs.lemmas.List.{get_or-map, length-map}
+use Rattle.std.proofs.lemmas.List.FromFn.{get_or-range_with_len, length-range_with_len}
+use Rattle.std.specs.List.{range_with_len}
+use Rattle.snippet_lines.specs.Lines.{Source, source_lines, text_at}
+use Rattle.snippet_lines.specs.Place.{line_of}
+use Rattle.snippet_lines.proofs.LinesLemmas.{length-source_lines}
+use Rattle.snippet_lines.proofs.PlaceLemmas.{line_of-mono}
+use Rattle.snippet_parts.specs.declared.source_map.LineInfo.{LineInfo}
+use Rattle.snippet_parts.specs.LineTable.{LineEntry, entry_at, entry_of, touched_entries}
+use Rattle.snippet_splice.specs.declared.patches.TrimmedPatch.{TrimmedPatch}
+use Rattle.snippet_splice.specs.Copied.{end_from}
+use Rattle.snippet_splice.specs.Edits.{AreApart, Edit, trimmed_edit_of, trimmed_edits}
+use Rattle.snippet_splice.specs.Spliced.{last_line_reached}
+use Rattle.snippet_suggest.specs.Given.{last_removed}
+
+-- ---- the end of the last edit
+
+pub last_end : (at : ℕ) (ps : List TrimmedPatch) (d : TrimmedPatch) → 0 < length ps → (get_or ps (length ps - 1) d).span.end ≡ end_from at (map trimmed_edit_of ps)
+last_end at [] d some = absurd (omega (arith, some))
+last_end at (p ∷ []) d some = refl
+last_end at (p ∷ q ∷ ps) d some =
+    let here : suc (suc (length ps)) - 1 ≡ suc (suc (length ps) - 1) = omega arith in
+    ap (λ n. (get_or (p ∷ q ∷ ps) n d).span.end) here ∙ last_end p.span.end (q ∷ ps) d (omega arith)
+
+pub only_end : (at : ℕ) (ps : List TrimmedPatch) (d : TrimmedPatch) → 0 < length ps → length ps < 2 → (get_or ps 0 d).span.end ≡ end_from at (map trimmed_edit_of ps)
+only_end at [] d some one = absurd (omega (arith, some))
+only_end at (p ∷ []) d some one = refl
+only_end at (p ∷ q ∷ ps) d some one = absurd (omega (arith, one))
+
+-- of edits that stand apart it is the greatest
+greatest_end : (at : ℕ) (es : List Edit) → AreApart at es → fold max at (map (λ e. e.end) es) ≡ end_from at es
+greatest_end at [] apart = refl
+greatest_end at (e ∷ es) apart =
+    let greater : max at e.end ≡ e.end = omega (arith, apart.0, apart.1) in
+    ap (λ n. fold max n (map (λ d. d.end) es)) greater ∙ greatest_end e.end es apart.2
+
+pub reached : (source : List ℕ) (es : List Edit) → AreApart 0 (trimmed_edits source es) → last_line_reached source es ≡ line_of (source_lines source) (end_from 0 (trimmed_edits source es))
+unfolding last_line_reached
+reached source es apart = ap (line_of (source_lines source)) (greatest_end 0 (trimmed_edits source es) apart)
+
+-- ---- the lines that a span touches
+
+touched_count : (s : Source) (infos : List LineInfo) (start end : ℕ) → start ≤ end → map entry_of infos ≡ touched_entries s start end → length infos ≡ line_of (source_lines s.text) end + 1 - line_of (source_lines s.text) start
+touched_count s infos start end ordered are =
+    let ls = source_lines s.text in
+    sym (length-map infos entry_of) ∙ ap length are ∙ length-map (range_with_len (line_of ls start) (line_of ls end + 1 - line_of ls start)) (entry_at s.first ls) ∙ length-range_with_len (line_of ls start) (line_of ls end + 1 - line_of ls start)
+
+lines_ordered : (s : Source) (start end : ℕ) → start ≤ end → line_of (source_lines s.text) start ≤ line_of (source_lines s.text) end
+lines_ordered s start end ordered = line_of-mono (source_lines s.text) start end (omega (arith, length-source_lines s.text)) ordered
+
+-- at least one line is touched
+pub touched_some : (s : Source) (infos : List LineInfo) (start end : ℕ) → start ≤ end → map entry_of infos ≡ touched_entries s start end → 0 < length infos
+touched_some s infos start end ordered are =
+    omega (arith, touched_count s infos start end ordered are, lines_ordered s start end ordered)
+
+-- the last of them is the one on which the span ends
+pub touched_last : (s : Source) (infos : List LineInfo) (start end : ℕ) → start ≤ end → map entry_of infos ≡ touched_entries s start end → last_removed infos ≡ text_at (source_lines s.text) (line_of (source_lines s.text) end)
+touched_last s infos start end ordered are =
+    let ls = source_lines s.text in
+    let a : ℕ = line_of ls start in
+    let b : ℕ = line_of ls end in
+    let n : ℕ = b + 1 - a in
+    let none : LineEntry = record { text = []; number = 0; start = 0; next = 0 } in
+    let text : LineEntry → List ℕ = λ e. e.text in
+    let count : length infos ≡ n = touched_count s infos start end ordered are in
+    let low : a ≤ b = lines_ordered s start end ordered in
+    let size : length (range_with_len a n) ≡ n = length-range_with_len a n in
+    let at : a + (length infos - 1) ≡ b = omega arith in
+    texts infos (length infos - 1) none (omega arith) ∙ ap (λ es. text (get_or es (length infos - 1) none)) are ∙ ap text (get_or-map (entry_at s.first ls) (range_with_len a n) (length infos - 1) 0 none (omega arith)) ∙ ap (text_at ls) (get_or-range_with_len a n (length infos - 1) 0 (omega arith) ∙ at)
+  where
+    texts : (is : List LineInfo) (i : ℕ) (d : LineEntry) → i < length is → get_or (map (λ info. info.line.now) is) i [] ≡ (get_or (map entry_of is) i d).text
+    texts [] i d within = absurd (omega (arith, within))
+    texts (info ∷ is) zero d within = refl
+    texts (info ∷ is) (suc i) d within = texts is i d (omega (arith, within))

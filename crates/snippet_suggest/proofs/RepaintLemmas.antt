@@ -1,0 +1,102 @@
+-- A row whose cells get other roles shows what it showed.
+use Rattle.std.proofs.Common.{◌≡◌, ℕ, ◌+◌, ◌<◌, false, Option, None, List, ◌∷◌, [], length, take, drop, map, get_or, refl, sym, ap, ◌∙◌, arith, subst, inl, inr}
+use Rattle.std.proofs.Math.ListN.{get_or-map}
+use Rattle.std.proofs.lemmas.List.{drop-map, take-map, length-map}
+use Rattle.snippet_text.specs.Normalized.{is_listed}
+use Rattle.snippet_style.specs.declared.glyphs.DecorStyle.{DecorStyle}
+use Rattle.std.specs.Char.{is_ascii_alphanumeric}
+use Rattle.snippet_style.specs.Grid.{Cell, SPACE}
+use Rattle.snippet_style.specs.Print.{row_text}
+use Rattle.snippet_parts.specs.Rows.{IsFree}
+use Rattle.snippet_suggest.specs.Rows.{without_role, AddsRow, IsBareRow, IsLineRow, IsOtherRow, IsRemovedRow, IsRepainted, IsMarkOrSpace, IsSign}
+
+-- two rows hold the same characters and links
+abbrev pub AreSame : List Cell → List Cell → Type 0
+AreSame xs ys = map without_role xs ≡ map without_role ys
+
+-- so does each cell
+same_cell : (xs ys : List Cell) (c : ℕ) → AreSame xs ys → without_role (get_or xs c SPACE) ≡ without_role (get_or ys c SPACE)
+same_cell xs ys c same =
+    sym (get_or-map without_role xs c SPACE) ∙ ap (λ zs. get_or zs c (without_role SPACE)) same ∙ get_or-map without_role ys c SPACE
+
+-- what holds of a cell's character holds of the other's
+same_char : (P : ℕ → Type 0) (xs ys : List Cell) (c : ℕ) → AreSame xs ys → P (get_or ys c SPACE).ch → P (get_or xs c SPACE).ch
+same_char P xs ys c same =
+    subst P (ap (λ (p : ℕ × Option (List ℕ)). p.0) (sym (same_cell xs ys c same)))
+
+same_length : (xs ys : List Cell) → AreSame xs ys → length xs ≡ length ys
+same_length xs ys same = sym (length-map xs without_role) ∙ ap length same ∙ length-map ys without_role
+
+-- the texts of both are one
+same_text : (xs ys : List Cell) → AreSame xs ys → row_text xs ≡ row_text ys
+same_text xs ys same = sym (fronts xs) ∙ ap (map front) same ∙ fronts ys
+  where
+    front : ℕ × Option (List ℕ) → ℕ
+    front p = p.0
+
+    fronts : (zs : List Cell) → map front (map without_role zs) ≡ row_text zs
+    fronts [] = refl
+    fronts (z ∷ zs) = ap (λ t. z.ch ∷ t) (fronts zs)
+
+same_drop : (n : ℕ) (xs ys : List Cell) → AreSame xs ys → AreSame (drop n xs) (drop n ys)
+same_drop n xs ys same = sym (drop-map without_role n xs) ∙ ap (drop n) same ∙ drop-map without_role n ys
+
+same_take : (n : ℕ) (xs ys : List Cell) → AreSame xs ys → AreSame (take n xs) (take n ys)
+same_take n xs ys same = sym (take-map without_role n xs) ∙ ap (take n) same ∙ take-map without_role n ys
+
+same_free : (xs ys : List Cell) → AreSame xs ys → IsFree ys → IsFree xs
+same_free xs ys same free k d within =
+    let P : ℕ × Option (List ℕ) → Type 0 = λ p. (is_listed p.0 ≡ false) × (p.1 ≡ None) in
+    let there : k < length ys = omega (arith, same_length xs ys same, within) in
+    let seen : without_role (get_or ys k d) ≡ without_role (get_or xs k d) = sym (get_or-map without_role ys k d) ∙ ap (λ zs. get_or zs k (without_role d)) (sym same) ∙ get_or-map without_role xs k d in
+    subst P seen (free k d there)
+
+-- each kind of row stays what it is
+same_bare : (decor : DecorStyle) (gutter : ℕ) (now last : List Cell) → AreSame now last → IsBareRow decor gutter last → IsBareRow decor gutter now
+same_bare decor gutter now last same is =
+    record {
+      unnumbered = λ c left. same_char (λ ch. is_ascii_alphanumeric ch ≡ false) now last c same (is.unnumbered c left);
+      marks = λ c right. same_char (IsMarkOrSpace decor) now last c same (is.marks c right);
+      free = same_free now last same is.free;
+    }
+
+same_removed : (gutter : ℕ) (now last : List Cell) → AreSame now last → IsRemovedRow gutter last → IsRemovedRow gutter now
+same_removed gutter now last same is =
+    record {
+      minus = same_char (λ ch. ch ≡ 45) now last (gutter + 1) same is.minus;
+      space = same_char (λ ch. ch ≡ 32) now last (gutter + 2) same is.space;
+      free = same_free now last same is.free;
+    }
+
+same_other : (decor : DecorStyle) (gutter : ℕ) (now last : List Cell) → AreSame now last → IsOtherRow decor gutter last → IsOtherRow decor gutter now
+same_other decor gutter now last same (inl removed) = inl (same_removed gutter now last same removed)
+same_other decor gutter now last same (inr bare) = inr (same_bare decor gutter now last same bare)
+
+same_line : (decor : DecorStyle) (gutter : ℕ) (number text : List ℕ) (now last : List Cell) → AreSame now last → IsLineRow decor gutter number text last → IsLineRow decor gutter number text now
+same_line decor gutter number text now last same is =
+    record {
+      numbered = same_text (take (length number) now) (take (length number) last) (same_take (length number) now last same) ∙ is.numbered;
+      beside = λ c from to. same_char (λ ch. is_ascii_alphanumeric ch ≡ false) now last c same (is.beside c from to);
+      sign = same_char (IsSign decor) now last (gutter + 1) same is.sign;
+      space = same_char (λ ch. ch ≡ 32) now last (gutter + 2) same is.space;
+      holds = same_text (drop (gutter + 3) now) (drop (gutter + 3) last) (same_drop (gutter + 3) now last same) ∙ is.holds;
+      free = same_free now last same is.free;
+    }
+
+-- so a row that was added and then painted is added
+row_repainted : (P : List Cell → Type 0) → ((now last : List Cell) → AreSame now last → P last → P now) → (old mid new : List (List Cell)) (adds : AddsRow P old mid) → IsRepainted old adds.row new → AddsRow P old new
+row_repainted P stays old mid new adds painted =
+    record {
+      row = painted.now;
+      added = painted.is;
+      is = stays painted.now adds.row painted.same adds.is;
+    }
+
+pub removed_repainted : (gutter : ℕ) (old mid new : List (List Cell)) (adds : AddsRow (IsRemovedRow gutter) old mid) → IsRepainted old adds.row new → AddsRow (IsRemovedRow gutter) old new
+removed_repainted gutter old mid new adds painted = row_repainted (IsRemovedRow gutter) (same_removed gutter) old mid new adds painted
+
+pub other_repainted : (decor : DecorStyle) (gutter : ℕ) (old mid new : List (List Cell)) (adds : AddsRow (IsOtherRow decor gutter) old mid) → IsRepainted old adds.row new → AddsRow (IsOtherRow decor gutter) old new
+other_repainted decor gutter old mid new adds painted = row_repainted (IsOtherRow decor gutter) (same_other decor gutter) old mid new adds painted
+
+pub line_repainted : (decor : DecorStyle) (gutter : ℕ) (number text : List ℕ) (old mid new : List (List Cell)) (adds : AddsRow (IsLineRow decor gutter number text) old mid) → IsRepainted old adds.row new → AddsRow (IsLineRow decor gutter number text) old new
+line_repainted decor gutter number text old mid new adds painted = row_repainted (IsLineRow decor gutter number text) (same_line decor gutter number text) old mid new adds painted
