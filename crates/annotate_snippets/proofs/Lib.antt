@@ -1,3 +1,5 @@
+pub mod BodyLemmas
+pub mod CauseLemmas
 pub mod DisjointLemmas
 pub mod DrawnLemmas
 pub mod FaultLemmas
@@ -5,11 +7,13 @@ pub mod GutterLemmas
 pub mod LineLemmas
 pub mod ListLemmas
 pub mod MarkLemmas
-pub mod PartsFacts
+pub mod NotOffered
 pub mod NotShown
 pub mod PageLemmas
+pub mod PartsFacts
 pub mod ReportLemmas
 pub mod SoleLemmas
 pub mod SuggestedLemmas
+pub mod SuggestionLemmas
 pub mod TitleLemmas
 pub mod WindowLemmas

@@ -1,9 +1,9 @@
 -- The rows of a line show it: its source row, the row of its marks, and the others below.
-use Rattle.std.proofs.Common.{◌≡◌, ℕ, zero, suc, ◌+◌, ◌-◌, ◌<◌, ◌≤◌, ◌==◌, ◌&&◌, ◌⊎◌, nat_le, not, eqb, replicate, ◌||◌, Bool, true, false, cond, List, [], ◌∷◌, ◌++◌, map, length, take, drop, chars, count_by, get_or, refl, sym, ap, subst, ◌∙◌, arith, inl, inr}
+use Rattle.std.proofs.Common.{◌≡◌, ℕ, zero, suc, ◌+◌, ◌-◌, ◌<◌, ◌≤◌, ◌==◌, ◌&&◌, ◌⊎◌, nat_le, not, replicate, Bool, true, false, cond, List, [], ◌∷◌, ◌++◌, map, length, take, drop, chars, count_by, get_or, refl, sym, ap, subst, ◌∙◌, arith, inl, inr}
 use Rattle.std.specs.List.{All, filter, list_all, list_any}
 use Rattle.std.specs.Cow.{cow_str_bytes}
 use Rattle.std.specs.Char.{is_ascii_alphanumeric}
-use Rattle.std.proofs.lemmas.Bool.{and_parts, and_from, cases_lt, cases_eq, cases_Bool, eqb-true, eq-eqb, lt-ltb}
+use Rattle.std.proofs.lemmas.Bool.{and_parts, and_from, cases_lt, cases_eq, eqb-true, eq-eqb, lt-ltb}
 use Rattle.std.proofs.lemmas.Bool.Decides.{nat_tests}
 use Rattle.std.proofs.lemmas.List.{take-map, drop-map, take-take, get_or-take, get_or-append_right, get_or-map, length-map, length-replicate}
 use Rattle.std.proofs.lemmas.List.Elements.{All-get_or, All-contains, All-head, All-map, All-tail, Contains-get_or}
@@ -25,14 +25,14 @@ use Rattle.snippet_parts.specs.declared.entries.LineAnnotationType.{LineAnnotati
 use Rattle.snippet_parts.specs.declared.entries.LineAnnotationType.TheVariants.{Singleline, MultilineStart, MultilineEnd, MultilineLine}
 use Rattle.snippet_parts.specs.declared.margin.Margin.{Margin}
 use Rattle.snippet_parts.specs.Annotated.{KeptLine, PartEntry, kept_line, seen_kept, seen_part, single_part}
-use Rattle.snippet_lines.specs.Lines.{source_lines, text_at}
+use Rattle.snippet_lines.specs.Lines.{source_lines}
 use Rattle.snippet_parts.specs.Margin.{Bounds, bounds_of}
 use Rattle.snippet_parts.specs.Mark.{end_column, is_marked_on, is_marking, is_single_line, is_wide, qualifies_for_marks, touches}
-use Rattle.snippet_parts.specs.Marked.{Entry, seen_entry, entry_of}
+use Rattle.snippet_parts.specs.Marked.{seen_entry, entry_of}
 use Rattle.snippet_parts.specs.Measures.{is_bar, is_single_part, is_wide_entry}
 use Rattle.snippet_lines.specs.Span.{IsSpan}
-use Rattle.snippet_parts.specs.Window.{AreReplaced, IsWindowOf, chars_at, dropped_part, stands_whole, window}
-use Rattle.snippet_strokes.specs.Entries.{IsEntryMark, IsMarkCell, IsRailCell, are_plain, has_column, has_mark_role, is_end_part, is_single, label_role, label_text, shifted, wide_entries}
+use Rattle.snippet_parts.specs.Window.{AreReplaced, chars_at, dropped_part, stands_whole, window}
+use Rattle.snippet_strokes.specs.Entries.{IsEntryMark, IsMarkCell, IsRailCell, are_plain, has_column, has_mark_role, is_single, label_role, label_text, shifted, wide_entries}
 use Rattle.snippet_lines.specs.Number.{shown_number}
 use Rattle.snippet_parts.specs.Rows.{HasNoNumber}
 use Rattle.snippet_strokes.specs.Rows.{bare_row, IsSourceRow, IsStrokeRow, ShowsMarks}
@@ -43,7 +43,7 @@ use Rattle.snippet_titles.proofs.TextLemmas.{row_text-drawn}
 use Rattle.annotate_snippets.specs.declared.renderer.Renderer.{Renderer}
 use Rattle.annotate_snippets.specs.Drawn.{code_of, layout_of}
 use Rattle.annotate_snippets.specs.Gutter.{gutter_of, number_text, numbered_source}
-use Rattle.annotate_snippets.specs.Shown.{Frame, HasBarsAlone, HasStroke, IsRowBelow, ShowsMarksOf, ShowsSourceLine, bounds_in, room_of, shown_label, wide_spans}
+use Rattle.annotate_snippets.specs.Shown.{Frame, HasStroke, IsRowBelow, ShowsMarksOf, ShowsSourceLine, bounds_in, room_of, shown_label, wide_spans}
 use Rattle.annotate_snippets.proofs.MarkLemmas.{from_any, span_of_entry, IsEntryOf, mark_of_entries, unmarked_by_entries, entries_behind, unlabelled_entries, lone_entry, some_entry, shifted_mark, shifted_unmarked, shifted_behind}
 use Rattle.annotate_snippets.proofs.PartsFacts.{stands_left, untouched, wide_on_line}
 use Rattle.annotate_snippets.proofs.WindowLemmas.{dropped-none}

@@ -26,7 +26,7 @@ use Rattle.snippet_parts.specs.Mark.{is_marked_on, qualifies_for_marks, start_co
 use Rattle.snippet_parts.specs.Window.{chars_at, stands_whole}
 use Rattle.snippet_strokes.specs.Entries.{IsMarkCell, has_mark_role}
 use Rattle.snippet_strokes.specs.Rows.{separator_row}
-use Rattle.annotate_snippets.specs.Page.{Elision, RowName, SourceRow, Other, NamedRow, lines_named, IsAscending}
+use Rattle.annotate_snippets.specs.Page.{Elision, RowName, OfferedLine, SourceRow, Other, NamedRow, lines_named, IsAscending}
 use Rattle.annotate_snippets.specs.Settings.{plain_settings}
 use Rattle.snippet_style.specs.Glyphs.{placeholder_of}
 use Rattle.annotate_snippets.specs.Shown.{Frame, cell_of, room_of, normalized_chars, shown_label, ShowsSourceLine, ShowsMarksOf, ShowsLineAndMarks, IsRowBelow, IsRowOf, AreRowsOf, ShowsSnippet}
@@ -185,7 +185,7 @@ greater i j (l ∷ js) ks ascending =
     omega (arith, ascending.0)
 
 -- so none stands there twice
-two_of_one : (k : ℕ) (before between behind : List ℕ) → IsAscending (before ++ (k ∷ (between ++ (k ∷ behind)))) → ⊥
+pub two_of_one : (k : ℕ) (before between behind : List ℕ) → IsAscending (before ++ (k ∷ (between ++ (k ∷ behind)))) → ⊥
 two_of_one k [] between behind ascending =
     let less : k < k = greater k k between behind ascending in
     absurd (omega arith)
@@ -205,6 +205,7 @@ named_first s is (SourceRow k) cells rows same shows =
     let within : k < 1 = subst (λ source. k < length (source_lines source)) is shows.line.within in
     let first : k ≡ 0 = omega arith in
     ap SourceRow first
+named_first s is (OfferedLine j) cells rows same shows = absurd shows
 named_first s is Elision cells rows same shows =
     let digit : true ≡ false = subst (λ row. is_ascii_alphanumeric (slice_index_or row 0 SPACE).ch ≡ false) same (shows.unnumbered 0 (omega arith)) in
     cc

@@ -1,12 +1,12 @@
 -- The rows of a covered report are a page that shows it.
 use Rattle.std.proofs.Common.{◌≡◌, ℕ, zero, suc, ◌+◌, ◌<◌, ◌≤◌, ◌==◌, ◌&&◌, ltb, Bool, true, false, cond, List, [], ◌∷◌, ◌++◌, map, length, get_or, replicate, refl, sym, ap, subst, ◌∙◌, arith, inl, inr}
-use Rattle.std.specs.List.{All, Contains, filter}
+use Rattle.std.specs.List.{All, Contains}
 use Rattle.std.specs.Cow.{cow_str_bytes}
 use Rattle.std.specs.Char.{is_ascii_alphanumeric}
-use Rattle.std.proofs.lemmas.Bool.{and_parts, cases_lt, eqb-true, le-ltb, lt-ltb}
+use Rattle.std.proofs.lemmas.Bool.{and_parts, eqb-true, le-ltb, lt-ltb}
 use Rattle.std.proofs.lemmas.Bool.Decides.{nat_tests}
-use Rattle.std.proofs.lemmas.List.{append_assoc, append-nil, get_or-replicate, get_or_append_left, length-replicate, map-append}
-use Rattle.std.proofs.lemmas.List.Elements.{All-head, All-tail, filter-append}
+use Rattle.std.proofs.lemmas.List.{append_assoc, get_or-replicate, get_or_append_left, length-replicate, map-append}
+use Rattle.std.proofs.lemmas.List.Elements.{All-head, All-tail}
 use Rattle.snippet_model.specs.declared.snippet.Annotation.{Annotation}
 use Rattle.snippet_model.specs.declared.snippet.Snippet.{Snippet}
 use Rattle.snippet_style.specs.Grid.{Cell, SPACE, drawn, row_at}
@@ -23,16 +23,15 @@ use Rattle.snippet_parts.specs.Margin.{bounds_of}
 use Rattle.snippet_parts.specs.Marked.{first_line, last_line}
 use Rattle.snippet_lines.specs.Span.{IsSpan}
 use Rattle.snippet_lines.specs.Number.{shown_number}
-use Rattle.snippet_parts.specs.Rows.{HasNoNumber}
-use Rattle.snippet_strokes.specs.Rows.{bare_elision_row, first_row, IsElisionRow}
+use Rattle.snippet_strokes.specs.Rows.{bare_elision_row, first_row}
 use Rattle.snippet_strokes.specs.declared.layout.Layout.{Layout}
 use Rattle.snippet_strokes.specs.Snippet as strokes
 use Rattle.snippet_strokes.proofs.RowLemmas.{HasNoNumber-first_row}
 use Rattle.annotate_snippets.specs.declared.renderer.Renderer.{Renderer}
 use Rattle.annotate_snippets.specs.Drawn.{layout_of}
 use Rattle.annotate_snippets.specs.Gutter.{gutter_of, numbered_source}
-use Rattle.annotate_snippets.specs.Page.{RowName, SourceRow, Elision, Other, NamedRow, line_named, lines_named, names_in, names_of_lines, shows_lines, cells_of, cells_below, IsAscending}
-use Rattle.annotate_snippets.specs.Shown.{AreRowsOf, IsElided, IsRowBelow, ShowsLineAndMarks, ShowsMarksOf, ShowsSnippet, bounds_in, room_of}
+use Rattle.annotate_snippets.specs.Page.{SourceRow, Elision, Other, NamedRow, lines_named, names_in, names_of_lines, cells_of, cells_below, IsAscending}
+use Rattle.annotate_snippets.specs.Shown.{AreRowsOf, IsRowBelow, ShowsLineAndMarks, ShowsMarksOf, ShowsSnippet, bounds_in, room_of}
 use Rattle.annotate_snippets.proofs.LineLemmas.{IsRowBelow-more, frame_of, head_same, marks_of_line, marks_there, row_below, source_line, tail_same}
 use Rattle.annotate_snippets.proofs.PartsFacts.{ends_shown, shown_ascending, shown_within}
 

@@ -1,20 +1,18 @@
 -- The text of a covered report shows it.
 use Rattle.snippet_parts.specs.Rows.{IsFreeCell}
 use Rattle.snippet_style.specs.Stylesheet.{is_plain_sheet}
-use Rattle.std.proofs.Common.{◌≡◌, ℕ, zero, suc, ◌+◌, ◌<◌, ◌≤◌, ◌==◌, ◌||◌, fold, Bool, true, false, not, List, [], ◌∷◌, ◌++◌, length, chars, take, get_or, Result, Ok, Err, refl, sym, ap, subst, ◌∙◌, arith, Option, None, Some, IfSome, encode_utf8_all, inl, inr}
-use Rattle.std.specs.List.{All, AllZip, Contains, flat_map}
+use Rattle.std.proofs.Common.{◌≡◌, ℕ, suc, ◌+◌, ◌<◌, ◌||◌, fold, Bool, true, false, not, List, [], ◌∷◌, ◌++◌, length, chars, take, get_or, Result, Ok, Err, refl, sym, ap, subst, ◌∙◌, arith, Option, None, Some, encode_utf8_all, inl, inr}
+use Rattle.std.specs.List.{All, AllZip, Contains, filter, flat_map}
 use Rattle.std.specs.Result.{IfOk, MatchResult, IsErrAnd}
 use Rattle.std.specs.Cow.{cow_str_bytes}
 use Rattle.std.proofs.Math.Seq.{take-suc}
-use Rattle.std.proofs.lemmas.Bool.{and_parts, cases_lt}
+use Rattle.std.proofs.lemmas.Bool.{cases_lt}
 use Rattle.std.proofs.lemmas.List.{append-nil, get_or_past}
 use Rattle.std.proofs.lemmas.List.Elements.{All-nil, All-cons, All-head, All-tail, All-append, All-map, All-weaker, All-get_or}
-use Rattle.std.proofs.lemmas.List.Sums.{AllPass-from_list_all}
-use Rattle.snippet_model.specs.declared.snippet.Annotation.{Annotation}
 use Rattle.snippet_model.specs.declared.snippet.Group.{Group}
-use Rattle.snippet_model.specs.declared.snippet.Snippet.{Snippet}
 use Rattle.snippet_model.specs.declared.snippet.Title.{Title}
-use Rattle.snippet_model.specs.declared.snippet.Element.TheVariants.{Cause}
+use Rattle.snippet_model.specs.declared.snippet.Element.{Element}
+use Rattle.snippet_model.specs.declared.snippet.Element.TheVariants.{Message, Cause, Suggestion, Origin, Padding}
 use Rattle.snippet_style.specs.Grid.{Cell, SPACE}
 use Rattle.snippet_style.specs.declared.role.LevelInner.{LevelInner}
 use Rattle.snippet_style.specs.declared.stylesheet.Stylesheet.{Stylesheet}
@@ -30,69 +28,17 @@ use Rattle.snippet_model.specs.declared.snippet.Id.{Id}
 use Rattle.snippet_titles.specs.Title.{title_rows, text_links, id_links}
 use Rattle.snippet_titles.proofs.FreeLemmas.{IsFreeText}
 use Rattle.snippet_titles.proofs.LinkLemmas.{title_rows-links}
-use Rattle.snippet_parts.specs.declared.entries.AnnotatedLineInfo.{AnnotatedLineInfo}
-use Rattle.snippet_parts.specs.Annotated.{deepest}
-use Rattle.snippet_lines.specs.Number.{shown_number}
 use Rattle.snippet_parts.specs.Rows.{IsFree}
-use Rattle.snippet_strokes.specs.Rows.{first_row}
-use Rattle.snippet_strokes.proofs.SnippetLemmas.{free_from_AddsSnippet}
 use Rattle.annotate_snippets.specs.declared.renderer.Renderer.{Renderer}
-use Rattle.annotate_snippets.specs.Covered.{is_covered_title, is_covered_renderer, IsReportOf}
-use Rattle.annotate_snippets.specs.Gutter.{code_behind, depth_of_element, depth_of_group, gutter_of, gutter_of_report, numbered_source}
-use Rattle.annotate_snippets.specs.Drawn.{layout_of, AddsCause, IsDrawable, IsGridOf, IsGridOfReport}
-use Rattle.annotate_snippets.specs.Page.{NamedRow, cells_of, GroupPage, group_rows, ArePrinted, PrintsPage}
-use Rattle.annotate_snippets.specs.Shown.{Frame, ShowsTitle, AreElementsShown, ShowsGroup, levels_of, report_links, SheetsShown, IsFreeBut, IsFreeUnder}
-use Rattle.std.specs.Borrow.{Bor}
-use Rattle.std.specs.Option.{option_copied}
-use Rattle.snippet_model.specs.Fits.{ReportFits}
-use Rattle.annotate_snippets.specs.Fault.{first_fault}
-use Rattle.annotate_snippets.proofs.FaultLemmas.{spans-of_report, numbers-of_report, source-of_report}
-use Rattle.annotate_snippets.proofs.GutterLemmas.{numbers_fit}
-use Rattle.annotate_snippets.proofs.LineLemmas.{frame_of}
-use Rattle.annotate_snippets.proofs.PageLemmas.{snippet_shown}
+use Rattle.annotate_snippets.specs.Covered.{are_covered_elements, is_covered_title, is_covered_renderer, IsReportOf}
+use Rattle.annotate_snippets.specs.Gutter.{code_behind, depth_of_element, depth_of_group, gutter_of_element, gutter_of_report}
+use Rattle.annotate_snippets.specs.Drawn.{AreDrawable, IsGridOf, IsGridOfReport}
+use Rattle.annotate_snippets.specs.Page.{GroupPage, group_rows, ArePrinted, PrintsPage}
+use Rattle.annotate_snippets.specs.Shown.{ShowsTitle, AreElementsShown, ShowsGroup, is_drawn, levels_of, report_links, SheetsShown, IsFreeBut, IsFreeUnder}
+use Rattle.annotate_snippets.proofs.BodyLemmas.{IsBodyOf}
+use Rattle.annotate_snippets.proofs.CauseLemmas.{cause_body}
+use Rattle.annotate_snippets.proofs.SuggestionLemmas.{some_snippet, suggestions_body}
 use Rattle.annotate_snippets.proofs.TitleLemmas.{ShowsTitle-rows, free_title}
-
--- the gutter of a report of one snippet is the snippet's
-gutter_is : (r : Renderer) (group : Group) (s : Snippet Annotation) → r.anonymized_snippet_line_numbers ≡ false → group.elements.items ≡ Cause s ∷ [] → gutter_of s ≡ gutter_of_report r (group ∷ [])
-gutter_is r group s plain elements =
-    sym (rw (plain, append-nil group.elements.items, elements) (omega arith))
-
--- its depth is the snippet's
-depth_is : (group : Group) (s : Snippet Annotation) → group.elements.items ≡ Cause s ∷ [] → deepest (numbered_source s) s.markers.items ≡ depth_of_group group
-depth_is group s elements = sym (rw elements (omega arith))
-
-module _ (r : Renderer) (groups : List Group) (title : Title) (s : Snippet Annotation) (of : IsReportOf title (Some s) groups) (plain : r.anonymized_snippet_line_numbers ≡ false) (titled : is_covered_title title ≡ true) (drawable : IsDrawable s) where
-  abbrev titles : List (List Cell)
-  titles = title_rows r.hyperlink title
-
-  -- the rows are those of a group that shows the report
-  pub report_shown : (rows : List (List Cell)) → AddsCause r.decor_style r.term_width s titles rows → (page : GroupPage) × (rows ≡ group_rows page) × AllZip (ShowsGroup r (gutter_of_report r groups)) groups (page ∷ [])
-  report_shown rows drawn =
-      let numbers : All (λ (info : AnnotatedLineInfo). length (shown_number s.line_numbering (gutter_of s) info.line_index) ≤ gutter_of s + 1) drawn.infos = numbers_fit s drawn.infos drawable drawn.lines in
-      let shown = snippet_shown r plain s drawable.spans drawn.margin drawn.room drawn.bounds drawn.ordered drawn.infos drawn.rows.rows drawn.lines numbers drawn.rows.shown in
-      let part : List NamedRow = shown.0 in
-      let group_page : GroupPage = record { title = titles; elements = part ∷ [] } in
-      let gutter : gutter_of s ≡ gutter_of_report r (of.group ∷ []) = gutter_is r of.group s plain of.elements_are in
-      let group_shown : ShowsGroup r (gutter_of_report r (of.group ∷ [])) of.group group_page = record {
-        frame = frame_of s;
-        gutter_is = gutter;
-        code_is = ap (λ n. code_behind n (deepest (numbered_source s) s.markers.items)) gutter ∙ ap (code_behind (gutter_of_report r (of.group ∷ []))) (depth_is of.group s of.elements_are);
-        title = subst (λ t. ShowsTitle r.hyperlink (gutter_of_report r (of.group ∷ [])) t titles) (sym of.title_is) (ShowsTitle-rows r.hyperlink (gutter_of_report r (of.group ∷ [])) title titled);
-        elements = subst (λ es. AreElementsShown r (frame_of s) true es (part ∷ [])) (sym of.elements_are) (shown.2, tt);
-      } in (
-        group_page,
-        drawn.rows.added ∙ ap (λ rs. titles ++ rs) (sym shown.1 ∙ sym (append-nil (cells_of part))),
-        subst (λ gs. AllZip (ShowsGroup r (gutter_of_report r gs)) gs (group_page ∷ [])) (sym of.groups_are) (group_shown, tt),
-      )
-
-  -- the rows below the title: none holds a listed character or links to anything
-  rows_below : (rows : List (List Cell)) (drawn : AddsCause r.decor_style r.term_width s titles rows) → (below : List (List Cell)) × (rows ≡ titles ++ below) × All IsFree below
-  rows_below rows drawn =
-      let layout = layout_of r.decor_style s in (
-        first_row layout.decor true layout.gutter ∷ drawn.rows.rows,
-        drawn.rows.added,
-        free_from_AddsSnippet layout drawn.margin s.line_numbering true true drawn.infos titles rows drawn.rows,
-      )
 
 -- rows that hold no listed character
 free_texts : (rows : List (List Cell)) → All IsFree rows → All IsFreeText rows
@@ -134,8 +80,8 @@ no_links (Some id) = of_text (flat_map (λ t. norm (chars (cow_str_bytes t))) (o
     of_text [] = refl
     of_text (c ∷ cs) = refl
 
-links_of_report : (r : Renderer) (title : Title) (cause : Option (Snippet Annotation)) (groups : List Group) → IsReportOf title cause groups → report_links r groups ≡ id_links r.hyperlink title.id
-links_of_report r title cause groups of = by r.hyperlink refl
+links_of_report : (r : Renderer) (title : Title) (elements : List Element) (groups : List Group) → IsReportOf title elements groups → report_links r groups ≡ id_links r.hyperlink title.id
+links_of_report r title elements groups of = by r.hyperlink refl
   where
     linked : flat_map (λ (g : Group). flat_map (λ (t : Title). id_links true t.id) (option_to_list g.title)) groups ≡ id_links true title.id
     linked = rw (of.groups_are, of.title_is, append-nil (id_links true title.id)) (append-nil (id_links true title.id))
@@ -163,64 +109,63 @@ numbers_shown r covered =
     none_of false true c d off = grind (arith, off)
     none_of false false c d off = refl
 
--- a title alone is a page of its group
-bare_shown : (r : Renderer) (groups : List Group) (title : Title) (of : IsReportOf title None groups) → is_covered_title title ≡ true → AllZip (ShowsGroup r (gutter_of_report r groups)) groups (record { title = title_rows r.hyperlink title; elements = [] } ∷ [])
-bare_shown r groups title of titled =
-    let titles : List (List Cell) = title_rows r.hyperlink title in
-    let page : GroupPage = record { title = titles; elements = [] } in
-    let gutter : ℕ = gutter_of_report r groups in
-    let frame : Frame = record { gutter = gutter; code = gutter + 3 } in
-    let shown : ShowsGroup r gutter of.group page = record {
-      frame = frame;
-      gutter_is = refl;
-      code_is = sym (ap (λ es. code_behind gutter (fold depth_of_element 0 es)) of.elements_are);
-      title = subst (λ t. ShowsTitle r.hyperlink gutter t titles) (sym of.title_is) (ShowsTitle-rows r.hyperlink gutter title titled);
-      elements = subst (λ es. AreElementsShown r frame true es []) (sym of.elements_are) tt;
-    } in
-    subst (λ gs. AllZip (ShowsGroup r gutter) gs (page ∷ [])) (sym of.groups_are) (shown, tt)
+-- the gutter of a report of one group is as wide as its elements want, and its bars stand as theirs do
+gutter_of_one : (r : Renderer) (title : Title) (es : List Element) (groups : List Group) → IsReportOf title es groups → r.anonymized_snippet_line_numbers ≡ false → gutter_of_report r groups ≡ fold gutter_of_element 0 es
+gutter_of_one r title es groups of unanonymized =
+    rw (of.groups_are, unanonymized, append-nil of.group.elements.items, of.elements_are) refl
+
+depth_of_one : (title : Title) (es : List Element) (groups : List Group) (of : IsReportOf title es groups) → depth_of_group of.group ≡ fold depth_of_element 0 es
+depth_of_one title es groups of = ap (fold depth_of_element 0) of.elements_are
+
+module _ (r : Renderer) (groups : List Group) (level : LevelInner) (title : Title) (es : List Element) (leveled : levels_of groups ≡ level ∷ []) (of : IsReportOf title es groups) (unanonymized : r.anonymized_snippet_line_numbers ≡ false) (titled : is_covered_title title ≡ true) where
+  abbrev titles : List (List Cell)
+  titles = title_rows r.hyperlink title
+
+  -- a title, and below it rows that show the elements, are a page of the report
+  body_shown : (below : List (List Cell)) (body : IsBodyOf r es below) → AllZip (ShowsGroup r (gutter_of_report r groups)) groups (record { title = titles; elements = body.parts } ∷ [])
+  body_shown below body =
+      let page : GroupPage = record { title = titles; elements = body.parts } in
+      let gutter : ℕ = gutter_of_report r groups in
+      let wanted : gutter ≡ fold gutter_of_element 0 es = gutter_of_one r title es groups of unanonymized in
+      let shown : ShowsGroup r gutter of.group page = record {
+        frame = body.frame;
+        gutter_is = body.gutter_is ∙ sym wanted;
+        code_is = body.code_is ∙ ap (λ n. code_behind n (fold depth_of_element 0 es)) (sym wanted) ∙ ap (code_behind gutter) (sym (depth_of_one title es groups of));
+        title = subst (λ t. ShowsTitle r.hyperlink gutter t titles) (sym of.title_is) (ShowsTitle-rows r.hyperlink gutter title titled);
+        elements = subst (λ xs. AreElementsShown r body.frame true (filter is_drawn xs) body.parts) (sym of.elements_are) body.shown;
+      } in
+      subst (λ gs. AllZip (ShowsGroup r gutter) gs (page ∷ [])) (sym of.groups_are) (shown, tt)
+
+  -- so the grid that holds them is one of the report
+  grid_of_body : (rows below : List (List Cell)) → rows ≡ titles ++ below → IsBodyOf r es below → IsGridOfReport r groups level rows
+  grid_of_body rows below added body =
+      record {
+        group = record { title = titles; elements = body.parts };
+        rows_are = added ∙ ap (λ rs. titles ++ rs) body.rows_are;
+        level_is = leveled;
+        shows = body_shown below body;
+        free = free_but (trusted_texts groups) (plain_text rows) (text_free rows (subst (All IsFreeText) (sym added) (All-append IsFreeText titles below (free_title r.hyperlink title titled) (free_texts below body.free))));
+        links = ap links_of added ∙ flat_map-append (λ row. links_behind None row) titles below ∙ ap (λ urls. links_of titles ++ urls) (free_unlinked below body.free) ∙ append-nil (links_of titles) ∙ title_rows-links r.hyperlink title ∙ sym (links_of_report r title es groups of);
+      }
 
 -- the grid of a covered report is a page of it
-pub grid_of_report : (r : Renderer) (groups : List Group) (level : LevelInner) (title : Title) (cause : Option (Snippet Annotation)) → levels_of groups ≡ level ∷ [] → IsReportOf title cause groups → is_covered_renderer r ≡ true → is_covered_title title ≡ true → IfSome cause IsDrawable → (rows : List (List Cell)) → IsGridOf r.decor_style r.hyperlink r.term_width title cause rows → IsGridOfReport r groups level rows
-grid_of_report r groups level title None leveled of drawing titled drawable rows drawn =
-    let titles : List (List Cell) = title_rows r.hyperlink title in
-    record {
-      group = record { title = titles; elements = [] };
-      rows_are = drawn ∙ sym (append-nil titles);
-      level_is = leveled;
-      shows = bare_shown r groups title of titled;
-      free = free_but (trusted_texts groups) (plain_text rows) (text_free rows (subst (All IsFreeText) (sym drawn) (free_title r.hyperlink title titled)));
-      links = ap links_of drawn ∙ title_rows-links r.hyperlink title ∙ sym (links_of_report r title None groups of);
-    }
-grid_of_report r groups level title (Some s) leveled of drawing titled drawable rows drawn =
+pub grid_of_report : (r : Renderer) (groups : List Group) (level : LevelInner) (title : Title) (es : List Element) → levels_of groups ≡ level ∷ [] → IsReportOf title es groups → is_covered_renderer r ≡ true → is_covered_title title ≡ true → are_covered_elements es ≡ true → AreDrawable es → (rows : List (List Cell)) → IsGridOf r.decor_style r.hyperlink r.term_width title es rows → IsGridOfReport r groups level rows
+grid_of_report r groups level title [] leveled of drawing titled covered drawable rows drawn =
     let plain = numbers_shown r drawing in
-    let shown = report_shown r groups title s of plain titled drawable rows drawn in
-    let titles : List (List Cell) = title_rows r.hyperlink title in
-    let below = rows_below r groups title s of plain titled drawable rows drawn in
-    record {
-      group = shown.0;
-      rows_are = shown.1;
-      level_is = leveled;
-      shows = shown.2;
-      free = free_but (trusted_texts groups) (plain_text rows) (text_free rows (subst (All IsFreeText) (sym below.1) (All-append IsFreeText titles below.0 (free_title r.hyperlink title titled) (free_texts below.0 below.2))));
-      links = ap links_of below.1 ∙ flat_map-append (λ row. links_behind None row) titles below.0 ∙ ap (λ urls. links_of titles ++ urls) (free_unlinked below.0 below.2) ∙ append-nil (links_of titles) ∙ title_rows-links r.hyperlink title ∙ sym (links_of_report r title (Some s) groups of);
-    }
-
--- the snippet of a covered report can be drawn
-pub drawable_of_report : (title : Title) (cause : Option (Bor (Snippet Annotation))) (groups : List Group) → IsReportOf title (option_copied cause) groups → ReportFits groups → first_fault groups ≡ None → IfSome cause (λ s. IsDrawable s.now)
-drawable_of_report title None groups of fits faultless = tt
-drawable_of_report title (Some s) groups of fits faultless =
-    let texts = source-of_report title s.now groups of fits in
-    record {
-      source = texts.0;
-      numbers = numbers-of_report title s.now groups of faultless;
-      spans = spans-of_report title s.now groups of faultless;
-      labels = texts.2;
-    }
-
--- what is known of a snippet that is lent is known of it
-pub drawable_copied : (cause : Option (Bor (Snippet Annotation))) → IfSome cause (λ s. IsDrawable s.now) → IfSome (option_copied cause) IsDrawable
-drawable_copied None drawable = tt
-drawable_copied (Some s) drawable = drawable
+    let body = suggestions_body r plain [] refl drawable (some_snippet title.text of.group.elements) (title_rows r.hyperlink title) rows drawn in
+    grid_of_body r groups level title [] leveled of plain titled rows body.0 body.1 body.2
+grid_of_report r groups level title (Cause s ∷ []) leveled of drawing titled covered drawable rows drawn =
+    let plain = numbers_shown r drawing in
+    let body = cause_body r plain s drawable.0 (title_rows r.hyperlink title) rows drawn in
+    grid_of_body r groups level title (Cause s ∷ []) leveled of plain titled rows body.0 body.1 body.2
+grid_of_report r groups level title (Cause s ∷ e ∷ es) leveled of drawing titled covered drawable rows drawn = cc
+grid_of_report r groups level title (Suggestion s ∷ es) leveled of drawing titled covered drawable rows drawn =
+    let plain = numbers_shown r drawing in
+    let body = suggestions_body r plain (Suggestion s ∷ es) covered drawable s (title_rows r.hyperlink title) rows drawn in
+    grid_of_body r groups level title (Suggestion s ∷ es) leveled of plain titled rows body.0 body.1 body.2
+grid_of_report r groups level title (Message message ∷ es) leveled of drawing titled covered drawable rows drawn = cc
+grid_of_report r groups level title (Origin origin ∷ es) leveled of drawing titled covered drawable rows drawn = cc
+grid_of_report r groups level title (Padding padding ∷ es) leveled of drawing titled covered drawable rows drawn = cc
 
 -- what holds of the items of two lists, place by place, and what follows from it
 pub AllZip-weaker : {A B : Type 0} (P Q : A → B → Type 0) → ((x : A) (y : B) → P x y → Q x y) → (xs : List A) (ys : List B) → AllZip P xs ys → AllZip Q xs ys

@@ -1,5 +1,5 @@
 -- Where lines aren't cut on the left, nothing is dropped.
-use Rattle.std.proofs.Common.{◌≡◌, ℕ, zero, min, List, [], ◌∷◌, refl, arith}
+use Rattle.std.proofs.Common.{◌≡◌, ℕ, List, [], ◌∷◌, refl, arith}
 use Rattle.snippet_text.specs.Width.{width_of}
 use Rattle.snippet_parts.specs.Window.{reaching, window_left, dropped_part}
 

@@ -1,6 +1,6 @@
 -- What the page of a report shows.
 use Rattle.snippet_style.specs.Stylesheet.{is_plain_sheet}
-use Rattle.std.specs.Prelude.{◌≡◌, ◌⊎◌, ℕ, ◌+◌, ◌-◌, ◌<◌, ◌≤◌, ◌==◌, ◌&&◌, ◌||◌, nat_le, nat_lt, Bool, true, false, not, List, [], ◌∷◌, ◌++◌, All, Contains, Option, Some, None, IfSome, filter, is_none, length, map, take, drop, replicate, chars, codes, if◌then◌else◌, encode_utf8_all}
+use Rattle.std.specs.Prelude.{◌≡◌, ◌⊎◌, ℕ, ◌+◌, ◌-◌, ◌<◌, ◌≤◌, ◌==◌, ◌&&◌, nat_le, nat_lt, Bool, true, false, not, List, [], ◌∷◌, ◌++◌, All, Contains, Option, Some, None, IfSome, filter, is_none, length, map, take, drop, replicate, chars, codes, if◌then◌else◌, encode_utf8_all}
 use Rattle.std.specs.List.{AllZip, flat_map, count_by, slice_split, slice_index_or}
 use Rattle.std.specs.Option.{option_map, option_to_list}
 use Rattle.std.specs.Char.{is_ascii_alphanumeric}

@@ -214,7 +214,8 @@ impl Renderer {
             → result ≡ Err RenderError.NotYet }
 
         // The text prints a page that shows the report: its titles, each line on which a span begins or ends, once and in
-        // order, and the marks below them. Each listed character of the page is one of a trusted text.
+        // order, and the marks below them; and the lines of the patched source that suggestions offer, each that a patch
+        // touches among them. Each listed character of the page is one of a trusted text.
         ensures shows { IfOk result (λ text.
             ShowsReport self.now groups.now self.now.stylesheet (string_bytes text)) }
 

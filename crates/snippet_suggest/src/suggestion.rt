@@ -202,7 +202,7 @@ fn trimmed_span(source: &SourceMap<'_>, patches: &[TrimmedPatch<'_>]) -> Range<u
     match patches {
         [] => 0..source.source().len(),
         [only] => only.span.start..only.span.end,
-        // Patches that stand apart start in front of the end of the last.
+        // The patches stand apart, so the first starts in front of the end of the last.
         [first, .., last] => first.span.start.min(last.span.end)..last.span.end,
     }
 }
