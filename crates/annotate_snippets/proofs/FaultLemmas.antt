@@ -23,7 +23,7 @@ use Rattle.annotate_snippets.specs.Covered.{IsReportOf, are_covered_elements}
 use Rattle.annotate_snippets.specs.Drawn.{AreDrawable, IsDrawable}
 use Rattle.annotate_snippets.proofs.DisjointLemmas.{first_overlap-clear}
 use Rattle.snippet_suggest.proofs.NumberLaws.{numbers-bound}
-use Rattle.snippet_model.specs.Fits.{ReportFits, GroupFits, ElementFits, SnippetFits, AnnotationFits, TitleFits}
+use Rattle.snippet_model.specs.Fits.{ReportFits, GroupFits, ElementFits, TitleFits}
 use Rattle.snippet_model.specs.declared.snippet.Title.{Title}
 use Rattle.annotate_snippets.specs.declared.renderer.error.RenderError.TheVariants.{PatchesOverlap, LineNumberTooLarge}
 use Rattle.annotate_snippets.specs.declared.renderer.error.RenderError.{RenderError}

@@ -7,19 +7,14 @@ use Rattle.std.proofs.lemmas.Bool.{and_parts}
 use Rattle.std.proofs.lemmas.Bool.Decides.{nat_tests}
 use Rattle.std.proofs.lemmas.List.{take_more}
 use Rattle.std.proofs.lemmas.List.Elements.{filter_map-append}
-use Rattle.snippet_model.specs.declared.snippet.Annotation.{Annotation}
 use Rattle.snippet_model.specs.declared.snippet.Element.{Element}
 use Rattle.snippet_model.specs.declared.snippet.Element.TheVariants.{Message, Cause, Suggestion, Origin, Padding}
 use Rattle.snippet_model.specs.declared.snippet.Patch.{Patch}
 use Rattle.snippet_model.specs.declared.snippet.Snippet.{Snippet}
-use Rattle.snippet_model.specs.declared.snippet.Title.{Title}
-use Rattle.snippet_style.specs.Grid.{Cell}
-use Rattle.snippet_style.specs.declared.glyphs.DecorStyle.{DecorStyle}
-use Rattle.snippet_titles.specs.Title.{title_rows}
 use Rattle.snippet_suggest.specs.Given.{counted_line}
 use Rattle.snippet_suggest.specs.Prepared.{IsSuggestible}
-use Rattle.annotate_snippets.specs.Covered.{are_covered_elements, is_covered_suggestion}
-use Rattle.annotate_snippets.specs.Drawn.{AddsSuggestions, AreDrawable, IsGridOf, gutter_of_suggestions, suggested, suggestion_of}
+use Rattle.annotate_snippets.specs.Covered.{is_covered_suggestion}
+use Rattle.annotate_snippets.specs.Drawn.{AreDrawable, gutter_of_suggestions, suggested, suggestion_of}
 use Rattle.annotate_snippets.specs.Gutter.{depth_of_element, gutter_of_element, gutter_of_suggestion}
 
 -- an element that isn't a snippet of patches isn't one of the suggestions
