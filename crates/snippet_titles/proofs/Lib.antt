@@ -1,6 +1,14 @@
+pub mod DigitLemmas
+pub mod FileRowLemmas
 pub mod FreeLemmas
+pub mod HeadLemmas
 pub mod LineLemmas
 pub mod LinkLemmas
+pub mod OriginExamples
+pub mod OriginFree
+pub mod OriginNumbers
+pub mod OriginRowText
+pub mod OriginText
 pub mod PlaceLemmas
 pub mod RowLemmas
 pub mod SplitLemmas

@@ -1,0 +1,92 @@
+-- What a grid becomes where a row is begun with a glyph behind the gutter.
+use Rattle.std.proofs.Common.{◌≡◌, ℕ, ◌+◌, ◌<◌, ◌≤◌, List, [], ◌∷◌, ◌++◌, length, replicate, codes, chars, refl, ap, ◌∙◌, arith}
+use Rattle.std.proofs.lemmas.List.{places, same_lists}
+use Rattle.std.proofs.lemmas.Str.{chars-encodes}
+use Rattle.snippet_style.specs.declared.glyphs.DecorStyle.{DecorStyle}
+use Rattle.snippet_style.specs.declared.glyphs.DecorStyle.TheVariants.{Ascii, Unicode}
+use Rattle.snippet_style.specs.declared.role.ElementStyle.TheVariants.{LineAndColumn, LineNumber}
+use Rattle.snippet_style.specs.Glyphs.{closing_of, separator_of}
+use Rattle.snippet_style.specs.Grid.{Cell, SPACE, drawn, row_at, written, cells_written}
+use Rattle.snippet_style.proofs.GridLemmas.{length-chars_le, cells_written_below}
+use Rattle.snippet_titles.specs.declared.origin.FileStart.{FileStart}
+use Rattle.snippet_titles.specs.declared.origin.FileStart.TheVariants.{Alone, First, Later, Secondary}
+use Rattle.snippet_titles.specs.declared.origin.NamedPlace.{NamedPlace}
+use Rattle.snippet_titles.specs.declared.origin.OriginLayout.{OriginLayout}
+use Rattle.snippet_titles.specs.Origin.{file_glyph, file_row, origin_row, origin_text, separator_row, closing_row}
+use Rattle.snippet_titles.proofs.RowLemmas.{extended, extended_from, length-begun}
+
+-- the glyphs that only the rows of paths have, as characters
+pub chars-alone : chars (32 ∷ 226 ∷ 148 ∷ 128 ∷ 226 ∷ 150 ∷ 184 ∷ 32 ∷ []) ≡ codes " ─▸ "
+unfolding lib.Utf8.encode
+chars-alone = chars-encodes (codes " ─▸ ") refl
+
+pub chars-colons : chars (58 ∷ 58 ∷ 58 ∷ 32 ∷ []) ≡ codes "::: "
+unfolding lib.Utf8.encode
+chars-colons = chars-encodes (codes "::: ") refl
+
+pub chars-dots : chars (32 ∷ 226 ∷ 184 ∷ 172 ∷ 32 ∷ 32 ∷ []) ≡ codes " ⸬  "
+unfolding lib.Utf8.encode
+chars-dots = chars-encodes (codes " ⸬  ") refl
+
+-- no glyph is empty
+pub file_glyph-some : (start : FileStart) (decor : DecorStyle) → 0 < length (file_glyph start decor)
+file_glyph-some Alone Ascii = omega arith
+file_glyph-some Alone Unicode = omega arith
+file_glyph-some First Ascii = omega arith
+file_glyph-some First Unicode = omega arith
+file_glyph-some Later Ascii = omega arith
+file_glyph-some Later Unicode = omega arith
+file_glyph-some Secondary Ascii = omega arith
+file_glyph-some Secondary Unicode = omega arith
+
+closing-some : (decor : DecorStyle) → 0 < length (closing_of decor)
+closing-some Ascii = omega arith
+closing-some Unicode = omega arith
+
+-- each glyph has at most four characters
+pub file_glyph-short : (start : FileStart) (decor : DecorStyle) → length (file_glyph start decor) ≤ 4
+file_glyph-short Alone Ascii = omega arith
+file_glyph-short Alone Unicode = omega arith
+file_glyph-short First Ascii = omega arith
+file_glyph-short First Unicode = omega arith
+file_glyph-short Later Ascii = omega arith
+file_glyph-short Later Unicode = omega arith
+file_glyph-short Secondary Ascii = omega arith
+file_glyph-short Secondary Unicode = omega arith
+
+-- writing into an empty row
+written-nil : (at : ℕ) (cells : List Cell) → written SPACE [] at cells ≡ replicate at SPACE ++ cells
+written-nil at cells =
+    same_lists _ _ (unfold written in grind (arith, places)) (λ k d h. unfold written in grind (arith, places))
+
+-- a row that is begun by some cells alone
+begun_by : (old new : List (List Cell)) (row at : ℕ) (cells : List Cell) → row ≡ length old → new ≡ cells_written old row at cells → new ≡ old ++ (replicate at SPACE ++ cells) ∷ []
+begun_by old new row at cells below writes =
+    writes ∙ ap (λ r. cells_written old r at cells) below ∙ cells_written_below old at cells ∙ ap (λ r. old ++ r ∷ []) (written-nil at cells)
+
+-- a row that is begun by a text
+begun_by_text : (old new : List (List Cell)) (row at : ℕ) (text glyph : List ℕ) → row ≡ length old → chars text ≡ glyph → 0 < length glyph → (0 < length text → new ≡ cells_written old row at (drawn LineNumber (chars text))) → new ≡ old ++ (replicate at SPACE ++ drawn LineNumber glyph) ∷ []
+begun_by_text old new row at text glyph below is some writes =
+    begun_by old new row at (drawn LineNumber glyph) below (writes (omega (arith, length-chars_le text, ap length is, some)) ∙ ap (λ cs. cells_written old row at (drawn LineNumber cs)) is)
+
+-- the row that leads to a file
+pub file_row-begun : (old new : List (List Cell)) (row : ℕ) (text : List ℕ) (layout : OriginLayout) (start : FileStart) → row ≡ length old → chars text ≡ file_glyph start layout.decor → (0 < length text → new ≡ cells_written old row layout.gutter (drawn LineNumber (chars text))) → new ≡ old ++ file_row layout start ∷ []
+unfolding file_row
+file_row-begun old new row text layout start below is writes =
+    begun_by_text old new row layout.gutter text (file_glyph start layout.decor) below is (file_glyph-some start layout.decor) writes
+
+-- the closing row
+pub closing_row-begun : (old new : List (List Cell)) (row gutter : ℕ) (text : List ℕ) (decor : DecorStyle) → row ≡ length old → chars text ≡ closing_of decor → (0 < length text → new ≡ cells_written old row (gutter + 1) (drawn LineNumber (chars text))) → new ≡ old ++ closing_row decor gutter ∷ []
+closing_row-begun old new row gutter text decor below is writes =
+    begun_by_text old new row (gutter + 1) text (closing_of decor) below is (closing-some decor) writes
+
+-- the separator row
+pub separator_row-begun : (old new : List (List Cell)) (row gutter stroke : ℕ) (decor : DecorStyle) → row ≡ length old → stroke ≡ separator_of decor → new ≡ cells_written old row (gutter + 1) (drawn LineNumber (stroke ∷ [])) → new ≡ old ++ separator_row decor gutter ∷ []
+separator_row-begun old new row gutter stroke decor below is writes =
+    begun_by old new row (gutter + 1) (drawn LineNumber (separator_of decor ∷ [])) below (writes ∙ ap (λ s. cells_written old row (gutter + 1) (drawn LineNumber (s ∷ []))) is)
+
+-- the row of a path: the row that leads to it, with the text behind that
+pub origin_row-begun : (old now new : List (List Cell)) (row : ℕ) (text path : List ℕ) (layout : OriginLayout) (start : FileStart) (place : NamedPlace) → row ≡ length old → now ≡ old ++ file_row layout start ∷ [] → chars text ≡ origin_text layout.anonymized path place → (0 < length text → new ≡ cells_written now row (length (row_at now row)) (drawn LineAndColumn (chars text))) → (text ≡ [] → new ≡ now) → new ≡ old ++ origin_row layout start path place ∷ []
+unfolding origin_row
+origin_row-begun old now new row text path layout start place below begun is full empty =
+    extended_from old now new row (file_row layout start) (drawn LineAndColumn (chars text)) below begun (extended now new row LineAndColumn text (length-begun old now row (file_row layout start) below begun) full empty) ∙ ap (λ cs. old ++ (file_row layout start ++ drawn LineAndColumn cs) ∷ []) is

@@ -1,0 +1,31 @@
+-- What holds of the rows of paths, and of separator rows, holds of each row that a snippet begins with.
+use Rattle.std.proofs.Common.{ℕ, Bool, true, false, List, [], ◌∷◌, All}
+use Rattle.std.proofs.lemmas.List.Elements.{All-nil, All-cons}
+use Rattle.snippet_style.specs.Grid.{Cell}
+use Rattle.snippet_titles.specs.declared.origin.FileStart.{FileStart}
+use Rattle.snippet_titles.specs.declared.origin.FileStart.TheVariants.{First, Later, Secondary}
+use Rattle.snippet_titles.specs.declared.origin.NamedPlace.{NamedPlace}
+use Rattle.snippet_titles.specs.declared.origin.OriginLayout.{OriginLayout}
+use Rattle.snippet_titles.specs.Origin.{file_row, origin_row, separator_row, primary_head, secondary_head, nameless_head}
+
+module _ (P : List Cell → Type 0) (layout : OriginLayout) (separator : P (separator_row layout.decor layout.gutter)) where
+  -- a separator row behind others
+  ends : All P (separator_row layout.decor layout.gutter ∷ [])
+  ends = All-cons P (separator_row layout.decor layout.gutter) [] separator (All-nil P)
+
+  -- the head of a snippet without a path
+  pub nameless_head-each : P (file_row layout Secondary) → All P (nameless_head layout)
+  nameless_head-each file =
+      All-cons P (separator_row layout.decor layout.gutter) (file_row layout Secondary ∷ []) separator (All-cons P (file_row layout Secondary) [] file (All-nil P))
+
+  -- those of snippets with a path
+  module _ (path : List ℕ) (place : NamedPlace) (origin : (start : FileStart) → P (origin_row layout start path place)) where
+    pub primary_head-each : (first : Bool) → All P (primary_head layout first path place)
+    primary_head-each true =
+        All-cons P (origin_row layout First path place) (separator_row layout.decor layout.gutter ∷ []) (origin First) ends
+    primary_head-each false =
+        All-cons P (origin_row layout Later path place) (separator_row layout.decor layout.gutter ∷ []) (origin Later) ends
+
+    pub secondary_head-each : All P (secondary_head layout path place)
+    secondary_head-each =
+        All-cons P (separator_row layout.decor layout.gutter) (origin_row layout Secondary path place ∷ separator_row layout.decor layout.gutter ∷ []) separator (All-cons P (origin_row layout Secondary path place) (separator_row layout.decor layout.gutter ∷ []) (origin Secondary) ends)

@@ -1,0 +1,112 @@
+-- No row of a path, and none that sets others off, holds a listed character or a link.
+use Rattle.std.proofs.Common.{◌≡◌, ℕ, ◌+◌, Bool, true, false, None, List, [], ◌∷◌, ◌++◌, All, replicate, chars, refl, arith}
+use Rattle.std.specs.List.{list_any}
+use Rattle.std.proofs.lemmas.Bool.Decides.{nat_tests}
+use Rattle.std.proofs.lemmas.List.Elements.{All-nil, All-cons, All-append, All-replicate, All-weaker}
+use Rattle.snippet_style.specs.declared.glyphs.DecorStyle.{DecorStyle}
+use Rattle.snippet_style.specs.declared.glyphs.DecorStyle.TheVariants.{Ascii, Unicode}
+use Rattle.snippet_style.specs.declared.role.ElementStyle.{ElementStyle}
+use Rattle.snippet_style.specs.declared.role.ElementStyle.TheVariants.{LineAndColumn, LineNumber}
+use Rattle.snippet_style.specs.Glyphs.{closing_of, separator_of}
+use Rattle.snippet_style.specs.Grid.{Cell, SPACE, drawn, unlinked_cell}
+use Rattle.snippet_style.proofs.GridLemmas.{All-drawn}
+use Rattle.snippet_text.specs.Normalized.{norm, is_listed}
+use Rattle.snippet_text.proofs.NormLemmas.{list_any-norm}
+use Rattle.snippet_titles.specs.declared.origin.FileStart.{FileStart}
+use Rattle.snippet_titles.specs.declared.origin.FileStart.TheVariants.{Alone, First, Later, Secondary}
+use Rattle.snippet_titles.specs.declared.origin.NamedPlace.{NamedPlace}
+use Rattle.snippet_titles.specs.declared.origin.OriginLayout.{OriginLayout}
+use Rattle.snippet_titles.specs.Origin.{file_glyph, file_row, origin_row, origin_text, place_text, separator_row, closing_row, padding_row, primary_head, secondary_head, nameless_head}
+use Rattle.snippet_titles.proofs.DigitLemmas.{IsDigit}
+use Rattle.snippet_titles.proofs.OriginText.{place_text-each}
+use Rattle.snippet_titles.proofs.HeadLemmas.{primary_head-each, secondary_head-each, nameless_head-each}
+
+-- a cell that holds no listed character and belongs to no link, and a row of such cells
+abbrev pub IsFreeCell : Cell → Type 0
+IsFreeCell cell = (is_listed cell.ch ≡ false) × (cell.link ≡ None)
+
+abbrev pub IsFree : List Cell → Type 0
+IsFree row = All IsFreeCell row
+
+-- where no element passes a test, each fails it
+pub each-fails : (p : ℕ → Bool) (xs : List ℕ) → list_any p xs ≡ false → All (λ x. p x ≡ false) xs
+each-fails p [] none = All-nil (λ x. p x ≡ false)
+each-fails p (x ∷ xs) none =
+    let first : p x ≡ false = grind (arith, none) in
+    let later : list_any p xs ≡ false = grind (arith, none) in
+    All-cons (λ y. p y ≡ false) x xs first (each-fails p xs later)
+
+-- no glyph is a listed character
+glyphs-unlisted : (start : FileStart) (decor : DecorStyle) → list_any is_listed (file_glyph start decor) ≡ false
+glyphs-unlisted Alone Ascii = refl
+glyphs-unlisted Alone Unicode = refl
+glyphs-unlisted First Ascii = refl
+glyphs-unlisted First Unicode = refl
+glyphs-unlisted Later Ascii = refl
+glyphs-unlisted Later Unicode = refl
+glyphs-unlisted Secondary Ascii = refl
+glyphs-unlisted Secondary Unicode = refl
+
+closing-unlisted : (decor : DecorStyle) → list_any is_listed (closing_of decor) ≡ false
+closing-unlisted Ascii = refl
+closing-unlisted Unicode = refl
+
+separator-unlisted : (decor : DecorStyle) → list_any is_listed (separator_of decor ∷ []) ≡ false
+separator-unlisted Ascii = refl
+separator-unlisted Unicode = refl
+
+-- cells drawn of characters that aren't listed are free, behind spaces too
+drawn-free : (role : ElementStyle) (cs : List ℕ) → All (λ c. is_listed c ≡ false) cs → IsFree (drawn role cs)
+drawn-free role cs free =
+    All-drawn IsFreeCell role cs (All-weaker (λ c. is_listed c ≡ false) (λ c. IsFreeCell (unlinked_cell role c)) (λ c is. (is, refl)) cs free)
+
+behind_spaces-free : (n : ℕ) (role : ElementStyle) (cs : List ℕ) → list_any is_listed cs ≡ false → IsFree (replicate n SPACE ++ drawn role cs)
+behind_spaces-free n role cs none =
+    All-append IsFreeCell (replicate n SPACE) (drawn role cs) (All-replicate IsFreeCell n SPACE (refl, refl)) (drawn-free role cs (each-fails is_listed cs none))
+
+-- the rows that set others off are free
+pub separator_row-free : (decor : DecorStyle) (gutter : ℕ) → IsFree (separator_row decor gutter)
+separator_row-free decor gutter =
+    behind_spaces-free (gutter + 1) LineNumber (separator_of decor ∷ []) (separator-unlisted decor)
+
+pub closing_row-free : (decor : DecorStyle) (gutter : ℕ) → IsFree (closing_row decor gutter)
+closing_row-free decor gutter =
+    behind_spaces-free (gutter + 1) LineNumber (closing_of decor) (closing-unlisted decor)
+
+pub padding_row-free : (decor : DecorStyle) (gutter : ℕ) (last : Bool) → IsFree (padding_row decor gutter last)
+padding_row-free decor gutter true = closing_row-free decor gutter
+padding_row-free decor gutter false = separator_row-free decor gutter
+
+-- so are those that lead to a file, and those of paths
+pub file_row-free : (layout : OriginLayout) (start : FileStart) → IsFree (file_row layout start)
+unfolding file_row
+file_row-free layout start =
+    behind_spaces-free layout.gutter LineNumber (file_glyph start layout.decor) (glyphs-unlisted start layout.decor)
+
+digit-unlisted : (c : ℕ) → IsDigit c → is_listed c ≡ false
+digit-unlisted c is = grind (arith, nat_tests)
+
+origin_text-free : (anonymized : Bool) (path : List ℕ) (place : NamedPlace) → All (λ c. is_listed c ≡ false) (origin_text anonymized path place)
+unfolding origin_text
+origin_text-free anonymized path place =
+    let P : ℕ → Type 0 = λ c. is_listed c ≡ false in
+    All-append P (norm (chars path)) (place_text anonymized place) (each-fails is_listed (norm (chars path)) (list_any-norm (chars path))) (place_text-each P digit-unlisted refl refl anonymized place)
+
+pub origin_row-free : (layout : OriginLayout) (start : FileStart) (path : List ℕ) (place : NamedPlace) → IsFree (origin_row layout start path place)
+unfolding origin_row
+origin_row-free layout start path place =
+    let text : List ℕ = origin_text layout.anonymized path place in
+    All-append IsFreeCell (file_row layout start) (drawn LineAndColumn text) (file_row-free layout start) (drawn-free LineAndColumn text (origin_text-free layout.anonymized path place))
+
+-- and so are the heads of snippets
+pub primary_head-free : (layout : OriginLayout) (first : Bool) (path : List ℕ) (place : NamedPlace) → All IsFree (primary_head layout first path place)
+primary_head-free layout first path place =
+    primary_head-each IsFree layout (separator_row-free layout.decor layout.gutter) path place (λ start. origin_row-free layout start path place) first
+
+pub secondary_head-free : (layout : OriginLayout) (path : List ℕ) (place : NamedPlace) → All IsFree (secondary_head layout path place)
+secondary_head-free layout path place =
+    secondary_head-each IsFree layout (separator_row-free layout.decor layout.gutter) path place (λ start. origin_row-free layout start path place)
+
+pub nameless_head-free : (layout : OriginLayout) → All IsFree (nameless_head layout)
+nameless_head-free layout =
+    nameless_head-each IsFree layout (separator_row-free layout.decor layout.gutter) (file_row-free layout Secondary)

@@ -1,0 +1,100 @@
+-- No row of a path, and none that sets others off, can be taken for a line's: none begins with a number.
+use Rattle.std.proofs.Common.{◌≡◌, ℕ, ◌+◌, ◌<◌, ◌≤◌, Bool, true, false, List, [], ◌∷◌, ◌++◌, All, length, replicate, refl, ap, ◌∙◌, arith}
+use Rattle.std.specs.Char.{is_ascii_alphanumeric}
+use Rattle.std.specs.List.{list_any, slice_index_or}
+use Rattle.std.proofs.lemmas.List.{length-append, length-replicate, get_or_append_left}
+use Rattle.std.proofs.lemmas.List.Elements.{All-append, All-replicate, All-get_or}
+use Rattle.snippet_style.specs.declared.glyphs.DecorStyle.{DecorStyle}
+use Rattle.snippet_style.specs.declared.glyphs.DecorStyle.TheVariants.{Ascii, Unicode}
+use Rattle.snippet_style.specs.declared.role.ElementStyle.TheVariants.{LineAndColumn, LineNumber}
+use Rattle.snippet_style.specs.Glyphs.{closing_of, separator_of}
+use Rattle.snippet_style.specs.Grid.{Cell, SPACE, drawn}
+use Rattle.snippet_style.proofs.GridLemmas.{All-drawn, length-drawn}
+use Rattle.snippet_titles.specs.declared.origin.FileStart.{FileStart}
+use Rattle.snippet_titles.specs.declared.origin.FileStart.TheVariants.{Alone, First, Later, Secondary}
+use Rattle.snippet_titles.specs.declared.origin.NamedPlace.{NamedPlace}
+use Rattle.snippet_titles.specs.declared.origin.OriginLayout.{OriginLayout}
+use Rattle.snippet_titles.specs.Origin.{file_glyph, file_row, origin_row, origin_text, separator_row, closing_row, padding_row, primary_head, secondary_head, nameless_head}
+use Rattle.snippet_titles.proofs.HeadLemmas.{primary_head-each, secondary_head-each, nameless_head-each}
+use Rattle.snippet_titles.proofs.FileRowLemmas.{file_glyph-some}
+use Rattle.snippet_titles.proofs.OriginFree.{each-fails}
+
+-- a row none of whose cells up to the one before the separator holds an ASCII letter or digit
+abbrev pub HasNoNumber : ℕ → List Cell → Type 0
+HasNoNumber gutter row =
+    (c : ℕ) → c ≤ gutter → is_ascii_alphanumeric (slice_index_or row c SPACE).ch ≡ false
+
+-- no glyph is a letter or a digit
+glyphs-unnumbered : (start : FileStart) (decor : DecorStyle) → list_any is_ascii_alphanumeric (file_glyph start decor) ≡ false
+glyphs-unnumbered Alone Ascii = refl
+glyphs-unnumbered Alone Unicode = refl
+glyphs-unnumbered First Ascii = refl
+glyphs-unnumbered First Unicode = refl
+glyphs-unnumbered Later Ascii = refl
+glyphs-unnumbered Later Unicode = refl
+glyphs-unnumbered Secondary Ascii = refl
+glyphs-unnumbered Secondary Unicode = refl
+
+-- cells that hold no letter or digit and reach past the gutter, with others behind them
+abbrev IsPlain : Cell → Type 0
+IsPlain cell = is_ascii_alphanumeric cell.ch ≡ false
+
+front-unnumbered : (gutter : ℕ) (front others : List Cell) → gutter < length front → All IsPlain front → HasNoNumber gutter (front ++ others)
+front-unnumbered gutter front others long plain c within =
+    let inside : c < length front = omega (arith, within, long) in
+    ap (λ (cell : Cell). is_ascii_alphanumeric cell.ch) (get_or_append_left front others SPACE c inside) ∙ All-get_or IsPlain front c SPACE inside plain
+
+spaces-plain : (n : ℕ) → All IsPlain (replicate n SPACE)
+spaces-plain n = All-replicate IsPlain n SPACE refl
+
+-- no number stands in the rows that set others off
+behind_spaces-unnumbered : (gutter : ℕ) (others : List Cell) → HasNoNumber gutter (replicate (gutter + 1) SPACE ++ others)
+behind_spaces-unnumbered gutter others =
+    front-unnumbered gutter (replicate (gutter + 1) SPACE) others (omega (arith, length-replicate (gutter + 1) SPACE)) (spaces-plain (gutter + 1))
+
+pub separator_row-unnumbered : (decor : DecorStyle) (gutter : ℕ) → HasNoNumber gutter (separator_row decor gutter)
+separator_row-unnumbered decor gutter =
+    behind_spaces-unnumbered gutter (drawn LineNumber (separator_of decor ∷ []))
+
+pub closing_row-unnumbered : (decor : DecorStyle) (gutter : ℕ) → HasNoNumber gutter (closing_row decor gutter)
+closing_row-unnumbered decor gutter =
+    behind_spaces-unnumbered gutter (drawn LineNumber (closing_of decor))
+
+pub padding_row-unnumbered : (decor : DecorStyle) (gutter : ℕ) (last : Bool) → HasNoNumber gutter (padding_row decor gutter last)
+padding_row-unnumbered decor gutter true = closing_row-unnumbered decor gutter
+padding_row-unnumbered decor gutter false = separator_row-unnumbered decor gutter
+
+-- nor in those that lead to a file, and those of paths
+file_row-long : (layout : OriginLayout) (start : FileStart) → layout.gutter < length (file_row layout start)
+unfolding file_row
+file_row-long layout start =
+    let glyph : List ℕ = file_glyph start layout.decor in
+    omega (arith, length-append (replicate layout.gutter SPACE) (drawn LineNumber glyph), length-replicate layout.gutter SPACE, length-drawn LineNumber glyph, file_glyph-some start layout.decor)
+
+file_row-plain : (layout : OriginLayout) (start : FileStart) → All IsPlain (file_row layout start)
+unfolding file_row
+file_row-plain layout start =
+    let glyph : List ℕ = file_glyph start layout.decor in
+    All-append IsPlain (replicate layout.gutter SPACE) (drawn LineNumber glyph) (spaces-plain layout.gutter) (All-drawn IsPlain LineNumber glyph (each-fails is_ascii_alphanumeric glyph (glyphs-unnumbered start layout.decor)))
+
+pub origin_row-unnumbered : (layout : OriginLayout) (start : FileStart) (path : List ℕ) (place : NamedPlace) → HasNoNumber layout.gutter (origin_row layout start path place)
+unfolding origin_row
+origin_row-unnumbered layout start path place =
+    front-unnumbered layout.gutter (file_row layout start) (drawn LineAndColumn (origin_text layout.anonymized path place)) (file_row-long layout start) (file_row-plain layout start)
+
+pub file_row-unnumbered : (layout : OriginLayout) (start : FileStart) → HasNoNumber layout.gutter (file_row layout start)
+file_row-unnumbered layout start c within =
+    All-get_or IsPlain (file_row layout start) c SPACE (omega (arith, within, file_row-long layout start)) (file_row-plain layout start)
+
+-- nor in the heads of snippets
+pub primary_head-unnumbered : (layout : OriginLayout) (first : Bool) (path : List ℕ) (place : NamedPlace) → All (HasNoNumber layout.gutter) (primary_head layout first path place)
+primary_head-unnumbered layout first path place =
+    primary_head-each (HasNoNumber layout.gutter) layout (separator_row-unnumbered layout.decor layout.gutter) path place (λ start. origin_row-unnumbered layout start path place) first
+
+pub secondary_head-unnumbered : (layout : OriginLayout) (path : List ℕ) (place : NamedPlace) → All (HasNoNumber layout.gutter) (secondary_head layout path place)
+secondary_head-unnumbered layout path place =
+    secondary_head-each (HasNoNumber layout.gutter) layout (separator_row-unnumbered layout.decor layout.gutter) path place (λ start. origin_row-unnumbered layout start path place)
+
+pub nameless_head-unnumbered : (layout : OriginLayout) → All (HasNoNumber layout.gutter) (nameless_head layout)
+nameless_head-unnumbered layout =
+    nameless_head-each (HasNoNumber layout.gutter) layout (separator_row-unnumbered layout.decor layout.gutter) (file_row-unnumbered layout Secondary)

@@ -1,0 +1,43 @@
+-- The characters of a path and of the place behind it.
+use Rattle.std.proofs.Common.{◌≡◌, ℕ, ◌<◌, Bool, true, false, Option, None, Some, List, [], ◌∷◌, ◌++◌, All, chars, codes, ap, ◌∙◌, arith}
+use Rattle.std.specs.Fmt.{decimal}
+use Rattle.std.specs.Str.{IsUtf8}
+use Rattle.std.proofs.lemmas.List.Elements.{All-nil, All-cons, All-append, All-weaker}
+use Rattle.std.proofs.lemmas.Str.{chars-append, chars-IsAscii}
+use Rattle.std.proofs.lemmas.Str.Ascii.{IsAscii-from_all}
+use Rattle.snippet_text.specs.Normalized.{norm}
+use Rattle.snippet_titles.specs.declared.origin.NamedPlace.{NamedPlace}
+use Rattle.snippet_titles.specs.Origin.{line_name, column_text, line_text, place_text, origin_text}
+use Rattle.snippet_titles.proofs.DigitLemmas.{IsDigit, decimal-all}
+
+-- a fact that holds of the digits, of a colon and of an L holds of each character behind a path
+module _ (P : ℕ → Type 0) (digit : (c : ℕ) → IsDigit c → P c) (colon : P 58) (letter : P 76) where
+  decimal-each : (n : ℕ) → All P (decimal n)
+  decimal-each n = All-weaker IsDigit P digit (decimal n) (decimal-all n)
+
+  line_name-each : (anonymized : Bool) (line : ℕ) → All P (line_name anonymized line)
+  line_name-each true line = All-cons P 76 (76 ∷ []) letter (All-cons P 76 [] letter (All-nil P))
+  line_name-each false line = decimal-each line
+
+  column_text-each : (column : Option ℕ) → All P (column_text column)
+  column_text-each None = All-nil P
+  column_text-each (Some column) = All-cons P 58 (decimal column) colon (decimal-each column)
+
+  line_text-each : (anonymized : Bool) (line column : Option ℕ) → All P (line_text anonymized line column)
+  line_text-each anonymized None column = All-nil P
+  line_text-each anonymized (Some line) column =
+      All-append P (codes ":" ++ line_name anonymized line) (column_text column) (All-cons P 58 (line_name anonymized line) colon (line_name-each anonymized line)) (column_text-each column)
+
+  pub place_text-each : (anonymized : Bool) (place : NamedPlace) → All P (place_text anonymized place)
+  place_text-each anonymized place = line_text-each anonymized place.line place.column
+
+-- they are their own bytes
+place_text-chars : (anonymized : Bool) (place : NamedPlace) → chars (place_text anonymized place) ≡ place_text anonymized place
+place_text-chars anonymized place =
+    chars-IsAscii (place_text anonymized place) (IsAscii-from_all (place_text anonymized place) (place_text-each (λ c. c < 128) (λ c is. omega (arith, is.1)) (omega arith) (omega arith) anonymized place))
+
+-- a normalised path, and the place added to it
+pub origin_text-added : (path before after : List ℕ) (anonymized : Bool) (place : NamedPlace) → IsUtf8 before → chars before ≡ norm (chars path) → after ≡ before ++ place_text anonymized place → chars after ≡ origin_text anonymized path place
+unfolding origin_text
+origin_text-added path before after anonymized place utf8 shown added =
+    ap chars added ∙ chars-append before (place_text anonymized place) utf8 ∙ ap (λ cs. cs ++ chars (place_text anonymized place)) shown ∙ ap (λ cs. norm (chars path) ++ cs) (place_text-chars anonymized place)

@@ -1,0 +1,83 @@
+-- The rows of a path: what leads from the gutter to it, the path with the place behind it, and the rows that set it off.
+use Rattle.std.specs.Prelude.{ℕ, ◌+◌, Bool, true, false, Option, None, Some, List, [], ◌∷◌, ◌++◌, chars, codes, replicate, if◌then◌else◌}
+use Rattle.std.specs.Fmt.{decimal}
+use Rattle.snippet_style.specs.declared.glyphs.DecorStyle.{DecorStyle}
+use Rattle.snippet_style.specs.declared.glyphs.DecorStyle.TheVariants.{Ascii, Unicode}
+use Rattle.snippet_style.specs.declared.role.ElementStyle.TheVariants.{LineAndColumn, LineNumber}
+use Rattle.snippet_style.specs.Glyphs.{closing_of, file_start_of, separator_of}
+use Rattle.snippet_style.specs.Grid.{Cell, SPACE, drawn}
+use Rattle.snippet_text.specs.Normalized.{norm}
+use Rattle.snippet_titles.specs.declared.origin.FileStart.{FileStart}
+use Rattle.snippet_titles.specs.declared.origin.FileStart.TheVariants.{Alone, First, Later, Secondary}
+use Rattle.snippet_titles.specs.declared.origin.NamedPlace.{NamedPlace}
+use Rattle.snippet_titles.specs.declared.origin.OriginLayout.{OriginLayout}
+
+-- how a line is named behind a path: by its number, or as `LL` where the lines of paths are anonymized
+abbrev pub line_name : Bool → ℕ → List ℕ
+line_name true line = codes "LL"
+line_name false line = decimal line
+
+-- a colon and the column, where there is one
+abbrev pub column_text : Option ℕ → List ℕ
+column_text None = []
+column_text (Some column) = codes ":" ++ decimal column
+
+-- what stands behind a path: a colon and the line, and behind these the column; nothing where there is no line
+abbrev pub line_text : Bool → Option ℕ → Option ℕ → List ℕ
+line_text anonymized None column = []
+line_text anonymized (Some line) column = codes ":" ++ line_name anonymized line ++ column_text column
+
+abbrev pub place_text : Bool → NamedPlace → List ℕ
+place_text anonymized place = line_text anonymized place.line place.column
+
+-- a path, normalised, with the place behind it
+unfoldable pub origin_text : Bool → List ℕ → NamedPlace → List ℕ
+origin_text anonymized path place = norm (chars path) ++ place_text anonymized place
+
+-- what leads from the gutter to a path: '--> ', or '::: ' to any but the group's primary file. In Unicode ' ─▸ ' where the
+-- path is all that the group shows, ' ╭▸ ' where it is of the first element, ' ├▸ ' of a later one, and ' ⸬  ' to any but
+-- the primary file
+abbrev pub file_glyph : FileStart → DecorStyle → List ℕ
+file_glyph Alone Ascii = codes "--> "
+file_glyph Alone Unicode = codes " ─▸ "
+file_glyph First decor = file_start_of decor true
+file_glyph Later decor = file_start_of decor false
+file_glyph Secondary Ascii = codes "::: "
+file_glyph Secondary Unicode = codes " ⸬  "
+
+-- a row that leads to a file without naming it: the gutter is empty, and the glyph stands from cell `gutter` on
+unfoldable pub file_row : OriginLayout → FileStart → List Cell
+file_row layout start =
+    replicate layout.gutter SPACE ++ drawn LineNumber (file_glyph start layout.decor)
+
+-- the row of a path: the same, and behind it the path with its place
+unfoldable pub origin_row : OriginLayout → FileStart → List ℕ → NamedPlace → List Cell
+origin_row layout start path place =
+    file_row layout start ++ drawn LineAndColumn (origin_text layout.anonymized path place)
+
+-- the row that sets others off: the separator at cell gutter + 1, and nothing else
+abbrev pub separator_row : DecorStyle → ℕ → List Cell
+separator_row decor gutter = replicate (gutter + 1) SPACE ++ drawn LineNumber (separator_of decor ∷ [])
+
+-- the row that closes a group's window: in place of the separator, the closing glyph, and nothing else
+abbrev pub closing_row : DecorStyle → ℕ → List Cell
+closing_row decor gutter = replicate (gutter + 1) SPACE ++ drawn LineNumber (closing_of decor)
+
+-- the row of a padding: the separator row, or the closing row where nothing follows
+abbrev pub padding_row : DecorStyle → ℕ → Bool → List Cell
+padding_row decor gutter last = if last then closing_row decor gutter else separator_row decor gutter
+
+-- what a snippet with a path begins with where it is the group's primary one, as the first element or as a later one: the
+-- row of the path, and a separator row
+abbrev pub primary_head : OriginLayout → Bool → List ℕ → NamedPlace → List (List Cell)
+primary_head layout first path place =
+    origin_row layout (if first then First else Later) path place ∷ separator_row layout.decor layout.gutter ∷ []
+
+-- the same where it isn't primary: the row of the path between two separator rows
+abbrev pub secondary_head : OriginLayout → List ℕ → NamedPlace → List (List Cell)
+secondary_head layout path place =
+    separator_row layout.decor layout.gutter ∷ origin_row layout Secondary path place ∷ separator_row layout.decor layout.gutter ∷ []
+
+-- what a snippet without a path begins with where it isn't primary: a separator row, and a row that leads to no path
+abbrev pub nameless_head : OriginLayout → List (List Cell)
+nameless_head layout = separator_row layout.decor layout.gutter ∷ file_row layout Secondary ∷ []

@@ -1,0 +1,85 @@
+//! The rows that a snippet begins with.
+ghost use Rattle.std.specs.Prelude.{◌≡◌, ◌+◌, ◌^◌, ◌<◌, ◌++◌, OnOk};
+ghost use Rattle.snippet_titles.specs.Origin.{nameless_head, primary_head, secondary_head};
+
+use crate::origin::{FileStart, NamedPlace, OriginLayout, begin_file_row, draw_origin};
+use crate::padding::draw_separator;
+use snippet_style::StyledBuffer;
+use std::alloc::{AllocError, Global};
+
+/// Draws what the group's primary snippet begins with, where it has a path, below all that stands in the grid. The snippet
+/// may be the group's `first` element.
+///
+/// ```text
+///   --> src/main.rs:3:5
+///    |
+/// ```
+///
+/// # Errors
+///
+/// There is no memory for the rows. The grid may then hold some of them.
+pub fn draw_primary_head(
+    alloc: Global,
+    buffer: &mut StyledBuffer,
+    layout: OriginLayout,
+    first: bool,
+    path: &str,
+    place: NamedPlace,
+) -> Result<(), AllocError>
+    requires narrow { layout.gutter < 2 ^ 63 + 2 ^ 32 }
+    ensures rows { OnOk result (buffer.new ≡ buffer.old ++ primary_head layout first path.now place) }
+{
+    let start = if first {
+        FileStart::First
+    } else {
+        FileStart::Later
+    };
+    draw_origin(alloc, buffer, layout, start, path, place)?;
+    draw_separator(buffer, layout.gutter, layout.decor)
+}
+
+/// Draws what any other snippet with a path begins with, below all that stands in the grid.
+///
+/// ```text
+///    |
+///   ::: src/lib.rs:1:1
+///    |
+/// ```
+///
+/// # Errors
+///
+/// There is no memory for the rows. The grid may then hold some of them.
+pub fn draw_secondary_head(
+    alloc: Global,
+    buffer: &mut StyledBuffer,
+    layout: OriginLayout,
+    path: &str,
+    place: NamedPlace,
+) -> Result<(), AllocError>
+    requires narrow { layout.gutter < 2 ^ 63 + 2 ^ 32 }
+    ensures rows { OnOk result (buffer.new ≡ buffer.old ++ secondary_head layout path.now place) }
+{
+    draw_separator(buffer, layout.gutter, layout.decor)?;
+    draw_origin(alloc, buffer, layout, FileStart::Secondary, path, place)?;
+    draw_separator(buffer, layout.gutter, layout.decor)
+}
+
+/// Draws what a snippet without a path begins with where it isn't the group's primary one, below all that stands in the
+/// grid.
+///
+/// ```text
+///    |
+///   :::
+/// ```
+///
+/// # Errors
+///
+/// There is no memory for the rows. The grid may then hold some of them.
+pub fn draw_nameless_head(buffer: &mut StyledBuffer, layout: OriginLayout) -> Result<(), AllocError>
+    requires narrow { layout.gutter < 2 ^ 63 + 2 ^ 32 }
+    ensures rows { OnOk result (buffer.new ≡ buffer.old ++ nameless_head layout) }
+{
+    draw_separator(buffer, layout.gutter, layout.decor)?;
+    begin_file_row(buffer, layout, FileStart::Secondary)?;
+    Ok(())
+}

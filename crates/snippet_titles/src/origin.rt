@@ -1,0 +1,153 @@
+//! The row of a path, and of the place behind it.
+ghost use Rattle.std.specs.Prelude.{◌≡◌, ◌+◌, ◌^◌, ◌<◌, ◌∷◌, ◌++◌, [], length, chars, string_bytes, OnOk, IfOk};
+ghost use Rattle.snippet_titles.specs.Origin as spec;
+ghost use Rattle.snippet_titles.specs.Origin.{file_glyph, file_row, origin_row, place_text};
+
+use snippet_style::{DecorStyle, ElementStyle, StyledBuffer};
+use snippet_text::normalize_untrusted_str;
+use std::alloc::{AllocError, Global};
+use std::fmt::Write;
+
+/// What leads from the gutter to a path.
+#[derive(Clone, Copy, Debug, PartialEq, Eq)]
+pub enum FileStart {
+    /// To the group's primary file, where its path is all that the group shows.
+    Alone,
+    /// To the group's primary file, from the group's first element.
+    First,
+    /// To the group's primary file, from a later element.
+    Later,
+    /// To any other file.
+    Secondary,
+}
+
+/// A place in a file, as it stands behind the file's path.
+#[derive(Clone, Copy, Debug, PartialEq, Eq)]
+pub struct NamedPlace {
+    /// The number of the line.
+    pub line: Option<usize>,
+    /// The column, counted in characters from 1. It is shown only where there is a line.
+    pub column: Option<usize>,
+}
+
+/// Where the rows of a path stand, and how they are drawn.
+///
+/// ```text
+///   --> src/main.rs:3:5     what leads to the path stands from cell `gutter` on
+///    |                      the separator stands at cell `gutter + 1`
+/// ```
+#[derive(Clone, Copy, Debug)]
+pub struct OriginLayout {
+    /// The number of cells that line numbers are set right in.
+    pub gutter: usize,
+    /// The glyphs of the strokes.
+    pub decor: DecorStyle,
+    /// Whether each line behind a path is named `LL`.
+    pub anonymized: bool,
+}
+
+impl FileStart {
+    /// The glyph in the row of the path.
+    fn glyph(self, decor: DecorStyle) -> &'static str
+        ensures value { chars result.now ≡ file_glyph self decor }
+    {
+        match (self, decor) {
+            (FileStart::Alone, DecorStyle::Ascii) => "--> ",
+            (FileStart::Alone, DecorStyle::Unicode) => " ─▸ ",
+            (FileStart::First, _) => decor.file_start(true),
+            (FileStart::Later, _) => decor.file_start(false),
+            (FileStart::Secondary, DecorStyle::Ascii) => "::: ",
+            (FileStart::Secondary, DecorStyle::Unicode) => " ⸬  ",
+        }
+    }
+}
+
+/// A path, normalised, with the place behind it: `src/main.rs:3:5`. Where lines are anonymized, the line is named `LL`.
+///
+/// # Errors
+///
+/// There is no memory for the text.
+pub fn origin_text(
+    alloc: Global,
+    path: &str,
+    place: NamedPlace,
+    anonymized: bool,
+) -> Result<String, AllocError>
+    ensures value { IfOk result (λ t. chars (string_bytes t) ≡ spec.origin_text anonymized path.now place) }
+{
+    let mut text = normalize_untrusted_str(alloc, path)?;
+    push_place(&mut text, place, anonymized)?;
+    Ok(text)
+}
+
+/// Adds the place that stands behind a path.
+fn push_place(text: &mut String, place: NamedPlace, anonymized: bool) -> Result<(), AllocError>
+    ensures added { OnOk result (string_bytes text.new ≡ string_bytes text.old ++ place_text anonymized place) }
+{
+    let Some(line) = place.line else {
+        return Ok(());
+    };
+    push_line(text, line, anonymized)?;
+    if let Some(column) = place.column {
+        write!(text, ":{column}")?;
+    }
+    Ok(())
+}
+
+/// Adds a colon and the name of a line.
+fn push_line(text: &mut String, line: usize, anonymized: bool) -> Result<(), AllocError>
+    ensures added { OnOk result (string_bytes text.new ≡ string_bytes text.old ++ 58 ∷ spec.line_name anonymized line) }
+{
+    if anonymized {
+        text.push_str(":LL")
+    } else {
+        write!(text, ":{line}")
+    }
+}
+
+/// Draws the row of a path below all that stands in the grid.
+///
+/// ```text
+///   --> src/main.rs:3:5      to the group's primary file
+///   ::: src/lib.rs:1:1       to another one
+/// ```
+///
+/// # Errors
+///
+/// There is no memory for the row. The grid may then hold a part of it.
+pub fn draw_origin(
+    alloc: Global,
+    buffer: &mut StyledBuffer,
+    layout: OriginLayout,
+    start: FileStart,
+    path: &str,
+    place: NamedPlace,
+) -> Result<(), AllocError>
+    requires narrow { layout.gutter < 2 ^ 63 + 2 ^ 32 }
+    ensures row { OnOk result (buffer.new ≡ buffer.old ++ origin_row layout start path.now place ∷ []) }
+{
+    let text = origin_text(alloc, path, place, layout.anonymized)?;
+    let row = begin_file_row(buffer, layout, start)?;
+    buffer.append(row, text.as_str(), ElementStyle::LineAndColumn)
+}
+
+/// Begins a row below all that stands in the grid with what leads to a file, and gives the row's number.
+///
+/// # Errors
+///
+/// There is no memory for the row.
+pub(crate) fn begin_file_row(
+    buffer: &mut StyledBuffer,
+    layout: OriginLayout,
+    start: FileStart,
+) -> Result<usize, AllocError>
+    requires narrow { layout.gutter < 2 ^ 63 + 2 ^ 32 }
+    ensures added { OnOk result (buffer.new ≡ buffer.old ++ file_row layout start ∷ []) }
+    ensures row { IfOk result (λ row. row ≡ length buffer.old) }
+    ensures small { length buffer.old < 2 ^ 60 }
+{
+    let row = buffer.num_lines();
+    let glyph = start.glyph(layout.decor);
+    buffer.puts(row, layout.gutter, glyph, ElementStyle::LineNumber)?;
+    Ok(row)
+}
