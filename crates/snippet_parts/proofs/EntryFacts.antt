@@ -16,7 +16,7 @@ use Rattle.snippet_parts.specs.declared.entries.AnnotatedLineInfo.{AnnotatedLine
 use Rattle.snippet_lines.specs.declared.place.Loc.{Loc}
 use Rattle.snippet_parts.specs.Annotated.{PartEntry, seen_part, KeptLine, seen_kept, kept_line, is_short, is_long, long_entry, long_place, long_places, long_spans, long_parts, depth_of, deepest, single_part, bar_lines, made_parts, parts_on}
 use Rattle.snippet_parts.specs.Depths.{same_place, depth_among, greatest_depth}
-use Rattle.snippet_parts.specs.Entries.{AllEntries, HasRoom, HasShortLabel, HasDepthWithin, is_untouched}
+use Rattle.snippet_parts.specs.Entries.{AllEntries, HasCharacterRoom, HasRoom, HasShortLabel, HasDepthWithin, is_untouched}
 use Rattle.snippet_lines.specs.Lines.{Source, source_lines}
 use Rattle.snippet_parts.specs.Mark.{is_marking, is_single_line, touches, is_marked_on, is_wide, start_column, span_width}
 use Rattle.snippet_parts.specs.Marked.{entry_of, first_line, last_line}
@@ -29,7 +29,7 @@ use Rattle.snippet_parts.proofs.KeptPartLemmas.{lines-ordered}
 use Rattle.snippet_lines.proofs.LinesLemmas.{length-text_at-source}
 use Rattle.snippet_parts.proofs.MarkLemmas.{start-line, end-line, start_column-from, end_column-from, entry_of-line, eqb-shift}
 use Rattle.snippet_parts.proofs.PartLemmas.{HoldsOfSpan, IsBarLine, All-unmapped, bar-lines, filter-none, longs-all, made-all}
-use Rattle.snippet_parts.proofs.PlaceBounds.{start-column-bound, end-column-bound}
+use Rattle.snippet_parts.proofs.PlaceBounds.{start-column-bound, end-column-bound, start-character-bound, end-character-bound}
 use Rattle.snippet_parts.proofs.ShownLemmas.{filter-map, place-among}
 
 -- ---- lines by what is seen of them
@@ -77,6 +77,22 @@ places-fit s marks ks infos same fits =
       bars = λ k d within. (omega arith, omega arith);
       end = (omega arith, omega (arith, end-column-bound s a.span.start a.span.end));
       again = (omega arith, omega (arith, end-column-bound s a.span.start a.span.end));
+    }
+
+-- and the characters at which entries start leave room for one more
+pub characters-fit : (s : Source) (marks : List Annotation) (ks : List ℕ) (infos : List AnnotatedLineInfo) → map seen_kept infos ≡ map (kept_line s marks) ks → length s.text < 2 ^ 56 → AllEntries HasCharacterRoom infos
+characters-fit s marks ks infos same fits =
+    each-entry Room s marks ks infos same (made-all Room s marks (λ a among is. omega (arith, start-character-bound s a.span.start a.span.end)) (λ a among is kind. long a kind))
+  where
+    Room : PartEntry → Type 0
+    Room p = p.entry.start.char < 2 ^ 60
+
+    long : (a : Annotation) (kind : AnnotationKind) → HoldsOfSpan Room s (depth_of s marks a) (record (long_entry s a) { kind = kind })
+    long a kind = record {
+      start = omega (arith, start-character-bound s a.span.start a.span.end);
+      bars = λ k d within. omega arith;
+      end = omega (arith, end-character-bound s a.span.start a.span.end);
+      again = omega (arith, end-character-bound s a.span.start a.span.end);
     }
 
 -- ---- texts and numbers
@@ -140,7 +156,7 @@ depths-fit s marks ks infos same =
 
 -- ---- lines that no span of several lines touches
 
-filter-filter : {X : Type 0} (q p : X → Bool) (xs : List X) → filter q (filter p xs) ≡ filter (λ x. p x && q x) xs
+pub filter-filter : {X : Type 0} (q p : X → Bool) (xs : List X) → filter q (filter p xs) ≡ filter (λ x. p x && q x) xs
 filter-filter q p [] = refl
 filter-filter q p (x ∷ xs) =
     elim (cases_Bool (p x)) [

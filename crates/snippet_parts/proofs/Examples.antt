@@ -1,18 +1,21 @@
 -- The definitions, computed on small inputs.
-use Rattle.std.proofs.Common.{◌≡◌, true, false, Some, None, [], ◌∷◌, ◌++◌, replicate, codes, encode_utf8_all, refl}
+use Rattle.std.proofs.Common.{◌≡◌, ℕ, true, false, Some, None, [], ◌∷◌, ◌++◌, replicate, codes, encode_utf8_all, refl}
 use Rattle.std.specs.Str.{chars}
 use Rattle.snippet_style.specs.Grid.{written}
 use Rattle.snippet_text.specs.Width.{char_width, width_of}
 use Rattle.snippet_text.proofs.WidthLemmas.{unicode_width}
 use Rattle.snippet_text.specs.Normalized.{norm}
 use Rattle.snippet_model.specs.declared.snippet.Annotation.{Annotation}
-use Rattle.snippet_model.specs.declared.snippet.AnnotationKind.TheVariants.{Primary}
+use Rattle.snippet_model.specs.declared.snippet.AnnotationKind.{AnnotationKind}
+use Rattle.snippet_model.specs.declared.snippet.AnnotationKind.TheVariants.{Primary, Context, Visible}
 use Rattle.snippet_lines.specs.declared.lines.EndLine.TheVariants.{Eof, Lf, Crlf}
 use Rattle.snippet_lines.specs.declared.span.SpanFault.TheVariants.{Reversed, PastEnd, OffBoundary}
 use Rattle.snippet_lines.specs.Lines.{source_lines, start_of}
-use Rattle.snippet_lines.specs.Place.{line_of, place_of, location_of, end_location, steps_behind_text}
+use Rattle.snippet_lines.specs.Place.{line_of, place_of, location_of, start_location, end_location, locations_of, steps_behind_text}
 use Rattle.snippet_lines.specs.Span.{span_fault}
+use Rattle.snippet_parts.specs.Annotated.{annotated_lines}
 use Rattle.snippet_parts.specs.Kept.{is_weak, kept_lines}
+use Rattle.snippet_parts.specs.NamedPlace.{primary_place, secondary_place}
 use Rattle.snippet_parts.specs.Window.{window, end_mark_column, is_near_span}
 
 -- ---- lines
@@ -147,3 +150,38 @@ is_too_far_right = refl
 and_one_less_is_near : is_near_span (replicate 30 32 ++ 97 ∷ 10 ∷ replicate 26 32) (record { span = record { start = 30; end = 59 }; label = None; kind = Primary; highlight_source = false }) ≡ true
 unfolding place_of location_of end_location steps_behind_text line_of start_of char_width unicode_width lib.Utf8.encode
 and_one_less_is_near = refl
+
+-- ---- the place that a head names
+
+-- a span of a kind, without a label
+span_of : AnnotationKind → ℕ → ℕ → Annotation
+span_of kind start end = record { span = record { start = start; end = end }; label = None; kind = kind; highlight_source = false }
+
+-- `a`, a line feed and `éb`: the primary span is named, though another one stands above it, and columns are characters
+second_line : primary_place (annotated_lines true (record { text = 97 ∷ 10 ∷ encode_utf8_all (codes "éb"); first = 1 }) (span_of Context 0 1 ∷ span_of Primary 4 5 ∷ [])) ≡ Some (record { line = 2; column = Some 2 })
+unfolding span_of place_of location_of start_location end_location locations_of steps_behind_text line_of start_of char_width unicode_width lib.Utf8.encode
+second_line = refl
+
+-- one byte behind a source that ends without a line feed
+behind_the_end : primary_place (annotated_lines true (record { text = codes "ab"; first = 1 }) (span_of Primary 3 3 ∷ [])) ≡ Some (record { line = 1; column = Some 4 })
+unfolding span_of place_of location_of start_location end_location locations_of steps_behind_text line_of start_of char_width unicode_width lib.Utf8.encode
+behind_the_end = refl
+
+-- the least column on the line, in whichever order the spans are given
+least_of_two : primary_place (annotated_lines true (record { text = codes "abc"; first = 7 }) (span_of Context 2 3 ∷ span_of Context 1 2 ∷ [])) ≡ Some (record { line = 7; column = Some 2 })
+unfolding span_of place_of location_of start_location end_location locations_of steps_behind_text line_of start_of char_width unicode_width lib.Utf8.encode
+least_of_two = refl
+
+-- of a snippet that isn't primary the first span given on the line
+first_of_two : secondary_place (annotated_lines true (record { text = codes "abc"; first = 7 }) (span_of Context 2 3 ∷ span_of Context 1 2 ∷ [])) ≡ Some (record { line = 7; column = Some 3 })
+unfolding span_of place_of location_of start_location end_location locations_of steps_behind_text line_of start_of char_width unicode_width lib.Utf8.encode
+first_of_two = refl
+
+-- a line that is only kept is named where the snippet isn't primary, without a column
+no_span_marked : primary_place (annotated_lines true (record { text = codes "a" ++ 10 ∷ codes "b"; first = 1 }) (span_of Visible 2 3 ∷ [])) ≡ None
+unfolding span_of place_of location_of start_location end_location locations_of steps_behind_text line_of start_of char_width unicode_width lib.Utf8.encode
+no_span_marked = refl
+
+kept_line_alone : secondary_place (annotated_lines true (record { text = codes "a" ++ 10 ∷ codes "b"; first = 1 }) (span_of Visible 2 3 ∷ [])) ≡ Some (record { line = 2; column = None })
+unfolding span_of place_of location_of start_location end_location locations_of steps_behind_text line_of start_of char_width unicode_width lib.Utf8.encode
+kept_line_alone = refl

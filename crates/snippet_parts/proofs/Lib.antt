@@ -18,6 +18,8 @@ pub mod PartLemmas
 pub mod PlaceBounds
 pub mod RawDepthLemmas
 pub mod ShownFacts
+pub mod NamedPlaceLaws
+pub mod NamedPlaceLemmas
 pub mod NearLemmas
 pub mod ShownLemmas
 pub mod TableLemmas

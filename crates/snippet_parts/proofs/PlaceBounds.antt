@@ -1,7 +1,8 @@
--- How far right a span starts and ends at most.
+-- How far right a span starts and ends at most, in columns and in characters.
 use Rattle.std.proofs.Common.{ℕ, ◌+◌, ◌-◌, ◌*◌, ◌≤◌, eqb, ltb, cond, List, length, arith}
 use Rattle.std.proofs.lemmas.Bool.{cond_both}
 use Rattle.std.proofs.lemmas.List.{length-take}
+use Rattle.snippet_style.proofs.GridLemmas.{length-chars_le}
 use Rattle.snippet_text.proofs.WidthBounds.{width_of-chars}
 use Rattle.snippet_lines.specs.declared.place.Loc.{Loc}
 use Rattle.snippet_lines.specs.Lines.{Source, source_lines, text_at, start_of}
@@ -40,3 +41,31 @@ pub end-column-bound : (s : Source) (start end : ℕ) → (locations_of s start 
 unfolding locations_of
 end-column-bound s start end =
     cond_both (eqb start end) (start_location s start) (end_location s start end) (λ (l : Loc). l.display ≤ 4 * length s.text + 1) (λ _. omega (arith, start_location-column s start, place-column s.text start)) (λ _. end-location-column s start end)
+
+-- ---- characters
+
+place-character : (source : List ℕ) (b : ℕ) → (place_of source b).character ≤ length source
+unfolding place_of
+place-character source b =
+    let k : ℕ = line_of (source_lines source) b in
+    omega (arith, length-chars_le (prefix_at (source_lines source) k b), length-take (b - start_of (source_lines source) k) (text_at (source_lines source) k), length-text_at-source source k)
+
+start-location-character : (s : Source) (start : ℕ) → (start_location s start).char ≤ length s.text + 1
+unfolding start_location location_of
+start-location-character s start = omega (arith, place-character s.text start, steps-bound s.text start)
+
+end-location-character : (s : Source) (start end : ℕ) → (end_location s start end).char ≤ length s.text + 1
+unfolding end_location location_of
+end-location-character s start end =
+    let more : ℕ = cond (eqb (location_of s start).line (location_of s end).line) 0 (steps_behind_text s.text end) in
+    let one : more ≤ 1 = cond_both (eqb (location_of s start).line (location_of s end).line) 0 (steps_behind_text s.text end) (λ n. n ≤ 1) (λ _. omega arith) (λ _. steps-bound s.text end) in
+    omega (arith, place-character s.text end, one)
+
+pub start-character-bound : (s : Source) (start end : ℕ) → (locations_of s start end).0.char ≤ length s.text + 1
+unfolding locations_of
+start-character-bound s start end = start-location-character s start
+
+pub end-character-bound : (s : Source) (start end : ℕ) → (locations_of s start end).1.char ≤ length s.text + 1
+unfolding locations_of
+end-character-bound s start end =
+    cond_both (eqb start end) (start_location s start) (end_location s start end) (λ (l : Loc). l.char ≤ length s.text + 1) (λ _. start-location-character s start) (λ _. end-location-character s start end)

@@ -16,6 +16,10 @@ AllEntries P infos = All (λ info. All P info.annotations.items) infos
 abbrev pub HasRoom : LineAnnotation → Type 0
 HasRoom e = (e.start.display ≤ e.end.display) × (e.end.display < 2 ^ 60)
 
+-- there is room for one character more than an entry starts at
+abbrev pub HasCharacterRoom : LineAnnotation → Type 0
+HasCharacterRoom e = e.start.char < 2 ^ 60
+
 -- an entry's label is one of fewer than 2^56 bytes, if it has one
 abbrev pub HasShortLabel : LineAnnotation → Type 0
 HasShortLabel e = IfSome e.label (λ t. length t.now < 2 ^ 56)

@@ -10,6 +10,7 @@ pub mod Margin
 pub mod Mark
 pub mod Marked
 pub mod Measures
+pub mod NamedPlace
 pub mod NearPart
 pub mod OnLine
 pub mod Prepare

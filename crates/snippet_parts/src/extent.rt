@@ -93,7 +93,7 @@ impl Extent {
 }
 
 /// The lesser of a number, if there is one, and another.
-fn lesser(before: Option<usize>, number: usize) -> Option<usize>
+pub(crate) fn lesser(before: Option<usize>, number: usize) -> Option<usize>
     ensures value { result ≡ Some (option_map_or (λ n. min n number) before number) }
 {
     match before {

@@ -14,6 +14,7 @@ mod long_spans;
 mod made_entries;
 pub mod margin;
 pub mod mark;
+pub mod named_place;
 pub mod near;
 pub mod prepare;
 pub mod source_map;
@@ -26,6 +27,7 @@ pub use extent::margin_for;
 pub use line_window::{LineWindow, window_of};
 pub use margin::Margin;
 pub use mark::{is_marking, mark_of};
+pub use named_place::{NamedPlace, primary_place, secondary_place};
 pub use near::{NearPart, near_part};
 pub use prepare::counted_number;
 pub use snippet_lines::{
