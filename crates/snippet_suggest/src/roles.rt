@@ -7,6 +7,7 @@ use crate::layout::SuggestionLayout;
 use snippet_splice::SubstitutionHighlight;
 use snippet_style::{ElementStyle, StyledBuffer};
 use std::alloc::AllocError;
+use std::str::Chars;
 
 /// Gives the cells of stretches of a line, which stands in this row, a role.
 pub(crate) fn paint_stretches(
@@ -20,19 +21,19 @@ pub(crate) fn paint_stretches(
     ensures repaints { OnOk result ((above : List (List Cell)) (last : List Cell) → row ≡ length above
         → buffer.old ≡ above ++ last ∷ [] → IsRepainted above last buffer.new) }
 {
+    let mut tabs = TabCursor::new(line);
     for stretch in stretches {
         if stretch.start != stretch.end {
-            let start = stretch_cell(layout, line, stretch.start);
-            let end = stretch_cell(layout, line, stretch.end);
+            let start = stretch_cell(layout, stretch.start, tabs.before(stretch.start));
+            let end = stretch_cell(layout, stretch.end, tabs.before(stretch.end));
             buffer.set_style_range(row, start, end, role, true)?;
         }
     }
     Ok(())
 }
 
-/// The cell of a character of a line: a tab before it takes four cells.
-fn stretch_cell(layout: SuggestionLayout, line: &str, character: usize) -> usize {
-    let tabs = tab_count(line, character);
+/// The cell of a character with so many tabs before it, each of which takes four cells.
+fn stretch_cell(layout: SuggestionLayout, character: usize, tabs: usize) -> usize {
     layout
         .gutter
         .saturating_add(3)
@@ -40,13 +41,40 @@ fn stretch_cell(layout: SuggestionLayout, line: &str, character: usize) -> usize
         .saturating_add(tabs.saturating_mul(3))
 }
 
-/// The number of tabs among the first characters of a line.
-fn tab_count(line: &str, characters: usize) -> usize {
-    let mut tabs = 0usize;
-    for c in line.chars().take(characters) {
-        tabs = tabs.saturating_add(usize::from(c == '\t'));
+/// Counts the tabs before characters of a line: in one walk, where it is asked for one character behind the other.
+#[derive(Drop)]
+struct TabCursor<'a> {
+    line: &'a str,
+    rest: Chars<'a>,
+    passed: usize,
+    tabs: usize,
+}
+
+impl<'a> TabCursor<'a> {
+    /// A cursor at the start of a line.
+    fn new(line: &'a str) -> TabCursor<'a> {
+        TabCursor {
+            line,
+            rest: line.chars(),
+            passed: 0,
+            tabs: 0,
+        }
     }
-    tabs
+
+    /// The number of tabs before a character.
+    fn before(&mut self, character: usize) -> usize {
+        if character < self.passed {
+            *self = TabCursor::new(self.line);
+        }
+        while self.passed < character {
+            let Some(c) = self.rest.next() else {
+                break;
+            };
+            self.passed += 1;
+            self.tabs = self.tabs.saturating_add(usize::from(c == '\t'));
+        }
+        self.tabs
+    }
 }
 
 /// The stretches of a line, by its number.
