@@ -1,9 +1,11 @@
 //! The level of a title or message: how grave it is, and the name that is shown for it.
-ghost use Rattle.std.specs.Prelude.{◌≡◌, false, Option, None};
+ghost use Rattle.std.specs.Prelude.{◌≡◌, true, false, Option, None};
+ghost use Rattle.std.specs.Option.{option_map_or};
 ghost use Rattle.snippet_model.specs.StandardName.{standard_name_of};
 ghost use Rattle.std.specs.declared.borrow.CowStr.TheVariants.{Borrowed};
 
-use crate::snippet::Title;
+use crate::option_cow::OptionCow;
+use crate::snippet::{Message, Title};
 use snippet_style::LevelInner;
 use snippet_text::CowStr;
 
@@ -76,7 +78,7 @@ fn standard_name(kind: LevelInner) -> &'static str
 
 impl<'a> Level<'a> {
     ghost use Rattle.snippet_model.specs.Level.{name_of};
-    ghost use Rattle.snippet_model.specs.declared.level.LevelName.TheVariants.{Standard};
+    ghost use Rattle.snippet_model.specs.declared.level.LevelName.TheVariants.{Standard, Hidden, Own};
 
     /// The constant [`ERROR`].
     pub const ERROR: Level<'static> = ERROR;
@@ -113,7 +115,36 @@ impl<'a> Level<'a> {
         }
     }
 
-    /// A title of this level from a text that isn't trusted: it is normalised where it is drawn.
+    /// The level, shown by this name; given none, it is shown without a name, as [`no_name`](Level::no_name) makes it.
+    /// The kind, and with it the style, stays. The name isn't trusted: it is normalised where it is drawn.
+    ///
+    /// ```text
+    /// ERROR.primary_title("e")                                             error: e
+    /// ERROR.with_name(OptionCow::from("failure")).primary_title("e")       failure: e
+    /// ERROR.no_name().primary_title("e")                                   e
+    /// ```
+    pub fn with_name(self, name: OptionCow<'a>) -> Level<'a>
+        ensures changed { result ≡ record self.entry { name = option_map_or Own name.entry.0 Hidden } }
+    {
+        let name = match name.0 {
+            Some(name) => LevelName::Own(name),
+            None => LevelName::Hidden,
+        };
+        Level {
+            name,
+            kind: self.kind,
+        }
+    }
+
+    /// The level without a name: the text behind it is shown alone, in the style of the kind.
+    pub fn no_name(self) -> Level<'a>
+        ensures changed { result ≡ record self.entry { name = Hidden } }
+    {
+        self.with_name(OptionCow(None))
+    }
+
+    /// A title of this level from a text that isn't trusted, for the first group of a report: the text is normalised
+    /// where it is drawn.
     pub fn primary_title(self, text: &'a str) -> Title<'a>
         ensures level { result.level ≡ self.entry }
         ensures text { result.text ≡ Borrowed text.entry }
@@ -136,5 +167,48 @@ impl<'a> Level<'a> {
             text,
             allows_styling: false,
         }
+    }
+
+    /// A title of this level from a trusted text, for a later group: the text is drawn as it is, with any style codes
+    /// that it holds. A text from outside has to be normalised first.
+    pub fn secondary_title(self, text: &'a str) -> Title<'a>
+        ensures level { result.level ≡ self.entry }
+        ensures text { result.text ≡ Borrowed text.entry }
+        ensures trusted { result.allows_styling ≡ true }
+        ensures id { result.id ≡ None }
+    {
+        self.secondary_title_cow(CowStr::Borrowed(text))
+    }
+
+    /// The same from a text that may be owned.
+    pub fn secondary_title_cow(self, text: CowStr<'a>) -> Title<'a>
+        ensures level { result.level ≡ self.entry }
+        ensures text { result.text ≡ text.entry }
+        ensures trusted { result.allows_styling ≡ true }
+        ensures id { result.id ≡ None }
+    {
+        Title {
+            level: self,
+            id: None,
+            text,
+            allows_styling: true,
+        }
+    }
+
+    /// A message of this level, an element of a group: a trusted text, which is drawn as it is, with any style codes
+    /// that it holds. A text from outside has to be normalised first.
+    pub fn message(self, text: &'a str) -> Message<'a>
+        ensures level { result.level ≡ self.entry }
+        ensures text { result.text ≡ Borrowed text.entry }
+    {
+        self.message_cow(CowStr::Borrowed(text))
+    }
+
+    /// The same from a text that may be owned.
+    pub fn message_cow(self, text: CowStr<'a>) -> Message<'a>
+        ensures level { result.level ≡ self.entry }
+        ensures text { result.text ≡ text.entry }
+    {
+        Message { level: self, text }
     }
 }

@@ -1,15 +1,20 @@
 //! The parts of a report: groups of a title and elements, and what an element may be.
-ghost use Rattle.std.specs.Prelude.{◌≡◌, ℕ, List, [], ◌∷◌, ◌++◌, Some, None, true, false, IfOk};
-ghost use Rattle.std.specs.Option.{option_and_then};
-ghost use Rattle.std.specs.Iterator.{IsFiniteIterable, Drains};
+ghost use Rattle.std.specs.Prelude.{◌≡◌, ℕ, [], None, true, false};
 ghost use Rattle.std.specs.declared.ops.Range.{Range};
 ghost use Rattle.std.specs.declared.borrow.CowStr.TheVariants.{Borrowed};
+
+mod clones;
+mod elements;
+mod groups;
+mod markers;
+mod origins;
+mod titles;
 
 use crate::level::Level;
 use crate::option_cow::OptionCow;
 use snippet_style::LevelInner;
 use snippet_text::CowStr;
-use std::alloc::{AllocError, Global};
+use std::alloc::Global;
 use std::ops::Range;
 
 /// The identifier of a title, as `E0308`, and the address that explains it.
@@ -19,40 +24,6 @@ pub struct Id<'a> {
     pub id: Option<CowStr<'a>>,
     /// The address that the text links to where links are on.
     pub url: Option<CowStr<'a>>,
-}
-
-/// An identifier of this text, with the address that there was.
-fn with_id<'a>(had: Option<Id<'a>>, id: CowStr<'a>) -> Id<'a>
-    ensures id { result.id ≡ Some id.entry }
-    ensures url { result.url ≡ option_and_then (λ had. had.url) had.entry }
-{
-    match had {
-        Some(had) => Id {
-            id: Some(id),
-            url: had.url,
-        },
-        None => Id {
-            id: Some(id),
-            url: None,
-        },
-    }
-}
-
-/// An identifier that links to this address, with the text that there was.
-fn with_url<'a>(had: Option<Id<'a>>, url: CowStr<'a>) -> Id<'a>
-    ensures id { result.id ≡ option_and_then (λ had. had.id) had.entry }
-    ensures url { result.url ≡ Some url.entry }
-{
-    match had {
-        Some(had) => Id {
-            id: had.id,
-            url: Some(url),
-        },
-        None => Id {
-            id: None,
-            url: Some(url),
-        },
-    }
 }
 
 /// The line that a group begins with.
@@ -68,81 +39,14 @@ pub struct Title<'a> {
     pub allows_styling: bool,
 }
 
-impl<'a> Title<'a> {
-    /// The title with this identifier, as `E0308`, which is shown in brackets behind the level's name. An address that
-    /// was given stays.
-    pub fn id(self, id: &'a str) -> Title<'a>
-        ensures changed { result ≡ record self.entry {
-          id = Some (record { id = Some (Borrowed id.entry); url = option_and_then (λ had. had.url) self.entry.id });
-        } }
-    {
-        self.id_cow(CowStr::Borrowed(id))
-    }
-
-    /// The same from a text that may be owned.
-    pub fn id_cow(self, id: CowStr<'a>) -> Title<'a>
-        ensures changed { result ≡ record self.entry {
-          id = Some (record { id = Some id.entry; url = option_and_then (λ had. had.url) self.entry.id });
-        } }
-    {
-        Title {
-            level: self.level,
-            id: Some(with_id(self.id, id)),
-            text: self.text,
-            allows_styling: self.allows_styling,
-        }
-    }
-
-    /// The title with this address, to which its identifier links where links are on. An identifier that was given stays.
-    pub fn id_url(self, url: &'a str) -> Title<'a>
-        ensures changed { result ≡ record self.entry {
-          id = Some (record { id = option_and_then (λ had. had.id) self.entry.id; url = Some (Borrowed url.entry) });
-        } }
-    {
-        self.id_url_cow(CowStr::Borrowed(url))
-    }
-
-    /// The same from an address that may be owned.
-    pub fn id_url_cow(self, url: CowStr<'a>) -> Title<'a>
-        ensures changed { result ≡ record self.entry {
-          id = Some (record { id = option_and_then (λ had. had.id) self.entry.id; url = Some url.entry });
-        } }
-    {
-        Title {
-            level: self.level,
-            id: Some(with_url(self.id, url)),
-            text: self.text,
-            allows_styling: self.allows_styling,
-        }
-    }
-
-    /// A group with this title and one element. The one error is want of memory.
-    pub fn element(self, alloc: Global, element: Element<'a>) -> Result<Group<'a>, AllocError>
-        ensures title { IfOk result (λ g. g.title ≡ Some self.entry) }
-        ensures level { IfOk result (λ g. g.level ≡ self.entry.level.kind) }
-        ensures elements { IfOk result (λ g. g.elements.items ≡ element.entry ∷ []) }
-    {
-        Group::with_title(alloc, self).element(element)
-    }
-
-    /// A group with this title and these elements, in their order. The one error is want of memory.
-    pub fn elements<I: IntoIterator<Item = Element<'a>>>(
-        self,
-        alloc: Global,
-        elements: I,
-    ) -> Result<Group<'a>, AllocError>
-        requires ends { IsFiniteIterable I.into_iter_gives I.IntoIter.can_next I.IntoIter.remaining elements }
-        ensures title { IfOk result (λ g. g.title ≡ Some self.entry) }
-        ensures level { IfOk result (λ g. g.level ≡ self.entry.level.kind) }
-        ensures elements { IfOk result (λ g. (it : I.IntoIter) × (xs : List Element)
-            × I.into_iter_gives elements it × Drains I.IntoIter.next_gives it xs
-            × (g.elements.items ≡ xs)) }
-    {
-        Group::with_title(alloc, self).elements(elements)
-    }
-}
-
 /// A title and the elements below it, one after another.
+///
+/// ```text
+/// Level::ERROR
+///     .primary_title("mismatched types")
+///     .element(alloc, Element::from(snippet))?
+///     .element(Element::from(Level::NOTE.message("`let` takes its type from the value")))?
+/// ```
 #[derive(Debug, Drop)]
 pub struct Group<'a> {
     /// The kind of level whose style primary marks and labels of the group take.
@@ -151,48 +55,6 @@ pub struct Group<'a> {
     pub title: Option<Title<'a>>,
     /// The elements, in order.
     pub elements: Vec<Element<'a>>,
-}
-
-impl<'a> Group<'a> {
-    /// A group with this title and no elements. It takes no memory.
-    pub fn with_title(alloc: Global, title: Title<'a>) -> Group<'a>
-        ensures title { result.title ≡ Some title.entry }
-        ensures level { result.level ≡ title.entry.level.kind }
-        ensures elements { result.elements.items ≡ [] }
-    {
-        Group {
-            level: title.level.kind,
-            title: Some(title),
-            elements: Vec::new(alloc),
-        }
-    }
-
-    /// The group with one more element behind those it has. The one error is want of memory.
-    pub fn element(mut self, element: Element<'a>) -> Result<Group<'a>, AllocError>
-        ensures title { IfOk result (λ g. g.title ≡ self.entry.title) }
-        ensures level { IfOk result (λ g. g.level ≡ self.entry.level) }
-        ensures elements { IfOk result
-            (λ g. g.elements.items ≡ self.entry.elements.items ++ element.entry ∷ []) }
-    {
-        self.elements.push(element)?;
-        Ok(self)
-    }
-
-    /// The group with these elements behind those it has, in their order. The one error is want of memory.
-    pub fn elements<I: IntoIterator<Item = Element<'a>>>(
-        mut self,
-        elements: I,
-    ) -> Result<Group<'a>, AllocError>
-        requires ends { IsFiniteIterable I.into_iter_gives I.IntoIter.can_next I.IntoIter.remaining elements }
-        ensures title { IfOk result (λ g. g.title ≡ self.entry.title) }
-        ensures level { IfOk result (λ g. g.level ≡ self.entry.level) }
-        ensures elements { IfOk result (λ g. (it : I.IntoIter) × (xs : List Element)
-            × I.into_iter_gives elements it × Drains I.IntoIter.next_gives it xs
-            × (g.elements.items ≡ self.entry.elements.items ++ xs)) }
-    {
-        self.elements.extend(elements)?;
-        Ok(self)
-    }
 }
 
 /// One part of a group.
@@ -208,26 +70,6 @@ pub enum Element<'a> {
     Origin(Origin<'a>),
     /// An empty row.
     Padding(Padding),
-}
-
-impl<'a> From<Snippet<'a, Annotation<'a>>> for Element<'a> {
-    ghost use Rattle.snippet_model.specs.declared.snippet.Element.TheVariants.{Cause};
-
-    ghost from_gives = { λ snippet element. element ≡ Cause snippet };
-
-    fn from(snippet: Snippet<'a, Annotation<'a>>) -> Element<'a> {
-        Element::Cause(snippet)
-    }
-}
-
-impl<'a> From<Snippet<'a, Patch<'a>>> for Element<'a> {
-    ghost use Rattle.snippet_model.specs.declared.snippet.Element.TheVariants.{Suggestion};
-
-    ghost from_gives = { λ snippet element. element ≡ Suggestion snippet };
-
-    fn from(snippet: Snippet<'a, Patch<'a>>) -> Element<'a> {
-        Element::Suggestion(snippet)
-    }
 }
 
 /// A trusted text: drawn as it is, with any style codes that it holds.
@@ -264,6 +106,12 @@ pub trait Marker {
 }
 
 /// Source text with markers: annotations or patches.
+///
+/// ```text
+/// Snippet::source(alloc, "let x = 1;")
+///     .path(OptionCow::from("a.rs"))
+///     .annotation(AnnotationKind::Primary.span(4..5))?
+/// ```
 #[derive(Debug, Drop)]
 pub struct Snippet<'a, T> {
     /// The path of the file that the source is of.
@@ -313,6 +161,15 @@ impl<'a, T> Snippet<'a, T> {
         }
     }
 
+    /// The path of the file that the source is of, or none where there is none. The path isn't trusted: it is normalised
+    /// where it is drawn.
+    pub fn path(mut self, path: OptionCow<'a>) -> Snippet<'a, T>
+        ensures changed { result ≡ record self.entry { path = path.entry.0 } }
+    {
+        self.path = path.0;
+        self
+    }
+
     /// The number of the source's first line.
     pub fn line_start(mut self, line_start: usize) -> Snippet<'a, T>
         ensures changed { result ≡ record self.entry { line_start = line_start } }
@@ -335,79 +192,6 @@ impl<'a, T> Snippet<'a, T> {
     {
         self.fold = fold;
         self
-    }
-}
-
-impl<'a> Snippet<'a, Annotation<'a>> {
-    /// The snippet with one more annotation behind those it has. The one error is want of memory.
-    pub fn annotation(
-        mut self,
-        annotation: Annotation<'a>,
-    ) -> Result<Snippet<'a, Annotation<'a>>, AllocError>
-        ensures annotations { IfOk result
-            (λ s. s.markers.items ≡ self.entry.markers.items ++ annotation.entry ∷ []) }
-        ensures source { IfOk result (λ s. s.source ≡ self.entry.source) }
-        ensures path { IfOk result (λ s. s.path ≡ self.entry.path) }
-        ensures line_start { IfOk result (λ s. s.line_start ≡ self.entry.line_start) }
-        ensures line_numbering { IfOk result (λ s. s.line_numbering ≡ self.entry.line_numbering) }
-        ensures fold { IfOk result (λ s. s.fold ≡ self.entry.fold) }
-    {
-        self.markers.push(annotation)?;
-        Ok(self)
-    }
-
-    /// The snippet with these annotations behind those it has, in their order. The one error is want of memory.
-    pub fn annotations<I: IntoIterator<Item = Annotation<'a>>>(
-        mut self,
-        annotations: I,
-    ) -> Result<Snippet<'a, Annotation<'a>>, AllocError>
-        requires ends { IsFiniteIterable I.into_iter_gives I.IntoIter.can_next I.IntoIter.remaining annotations }
-        ensures annotations { IfOk result (λ s. (it : I.IntoIter) × (xs : List Annotation)
-            × I.into_iter_gives annotations it × Drains I.IntoIter.next_gives it xs
-            × (s.markers.items ≡ self.entry.markers.items ++ xs)) }
-        ensures source { IfOk result (λ s. s.source ≡ self.entry.source) }
-        ensures path { IfOk result (λ s. s.path ≡ self.entry.path) }
-        ensures line_start { IfOk result (λ s. s.line_start ≡ self.entry.line_start) }
-        ensures line_numbering { IfOk result (λ s. s.line_numbering ≡ self.entry.line_numbering) }
-        ensures fold { IfOk result (λ s. s.fold ≡ self.entry.fold) }
-    {
-        self.markers.extend(annotations)?;
-        Ok(self)
-    }
-}
-
-impl<'a> Snippet<'a, Patch<'a>> {
-    /// The snippet with one more patch behind those it has. The one error is want of memory.
-    pub fn patch(mut self, patch: Patch<'a>) -> Result<Snippet<'a, Patch<'a>>, AllocError>
-        ensures patches { IfOk result
-            (λ s. s.markers.items ≡ self.entry.markers.items ++ patch.entry ∷ []) }
-        ensures source { IfOk result (λ s. s.source ≡ self.entry.source) }
-        ensures path { IfOk result (λ s. s.path ≡ self.entry.path) }
-        ensures line_start { IfOk result (λ s. s.line_start ≡ self.entry.line_start) }
-        ensures line_numbering { IfOk result (λ s. s.line_numbering ≡ self.entry.line_numbering) }
-        ensures fold { IfOk result (λ s. s.fold ≡ self.entry.fold) }
-    {
-        self.markers.push(patch)?;
-        Ok(self)
-    }
-
-    /// The snippet with these patches behind those it has, in their order. The one error is want of memory.
-    pub fn patches<I: IntoIterator<Item = Patch<'a>>>(
-        mut self,
-        patches: I,
-    ) -> Result<Snippet<'a, Patch<'a>>, AllocError>
-        requires ends { IsFiniteIterable I.into_iter_gives I.IntoIter.can_next I.IntoIter.remaining patches }
-        ensures patches { IfOk result (λ s. (it : I.IntoIter) × (xs : List Patch)
-            × I.into_iter_gives patches it × Drains I.IntoIter.next_gives it xs
-            × (s.markers.items ≡ self.entry.markers.items ++ xs)) }
-        ensures source { IfOk result (λ s. s.source ≡ self.entry.source) }
-        ensures path { IfOk result (λ s. s.path ≡ self.entry.path) }
-        ensures line_start { IfOk result (λ s. s.line_start ≡ self.entry.line_start) }
-        ensures line_numbering { IfOk result (λ s. s.line_numbering ≡ self.entry.line_numbering) }
-        ensures fold { IfOk result (λ s. s.fold ≡ self.entry.fold) }
-    {
-        self.markers.extend(patches)?;
-        Ok(self)
     }
 }
 

@@ -3,6 +3,8 @@
 #![tactic(auto)]
 
 #[cfg(test)]
+mod builders;
+#[cfg(test)]
 mod codes;
 #[cfg(test)]
 mod grid;

@@ -1,0 +1,2 @@
+pub mod CloneLemmas
+pub mod ZipLemmas

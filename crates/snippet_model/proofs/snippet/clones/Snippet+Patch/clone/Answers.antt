@@ -1,0 +1,20 @@
+use Rattle.std.proofs.Common.{refl, arith}
+use Rattle.std.proofs.lemmas.Grind.{common_steps}
+use Rattle.snippet_model.specs.Same.{SameOption, SameText}
+use Rattle.snippet_model.proofs.CloneLemmas.{same_patch}
+use Rattle.snippet_model.proofs.ZipLemmas.{AllZip-weaker}
+use Rattle.snippet_model.proofs.snippet.clones.Snippet+Patch.clone.Goals as goal
+
+pub returns : goal.returns
+returns c =
+    let path : SameOption SameText c.args.self.now.path c.in_ok-clone.field-0 = grind (arith, common_steps) in
+    record {
+      same = (
+        path,
+        refl,
+        c.in_ok-clone-2.ensures.cases,
+        AllZip-weaker _ _ same_patch _ _ c.in_ok-clone-3.ensures.cases.0,
+        refl,
+        refl,
+      );
+    }

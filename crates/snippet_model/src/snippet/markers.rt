@@ -1,0 +1,79 @@
+//! How snippets get their annotations and patches.
+ghost use Rattle.std.specs.Prelude.{◌≡◌, List, [], ◌∷◌, ◌++◌, IfOk};
+ghost use Rattle.std.specs.Iterator.{IsFiniteIterable, Drains};
+
+use super::{Annotation, Patch, Snippet};
+use std::alloc::AllocError;
+
+impl<'a> Snippet<'a, Annotation<'a>> {
+    /// The snippet with one more annotation behind those it has. The one error is want of memory.
+    pub fn annotation(
+        mut self,
+        annotation: Annotation<'a>,
+    ) -> Result<Snippet<'a, Annotation<'a>>, AllocError>
+        ensures annotations { IfOk result
+            (λ s. s.markers.items ≡ self.entry.markers.items ++ annotation.entry ∷ []) }
+        ensures source { IfOk result (λ s. s.source ≡ self.entry.source) }
+        ensures path { IfOk result (λ s. s.path ≡ self.entry.path) }
+        ensures line_start { IfOk result (λ s. s.line_start ≡ self.entry.line_start) }
+        ensures line_numbering { IfOk result (λ s. s.line_numbering ≡ self.entry.line_numbering) }
+        ensures fold { IfOk result (λ s. s.fold ≡ self.entry.fold) }
+    {
+        self.markers.push(annotation)?;
+        Ok(self)
+    }
+
+    /// The snippet with these annotations behind those it has, in their order. The one error is want of memory.
+    pub fn annotations<I: IntoIterator<Item = Annotation<'a>>>(
+        mut self,
+        annotations: I,
+    ) -> Result<Snippet<'a, Annotation<'a>>, AllocError>
+        requires ends { IsFiniteIterable I.into_iter_gives I.IntoIter.can_next I.IntoIter.remaining annotations }
+        ensures annotations { IfOk result (λ s. (it : I.IntoIter) × (xs : List Annotation)
+            × I.into_iter_gives annotations it × Drains I.IntoIter.next_gives it xs
+            × (s.markers.items ≡ self.entry.markers.items ++ xs)) }
+        ensures source { IfOk result (λ s. s.source ≡ self.entry.source) }
+        ensures path { IfOk result (λ s. s.path ≡ self.entry.path) }
+        ensures line_start { IfOk result (λ s. s.line_start ≡ self.entry.line_start) }
+        ensures line_numbering { IfOk result (λ s. s.line_numbering ≡ self.entry.line_numbering) }
+        ensures fold { IfOk result (λ s. s.fold ≡ self.entry.fold) }
+    {
+        self.markers.extend(annotations)?;
+        Ok(self)
+    }
+}
+
+impl<'a> Snippet<'a, Patch<'a>> {
+    /// The snippet with one more patch behind those it has. The one error is want of memory.
+    pub fn patch(mut self, patch: Patch<'a>) -> Result<Snippet<'a, Patch<'a>>, AllocError>
+        ensures patches { IfOk result
+            (λ s. s.markers.items ≡ self.entry.markers.items ++ patch.entry ∷ []) }
+        ensures source { IfOk result (λ s. s.source ≡ self.entry.source) }
+        ensures path { IfOk result (λ s. s.path ≡ self.entry.path) }
+        ensures line_start { IfOk result (λ s. s.line_start ≡ self.entry.line_start) }
+        ensures line_numbering { IfOk result (λ s. s.line_numbering ≡ self.entry.line_numbering) }
+        ensures fold { IfOk result (λ s. s.fold ≡ self.entry.fold) }
+    {
+        self.markers.push(patch)?;
+        Ok(self)
+    }
+
+    /// The snippet with these patches behind those it has, in their order. The one error is want of memory.
+    pub fn patches<I: IntoIterator<Item = Patch<'a>>>(
+        mut self,
+        patches: I,
+    ) -> Result<Snippet<'a, Patch<'a>>, AllocError>
+        requires ends { IsFiniteIterable I.into_iter_gives I.IntoIter.can_next I.IntoIter.remaining patches }
+        ensures patches { IfOk result (λ s. (it : I.IntoIter) × (xs : List Patch)
+            × I.into_iter_gives patches it × Drains I.IntoIter.next_gives it xs
+            × (s.markers.items ≡ self.entry.markers.items ++ xs)) }
+        ensures source { IfOk result (λ s. s.source ≡ self.entry.source) }
+        ensures path { IfOk result (λ s. s.path ≡ self.entry.path) }
+        ensures line_start { IfOk result (λ s. s.line_start ≡ self.entry.line_start) }
+        ensures line_numbering { IfOk result (λ s. s.line_numbering ≡ self.entry.line_numbering) }
+        ensures fold { IfOk result (λ s. s.fold ≡ self.entry.fold) }
+    {
+        self.markers.extend(patches)?;
+        Ok(self)
+    }
+}
