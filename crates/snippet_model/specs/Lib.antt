@@ -1,4 +1,5 @@
 pub mod Fits
+pub mod Heading
 pub mod Level
 pub mod OptionCow
 pub mod Same

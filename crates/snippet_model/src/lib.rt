@@ -3,10 +3,12 @@
 #![tactic(auto)]
 
 pub mod level;
+pub mod message_or_title;
 pub mod option_cow;
 pub mod snippet;
 
 pub use level::Level;
+pub use message_or_title::MessageOrTitle;
 pub use option_cow::OptionCow;
 pub use snippet::{
     Annotation, AnnotationKind, Element, Group, Id, Marker, Message, Origin, Padding, Patch,

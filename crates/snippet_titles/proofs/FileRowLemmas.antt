@@ -13,7 +13,7 @@ use Rattle.snippet_titles.specs.declared.origin.FileStart.TheVariants.{Alone, Fi
 use Rattle.snippet_titles.specs.declared.origin.NamedPlace.{NamedPlace}
 use Rattle.snippet_titles.specs.declared.origin.OriginLayout.{OriginLayout}
 use Rattle.snippet_titles.specs.Origin.{file_glyph, file_row, origin_row, origin_text, separator_row, closing_row}
-use Rattle.snippet_titles.proofs.RowLemmas.{extended, extended_from, length-begun}
+use Rattle.snippet_titles.proofs.ExtendLemmas.{extended, extended_from, length-begun}
 
 -- the glyphs that only the rows of paths have, as characters
 pub chars-alone : chars (32 ∷ 226 ∷ 148 ∷ 128 ∷ 226 ∷ 150 ∷ 184 ∷ 32 ∷ []) ≡ codes " ─▸ "

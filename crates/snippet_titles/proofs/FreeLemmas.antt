@@ -1,19 +1,28 @@
--- A title's rows hold no listed character where the level's name holds none.
-use Rattle.std.proofs.Common.{◌≡◌, ℕ, ◌==◌, Bool, true, false, List, [], ◌∷◌, ◌++◌, map, replicate, codes, chars, All, Option, None, Some, refl, sym, subst, arith}
-use Rattle.std.specs.List.{slice_split, onto_first, list_any}
-use Rattle.std.proofs.lemmas.List.Elements.{All-nil, All-cons, All-head, All-tail, All-append, All-map, All-replicate, All-weaker}
+-- A heading's rows hold no listed character but those of a trusted text.
+use Rattle.std.proofs.Common.{◌≡◌, ℕ, ◌==◌, ◌+◌, Bool, true, false, List, [], ◌∷◌, ◌++◌, map, replicate, chars, All, Option, None, Some, refl, sym, subst, arith}
+use Rattle.std.specs.List.{slice_split, onto_first, list_any, Contains}
+use Rattle.std.proofs.lemmas.List.{get_or_default}
+use Rattle.std.proofs.lemmas.List.Elements.{All-nil, All-cons, All-head, All-tail, All-append, All-from_get_or, All-map, All-replicate, All-weaker}
 use Rattle.std.proofs.lemmas.List.Splits.{slice_split-cons_yes, slice_split-cons_no}
 use Rattle.std.specs.Cow.{cow_str_bytes}
 use Rattle.std.specs.Option.{option_map}
-use Rattle.snippet_style.specs.Grid.{Cell}
+use Rattle.snippet_style.specs.declared.glyphs.DecorStyle.{DecorStyle}
+use Rattle.snippet_style.specs.declared.glyphs.DecorStyle.TheVariants.{Ascii, Unicode}
+use Rattle.snippet_style.specs.declared.role.ElementStyle.{ElementStyle}
+use Rattle.snippet_style.specs.declared.role.ElementStyle.TheVariants.{LineNumber}
+use Rattle.snippet_style.specs.Grid.{Cell, SPACE, drawn}
 use Rattle.snippet_style.specs.Print.{row_text}
 use Rattle.snippet_text.specs.Normalized.{norm, is_listed}
 use Rattle.snippet_text.proofs.NormLemmas.{list_any-norm}
 use Rattle.snippet_model.specs.declared.snippet.Id.{Id}
-use Rattle.snippet_model.specs.declared.snippet.Title.{Title}
+use Rattle.snippet_model.specs.Heading.{Heading, is_hidden}
 use Rattle.snippet_model.specs.Level.{name_of}
-use Rattle.snippet_titles.specs.Title.{label_width, first_row, further_row, rows_of_lines, title_lines, title_rows}
-use Rattle.snippet_titles.proofs.TextLemmas.{bracketed_text, id_text, label_text, row_text-first, row_text-further}
+use Rattle.snippet_titles.specs.declared.style.HeadingRoles.{HeadingRoles}
+use Rattle.snippet_titles.specs.declared.style.TitleStyle.{TitleStyle}
+use Rattle.snippet_titles.specs.declared.style.TitleStyle.TheVariants.{Title, Short, Message}
+use Rattle.snippet_titles.specs.Heading.{bracketed_text, closing_of, colon_of, drawn_text, heading_lines, heading_rows, id_text, indent_cells, label_cells, label_text, label_width, lines_below, note_bar_of, note_sign_of, on_top, opening_of, roles_of, sign_cells, trimmed}
+use Rattle.snippet_titles.specs.Shown.{IsFreeButText}
+use Rattle.snippet_titles.proofs.TextLemmas.{row_text-append, row_text-behind, row_text-drawn, row_text-label, row_text-spaces}
 
 -- a character that isn't listed
 abbrev pub IsFree : ℕ → Type 0
@@ -49,41 +58,126 @@ module _ (P : ℕ → Type 0) (p : ℕ → Bool) where
   All-slice_split (x ∷ xs) all =
       cut-more x xs (p x) refl (All-head P x xs all) (All-slice_split xs (All-tail P x xs all))
 
--- the characters of an id in brackets, and of a label
-id_text-free : (id : Option Id) → All IsFree (id_text id)
-id_text-free None = All-nil IsFree
-id_text-free (Some id) = text_free (option_map cow_str_bytes id.id)
-  where
-    text_free : (text : Option (List ℕ)) → All IsFree (bracketed_text text)
-    text_free None = All-nil IsFree
-    text_free (Some text) =
-        All-append IsFree (codes "[" ++ norm (chars text)) (codes "]") (All-append IsFree (codes "[") (norm (chars text)) (All-cons IsFree 91 [] refl (All-nil IsFree)) (norm-free (chars text))) (All-cons IsFree 93 [] refl (All-nil IsFree))
+-- what holds of each row holds where rows at the end aren't there
+module _ (P : List Cell → Type 0) where
+  All-on_top : (row : List Cell) (rows : List (List Cell)) → P row → All P rows → All P (on_top row rows)
+  All-on_top [] [] one all = All-nil P
+  All-on_top [] (r ∷ rows) one all = All-cons P [] (r ∷ rows) one all
+  All-on_top (cell ∷ cells) rows one all = All-cons P (cell ∷ cells) rows one all
 
-label_text-free : (title : Title) → All IsFree (chars (name_of title.level)) → All IsFree (label_text title)
-label_text-free title named =
-    All-append IsFree (chars (name_of title.level) ++ id_text title.id) (codes ": ") (All-append IsFree (chars (name_of title.level)) (id_text title.id) named (id_text-free title.id)) (All-cons IsFree 58 (32 ∷ []) refl (All-cons IsFree 32 [] refl (All-nil IsFree)))
+  pub All-trimmed : (rows : List (List Cell)) → All P rows → All P (trimmed rows)
+  All-trimmed [] all = All-nil P
+  All-trimmed (row ∷ rows) all =
+      All-on_top row (trimmed rows) (All-head P row rows all) (All-trimmed rows (All-tail P row rows all))
+
+-- what holds of each character that isn't listed
+module _ (P : ℕ → Type 0) (free : (c : ℕ) → IsFree c → P c) where
+  -- holds of those of an id, of a label, and of what stands left of them
+  from_free : (cs : List ℕ) → All IsFree cs → All P cs
+  from_free cs all = All-weaker IsFree P free cs all
+
+  opening-all : (hidden : Bool) → All P (opening_of hidden)
+  opening-all true = All-nil P
+  opening-all false = All-cons P 91 [] (free 91 refl) (All-nil P)
+
+  closing-all : (hidden : Bool) → All P (closing_of hidden)
+  closing-all true = All-nil P
+  closing-all false = All-cons P 93 [] (free 93 refl) (All-nil P)
+
+  colon-all : (hidden : Bool) (id : Option Id) → All P (colon_of hidden id)
+  colon-all true None = All-nil P
+  colon-all true (Some id) = All-cons P 58 (32 ∷ []) (free 58 refl) (All-cons P 32 [] (free 32 refl) (All-nil P))
+  colon-all false id = All-cons P 58 (32 ∷ []) (free 58 refl) (All-cons P 32 [] (free 32 refl) (All-nil P))
+
+  text-all : (hidden : Bool) (text : Option (List ℕ)) → All P (bracketed_text hidden text)
+  text-all hidden None = All-nil P
+  text-all hidden (Some text) =
+      All-append P (opening_of hidden ++ norm (chars text)) (closing_of hidden) (All-append P (opening_of hidden) (norm (chars text)) (opening-all hidden) (from_free (norm (chars text)) (norm-free (chars text)))) (closing-all hidden)
+
+  id-all : (hidden : Bool) (id : Option Id) → All P (id_text hidden id)
+  id-all hidden None = All-nil P
+  id-all hidden (Some id) = text-all hidden (option_map cow_str_bytes id.id)
+
+  label-all : (heading : Heading) → All P (label_text heading)
+  label-all heading =
+      let hidden : Bool = is_hidden heading.level.name in
+      let name : List ℕ = norm (chars (name_of heading.level)) in
+      All-append P (name ++ id_text hidden heading.id) (colon_of hidden heading.id) (All-append P name (id_text hidden heading.id) (from_free name (norm-free (chars (name_of heading.level)))) (id-all hidden heading.id)) (colon-all hidden heading.id)
+
+  spaces-all : (n : ℕ) → All P (row_text (replicate n SPACE))
+  spaces-all n = subst (All P) (sym (row_text-spaces n)) (All-replicate P n 32 (free 32 refl))
+
+  note_sign-all : (decor : DecorStyle) (followed : Bool) → All P (note_sign_of decor followed)
+  note_sign-all Ascii followed = All-cons P 61 (32 ∷ []) (free 61 refl) (All-cons P 32 [] (free 32 refl) (All-nil P))
+  note_sign-all Unicode true = All-cons P 0x251C (32 ∷ []) (free 0x251C refl) (All-cons P 32 [] (free 32 refl) (All-nil P))
+  note_sign-all Unicode false = All-cons P 0x2570 (32 ∷ []) (free 0x2570 refl) (All-cons P 32 [] (free 32 refl) (All-nil P))
+
+  note_bar-free : (decor : DecorStyle) (followed : Bool) → P (note_bar_of decor followed).ch
+  note_bar-free Ascii followed = free 32 refl
+  note_bar-free Unicode true = free 0x2502 refl
+  note_bar-free Unicode false = free 32 refl
+
+  parts-all : (xs ys : List Cell) → All P (row_text xs) → All P (row_text ys) → All P (row_text (xs ++ ys))
+  parts-all xs ys first second =
+      subst (All P) (sym (row_text-append xs ys)) (All-append P (row_text xs) (row_text ys) first second)
+
+  sign-all : (style : TitleStyle) → All P (row_text (sign_cells style))
+  sign-all Title = All-nil P
+  sign-all Short = All-nil P
+  sign-all (Message place) =
+      let sign : List ℕ = note_sign_of place.decor place.followed in
+      parts-all (replicate (place.gutter + 1) SPACE) (drawn LineNumber sign) (spaces-all (place.gutter + 1)) (subst (All P) (sym (row_text-drawn LineNumber sign)) (note_sign-all place.decor place.followed))
+
+  indent-all : (style : TitleStyle) (width : ℕ) → All P (row_text (indent_cells style width))
+  indent-all Title width = spaces-all width
+  indent-all Short width = spaces-all width
+  indent-all (Message place) width =
+      let bar : Cell = note_bar_of place.decor place.followed in
+      parts-all (replicate (place.gutter + 1) SPACE) (bar ∷ replicate (width + 1) SPACE) (spaces-all (place.gutter + 1)) (All-cons P bar.ch (row_text (replicate (width + 1) SPACE)) (note_bar-free place.decor place.followed) (spaces-all (width + 1)))
+
+  -- and of those of the rows of lines, where it holds of those of the lines
+  row-all : (cells : List Cell) (r : ElementStyle) → All P (row_text cells) → (line : List ℕ) → All P line → All P (row_text (cells ++ drawn r line))
+  row-all cells r before line all =
+      subst (All P) (sym (row_text-behind cells (row_text cells) r line refl)) (All-append P (row_text cells) line before all)
+
+  lines-all : (first further : List Cell) (r : ElementStyle) (lines : List (List ℕ)) → All P (row_text first) → All P (row_text further) → All (All P) lines → All (λ row. All P (row_text row)) (lines_below first further r lines)
+  lines-all first further r [] begun below all = All-nil (λ row. All P (row_text row))
+  lines-all first further r (line ∷ lines) begun below all =
+      All-cons (λ row. All P (row_text row)) (first ++ drawn r line) (map (λ l. further ++ drawn r l) lines) (row-all first r begun line (All-head (All P) line lines all)) (All-map (λ row. All P (row_text row)) (λ l. further ++ drawn r l) lines (All-weaker (All P) (λ l. All P (row_text (further ++ drawn r l))) (row-all further r below) lines (All-tail (All P) line lines all)))
+
+  pub heading_rows-all : (hyperlink : Bool) (style : TitleStyle) (heading : Heading) → All P (drawn_text heading) → All (λ row. All P (row_text row)) (heading_rows hyperlink style heading)
+  unfolding heading_rows
+  heading_rows-all hyperlink style heading all =
+      let roles : HeadingRoles = roles_of style heading.level.kind heading.allows_styling in
+      let label : List Cell = label_cells hyperlink roles heading in
+      let first : List Cell = sign_cells style ++ label in
+      let further : List Cell = indent_cells style (label_width heading) in
+      All-trimmed (λ row. All P (row_text row)) (lines_below first further roles.text (heading_lines heading)) (lines-all first further roles.text (heading_lines heading) (parts-all (sign_cells style) label (sign-all style) (subst (All P) (sym (row_text-label hyperlink roles heading)) (label-all heading))) (indent-all style (label_width heading)) (All-slice_split P (λ c. c == 10) (drawn_text heading) all))
 
 -- a row none of whose cells holds a listed character
 abbrev pub IsFreeText : List Cell → Type 0
 IsFreeText row = All IsFree (row_text row)
 
-first_row-free : (hyperlink : Bool) (title : Title) (line : List ℕ) → All IsFree (chars (name_of title.level)) → All IsFree line → IsFreeText (first_row hyperlink title line)
-first_row-free hyperlink title line named all =
-    subst (All IsFree) (sym (row_text-first hyperlink title line)) (All-append IsFree (label_text title) line (label_text-free title named) all)
+-- the rows of a heading whose text isn't trusted hold no listed character
+pub heading_rows-untrusted : (hyperlink : Bool) (style : TitleStyle) (heading : Heading) → heading.allows_styling ≡ false → All IsFreeText (heading_rows hyperlink style heading)
+heading_rows-untrusted hyperlink style heading untrusted =
+    heading_rows-all IsFree (λ c is. is) hyperlink style heading (rw untrusted (norm-free (chars heading.text)))
 
-further_row-free : (indent : ℕ) (line : List ℕ) → All IsFree line → IsFreeText (further_row indent line)
-further_row-free indent line all =
-    subst (All IsFree) (sym (row_text-further indent line)) (All-append IsFree (replicate indent 32) line (All-replicate IsFree indent 32 refl) all)
+-- each listed character of a heading's rows stands in its text, and that is trusted
+abbrev IsOwn : Heading → ℕ → Type 0
+IsOwn heading c = is_listed c ≡ true → (heading.allows_styling ≡ true) × Contains (chars heading.text) c
 
--- the rows of lines
-rows_of_lines-free : (hyperlink : Bool) (title : Title) (lines : List (List ℕ)) → All IsFree (chars (name_of title.level)) → All (All IsFree) lines → All IsFreeText (rows_of_lines hyperlink title lines)
-rows_of_lines-free hyperlink title [] named all = All-nil IsFreeText
-rows_of_lines-free hyperlink title (line ∷ lines) named all =
-    let indent = label_width title in
-    All-cons IsFreeText (first_row hyperlink title line) (map (further_row indent) lines) (first_row-free hyperlink title line named (All-head (All IsFree) line lines all)) (All-map IsFreeText (further_row indent) lines (All-weaker (All IsFree) (λ cs. IsFreeText (further_row indent cs)) (further_row-free indent) lines (All-tail (All IsFree) line lines all)))
+own_unlisted : (heading : Heading) (c : ℕ) → IsFree c → IsOwn heading c
+own_unlisted heading c unlisted listed = cc
 
--- a title's rows hold no listed character where the level's name holds none
-pub title_rows-free : (hyperlink : Bool) (title : Title) → All IsFree (chars (name_of title.level)) → All IsFreeText (title_rows hyperlink title)
-unfolding title_rows title_lines
-title_rows-free hyperlink title named =
-    rows_of_lines-free hyperlink title _ named (All-slice_split IsFree (λ c. c == 10) (norm (chars (cow_str_bytes title.text))) (norm-free (chars (cow_str_bytes title.text))))
+own_text : (heading : Heading) (trusted : Bool) → heading.allows_styling ≡ trusted → All (IsOwn heading) (drawn_text heading)
+own_text heading true is =
+    let same : drawn_text heading ≡ chars heading.text = rw is refl in
+    subst (All (IsOwn heading)) (sym same) (All-from_get_or (IsOwn heading) (chars heading.text) 0 (λ k within listed. (is, (k, within, get_or_default (chars heading.text) k _ 0 within))))
+own_text heading false is =
+    let same : drawn_text heading ≡ norm (chars heading.text) = rw is refl in
+    subst (All (IsOwn heading)) (sym same) (All-weaker IsFree (IsOwn heading) (own_unlisted heading) (norm (chars heading.text)) (norm-free (chars heading.text)))
+
+pub heading_rows-free : (hyperlink : Bool) (style : TitleStyle) (heading : Heading) → All (IsFreeButText heading) (heading_rows hyperlink style heading)
+heading_rows-free hyperlink style heading =
+    heading_rows-all (IsOwn heading) (own_unlisted heading) hyperlink style heading (own_text heading heading.allows_styling refl)

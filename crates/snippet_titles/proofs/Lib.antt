@@ -1,7 +1,13 @@
+pub mod AddedLemmas
+pub mod AppendLemmas
 pub mod DigitLemmas
+pub mod EndLemmas
+pub mod ExtendLemmas
 pub mod FileRowLemmas
 pub mod FreeLemmas
 pub mod HeadLemmas
+pub mod HeadingLemmas
+pub mod LabelLemmas
 pub mod LineLemmas
 pub mod LinkLemmas
 pub mod OriginExamples
@@ -11,5 +17,6 @@ pub mod OriginRowText
 pub mod OriginText
 pub mod PlaceLemmas
 pub mod RowLemmas
+pub mod SignLemmas
 pub mod SplitLemmas
 pub mod TextLemmas

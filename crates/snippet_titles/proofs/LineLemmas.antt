@@ -1,16 +1,19 @@
--- What the lines of a text are where it is cut at its first line feed.
-use Rattle.std.proofs.Common.{◌≡◌, ◌≢◌, ℕ, ◌<◌, ◌==◌, Bool, false, List, [], ◌∷◌, ◌++◌, length, map, get_or, refl, sym, ap, ◌∙◌, arith}
-use Rattle.std.specs.Str.{chars, IsUtf8}
+-- The rows of a text's lines.
+use Rattle.std.proofs.Common.{◌≡◌, ◌≢◌, ℕ, ◌+◌, ◌<◌, ◌==◌, false, List, [], ◌∷◌, ◌++◌, length, map, take, get_or, refl, sym, ap, ◌∙◌, arith}
+use Rattle.std.specs.Borrow.{Bor}
+use Rattle.std.specs.List.{enumerate_from}
+use Rattle.std.specs.Str.{chars}
 use Rattle.std.proofs.lemmas.Bool.Decides.{nat_tests}
-use Rattle.std.proofs.lemmas.List.{append_assoc}
+use Rattle.std.proofs.lemmas.List.{get_or_past, length-append, length-map, length-take, map-append}
+use Rattle.std.proofs.lemmas.List.FromFn.{get_or-enumerate_from, length-enumerate_from}
 use Rattle.std.proofs.lemmas.List.Splits.{slice_split_none, slice_split_at}
 use Rattle.std.proofs.lemmas.List.Elements.{All-from_get_or}
-use Rattle.snippet_style.specs.Grid.{Cell}
-use Rattle.snippet_text.specs.Normalized.{norm}
-use Rattle.std.specs.Cow.{cow_str_bytes}
-use Rattle.snippet_model.specs.declared.snippet.Title.{Title}
-use Rattle.snippet_titles.specs.Title.{label_width, first_row, further_row, rows_of_lines, title_lines, title_rows}
-use Rattle.snippet_titles.proofs.SplitLemmas.{lines_at, lines_at-chars}
+use Rattle.snippet_style.specs.Grid.{Cell, drawn, row_at}
+use Rattle.snippet_style.specs.declared.role.ElementStyle.{ElementStyle}
+use Rattle.snippet_titles.specs.Appended.{IsAtEnd, appended}
+use Rattle.snippet_titles.specs.Heading.{lines_below, trimmed}
+use Rattle.snippet_titles.proofs.SplitLemmas.{lines_at}
+use Rattle.snippet_titles.proofs.EndLemmas.{IsAtEnd-more, appended-further, refilled}
 
 -- a text without a line feed is one line
 pub lines_at-one : (text : List ℕ) → ((i : ℕ) → i < length text → get_or text i 0 ≢ 10) → lines_at text ≡ text ∷ []
@@ -21,19 +24,55 @@ pub lines_at-first : (text first rest : List ℕ) → text ≡ first ++ (10 ∷ 
 lines_at-first text first rest whole none =
     ap lines_at whole ∙ slice_split_at (λ b. b == 10) first 10 rest (All-from_get_or (λ b. (b == 10) ≡ false) first 0 (λ i within. let other : get_or first i 0 ≢ 10 = none i within in grind (arith, nat_tests))) refl
 
--- the rows of a text that is one line
-pub rows-one : (old new : List (List Cell)) (hyperlink : Bool) (title : Title) (text : List ℕ) → lines_at text ≡ text ∷ [] → new ≡ old ++ first_row hyperlink title (chars text) ∷ [] → new ≡ old ++ rows_of_lines hyperlink title (map chars (lines_at text))
-rows-one old new hyperlink title text one is =
-    is ∙ ap (λ (lines : List (List ℕ)). old ++ rows_of_lines hyperlink title (map chars lines)) (sym one)
+-- a text of one line, behind the cells of the last row
+pub one_line : (old new : List (List Cell)) (row : ℕ) (further : List Cell) (role : ElementStyle) (text : List ℕ) → IsAtEnd row old → lines_at text ≡ text ∷ [] → new ≡ appended old row (drawn role (chars text)) → new ≡ take row old ++ trimmed (lines_below (row_at old row) further role (map chars (lines_at text)))
+one_line old new row further role text end one is =
+    let more = IsAtEnd-more old new row (drawn role (chars text)) end is in
+    more.2.last ∙ ap (λ rs. rs ++ trimmed (row_at new row ∷ [])) more.0 ∙ ap (λ (r : List Cell). take row old ++ trimmed (r ∷ [])) more.1 ∙ ap (λ (ls : List (List ℕ)). take row old ++ trimmed (lines_below (row_at old row) further role (map chars ls))) (sym one)
 
--- the rows of a text of several lines
-pub rows-several : (old now new : List (List Cell)) (hyperlink : Bool) (title : Title) (indent : ℕ) (text first rest : List ℕ) → lines_at text ≡ first ∷ lines_at rest → indent ≡ label_width title → now ≡ old ++ first_row hyperlink title (chars first) ∷ [] → new ≡ now ++ map (further_row indent) (map chars (lines_at rest)) → new ≡ old ++ rows_of_lines hyperlink title (map chars (lines_at text))
-rows-several old now new hyperlink title indent text first rest several by begun further =
-    let row : List Cell = first_row hyperlink title (chars first) in
-    further ∙ ap (λ (rows : List (List Cell)). rows ++ map (further_row indent) (map chars (lines_at rest))) begun ∙ append_assoc old (row ∷ []) (map (further_row indent) (map chars (lines_at rest))) ∙ ap (λ n. old ++ row ∷ map (further_row n) (map chars (lines_at rest))) by ∙ ap (λ (lines : List (List ℕ)). old ++ rows_of_lines hyperlink title (map chars lines)) (sym several)
+-- the rows of numbered lines
+abbrev pub line_of : (ℕ × Bor (List ℕ)) → List ℕ
+line_of numbered = chars numbered.1.now
 
--- the lines of a title are those of its normalised text
-pub title_rows-normalized : (hyperlink : Bool) (title : Title) (normalized : List ℕ) → IsUtf8 normalized → chars normalized ≡ norm (chars (cow_str_bytes title.text)) → rows_of_lines hyperlink title (map chars (lines_at normalized)) ≡ title_rows hyperlink title
-unfolding title_rows title_lines
-title_rows-normalized hyperlink title normalized utf8 is =
-    ap (rows_of_lines hyperlink title) (lines_at-chars normalized utf8 ∙ ap lines_at is)
+abbrev pub further_rows : List Cell → ElementStyle → List (ℕ × Bor (List ℕ)) → List (List Cell)
+further_rows further role numbered = map (λ l. further ++ drawn role l) (map line_of numbered)
+
+-- the number of a line
+pub number_is : (lines : List (List ℕ)) (k index : ℕ) (line : List ℕ) → k < length (enumerate_from 0 lines) → ◌≡◌ {A = ℕ × List ℕ} (index, line) (get_or (enumerate_from 0 lines) k (index, line)) → index ≡ k
+number_is lines k index line within is =
+    let same = ap {A = ℕ × List ℕ} {B = ℕ} (λ p. p.0) (is ∙ get_or-enumerate_from 0 lines k (index, line) (omega (arith, within, length-enumerate_from 0 lines))) in
+    omega (arith, same)
+
+-- a row more
+pub further_drawn : (old grid new : List (List Cell)) (row index : ℕ) (further : List Cell) (role : ElementStyle) (numbered : List (ℕ × Bor (List ℕ))) (line : Bor (List ℕ)) → IsAtEnd row old → index ≡ length numbered → grid ≡ take row old ++ trimmed (row_at old row ∷ further_rows further role numbered) → new ≡ appended grid (row + 1 + index) (further ++ drawn role (chars line.now)) → new ≡ take row old ++ trimmed (row_at old row ∷ further_rows further role (numbered ++ (index, line) ∷ []))
+further_drawn old grid new row index further role numbered line end at is drawn_is =
+    let base : List (List Cell) = take row old in
+    let first : List Cell = row_at old row in
+    let more : List Cell = further ++ drawn role (chars line.now) in
+    let count : length (further_rows further role numbered) ≡ length numbered = length-map (map line_of numbered) (λ l. further ++ drawn role l) ∙ length-map numbered line_of in
+    let both : further_rows further role (numbered ++ (index, line) ∷ []) ≡ further_rows further role numbered ++ more ∷ [] = ap (map (λ l. further ++ drawn role l)) (map-append line_of numbered ((index, line) ∷ [])) ∙ map-append (λ l. further ++ drawn role l) (map line_of numbered) (chars line.now ∷ []) in
+    drawn_is ∙ ap (λ rs. appended rs (row + 1 + index) more) is ∙ appended-further base (first ∷ further_rows further role numbered) (row + 1 + index) more (omega (arith, length-take row old, end.within, count, at)) ∙ ap (λ rs. base ++ trimmed (first ∷ rs)) (sym both)
+
+-- the row below those that are drawn isn't there yet
+pub none_below : (old grid : List (List Cell)) (row index : ℕ) (further : List Cell) (role : ElementStyle) (numbered : List (ℕ × Bor (List ℕ))) → IsAtEnd row old → index ≡ length numbered → grid ≡ take row old ++ trimmed (row_at old row ∷ further_rows further role numbered) → row_at grid (row + 1 + index) ≡ []
+none_below old grid row index further role numbered end at is =
+    let base : List (List Cell) = take row old in
+    let all : List (List Cell) = row_at old row ∷ further_rows further role numbered in
+    let count : length (further_rows further role numbered) ≡ length numbered = length-map (map line_of numbered) (λ l. further ++ drawn role l) ∙ length-map numbered line_of in
+    get_or_past grid (row + 1 + index) [] (omega (arith, ap length is, length-append base (trimmed all), (refilled all).1, length-take row old, end.within, count, at))
+
+-- the lines without their numbers
+chars-numbered : (n : ℕ) (lines : List (List ℕ)) → map (λ (p : ℕ × List ℕ). chars p.1) (enumerate_from n lines) ≡ map chars lines
+chars-numbered n [] = refl
+chars-numbered n (line ∷ lines) = ap (λ ls. chars line ∷ ls) (chars-numbered (n + 1) lines)
+
+chars-seen : (numbered : List (ℕ × Bor (List ℕ))) → map line_of numbered ≡ map (λ (p : ℕ × List ℕ). chars p.1) (map (λ (p : ℕ × Bor (List ℕ)). (p.0, p.1.now)) numbered)
+chars-seen [] = refl
+chars-seen (line ∷ lines) = ap (λ ls. line_of line ∷ ls) (chars-seen lines)
+
+-- several lines
+pub several_lines : (old begun new : List (List Cell)) (row : ℕ) (further : List Cell) (role : ElementStyle) (text first rest : List ℕ) (numbered : List (ℕ × Bor (List ℕ))) → IsAtEnd row old → lines_at text ≡ first ∷ lines_at rest → begun ≡ appended old row (drawn role (chars first)) → new ≡ take row begun ++ trimmed (row_at begun row ∷ further_rows further role numbered) → map (λ (p : ℕ × Bor (List ℕ)). (p.0, p.1.now)) numbered ≡ enumerate_from 0 (lines_at rest) → new ≡ take row old ++ trimmed (lines_below (row_at old row) further role (map chars (lines_at text)))
+several_lines old begun new row further role text first rest numbered end several is drawn_is all =
+    let more = IsAtEnd-more old begun row (drawn role (chars first)) end is in
+    let lines : map line_of numbered ≡ map chars (lines_at rest) = chars-seen numbered ∙ ap (map (λ (p : ℕ × List ℕ). chars p.1)) all ∙ chars-numbered 0 (lines_at rest) in
+    drawn_is ∙ ap (λ rs. rs ++ trimmed (row_at begun row ∷ further_rows further role numbered)) more.0 ∙ ap (λ (r : List Cell). take row old ++ trimmed (r ∷ further_rows further role numbered)) more.1 ∙ ap (λ (ls : List (List ℕ)). take row old ++ trimmed ((row_at old row ++ drawn role (chars first)) ∷ map (λ l. further ++ drawn role l) ls)) lines ∙ ap (λ (ls : List (List ℕ)). take row old ++ trimmed (lines_below (row_at old row) further role (map chars ls))) (sym several)

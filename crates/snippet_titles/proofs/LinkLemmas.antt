@@ -1,33 +1,71 @@
--- A title's rows link to the address of its id, and to no other.
-use Rattle.std.proofs.Common.{◌≡◌, ℕ, zero, suc, ◌<◌, ◌==◌, Bool, Option, None, Some, List, [], ◌∷◌, ◌++◌, map, length, replicate, codes, chars, refl, ap, ◌∙◌, arith}
+-- A heading's rows link to the address of its id, and to no other.
+use Rattle.std.proofs.Common.{◌≡◌, ℕ, ◌+◌, ◌<◌, ◌==◌, Bool, true, false, Option, None, Some, List, [], ◌∷◌, ◌++◌, map, length, replicate, chars, All, refl, ap, ◌∙◌, arith}
 use Rattle.std.specs.Cow.{cow_str_bytes}
-use Rattle.std.proofs.lemmas.Cmp.{nat_list_eq_equiv}
 use Rattle.std.specs.declared.alloc.Global.{Global}
 use Rattle.std.specs.declared.borrow.CowStr.{CowStr}
+use Rattle.std.proofs.lemmas.Cmp.{nat_list_eq_equiv}
 use Rattle.std.proofs.lemmas.List.{append-nil}
+use Rattle.std.proofs.lemmas.List.Elements.{All-nil, All-append, All-cons, All-head, All-tail, All-replicate}
 use Rattle.std.proofs.lemmas.List.Splits.{length-slice_split}
+use Rattle.snippet_style.specs.declared.glyphs.DecorStyle.{DecorStyle}
+use Rattle.snippet_style.specs.declared.glyphs.DecorStyle.TheVariants.{Ascii, Unicode}
 use Rattle.snippet_style.specs.Grid.{Cell, SPACE, drawn, linked}
 use Rattle.snippet_style.specs.Woven.{link_begun, links_behind, links_of}
 use Rattle.snippet_style.specs.declared.role.ElementStyle.{ElementStyle}
-use Rattle.snippet_style.specs.declared.role.ElementStyle.TheVariants as role
+use Rattle.snippet_style.specs.declared.role.ElementStyle.TheVariants.{LineNumber}
 use Rattle.snippet_text.specs.Normalized.{norm}
 use Rattle.snippet_model.specs.declared.snippet.Id.{Id}
-use Rattle.snippet_model.specs.declared.snippet.Title.{Title}
+use Rattle.snippet_model.specs.declared.snippet.Title as the_title
+use Rattle.snippet_model.specs.Heading.{Heading, heading_of_title, is_hidden}
 use Rattle.snippet_model.specs.Level.{name_of}
-use Rattle.snippet_titles.specs.Title.{address_of, linked_to, bracketed_cells, id_cells, label_cells, label_width, first_row, further_row, rows_of_lines, title_lines, title_rows, text_links, id_links}
+use Rattle.snippet_titles.specs.declared.style.HeadingRoles.{HeadingRoles}
+use Rattle.snippet_titles.specs.declared.style.TitleStyle.{TitleStyle}
+use Rattle.snippet_titles.specs.declared.style.TitleStyle.TheVariants.{Title, Short, Message}
+use Rattle.snippet_titles.specs.Heading.{address_of, bracketed_cells, closing_of, colon_of, drawn_text, heading_lines, heading_rows, id_cells, indent_cells, label_cells, label_width, lines_below, linked_to, note_bar_of, note_sign_of, on_top, opening_of, roles_of, sign_cells, trimmed}
+use Rattle.snippet_titles.specs.Title.{id_links, text_links, title_rows}
 
--- drawn cells link to nothing, behind others and before them
-drawn-links : (last : Option (List ℕ)) (r : ElementStyle) (cs : List ℕ) → links_behind last (drawn r cs) ≡ []
-drawn-links last r [] = refl
-drawn-links last r (c ∷ cs) = drawn-links None r cs
+-- a cell that links to nothing
+abbrev pub IsUnlinked : Cell → Type 0
+IsUnlinked cell = cell.link ≡ None
 
-links-behind : (last : Option (List ℕ)) (xs : List Cell) (r : ElementStyle) (cs : List ℕ) → links_behind last (xs ++ drawn r cs) ≡ links_behind last xs
-links-behind last [] r cs = drawn-links last r cs
-links-behind last (x ∷ xs) r cs = ap (λ (urls : List (List ℕ)). link_begun last x.link ++ urls) (links-behind x.link xs r cs)
+pub drawn_unlinked : (r : ElementStyle) (cs : List ℕ) → All IsUnlinked (drawn r cs)
+drawn_unlinked r [] = All-nil IsUnlinked
+drawn_unlinked r (c ∷ cs) = All-cons IsUnlinked _ (drawn r cs) refl (drawn_unlinked r cs)
 
-links-before : (r : ElementStyle) (cs : List ℕ) (ys : List Cell) → links_behind None (drawn r cs ++ ys) ≡ links_behind None ys
-links-before r [] ys = refl
-links-before r (c ∷ cs) ys = links-before r cs ys
+bar_unlinked : (decor : DecorStyle) (followed : Bool) → IsUnlinked (note_bar_of decor followed)
+bar_unlinked Ascii followed = refl
+bar_unlinked Unicode true = refl
+bar_unlinked Unicode false = refl
+
+pub sign_unlinked : (style : TitleStyle) → All IsUnlinked (sign_cells style)
+sign_unlinked Title = All-nil IsUnlinked
+sign_unlinked Short = All-nil IsUnlinked
+sign_unlinked (Message place) =
+    let sign : List Cell = drawn LineNumber (note_sign_of place.decor place.followed) in
+    All-append IsUnlinked (replicate (place.gutter + 1) SPACE) sign (All-replicate IsUnlinked (place.gutter + 1) SPACE refl) (drawn_unlinked LineNumber (note_sign_of place.decor place.followed))
+
+pub indent_unlinked : (style : TitleStyle) (width : ℕ) → All IsUnlinked (indent_cells style width)
+indent_unlinked Title width = All-replicate IsUnlinked width SPACE refl
+indent_unlinked Short width = All-replicate IsUnlinked width SPACE refl
+indent_unlinked (Message place) width =
+    let bar : Cell = note_bar_of place.decor place.followed in
+    let spaces : List Cell = replicate (width + 1) SPACE in
+    All-append IsUnlinked (replicate (place.gutter + 1) SPACE) (bar ∷ spaces) (All-replicate IsUnlinked (place.gutter + 1) SPACE refl) (All-cons IsUnlinked bar spaces (bar_unlinked place.decor place.followed) (All-replicate IsUnlinked (width + 1) SPACE refl))
+
+-- such cells link to nothing, behind others and before them
+links-behind : (last : Option (List ℕ)) (xs ys : List Cell) → All IsUnlinked ys → links_behind last (xs ++ ys) ≡ links_behind last xs
+links-behind last [] [] none = refl
+links-behind last [] (y ∷ ys) none =
+    let here : y.link ≡ None = All-head IsUnlinked y ys none in
+    ap (λ l. link_begun last l ++ links_behind l ys) here ∙ links-behind None [] ys (All-tail IsUnlinked y ys none)
+links-behind last (x ∷ xs) ys none =
+    ap (λ (urls : List (List ℕ)). link_begun last x.link ++ urls) (links-behind x.link xs ys none)
+
+links-before : (xs ys : List Cell) → All IsUnlinked xs → links_behind None (xs ++ ys) ≡ links_behind None ys
+links-before [] ys none = refl
+links-before (x ∷ xs) ys none =
+    let here : x.link ≡ None = All-head IsUnlinked x xs none in
+    ap (λ l. link_begun None l ++ links_behind l (xs ++ ys)) here ∙ links-before xs ys (All-tail IsUnlinked x xs none)
 
 -- linked cells begin one link, if there are any
 same_link : (url : List ℕ) → link_begun (Some url) (Some url) ≡ []
@@ -40,56 +78,72 @@ linked-links url r (c ∷ cs) =
 
 links-linked : (address : Option (List ℕ)) (r : ElementStyle) (cs : List ℕ) → links_behind None (linked_to address (drawn r cs)) ≡ text_links address cs
 links-linked None r [] = refl
-links-linked None r (c ∷ cs) = drawn-links None r cs
+links-linked None r (c ∷ cs) = links-behind None [] (drawn r cs) (drawn_unlinked r cs)
 links-linked (Some url) r [] = refl
 links-linked (Some url) r (c ∷ cs) = ap (λ (urls : List (List ℕ)). url ∷ urls) (linked-links url r cs)
 
 -- an id's cells link to its address
-bracketed-links : (r : ElementStyle) (address : Option (List ℕ)) (text : List ℕ) → links_behind None (bracketed_cells r address (Some text)) ≡ text_links address (norm (chars text))
-bracketed-links r address text =
+bracketed-links : (hidden : Bool) (r : ElementStyle) (address : Option (List ℕ)) (text : List ℕ) → links_behind None (bracketed_cells hidden r address (Some text)) ≡ text_links address (norm (chars text))
+bracketed-links hidden r address text =
     let shown : List Cell = linked_to address (drawn r (norm (chars text))) in
-    links-behind None (drawn r (codes "[") ++ shown) r (codes "]") ∙ links-before r (codes "[") shown ∙ links-linked address r (norm (chars text))
+    let opening : List Cell = drawn r (opening_of hidden) in
+    links-behind None (opening ++ shown) (drawn r (closing_of hidden)) (drawn_unlinked r (closing_of hidden)) ∙ links-before opening shown (drawn_unlinked r (opening_of hidden)) ∙ links-linked address r (norm (chars text))
 
-id-links : (hyperlink : Bool) (r : ElementStyle) (id : Option Id) → links_behind None (id_cells hyperlink r id) ≡ id_links hyperlink id
-id-links hyperlink r None = refl
-id-links hyperlink r (Some id) = of_text id.id refl
+id-links : (hyperlink hidden : Bool) (r : ElementStyle) (id : Option Id) → links_behind None (id_cells hyperlink hidden r id) ≡ id_links hyperlink id
+id-links hyperlink hidden r None = refl
+id-links hyperlink hidden r (Some id) = of_text id.id refl
   where
-    of_text : (text : Option (CowStr Global)) → id.id ≡ text → links_behind None (id_cells hyperlink r (Some id)) ≡ id_links hyperlink (Some id)
+    of_text : (text : Option (CowStr Global)) → id.id ≡ text → links_behind None (id_cells hyperlink hidden r (Some id)) ≡ id_links hyperlink (Some id)
     of_text None is = rw is refl
     of_text (Some text) is =
-        rw (is, append-nil (norm (chars (cow_str_bytes text)))) (bracketed-links r (address_of hyperlink id) (cow_str_bytes text))
+        rw (is, append-nil (norm (chars (cow_str_bytes text)))) (bracketed-links hidden r (address_of hyperlink id) (cow_str_bytes text))
 
--- so does the first row
-first_row-links : (hyperlink : Bool) (title : Title) (line : List ℕ) → links_behind None (first_row hyperlink title line) ≡ id_links hyperlink title.id
-unfolding first_row label_cells
-first_row-links hyperlink title line =
-    let level : ElementStyle = role.Level title.level.kind in
-    let name : List Cell = drawn level (chars (name_of title.level)) in
-    let id : List Cell = id_cells hyperlink level title.id in
-    links-behind None (name ++ id ++ drawn role.MainHeaderMsg (codes ": ")) role.MainHeaderMsg line ∙ links-behind None (name ++ id) role.MainHeaderMsg (codes ": ") ∙ links-before level (chars (name_of title.level)) id ∙ id-links hyperlink level title.id
+-- so does a label, and the row that begins with it
+label-links : (hyperlink : Bool) (roles : HeadingRoles) (heading : Heading) → links_behind None (label_cells hyperlink roles heading) ≡ id_links hyperlink heading.id
+unfolding label_cells
+label-links hyperlink roles heading =
+    let hidden : Bool = is_hidden heading.level.name in
+    let name : List ℕ = norm (chars (name_of heading.level)) in
+    let id : List Cell = id_cells hyperlink hidden roles.label heading.id in
+    links-behind None (drawn roles.label name ++ id) (drawn roles.colon (colon_of hidden heading.id)) (drawn_unlinked roles.colon (colon_of hidden heading.id)) ∙ links-before (drawn roles.label name) id (drawn_unlinked roles.label name) ∙ id-links hyperlink hidden roles.label heading.id
 
--- further rows link to nothing
-spaces-links : (n : ℕ) → links_behind None (replicate n SPACE) ≡ []
-spaces-links zero = refl
-spaces-links (suc n) = spaces-links n
+-- rows of cells that link to nothing link to nothing
+unlinked_row : (cells : List Cell) (r : ElementStyle) (line : List ℕ) → All IsUnlinked cells → links_behind None (cells ++ drawn r line) ≡ []
+unlinked_row cells r line none =
+    links-behind None [] (cells ++ drawn r line) (All-append IsUnlinked cells (drawn r line) none (drawn_unlinked r line))
 
-further_row-links : (indent : ℕ) (line : List ℕ) → links_behind None (further_row indent line) ≡ []
-unfolding further_row
-further_row-links indent line =
-    links-behind None (replicate indent SPACE) role.MainHeaderMsg line ∙ spaces-links indent
+further-links : (further : List Cell) (r : ElementStyle) (lines : List (List ℕ)) → All IsUnlinked further → links_of (map (λ l. further ++ drawn r l) lines) ≡ []
+further-links further r [] none = refl
+further-links further r (line ∷ lines) none =
+    ap (λ (urls : List (List ℕ)). urls ++ links_of (map (λ l. further ++ drawn r l) lines)) (unlinked_row further r line none) ∙ further-links further r lines none
 
-further_rows-links : (indent : ℕ) (lines : List (List ℕ)) → links_of (map (further_row indent) lines) ≡ []
-further_rows-links indent [] = refl
-further_rows-links indent (line ∷ lines) =
-    ap (λ (urls : List (List ℕ)). urls ++ links_of (map (further_row indent) lines)) (further_row-links indent line) ∙ further_rows-links indent lines
+lines-links : (first further : List Cell) (r : ElementStyle) (lines : List (List ℕ)) → 0 < length lines → All IsUnlinked further → links_of (lines_below first further r lines) ≡ links_behind None first
+lines-links first further r [] some none = absurd (omega (arith, some))
+lines-links first further r (line ∷ lines) some none =
+    ap (λ (urls : List (List ℕ)). links_behind None (first ++ drawn r line) ++ urls) (further-links further r lines none) ∙ append-nil (links_behind None (first ++ drawn r line)) ∙ links-behind None first (drawn r line) (drawn_unlinked r line)
 
-rows_of_lines-links : (hyperlink : Bool) (title : Title) (lines : List (List ℕ)) → 0 < length lines → links_of (rows_of_lines hyperlink title lines) ≡ id_links hyperlink title.id
-rows_of_lines-links hyperlink title [] some = absurd (omega (arith, some))
-rows_of_lines-links hyperlink title (line ∷ lines) some =
-    ap (λ (urls : List (List ℕ)). links_behind None (first_row hyperlink title line) ++ urls) (further_rows-links (label_width title) lines) ∙ append-nil (links_behind None (first_row hyperlink title line)) ∙ first_row-links hyperlink title line
+-- rows that aren't there link to nothing
+on_top-links : (row : List Cell) (rows : List (List Cell)) → links_of (on_top row rows) ≡ links_behind None row ++ links_of rows
+on_top-links [] [] = refl
+on_top-links [] (r ∷ rows) = refl
+on_top-links (cell ∷ cells) rows = refl
 
--- the addresses that a title's rows link to
-pub title_rows-links : (hyperlink : Bool) (title : Title) → links_of (title_rows hyperlink title) ≡ id_links hyperlink title.id
-unfolding title_rows title_lines
-title_rows-links hyperlink title =
-    rows_of_lines-links hyperlink title _ (omega (arith, length-slice_split (λ c. c == 10) (norm (chars (cow_str_bytes title.text)))))
+trimmed-links : (rows : List (List Cell)) → links_of (trimmed rows) ≡ links_of rows
+trimmed-links [] = refl
+trimmed-links (row ∷ rows) =
+    on_top-links row (trimmed rows) ∙ ap (λ urls. links_behind None row ++ urls) (trimmed-links rows)
+
+-- the addresses that a heading's rows link to
+pub heading_rows-links : (hyperlink : Bool) (style : TitleStyle) (heading : Heading) → links_of (heading_rows hyperlink style heading) ≡ id_links hyperlink heading.id
+unfolding heading_rows
+heading_rows-links hyperlink style heading =
+    let roles : HeadingRoles = roles_of style heading.level.kind heading.allows_styling in
+    let label : List Cell = label_cells hyperlink roles heading in
+    let first : List Cell = sign_cells style ++ label in
+    let further : List Cell = indent_cells style (label_width heading) in
+    let lines : List (List ℕ) = heading_lines heading in
+    trimmed-links (lines_below first further roles.text lines) ∙ lines-links first further roles.text lines (omega (arith, length-slice_split (λ c. c == 10) (drawn_text heading))) (indent_unlinked style (label_width heading)) ∙ links-before (sign_cells style) label (sign_unlinked style) ∙ label-links hyperlink roles heading
+
+-- and those of a title
+pub title_rows-links : (hyperlink : Bool) (title : the_title.Title) → links_of (title_rows hyperlink title) ≡ id_links hyperlink title.id
+title_rows-links hyperlink title = heading_rows-links hyperlink Title (heading_of_title title)

@@ -1,29 +1,28 @@
--- Which cells of a title's rows link to its id's address.
-use Rattle.std.proofs.Common.{◌≡◌, ℕ, ◌+◌, ◌-◌, ◌<◌, ◌≤◌, Bool, Option, None, Some, List, [], ◌∷◌, ◌++◌, length, replicate, codes, chars, get_or, All, refl, sym, ap, ◌∙◌, arith, inl, inr}
+-- Which cells of a heading's rows link to its id's address.
+use Rattle.std.proofs.Common.{◌≡◌, ℕ, suc, ◌+◌, ◌-◌, ◌<◌, ◌≤◌, ◌==◌, ◌&&◌, nat_le, nat_lt, cond, Bool, true, false, Option, None, Some, List, [], ◌∷◌, ◌++◌, length, map, chars, get_or, All, refl, sym, ap, ◌∙◌, arith, inl, inr}
 use Rattle.std.specs.Cow.{cow_str_bytes}
 use Rattle.std.specs.declared.alloc.Global.{Global}
 use Rattle.std.specs.declared.borrow.CowStr.{CowStr}
 use Rattle.std.specs.Option.{option_map}
-use Rattle.std.proofs.lemmas.Bool.{cases_lt}
+use Rattle.std.proofs.lemmas.Bool.{and_parts, cases_Bool, cases_eq, cases_lt, eqb-true, leb-true, ltb-true}
+use Rattle.std.proofs.lemmas.Bool.Decides.{nat_tests}
+use Rattle.std.proofs.lemmas.List.Splits.{length-slice_split}
 use Rattle.std.proofs.lemmas.List.{append-nil, append_assoc, get_or-map, get_or_past, length-map, length-append, places}
-use Rattle.std.proofs.lemmas.List.Elements.{All-nil, All-append, All-get_or, All-replicate, All-cons}
-use Rattle.snippet_style.specs.Grid.{Cell, SPACE, drawn, linked}
+use Rattle.std.proofs.lemmas.List.Elements.{All-nil, All-append, All-get_or}
+use Rattle.snippet_style.specs.Grid.{Cell, SPACE, cell_at, drawn, linked}
 use Rattle.snippet_style.specs.declared.role.ElementStyle.{ElementStyle}
-use Rattle.snippet_style.specs.declared.role.ElementStyle.TheVariants as role
 use Rattle.snippet_style.proofs.GridLemmas.{length-drawn}
 use Rattle.snippet_text.specs.Normalized.{norm}
 use Rattle.snippet_model.specs.declared.snippet.Id.{Id}
-use Rattle.snippet_model.specs.declared.snippet.Title.{Title}
+use Rattle.snippet_model.specs.Heading.{Heading, is_hidden}
 use Rattle.snippet_model.specs.Level.{name_of}
-use Rattle.snippet_titles.specs.Title.{address_of, linked_to, bracketed_cells, id_cells, label_cells, first_row, further_row, id_chars, id_address}
-
--- a cell that links to nothing
-abbrev IsUnlinked : Cell → Type 0
-IsUnlinked cell = cell.link ≡ None
-
-drawn_unlinked : (r : ElementStyle) (cs : List ℕ) → All IsUnlinked (drawn r cs)
-drawn_unlinked r [] = All-nil IsUnlinked
-drawn_unlinked r (c ∷ cs) = All-cons IsUnlinked _ (drawn r cs) refl (drawn_unlinked r cs)
+use Rattle.snippet_titles.specs.declared.style.HeadingRoles.{HeadingRoles}
+use Rattle.snippet_titles.specs.declared.style.TitleStyle.{TitleStyle}
+use Rattle.snippet_titles.specs.Heading.{address_of, bracketed_cells, closing_of, colon_of, drawn_text, heading_lines, heading_rows, id_cells, indent_cells, label_cells, label_width, lines_below, linked_to, opening_of, roles_of, sign_cells}
+use Rattle.snippet_titles.specs.Shown.{LinksId, id_start, is_id_cell}
+use Rattle.snippet_titles.specs.Title.{id_address, id_chars}
+use Rattle.snippet_titles.proofs.EndLemmas.{row_at-trimmed}
+use Rattle.snippet_titles.proofs.LinkLemmas.{IsUnlinked, drawn_unlinked, indent_unlinked, sign_unlinked}
 
 -- no cell of such a row links to anything, nor does any behind it
 unlinked_at : (row : List Cell) → All IsUnlinked row → (c : ℕ) → (get_or row c SPACE).link ≡ None
@@ -59,86 +58,165 @@ module _ (xs ys zs : List Cell) where
       ]
 
 -- a first row in three parts: what stands before an id's text, the text, and what stands behind it
-regrouped : (n o l k c e : List Cell) → ((n ++ ((o ++ l) ++ k)) ++ c) ++ e ≡ (n ++ o) ++ (l ++ ((k ++ c) ++ e))
-regrouped n o l k c e =
+regrouped : (s n o l k c e : List Cell) → (s ++ ((n ++ ((o ++ l) ++ k)) ++ c)) ++ e ≡ (s ++ (n ++ o)) ++ (l ++ ((k ++ c) ++ e))
+regrouped s n o l k c e =
     let p : List Cell = n ++ o in
-    ap (λ (xs : List Cell). (xs ++ c) ++ e) (sym (append_assoc n (o ++ l) k)) ∙ ap (λ (xs : List Cell). ((xs ++ k) ++ c) ++ e) (sym (append_assoc n o l)) ∙ ap (λ (xs : List Cell). (xs ++ c) ++ e) (append_assoc p l k) ∙ ap (λ (xs : List Cell). xs ++ e) (append_assoc p (l ++ k) c) ∙ append_assoc p ((l ++ k) ++ c) e ∙ ap (λ (xs : List Cell). p ++ (xs ++ e)) (append_assoc l k c) ∙ ap (λ (xs : List Cell). p ++ xs) (append_assoc l (k ++ c) e)
+    ap (λ (xs : List Cell). (s ++ (xs ++ c)) ++ e) (sym (append_assoc n (o ++ l) k) ∙ ap (λ (xs : List Cell). xs ++ k) (sym (append_assoc n o l)) ∙ append_assoc p l k) ∙ ap (λ (xs : List Cell). (s ++ xs) ++ e) (append_assoc p (l ++ k) c) ∙ ap (λ (xs : List Cell). xs ++ e) (sym (append_assoc s p ((l ++ k) ++ c))) ∙ append_assoc (s ++ p) ((l ++ k) ++ c) e ∙ ap (λ (xs : List Cell). (s ++ p) ++ (xs ++ e)) (append_assoc l k c) ∙ ap (λ (xs : List Cell). (s ++ p) ++ xs) (append_assoc l (k ++ c) e)
 
-module _ (hyperlink : Bool) (title : Title) (line : List ℕ) where
-  abbrev level : ElementStyle
-  level = role.Level title.level.kind
+module _ (hyperlink : Bool) (style : TitleStyle) (roles : HeadingRoles) (heading : Heading) (line : List ℕ) where
+  abbrev hidden : Bool
+  hidden = is_hidden heading.level.name
+
+  abbrev name_chars : List ℕ
+  name_chars = norm (chars (name_of heading.level))
 
   abbrev name : List Cell
-  name = drawn level (chars (name_of title.level))
+  name = drawn roles.label name_chars
 
   abbrev colon : List Cell
-  colon = drawn role.MainHeaderMsg (codes ": ")
+  colon = drawn roles.colon (colon_of hidden heading.id)
 
   abbrev rest : List Cell
-  rest = drawn role.MainHeaderMsg line
+  rest = drawn roles.text line
+
+  abbrev row : List Cell
+  row = (sign_cells style ++ label_cells hyperlink roles heading) ++ rest
 
   -- where the id shows a text
-  module _ (id : Id) (text : List ℕ) (own : title.id ≡ Some id) (given : option_map cow_str_bytes id.id ≡ Some text) where
+  module _ (id : Id) (text : List ℕ) (own : heading.id ≡ Some id) (given : option_map cow_str_bytes id.id ≡ Some text) where
+    abbrev opening : List Cell
+    opening = drawn roles.label (opening_of hidden)
+
+    abbrev closing : List Cell
+    closing = drawn roles.label (closing_of hidden)
+
     abbrev before : List Cell
-    before = name ++ drawn level (codes "[")
+    before = sign_cells style ++ (name ++ opening)
 
     abbrev shown : List Cell
-    shown = linked_to (address_of hyperlink id) (drawn level (norm (chars text)))
+    shown = linked_to (address_of hyperlink id) (drawn roles.label (norm (chars text)))
 
     abbrev behind : List Cell
-    behind = drawn level (codes "]") ++ colon ++ rest
+    behind = closing ++ colon ++ rest
 
-    in_parts : first_row hyperlink title line ≡ before ++ (shown ++ behind)
-    unfolding first_row label_cells
+    in_parts : row ≡ before ++ (shown ++ behind)
+    unfolding label_cells
     in_parts =
-        ap (λ (i : Option Id). name ++ id_cells hyperlink level i ++ colon ++ rest) own ∙ ap (λ t. name ++ bracketed_cells level (address_of hyperlink id) t ++ colon ++ rest) given ∙ regrouped name (drawn level (codes "[")) shown (drawn level (codes "]")) colon rest
+        ap (λ (i : Option Id). (sign_cells style ++ (name ++ id_cells hyperlink hidden roles.label i ++ colon)) ++ rest) own ∙ ap (λ t. (sign_cells style ++ (name ++ bracketed_cells hidden roles.label (address_of hyperlink id) t ++ colon)) ++ rest) given ∙ regrouped (sign_cells style) name opening shown closing colon rest
 
-    length-before : length before ≡ length (chars (name_of title.level)) + 1
+    length-before : length before ≡ id_start style heading
     length-before =
-        length-append name (drawn level (codes "[")) ∙ ap (λ n. n + 1) (length-drawn level (chars (name_of title.level)))
+        omega (arith, length-append (sign_cells style) (name ++ opening), length-append name opening, length-drawn roles.label name_chars, length-drawn roles.label (opening_of hidden))
 
     length-shown : length shown ≡ length (norm (chars text))
     length-shown =
-        length-linked_to (address_of hyperlink id) (drawn level (norm (chars text))) ∙ length-drawn level (norm (chars text))
+        length-linked_to (address_of hyperlink id) (drawn roles.label (norm (chars text))) ∙ length-drawn roles.label (norm (chars text))
 
-    text_linked : (c : ℕ) → c < length (norm (chars text)) → (get_or (first_row hyperlink title line) (length (chars (name_of title.level)) + 1 + c) SPACE).link ≡ address_of hyperlink id
+    before_unlinked : All IsUnlinked before
+    before_unlinked =
+        All-append IsUnlinked (sign_cells style) (name ++ opening) (sign_unlinked style) (All-append IsUnlinked name opening (drawn_unlinked roles.label name_chars) (drawn_unlinked roles.label (opening_of hidden)))
+
+    behind_unlinked : All IsUnlinked behind
+    behind_unlinked =
+        All-append IsUnlinked (closing ++ colon) rest (All-append IsUnlinked closing colon (drawn_unlinked roles.label (closing_of hidden)) (drawn_unlinked roles.colon (colon_of hidden heading.id))) (drawn_unlinked roles.text line)
+
+    text_linked : (c : ℕ) → c < length (norm (chars text)) → (get_or row (id_start style heading + c) SPACE).link ≡ address_of hyperlink id
     text_linked c within =
-        ap (λ (row : List Cell). (get_or row (length (chars (name_of title.level)) + 1 + c) SPACE).link) in_parts ∙ ap (λ n. (get_or (before ++ (shown ++ behind)) (n + c) SPACE).link) (sym length-before) ∙ ap (λ (cell : Cell). cell.link) (second_part before shown behind c (omega (arith, within, length-shown))) ∙ linked_at (address_of hyperlink id) level (norm (chars text)) c within
+        ap (λ (r : List Cell). (get_or r (id_start style heading + c) SPACE).link) in_parts ∙ ap (λ n. (get_or (before ++ (shown ++ behind)) (n + c) SPACE).link) (sym length-before) ∙ ap (λ (cell : Cell). cell.link) (second_part before shown behind c (omega (arith, within, length-shown))) ∙ linked_at (address_of hyperlink id) roles.label (norm (chars text)) c within
 
-    others_unlinked : (c : ℕ) → (length (chars (name_of title.level)) + 1 ≤ c → c < length (chars (name_of title.level)) + 1 + length (norm (chars text)) → ⊥) → (get_or (first_row hyperlink title line) c SPACE).link ≡ None
+    others_unlinked : (c : ℕ) → (id_start style heading ≤ c → c < id_start style heading + length (norm (chars text)) → ⊥) → (get_or row c SPACE).link ≡ None
     others_unlinked c outside =
-        ap (λ (row : List Cell). (get_or row c SPACE).link) in_parts ∙ other_parts before shown behind (All-append IsUnlinked name (drawn level (codes "[")) (drawn_unlinked level (chars (name_of title.level))) (drawn_unlinked level (codes "["))) (All-append IsUnlinked (drawn level (codes "]") ++ colon) rest (All-append IsUnlinked (drawn level (codes "]")) colon (drawn_unlinked level (codes "]")) (drawn_unlinked role.MainHeaderMsg (codes ": "))) (drawn_unlinked role.MainHeaderMsg line)) c (λ from to. outside (omega (arith, from, length-before)) (omega (arith, to, length-before, length-shown)))
+        ap (λ (r : List Cell). (get_or r c SPACE).link) in_parts ∙ other_parts before shown behind before_unlinked behind_unlinked c (λ from to. outside (omega (arith, from, length-before)) (omega (arith, to, length-before, length-shown)))
 
   -- where no id shows a text
-  bare_unlinked : id_cells hyperlink level title.id ≡ [] → (c : ℕ) → (get_or (first_row hyperlink title line) c SPACE).link ≡ None
-  unfolding first_row label_cells
+  bare_unlinked : id_cells hyperlink hidden roles.label heading.id ≡ [] → (c : ℕ) → (get_or row c SPACE).link ≡ None
+  unfolding label_cells
   bare_unlinked none c =
-      ap (λ (id : List Cell). (get_or (name ++ id ++ colon ++ rest) c SPACE).link) none ∙ unlinked_at (name ++ [] ++ colon ++ rest) (All-append IsUnlinked (name ++ [] ++ colon) rest (All-append IsUnlinked (name ++ []) colon (All-append IsUnlinked name [] (drawn_unlinked level (chars (name_of title.level))) (All-nil IsUnlinked)) (drawn_unlinked role.MainHeaderMsg (codes ": "))) (drawn_unlinked role.MainHeaderMsg line)) c
+      ap (λ (id : List Cell). (get_or ((sign_cells style ++ (name ++ id ++ colon)) ++ rest) c SPACE).link) none ∙ unlinked_at ((sign_cells style ++ (name ++ [] ++ colon)) ++ rest) (All-append IsUnlinked (sign_cells style ++ (name ++ [] ++ colon)) rest (All-append IsUnlinked (sign_cells style) (name ++ [] ++ colon) (sign_unlinked style) (All-append IsUnlinked (name ++ []) colon (All-append IsUnlinked name [] (drawn_unlinked roles.label name_chars) (All-nil IsUnlinked)) (drawn_unlinked roles.colon (colon_of hidden heading.id)))) (drawn_unlinked roles.text line)) c
 
   -- which cells of the first row link, and to which address
   abbrev LinksIn : Option Id → Type 0
-  LinksIn own = ((c : ℕ) → c < length (id_chars own) → (get_or (first_row hyperlink title line) (length (chars (name_of title.level)) + 1 + c) SPACE).link ≡ id_address hyperlink own) × ((c : ℕ) → (length (chars (name_of title.level)) + 1 ≤ c → c < length (chars (name_of title.level)) + 1 + length (id_chars own) → ⊥) → (get_or (first_row hyperlink title line) c SPACE).link ≡ None)
+  LinksIn own = ((c : ℕ) → c < length (id_chars own) → (get_or row (id_start style heading + c) SPACE).link ≡ id_address hyperlink own) × ((c : ℕ) → (id_start style heading ≤ c → c < id_start style heading + length (id_chars own) → ⊥) → (get_or row c SPACE).link ≡ None)
 
-  links_in : (own : Option Id) → title.id ≡ own → LinksIn own
+  links_in : (own : Option Id) → heading.id ≡ own → LinksIn own
   links_in None own =
-      (λ c within. absurd (omega (arith, within)), λ c outside. bare_unlinked (ap (id_cells hyperlink level) own) c)
+      (λ c within. absurd (omega (arith, within)), λ c outside. bare_unlinked (ap (id_cells hyperlink hidden roles.label) own) c)
   links_in (Some id) own = of_text id.id refl
     where
       of_text : (text : Option (CowStr Global)) → id.id ≡ text → LinksIn (Some id)
       of_text None is =
           let none : length (id_chars (Some id)) ≡ 0 = rw is refl in
-          (λ c within. absurd (omega (arith, within, none)), λ c outside. bare_unlinked (ap (id_cells hyperlink level) own ∙ ap (λ t. bracketed_cells level (address_of hyperlink id) (option_map cow_str_bytes t)) is) c)
+          (λ c within. absurd (omega (arith, within, none)), λ c outside. bare_unlinked (ap (id_cells hyperlink hidden roles.label) own ∙ ap (λ t. bracketed_cells hidden roles.label (address_of hyperlink id) (option_map cow_str_bytes t)) is) c)
       of_text (Some text) is =
           let bytes : List ℕ = cow_str_bytes text in
           let same : length (id_chars (Some id)) ≡ length (norm (chars bytes)) = rw is (ap (λ (cs : List ℕ). length cs) (append-nil (norm (chars bytes)))) in
           let given = ap (option_map cow_str_bytes) is in
           (λ c within. text_linked id bytes own given c (omega (arith, within, same)), λ c outside. others_unlinked id bytes own given c (λ from to. outside from (omega (arith, to, same))))
 
-  pub first_row-places : LinksIn title.id
-  first_row-places = links_in title.id refl
+-- the first row, and the others
+first_places : (hyperlink : Bool) (style : TitleStyle) (roles : HeadingRoles) (heading : Heading) (line : List ℕ) → LinksIn hyperlink style roles heading line heading.id
+first_places hyperlink style roles heading line = links_in hyperlink style roles heading line heading.id refl
 
--- further rows link to nothing
-pub further_row-unlinked : (indent : ℕ) (line : List ℕ) (c : ℕ) → (get_or (further_row indent line) c SPACE).link ≡ None
-unfolding further_row
-further_row-unlinked indent line c =
-    unlinked_at (replicate indent SPACE ++ drawn role.MainHeaderMsg line) (All-append IsUnlinked (replicate indent SPACE) (drawn role.MainHeaderMsg line) (All-replicate IsUnlinked indent SPACE refl) (drawn_unlinked role.MainHeaderMsg line)) c
+further_at : (further : List Cell) (r : ElementStyle) (lines : List (List ℕ)) (k c : ℕ) → All IsUnlinked further → (cell_at (map (λ l. further ++ drawn r l) lines) k c).link ≡ None
+further_at further r lines k c none =
+    elim (cases_lt k (length lines)) [
+      | inl within ↦ ap (λ (row : List Cell). (get_or row c SPACE).link) (get_or-map (λ l. further ++ drawn r l) lines k [] [] within) ∙ unlinked_at (further ++ drawn r (get_or lines k [])) (All-append IsUnlinked further (drawn r (get_or lines k [])) none (drawn_unlinked r (get_or lines k []))) c
+      | inr past ↦ ap (λ (row : List Cell). (get_or row c SPACE).link) (get_or_past (map (λ l. further ++ drawn r l) lines) k [] (omega (arith, past, length-map lines (λ l. further ++ drawn r l))))
+    ]
+
+-- what the test for a cell of the id says
+id_cell : (style : TitleStyle) (heading : Heading) (i c : ℕ) → is_id_cell style heading i c ≡ true → (i ≡ 0) × (id_start style heading ≤ c) × (c < id_start style heading + length (id_chars heading.id))
+id_cell style heading i c is =
+    let start : ℕ = id_start style heading in
+    let parts = and_parts (i == 0 && nat_le start c) (nat_lt c (start + length (id_chars heading.id))) is in
+    let front = and_parts (i == 0) (nat_le start c) parts.0 in
+    (eqb-true i 0 front.0, leb-true start c front.1, ltb-true c (start + length (id_chars heading.id)) parts.1)
+
+id_cell_from : (start end i c : ℕ) → i ≡ 0 → start ≤ c → c < end → (i == 0 && nat_le start c && nat_lt c end) ≡ true
+id_cell_from start end i c first from to = grind (arith, nat_tests, first, from, to)
+
+clash : (b : Bool) → b ≡ false → b ≡ true → ⊥
+clash true is_false is_true = cc
+clash false is_false is_true = cc
+
+-- in the rows of lines the id's text links, and nothing else
+module _ (hyperlink : Bool) (style : TitleStyle) (roles : HeadingRoles) (heading : Heading) where
+  abbrev label : List Cell
+  label = sign_cells style ++ label_cells hyperlink roles heading
+
+  abbrev address : Bool → Option (List ℕ)
+  address inside = cond inside (id_address hyperlink heading.id) None
+
+  places_in : (line : List ℕ) (below : List (List Cell)) → ((k c : ℕ) → (cell_at below k c).link ≡ None) → LinksId hyperlink style heading ((label ++ drawn roles.text line) ∷ below)
+  places_in line below none =
+      let places = first_places hyperlink style roles heading line in
+      let start : ℕ = id_start style heading in
+      let first : List Cell = label ++ drawn roles.text line in
+      λ i c. elim (cases_Bool (is_id_cell style heading i c)) [
+        | inl inside ↦
+            let parts = id_cell style heading i c inside in
+            let k : ℕ = c - start in
+            let same : start + k ≡ c = omega (arith, parts.1) in
+            ap (λ n. (cell_at (first ∷ below) n c).link) parts.0 ∙ ap (λ n. (get_or first n SPACE).link) (sym same) ∙ places.0 k (omega (arith, parts.1, parts.2)) ∙ sym (ap address inside)
+        | inr outside ↦ elim (cases_eq i 0) [
+          | inl top ↦ ap (λ n. (cell_at (first ∷ below) n c).link) top ∙ places.1 c (λ from to. clash (is_id_cell style heading i c) outside (id_cell_from start (start + length (id_chars heading.id)) i c top from to)) ∙ sym (ap address outside)
+          | inr later ↦
+              let under : i ≡ suc (i - 1) = omega (arith, later) in
+              ap (λ n. (cell_at (first ∷ below) n c).link) under ∙ none (i - 1) c ∙ sym (ap address outside)
+        ]
+      ]
+
+  lines_places : (further : List Cell) (lines : List (List ℕ)) → 0 < length lines → All IsUnlinked further → LinksId hyperlink style heading (lines_below label further roles.text lines)
+  lines_places further [] some none = absurd (omega (arith, some))
+  lines_places further (line ∷ lines) some none =
+      places_in line (map (λ l. further ++ drawn roles.text l) lines) (λ k c. further_at further roles.text lines k c none)
+
+-- in the rows of a heading
+pub heading_rows-places : (hyperlink : Bool) (style : TitleStyle) (heading : Heading) → LinksId hyperlink style heading (heading_rows hyperlink style heading)
+unfolding heading_rows
+heading_rows-places hyperlink style heading =
+    let roles : HeadingRoles = roles_of style heading.level.kind heading.allows_styling in
+    let first : List Cell = sign_cells style ++ label_cells hyperlink roles heading in
+    let further : List Cell = indent_cells style (label_width heading) in
+    let lines : List (List ℕ) = heading_lines heading in
+    λ i c. ap (λ (row : List Cell). (get_or row c SPACE).link) (row_at-trimmed (lines_below first further roles.text lines) i) ∙ lines_places hyperlink style roles heading further lines (omega (arith, length-slice_split (λ ch. ch == 10) (drawn_text heading))) (indent_unlinked style (label_width heading)) i c

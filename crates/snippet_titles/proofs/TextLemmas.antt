@@ -1,21 +1,21 @@
--- The characters of a title's cells, and the columns that they take.
-use Rattle.std.proofs.Common.{◌≡◌, ℕ, zero, suc, ◌+◌, Bool, false, Option, None, Some, List, [], ◌∷◌, ◌++◌, replicate, codes, chars, refl, ap, ◌∙◌, arith}
+-- The characters of a heading's rows.
+use Rattle.std.proofs.Common.{◌≡◌, ◌≤◌, ℕ, zero, suc, Bool, Option, None, Some, List, [], ◌∷◌, ◌++◌, map, replicate, chars, get_or, length, refl, sym, ap, ◌∙◌, arith, inl, inr}
 use Rattle.std.specs.Cow.{cow_str_bytes}
 use Rattle.std.specs.Option.{option_map}
-use Rattle.std.proofs.lemmas.List.{map-append}
-use Rattle.std.proofs.lemmas.List.Sums.{sum_by-append}
-use Rattle.snippet_style.specs.Grid.{Cell, SPACE, drawn}
+use Rattle.std.proofs.lemmas.Bool.{cases_lt}
+use Rattle.std.proofs.lemmas.List.{get_or-map, get_or_past, length-map, map-append}
+use Rattle.snippet_style.specs.Grid.{Cell, SPACE, drawn, row_at}
 use Rattle.snippet_style.specs.Print.{row_text}
 use Rattle.snippet_style.specs.declared.role.ElementStyle.{ElementStyle}
-use Rattle.snippet_style.specs.declared.role.ElementStyle.TheVariants as role
 use Rattle.snippet_text.specs.Normalized.{norm}
-use Rattle.snippet_text.specs.Width.{char_width, width_of}
-use Rattle.snippet_text.proofs.NormLemmas.{width_of-norm}
-use Rattle.snippet_text.proofs.WidthLemmas.{width_of-colon, width_of-opening, width_of-closing}
 use Rattle.snippet_model.specs.declared.snippet.Id.{Id}
-use Rattle.snippet_model.specs.declared.snippet.Title.{Title}
+use Rattle.snippet_model.specs.Heading.{Heading, is_hidden}
 use Rattle.snippet_model.specs.Level.{name_of}
-use Rattle.snippet_titles.specs.Title.{address_of, linked_to, bracketed_cells, id_cells, label_cells, label_width, first_row, further_row}
+use Rattle.snippet_titles.specs.declared.style.HeadingRoles.{HeadingRoles}
+use Rattle.snippet_titles.specs.declared.style.TitleStyle.{TitleStyle}
+use Rattle.snippet_titles.specs.Heading.{address_of, bracketed_cells, bracketed_text, closing_of, colon_of, heading_lines, heading_rows, id_cells, id_text, indent_cells, label_cells, label_text, label_width, lines_below, linked_to, opening_of, roles_of, sign_cells}
+use Rattle.snippet_titles.specs.Shown.{heading_texts, texts_below}
+use Rattle.snippet_titles.proofs.EndLemmas.{refilled, row_at-trimmed}
 
 -- the characters of drawn cells, of spaces, and of cells behind others
 pub row_text-drawn : (r : ElementStyle) (cs : List ℕ) → row_text (drawn r cs) ≡ cs
@@ -40,63 +40,70 @@ row_text-three : (xs ys zs : List Cell) (a b c : List ℕ) → row_text xs ≡ a
 row_text-three xs ys zs a b c first second third =
     row_text-append (xs ++ ys) zs ∙ ap (λ cs. cs ++ row_text zs) (row_text-append xs ys) ∙ ap (λ cs. (cs ++ row_text ys) ++ row_text zs) first ∙ ap (λ cs. (a ++ cs) ++ row_text zs) second ∙ ap (λ cs. (a ++ b) ++ cs) third
 
--- the characters of an id's text in brackets
-abbrev pub bracketed_text : Option (List ℕ) → List ℕ
-bracketed_text None = []
-bracketed_text (Some text) = codes "[" ++ norm (chars text) ++ codes "]"
+-- those of an id, and of a label
+row_text-bracketed : (hidden : Bool) (r : ElementStyle) (address text : Option (List ℕ)) → row_text (bracketed_cells hidden r address text) ≡ bracketed_text hidden text
+row_text-bracketed hidden r address None = refl
+row_text-bracketed hidden r address (Some text) =
+    row_text-three (drawn r (opening_of hidden)) (linked_to address (drawn r (norm (chars text)))) (drawn r (closing_of hidden)) _ _ _ (row_text-drawn r (opening_of hidden)) (row_text-linked address (drawn r (norm (chars text))) ∙ row_text-drawn r (norm (chars text))) (row_text-drawn r (closing_of hidden))
 
-abbrev pub id_text : Option Id → List ℕ
-id_text None = []
-id_text (Some id) = bracketed_text (option_map cow_str_bytes id.id)
+pub row_text-id : (hyperlink hidden : Bool) (r : ElementStyle) (id : Option Id) → row_text (id_cells hyperlink hidden r id) ≡ id_text hidden id
+row_text-id hyperlink hidden r None = refl
+row_text-id hyperlink hidden r (Some id) =
+    row_text-bracketed hidden r (address_of hyperlink id) (option_map cow_str_bytes id.id)
 
-row_text-bracketed : (r : ElementStyle) (address text : Option (List ℕ)) → row_text (bracketed_cells r address text) ≡ bracketed_text text
-row_text-bracketed r address None = refl
-row_text-bracketed r address (Some text) =
-    row_text-three (drawn r (codes "[")) (linked_to address (drawn r (norm (chars text)))) (drawn r (codes "]")) _ _ _ (row_text-drawn r (codes "[")) (row_text-linked address (drawn r (norm (chars text))) ∙ row_text-drawn r (norm (chars text))) (row_text-drawn r (codes "]"))
-
-pub row_text-id : (hyperlink : Bool) (r : ElementStyle) (id : Option Id) → row_text (id_cells hyperlink r id) ≡ id_text id
-row_text-id hyperlink r None = refl
-row_text-id hyperlink r (Some id) = row_text-bracketed r (address_of hyperlink id) (option_map cow_str_bytes id.id)
-
--- the characters of a label
-abbrev pub label_text : Title → List ℕ
-label_text title = chars (name_of title.level) ++ id_text title.id ++ codes ": "
-
-pub row_text-label : (hyperlink : Bool) (title : Title) → row_text (label_cells hyperlink title) ≡ label_text title
+pub row_text-label : (hyperlink : Bool) (roles : HeadingRoles) (heading : Heading) → row_text (label_cells hyperlink roles heading) ≡ label_text heading
 unfolding label_cells
-row_text-label hyperlink title =
-    let level : ElementStyle = role.Level title.level.kind in
-    row_text-three (drawn level (chars (name_of title.level))) (id_cells hyperlink level title.id) (drawn role.MainHeaderMsg (codes ": ")) _ _ _ (row_text-drawn level (chars (name_of title.level))) (row_text-id hyperlink level title.id) (row_text-drawn role.MainHeaderMsg (codes ": "))
+row_text-label hyperlink roles heading =
+    let hidden : Bool = is_hidden heading.level.name in
+    row_text-three (drawn roles.label (norm (chars (name_of heading.level)))) (id_cells hyperlink hidden roles.label heading.id) (drawn roles.colon (colon_of hidden heading.id)) _ _ _ (row_text-drawn roles.label (norm (chars (name_of heading.level)))) (row_text-id hyperlink hidden roles.label heading.id) (row_text-drawn roles.colon (colon_of hidden heading.id))
 
--- a label's columns
-pub label_width-is : (title : Title) → label_width title ≡ width_of (label_text title)
-unfolding label_width
-label_width-is title = ap width_of (row_text-label false title)
+-- the texts of the rows of lines
+pub row_text-behind : (cells : List Cell) (text : List ℕ) (r : ElementStyle) (line : List ℕ) → row_text cells ≡ text → row_text (cells ++ drawn r line) ≡ text ++ line
+row_text-behind cells text r line is =
+    row_text-append cells (drawn r line) ∙ ap (λ cs. cs ++ row_text (drawn r line)) is ∙ ap (λ cs. text ++ cs) (row_text-drawn r line)
 
--- those of its parts
-width_of-three : (a b c : List ℕ) → width_of (a ++ b ++ c) ≡ width_of a + width_of b + width_of c
-width_of-three a b c = sum_by-append char_width (a ++ b) c ∙ ap (λ n. n + width_of c) (sum_by-append char_width a b)
+further_texts : (further : List Cell) (r : ElementStyle) (lines : List (List ℕ)) → map row_text (map (λ l. further ++ drawn r l) lines) ≡ map (λ l. row_text further ++ l) lines
+further_texts further r [] = refl
+further_texts further r (line ∷ lines) =
+    ap (λ t. t ∷ map row_text (map (λ l. further ++ drawn r l) lines)) (row_text-behind further (row_text further) r line refl) ∙ ap (λ ts. (row_text further ++ line) ∷ ts) (further_texts further r lines)
 
-pub label_width-parts : (title : Title) (name id : ℕ) → name ≡ width_of (chars (name_of title.level)) → id ≡ width_of (row_text (id_cells false role.NoStyle title.id)) → name + id + 2 ≡ label_width title
-label_width-parts title name id named shown =
-    let whole : label_width title ≡ width_of (chars (name_of title.level)) + width_of (id_text title.id) + width_of (codes ": ") = label_width-is title ∙ width_of-three (chars (name_of title.level)) (id_text title.id) (codes ": ") in
-    let same : width_of (row_text (id_cells false role.NoStyle title.id)) ≡ width_of (id_text title.id) = ap width_of (row_text-id false role.NoStyle title.id) in
-    omega (arith, whole, same, named, shown, width_of-colon)
+texts_of_lines : (first further : List Cell) (text : List ℕ) (r : ElementStyle) (lines : List (List ℕ)) → row_text first ≡ text → map row_text (lines_below first further r lines) ≡ texts_below text (row_text further) lines
+texts_of_lines first further text r [] is = refl
+texts_of_lines first further text r (line ∷ lines) is =
+    ap (λ t. t ∷ map row_text (map (λ l. further ++ drawn r l) lines)) (row_text-behind first text r line is) ∙ ap (λ ts. (text ++ line) ∷ ts) (further_texts further r lines)
 
--- an id takes the columns of its text, and two more for the brackets
-pub width_of-id : (id : Id) (text : List ℕ) → option_map cow_str_bytes id.id ≡ Some text → width_of (chars text) + 2 ≡ width_of (row_text (id_cells false role.NoStyle (Some id)))
-width_of-id id text is =
-    let shown : width_of (row_text (id_cells false role.NoStyle (Some id))) ≡ width_of (bracketed_text (Some text)) = ap width_of (row_text-id false role.NoStyle (Some id) ∙ ap bracketed_text is) in
-    let parts : width_of (bracketed_text (Some text)) ≡ width_of (codes "[") + width_of (norm (chars text)) + width_of (codes "]") = width_of-three (codes "[") (norm (chars text)) (codes "]") in
-    omega (arith, shown, parts, width_of-norm (chars text), width_of-opening, width_of-closing)
+-- the text of a row, which is empty where it isn't there
+text_at : (rows : List (List Cell)) (k : ℕ) → row_text (row_at rows k) ≡ get_or (map row_text rows) k []
+text_at rows k = elim (cases_lt k (length rows)) [
+  | inl within ↦ sym (get_or-map row_text rows k [] [] within)
+  | inr past ↦ ap row_text (get_or_past rows k [] past) ∙ sym (get_or_past (map row_text rows) k [] (omega (arith, past, length-map rows row_text)))
+]
 
--- the characters of a first row, and of a further one
-pub row_text-first : (hyperlink : Bool) (title : Title) (line : List ℕ) → row_text (first_row hyperlink title line) ≡ label_text title ++ line
-unfolding first_row
-row_text-first hyperlink title line =
-    row_text-append (label_cells hyperlink title) (drawn role.MainHeaderMsg line) ∙ ap (λ cs. cs ++ row_text (drawn role.MainHeaderMsg line)) (row_text-label hyperlink title) ∙ ap (λ cs. label_text title ++ cs) (row_text-drawn role.MainHeaderMsg line)
+-- the text of each row of a heading
+pub heading_rows-texts : (hyperlink : Bool) (style : TitleStyle) (heading : Heading) (k : ℕ) → row_text (row_at (heading_rows hyperlink style heading) k) ≡ get_or (heading_texts style heading) k []
+unfolding heading_rows
+heading_rows-texts hyperlink style heading k =
+    let roles : HeadingRoles = roles_of style heading.level.kind heading.allows_styling in
+    let first : List Cell = sign_cells style ++ label_cells hyperlink roles heading in
+    let further : List Cell = indent_cells style (label_width heading) in
+    let rows : List (List Cell) = lines_below first further roles.text (heading_lines heading) in
+    let begun : row_text first ≡ row_text (sign_cells style) ++ label_text heading = row_text-append (sign_cells style) (label_cells hyperlink roles heading) ∙ ap (λ cs. row_text (sign_cells style) ++ cs) (row_text-label hyperlink roles heading) in
+    ap row_text (row_at-trimmed rows k) ∙ text_at rows k ∙ ap (λ ts. get_or ts k []) (texts_of_lines first further (row_text (sign_cells style) ++ label_text heading) roles.text (heading_lines heading) begun)
 
-pub row_text-further : (indent : ℕ) (line : List ℕ) → row_text (further_row indent line) ≡ replicate indent 32 ++ line
-unfolding further_row
-row_text-further indent line =
-    row_text-append (replicate indent SPACE) (drawn role.MainHeaderMsg line) ∙ ap (λ cs. cs ++ row_text (drawn role.MainHeaderMsg line)) (row_text-spaces indent) ∙ ap (λ cs. replicate indent 32 ++ cs) (row_text-drawn role.MainHeaderMsg line)
+-- no row stands below those of the lines
+lines_count : (first further : List Cell) (r : ElementStyle) (lines : List (List ℕ)) → length (lines_below first further r lines) ≡ length lines
+lines_count first further r [] = refl
+lines_count first further r (line ∷ lines) = ap suc (length-map lines (λ l. further ++ drawn r l))
+
+texts_count : (first further : List ℕ) (lines : List (List ℕ)) → length (texts_below first further lines) ≡ length lines
+texts_count first further [] = refl
+texts_count first further (line ∷ lines) = ap suc (length-map lines (λ l. further ++ l))
+
+pub heading_rows-count : (hyperlink : Bool) (style : TitleStyle) (heading : Heading) → length (heading_rows hyperlink style heading) ≤ length (heading_texts style heading)
+unfolding heading_rows
+heading_rows-count hyperlink style heading =
+    let roles : HeadingRoles = roles_of style heading.level.kind heading.allows_styling in
+    let first : List Cell = sign_cells style ++ label_cells hyperlink roles heading in
+    let further : List Cell = indent_cells style (label_width heading) in
+    let lines : List (List ℕ) = heading_lines heading in
+    omega (arith, (refilled (lines_below first further roles.text lines)).1, lines_count first further roles.text lines, texts_count (row_text (sign_cells style) ++ label_text heading) (row_text further) lines)

@@ -1,2 +1,5 @@
+pub mod Appended
+pub mod Heading
 pub mod Origin
+pub mod Shown
 pub mod Title

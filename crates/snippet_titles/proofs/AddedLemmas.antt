@@ -1,0 +1,26 @@
+-- What the rows of a heading show, where they are added to a grid.
+use Rattle.std.proofs.Common.{◌≡◌, ℕ, Bool, List, [], ◌++◌, length, drop, get_or, All, sym, subst, ap, ◌∙◌}
+use Rattle.std.proofs.Math.Seq.{drop-append_seam}
+use Rattle.snippet_style.specs.Grid.{Cell, row_at}
+use Rattle.snippet_style.specs.Print.{row_text}
+use Rattle.snippet_model.specs.Heading.{Heading}
+use Rattle.snippet_titles.specs.declared.style.TitleStyle.{TitleStyle}
+use Rattle.snippet_titles.specs.Heading.{heading_rows}
+use Rattle.snippet_titles.specs.Shown.{IsFreeButText, LinksId, heading_texts}
+use Rattle.snippet_titles.proofs.FreeLemmas.{heading_rows-free}
+use Rattle.snippet_titles.proofs.PlaceLemmas.{heading_rows-places}
+use Rattle.snippet_titles.proofs.TextLemmas.{heading_rows-texts}
+
+module _ (old new : List (List Cell)) (hyperlink : Bool) (style : TitleStyle) (heading : Heading) (is : new ≡ old ++ heading_rows hyperlink style heading) where
+  -- they are what is added
+  added : drop (length old) new ≡ heading_rows hyperlink style heading
+  added = ap (drop (length old)) is ∙ drop-append_seam old (heading_rows hyperlink style heading)
+
+  pub added_texts : (k : ℕ) → row_text (row_at (drop (length old) new) k) ≡ get_or (heading_texts style heading) k []
+  added_texts k = ap (λ rows. row_text (row_at rows k)) added ∙ heading_rows-texts hyperlink style heading k
+
+  pub added_free : All (IsFreeButText heading) (drop (length old) new)
+  added_free = subst (All (IsFreeButText heading)) (sym added) (heading_rows-free hyperlink style heading)
+
+  pub added_links : LinksId hyperlink style heading (drop (length old) new)
+  added_links = subst (LinksId hyperlink style heading) (sym added) (heading_rows-places hyperlink style heading)

@@ -1,0 +1,118 @@
+-- Rows that are drawn below all others.
+use Rattle.std.proofs.Common.{◌≡◌, ℕ, suc, ◌+◌, ◌-◌, ◌<◌, ◌≤◌, List, [], ◌∷◌, ◌++◌, length, take, replicate, refl, sym, ap, ◌∙◌, arith, inl, inr}
+use Rattle.std.proofs.lemmas.Bool.{cases_lt}
+use Rattle.std.proofs.lemmas.List.{append-nil, append_assoc, get_or_past, length-append, length-take, places, same_lists}
+use Rattle.std.proofs.Math.Seq.{take-append_seam}
+use Rattle.snippet_style.specs.Grid.{Cell, row_at, written}
+use Rattle.snippet_titles.specs.Appended.{IsAtEnd, appended}
+use Rattle.snippet_titles.specs.Heading.{on_top, trimmed}
+use Rattle.snippet_titles.proofs.AppendLemmas.{appended-appended, appended-is}
+
+-- an empty row at the end isn't there
+pub trimmed-empty : (rows : List (List Cell)) → trimmed (rows ++ [] ∷ []) ≡ trimmed rows
+trimmed-empty [] = refl
+trimmed-empty (row ∷ rows) = ap (on_top row) (trimmed-empty rows)
+
+-- with a row of cells at the end all rows are there
+on_top-more : (row : List Cell) (rows : List (List Cell)) → 0 < length rows → on_top row rows ≡ row ∷ rows
+on_top-more row [] some = absurd (omega (arith, some))
+on_top-more [] (r ∷ rows) some = refl
+on_top-more (cell ∷ cells) (r ∷ rows) some = refl
+
+pub trimmed-full : (rows : List (List Cell)) (cells : List Cell) → 0 < length cells → trimmed (rows ++ cells ∷ []) ≡ rows ++ cells ∷ []
+trimmed-full [] [] some = absurd (omega (arith, some))
+trimmed-full [] (cell ∷ cells) some = refl
+trimmed-full (row ∷ rows) cells some =
+    ap (on_top row) (trimmed-full rows cells some) ∙ on_top-more row (rows ++ cells ∷ []) (omega (arith, length-append rows (cells ∷ [])))
+
+-- the rows that aren't there are empty
+on_top-refilled : (row : List Cell) (rows all : List (List Cell)) → rows ++ replicate (length all - length rows) [] ≡ all → length rows ≤ length all → (on_top row rows ++ replicate (suc (length all) - length (on_top row rows)) [] ≡ row ∷ all) × (length (on_top row rows) ≤ suc (length all))
+on_top-refilled [] [] all is within =
+    let more : suc (length all) - 0 ≡ suc (length all - 0) = omega arith in
+    let none : List Cell = [] in
+    (ap (λ n. replicate n none) more ∙ ap (λ (rs : List (List Cell)). none ∷ rs) is, omega arith)
+on_top-refilled [] (r ∷ rows) all is within =
+    let none : List Cell = [] in
+    let more : suc (length all) - suc (length (r ∷ rows)) ≡ length all - length (r ∷ rows) = omega arith in
+    (ap (λ n. none ∷ (r ∷ rows ++ replicate n none)) more ∙ ap (λ (rs : List (List Cell)). none ∷ rs) is, omega (arith, within))
+on_top-refilled (cell ∷ cells) rows all is within =
+    let none : List Cell = [] in
+    let more : suc (length all) - suc (length rows) ≡ length all - length rows = omega arith in
+    (ap (λ n. (cell ∷ cells) ∷ (rows ++ replicate n none)) more ∙ ap (λ (rs : List (List Cell)). (cell ∷ cells) ∷ rs) is, omega (arith, within))
+
+pub refilled : (rows : List (List Cell)) → (trimmed rows ++ replicate (length rows - length (trimmed rows)) [] ≡ rows) × (length (trimmed rows) ≤ length rows)
+refilled [] = (refl, omega arith)
+refilled (row ∷ rows) =
+    let rest = refilled rows in on_top-refilled row (trimmed rows) rows rest.0 rest.1
+
+-- a row reads the same
+get_or-append_seam : (xs ys : List (List Cell)) → row_at (xs ++ ys) (length xs) ≡ row_at ys 0
+get_or-append_seam xs ys = grind (arith, places)
+
+past_rows : (xs : List (List Cell)) (n k : ℕ) → row_at (xs ++ replicate n []) k ≡ row_at xs k
+past_rows xs n k =
+    elim (cases_lt k (length xs)) [
+      | inl within ↦ grind (arith, places)
+      | inr past ↦ (let none : row_at xs k ≡ [] = get_or_past xs k [] past in none_behind none past)
+    ]
+  where
+    none_behind : row_at xs k ≡ [] → length xs ≤ k → row_at (xs ++ replicate n []) k ≡ row_at xs k
+    none_behind none past = elim (cases_lt (k - length xs) n) [
+      | inl within ↦ (let read : row_at (xs ++ replicate n []) k ≡ [] = grind (arith, places) in read ∙ sym none)
+      | inr further ↦ (let size : length (xs ++ replicate n []) ≡ length xs + n = grind (arith, places) in get_or_past (xs ++ replicate n []) k [] (omega (arith, size, further, past)) ∙ sym none)
+    ]
+
+pub row_at-trimmed : (rows : List (List Cell)) (k : ℕ) → row_at (trimmed rows) k ≡ row_at rows k
+row_at-trimmed rows k =
+    sym (past_rows (trimmed rows) (length rows - length (trimmed rows)) k) ∙ ap (λ rs. row_at rs k) (refilled rows).0
+
+-- a row behind those that were drawn below a grid, of which some at the end may not be there yet
+pub written_past : {X : Type 0} (blank : X) (xs new : List X) (at : ℕ) → length xs ≤ at → written blank xs at new ≡ xs ++ replicate (at - length xs) blank ++ new
+written_past blank xs new at past =
+    same_lists _ _ (unfold written in grind (arith, places)) (λ k d h. unfold written in grind (arith, places))
+
+pub appended-further : (base done : List (List Cell)) (row : ℕ) (cells : List Cell) → row ≡ length base + length done → appended (base ++ trimmed done) row cells ≡ base ++ trimmed (done ++ cells ∷ [])
+appended-further base done row [] at = ap (λ rs. base ++ rs) (sym (trimmed-empty done))
+appended-further base done row (cell ∷ cells) at =
+    let there : List (List Cell) = base ++ trimmed done in
+    let all = refilled done in
+    let size : length there ≡ length base + length (trimmed done) = length-append base (trimmed done) in
+    let missing : row - length there ≡ length done - length (trimmed done) = omega (arith, size, at) in
+    let new : List (List Cell) = (cell ∷ cells) ∷ [] in
+    appended-is there row (cell ∷ cells) (omega arith) ∙ ap (λ (r : List Cell). written [] there row ((r ++ cell ∷ cells) ∷ [])) (get_or_past there row [] (omega (arith, size, at, all.1))) ∙ written_past [] there new row (omega (arith, size, at, all.1)) ∙ ap (λ n. there ++ replicate n [] ++ new) missing ∙ ap (λ rs. rs ++ new) (append_assoc base (trimmed done) (replicate (length done - length (trimmed done)) [])) ∙ ap (λ rs. base ++ rs ++ new) all.0 ∙ append_assoc base done new ∙ ap (λ rs. base ++ rs) (sym (trimmed-full done (cell ∷ cells) (omega arith)))
+
+-- cells below all rows
+pub appended_below : (rows : List (List Cell)) (row : ℕ) (cells : List Cell) → row ≡ length rows → appended rows row cells ≡ rows ++ trimmed (cells ∷ [])
+appended_below rows row cells at =
+    ap (λ rs. appended rs row cells) (sym (append-nil rows)) ∙ appended-further rows [] row cells (omega (arith, at))
+
+-- the row that stands there is the last one
+pub IsAtEnd-is : (base rows : List (List Cell)) (row : ℕ) (cells : List Cell) → row ≡ length base → rows ≡ base ++ trimmed (cells ∷ []) → (take row rows ≡ base) × (row_at rows row ≡ cells) × IsAtEnd row rows
+IsAtEnd-is base rows row cells at is =
+    let below : List (List Cell) = trimmed (cells ∷ []) in
+    let front : take row rows ≡ base = ap (take row) is ∙ ap (λ n. take n (base ++ below)) at ∙ take-append_seam base below in
+    let here : row_at rows row ≡ cells = ap (λ rs. row_at rs row) is ∙ ap (λ n. row_at (base ++ below) n) at ∙ get_or-append_seam base below ∙ row_at-trimmed (cells ∷ []) 0 in (
+      front,
+      here,
+      record {
+        within = omega (arith, at, ap length is, length-append base below);
+        last = is ∙ ap (λ rs. rs ++ below) (sym front) ∙ ap (λ (r : List Cell). take row rows ++ trimmed (r ∷ [])) (sym here);
+      },
+    )
+
+-- cells behind those of the last row
+pub appended-last : (rows : List (List Cell)) (row : ℕ) (cells : List Cell) → IsAtEnd row rows → appended rows row cells ≡ take row rows ++ trimmed ((row_at rows row ++ cells) ∷ [])
+appended-last rows row cells end =
+    let base : List (List Cell) = take row rows in
+    let r : List Cell = row_at rows row in
+    let at : row ≡ length base = omega (arith, length-take row rows, end.within) in
+    ap (λ rs. appended rs row cells) (end.last ∙ sym (appended_below base row r at)) ∙ appended-appended base row r cells ∙ appended_below base row (r ++ cells) at
+
+-- it stays the last one
+pub IsAtEnd-more : (rows new : List (List Cell)) (row : ℕ) (cells : List Cell) → IsAtEnd row rows → new ≡ appended rows row cells → (take row new ≡ take row rows) × (row_at new row ≡ row_at rows row ++ cells) × IsAtEnd row new
+IsAtEnd-more rows new row cells end is =
+    IsAtEnd-is (take row rows) new row (row_at rows row ++ cells) (omega (arith, length-take row rows, end.within)) (is ∙ appended-last rows row cells end)
+
+pub IsAtEnd-begun : (rows new : List (List Cell)) (row : ℕ) (cells : List Cell) → row ≡ length rows → new ≡ appended rows row cells → (take row new ≡ rows) × (row_at new row ≡ cells) × IsAtEnd row new
+IsAtEnd-begun rows new row cells at is =
+    IsAtEnd-is rows new row cells at (is ∙ appended_below rows row cells at)

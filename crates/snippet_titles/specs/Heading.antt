@@ -1,0 +1,159 @@
+-- The rows of a title or message.
+use Rattle.std.specs.Prelude.{ℕ, ◌+◌, ◌==◌, Bool, true, false, ◌&&◌, List, [], ◌∷◌, ◌++◌, Option, None, Some, is_none, chars, map, replicate, codes, if◌then◌else◌}
+use Rattle.std.specs.List.{slice_split}
+use Rattle.std.specs.Option.{option_map}
+use Rattle.std.specs.Cow.{cow_str_bytes}
+use Rattle.snippet_style.specs.declared.glyphs.DecorStyle.{DecorStyle}
+use Rattle.snippet_style.specs.declared.glyphs.DecorStyle.TheVariants.{Ascii, Unicode}
+use Rattle.snippet_style.specs.declared.role.ElementStyle.{ElementStyle}
+use Rattle.snippet_style.specs.declared.role.ElementStyle.TheVariants as role
+use Rattle.snippet_style.specs.declared.role.LevelInner.{LevelInner}
+use Rattle.snippet_style.specs.Grid.{Cell, SPACE, unlinked_cell, drawn, linked}
+use Rattle.snippet_text.specs.Normalized.{norm}
+use Rattle.snippet_text.specs.Width.{width_of}
+use Rattle.snippet_model.specs.declared.snippet.Id.{Id}
+use Rattle.snippet_model.specs.Heading.{Heading, is_hidden}
+use Rattle.snippet_model.specs.Level.{name_of}
+use Rattle.snippet_titles.specs.declared.style.HeadingRoles.{HeadingRoles}
+use Rattle.snippet_titles.specs.declared.style.TitleStyle.{TitleStyle}
+use Rattle.snippet_titles.specs.declared.style.TitleStyle.TheVariants.{Title, Short, Message}
+
+-- the characters of a text as it is drawn: a trusted one as it is, any other normalised
+abbrev pub drawn_text : Heading → List ℕ
+drawn_text heading = if heading.allows_styling then chars heading.text else norm (chars heading.text)
+
+-- the address that an id's text links to, where links are on and it has one
+abbrev pub address_of : Bool → Id → Option (List ℕ)
+address_of hyperlink id = if hyperlink then option_map cow_str_bytes id.url else None
+
+-- cells that link to this address, if there is one
+abbrev pub linked_to : Option (List ℕ) → List Cell → List Cell
+linked_to None cells = cells
+linked_to (Some url) cells = map (linked url) cells
+
+-- the brackets around an id's text, which stand where the level's name isn't hidden
+abbrev pub opening_of : Bool → List ℕ
+opening_of hidden = if hidden then [] else codes "["
+
+abbrev pub closing_of : Bool → List ℕ
+closing_of hidden = if hidden then [] else codes "]"
+
+-- an id's text: normalised, and linked but for the brackets; no cells where there is no text
+abbrev pub bracketed_cells : Bool → ElementStyle → Option (List ℕ) → Option (List ℕ) → List Cell
+bracketed_cells hidden role address None = []
+bracketed_cells hidden role address (Some text) =
+    drawn role (opening_of hidden) ++ linked_to address (drawn role (norm (chars text))) ++ drawn role (closing_of hidden)
+
+-- the cells of an id, where there is one
+abbrev pub id_cells : Bool → Bool → ElementStyle → Option Id → List Cell
+id_cells hyperlink hidden role None = []
+id_cells hyperlink hidden role (Some id) =
+    bracketed_cells hidden role (address_of hyperlink id) (option_map cow_str_bytes id.id)
+
+-- what stands between the label and the text: nothing where the level's name is hidden and there is no id
+abbrev pub colon_of : Bool → Option Id → List ℕ
+colon_of hidden id = if hidden && is_none id then [] else codes ": "
+
+-- what stands before a heading's text: the level's name and the id, a colon and a space
+unfoldable pub label_cells : Bool → HeadingRoles → Heading → List Cell
+label_cells hyperlink roles heading =
+    let hidden = is_hidden heading.level.name in
+    drawn roles.label (norm (chars (name_of heading.level))) ++ id_cells hyperlink hidden roles.label heading.id ++ drawn roles.colon (colon_of hidden heading.id)
+
+-- its characters: those of an id, and of all of it
+abbrev pub bracketed_text : Bool → Option (List ℕ) → List ℕ
+bracketed_text hidden None = []
+bracketed_text hidden (Some text) = opening_of hidden ++ norm (chars text) ++ closing_of hidden
+
+abbrev pub id_text : Bool → Option Id → List ℕ
+id_text hidden None = []
+id_text hidden (Some id) = bracketed_text hidden (option_map cow_str_bytes id.id)
+
+abbrev pub label_text : Heading → List ℕ
+label_text heading =
+    let hidden = is_hidden heading.level.name in
+    norm (chars (name_of heading.level)) ++ id_text hidden heading.id ++ colon_of hidden heading.id
+
+-- the columns that it takes
+abbrev pub label_width : Heading → ℕ
+label_width heading = width_of (label_text heading)
+
+-- the role of a title's colon, and of its text if that isn't trusted; in the short form or not
+abbrev pub title_role : Bool → Bool → ElementStyle
+title_role short true = role.HeaderMsg
+title_role true false = role.NoStyle
+title_role false false = role.MainHeaderMsg
+
+-- the role of a title's text: a trusted one is unstyled
+abbrev pub text_role : Bool → Bool → ElementStyle
+text_role short trusted = if trusted then role.NoStyle else title_role short trusted
+
+-- the roles of a heading's parts
+abbrev pub roles_of : TitleStyle → LevelInner → Bool → HeadingRoles
+roles_of Title kind trusted =
+    record { label = role.Level kind; colon = title_role false trusted; text = text_role false trusted }
+roles_of Short kind trusted =
+    record { label = role.Level kind; colon = title_role true trusted; text = text_role true trusted }
+roles_of (Message place) kind trusted =
+    record { label = role.MainHeaderMsg; colon = role.NoStyle; text = role.NoStyle }
+
+-- what leads from the gutter to a message: '= ', or in Unicode '├ ' where an element follows and else '╰ '
+abbrev pub note_sign_of : DecorStyle → Bool → List ℕ
+note_sign_of Ascii followed = codes "= "
+note_sign_of Unicode true = codes "├ "
+note_sign_of Unicode false = codes "╰ "
+
+-- what stands below it: in Unicode the stroke that leads to the element that follows, if there is one; else a space
+abbrev pub note_bar_of : DecorStyle → Bool → Cell
+note_bar_of Ascii followed = SPACE
+note_bar_of Unicode true = unlinked_cell role.LineNumber 0x2502
+note_bar_of Unicode false = SPACE
+
+-- the cells of the gutter that a heading stands behind
+abbrev pub gutter_of : TitleStyle → ℕ
+gutter_of Title = 0
+gutter_of Short = 0
+gutter_of (Message place) = place.gutter
+
+-- what a heading's first row begins with: nothing for a title, and for a message the sign behind the gutter
+abbrev pub sign_cells : TitleStyle → List Cell
+sign_cells Title = []
+sign_cells Short = []
+sign_cells (Message place) =
+    replicate (place.gutter + 1) SPACE ++ drawn role.LineNumber (note_sign_of place.decor place.followed)
+
+-- what a further row begins with, below a label of this width: as many spaces, and in a message three more than the gutter is
+-- wide, of which one gives its place to the stroke
+abbrev pub indent_cells : TitleStyle → ℕ → List Cell
+indent_cells Title width = replicate width SPACE
+indent_cells Short width = replicate width SPACE
+indent_cells (Message place) width =
+    replicate (place.gutter + 1) SPACE ++ note_bar_of place.decor place.followed ∷ replicate (width + 1) SPACE
+
+-- the rows of lines: the first line stands behind these cells, each further one behind those
+abbrev pub lines_below : List Cell → List Cell → ElementStyle → List (List ℕ) → List (List Cell)
+lines_below first further role [] = []
+lines_below first further role (line ∷ lines) =
+    (first ++ drawn role line) ∷ map (λ l. further ++ drawn role l) lines
+
+-- one row more on top of others; but where it has no cells and there are no others there is no row
+abbrev pub on_top : List Cell → List (List Cell) → List (List Cell)
+on_top [] [] = []
+on_top [] (row ∷ rows) = [] ∷ row ∷ rows
+on_top (cell ∷ cells) rows = (cell ∷ cells) ∷ rows
+
+-- rows without those at the end that have no cells
+abbrev pub trimmed : List (List Cell) → List (List Cell)
+trimmed [] = []
+trimmed (row ∷ rows) = on_top row (trimmed rows)
+
+-- the lines of a heading: the characters of its text as it is drawn, cut at each line feed
+abbrev pub heading_lines : Heading → List (List ℕ)
+heading_lines heading = slice_split (λ c. c == 10) (drawn_text heading)
+
+-- the rows of a heading, with links or without: a row for each line of its text, the first behind the label and each further
+-- one below its text; those at the end that have no cells aren't there
+unfoldable pub heading_rows : Bool → TitleStyle → Heading → List (List Cell)
+heading_rows hyperlink style heading =
+    let roles = roles_of style heading.level.kind heading.allows_styling in
+    trimmed (lines_below (sign_cells style ++ label_cells hyperlink roles heading) (indent_cells style (label_width heading)) roles.text (heading_lines heading))

@@ -1,0 +1,200 @@
+//! The rows of a title or message.
+ghost use Rattle.std.specs.Prelude.{◌≡◌, ℕ, ◌+◌, ◌^◌, ◌<◌, ◌≤◌, ◌++◌, ◌==◌, [], length, map, take, drop, chars, All, OnOk, IfOk, IfSome};
+ghost use Rattle.std.specs.List.{slice_index_or, slice_split};
+ghost use Rattle.std.specs.Cow.{cow_str_bytes};
+ghost use Rattle.std.specs.Option.{option_copied};
+ghost use Rattle.snippet_model.specs.Fits.{LevelFits, IdFits};
+ghost use Rattle.snippet_model.specs.Heading.{HeadingFits};
+ghost use Rattle.snippet_model.specs.Heading as model;
+ghost use Rattle.snippet_titles.specs.Appended.{IsAtEnd, appended};
+ghost use Rattle.snippet_titles.specs.Heading.{drawn_text, gutter_of, heading_rows, indent_cells, label_cells, trimmed};
+ghost use Rattle.snippet_titles.specs.Heading as spec;
+ghost use Rattle.snippet_titles.specs.Shown.{IsFreeButText, LinksId, heading_texts};
+ghost use Rattle.snippet_style.specs.Grid.{drawn, row_at};
+ghost use Rattle.snippet_style.specs.Print.{row_text};
+ghost use Rattle.snippet_text.specs.Width.{width_of};
+
+use crate::id::draw_id;
+use crate::row::{draw_indent, draw_sign, extend_row};
+use crate::style::{HeadingRoles, TitleStyle, roles_of};
+use snippet_model::MessageOrTitle;
+use snippet_model::level::{Level, LevelName};
+use snippet_model::snippet::Id;
+use snippet_style::{ElementStyle, StyledBuffer, char_count};
+use snippet_text::{CowStr, normalized, str_width};
+use std::alloc::{AllocError, Global};
+
+/// Draws a title or message below all that stands in the grid. Further lines of its text stand below the first. Where
+/// links are on, the text of its id links to its URL.
+///
+///     error[E0308]: mismatched types
+///                   in the arms of a match
+///
+pub fn draw_heading<'a>(
+    alloc: Global,
+    buffer: &mut StyledBuffer<'a>,
+    hyperlink: bool,
+    style: TitleStyle,
+    heading: &'a dyn MessageOrTitle,
+) -> Result<(), AllocError>
+    requires fits { HeadingFits (heading_of heading.now) }
+    requires narrow { gutter_of style < 2 ^ 32 }
+    ensures rows { OnOk result (buffer.new ≡ buffer.old ++ heading_rows hyperlink style (heading_of heading.now)) }
+    // What the rows that are added show.
+    ensures texts { OnOk result ((k : ℕ) → row_text (row_at (drop (length buffer.old) buffer.new) k)
+        ≡ slice_index_or (heading_texts style (heading_of heading.now)) k []) }
+    ensures free { OnOk result (All (IsFreeButText (heading_of heading.now)) (drop (length buffer.old) buffer.new)) }
+    ensures links { OnOk result (LinksId hyperlink style (heading_of heading.now) (drop (length buffer.old) buffer.new)) }
+{
+    let row = buffer.num_lines();
+    let roles = roles_of(style, heading.level().kind, heading.allows_styling());
+    draw_sign(buffer, row, style)?;
+    draw_label(alloc, buffer, row, style.start(), hyperlink, roles, heading)?;
+    let text = text_of(alloc, heading)?;
+    draw_lines(
+        buffer,
+        row,
+        style,
+        label_width(heading),
+        roles.text,
+        text.as_str(),
+    )?;
+    Ok(())
+}
+
+/// Draws what stands before a heading's text behind the cells of a row, of which there are `start`.
+fn draw_label<'a>(
+    alloc: Global,
+    buffer: &mut StyledBuffer<'a>,
+    row: usize,
+    start: usize,
+    hyperlink: bool,
+    roles: HeadingRoles,
+    heading: &'a dyn MessageOrTitle,
+) -> Result<(), AllocError>
+    requires row { row + 1 < 2 ^ 64 }
+    requires start { length (row_at buffer.old row) ≡ start }
+    requires small { start < 2 ^ 33 }
+    requires fits { HeadingFits (heading_of heading.now) }
+    ensures extended { OnOk result (buffer.new
+        ≡ appended buffer.old row (label_cells hyperlink roles (heading_of heading.now))) }
+{
+    let level = heading.level();
+    let hidden = is_hidden(level);
+    let name = normalized(alloc, level.as_str())?;
+    extend_row(buffer, row, name.as_str(), roles.label)?;
+    let start = start + char_count(name.as_str());
+    draw_id(
+        alloc,
+        buffer,
+        row,
+        start,
+        roles.label,
+        hyperlink,
+        hidden,
+        heading.id(),
+    )?;
+    extend_row(buffer, row, colon(hidden, heading.id()), roles.colon)?;
+    Ok(())
+}
+
+/// Whether a level's name isn't shown.
+fn is_hidden(level: &Level) -> bool
+    ensures value { result ≡ model.is_hidden level.now.name }
+{
+    matches!(level.name, LevelName::Hidden)
+}
+
+/// What stands between the label and the text: nothing where the name is hidden and there is no id.
+fn colon(hidden: bool, id: Option<&Id>) -> &'static str
+    ensures value { chars result.now ≡ spec.colon_of hidden (option_copied id.entry) }
+    ensures short { length result.now ≤ 2 }
+{
+    if hidden && id.is_none() { "" } else { ": " }
+}
+
+/// The columns of what stands before a heading's text.
+fn label_width(heading: &dyn MessageOrTitle) -> usize
+    requires fits { HeadingFits (heading_of heading.now) }
+    ensures value { result ≡ width_of (spec.label_text (heading_of heading.now)) }
+    ensures small { result < 2 ^ 60 }
+{
+    let hidden = is_hidden(heading.level());
+    let colon = colon(hidden, heading.id());
+    str_width(heading.level().as_str()) + id_width(hidden, heading.id()) + str_width(colon)
+}
+
+/// The columns of an id, none where it has no text.
+fn id_width(hidden: bool, id: Option<&Id>) -> usize
+    requires fits { IfSome (option_copied id) IdFits }
+    ensures value { result ≡ width_of (spec.id_text hidden (option_copied id.entry)) }
+    ensures small { result < 2 ^ 59 }
+{
+    let Some(id) = id else {
+        return 0;
+    };
+    match &id.id {
+        Some(text) if hidden => str_width(text.as_str()),
+        Some(text) => str_width(text.as_str()) + 2,
+        None => 0,
+    }
+}
+
+/// A heading's text as it is drawn: a trusted one as it is, any other normalised.
+fn text_of(alloc: Global, heading: &dyn MessageOrTitle) -> Result<CowStr<'_>, AllocError>
+    ensures value { IfOk result (λ text. chars (cow_str_bytes text) ≡ drawn_text (heading_of heading.now)) }
+{
+    if heading.allows_styling() {
+        Ok(CowStr::Borrowed(heading.text()))
+    } else {
+        normalized(alloc, heading.text())
+    }
+}
+
+/// Draws a text behind the cells of the grid's last row; each further line of it stands in a row of its own, below a label of
+/// this width.
+fn draw_lines(
+    buffer: &mut StyledBuffer,
+    row: usize,
+    style: TitleStyle,
+    width: usize,
+    role: ElementStyle,
+    text: &str,
+) -> Result<(), AllocError>
+    requires row { row < 2 ^ 60 }
+    requires last { IsAtEnd row buffer.old }
+    requires narrow { gutter_of style < 2 ^ 32 }
+    requires width { width < 2 ^ 62 }
+    ensures rows { OnOk result (buffer.new ≡ take row buffer.old
+        ++ trimmed (spec.lines_below (row_at buffer.old row) (indent_cells style width) role (map chars (slice_split (λ b. b == 10) text.now)))) }
+{
+    let Some((first, rest)) = text.split_once('\n') else {
+        extend_row(buffer, row, text, role)?;
+        return Ok(());
+    };
+    extend_row(buffer, row, first, role)?;
+    for (index, line) in rest.split('\n').enumerate() {
+        draw_further_line(buffer, row + 1 + index, style, width, role, line)?;
+    }
+    Ok(())
+}
+
+/// Draws the row of a further line.
+fn draw_further_line(
+    buffer: &mut StyledBuffer,
+    row: usize,
+    style: TitleStyle,
+    width: usize,
+    role: ElementStyle,
+    line: &str,
+) -> Result<(), AllocError>
+    requires row { row + 1 < 2 ^ 64 }
+    requires empty { row_at buffer.old row ≡ [] }
+    requires narrow { gutter_of style < 2 ^ 32 }
+    requires width { width < 2 ^ 62 }
+    ensures drawn { OnOk result (buffer.new ≡ appended buffer.old row (indent_cells style width ++ drawn role (chars line.now))) }
+{
+    draw_indent(buffer, row, style, width)?;
+    extend_row(buffer, row, line, role)?;
+    Ok(())
+}

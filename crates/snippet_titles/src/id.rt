@@ -1,0 +1,83 @@
+//! A heading's identifier.
+ghost use Rattle.std.specs.Prelude.{◌≡◌, ◌+◌, ◌^◌, ◌<◌, ◌≤◌, chars, length, IfSome, OnOk};
+ghost use Rattle.std.specs.Option.{option_copied};
+ghost use Rattle.snippet_model.specs.Fits.{IdFits};
+ghost use Rattle.snippet_style.specs.Grid.{row_at};
+ghost use Rattle.snippet_titles.specs.Appended.{appended};
+ghost use Rattle.snippet_titles.specs.Heading.{id_cells};
+ghost use Rattle.snippet_titles.specs.Heading as spec;
+
+use crate::row::{extend_row, link_from};
+use snippet_model::snippet::Id;
+use snippet_style::{ElementStyle, StyledBuffer};
+use snippet_text::normalized;
+use std::alloc::{AllocError, Global};
+
+/// Draws an id behind a row's cells, of which there are `start`: in brackets, unless the level's name is hidden. Its text
+/// links to its URL where links are on.
+///
+///     [E0308]
+///
+pub(crate) fn draw_id<'a>(
+    alloc: Global,
+    buffer: &mut StyledBuffer<'a>,
+    row: usize,
+    start: usize,
+    role: ElementStyle,
+    hyperlink: bool,
+    hidden: bool,
+    id: Option<&'a Id<'a>>,
+) -> Result<(), AllocError>
+    requires row { row + 1 < 2 ^ 64 }
+    requires start { length (row_at buffer.old row) ≡ start }
+    requires short { start < 2 ^ 60 }
+    requires fits { IfSome (option_copied id) IdFits }
+    ensures extended { OnOk result (buffer.new
+        ≡ appended buffer.old row (id_cells hyperlink hidden role (option_copied id.entry))) }
+{
+    let Some(id) = id else {
+        return Ok(());
+    };
+    let Some(text) = &id.id else {
+        return Ok(());
+    };
+    let shown = normalized(alloc, text.as_str())?;
+    let opening = opening_bracket(hidden);
+    extend_row(buffer, row, opening, role)?;
+    extend_row(buffer, row, shown.as_str(), role)?;
+    link_from(
+        buffer,
+        row,
+        start + opening.len(),
+        address_of(hyperlink, id),
+    )?;
+    extend_row(buffer, row, closing_bracket(hidden), role)?;
+    Ok(())
+}
+
+/// What stands before an id's text.
+pub(crate) fn opening_bracket(hidden: bool) -> &'static str
+    ensures value { chars result.now ≡ spec.opening_of hidden }
+    ensures length { length result.now ≡ length (spec.opening_of hidden) }
+    ensures short { length result.now ≤ 1 }
+{
+    if hidden { "" } else { "[" }
+}
+
+/// What stands behind an id's text.
+pub(crate) fn closing_bracket(hidden: bool) -> &'static str
+    ensures value { chars result.now ≡ spec.closing_of hidden }
+    ensures short { length result.now ≤ 1 }
+{
+    if hidden { "" } else { "]" }
+}
+
+/// The address that an id's text links to, where links are on and it has one.
+fn address_of<'a>(hyperlink: bool, id: &'a Id<'a>) -> Option<&'a str>
+    ensures value { option_copied result ≡ spec.address_of hyperlink id.now }
+{
+    match &id.url {
+        Some(url) if hyperlink => Some(url.as_str()),
+        _ => None,
+    }
+}

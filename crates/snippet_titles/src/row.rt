@@ -1,0 +1,103 @@
+//! The rows that a heading is drawn into: what is added behind their cells.
+ghost use Rattle.std.specs.Prelude.{◌≡◌, ◌+◌, ◌^◌, ◌<◌, [], ◌∷◌, ◌++◌, chars, length, replicate, OnOk};
+ghost use Rattle.std.specs.Option.{option_copied};
+ghost use Rattle.snippet_titles.specs.Appended.{appended, linked_from};
+ghost use Rattle.snippet_titles.specs.Heading.{gutter_of, indent_cells, sign_cells};
+ghost use Rattle.snippet_style.specs.Grid.{SPACE, drawn, row_at};
+
+use crate::style::TitleStyle;
+use snippet_style::{ElementStyle, StyledBuffer};
+use std::alloc::AllocError;
+
+/// Adds a text behind the cells of a row. An empty one makes no row.
+pub(crate) fn extend_row(
+    buffer: &mut StyledBuffer,
+    row: usize,
+    text: &str,
+    role: ElementStyle,
+) -> Result<(), AllocError>
+    requires row { row + 1 < 2 ^ 64 }
+    ensures extended { OnOk result (buffer.new ≡ appended buffer.old row (drawn role (chars text.now))) }
+{
+    buffer.append(row, text, role)?;
+    Ok(())
+}
+
+/// Links a row's cells from this one on to an address, if there is one.
+pub(crate) fn link_from<'a>(
+    buffer: &mut StyledBuffer<'a>,
+    row: usize,
+    from: usize,
+    address: Option<&'a str>,
+) -> Result<(), AllocError>
+    ensures linked { OnOk result (buffer.new ≡ linked_from (option_copied address.entry) row from buffer.old) }
+{
+    if let Some(url) = address {
+        buffer.link(row, from..usize::MAX, url)?;
+    }
+    Ok(())
+}
+
+/// Adds so many spaces behind the cells of a row, of which there are `end`.
+pub(crate) fn add_spaces(
+    buffer: &mut StyledBuffer,
+    row: usize,
+    end: usize,
+    count: usize,
+) -> Result<(), AllocError>
+    requires row { row + 1 < 2 ^ 64 }
+    requires fits { end + count < 2 ^ 64 }
+    requires end { length (row_at buffer.old row) ≡ end }
+    ensures extended { OnOk result (buffer.new ≡ appended buffer.old row (replicate count SPACE)) }
+{
+    if count > 0 {
+        buffer.putc(row, end + count - 1, ' ', ElementStyle::NoStyle)?;
+    }
+    Ok(())
+}
+
+/// Begins the row below all others with the sign of a message. A title has none.
+pub(crate) fn draw_sign(
+    buffer: &mut StyledBuffer,
+    row: usize,
+    style: TitleStyle,
+) -> Result<(), AllocError>
+    requires row { row + 1 < 2 ^ 64 }
+    requires empty { row_at buffer.old row ≡ [] }
+    requires narrow { gutter_of style < 2 ^ 32 }
+    ensures extended { OnOk result (buffer.new ≡ appended buffer.old row (sign_cells style)) }
+{
+    if let TitleStyle::Message(place) = style {
+        buffer.puts(
+            row,
+            place.gutter + 1,
+            place.sign(),
+            ElementStyle::LineNumber,
+        )?;
+    }
+    Ok(())
+}
+
+/// Begins a further row, below a label of this width.
+pub(crate) fn draw_indent(
+    buffer: &mut StyledBuffer,
+    row: usize,
+    style: TitleStyle,
+    width: usize,
+) -> Result<(), AllocError>
+    requires row { row + 1 < 2 ^ 64 }
+    requires empty { row_at buffer.old row ≡ [] }
+    requires narrow { gutter_of style < 2 ^ 32 }
+    requires width { width < 2 ^ 62 }
+    ensures extended { OnOk result (buffer.new ≡ appended buffer.old row (indent_cells style width)) }
+{
+    match style {
+        TitleStyle::Title | TitleStyle::Short => add_spaces(buffer, row, 0, width)?,
+        TitleStyle::Message(place) => {
+            let (glyph, role) = place.bar();
+            buffer.putc(row, place.gutter + 1, glyph, role)?;
+            add_spaces(buffer, row, place.gutter + 2, width + 1)?;
+        }
+    }
+    Ok(())
+}

@@ -1,0 +1,111 @@
+//! Where a title or message stands, and what that makes of its rows: the roles of their parts, and what they begin with.
+ghost use Rattle.std.specs.Prelude.{◌≡◌, ◌<◌, ◌^◌, chars, length};
+ghost use Rattle.snippet_style.specs.Grid.{unlinked_cell};
+ghost use Rattle.snippet_titles.specs.Heading as spec;
+ghost use Rattle.snippet_style.specs.declared.role.ElementStyle.TheVariants.{Level};
+
+use snippet_style::{DecorStyle, ElementStyle, LevelInner};
+
+/// The place of a message, below the rows of an element of its group.
+#[derive(Clone, Copy)]
+pub struct MessagePlace {
+    /// The cells of the gutter.
+    pub gutter: usize,
+    /// The strokes that are drawn.
+    pub decor: DecorStyle,
+    /// Whether an element of the group follows, to which a stroke leads.
+    pub followed: bool,
+}
+
+/// Where a title or message stands.
+#[derive(Clone, Copy)]
+pub enum TitleStyle {
+    /// A group begins with it.
+    Title,
+    /// A report's short form consists of it.
+    Short,
+    /// It stands below the rows of an element.
+    Message(MessagePlace),
+}
+
+/// The roles of a heading's parts.
+#[derive(Clone, Copy)]
+pub struct HeadingRoles {
+    /// That of the level's name and the id.
+    pub label: ElementStyle,
+    /// That of the colon behind them.
+    pub colon: ElementStyle,
+    /// That of the text.
+    pub text: ElementStyle,
+}
+
+/// The roles of a heading of this kind, whose text is trusted or not.
+pub(crate) fn roles_of(style: TitleStyle, kind: LevelInner, trusted: bool) -> HeadingRoles
+    ensures value { result ≡ spec.roles_of style kind trusted }
+{
+    match style {
+        TitleStyle::Title => title_roles(false, kind, trusted),
+        TitleStyle::Short => title_roles(true, kind, trusted),
+        TitleStyle::Message(_) => HeadingRoles {
+            label: ElementStyle::MainHeaderMsg,
+            colon: ElementStyle::NoStyle,
+            text: ElementStyle::NoStyle,
+        },
+    }
+}
+
+/// The roles of a title of this kind, in the short form or not.
+fn title_roles(short: bool, kind: LevelInner, trusted: bool) -> HeadingRoles
+    ensures label { result.label ≡ Level kind }
+    ensures colon { result.colon ≡ spec.title_role short trusted }
+    ensures text { result.text ≡ spec.text_role short trusted }
+{
+    let (colon, text) = match (trusted, short) {
+        (true, _) => (ElementStyle::HeaderMsg, ElementStyle::NoStyle),
+        (false, true) => (ElementStyle::NoStyle, ElementStyle::NoStyle),
+        (false, false) => (ElementStyle::MainHeaderMsg, ElementStyle::MainHeaderMsg),
+    };
+    HeadingRoles {
+        label: ElementStyle::Level(kind),
+        colon,
+        text,
+    }
+}
+
+impl MessagePlace {
+    /// What leads from the gutter to the message.
+    pub(crate) fn sign(self) -> &'static str
+        ensures value { chars result.now ≡ spec.note_sign_of self.decor self.followed }
+        ensures some { 0 < length result.now }
+    {
+        match (self.decor, self.followed) {
+            (DecorStyle::Ascii, _) => "= ",
+            (DecorStyle::Unicode, true) => "├ ",
+            (DecorStyle::Unicode, false) => "╰ ",
+        }
+    }
+
+    /// What stands below its first character in the message's further rows, and its role.
+    pub(crate) fn bar(self) -> (char, ElementStyle)
+        ensures value { unlinked_cell result.1 result.0 ≡ spec.note_bar_of self.decor self.followed }
+    {
+        match (self.decor, self.followed) {
+            (DecorStyle::Unicode, true) => ('│', ElementStyle::LineNumber),
+            (DecorStyle::Unicode, false) | (DecorStyle::Ascii, _) => (' ', ElementStyle::NoStyle),
+        }
+    }
+}
+
+impl TitleStyle {
+    /// How many cells the first row begins with before its label.
+    pub(crate) fn start(self) -> usize
+        requires narrow { spec.gutter_of self < 2 ^ 32 }
+        ensures value { result ≡ length (spec.sign_cells self) }
+        ensures small { result < 2 ^ 33 }
+    {
+        match self {
+            TitleStyle::Title | TitleStyle::Short => 0,
+            TitleStyle::Message(place) => place.gutter + 3,
+        }
+    }
+}
