@@ -1,5 +1,5 @@
 -- The report that a command asks for.
-use Rattle.std.specs.Prelude.{◌≡◌, ℕ, true, false, List, [], ◌∷◌, Some, None, unwrap_or, if◌then◌else◌}
+use Rattle.std.specs.Prelude.{◌≡◌, ℕ, true, false, List, [], ◌∷◌, None, unwrap_or, if◌then◌else◌}
 use Rattle.std.specs.Borrow.{Bor}
 use Rattle.std.specs.Cow.{cow_str_bytes}
 use Rattle.std.specs.Option.{option_map}
@@ -7,6 +7,7 @@ use Rattle.annotate_snippets.specs.declared.renderer.DecorStyle.TheVariants.{Asc
 use Rattle.annotate_snippets.specs.declared.renderer.Renderer.{Renderer}
 use Rattle.annotate_snippets.specs.declared.snippet.Annotation.{Annotation}
 use Rattle.annotate_snippets.specs.declared.snippet.AnnotationKind.TheVariants.{Primary}
+use Rattle.annotate_snippets.specs.declared.snippet.Element.TheVariants.{Cause}
 use Rattle.annotate_snippets.specs.declared.snippet.Group.{Group}
 use Rattle.annotate_snippets.specs.declared.snippet.Snippet.{Snippet}
 use Rattle.annotate_snippets.specs.declared.snippet.Title.{Title}
@@ -57,7 +58,7 @@ pub record IsReportFor (command : Command) (source : List ℕ) (groups : List Gr
   pub title_is : IsTitleFor command title
   pub snippet : Snippet Annotation
   pub snippet_is : IsSnippetFor command source snippet
-  pub parts : IsReportOf title (Some snippet) groups
+  pub parts : IsReportOf title (Cause snippet ∷ []) groups
   pub kind : parts.group.level ≡ error_level.kind
 
 -- the text shows the command's report over the source, in the settings that its options ask for
