@@ -49,7 +49,7 @@ parts_push decor gutter ss above mid new s has drawn =
       parts = has.parts ++ drawn.rows ∷ [];
       last = last;
       added = drawn.added ∙ append_assoc above (parts_above has.parts) (drawn.rows ++ last) ∙ ap (λ rows. above ++ rows) (sym (append_assoc (parts_above has.parts) drawn.rows last) ∙ ap (λ rows. rows ++ last) (sym joined));
-      are = both_push (λ t part. AreSuggestionRows (suggestion_layout decor gutter t) t part) ss has.parts s drawn.rows has.are (record { shown = drawn.shown; are = drawn.are; numbers = drawn.numbers });
+      are = both_push (λ t part. AreSuggestionRows (suggestion_layout decor gutter t) t part) ss has.parts s drawn.rows has.are (record { shown = drawn.shown; are = drawn.are; numbers = drawn.numbers; removed = drawn.removed });
       ends = λ t. subst (λ b. IsTail (suggestion_layout decor gutter t) b last) (sym more) (drawn.last, refl, drawn.last_is);
     }
 

@@ -23,8 +23,8 @@ use Rattle.snippet_splice.specs.Spliced.{HasNoCr, IsTouched, spliced_text, texts
 use Rattle.snippet_splice.specs.Trim.{kept_before, sandwich}
 use Rattle.snippet_suggest.specs.Given.{IsAsItWas, IsOfferable, edits_of, first_given, given_lines, last_reached}
 use Rattle.snippet_suggest.specs.Kind.{is_blank}
-use Rattle.snippet_suggest.specs.Rows.{IsOtherRow}
-use Rattle.annotate_snippets.specs.Page.{Elision, NamedRow, OfferedLine, Other, RowName, SourceRow, lines_offered}
+use Rattle.snippet_suggest.specs.Rows.{IsBareRow}
+use Rattle.annotate_snippets.specs.Page.{Elision, NamedRow, OfferedLine, RemovedLine, Other, RowName, SourceRow, lines_offered}
 use Rattle.annotate_snippets.specs.Settings.{plain_settings}
 use Rattle.annotate_snippets.specs.Shown.{IsOfferedRow, IsSuggestionRow, ShowsSuggestion}
 use Rattle.annotate_snippets.proofs.NotShown.{two_of_one}
@@ -88,12 +88,13 @@ named_first s is (OfferedLine j) cells same shows =
     let from : first_given s ≡ 0 = ap (λ text. shown_line s.fold text (edits_of s)) is.source_is ∙ ap (shown_line s.fold (codes "ab")) is.edits_are ∙ from_first s.fold in
     let at : j ≡ 0 = omega (arith, shows.from, shows.within, ap length given, from) in
     ap OfferedLine at
+named_first s is (RemovedLine i) cells same shows =
+    let P : List Cell → Type 0 = λ row. (get_or row 2 SPACE).ch ≡ 45 in
+    let minus : ◌≡◌ {A = ℕ} 43 45 = subst P same shows.minus in
+    absurd (omega (arith, minus))
 named_first s is Other cells same shows =
-    absurd (other_row (subst (IsOtherRow Ascii 1) same shows))
-  where
-    other_row : IsOtherRow Ascii 1 (offering_row (codes "ac")) → ⊥
-    other_row (inl removed) = let minus : ◌≡◌ {A = ℕ} 43 45 = removed.minus in absurd (omega (arith, minus))
-    other_row (inr bare) = let digit : true ≡ false = bare.unnumbered 0 (omega arith) in cc
+    let digit : false ≡ true = (subst (IsBareRow Ascii 1) same shows).strokes 0 (omega arith) in
+    cc
 
 -- a row behind others is what its name says, if all are, and so are those behind it
 row_named : (s : Snippet Patch) (before : List NamedRow) (row : NamedRow) (behind : List NamedRow) → All (λ r. IsSuggestionRow plain_settings 1 s r.name r.cells) (before ++ (row ∷ behind)) → IsSuggestionRow plain_settings 1 s row.name row.cells × All (λ r. IsSuggestionRow plain_settings 1 s r.name r.cells) behind

@@ -26,7 +26,7 @@ use Rattle.snippet_parts.specs.Mark.{is_marked_on, qualifies_for_marks, start_co
 use Rattle.snippet_parts.specs.Window.{chars_at, stands_whole}
 use Rattle.snippet_strokes.specs.Entries.{IsMarkCell, has_mark_role}
 use Rattle.snippet_strokes.specs.Rows.{separator_row}
-use Rattle.annotate_snippets.specs.Page.{Elision, RowName, OfferedLine, SourceRow, Other, NamedRow, lines_named, IsAscending}
+use Rattle.annotate_snippets.specs.Page.{Elision, RowName, OfferedLine, RemovedLine, SourceRow, Other, NamedRow, lines_named, IsAscending}
 use Rattle.annotate_snippets.specs.Settings.{plain_settings}
 use Rattle.snippet_style.specs.Glyphs.{placeholder_of}
 use Rattle.annotate_snippets.specs.Shown.{Frame, cell_of, room_of, normalized_chars, shown_label, ShowsSourceLine, ShowsMarksOf, ShowsLineAndMarks, IsRowBelow, IsRowOf, AreRowsOf, ShowsSnippet}
@@ -206,6 +206,7 @@ named_first s is (SourceRow k) cells rows same shows =
     let first : k ≡ 0 = omega arith in
     ap SourceRow first
 named_first s is (OfferedLine j) cells rows same shows = absurd shows
+named_first s is (RemovedLine i) cells rows same shows = absurd shows
 named_first s is Elision cells rows same shows =
     let digit : true ≡ false = subst (λ row. is_ascii_alphanumeric (slice_index_or row 0 SPACE).ch ≡ false) same (shows.unnumbered 0 (omega arith)) in
     cc

@@ -10,11 +10,11 @@ use Rattle.snippet_style.specs.Print.{row_text}
 use Rattle.snippet_text.specs.Normalized.{norm}
 use Rattle.snippet_lines.specs.Number.{shown_number}
 use Rattle.snippet_suggest.specs.declared.layout.SuggestionLayout.{SuggestionLayout}
-use Rattle.snippet_suggest.specs.declared.shown.ShownLine.{ShownLine}
-use Rattle.snippet_suggest.specs.declared.shown.ShownLine.TheVariants.{Line, Gap}
-use Rattle.snippet_suggest.specs.Given.{first_given, given_lines, offered_lines}
+use Rattle.std.specs.Cow.{cow_str_bytes}
+use Rattle.snippet_lines.specs.Lines.{source_lines, text_at}
+use Rattle.snippet_suggest.specs.Given.{first_given, given_lines, offered_lines, removed_lines}
 use Rattle.snippet_suggest.specs.Prepared.{IsSuggestible}
-use Rattle.snippet_suggest.specs.Rows.{IsBareRow, IsOtherRow, IsShownRow, IsTail, number_after}
+use Rattle.snippet_suggest.specs.Rows.{Bare, IsBareRow, IsRemovedRow, IsTail, Offers, Removes, Shows, SuggestionRow, number_after, numbers_offered, texts_removed}
 use Rattle.snippet_parts.specs.Rows.{IsFree}
 use Rattle.std.specs.declared.alloc.Global.{Global}
 use Rattle.std.specs.declared.borrow.CowStr.{CowStr}
@@ -22,12 +22,12 @@ use Rattle.std.proofs.lemmas.Bool.{and_parts, lt-ltb}
 use Rattle.snippet_style.specs.declared.glyphs.DecorStyle.{DecorStyle}
 use Rattle.snippet_model.specs.declared.snippet.Element.{Element}
 use Rattle.snippet_model.specs.declared.snippet.Element.TheVariants.{Message, Cause, Suggestion, Origin, Padding}
-use Rattle.snippet_suggest.specs.Shown.{AreRising, numbers_shown}
+use Rattle.snippet_suggest.specs.Shown.{AreRising}
 use Rattle.annotate_snippets.specs.declared.renderer.Renderer.{Renderer}
 use Rattle.annotate_snippets.specs.Covered.{is_covered_suggestion}
 use Rattle.annotate_snippets.specs.Drawn.{AddsSuggestions, AreDrawable, AreSuggestionRows, gutter_of_suggestions, suggested, suggestion_layout}
 use Rattle.annotate_snippets.specs.Gutter.{code_behind, gutter_of_element, number_text}
-use Rattle.annotate_snippets.specs.Page.{IsAscending, NamedRow, OfferedLine, Other, cells_of, lines_offered}
+use Rattle.annotate_snippets.specs.Page.{IsAscending, NamedRow, OfferedLine, Other, RemovedLine, cells_of, lines_offered, lines_removed}
 use Rattle.annotate_snippets.specs.Shown.{AreElementsShown, Frame, IsOfferedRow, IsSuggestionRow, ShowsSuggestion, is_drawn}
 use Rattle.annotate_snippets.proofs.BodyLemmas.{IsBodyOf}
 use Rattle.annotate_snippets.proofs.SuggestedLemmas.{suggested-depth, suggested-gutter}
@@ -48,37 +48,68 @@ rising_ascends from to (j ∷ []) rising = tt
 rising_ascends from to (j ∷ k ∷ ks) rising =
     (omega (arith, rising.1.0), rising_ascends (j + 1) to (k ∷ ks) rising.1)
 
--- the rows of some lines with their names, counted from the first of them; those below are named as showing none
-abbrev pub named_rows : ℕ → List ShownLine → List (List Cell) → List NamedRow
-named_rows first [] rows = others rows
-named_rows first (line ∷ shown) [] = []
-named_rows first (Line k ∷ shown) (row ∷ rows) =
-    record { name = OfferedLine (first + k); cells = row } ∷ named_rows first shown rows
-named_rows first (Gap ∷ shown) (row ∷ rows) =
-    record { name = Other; cells = row } ∷ named_rows first shown rows
+-- rows of a suggestion with their names: offered lines are counted from the first that is given, and the rows of removed ones
+-- take these numbers in turn; those below are named as showing none
+abbrev pub named_rows : ℕ → List SuggestionRow → List ℕ → List (List Cell) → List NamedRow
+named_rows first [] removed rows = others rows
+named_rows first (row_is ∷ shown) removed [] = []
+named_rows first (Offers k ∷ shown) removed (row ∷ rows) =
+    record { name = OfferedLine (first + k); cells = row } ∷ named_rows first shown removed rows
+named_rows first (Removes text ∷ shown) [] (row ∷ rows) =
+    record { name = Other; cells = row } ∷ named_rows first shown [] rows
+named_rows first (Removes text ∷ shown) (i ∷ removed) (row ∷ rows) =
+    record { name = RemovedLine i; cells = row } ∷ named_rows first shown removed rows
+named_rows first (Bare ∷ shown) removed (row ∷ rows) =
+    record { name = Other; cells = row } ∷ named_rows first shown removed rows
 
 lines_offered-others : (rows : List (List Cell)) → lines_offered (others rows) ≡ []
 lines_offered-others [] = refl
 lines_offered-others (row ∷ rows) = lines_offered-others rows
 
--- with a row for each, they hold the rows, and offer the lines
-cells_of-named : (P : ShownLine → List Cell → Type 0) (first : ℕ) (shown : List ShownLine) (part below : List (List Cell)) → AllZip P shown part → cells_of (named_rows first shown (part ++ below)) ≡ part ++ below
-cells_of-named P first [] [] below are = cells_of-others below
-cells_of-named P first [] (row ∷ part) below are = absurd are
-cells_of-named P first (line ∷ shown) [] below are = absurd are
-cells_of-named P first (Line k ∷ shown) (row ∷ part) below are =
-    ap (λ rows. row ∷ rows) (cells_of-named P first shown part below are.1)
-cells_of-named P first (Gap ∷ shown) (row ∷ part) below are =
-    ap (λ rows. row ∷ rows) (cells_of-named P first shown part below are.1)
+lines_removed-others : (rows : List (List Cell)) → lines_removed (others rows) ≡ []
+lines_removed-others [] = refl
+lines_removed-others (row ∷ rows) = lines_removed-others rows
 
-lines_offered-named : (P : ShownLine → List Cell → Type 0) (first : ℕ) (shown : List ShownLine) (part below : List (List Cell)) → AllZip P shown part → lines_offered (named_rows first shown (part ++ below)) ≡ map (λ k. first + k) (numbers_shown shown)
-lines_offered-named P first [] [] below are = lines_offered-others below
-lines_offered-named P first [] (row ∷ part) below are = absurd are
-lines_offered-named P first (line ∷ shown) [] below are = absurd are
-lines_offered-named P first (Line k ∷ shown) (row ∷ part) below are =
-    ap (λ (ks : List ℕ). (first + k) ∷ ks) (lines_offered-named P first shown part below are.1)
-lines_offered-named P first (Gap ∷ shown) (row ∷ part) below are =
-    lines_offered-named P first shown part below are.1
+-- with a row for each, they hold the rows, offer the lines, and show these lines as removed
+cells_of-named : (P : SuggestionRow → List Cell → Type 0) (first : ℕ) (shown : List SuggestionRow) (removed : List ℕ) (part below : List (List Cell)) → AllZip P shown part → cells_of (named_rows first shown removed (part ++ below)) ≡ part ++ below
+cells_of-named P first [] removed [] below are = cells_of-others below
+cells_of-named P first [] removed (row ∷ part) below are = absurd are
+cells_of-named P first (row_is ∷ shown) removed [] below are = absurd are
+cells_of-named P first (Offers k ∷ shown) removed (row ∷ part) below are =
+    ap (λ rows. row ∷ rows) (cells_of-named P first shown removed part below are.1)
+cells_of-named P first (Removes text ∷ shown) [] (row ∷ part) below are =
+    ap (λ rows. row ∷ rows) (cells_of-named P first shown [] part below are.1)
+cells_of-named P first (Removes text ∷ shown) (i ∷ removed) (row ∷ part) below are =
+    ap (λ rows. row ∷ rows) (cells_of-named P first shown removed part below are.1)
+cells_of-named P first (Bare ∷ shown) removed (row ∷ part) below are =
+    ap (λ rows. row ∷ rows) (cells_of-named P first shown removed part below are.1)
+
+lines_offered-named : (P : SuggestionRow → List Cell → Type 0) (first : ℕ) (shown : List SuggestionRow) (removed : List ℕ) (part below : List (List Cell)) → AllZip P shown part → lines_offered (named_rows first shown removed (part ++ below)) ≡ map (λ k. first + k) (numbers_offered shown)
+lines_offered-named P first [] removed [] below are = lines_offered-others below
+lines_offered-named P first [] removed (row ∷ part) below are = absurd are
+lines_offered-named P first (row_is ∷ shown) removed [] below are = absurd are
+lines_offered-named P first (Offers k ∷ shown) removed (row ∷ part) below are =
+    ap (λ (ks : List ℕ). (first + k) ∷ ks) (lines_offered-named P first shown removed part below are.1)
+lines_offered-named P first (Removes text ∷ shown) [] (row ∷ part) below are =
+    lines_offered-named P first shown [] part below are.1
+lines_offered-named P first (Removes text ∷ shown) (i ∷ removed) (row ∷ part) below are =
+    lines_offered-named P first shown removed part below are.1
+lines_offered-named P first (Bare ∷ shown) removed (row ∷ part) below are =
+    lines_offered-named P first shown removed part below are.1
+
+lines_removed-named : (P : SuggestionRow → List Cell → Type 0) (f : ℕ → List ℕ) (first : ℕ) (shown : List SuggestionRow) (removed : List ℕ) (part below : List (List Cell)) → AllZip P shown part → texts_removed shown ≡ map f removed → lines_removed (named_rows first shown removed (part ++ below)) ≡ removed
+lines_removed-named P f first [] [] [] below are texts = lines_removed-others below
+lines_removed-named P f first [] (i ∷ removed) [] below are texts = absurd (cc)
+lines_removed-named P f first [] removed (row ∷ part) below are texts = absurd are
+lines_removed-named P f first (row_is ∷ shown) removed [] below are texts = absurd are
+lines_removed-named P f first (Offers k ∷ shown) removed (row ∷ part) below are texts =
+    lines_removed-named P f first shown removed part below are.1 texts
+lines_removed-named P f first (Removes text ∷ shown) [] (row ∷ part) below are texts = absurd (cc)
+lines_removed-named P f first (Removes text ∷ shown) (i ∷ removed) (row ∷ part) below are texts =
+    let rest : texts_removed shown ≡ map f removed = cc in
+    ap (λ (is : List ℕ). i ∷ is) (lines_removed-named P f first shown removed part below are.1 rest)
+lines_removed-named P f first (Bare ∷ shown) removed (row ∷ part) below are texts =
+    lines_removed-named P f first shown removed part below are.1 texts
 
 -- a suggestion that is drawn can be prepared, and has patches
 record IsDrawnOne (s : Snippet Patch) : Type 0 where
@@ -89,8 +120,12 @@ module _ (r : Renderer) (unanonymized : r.anonymized_snippet_line_numbers ≡ fa
   abbrev layout : SuggestionLayout
   layout = suggestion_layout r.decor_style gutter s
 
-  abbrev IsShown : ShownLine → List Cell → Type 0
-  IsShown = IsShownRow layout (s.line_start + first_given s) (given_lines s)
+  abbrev IsShown : SuggestionRow → List Cell → Type 0
+  IsShown = Shows layout (s.line_start + first_given s) (given_lines s)
+
+  -- the text of a line of the source
+  abbrev source_text : ℕ → List ℕ
+  source_text = text_at (source_lines (cow_str_bytes s.source))
 
   -- there is a number for each line that is given, and it is shown
   number_is : (k : ℕ) → k < length (given_lines s) → shown_number s.line_numbering gutter (number_after (s.line_start + first_given s) k) ≡ number_text r s.line_numbering gutter (s.line_start + (first_given s + k))
@@ -102,7 +137,7 @@ module _ (r : Renderer) (unanonymized : r.anonymized_snippet_line_numbers ≡ fa
       plain number = rw unanonymized refl
 
   -- the row of a line that is given offers it
-  offered_row : (k : ℕ) (row : List Cell) → k < length (given_lines s) → IsShown (Line k) row → IsOfferedRow r gutter s (first_given s + k) row
+  offered_row : (k : ℕ) (row : List Cell) → k < length (given_lines s) → IsShown (Offers k) row → IsOfferedRow r gutter s (first_given s + k) row
   offered_row k row within shows =
       let number = number_is k within in
       let back : first_given s + k - first_given s ≡ k = omega arith in
@@ -119,28 +154,37 @@ module _ (r : Renderer) (unanonymized : r.anonymized_snippet_line_numbers ≡ fa
             (patched_is.0, shows.holds ∙ ap (λ text. norm (chars text)) patched_is.1);
       }
 
+  abbrev IsNamed : NamedRow → Type 0
+  IsNamed row = IsSuggestionRow r gutter s row.name row.cells
+
   -- so each row is what its name says
-  rows_named : (from : ℕ) (shown : List ShownLine) (part below : List (List Cell)) → AreRising from (first_given s + length (given_lines s)) (map (λ k. first_given s + k) (numbers_shown shown)) → AllZip IsShown shown part → All (IsBareRow r.decor_style gutter) below → All (λ row. IsSuggestionRow r gutter s row.name row.cells) (named_rows (first_given s) shown (part ++ below))
-  rows_named from [] [] [] rising are bare = All-nil (λ row. IsSuggestionRow r gutter s row.name row.cells)
-  rows_named from [] [] (row ∷ below) rising are bare =
-      All-cons (λ row. IsSuggestionRow r gutter s row.name row.cells) (record { name = Other; cells = row }) (others below) (inr (All-head (IsBareRow r.decor_style gutter) row below bare)) (rows_named from [] [] below rising are (All-tail (IsBareRow r.decor_style gutter) row below bare))
-  rows_named from [] (row ∷ part) below rising are bare = absurd are
-  rows_named from (line ∷ shown) [] below rising are bare = absurd are
-  rows_named from (Line k ∷ shown) (row ∷ part) below rising are bare =
+  rows_named : (from : ℕ) (shown : List SuggestionRow) (removed : List ℕ) (part below : List (List Cell)) → AreRising from (first_given s + length (given_lines s)) (map (λ k. first_given s + k) (numbers_offered shown)) → texts_removed shown ≡ map source_text removed → AllZip IsShown shown part → All (IsBareRow r.decor_style gutter) below → All IsNamed (named_rows (first_given s) shown removed (part ++ below))
+  rows_named from [] removed [] [] rising texts are bare = All-nil IsNamed
+  rows_named from [] removed [] (row ∷ below) rising texts are bare =
+      All-cons IsNamed (record { name = Other; cells = row }) (others below) (All-head (IsBareRow r.decor_style gutter) row below bare) (rows_named from [] removed [] below rising texts are (All-tail (IsBareRow r.decor_style gutter) row below bare))
+  rows_named from [] removed (row ∷ part) below rising texts are bare = absurd are
+  rows_named from (row_is ∷ shown) removed [] below rising texts are bare = absurd are
+  rows_named from (Offers k ∷ shown) removed (row ∷ part) below rising texts are bare =
       let last : first_given s + k + 1 ≤ first_given s + length (given_lines s) = rising_within (first_given s + k + 1) (first_given s + length (given_lines s)) _ rising.1 in
-      All-cons (λ row. IsSuggestionRow r gutter s row.name row.cells) (record { name = OfferedLine (first_given s + k); cells = row }) (named_rows (first_given s) shown (part ++ below)) (offered_row k row (omega (arith, last)) are.0) (rows_named (first_given s + k + 1) shown part below rising.1 are.1 bare)
-  rows_named from (Gap ∷ shown) (row ∷ part) below rising are bare =
-      All-cons (λ row. IsSuggestionRow r gutter s row.name row.cells) (record { name = Other; cells = row }) (named_rows (first_given s) shown (part ++ below)) are.0 (rows_named from shown part below rising are.1 bare)
+      All-cons IsNamed (record { name = OfferedLine (first_given s + k); cells = row }) (named_rows (first_given s) shown removed (part ++ below)) (offered_row k row (omega (arith, last)) are.0) (rows_named (first_given s + k + 1) shown removed part below rising.1 texts are.1 bare)
+  rows_named from (Removes text ∷ shown) [] (row ∷ part) below rising texts are bare = absurd (cc)
+  rows_named from (Removes text ∷ shown) (i ∷ removed) (row ∷ part) below rising texts are bare =
+      let here : text ≡ source_text i = cc in
+      let rest : texts_removed shown ≡ map source_text removed = cc in
+      All-cons IsNamed (record { name = RemovedLine i; cells = row }) (named_rows (first_given s) shown removed (part ++ below)) (subst (λ (t : List ℕ). IsRemovedRow r.decor_style gutter (norm (chars t)) row) here are.0) (rows_named from shown removed part below rising rest are.1 bare)
+  rows_named from (Bare ∷ shown) removed (row ∷ part) below rising texts are bare =
+      All-cons IsNamed (record { name = Other; cells = row }) (named_rows (first_given s) shown removed (part ++ below)) are.0 (rows_named from shown removed part below rising texts are.1 bare)
 
   -- the rows of a suggestion show it, with those that end it
   suggestion_shown : (part below : List (List Cell)) → AreSuggestionRows layout s part → All (IsBareRow r.decor_style gutter) below → (rows : List NamedRow) × (cells_of rows ≡ part ++ below) × ShowsSuggestion r gutter s rows
   suggestion_shown part below drawn bare =
-      let rows : List NamedRow = named_rows (first_given s) drawn.shown (part ++ below) in
-      let same : map (λ k. first_given s + k) (numbers_shown drawn.shown) ≡ offered_lines s = ap (map (λ k. first_given s + k)) drawn.numbers in
-      let lines : lines_offered rows ≡ offered_lines s = lines_offered-named IsShown (first_given s) drawn.shown part below drawn.are ∙ same in
+      let removed : List ℕ = removed_lines s in
+      let rows : List NamedRow = named_rows (first_given s) drawn.shown removed (part ++ below) in
+      let same : map (λ k. first_given s + k) (numbers_offered drawn.shown) ≡ offered_lines s = ap (map (λ k. first_given s + k)) drawn.numbers in
+      let lines : lines_offered rows ≡ offered_lines s = lines_offered-named IsShown (first_given s) drawn.shown removed part below drawn.are ∙ same in
       let end : ℕ = first_given s + length (given_lines s) in (
         rows,
-        cells_of-named IsShown (first_given s) drawn.shown part below drawn.are,
+        cells_of-named IsShown (first_given s) drawn.shown removed part below drawn.are,
         record {
           offered = λ offerable j touched visible. elim (touched-offered s is.suggestible.spans is.suggestible.disjoint offerable j touched visible) [
             | inl as_it_was ↦ inl as_it_was
@@ -148,7 +192,8 @@ module _ (r : Renderer) (unanonymized : r.anonymized_snippet_line_numbers ≡ fa
           ];
           ordered = subst IsAscending (sym lines) (rising_ascends (first_given s) end (offered_lines s) (offered-ascends s));
           lines = lines;
-          named = rows_named (first_given s) drawn.shown part below (subst (AreRising (first_given s) end) (sym same) (offered-ascends s)) drawn.are bare;
+          removed = lines_removed-named IsShown source_text (first_given s) drawn.shown removed part below drawn.are drawn.removed;
+          named = rows_named (first_given s) drawn.shown removed part below (subst (AreRising (first_given s) end) (sym same) (offered-ascends s)) drawn.removed drawn.are bare;
         },
       )
 
@@ -171,16 +216,13 @@ module _ (r : Renderer) (unanonymized : r.anonymized_snippet_line_numbers ≡ fa
       (shown.0 ∷ rest.0, ap (λ rows. rows ++ flat_map cells_of rest.0) (shown.1 ∙ append-nil part) ∙ ap (λ rows. part ++ rows) rest.1 ∙ sym (append_assoc part (flat_map (λ rows. rows) parts) last), (shown.2, rest.2))
 
   -- none of them holds a listed character or links to anything
-  part_free : (s : Snippet Patch) (shown : List ShownLine) (part : List (List Cell)) → AllZip (IsShownRow (suggestion_layout r.decor_style gutter s) (s.line_start + first_given s) (given_lines s)) shown part → All IsFree part
+  part_free : (s : Snippet Patch) (shown : List SuggestionRow) (part : List (List Cell)) → AllZip (Shows (suggestion_layout r.decor_style gutter s) (s.line_start + first_given s) (given_lines s)) shown part → All IsFree part
   part_free s [] [] are = All-nil IsFree
   part_free s [] (row ∷ part) are = absurd are
-  part_free s (line ∷ shown) [] are = absurd are
-  part_free s (Line k ∷ shown) (row ∷ part) are = All-cons IsFree row part are.0.free (part_free s shown part are.1)
-  part_free s (Gap ∷ shown) (row ∷ part) are = All-cons IsFree row part (other_free are.0) (part_free s shown part are.1)
-    where
-      other_free : IsOtherRow r.decor_style gutter row → IsFree row
-      other_free (inl removed) = removed.free
-      other_free (inr bare) = bare.free
+  part_free s (row_is ∷ shown) [] are = absurd are
+  part_free s (Offers k ∷ shown) (row ∷ part) are = All-cons IsFree row part are.0.free (part_free s shown part are.1)
+  part_free s (Removes text ∷ shown) (row ∷ part) are = All-cons IsFree row part are.0.free (part_free s shown part are.1)
+  part_free s (Bare ∷ shown) (row ∷ part) are = All-cons IsFree row part are.0.free (part_free s shown part are.1)
 
   parts_free : (ss : List (Snippet Patch)) (parts : List (List (List Cell))) → AllZip AreRows ss parts → All IsFree (flat_map (λ part. part) parts)
   parts_free [] [] are = All-nil IsFree

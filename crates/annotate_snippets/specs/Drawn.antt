@@ -28,11 +28,9 @@ use Rattle.snippet_model.specs.Fits.{AnnotationFits}
 use Rattle.snippet_strokes.specs.declared.layout.Layout.{Layout}
 use Rattle.snippet_strokes.specs.Snippet.{AddsSnippet}
 use Rattle.snippet_suggest.specs.declared.layout.SuggestionLayout.{SuggestionLayout}
-use Rattle.snippet_suggest.specs.declared.shown.ShownLine.{ShownLine}
-use Rattle.snippet_suggest.specs.Given.{first_given, given_lines, numbers_given}
+use Rattle.snippet_suggest.specs.Given.{first_given, given_lines, numbers_given, removed_texts}
 use Rattle.snippet_suggest.specs.Prepared.{IsSuggestible}
-use Rattle.snippet_suggest.specs.Rows.{IsShownRow, IsTail}
-use Rattle.snippet_suggest.specs.Shown.{numbers_shown}
+use Rattle.snippet_suggest.specs.Rows.{IsTail, Shows, SuggestionRow, numbers_offered, texts_removed}
 use Rattle.annotate_snippets.specs.declared.renderer.Renderer.{Renderer}
 use Rattle.annotate_snippets.specs.Gutter.{code_behind, gutter_of, gutter_of_report, gutter_of_suggestion, numbered_source}
 use Rattle.annotate_snippets.specs.Page.{GroupPage, group_rows}
@@ -84,11 +82,13 @@ gutter_of_suggestions ss = fold (λ gutter s. max (gutter_of_suggestion s) gutte
 abbrev pub suggestion_layout : DecorStyle → ℕ → Snippet Patch → SuggestionLayout
 suggestion_layout decor gutter s = record { gutter = gutter; numbered = s.line_numbering; decor = decor }
 
--- rows of a suggestion, the last one apart: for each line that it offers a row, in order, and other rows between them
+-- rows of a suggestion, the last one apart: for each line that it offers a row, in order, for each line of the source that it shows
+-- as removed a row, in order, and rows that show no line between them
 pub record AreSuggestionRows (layout : SuggestionLayout) (s : Snippet Patch) (rows : List (List Cell)) : Type 0 where
-  pub shown : List ShownLine
-  pub are : AllZip (IsShownRow layout (s.line_start + first_given s) (given_lines s)) shown rows
-  pub numbers : numbers_shown shown ≡ numbers_given s
+  pub shown : List SuggestionRow
+  pub are : AllZip (Shows layout (s.line_start + first_given s) (given_lines s)) shown rows
+  pub numbers : numbers_offered shown ≡ numbers_given s
+  pub removed : texts_removed shown ≡ removed_texts s
 
 -- suggestions stand below some rows, and nothing else: the rows of each, from the row with which the one above it ends, and below
 -- them the row with which the last of them ends

@@ -8,11 +8,12 @@ use Rattle.snippet_style.specs.declared.role.LevelInner.{LevelInner}
 use Rattle.snippet_style.specs.declared.stylesheet.Stylesheet.{Stylesheet}
 
 -- what a row of an element shows: a line of the element's source, from 0; that lines are left out; a line of the patched source,
--- from 0; or something else
+-- from 0; a line of the source, from 0, that is removed; or something else
 pub data RowName : Type 0 where
   SourceRow : (k : ℕ) → RowName
   Elision : RowName
   OfferedLine : (j : ℕ) → RowName
+  RemovedLine : (i : ℕ) → RowName
   Other : RowName
 
 -- a row of an element: its name and its cells
@@ -25,6 +26,7 @@ abbrev pub line_named : RowName → Option ℕ
 line_named (SourceRow k) = Some k
 line_named Elision = None
 line_named (OfferedLine j) = None
+line_named (RemovedLine i) = None
 line_named Other = None
 
 -- the lines that some rows are named by
@@ -36,16 +38,29 @@ abbrev pub line_offered : RowName → Option ℕ
 line_offered (SourceRow k) = None
 line_offered Elision = None
 line_offered (OfferedLine j) = Some j
+line_offered (RemovedLine i) = None
 line_offered Other = None
 
 abbrev pub lines_offered : List NamedRow → List ℕ
 lines_offered rows = filter_map (λ row. line_offered row.name) rows
+
+-- the line that a row names as removed, and those that some rows name so
+abbrev pub line_removed : RowName → Option ℕ
+line_removed (SourceRow k) = None
+line_removed Elision = None
+line_removed (OfferedLine j) = None
+line_removed (RemovedLine i) = Some i
+line_removed Other = None
+
+abbrev pub lines_removed : List NamedRow → List ℕ
+lines_removed rows = filter_map (λ row. line_removed row.name) rows
 
 -- whether a row shows a line of the source, or that lines are left out
 abbrev pub shows_lines : RowName → Bool
 shows_lines (SourceRow k) = true
 shows_lines Elision = true
 shows_lines (OfferedLine j) = false
+shows_lines (RemovedLine i) = false
 shows_lines Other = false
 
 -- the names of some rows, from top to bottom, without those of rows that show something else

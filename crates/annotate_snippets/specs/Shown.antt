@@ -30,9 +30,9 @@ use Rattle.snippet_parts.specs.Kept.{shown_lines}
 use Rattle.snippet_lines.specs.Lines.{source_lines, text_at}
 use Rattle.snippet_splice.specs.Edits.{patched}
 use Rattle.snippet_splice.specs.Spliced.{IsTouched}
-use Rattle.snippet_suggest.specs.Given.{IsAsItWas, IsOfferable, edits_of, first_given, given_lines, offered_lines}
+use Rattle.snippet_suggest.specs.Given.{IsAsItWas, IsOfferable, edits_of, first_given, given_lines, offered_lines, removed_lines}
 use Rattle.snippet_suggest.specs.Kind.{is_blank}
-use Rattle.snippet_suggest.specs.Rows.{IsOtherRow, IsSign}
+use Rattle.snippet_suggest.specs.Rows.{IsBareRow, IsRemovedRow, IsSign}
 use Rattle.snippet_parts.specs.Margin.{Bounds}
 use Rattle.snippet_parts.specs.Measures.{margin_of}
 use Rattle.snippet_parts.specs.Marked.{first_line, last_line}
@@ -45,7 +45,7 @@ use Rattle.snippet_parts.specs.Rows.{HasNoNumber}
 use Rattle.snippet_strokes.specs.Rows.{first_row, IsElisionRow}
 use Rattle.annotate_snippets.specs.declared.renderer.Renderer.{Renderer}
 use Rattle.annotate_snippets.specs.Gutter.{code_behind, depth_of_group, gutter_of_report, number_text, numbered_source}
-use Rattle.annotate_snippets.specs.Page.{RowName, SourceRow, Elision, OfferedLine, Other, NamedRow, lines_named, lines_offered, names_in, names_of_lines, cells_below, GroupPage, Page, page_text, PrintsPage, IsAscending, page_links}
+use Rattle.annotate_snippets.specs.Page.{RowName, SourceRow, Elision, OfferedLine, RemovedLine, Other, NamedRow, lines_named, lines_offered, lines_removed, names_in, names_of_lines, cells_below, GroupPage, Page, page_text, PrintsPage, IsAscending, page_links}
 
 -- the characters of a title's text as it is drawn: a trusted one as it is, any other normalised
 abbrev pub drawn_text : Title → List ℕ
@@ -195,6 +195,7 @@ abbrev pub IsRowOf : Renderer → Frame → Snippet Annotation → RowName → L
 IsRowOf r frame s (SourceRow k) row rows = ShowsLineAndMarks r frame s k row (cells_below rows)
 IsRowOf r frame s Elision row rows = IsElided r.decor_style frame row
 IsRowOf r frame s (OfferedLine j) row rows = ⊥
+IsRowOf r frame s (RemovedLine i) row rows = ⊥
 IsRowOf r frame s Other row rows = IsRowBelow r.decor_style frame (length rows == 0) row
 
 -- each row is what its name says
@@ -232,21 +233,25 @@ pub record IsOfferedRow (r : Renderer) (gutter : ℕ) (s : Snippet Patch) (j : �
   pub line : row_text (drop (gutter + 3) row) ≡ norm (chars (slice_index_or (given_lines s) (j - first_given s) []))
   pub patched_line : IsOfferable s → (j < length (source_lines (patched (cow_str_bytes s.source) (edits_of s)))) × (row_text (drop (gutter + 3) row) ≡ norm (chars (text_at (source_lines (patched (cow_str_bytes s.source) (edits_of s))) j)))
 
--- a row of a suggestion is what its name says: it offers a line, or has `-` behind the gutter, or has no letter or digit in the
--- gutter and nothing but marks behind it
+-- a row of a suggestion is what its name says: it offers a line; or it shows a line of the source as removed, with `-` behind the
+-- gutter, the line's normalised text from three cells behind it on, and no letter before the one or behind the other; or it
+-- shows no line: it holds nothing but what stands left of lines, and behind that marks
 abbrev pub IsSuggestionRow : Renderer → ℕ → Snippet Patch → RowName → List Cell → Type 0
 IsSuggestionRow r gutter s (SourceRow k) row = ⊥
 IsSuggestionRow r gutter s Elision row = ⊥
 IsSuggestionRow r gutter s (OfferedLine j) row = IsOfferedRow r gutter s j row
-IsSuggestionRow r gutter s Other row = IsOtherRow r.decor_style gutter row
+IsSuggestionRow r gutter s (RemovedLine i) row =
+    IsRemovedRow r.decor_style gutter (norm (chars (text_at (source_lines (cow_str_bytes s.source)) i))) row
+IsSuggestionRow r gutter s Other row = IsBareRow r.decor_style gutter row
 
--- the rows show a suggestion: they offer lines of the patched source, each once and in order, and each row is what its name
--- says. Each line that a patch touches is offered, if it isn't blank; but not where the spliced text has one line, and that is
--- the last source line that is reached
+-- the rows show a suggestion: they offer lines of the patched source, each once and in order, they show as removed the lines of
+-- the source that it takes away, in order, and each row is what its name says. Each line that a patch touches is offered, if it
+-- isn't blank; but not where the spliced text has one line, and that is the last source line that is reached
 pub record ShowsSuggestion (r : Renderer) (gutter : ℕ) (s : Snippet Patch) (rows : List NamedRow) : Type 0 where
   pub offered : IsOfferable s → (j : ℕ) → IsTouched (cow_str_bytes s.source) (edits_of s) j → is_blank (text_at (source_lines (patched (cow_str_bytes s.source) (edits_of s))) j) ≡ false → IsAsItWas s ⊎ Contains (lines_offered rows) j
   pub ordered : IsAscending (lines_offered rows)
   pub lines : lines_offered rows ≡ offered_lines s
+  pub removed : lines_removed rows ≡ removed_lines s
   pub named : All (λ row. IsSuggestionRow r gutter s row.name row.cells) rows
 
 -- the rows show an element, which is the group's first or a later one. Of annotated snippets and of suggestions something is

@@ -8,7 +8,7 @@ use Rattle.snippet_suggest.specs.declared.shown.ShownLine.{ShownLine}
 use Rattle.snippet_suggest.specs.Rows.{AddsRow, AddsShown, IsShownRow}
 
 -- one more on each side
-zip_push : {A B : Type 0} (R : A → B → Type 0) (xs : List A) (ys : List B) (x : A) (y : B) → AllZip R xs ys → R x y → AllZip R (xs ++ x ∷ []) (ys ++ y ∷ [])
+pub zip_push : {A B : Type 0} (R : A → B → Type 0) (xs : List A) (ys : List B) (x : A) (y : B) → AllZip R xs ys → R x y → AllZip R (xs ++ x ∷ []) (ys ++ y ∷ [])
 zip_push R [] [] x y all is = (is, tt)
 zip_push R [] (b ∷ ys) x y all is = elim all [ ]
 zip_push R (a ∷ xs) [] x y all is = elim all [ ]
@@ -32,7 +32,7 @@ shown_more layout first lines shown now line old mid new more adds row =
     })
 
 -- the first of some and one more
-next_of : (xs : List ShownLine) (i : ℕ) (d : ShownLine) → i < length xs → take (i + 1) xs ≡ take i xs ++ get_or xs i d ∷ []
+pub next_of : {A : Type 0} (xs : List A) (i : ℕ) (d : A) → i < length xs → take (i + 1) xs ≡ take i xs ++ get_or xs i d ∷ []
 next_of xs i d within = same_lists _ _ (grind (arith, places)) (λ k e h. grind (arith, places))
 
 pub shown_next : (layout : SuggestionLayout) (first : ℕ) (lines : List (List ℕ)) (shown : List ShownLine) (i : ℕ) (d : ShownLine) (old mid new : List (List Cell)) → i < length shown → AddsShown layout first lines (take i shown) old mid → AddsRow (IsShownRow layout first lines (get_or shown i d)) mid new → AddsShown layout first lines (take (i + 1) shown) old new

@@ -1,7 +1,7 @@
 -- The characters of the glyphs of suggestions, and what is known of each.
 use Rattle.std.proofs.Common.{◌≡◌, ◌≤◌, ◌∷◌, [], true, false, codes, chars, refl, inl, inr, length, arith}
 use Rattle.std.specs.Char.{is_ascii_alphanumeric}
-use Rattle.std.specs.List.{list_any, slice_index_or}
+use Rattle.std.specs.List.{list_all, list_any, slice_index_or}
 use Rattle.std.proofs.lemmas.Str.{chars-encodes}
 use Rattle.snippet_style.specs.declared.glyphs.DecorStyle.{DecorStyle}
 use Rattle.snippet_style.specs.declared.glyphs.DecorStyle.TheVariants.{Ascii, Unicode}
@@ -9,7 +9,7 @@ use Rattle.snippet_suggest.specs.declared.glyphs.SuggestionGlyph.{SuggestionGlyp
 use Rattle.snippet_suggest.specs.declared.glyphs.SuggestionGlyph.TheVariants.{Opening, Next, Leading, Closing, Kept, Alone, Changed, Added}
 use Rattle.snippet_text.specs.Normalized.{is_listed}
 use Rattle.snippet_suggest.specs.Glyphs.{glyph_of, is_sign}
-use Rattle.snippet_suggest.specs.Rows.{IsSign}
+use Rattle.snippet_suggest.specs.Rows.{IsSign, is_stroke}
 
 pub chars-minus : chars (45 ∷ 32 ∷ []) ≡ codes "- "
 unfolding lib.Utf8.encode
@@ -111,6 +111,25 @@ glyph_plain Unicode Kept = refl
 glyph_plain Unicode Alone = refl
 glyph_plain Unicode Changed = refl
 glyph_plain Unicode Added = refl
+
+-- those that no line has stand left of the lines
+pub glyph_strokes : (decor : DecorStyle) (glyph : SuggestionGlyph) → is_sign glyph ≡ false → list_all (is_stroke decor) (glyph_of decor glyph) ≡ true
+glyph_strokes Ascii Opening other = refl
+glyph_strokes Ascii Next other = refl
+glyph_strokes Ascii Leading other = refl
+glyph_strokes Ascii Closing other = refl
+glyph_strokes Ascii Kept other = absurd (cc)
+glyph_strokes Ascii Alone other = absurd (cc)
+glyph_strokes Ascii Changed other = absurd (cc)
+glyph_strokes Ascii Added other = absurd (cc)
+glyph_strokes Unicode Opening other = refl
+glyph_strokes Unicode Next other = refl
+glyph_strokes Unicode Leading other = refl
+glyph_strokes Unicode Closing other = refl
+glyph_strokes Unicode Kept other = absurd (cc)
+glyph_strokes Unicode Alone other = absurd (cc)
+glyph_strokes Unicode Changed other = absurd (cc)
+glyph_strokes Unicode Added other = absurd (cc)
 
 -- a sign begins with what may stand beside a line, and a space stands behind that
 pub sign_first : (decor : DecorStyle) (glyph : SuggestionGlyph) → is_sign glyph ≡ true → IsSign decor (slice_index_or (glyph_of decor glyph) 0 32)

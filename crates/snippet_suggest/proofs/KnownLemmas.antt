@@ -15,7 +15,7 @@ use Rattle.snippet_splice.proofs.EditLemmas.{trimmed-apart}
 use Rattle.snippet_splice.proofs.OverlapLemmas.{apart-in_order, ordered-spans}
 use Rattle.snippet_splice.proofs.ShownLemmas.{none-given}
 use Rattle.snippet_suggest.specs.declared.prepared.PreparedSuggestion.{PreparedSuggestion}
-use Rattle.snippet_suggest.specs.Given.{edits_of, first_given, first_original, last_reached, last_removed}
+use Rattle.snippet_suggest.specs.Given.{edits_of, first_end, first_given, first_original, first_original_end, last_reached, last_removed}
 use Rattle.snippet_suggest.proofs.ReachLemmas.{reached, touched_last}
 use Rattle.snippet_suggest.specs.Prepared.{IsPrepared}
 use Rattle.snippet_suggest.proofs.SpanLemmas.{original_spans, trimmed_spans}
@@ -66,6 +66,21 @@ first_of (t ∷ ts) [] same = absurd (cc)
 first_of (t ∷ ts) (e ∷ es) same =
     let pair : ◌≡◌ {A = ℕ × ℕ} (original_bounds_of t) (bounds_of e) = cc in
     ap (λ b. b.0) pair
+
+first_end_of : (ts : List TrimmedPatch) (es : List Edit) → map original_bounds_of ts ≡ map bounds_of es → first_original_end ts ≡ first_end es
+first_end_of [] [] same = refl
+first_end_of [] (e ∷ es) same = absurd (cc)
+first_end_of (t ∷ ts) [] same = absurd (cc)
+first_end_of (t ∷ ts) (e ∷ es) same =
+    let pair : ◌≡◌ {A = ℕ × ℕ} (original_bounds_of t) (bounds_of e) = cc in
+    ap (λ b. b.1) pair
+
+pub known_first_start : (p : PreparedSuggestion) → IsPrepared p → first_original p.splice.patches.items ≡ first_start (in_order (edits_of p.snippet.now))
+known_first_start p is = first_of p.splice.patches.items (in_order (edits_of p.snippet.now)) is.originals
+
+pub known_first_end : (p : PreparedSuggestion) → IsPrepared p → first_original_end p.splice.patches.items ≡ first_end (in_order (edits_of p.snippet.now))
+known_first_end p is =
+    first_end_of p.splice.patches.items (in_order (edits_of p.snippet.now)) is.originals
 
 pub known_first : (p : PreparedSuggestion) → IsPrepared p → p.map.first + (if p.snippet.now.fold then line_of (source_lines p.map.text) (first_original p.splice.patches.items) else 0) ≡ p.snippet.now.line_start + first_given p.snippet.now
 known_first p is =

@@ -6,7 +6,9 @@ pub mod GlyphLemmas
 pub mod GutterFits
 pub mod KnownLemmas
 pub mod KnownNumbers
+pub mod KnownRemoved
 pub mod LastRow
+pub mod LeftOver
 pub mod LineRowLemmas
 pub mod MarkLemmas
 pub mod NumberLaws

@@ -1,6 +1,5 @@
 -- Marks that are drawn into a row that shows no line.
 use Rattle.std.proofs.Common.{◌≡◌, ℕ, ◌+◌, ◌≤◌, false, List, [], ◌∷◌, ◌++◌, length, refl, sym, ap, ◌∙◌, arith, inl, inr, subst}
-use Rattle.std.specs.Char.{is_ascii_alphanumeric}
 use Rattle.std.specs.List.{slice_index_or}
 use Rattle.std.proofs.lemmas.Bool.{cases_eq, cases_lt}
 use Rattle.std.proofs.lemmas.List.Elements.{All-cons, All-nil}
@@ -12,7 +11,7 @@ use Rattle.snippet_style.proofs.GridLemmas.{cells_written_last, slice_index_or-w
 use Rattle.snippet_text.specs.Normalized.{is_listed}
 use Rattle.snippet_parts.specs.Rows.{IsFreeCell, IsFree}
 use Rattle.snippet_suggest.specs.Glyphs.{changed_mark_of}
-use Rattle.snippet_suggest.specs.Rows.{AddsRow, IsBareRow, IsMarkOrSpace}
+use Rattle.snippet_suggest.specs.Rows.{AddsRow, IsBareRow, IsMarkOrSpace, is_stroke}
 use Rattle.snippet_suggest.proofs.RowLemmas.{free_written}
 
 -- no mark is listed
@@ -53,7 +52,7 @@ bare_marked decor gutter at role ch row right is bare =
     let P : Cell → Type 0 = IsFreeCell in
     let free : IsFree cells = All-cons P (unlinked_cell role ch) [] (mark_unlisted decor ch is, refl) (All-nil P) in
     record {
-      unnumbered = λ c left. ap (λ (cell : Cell). is_ascii_alphanumeric cell.ch) (slice_index_or-written_before SPACE row at cells c (omega (arith, left, right))) ∙ bare.unnumbered c left;
+      strokes = λ c left. ap (λ (cell : Cell). is_stroke decor cell.ch) (slice_index_or-written_before SPACE row at cells c (omega (arith, left, right))) ∙ bare.strokes c left;
       marks = λ c behind. mark_there decor role ch at c row is (bare.marks c behind);
       free = free_written row at cells bare.free free;
     }

@@ -1,5 +1,5 @@
 -- The last line that edits reach, and the lines that are removed up to it.
-use Rattle.std.proofs.Common.{◌≡◌, ℕ, zero, suc, ◌+◌, ◌-◌, ◌<◌, ◌≤◌, max, List, [], ◌∷◌, fold, get_or, length, map, refl, sym, ap, ◌∙◌, arith}
+use Rattle.std.proofs.Common.{◌≡◌, ℕ, zero, suc, ◌+◌, ◌-◌, ◌<◌, ◌≤◌, max, min, List, [], ◌∷◌, fold, get_or, length, map, refl, sym, ap, ◌∙◌, arith}
 use Rattle.std.proofs.lemmas.List.{get_or-map, length-map}
 use Rattle.std.proofs.lemmas.List.FromFn.{get_or-range_with_len, length-range_with_len}
 use Rattle.std.specs.List.{range_with_len}
@@ -12,8 +12,9 @@ use Rattle.snippet_parts.specs.LineTable.{LineEntry, entry_at, entry_of, touched
 use Rattle.snippet_splice.specs.declared.patches.TrimmedPatch.{TrimmedPatch}
 use Rattle.snippet_splice.specs.Copied.{end_from}
 use Rattle.snippet_splice.specs.Edits.{AreApart, Edit, trimmed_edit_of, trimmed_edits}
+use Rattle.snippet_splice.specs.Shown.{first_start}
 use Rattle.snippet_splice.specs.Spliced.{last_line_reached}
-use Rattle.snippet_suggest.specs.Given.{last_removed}
+use Rattle.snippet_suggest.specs.Given.{last_removed, lines_touched, texts_at}
 
 -- ---- the end of the last edit
 
@@ -28,6 +29,24 @@ pub only_end : (at : ℕ) (ps : List TrimmedPatch) (d : TrimmedPatch) → 0 < le
 only_end at [] d some one = absurd (omega (arith, some))
 only_end at (p ∷ []) d some one = refl
 only_end at (p ∷ q ∷ ps) d some one = absurd (omega (arith, one))
+
+-- the start of the first edit
+pub first_begin : (ps : List TrimmedPatch) (d : TrimmedPatch) → 0 < length ps → (get_or ps 0 d).span.start ≡ first_start (map trimmed_edit_of ps)
+first_begin [] d some = absurd (omega (arith, some))
+first_begin (p ∷ ps) d some = refl
+
+-- of edits that stand apart it isn't behind the end of the last
+end_behind : (at : ℕ) (es : List Edit) → AreApart at es → at ≤ end_from at es
+end_behind at [] apart = omega arith
+end_behind at (e ∷ es) apart = omega (arith, end_behind e.end es apart.2, apart.0, apart.1)
+
+begin_before : (es : List Edit) → AreApart 0 es → first_start es ≤ end_from 0 es
+begin_before [] apart = omega arith
+begin_before (e ∷ es) apart = omega (arith, end_behind e.end es apart.2, apart.1)
+
+pub least_begin : (ps : List TrimmedPatch) (d : TrimmedPatch) → 0 < length ps → AreApart 0 (map trimmed_edit_of ps) → min (get_or ps 0 d).span.start (get_or ps (length ps - 1) d).span.end ≡ first_start (map trimmed_edit_of ps)
+least_begin ps d some apart =
+    omega (arith, first_begin ps d some, last_end 0 ps d some, begin_before (map trimmed_edit_of ps) apart)
 
 -- of edits that stand apart it is the greatest
 greatest_end : (at : ℕ) (es : List Edit) → AreApart at es → fold max at (map (λ e. e.end) es) ≡ end_from at es
@@ -54,6 +73,21 @@ lines_ordered s start end ordered = line_of-mono (source_lines s.text) start end
 pub touched_some : (s : Source) (infos : List LineInfo) (start end : ℕ) → start ≤ end → map entry_of infos ≡ touched_entries s start end → 0 < length infos
 touched_some s infos start end ordered are =
     omega (arith, touched_count s infos start end ordered are, lines_ordered s start end ordered)
+
+-- their texts
+pub touched_texts : (s : Source) (infos : List LineInfo) (start end : ℕ) → map entry_of infos ≡ touched_entries s start end → texts_at infos ≡ map (text_at (source_lines s.text)) (lines_touched s.text start end)
+touched_texts s infos start end are =
+    let ls = source_lines s.text in
+    let text : LineEntry → List ℕ = λ e. e.text in
+    own infos ∙ ap (map text) are ∙ theirs (lines_touched s.text start end)
+  where
+    own : (is : List LineInfo) → texts_at is ≡ map (λ (e : LineEntry). e.text) (map entry_of is)
+    own [] = refl
+    own (info ∷ is) = ap (λ ts. info.line.now ∷ ts) (own is)
+
+    theirs : (ks : List ℕ) → map (λ (e : LineEntry). e.text) (map (entry_at s.first (source_lines s.text)) ks) ≡ map (text_at (source_lines s.text)) ks
+    theirs [] = refl
+    theirs (k ∷ ks) = ap (λ ts. text_at (source_lines s.text) k ∷ ts) (theirs ks)
 
 -- the last of them is the one on which the span ends
 pub touched_last : (s : Source) (infos : List LineInfo) (start end : ℕ) → start ≤ end → map entry_of infos ≡ touched_entries s start end → last_removed infos ≡ text_at (source_lines s.text) (line_of (source_lines s.text) end)

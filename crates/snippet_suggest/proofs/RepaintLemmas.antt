@@ -1,14 +1,16 @@
 -- A row whose cells get other roles shows what it showed.
-use Rattle.std.proofs.Common.{◌≡◌, ℕ, ◌+◌, ◌<◌, false, Option, None, List, ◌∷◌, [], length, take, drop, map, get_or, refl, sym, ap, ◌∙◌, arith, subst, inl, inr}
+use Rattle.std.proofs.Common.{◌≡◌, ℕ, ◌+◌, ◌<◌, true, false, Option, None, List, ◌∷◌, [], length, take, drop, map, get_or, refl, sym, ap, ◌∙◌, arith, subst, chars}
 use Rattle.std.proofs.Math.ListN.{get_or-map}
 use Rattle.std.proofs.lemmas.List.{drop-map, take-map, length-map}
-use Rattle.snippet_text.specs.Normalized.{is_listed}
+use Rattle.snippet_text.specs.Normalized.{is_listed, norm}
 use Rattle.snippet_style.specs.declared.glyphs.DecorStyle.{DecorStyle}
 use Rattle.std.specs.Char.{is_ascii_alphanumeric}
 use Rattle.snippet_style.specs.Grid.{Cell, SPACE}
 use Rattle.snippet_style.specs.Print.{row_text}
 use Rattle.snippet_parts.specs.Rows.{IsFree}
-use Rattle.snippet_suggest.specs.Rows.{without_role, AddsRow, IsBareRow, IsLineRow, IsOtherRow, IsRemovedRow, IsRepainted, IsMarkOrSpace, IsSign}
+use Rattle.snippet_lines.specs.Number.{shown_number}
+use Rattle.snippet_suggest.specs.declared.layout.SuggestionLayout.{SuggestionLayout}
+use Rattle.snippet_suggest.specs.Rows.{without_role, AddsRow, Bare, IsBareRow, IsBeforeSign, IsLeftOver, IsLineRow, IsRemovedRow, IsRepainted, IsMarkOrSpace, IsSign, Offers, Removes, Shows, SuggestionRow, is_stroke, number_after}
 
 -- two rows hold the same characters and links
 abbrev pub AreSame : List Cell → List Cell → Type 0
@@ -55,22 +57,22 @@ same_free xs ys same free k d within =
 same_bare : (decor : DecorStyle) (gutter : ℕ) (now last : List Cell) → AreSame now last → IsBareRow decor gutter last → IsBareRow decor gutter now
 same_bare decor gutter now last same is =
     record {
-      unnumbered = λ c left. same_char (λ ch. is_ascii_alphanumeric ch ≡ false) now last c same (is.unnumbered c left);
+      strokes = λ c left. same_char (λ ch. is_stroke decor ch ≡ true) now last c same (is.strokes c left);
       marks = λ c right. same_char (IsMarkOrSpace decor) now last c same (is.marks c right);
       free = same_free now last same is.free;
     }
 
-same_removed : (gutter : ℕ) (now last : List Cell) → AreSame now last → IsRemovedRow gutter last → IsRemovedRow gutter now
-same_removed gutter now last same is =
+same_removed : (decor : DecorStyle) (gutter : ℕ) (text : List ℕ) (now last : List Cell) → AreSame now last → IsRemovedRow decor gutter text last → IsRemovedRow decor gutter text now
+same_removed decor gutter text now last same is =
+    let n : ℕ = length text in
     record {
+      before = λ c left. same_char (IsBeforeSign decor) now last c same (is.before c left);
       minus = same_char (λ ch. ch ≡ 45) now last (gutter + 1) same is.minus;
       space = same_char (λ ch. ch ≡ 32) now last (gutter + 2) same is.space;
+      begins = same_text (take n (drop (gutter + 3) now)) (take n (drop (gutter + 3) last)) (same_take n (drop (gutter + 3) now) (drop (gutter + 3) last) (same_drop (gutter + 3) now last same)) ∙ is.begins;
+      behind = λ c right. same_char (IsLeftOver decor) now last c same (is.behind c right);
       free = same_free now last same is.free;
     }
-
-same_other : (decor : DecorStyle) (gutter : ℕ) (now last : List Cell) → AreSame now last → IsOtherRow decor gutter last → IsOtherRow decor gutter now
-same_other decor gutter now last same (inl removed) = inl (same_removed gutter now last same removed)
-same_other decor gutter now last same (inr bare) = inr (same_bare decor gutter now last same bare)
 
 same_line : (decor : DecorStyle) (gutter : ℕ) (number text : List ℕ) (now last : List Cell) → AreSame now last → IsLineRow decor gutter number text last → IsLineRow decor gutter number text now
 same_line decor gutter number text now last same is =
@@ -83,6 +85,12 @@ same_line decor gutter number text now last same is =
       free = same_free now last same is.free;
     }
 
+same_shows : (layout : SuggestionLayout) (first : ℕ) (lines : List (List ℕ)) (shown : SuggestionRow) (now last : List Cell) → AreSame now last → Shows layout first lines shown last → Shows layout first lines shown now
+same_shows layout first lines (Offers k) now last same is =
+    same_line layout.decor layout.gutter (shown_number layout.numbered layout.gutter (number_after first k)) (norm (chars (get_or lines k []))) now last same is
+same_shows layout first lines (Removes text) now last same is = same_removed layout.decor layout.gutter (norm (chars text)) now last same is
+same_shows layout first lines Bare now last same is = same_bare layout.decor layout.gutter now last same is
+
 -- so a row that was added and then painted is added
 row_repainted : (P : List Cell → Type 0) → ((now last : List Cell) → AreSame now last → P last → P now) → (old mid new : List (List Cell)) (adds : AddsRow P old mid) → IsRepainted old adds.row new → AddsRow P old new
 row_repainted P stays old mid new adds painted =
@@ -92,11 +100,11 @@ row_repainted P stays old mid new adds painted =
       is = stays painted.now adds.row painted.same adds.is;
     }
 
-pub removed_repainted : (gutter : ℕ) (old mid new : List (List Cell)) (adds : AddsRow (IsRemovedRow gutter) old mid) → IsRepainted old adds.row new → AddsRow (IsRemovedRow gutter) old new
-removed_repainted gutter old mid new adds painted = row_repainted (IsRemovedRow gutter) (same_removed gutter) old mid new adds painted
+pub removed_repainted : (decor : DecorStyle) (gutter : ℕ) (text : List ℕ) (old mid new : List (List Cell)) (adds : AddsRow (IsRemovedRow decor gutter text) old mid) → IsRepainted old adds.row new → AddsRow (IsRemovedRow decor gutter text) old new
+removed_repainted decor gutter text old mid new adds painted = row_repainted (IsRemovedRow decor gutter text) (same_removed decor gutter text) old mid new adds painted
 
-pub other_repainted : (decor : DecorStyle) (gutter : ℕ) (old mid new : List (List Cell)) (adds : AddsRow (IsOtherRow decor gutter) old mid) → IsRepainted old adds.row new → AddsRow (IsOtherRow decor gutter) old new
-other_repainted decor gutter old mid new adds painted = row_repainted (IsOtherRow decor gutter) (same_other decor gutter) old mid new adds painted
+pub shows_repainted : (layout : SuggestionLayout) (first : ℕ) (lines : List (List ℕ)) (shown : SuggestionRow) (old mid new : List (List Cell)) (adds : AddsRow (Shows layout first lines shown) old mid) → IsRepainted old adds.row new → AddsRow (Shows layout first lines shown) old new
+shows_repainted layout first lines shown old mid new adds painted = row_repainted (Shows layout first lines shown) (same_shows layout first lines shown) old mid new adds painted
 
 pub line_repainted : (decor : DecorStyle) (gutter : ℕ) (number text : List ℕ) (old mid new : List (List Cell)) (adds : AddsRow (IsLineRow decor gutter number text) old mid) → IsRepainted old adds.row new → AddsRow (IsLineRow decor gutter number text) old new
 line_repainted decor gutter number text old mid new adds painted = row_repainted (IsLineRow decor gutter number text) (same_line decor gutter number text) old mid new adds painted

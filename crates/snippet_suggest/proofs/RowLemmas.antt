@@ -8,7 +8,7 @@ use Rattle.std.proofs.lemmas.Str.{chars-nil}
 use Rattle.snippet_style.specs.declared.role.ElementStyle.{ElementStyle}
 use Rattle.snippet_style.specs.Grid.{Cell, SPACE, drawn, unlinked_cell, written, cells_written}
 use Rattle.snippet_style.specs.Print.{row_text}
-use Rattle.snippet_style.proofs.GridLemmas.{All-drawn, length-drawn, length-written, drop-written, cells_written_below, cells_written_last, slice_index_or-written_before, slice_index_or-written_behind}
+use Rattle.snippet_style.proofs.GridLemmas.{All-drawn, length-drawn, length-written, drop-written, cells_written_below, cells_written_last, slice_index_or-written_before, slice_index_or-written_behind, slice_index_or-written_inside}
 use Rattle.snippet_text.specs.Normalized.{is_listed}
 use Rattle.snippet_parts.specs.Rows.{IsFreeCell, IsFree}
 use Rattle.snippet_suggest.specs.Rows.{HoldsText}
@@ -96,6 +96,21 @@ each_cell P row blank all c =
       | inr past ↦ subst P (sym (get_or_past row c SPACE past)) blank
     ]
 
+-- a fact of the cells of a row that stand before one, and of the cells that are put into it, holds of those that come to stand there
+pub each_written : (P : Cell → Type 0) (row : List Cell) (at n : ℕ) (cells : List Cell) → ((c : ℕ) → c < n → P (slice_index_or row c SPACE)) → All P cells → (c : ℕ) → c < n → P (slice_index_or (written SPACE row at cells) c SPACE)
+each_written P row at n cells there all c left =
+    elim (cases_lt c at) [
+      | inl before ↦ subst P (sym (slice_index_or-written_before SPACE row at cells c before)) (there c left)
+      | inr not_before ↦
+          elim (cases_lt c (at + length cells)) [
+            | inl inside ↦
+                let here : at + (c - at) ≡ c = omega arith in
+                let within : c - at < length cells = omega arith in
+                subst (λ (k : ℕ). P (slice_index_or (written SPACE row at cells) k SPACE)) here (subst P (sym (slice_index_or-written_inside SPACE row at cells (c - at) SPACE within)) (all (c - at) SPACE within))
+            | inr behind ↦ subst P (sym (slice_index_or-written_behind SPACE row at cells c SPACE behind)) (there c left)
+          ]
+    ]
+
 -- what a text that is put into a row leaves: the cells before it, and those behind it
 pub kept_behind : (bytes : List ℕ) (row : List Cell) (at c : ℕ) (cells : List Cell) → c < at → slice_index_or (texted bytes row at cells) c SPACE ≡ slice_index_or row c SPACE
 kept_behind [] row at c cells left = refl
@@ -119,6 +134,15 @@ begins_texted (b ∷ bs) row role =
     let cells = drawn role cs in
     let begun : written SPACE row 0 cells ≡ cells ++ drop (0 + length cells) row = drop-written SPACE row 0 cells in
     ap (λ (t : List Cell). row_text (take (length cs) t)) begun ∙ ap row_text (take_at cells (drop (0 + length cells) row) (length cs) (length-drawn role cs)) ∙ row_text-drawn role cs
+
+-- a text that is put into a row stands there
+pub stands_texted : (at : ℕ) (bytes : List ℕ) (row : List Cell) (role : ElementStyle) → row_text (take (length (chars bytes)) (drop at (texted bytes row at (drawn role (chars bytes))))) ≡ chars bytes
+stands_texted at [] row role =
+    ap (λ (t : List ℕ). row_text (take (length t) (drop at row))) chars-nil ∙ sym chars-nil
+stands_texted at (b ∷ bs) row role =
+    let cs = chars (b ∷ bs) in
+    let cells = drawn role cs in
+    ap (λ (t : List Cell). row_text (take (length cs) t)) (drop-written SPACE row at cells) ∙ ap row_text (take_at cells (drop (at + length cells) row) (length cs) (length-drawn role cs)) ∙ row_text-drawn role cs
 
 -- a row is no shorter once a text was put into it
 pub length-texted_ge : (bytes : List ℕ) (row : List Cell) (at : ℕ) (cells : List Cell) → length row ≤ length (texted bytes row at cells)

@@ -1,8 +1,8 @@
 -- What a snippet of patches gives: the lines that are shown of the patched source, which of them a suggestion offers, and the
 -- number that it counts for the gutter's width.
-use Rattle.std.specs.Prelude.{◌≡◌, ℕ, ◌+◌, ◌-◌, ◌||◌, Bool, false, List, [], ◌∷◌, All, length, map, if◌then◌else◌}
+use Rattle.std.specs.Prelude.{◌≡◌, ℕ, ◌+◌, ◌-◌, ◌||◌, Bool, false, List, [], ◌∷◌, All, length, map, take, if◌then◌else◌}
 use Rattle.std.specs.Cow.{cow_str_bytes}
-use Rattle.std.specs.List.{slice_index_or}
+use Rattle.std.specs.List.{range_with_len, slice_index_or}
 use Rattle.std.specs.Str.{bytes_eq}
 use Rattle.snippet_model.specs.declared.snippet.Snippet.{Snippet}
 use Rattle.snippet_model.specs.declared.snippet.Patch.{Patch}
@@ -11,7 +11,7 @@ use Rattle.snippet_lines.specs.Lines.{Source, lines_of, source_lines, text_at, n
 use Rattle.snippet_lines.specs.Place.{line_of}
 use Rattle.snippet_splice.specs.declared.patches.TrimmedPatch.{TrimmedPatch}
 use Rattle.snippet_splice.specs.declared.splice.LineRange.{LineRange}
-use Rattle.snippet_splice.specs.Copied.{written_ranges}
+use Rattle.snippet_splice.specs.Copied.{end_from, written_ranges}
 use Rattle.snippet_splice.specs.Edits.{Edit, edit_of, in_order, trimmed_edits}
 use Rattle.snippet_splice.specs.Shown.{first_start, shown_line, shown_start, shown_text}
 use Rattle.snippet_splice.specs.Spliced.{HasNoCr, IsBeforeFinalLf, last_line_reached, spliced_text, texts_of}
@@ -64,9 +64,12 @@ is_left_out Underline lines last = false
 is_left_out Plain lines last = false
 is_left_out Add lines last = false
 
--- the text of the last of some lines
+-- the texts of some lines, and that of the last of them
+abbrev pub texts_at : List LineInfo → List (List ℕ)
+texts_at infos = map (λ info. info.line.now) infos
+
 abbrev pub last_removed : List LineInfo → List ℕ
-last_removed infos = slice_index_or (map (λ info. info.line.now) infos) (length infos - 1) []
+last_removed infos = slice_index_or (texts_at infos) (length infos - 1) []
 
 -- which of some lines are shown, counted from the first of them
 abbrev pub numbers_of : DisplaySuggestion → Bool → List LineRange → List (List ℕ) → List ℕ → List ℕ
@@ -82,6 +85,52 @@ numbers_given s = numbers_of (shown_kind s) s.fold (given_ranges s) (given_lines
 abbrev pub offered_lines : Snippet Patch → List ℕ
 offered_lines s = map (λ k. first_given s + k) (numbers_given s)
 
+-- the lines of a source from the one that holds a byte to the one that holds another
+abbrev pub lines_touched : List ℕ → ℕ → ℕ → List ℕ
+lines_touched source start end =
+    let ls = source_lines source in
+    range_with_len (line_of ls start) (line_of ls end + 1 - line_of ls start)
+
+-- some items, without the last if that stays
+abbrev pub unless_stays : {A : Type 0} → Bool → List A → List A
+unless_stays stays xs = if stays then take (length xs - 1) xs else xs
+
+-- where the first of some edits ends
+abbrev pub first_end : List Edit → ℕ
+first_end [] = 0
+first_end (e ∷ es) = e.end
+
+-- the lines that are removed where nothing stands in their place: folded those of the first span, as it is given; unfolded all
+abbrev pub emptied_lines : Snippet Patch → List ℕ
+emptied_lines s =
+    let source = cow_str_bytes s.source in
+    if s.fold then lines_touched source (first_start (in_order (edits_of s))) (first_end (in_order (edits_of s))) else lines_touched source 0 (length source)
+
+-- those that are removed where one line stands in their place: from the one on which the first trimmed patch starts to the one on
+-- which the last ends, without this if it is the same as the line in their place; but none if no patch touches that
+abbrev pub replaced_lines : Snippet Patch → List ℕ
+replaced_lines s =
+    let source = cow_str_bytes s.source in
+    if is_touched s.fold (given_ranges s) 0 then unless_stays (bytes_eq (slice_index_or (given_lines s) 0 []) (last_reached s)) (lines_touched source (first_start (trimmed_of s)) (end_from 0 (trimmed_of s))) else []
+
+-- those that are removed, by the lines that are given and how they are shown: lines are removed if none is given, or in a diff
+abbrev pub removed_of : List (List ℕ) → DisplaySuggestion → List ℕ → List ℕ → List ℕ
+removed_of [] kind emptied replaced = emptied
+removed_of (line ∷ lines) Diff emptied replaced = replaced
+removed_of (line ∷ lines) Underline emptied replaced = []
+removed_of (line ∷ lines) Plain emptied replaced = []
+removed_of (line ∷ lines) Add emptied replaced = []
+
+-- which lines of the source a suggestion shows as removed, and their texts
+abbrev pub removed_lines : Snippet Patch → List ℕ
+removed_lines s = removed_of (given_lines s) (shown_kind s) (emptied_lines s) (replaced_lines s)
+
+abbrev pub texts_of_source : Snippet Patch → List ℕ → List (List ℕ)
+texts_of_source s ks = map (text_at (source_lines (cow_str_bytes s.source))) ks
+
+abbrev pub removed_texts : Snippet Patch → List (List ℕ)
+removed_texts s = texts_of_source s (removed_lines s)
+
 -- what the promise on offered lines asks of a snippet: no CR in its source and its replacements, and no trimmed patch that
 -- starts behind an LF that ends the source
 pub record IsOfferable (s : Snippet Patch) : Type 0 where
@@ -94,15 +143,14 @@ abbrev pub IsAsItWas : Snippet Patch → Type 0
 IsAsItWas s =
     texts_of (lines_of (spliced_text s.fold (cow_str_bytes s.source) (edits_of s))) ≡ last_reached s ∷ []
 
--- where the first of some patches started before it was trimmed
+-- where the first of some patches started before it was trimmed, and where it ended
 abbrev pub first_original : List TrimmedPatch → ℕ
 first_original [] = 0
 first_original (p ∷ ps) = p.original_span.start
 
--- where the first of some edits ends
-abbrev pub first_end : List Edit → ℕ
-first_end [] = 0
-first_end (e ∷ es) = e.end
+abbrev pub first_original_end : List TrimmedPatch → ℕ
+first_original_end [] = 0
+first_original_end (p ∷ ps) = p.original_span.end
 
 -- the number that is counted where lines are folded, by the kind: where there is one line, its own, or that of the last of the
 -- lines that the first patch takes away; else that of the last line

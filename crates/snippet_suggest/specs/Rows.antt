@@ -1,23 +1,23 @@
 -- What the rows of a suggestion show.
-use Rattle.std.specs.Prelude.{◌≡◌, ◌⊎◌, ℕ, ◌+◌, ◌-◌, ◌<◌, ◌≤◌, min, ◌^◌, Bool, true, false, Option, List, [], ◌∷◌, ◌++◌, All, length, map, replicate, take, drop, chars}
+use Rattle.std.specs.Prelude.{◌≡◌, ◌⊎◌, ℕ, ◌+◌, ◌-◌, ◌<◌, ◌≤◌, ◌==◌, min, ◌^◌, Bool, true, false, Option, Some, None, List, [], ◌∷◌, ◌++◌, length, map, replicate, take, drop, chars}
 use Rattle.std.specs.Char.{is_ascii_alphanumeric}
 use Rattle.std.specs.Fmt.{decimal}
-use Rattle.std.specs.List.{AllZip, slice_index_or}
+use Rattle.std.specs.List.{AllZip, filter_map, list_any, slice_index_or}
 use Rattle.snippet_model.specs.declared.snippet.Snippet.{Snippet}
 use Rattle.snippet_model.specs.declared.snippet.Patch.{Patch}
 use Rattle.snippet_style.specs.declared.glyphs.DecorStyle.{DecorStyle}
-use Rattle.snippet_style.specs.Glyphs.{separator_of}
+use Rattle.snippet_style.specs.Glyphs.{placeholder_of, separator_of}
 use Rattle.snippet_style.specs.Grid.{Cell, SPACE}
 use Rattle.snippet_style.specs.Print.{row_text}
 use Rattle.snippet_text.specs.Normalized.{norm}
 use Rattle.snippet_lines.specs.Number.{shown_number}
-use Rattle.snippet_parts.specs.Rows.{HasNoNumber, IsFree}
+use Rattle.snippet_parts.specs.Rows.{IsFree}
 use Rattle.snippet_suggest.specs.declared.layout.SuggestionLayout.{SuggestionLayout}
 use Rattle.snippet_suggest.specs.declared.shown.ShownLine.{ShownLine}
 use Rattle.snippet_suggest.specs.declared.shown.ShownLine.TheVariants.{Line, Gap}
-use Rattle.snippet_suggest.specs.Given.{counted_line, first_given, given_lines, numbers_given}
-use Rattle.snippet_suggest.specs.Glyphs.{changed_mark_of}
-use Rattle.snippet_suggest.specs.Shown.{numbers_shown}
+use Rattle.snippet_suggest.specs.Given.{counted_line, first_given, given_lines, numbers_given, removed_texts}
+use Rattle.snippet_suggest.specs.declared.glyphs.SuggestionGlyph.TheVariants.{Opening, Next, Leading, Closing}
+use Rattle.snippet_suggest.specs.Glyphs.{changed_mark_of, glyph_of}
 
 -- the number of the line so many lines behind one, as far as there are numbers
 abbrev pub number_after : ℕ → ℕ → ℕ
@@ -26,6 +26,12 @@ number_after first lines = min (first + lines) (2 ^ 64 - 1)
 -- what stands beside a line that is offered: a separator, the glyph of a changed line, or `+`
 abbrev pub IsSign : DecorStyle → ℕ → Type 0
 IsSign decor c = (c ≡ separator_of decor) ⊎ (c ≡ changed_mark_of decor) ⊎ (c ≡ 43)
+
+-- what stands left of the lines in a row that shows none: spaces, what stands for lines that are left out, and the glyphs that
+-- suggestions begin and end with
+abbrev pub is_stroke : DecorStyle → ℕ → Bool
+is_stroke decor c =
+    list_any (λ d. d == c) (32 ∷ (placeholder_of decor ++ glyph_of decor Opening ++ glyph_of decor Next ++ glyph_of decor Leading ++ glyph_of decor Closing))
 
 -- what stands in a row of marks: spaces, `+`, and the mark below what is changed
 abbrev pub IsMarkOrSpace : DecorStyle → ℕ → Type 0
@@ -45,21 +51,31 @@ pub record IsLineRow (decor : DecorStyle) (gutter : ℕ) (number text : List ℕ
   pub holds : HoldsText gutter text row
   pub free : IsFree row
 
--- the row of a line that is removed: `-` and a space stand behind the gutter
-pub record IsRemovedRow (gutter : ℕ) (row : List Cell) : Type 0 where
+-- what stands left of the sign of a line that is removed: a digit, or what stands left of the lines in a row that shows none
+abbrev pub IsBeforeSign : DecorStyle → ℕ → Type 0
+IsBeforeSign decor c = (is_stroke decor c ≡ true) ⊎ ((48 ≤ c) × (c ≤ 57))
+
+-- what may stand behind a line that is removed: what stood there before, which is a mark or a space, or a digit of a number that
+-- is too long for the gutter
+abbrev pub IsLeftOver : DecorStyle → ℕ → Type 0
+IsLeftOver decor c = IsMarkOrSpace decor c ⊎ ((48 ≤ c) × (c ≤ 57))
+
+-- the row of a line that is removed: `-` and a space stand behind the gutter, with no letter before them, and from three cells
+-- behind it on the line's normalised text, and no letter behind that
+pub record IsRemovedRow (decor : DecorStyle) (gutter : ℕ) (text : List ℕ) (row : List Cell) : Type 0 where
+  pub before : (c : ℕ) → c ≤ gutter → IsBeforeSign decor (slice_index_or row c SPACE).ch
   pub minus : (slice_index_or row (gutter + 1) SPACE).ch ≡ 45
   pub space : (slice_index_or row (gutter + 2) SPACE).ch ≡ 32
+  pub begins : row_text (take (length text) (drop (gutter + 3) row)) ≡ text
+  pub behind : (c : ℕ) → gutter + 3 + length text ≤ c → IsLeftOver decor (slice_index_or row c SPACE).ch
   pub free : IsFree row
 
--- a row that shows no line: no letter or digit in the gutter, and three cells behind it nothing but marks
+-- a row that shows no line: up to three cells behind the gutter nothing but what stands left of the lines there, so no letter
+-- or digit, and from there on nothing but marks
 pub record IsBareRow (decor : DecorStyle) (gutter : ℕ) (row : List Cell) : Type 0 where
-  pub unnumbered : HasNoNumber gutter row
+  pub strokes : (c : ℕ) → c < gutter + 3 → is_stroke decor (slice_index_or row c SPACE).ch ≡ true
   pub marks : (c : ℕ) → gutter + 3 ≤ c → IsMarkOrSpace decor (slice_index_or row c SPACE).ch
   pub free : IsFree row
-
--- a row that offers no line
-abbrev pub IsOtherRow : DecorStyle → ℕ → List Cell → Type 0
-IsOtherRow decor gutter row = IsRemovedRow gutter row ⊎ IsBareRow decor gutter row
 
 -- one row of this kind was added below the rows that are there
 pub record AddsRow (P : List Cell → Type 0) (old new : List (List Cell)) : Type 0 where
@@ -81,7 +97,7 @@ pub record IsRepainted (above : List (List Cell)) (last : List Cell) (new : List
 abbrev pub IsShownRow : SuggestionLayout → ℕ → List (List ℕ) → ShownLine → List Cell → Type 0
 IsShownRow layout first lines (Line k) row =
     IsLineRow layout.decor layout.gutter (shown_number layout.numbered layout.gutter (number_after first k)) (norm (chars (slice_index_or lines k []))) row
-IsShownRow layout first lines Gap row = IsOtherRow layout.decor layout.gutter row
+IsShownRow layout first lines Gap row = IsBareRow layout.decor layout.gutter row
 
 -- rows for these, one each, stand below some rows, and nothing else
 pub record AddsShown (layout : SuggestionLayout) (first : ℕ) (lines : List (List ℕ)) (shown : List ShownLine) (above new : List (List Cell)) : Type 0 where
@@ -89,17 +105,52 @@ pub record AddsShown (layout : SuggestionLayout) (first : ℕ) (lines : List (Li
   pub added : new ≡ above ++ rows
   pub are : AllZip (IsShownRow layout first lines) shown rows
 
--- the same, where of the lines just these are shown, in this order
-pub record AddsLines (layout : SuggestionLayout) (first : ℕ) (lines : List (List ℕ)) (numbers : List ℕ) (above new : List (List Cell)) : Type 0 where
-  pub shown : List ShownLine
-  pub numbers_are : numbers_shown shown ≡ numbers
-  pub adds : AddsShown layout first lines shown above new
+-- what a row of a suggestion shows: a line that it offers, counted from the first that is given; the text of a line that is
+-- removed; or no line
+pub data SuggestionRow : Type 0 where
+  Offers : (k : ℕ) → SuggestionRow
+  Removes : (text : List ℕ) → SuggestionRow
+  Bare : SuggestionRow
 
--- rows of removed lines stand below some rows, and nothing else
-pub record AddsRemoved (layout : SuggestionLayout) (above new : List (List Cell)) : Type 0 where
+-- the line that such a row offers, and the text of the one that it shows as removed
+abbrev pub number_offered : SuggestionRow → Option ℕ
+number_offered (Offers k) = Some k
+number_offered (Removes text) = None
+number_offered Bare = None
+
+abbrev pub text_removed : SuggestionRow → Option (List ℕ)
+text_removed (Offers k) = None
+text_removed (Removes text) = Some text
+text_removed Bare = None
+
+-- those of some rows
+abbrev pub numbers_offered : List SuggestionRow → List ℕ
+numbers_offered shown = filter_map number_offered shown
+
+abbrev pub texts_removed : List SuggestionRow → List (List ℕ)
+texts_removed shown = filter_map text_removed shown
+
+-- the row shows this, of some lines of which the first has this number
+abbrev pub Shows : SuggestionLayout → ℕ → List (List ℕ) → SuggestionRow → List Cell → Type 0
+Shows layout first lines (Offers k) row = IsShownRow layout first lines (Line k) row
+Shows layout first lines (Removes text) row = IsRemovedRow layout.decor layout.gutter (norm (chars text)) row
+Shows layout first lines Bare row = IsBareRow layout.decor layout.gutter row
+
+-- rows stand below some rows, and nothing else: of these lines just those of these numbers are offered, in this order, and these
+-- texts are shown as removed, in this order
+pub record AddsLines (layout : SuggestionLayout) (first : ℕ) (lines : List (List ℕ)) (numbers : List ℕ) (removed : List (List ℕ)) (above new : List (List Cell)) : Type 0 where
+  pub shown : List SuggestionRow
   pub rows : List (List Cell)
   pub added : new ≡ above ++ rows
-  pub are : All (IsRemovedRow layout.gutter) rows
+  pub are : AllZip (Shows layout first lines) shown rows
+  pub numbers_are : numbers_offered shown ≡ numbers
+  pub removed_are : texts_removed shown ≡ removed
+
+-- a row for each of these texts, which are removed, stands below some rows, and nothing else
+pub record AddsRemoved (layout : SuggestionLayout) (texts : List (List ℕ)) (above new : List (List Cell)) : Type 0 where
+  pub rows : List (List Cell)
+  pub added : new ≡ above ++ rows
+  pub are : AllZip (λ text row. IsRemovedRow layout.decor layout.gutter (norm (chars text)) row) texts rows
 
 -- a last row stands below some rows and so many empty ones
 pub record AddsEnd (layout : SuggestionLayout) (skipped : ℕ) (above new : List (List Cell)) : Type 0 where
@@ -118,15 +169,17 @@ abbrev pub IsTail : SuggestionLayout → Bool → List (List Cell) → Type 0
 IsTail layout true tail = (row : List Cell) × (tail ≡ row ∷ []) × IsBareRow layout.decor layout.gutter row
 IsTail layout false tail = tail ≡ []
 
--- the rows of a suggestion stand below some rows, and nothing else: for each line that it offers a row, in order, other rows
--- between them, and as the last a row that shows no line, in which a further suggestion may begin
+-- the rows of a suggestion stand below some rows, and nothing else: for each line that it offers a row, in order, for each line
+-- of the source that it shows as removed a row, in order, rows that show no line between them, and as the last such a row, in
+-- which a further suggestion may begin
 pub record AddsSuggestion (layout : SuggestionLayout) (s : Snippet Patch) (above new : List (List Cell)) : Type 0 where
-  pub shown : List ShownLine
+  pub shown : List SuggestionRow
   pub rows : List (List Cell)
   pub last : List Cell
   pub added : new ≡ above ++ (rows ++ last ∷ [])
-  pub are : AllZip (IsShownRow layout (s.line_start + first_given s) (given_lines s)) shown rows
-  pub numbers : numbers_shown shown ≡ numbers_given s
+  pub are : AllZip (Shows layout (s.line_start + first_given s) (given_lines s)) shown rows
+  pub numbers : numbers_offered shown ≡ numbers_given s
+  pub removed : texts_removed shown ≡ removed_texts s
   pub last_is : IsBareRow layout.decor layout.gutter last
 
 -- the gutter has room for the number that a suggestion counts

@@ -4,7 +4,7 @@ ghost use Rattle.std.specs.Str.{bytes_eq};
 ghost use Rattle.snippet_style.specs.Grid.{Cell};
 ghost use Rattle.snippet_suggest.specs.declared.kind.DisplaySuggestion.TheVariants.{Diff};
 ghost use Rattle.snippet_suggest.specs.declared.shown.ShownLine.TheVariants.{Line};
-ghost use Rattle.snippet_suggest.specs.Given.{is_left_out, last_removed};
+ghost use Rattle.snippet_suggest.specs.Given.{is_left_out, last_removed, texts_at, unless_stays};
 ghost use Rattle.snippet_suggest.specs.Rows.{AddsLines, AddsRemoved, IsBareRow, IsRepainted, NumberFits};
 
 use crate::glyphs::SuggestionGlyph;
@@ -45,7 +45,8 @@ pub(crate) fn draw_diff(
     ensures added { (above : List (List Cell)) (last : List Cell) → buffer.old ≡ above ++ last ∷ []
         → IsBareRow layout.decor layout.gutter last → NumberFits layout first (Line 0)
         → OnOk result (AddsLines layout first (line.now ∷ [])
-        (if is_left_out Diff (line.now ∷ []) (last_removed removed.now) then [] else 0 ∷ []) above buffer.new) }
+        (if is_left_out Diff (line.now ∷ []) (last_removed removed.now) then [] else 0 ∷ [])
+        (unless_stays (bytes_eq line.now (last_removed removed.now)) (texts_at removed.now)) above buffer.new) }
 {
     let stays = is_last(removed, line);
     let count = removed.len().saturating_sub(usize::from(stays));
@@ -73,7 +74,7 @@ fn draw_diff_line(
     ensures left { (above : List (List Cell)) (last : List Cell) → left_out ≡ true → buffer.old ≡ above ++ last ∷ []
         → OnOk result (IsRepainted above last buffer.new) }
     ensures added { left_out ≡ false → NumberFits layout first (Line 0)
-        → OnOk result (AddsLines layout first (line.now ∷ []) (0 ∷ []) buffer.old buffer.new) }
+        → OnOk result (AddsLines layout first (line.now ∷ []) (0 ∷ []) [] buffer.old buffer.new) }
 {
     if !left_out {
         draw_line(alloc, buffer, layout, SuggestionGlyph::Added, first, line)?;
@@ -133,7 +134,7 @@ fn draw_diff_removed(
     replaced: &[Vec<SubstitutionHighlight>],
 ) -> Result<(), AllocError>
     requires narrow { layout.gutter < 2 ^ 32 }
-    ensures added { OnOk result (AddsRemoved layout buffer.old buffer.new) }
+    ensures added { OnOk result (AddsRemoved layout (texts_at removed.now) buffer.old buffer.new) }
 {
     for i in 0..removed.len() {
         let info = removed[i];

@@ -1,5 +1,6 @@
 //! The rows that a suggestion begins and ends with.
-ghost use Rattle.std.specs.Prelude.{◌≡◌, ℕ, ◌<◌, ◌^◌, ◌+◌, ◌++◌, Bool, List, IfOk, OnOk, length};
+ghost use Rattle.std.specs.Prelude.{◌≡◌, ℕ, ◌<◌, ◌^◌, ◌+◌, ◌++◌, Bool, false, List, IfOk, OnOk, length};
+ghost use Rattle.snippet_suggest.specs.Glyphs.{is_sign};
 ghost use Rattle.snippet_suggest.specs.Rows.{AddsEnd, AddsRow, IsBareRow, IsTail};
 ghost use Rattle.snippet_style.specs.Grid.{Cell};
 
@@ -36,7 +37,7 @@ pub(crate) fn draw_head(
     draw_glyph(buffer, layout, rows, SuggestionGlyph::Opening)
 }
 
-/// Draws a glyph behind the gutter of a row, which stands alone unless the row is one that is there.
+/// Draws a glyph that is no line's behind the gutter of a row, which stands alone unless the row is one that is there.
 fn draw_glyph(
     buffer: &mut StyledBuffer,
     layout: SuggestionLayout,
@@ -45,9 +46,9 @@ fn draw_glyph(
 ) -> Result<(), AllocError>
     requires narrow { layout.gutter < 2 ^ 32 }
     requires row { row + 1 < 2 ^ 64 }
-    ensures added { (above tail : List (List Cell)) (shares : Bool) → row ≡ length above → buffer.old ≡ above ++ tail
+    ensures added { is_sign glyph ≡ false → (above tail : List (List Cell)) (shares : Bool) → row ≡ length above → buffer.old ≡ above ++ tail
         → IsTail layout shares tail → OnOk result (AddsRow (IsBareRow layout.decor layout.gutter) above buffer.new) }
-    ensures end { (skipped : ℕ) → row ≡ length buffer.old + skipped → OnOk result (AddsEnd layout skipped buffer.old buffer.new) }
+    ensures end { is_sign glyph ≡ false → (skipped : ℕ) → row ≡ length buffer.old + skipped → OnOk result (AddsEnd layout skipped buffer.old buffer.new) }
 {
     buffer.puts(
         row,

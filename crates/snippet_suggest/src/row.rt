@@ -68,7 +68,7 @@ pub(crate) fn draw_removed_line(
     requires row { row + 1 < 2 ^ 64 }
     // In a row of its own, or over one that shows no line.
     ensures added { (above tail : List (List Cell)) (shares : Bool) → row ≡ length above → buffer.old ≡ above ++ tail
-        → IsTail layout shares tail → OnOk result (AddsRow (IsRemovedRow layout.gutter) above buffer.new) }
+        → IsTail layout shares tail → OnOk result (AddsRow (IsRemovedRow layout.decor layout.gutter (norm (chars line.now))) above buffer.new) }
 {
     let number = number_text(alloc, layout.numbered, layout.gutter, number)?;
     buffer.puts(row, 0, number.as_str(), ElementStyle::LineNumber)?;

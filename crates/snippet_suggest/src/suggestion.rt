@@ -3,10 +3,11 @@ ghost use Rattle.std.specs.Prelude.{◌≡◌, ◌<◌, ◌^◌, ◌+◌, ◌-�
 ghost use Rattle.snippet_style.specs.Grid.{Cell};
 ghost use Rattle.snippet_lines.specs.Span.{IsSpan};
 ghost use Rattle.snippet_splice.specs.Copied.{end_from};
+ghost use Rattle.snippet_splice.specs.Shown.{first_start};
 ghost use Rattle.snippet_splice.specs.Edits.{AreApart, trimmed_edit_of};
 ghost use Rattle.snippet_suggest.specs.Prepared.{IsPrepared};
 ghost use Rattle.snippet_suggest.specs.Rows.{AddsLines, AddsSuggestion, HasGutter, IsBareRow, IsTail, NumberFits};
-ghost use Rattle.snippet_suggest.specs.Given.{first_given, given_lines, numbers_given};
+ghost use Rattle.snippet_suggest.specs.Given.{emptied_lines, first_given, first_original, first_original_end, given_lines, numbers_given, removed_texts, replaced_lines, texts_of_source};
 ghost use Rattle.snippet_suggest.specs.declared.kind.DisplaySuggestion.TheVariants.{Diff};
 ghost use Rattle.snippet_suggest.specs.declared.shown.ShownLine.TheVariants.{Line};
 
@@ -80,7 +81,7 @@ fn draw_body(
     ensures few { IfOk result (λ skipped. skipped < 2) }
     ensures added { let s = suggestion.now.snippet.now in HasGutter layout s
         → (above tail : List (List Cell)) → buffer.old ≡ above ++ tail → IsTail layout shares tail
-        → OnOk result (AddsLines layout (s.line_start + first_given s) (given_lines s) (numbers_given s) above buffer.new) }
+        → OnOk result (AddsLines layout (s.line_start + first_given s) (given_lines s) (numbers_given s) (removed_texts s) above buffer.new) }
 {
     let Some(line) = lines.first() else {
         draw_emptied(alloc, buffer, layout, suggestion, shares)?;
@@ -125,7 +126,7 @@ fn draw_changed(
     ensures added { let s = suggestion.now.snippet.now in NumberFits layout first (Line 0)
         → (above : List (List Cell)) (last : List Cell) → buffer.old ≡ above ++ last ∷ []
         → IsBareRow layout.decor layout.gutter last
-        → OnOk result (AddsLines layout first (given_lines s) (numbers_given s) above buffer.new) }
+        → OnOk result (AddsLines layout first (given_lines s) (numbers_given s) (texts_of_source s (replaced_lines s)) above buffer.new) }
 {
     let splice = &suggestion.splice;
     let map = &suggestion.map;
@@ -154,7 +155,8 @@ fn draw_emptied(
     requires prepared { IsPrepared suggestion.now }
     ensures added { let s = suggestion.now.snippet.now in (above tail : List (List Cell)) → buffer.old ≡ above ++ tail
         → IsTail layout shares tail
-        → OnOk result (AddsLines layout (s.line_start + first_given s) (given_lines s) [] above buffer.new) }
+        → OnOk result (AddsLines layout (s.line_start + first_given s) (given_lines s) []
+        (texts_of_source s (emptied_lines s)) above buffer.new) }
 {
     let map = &suggestion.map;
     let patches = &suggestion.splice.patches;
@@ -185,6 +187,8 @@ fn first_row(buffer: &StyledBuffer, shares: bool) -> usize
 fn given_span(map: &SourceMap<'_>, patches: &[TrimmedPatch<'_>], fold: bool) -> Range<usize>
     requires originals { All (λ p. IsSpan map.now.text p.original_span.start p.original_span.end) patches.now }
     ensures span { IsSpan map.now.text result.start result.end }
+    ensures start { result.start ≡ (if fold then first_original patches.now else 0) }
+    ensures end { 0 < length patches.now → result.end ≡ (if fold then first_original_end patches.now else length map.now.text) }
 {
     match patches.first() {
         Some(patch) if fold => patch.original_span.start..patch.original_span.end,
@@ -196,8 +200,9 @@ fn given_span(map: &SourceMap<'_>, patches: &[TrimmedPatch<'_>], fold: bool) -> 
 fn trimmed_span(source: &SourceMap<'_>, patches: &[TrimmedPatch<'_>]) -> Range<usize>
     requires spans { All (λ p. IsSpan source.now.text p.span.start p.span.end) patches.now }
     ensures span { IsSpan source.now.text result.start result.end }
-    // Of patches that stand apart the last one's end is the greatest.
+    // Of patches that stand apart the last one's end is the greatest, and the first one's start the least.
     ensures end { let ts = map trimmed_edit_of patches.now in 0 < length patches.now → AreApart 0 ts → result.end ≡ end_from 0 ts }
+    ensures start { let ts = map trimmed_edit_of patches.now in 0 < length patches.now → AreApart 0 ts → result.start ≡ first_start ts }
 {
     match patches {
         [] => 0..source.source().len(),

@@ -1,6 +1,6 @@
-use Rattle.std.proofs.Common.{[], false, refl, sym}
+use Rattle.std.proofs.Common.{[], arith, false, refl, sym}
 use Rattle.std.proofs.lemmas.List.{append-nil}
-use Rattle.snippet_suggest.proofs.RemovedRows.{removed_more, removed_none}
+use Rattle.snippet_suggest.proofs.RemovedRows.{removed_all, removed_more, removed_none}
 use Rattle.snippet_suggest.proofs.RepaintLemmas.{removed_repainted}
 use Rattle.snippet_suggest.proofs.diff.draw_diff_removed.Goals as goal
 
@@ -13,4 +13,10 @@ loop-i-preserved c =
     let old = c.loop-i.buffer in
     let adds = c.in_ok-draw_removed_line.ensures.added old [] false c.num_lines-row.ensures.count (sym (append-nil old)) refl in
     let painted = c.in_ok-paint_stretches.ensures.repaints old adds.row c.num_lines-row.ensures.count adds.added in
-    removed_more a.layout a.buffer.now old c.paint_stretches.new.buffer c.loop-i.invariant (removed_repainted a.layout.gutter old c.draw_removed_line.new.buffer c.paint_stretches.new.buffer adds painted)
+    removed_more a.layout a.removed.now c.loop-i.i _ a.buffer.now old c.paint_stretches.new.buffer (omega arith) c.loop-i.invariant (removed_repainted a.layout.decor a.layout.gutter _ old c.draw_removed_line.new.buffer c.paint_stretches.new.buffer adds painted)
+
+pub returns : goal.returns
+returns c =
+    record {
+      added = removed_all c.args.layout c.args.removed.now _ c.args.buffer.now c.loop-i.buffer (omega arith) c.loop-i.invariant;
+    }

@@ -11,6 +11,6 @@ pub returns : goal.returns
 returns c =
     let drawn = c.in_ok-puts.ensures.ok c.text.ensures.some in
     record {
-      added = λ above tail shares. glyph_added c.args.layout shares c.args.glyph above tail c.args.buffer.now c.puts.new.self c.args.row c.text.result.now c.text.ensures.value drawn;
-      end = λ skipped. end_added c.args.layout c.args.glyph skipped c.args.buffer.now c.puts.new.self c.args.row c.text.result.now c.text.ensures.value drawn;
+      added = λ other above tail shares. glyph_added c.args.layout shares c.args.glyph above tail c.args.buffer.now c.puts.new.self c.args.row c.text.result.now other c.text.ensures.value drawn;
+      end = λ other skipped. end_added c.args.layout c.args.glyph skipped c.args.buffer.now c.puts.new.self c.args.row c.text.result.now other c.text.ensures.value drawn;
     }

@@ -1,4 +1,4 @@
-use Rattle.std.proofs.Common.{◌+◌, ◌++◌, arith}
+use Rattle.std.proofs.Common.{◌++◌, arith}
 use Rattle.snippet_suggest.proofs.RemovedRows.{removes_begun, removes_done, removes_more}
 use Rattle.snippet_suggest.proofs.removed.draw_removed_lines.Goals as goal
 
@@ -6,7 +6,7 @@ pub loop-info-init : goal.loop-info-init
 loop-info-init c =
     record {
       small = c.requires.row;
-      drawn = λ above tail shares here stands is. removes_begun c.args.layout above tail shares c.args.row c.args.buffer.now here stands is;
+      drawn = λ above tail shares here stands is. removes_begun c.args.layout above tail shares c.args.lines.now c.args.row c.args.buffer.now here stands is;
     }
 
 pub loop-info-preserved : goal.loop-info-preserved
@@ -17,11 +17,11 @@ loop-info-preserved c =
           let l = c.args.layout in
           let so_far = c.loop-info.invariant.drawn above tail shares here stands is in
           let adds = c.in_ok-draw_removed_line.ensures.added (above ++ so_far.rows) so_far.tail so_far.shares so_far.here so_far.stands so_far.tail_is in
-          removes_more l above c.loop-info.row c.loop-info.info-index c.num_lines-row.result (c.loop-info.info-index + 1) c.loop-info.buffer c.draw_removed_line.new.buffer so_far adds c.num_lines-row.ensures.count;
+          removes_more l above c.args.lines.now _ c.loop-info.row c.loop-info.info-index c.num_lines-row.result c.loop-info.buffer c.draw_removed_line.new.buffer so_far c.loop-info-test.true adds c.num_lines-row.ensures.count;
     }
 
 pub returns : goal.returns
 returns c =
     record {
-      added = λ above tail shares here stands is. removes_done c.args.layout above c.loop-info.row c.loop-info.info-index c.loop-info.buffer (omega (arith, c.requires.some, c.loop-info-test.false)) (c.loop-info.invariant.drawn above tail shares here stands is);
+      added = λ above tail shares here stands is. removes_done c.args.layout above c.args.lines.now c.loop-info.row c.loop-info.info-index c.loop-info.buffer (omega (arith, c.requires.some, c.loop-info-test.false)) (omega (arith, c.loop-info-test.false)) (c.loop-info.invariant.drawn above tail shares here stands is);
     }

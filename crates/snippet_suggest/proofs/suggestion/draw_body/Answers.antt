@@ -8,13 +8,14 @@ use Rattle.snippet_splice.specs.declared.patches.TrimmedPatch.{TrimmedPatch}
 use Rattle.snippet_suggest.specs.contracts.kind.DisplaySuggestion.{the_type}
 use Rattle.snippet_suggest.specs.declared.kind.DisplaySuggestion.TheVariants.{Diff}
 use Rattle.snippet_suggest.specs.declared.shown.ShownLine.TheVariants.{Line}
-use Rattle.snippet_suggest.specs.Given.{first_given, first_original, given_lines, numbers_given}
+use Rattle.snippet_suggest.specs.Given.{emptied_lines, first_given, first_original, given_lines, numbers_given, removed_texts, replaced_lines, texts_of_source}
 use Rattle.snippet_suggest.specs.Rows.{AddsLines, NumberFits}
 use Rattle.snippet_suggest.specs.Shown.{is_touched, numbers_shown, shown_lines}
-use Rattle.snippet_suggest.proofs.ComposeLemmas.{bare_lines, lines_append}
+use Rattle.snippet_suggest.proofs.ComposeLemmas.{bare_lines, lines_append, lines_of_shown}
 use Rattle.snippet_suggest.proofs.GutterFits.{numbers_fit}
 use Rattle.snippet_suggest.proofs.KnownLemmas.{known_first, known_originals, known_some}
 use Rattle.snippet_suggest.proofs.KnownNumbers.{known_none, known_one, known_others}
+use Rattle.snippet_suggest.proofs.KnownRemoved.{removes_emptied, removes_none, removes_replaced}
 use Rattle.snippet_suggest.proofs.suggestion.draw_body.Goals as goal
 
 pub returns-in_default-clause-added : goal.returns-in_default-clause-added
@@ -22,7 +23,8 @@ returns-in_default-clause-added c = λ room above tail is shared.
     let a = c.args in
     let s = a.suggestion.now.snippet.now in
     let none = known_none s (λ l. l.now) a.lines.now (sym c.in_default.ensures.value) c.requires.lines in
-    subst (λ (ks : List ℕ). AddsLines a.layout (s.line_start + first_given s) (given_lines s) ks above c.draw_emptied.new.buffer) (sym none) (c.in_ok-draw_emptied.ensures.added above tail is shared)
+    let texts : removed_texts s ≡ texts_of_source s (emptied_lines s) = ap (texts_of_source s) (removes_emptied s (λ l. l.now) a.lines.now (sym c.in_default.ensures.value) c.requires.lines) in
+    subst (λ (ts : List (List ℕ)). AddsLines a.layout (s.line_start + first_given s) (given_lines s) (numbers_given s) ts above c.draw_emptied.new.buffer) (sym texts) (subst (λ (ks : List ℕ). AddsLines a.layout (s.line_start + first_given s) (given_lines s) ks (texts_of_source s (emptied_lines s)) above c.draw_emptied.new.buffer) (sym none) (c.in_ok-draw_emptied.ensures.added above tail is shared))
 
 pub first_number-first-requires-clause-some : goal.first_number-first-requires-clause-some
 first_number-first-requires-clause-some c =
@@ -55,7 +57,10 @@ returns-then-eq-clause-added c = λ room above tail is shared.
     let some : 0 < length lines = omega (arith, ap length c.requires.lines, length-map a.lines.now (λ l. l.now), c.in-Some.ensures.item.3.0) in
     let fits : NumberFits a.layout c.first_number-first.result (Line 0) = subst (λ (n : ℕ). NumberFits a.layout n (Line 0)) (sym first) (numbers_fit a.layout s c.requires.prepared.suggestible room 0 some) in
     let head = c.in_ok-draw_head.ensures.added above tail is shared in
-    subst (λ (n : ℕ). OnOk result (AddsLines a.layout n lines (numbers_given s) above new)) first (c.draw_changed.ensures.added fits above head.row head.added head.is)
+    let diff : p.kind ≡ Diff = same_true the_type (search rules) p.kind Diff (sym c.if-eq.ensures) in
+    let one = known_one p c.requires.prepared diff (λ l. l.now) a.lines.now c.in-Some.line.now (sym c.in-Some.ensures.value) c.requires.lines in
+    let texts : texts_of_source s (replaced_lines s) ≡ removed_texts s = ap (texts_of_source s) (sym (removes_replaced p c.requires.prepared _ diff one)) in
+    subst (λ (ts : List (List ℕ)). OnOk result (AddsLines a.layout (s.line_start + first_given s) lines (numbers_given s) ts above new)) texts (subst (λ (n : ℕ). OnOk result (AddsLines a.layout n lines (numbers_given s) (texts_of_source s (replaced_lines s)) above new)) first (c.draw_changed.ensures.added fits above head.row head.added head.is))
 
 pub returns-clause-added : goal.returns-clause-added
 returns-clause-added c = λ room above tail is shared.
@@ -73,7 +78,8 @@ returns-clause-added c = λ room above tail is shared.
     let other : p.kind ≢ Diff = λ same. cc (c.if-eq.false, c.eq.ensures, true_same the_type p.kind Diff same) in
     let shown = shown_lines (is_touched s.fold c.deref-2.result.now) (length a.lines.now) in
     let numbers : numbers_shown shown ≡ numbers_given s = ap (λ rs. numbers_shown (shown_lines (is_touched s.fold rs) (length a.lines.now))) c.deref-2.ensures.value ∙ ap (λ m. numbers_shown (shown_lines (is_touched s.fold p.splice.ranges.items) m)) count ∙ sym (known_others p c.requires.prepared other) in
-    let adds : AddsLines l n (map (λ l. l.now) a.lines.now) (numbers_given s) mid new = record { shown = shown; numbers_are = numbers; adds = c.in_ok-draw_lines.ensures.added fits } in
-    let drawn : AddsLines l (s.line_start + first_given s) lines (numbers_given s) mid new = subst (λ (m : ℕ). AddsLines l m lines (numbers_given s) mid new) first (subst (λ (ls : List (List ℕ)). AddsLines l n ls (numbers_given s) mid new) c.requires.lines adds) in
+    let texts : [] ≡ removed_texts s = ap (texts_of_source s) (sym (removes_none p c.requires.prepared other (λ l. l.now) a.lines.now c.in-Some.line.now (sym c.in-Some.ensures.value) c.requires.lines)) in
+    let adds : AddsLines l n (map (λ l. l.now) a.lines.now) (numbers_shown shown) [] mid new = lines_of_shown l n (map (λ l. l.now) a.lines.now) shown mid new (c.in_ok-draw_lines.ensures.added fits) in
+    let drawn : AddsLines l (s.line_start + first_given s) lines (numbers_given s) [] mid new = subst (λ (ks : List ℕ). AddsLines l (s.line_start + first_given s) lines ks [] mid new) numbers (subst (λ (m : ℕ). AddsLines l m lines (numbers_shown shown) [] mid new) first (subst (λ (ls : List (List ℕ)). AddsLines l n ls (numbers_shown shown) [] mid new) c.requires.lines adds)) in
     let head = c.in_ok-draw_head.ensures.added above tail is shared in
-    lines_append l (s.line_start + first_given s) lines [] (numbers_given s) above mid new (bare_lines l (s.line_start + first_given s) lines above mid head) drawn
+    subst (λ (ts : List (List ℕ)). AddsLines l (s.line_start + first_given s) lines (numbers_given s) ts above new) texts (lines_append l (s.line_start + first_given s) lines [] (numbers_given s) [] [] above mid new (bare_lines l (s.line_start + first_given s) lines above mid head) drawn)

@@ -1,16 +1,19 @@
 use Rattle.std.proofs.Common.{◌≡◌, ℕ, ◌<◌, ◌∷◌, ◌∙◌, [], All, List, false, true, ap, if◌then◌else◌, length, map, subst, sym}
+use Rattle.std.specs.Str.{bytes_eq}
+use Rattle.snippet_splice.specs.Shown.{first_start}
 use Rattle.snippet_lines.specs.Span.{IsSpan}
 use Rattle.snippet_parts.specs.declared.source_map.LineInfo.{LineInfo}
 use Rattle.snippet_splice.specs.declared.patches.TrimmedPatch.{TrimmedPatch}
 use Rattle.snippet_splice.specs.Copied.{end_from}
 use Rattle.snippet_splice.specs.Edits.{AreApart, trimmed_edit_of}
 use Rattle.snippet_suggest.specs.declared.kind.DisplaySuggestion.TheVariants.{Diff}
-use Rattle.snippet_suggest.specs.Given.{given_lines, is_left_out, last_reached, last_removed, numbers_given}
+use Rattle.snippet_suggest.specs.Given.{given_lines, is_left_out, last_reached, last_removed, numbers_given, replaced_lines, texts_at, texts_of_source, unless_stays}
 use Rattle.snippet_suggest.specs.Rows.{AddsLines}
 use Rattle.snippet_suggest.specs.Shown.{is_touched}
 use Rattle.snippet_suggest.proofs.ComposeLemmas.{bare_lines}
 use Rattle.snippet_suggest.proofs.KnownLemmas.{known_apart, known_reached, known_some, known_spans}
 use Rattle.snippet_suggest.proofs.KnownNumbers.{known_diff}
+use Rattle.snippet_suggest.proofs.KnownRemoved.{known_replaced, known_untouched}
 use Rattle.snippet_suggest.proofs.ReachLemmas.{touched_some}
 use Rattle.snippet_suggest.proofs.suggestion.draw_changed.Goals as goal
 
@@ -30,7 +33,8 @@ returns-then-not-is_touched-clause-added c = λ fits above last is bare.
     let p = a.suggestion.now in
     let touches : false ≡ is_touched p.snippet.now.fold p.splice.ranges.items 0 = sym c.if-not-is_touched.true ∙ c.is_touched.ensures.value ∙ ap (λ ranges. is_touched p.snippet.now.fold ranges 0) c.deref.ensures.value in
     let numbers = known_diff p c.requires.prepared a.line.now false c.requires.diff c.requires.line touches in
-    subst (λ (ks : List ℕ). AddsLines a.layout a.first (given_lines p.snippet.now) ks above a.buffer.now) (sym numbers) (bare_lines a.layout a.first (given_lines p.snippet.now) above a.buffer.now (record { row = last; added = is; is = bare }))
+    let none : texts_of_source p.snippet.now (replaced_lines p.snippet.now) ≡ [] = ap (texts_of_source p.snippet.now) (known_untouched p c.requires.prepared touches) in
+    subst (λ (ts : List (List ℕ)). AddsLines a.layout a.first (given_lines p.snippet.now) (numbers_given p.snippet.now) ts above a.buffer.now) (sym none) (subst (λ (ks : List ℕ). AddsLines a.layout a.first (given_lines p.snippet.now) ks [] above a.buffer.now) (sym numbers) (bare_lines a.layout a.first (given_lines p.snippet.now) above a.buffer.now (record { row = last; added = is; is = bare })))
 
 pub returns-clause-added : goal.returns-clause-added
 returns-clause-added c = λ fits above last is bare.
@@ -49,4 +53,7 @@ returns-clause-added c = λ fits above last is bare.
     let reached : last_removed c.deref-4.result.now ≡ last_reached s = ap last_removed c.deref-4.ensures.value ∙ known_reached p c.requires.prepared infos span.start span.end c.trimmed_span.ensures.span.ordered ends c.in_ok-removed.ensures.lines in
     let drawn = c.in_ok-draw_diff.ensures.added above last is bare fits in
     let shown : (if is_left_out Diff (a.line.now ∷ []) (last_removed c.deref-4.result.now) then [] else 0 ∷ []) ≡ numbers_given s = ap (λ (text : List ℕ). if is_left_out Diff (a.line.now ∷ []) text then [] else 0 ∷ []) reached ∙ sym numbers in
-    subst (λ (ks : List ℕ). AddsLines a.layout a.first (given_lines s) ks above new) shown (subst (λ (ls : List (List ℕ)). AddsLines a.layout a.first ls (if is_left_out Diff (a.line.now ∷ []) (last_removed c.deref-4.result.now) then [] else 0 ∷ []) above new) (sym c.requires.line) drawn)
+    let starts : span.start ≡ first_start (map trimmed_edit_of p.splice.patches.items) = c.trimmed_span.ensures.start some apart ∙ ap (λ ps. first_start (map trimmed_edit_of ps)) patches in
+    let left : List LineInfo = c.deref-4.result.now in
+    let texts : unless_stays (bytes_eq a.line.now (last_removed left)) (texts_at left) ≡ texts_of_source s (replaced_lines s) = ap (λ (is : List LineInfo). unless_stays (bytes_eq a.line.now (last_removed is)) (texts_at is)) c.deref-4.ensures.value ∙ known_replaced p c.requires.prepared a.line.now infos span.start span.end c.requires.line touches starts ends c.in_ok-removed.ensures.lines (sym (ap last_removed c.deref-4.ensures.value) ∙ reached) in
+    subst (λ (ts : List (List ℕ)). AddsLines a.layout a.first (given_lines s) (numbers_given s) ts above new) texts (subst (λ (ks : List ℕ). AddsLines a.layout a.first (given_lines s) ks (unless_stays (bytes_eq a.line.now (last_removed left)) (texts_at left)) above new) shown (subst (λ (ls : List (List ℕ)). AddsLines a.layout a.first ls (if is_left_out Diff (a.line.now ∷ []) (last_removed left) then [] else 0 ∷ []) (unless_stays (bytes_eq a.line.now (last_removed left)) (texts_at left)) above new) (sym c.requires.line) drawn))

@@ -1,5 +1,5 @@
-use Rattle.std.proofs.Common.{◌-◌, arith, length}
-use Rattle.snippet_suggest.proofs.ReachLemmas.{last_end, only_end}
+use Rattle.std.proofs.Common.{◌-◌, ◌∙◌, arith, length}
+use Rattle.snippet_suggest.proofs.ReachLemmas.{first_begin, last_end, least_begin, only_end}
 use Rattle.snippet_suggest.proofs.SpanLemmas.{joined_span, whole_span}
 use Rattle.snippet_suggest.proofs.suggestion.trimmed_span.Goals as goal
 
@@ -11,9 +11,15 @@ pub returns-in-len1-clause-end : goal.returns-in-len1-clause-end
 returns-in-len1-clause-end c = λ some apart.
     only_end 0 c.args.patches.now _ some c.in-len1.len_below
 
+pub returns-in-len1-clause-start : goal.returns-in-len1-clause-start
+returns-in-len1-clause-start c = λ some apart. first_begin c.args.patches.now _ some
+
 pub returns-in-len2-up-clause-span : goal.returns-in-len2-up-clause-span
 returns-in-len2-up-clause-span c =
     joined_span c.args.source.now.text _ _ _ _ c.min.result c.min.ensures (c.requires.spans 0 _ (omega arith)) (c.requires.spans (length c.args.patches.now - 1) _ (omega arith))
 
 pub returns-in-len2-up-clause-end : goal.returns-in-len2-up-clause-end
 returns-in-len2-up-clause-end c = λ some apart. last_end 0 c.args.patches.now _ some
+
+pub returns-in-len2-up-clause-start : goal.returns-in-len2-up-clause-start
+returns-in-len2-up-clause-start c = λ some apart. c.min.ensures ∙ least_begin c.args.patches.now _ some apart

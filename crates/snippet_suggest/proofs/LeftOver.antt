@@ -1,0 +1,58 @@
+-- What stands beside a removed line: its number, what a row that was there held, and the end of a long number.
+use Rattle.std.proofs.Common.{◌≡◌, ℕ, ◌-◌, ◌+◌, ◌^◌, ◌<◌, ◌≤◌, ◌%◌, Bool, true, false, List, [], ◌∷◌, All, chars, length, replicate, refl, sym, subst, arith, inl, inr}
+use Rattle.std.specs.Fmt.{decimal}
+use Rattle.std.specs.List.{slice_index_or}
+use Rattle.std.proofs.lemmas.Bool.{cases_lt}
+use Rattle.std.proofs.lemmas.Fmt.{decimal_by_steps}
+use Rattle.std.proofs.lemmas.List.Elements.{All-append, All-cons, All-nil, All-push, All-replicate}
+use Rattle.snippet_style.specs.declared.glyphs.DecorStyle.{DecorStyle}
+use Rattle.snippet_style.specs.declared.role.ElementStyle.TheVariants.{LineNumber}
+use Rattle.snippet_style.specs.Grid.{Cell, SPACE, drawn, written}
+use Rattle.snippet_style.proofs.GridLemmas.{All-drawn, slice_index_or-written_behind, slice_index_or-written_inside}
+use Rattle.snippet_lines.specs.Number.{shown_number}
+use Rattle.snippet_suggest.specs.Rows.{IsBeforeSign, IsLeftOver, IsMarkOrSpace, is_stroke}
+use Rattle.snippet_suggest.proofs.RowLemmas.{each_written, texted}
+
+-- a number holds digits and spaces
+decimal_holds : (P : ℕ → Type 0) → ((d : ℕ) → d < 10 → P (48 + d)) → (n : ℕ) → n < 2 ^ 64 → All P (decimal n)
+decimal_holds P digit n fits =
+    decimal_by_steps (λ _ ds. All P ds) (λ m one. All-cons P (48 + m) [] (digit m one) (All-nil P)) (λ m ds more so_far. All-push P ds (48 + m % 10) so_far (digit (m % 10) (omega arith))) n fits
+
+number_holds : (P : ℕ → Type 0) → P 32 → ((d : ℕ) → d < 10 → P (48 + d)) → (numbered : Bool) (gutter number : ℕ) → number < 2 ^ 64 → All P (shown_number numbered gutter number)
+number_holds P space digit true gutter number fits =
+    All-append P (replicate (gutter - length (decimal number)) 32) (decimal number) (All-replicate P (gutter - length (decimal number)) 32 space) (decimal_holds P digit number fits)
+number_holds P space digit false gutter number fits = All-replicate P gutter 32 space
+
+pub number_left : (decor : DecorStyle) (numbered : Bool) (gutter number : ℕ) → number < 2 ^ 64 → All (IsLeftOver decor) (shown_number numbered gutter number)
+number_left decor numbered gutter number fits =
+    let P : ℕ → Type 0 = IsLeftOver decor in
+    let digit : (d : ℕ) → d < 10 → P (48 + d) = λ d small. inr (omega arith, omega arith) in
+    number_holds P (inl (inl refl)) digit numbered gutter number fits
+
+pub number_before : (decor : DecorStyle) (numbered : Bool) (gutter number : ℕ) → number < 2 ^ 64 → All (IsBeforeSign decor) (shown_number numbered gutter number)
+number_before decor numbered gutter number fits =
+    let P : ℕ → Type 0 = IsBeforeSign decor in
+    let digit : (d : ℕ) → d < 10 → P (48 + d) = λ d small. inr (omega arith, omega arith) in
+    number_holds P (inl refl) digit numbered gutter number fits
+
+-- what stands in the gutter of a row that showed no line, once a number was put into it
+pub before_sign : (decor : DecorStyle) (gutter : ℕ) (number : List ℕ) (row : List Cell) → All (IsBeforeSign decor) (chars number) → ((c : ℕ) → c < gutter + 3 → is_stroke decor (slice_index_or row c SPACE).ch ≡ true) → (c : ℕ) → c < gutter + 3 → IsBeforeSign decor (slice_index_or (texted number row 0 (drawn LineNumber (chars number))) c SPACE).ch
+before_sign decor gutter [] row number_is strokes c left = inl (strokes c left)
+before_sign decor gutter (b ∷ bs) row number_is strokes c left =
+    let P : Cell → Type 0 = λ cell. IsBeforeSign decor cell.ch in
+    each_written P row 0 (gutter + 3) (drawn LineNumber (chars (b ∷ bs))) (λ k inside. inl (strokes k inside)) (All-drawn P LineNumber (chars (b ∷ bs)) number_is) c left
+
+-- what stands behind the gutter of a row that showed no line, once a number was put into it
+pub left_over : (decor : DecorStyle) (gutter : ℕ) (number : List ℕ) (row : List Cell) → All (IsLeftOver decor) (chars number) → ((c : ℕ) → gutter + 3 ≤ c → IsMarkOrSpace decor (slice_index_or row c SPACE).ch) → (c : ℕ) → gutter + 3 ≤ c → IsLeftOver decor (slice_index_or (texted number row 0 (drawn LineNumber (chars number))) c SPACE).ch
+left_over decor gutter [] row number_is marks c right = inl (marks c right)
+left_over decor gutter (b ∷ bs) row number_is marks c right =
+    let P : Cell → Type 0 = λ cell. IsLeftOver decor cell.ch in
+    let cells : List Cell = drawn LineNumber (chars (b ∷ bs)) in
+    let here : 0 + c ≡ c = omega arith in
+    elim (cases_lt c (length cells)) [
+      | inl inside ↦
+          let there : P (slice_index_or cells c SPACE) = All-drawn P LineNumber (chars (b ∷ bs)) number_is c SPACE inside in
+          subst (λ (k : ℕ). P (slice_index_or (written SPACE row 0 cells) k SPACE)) here (subst P (sym (slice_index_or-written_inside SPACE row 0 cells c SPACE inside)) there)
+      | inr past ↦
+          subst P (sym (slice_index_or-written_behind SPACE row 0 cells c SPACE (omega (arith, past)))) (inl (marks c right))
+    ]
