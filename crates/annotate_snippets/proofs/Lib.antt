@@ -16,4 +16,5 @@ pub mod SoleLemmas
 pub mod SuggestedLemmas
 pub mod SuggestionLemmas
 pub mod TitleLemmas
+pub mod TrustedLemmas
 pub mod WindowLemmas

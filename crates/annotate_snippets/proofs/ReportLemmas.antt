@@ -2,13 +2,13 @@
 use Rattle.snippet_parts.specs.Rows.{IsFreeCell}
 use Rattle.snippet_style.specs.Stylesheet.{is_plain_sheet}
 use Rattle.std.proofs.Common.{◌≡◌, ℕ, suc, ◌+◌, ◌<◌, ◌||◌, fold, Bool, true, false, not, List, [], ◌∷◌, ◌++◌, length, chars, take, get_or, Result, Ok, Err, refl, sym, ap, subst, ◌∙◌, arith, Option, None, Some, encode_utf8_all, inl, inr}
-use Rattle.std.specs.List.{All, AllZip, Contains, filter, flat_map}
+use Rattle.std.specs.List.{All, AllZip, filter, flat_map}
 use Rattle.std.specs.Result.{IfOk, MatchResult, IsErrAnd}
 use Rattle.std.specs.Cow.{cow_str_bytes}
 use Rattle.std.proofs.Math.Seq.{take-suc}
 use Rattle.std.proofs.lemmas.Bool.{cases_lt}
 use Rattle.std.proofs.lemmas.List.{append-nil, get_or_past}
-use Rattle.std.proofs.lemmas.List.Elements.{All-nil, All-cons, All-head, All-tail, All-append, All-map, All-weaker, All-get_or}
+use Rattle.std.proofs.lemmas.List.Elements.{All-nil, All-append, All-get_or}
 use Rattle.snippet_model.specs.declared.snippet.Group.{Group}
 use Rattle.snippet_model.specs.declared.snippet.Title.{Title}
 use Rattle.snippet_model.specs.declared.snippet.Element.{Element}
@@ -16,21 +16,19 @@ use Rattle.snippet_model.specs.declared.snippet.Element.TheVariants.{Message, Ca
 use Rattle.snippet_style.specs.Grid.{Cell, SPACE}
 use Rattle.snippet_style.specs.declared.role.LevelInner.{LevelInner}
 use Rattle.snippet_style.specs.declared.stylesheet.Stylesheet.{Stylesheet}
-use Rattle.snippet_style.specs.Print.{row_text, further_text, plain_text}
+use Rattle.snippet_style.specs.Print.{plain_text}
 use Rattle.snippet_style.specs.Woven.{Prints, IsWoven, links_behind, links_of}
 use Rattle.snippet_style.proofs.WovenLemmas.{IsWoven-from_prints, links_of-unlinked, plain_woven}
-use Rattle.snippet_text.specs.Normalized.{is_listed}
 use Rattle.snippet_model.specs.Trusted.{trusted_texts}
 use Rattle.std.specs.Option.{option_to_list}
 use Rattle.std.proofs.lemmas.Grind.{flat_map-append}
 use Rattle.snippet_text.specs.Normalized.{norm}
 use Rattle.snippet_model.specs.declared.snippet.Id.{Id}
 use Rattle.snippet_titles.specs.Title.{title_rows, text_links, id_links}
-use Rattle.snippet_titles.proofs.FreeLemmas.{IsFreeText}
 use Rattle.snippet_titles.proofs.LinkLemmas.{title_rows-links}
 use Rattle.snippet_parts.specs.Rows.{IsFree}
 use Rattle.annotate_snippets.specs.declared.renderer.Renderer.{Renderer}
-use Rattle.annotate_snippets.specs.Covered.{are_covered_elements, is_covered_title, is_covered_renderer, IsReportOf}
+use Rattle.annotate_snippets.specs.Covered.{are_covered_elements, is_covered_renderer, IsReportOf}
 use Rattle.annotate_snippets.specs.Gutter.{code_behind, depth_of_element, depth_of_group, gutter_of_element, gutter_of_report}
 use Rattle.annotate_snippets.specs.Drawn.{AreDrawable, IsGridOf, IsGridOfReport}
 use Rattle.annotate_snippets.specs.Page.{GroupPage, group_rows, ArePrinted, PrintsPage}
@@ -38,23 +36,8 @@ use Rattle.annotate_snippets.specs.Shown.{ShowsTitle, AreElementsShown, ShowsGro
 use Rattle.annotate_snippets.proofs.BodyLemmas.{IsBodyOf}
 use Rattle.annotate_snippets.proofs.CauseLemmas.{cause_body}
 use Rattle.annotate_snippets.proofs.SuggestionLemmas.{some_snippet, suggestions_body}
-use Rattle.annotate_snippets.proofs.TitleLemmas.{ShowsTitle-rows, free_title}
-
--- rows that hold no listed character
-free_texts : (rows : List (List Cell)) → All IsFree rows → All IsFreeText rows
-free_texts rows free =
-    All-weaker IsFree IsFreeText (λ row free_row. All-map (λ c. is_listed c ≡ false) (λ (cell : Cell). cell.ch) row (All-weaker IsFreeCell (λ cell. is_listed cell.ch ≡ false) (λ cell is. is.0) row free_row)) rows free
-
--- the text of free rows is free
-further_free : (rows : List (List Cell)) → All IsFreeText rows → All (λ c. is_listed c ≡ false) (further_text rows)
-further_free [] free = All-nil (λ c. is_listed c ≡ false)
-further_free (row ∷ rows) free =
-    All-append (λ c. is_listed c ≡ false) (10 ∷ row_text row) (further_text rows) (All-cons (λ c. is_listed c ≡ false) 10 (row_text row) refl (All-head IsFreeText row rows free)) (further_free rows (All-tail IsFreeText row rows free))
-
-text_free : (rows : List (List Cell)) → All IsFreeText rows → All (λ c. is_listed c ≡ false) (plain_text rows)
-text_free [] free = All-nil (λ c. is_listed c ≡ false)
-text_free (row ∷ rows) free =
-    All-append (λ c. is_listed c ≡ false) (row_text row) (further_text rows) (All-head IsFreeText row rows free) (further_free rows (All-tail IsFreeText row rows free))
+use Rattle.annotate_snippets.proofs.TitleLemmas.{title_shown}
+use Rattle.annotate_snippets.proofs.TrustedLemmas.{IsFreeRow, free_rows, free_text, free_title}
 
 -- free rows have no links
 free_unlinked : (rows : List (List Cell)) → All IsFree rows → links_of rows ≡ []
@@ -90,15 +73,6 @@ links_of_report r title elements groups of = by r.hyperlink refl
     by true is = rw is linked
     by false is = rw is (sym (no_links title.id))
 
--- free text has no listed characters but trusted ones
-free_but : (trusted : List (List ℕ)) (text : List ℕ) → All (λ c. is_listed c ≡ false) text → IsFreeBut trusted text
-free_but trusted text free =
-    All-weaker (λ c. is_listed c ≡ false) (λ c. is_listed c ≡ true → Contains (flat_map chars trusted) c) (λ c unlisted listed. absurd (clash (is_listed c) unlisted listed)) text free
-  where
-    clash : (b : Bool) → b ≡ false → b ≡ true → ⊥
-    clash true is_false is_true = cc
-    clash false is_false is_true = cc
-
 -- a covered renderer shows the numbers themselves
 numbers_shown : (r : Renderer) → is_covered_renderer r ≡ true → r.anonymized_snippet_line_numbers ≡ false
 numbers_shown r covered =
@@ -117,7 +91,7 @@ gutter_of_one r title es groups of unanonymized =
 depth_of_one : (title : Title) (es : List Element) (groups : List Group) (of : IsReportOf title es groups) → depth_of_group of.group ≡ fold depth_of_element 0 es
 depth_of_one title es groups of = ap (fold depth_of_element 0) of.elements_are
 
-module _ (r : Renderer) (groups : List Group) (level : LevelInner) (title : Title) (es : List Element) (leveled : levels_of groups ≡ level ∷ []) (of : IsReportOf title es groups) (unanonymized : r.anonymized_snippet_line_numbers ≡ false) (titled : is_covered_title title ≡ true) where
+module _ (r : Renderer) (groups : List Group) (level : LevelInner) (title : Title) (es : List Element) (leveled : levels_of groups ≡ level ∷ []) (of : IsReportOf title es groups) (unanonymized : r.anonymized_snippet_line_numbers ≡ false) where
   abbrev titles : List (List Cell)
   titles = title_rows r.hyperlink title
 
@@ -131,7 +105,7 @@ module _ (r : Renderer) (groups : List Group) (level : LevelInner) (title : Titl
         frame = body.frame;
         gutter_is = body.gutter_is ∙ sym wanted;
         code_is = body.code_is ∙ ap (λ n. code_behind n (fold depth_of_element 0 es)) (sym wanted) ∙ ap (code_behind gutter) (sym (depth_of_one title es groups of));
-        title = subst (λ t. ShowsTitle r.hyperlink gutter t titles) (sym of.title_is) (ShowsTitle-rows r.hyperlink gutter title titled);
+        title = subst (λ t. ShowsTitle r.hyperlink gutter t titles) (sym of.title_is) (title_shown r.hyperlink gutter title);
         elements = subst (λ xs. AreElementsShown r body.frame true (filter is_drawn xs) body.parts) (sym of.elements_are) body.shown;
       } in
       subst (λ gs. AllZip (ShowsGroup r gutter) gs (page ∷ [])) (sym of.groups_are) (shown, tt)
@@ -144,28 +118,28 @@ module _ (r : Renderer) (groups : List Group) (level : LevelInner) (title : Titl
         rows_are = added ∙ ap (λ rs. titles ++ rs) body.rows_are;
         level_is = leveled;
         shows = body_shown below body;
-        free = free_but (trusted_texts groups) (plain_text rows) (text_free rows (subst (All IsFreeText) (sym added) (All-append IsFreeText titles below (free_title r.hyperlink title titled) (free_texts below body.free))));
+        free = free_text (trusted_texts groups) rows (subst (All (IsFreeRow (trusted_texts groups))) (sym added) (All-append (IsFreeRow (trusted_texts groups)) titles below (free_title r.hyperlink title es groups of) (free_rows (trusted_texts groups) below body.free)));
         links = ap links_of added ∙ flat_map-append (λ row. links_behind None row) titles below ∙ ap (λ urls. links_of titles ++ urls) (free_unlinked below body.free) ∙ append-nil (links_of titles) ∙ title_rows-links r.hyperlink title ∙ sym (links_of_report r title es groups of);
       }
 
 -- the grid of a covered report is a page of it
-pub grid_of_report : (r : Renderer) (groups : List Group) (level : LevelInner) (title : Title) (es : List Element) → levels_of groups ≡ level ∷ [] → IsReportOf title es groups → is_covered_renderer r ≡ true → is_covered_title title ≡ true → are_covered_elements es ≡ true → AreDrawable es → (rows : List (List Cell)) → IsGridOf r.decor_style r.hyperlink r.term_width title es rows → IsGridOfReport r groups level rows
-grid_of_report r groups level title [] leveled of drawing titled covered drawable rows drawn =
+pub grid_of_report : (r : Renderer) (groups : List Group) (level : LevelInner) (title : Title) (es : List Element) → levels_of groups ≡ level ∷ [] → IsReportOf title es groups → is_covered_renderer r ≡ true → are_covered_elements es ≡ true → AreDrawable es → (rows : List (List Cell)) → IsGridOf r.decor_style r.hyperlink r.term_width title es rows → IsGridOfReport r groups level rows
+grid_of_report r groups level title [] leveled of drawing covered drawable rows drawn =
     let plain = numbers_shown r drawing in
     let body = suggestions_body r plain [] refl drawable (some_snippet title.text of.group.elements) (title_rows r.hyperlink title) rows drawn in
-    grid_of_body r groups level title [] leveled of plain titled rows body.0 body.1 body.2
-grid_of_report r groups level title (Cause s ∷ []) leveled of drawing titled covered drawable rows drawn =
+    grid_of_body r groups level title [] leveled of plain rows body.0 body.1 body.2
+grid_of_report r groups level title (Cause s ∷ []) leveled of drawing covered drawable rows drawn =
     let plain = numbers_shown r drawing in
     let body = cause_body r plain s drawable.0 (title_rows r.hyperlink title) rows drawn in
-    grid_of_body r groups level title (Cause s ∷ []) leveled of plain titled rows body.0 body.1 body.2
-grid_of_report r groups level title (Cause s ∷ e ∷ es) leveled of drawing titled covered drawable rows drawn = cc
-grid_of_report r groups level title (Suggestion s ∷ es) leveled of drawing titled covered drawable rows drawn =
+    grid_of_body r groups level title (Cause s ∷ []) leveled of plain rows body.0 body.1 body.2
+grid_of_report r groups level title (Cause s ∷ e ∷ es) leveled of drawing covered drawable rows drawn = cc
+grid_of_report r groups level title (Suggestion s ∷ es) leveled of drawing covered drawable rows drawn =
     let plain = numbers_shown r drawing in
     let body = suggestions_body r plain (Suggestion s ∷ es) covered drawable s (title_rows r.hyperlink title) rows drawn in
-    grid_of_body r groups level title (Suggestion s ∷ es) leveled of plain titled rows body.0 body.1 body.2
-grid_of_report r groups level title (Message message ∷ es) leveled of drawing titled covered drawable rows drawn = cc
-grid_of_report r groups level title (Origin origin ∷ es) leveled of drawing titled covered drawable rows drawn = cc
-grid_of_report r groups level title (Padding padding ∷ es) leveled of drawing titled covered drawable rows drawn = cc
+    grid_of_body r groups level title (Suggestion s ∷ es) leveled of plain rows body.0 body.1 body.2
+grid_of_report r groups level title (Message message ∷ es) leveled of drawing covered drawable rows drawn = cc
+grid_of_report r groups level title (Origin origin ∷ es) leveled of drawing covered drawable rows drawn = cc
+grid_of_report r groups level title (Padding padding ∷ es) leveled of drawing covered drawable rows drawn = cc
 
 -- what holds of the items of two lists, place by place, and what follows from it
 pub AllZip-weaker : {A B : Type 0} (P Q : A → B → Type 0) → ((x : A) (y : B) → P x y → Q x y) → (xs : List A) (ys : List B) → AllZip P xs ys → AllZip Q xs ys

@@ -1,11 +1,10 @@
 -- A title's rows hold its text.
-use Rattle.std.proofs.Common.{◌≡◌, ℕ, ◌+◌, ◌≤◌, ◌==◌, ◌&&◌, nat_le, nat_lt, Bool, true, false, not, Option, None, Some, List, [], ◌∷◌, ◌++◌, map, length, replicate, chars, get_or, if◌then◌else◌, refl, sym, ap, ◌∙◌, arith}
-use Rattle.std.specs.List.{All, slice_split}
+use Rattle.std.proofs.Common.{◌≡◌, ℕ, ◌+◌, ◌≤◌, ◌==◌, ◌&&◌, nat_le, nat_lt, Bool, true, false, Option, None, Some, List, [], ◌∷◌, ◌++◌, map, length, replicate, chars, get_or, if◌then◌else◌, refl, sym, ap, ◌∙◌, arith}
+use Rattle.std.specs.List.{slice_split}
 use Rattle.std.specs.Char.{is_ascii_alphanumeric}
 use Rattle.std.specs.Cow.{cow_str_bytes}
 use Rattle.std.specs.declared.alloc.Global.{Global}
 use Rattle.std.specs.declared.borrow.CowStr.{CowStr}
-use Rattle.std.proofs.lemmas.Bool.{and_parts}
 use Rattle.std.proofs.lemmas.List.{append-nil, get_or_past}
 use Rattle.snippet_style.specs.Grid.{Cell, SPACE}
 use Rattle.snippet_style.specs.Print.{row_text}
@@ -23,10 +22,8 @@ use Rattle.snippet_titles.specs.Shown as heading
 use Rattle.snippet_titles.specs.Shown.{heading_texts}
 use Rattle.snippet_titles.specs.Title.{id_address, id_chars, title_rows}
 use Rattle.snippet_titles.specs.declared.style.TitleStyle.TheVariants as style
-use Rattle.snippet_titles.proofs.FreeLemmas.{IsFreeText, heading_rows-untrusted}
 use Rattle.snippet_titles.proofs.PlaceLemmas.{heading_rows-places}
 use Rattle.snippet_titles.proofs.TextLemmas.{heading_rows-count, heading_rows-texts, row_text-spaces}
-use Rattle.annotate_snippets.specs.Covered.{is_covered_title, is_standard}
 use Rattle.annotate_snippets.specs.Shown.{drawn_text, is_hidden, bracketed, shown_id, title_label, texts_below, title_texts, id_start, LinksId, ShowsTitle}
 
 -- whether a name is hidden
@@ -88,20 +85,3 @@ title_shown hyperlink gutter title =
       further = λ i past c left. ap (λ (row : List Cell). is_ascii_alphanumeric (get_or row c SPACE).ch) (get_or_past rows i [] (omega (arith, count, past)));
       links = LinksId-rows hyperlink title;
     }
-
--- no cell of a title's rows holds a listed character where its text isn't trusted
-pub title_free : (hyperlink : Bool) (title : Title) → title.allows_styling ≡ false → All IsFreeText (title_rows hyperlink title)
-title_free hyperlink title untrusted =
-    heading_rows-untrusted hyperlink style.Title (heading_of_title title) untrusted
-
--- so do those of a covered title
-not_not : (b : Bool) → not b ≡ true → b ≡ false
-not_not true is = cc
-not_not false is = refl
-
-pub ShowsTitle-rows : (hyperlink : Bool) (gutter : ℕ) (title : Title) → is_covered_title title ≡ true → ShowsTitle hyperlink gutter (Some title) (title_rows hyperlink title)
-ShowsTitle-rows hyperlink gutter title covered = title_shown hyperlink gutter title
-
-pub free_title : (hyperlink : Bool) (title : Title) → is_covered_title title ≡ true → All IsFreeText (title_rows hyperlink title)
-free_title hyperlink title covered =
-    title_free hyperlink title (not_not title.allows_styling (and_parts (is_standard title.level.name) (not title.allows_styling) covered).1)

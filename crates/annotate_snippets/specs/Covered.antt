@@ -1,8 +1,6 @@
 -- Which reports are drawn so far; any other is refused as not done yet.
 use Rattle.std.specs.Prelude.{◌≡◌, Bool, true, false, not, ◌&&◌, ◌||◌, List, [], ◌∷◌, Option, Some, None, is_none}
 use Rattle.std.specs.List.{list_all}
-use Rattle.snippet_model.specs.declared.level.LevelName.{LevelName}
-use Rattle.snippet_model.specs.declared.level.LevelName.TheVariants.{Standard, Hidden, Own}
 use Rattle.snippet_model.specs.declared.snippet.Title.{Title}
 use Rattle.snippet_model.specs.declared.snippet.Group.{Group}
 use Rattle.snippet_model.specs.declared.snippet.Element.{Element}
@@ -27,24 +25,15 @@ are_covered_elements (Message message ∷ es) = false
 are_covered_elements (Origin origin ∷ es) = false
 are_covered_elements (Padding padding ∷ es) = false
 
-abbrev pub is_standard : LevelName → Bool
-is_standard Standard = true
-is_standard Hidden = false
-is_standard (Own name) = false
-
--- a title that is drawn so far: a primary one of a standard level
-abbrev pub is_covered_title : Title → Bool
-is_covered_title title = is_standard title.level.name && not title.allows_styling
-
 -- a renderer that draws so far: one with no switch, of any width, strokes and stylesheet, with links or without
 abbrev pub is_covered_renderer : Renderer → Bool
 is_covered_renderer r =
     not (r.anonymized_origin_line_numbers || r.anonymized_snippet_line_numbers || r.short_message || r.no_graphics)
 
--- a group that is drawn so far: one with a title, and with elements that are
+-- a group that is drawn so far: one with a title, of any kind, and with elements that are
 abbrev pub is_covered_group : Option Title → List Element → Bool
 is_covered_group None es = false
-is_covered_group (Some title) es = is_covered_title title && are_covered_elements es
+is_covered_group (Some title) es = are_covered_elements es
 
 -- whether this renderer draws a report so far: one group
 abbrev pub is_covered : Renderer → List Group → Bool

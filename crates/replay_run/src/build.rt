@@ -65,7 +65,7 @@ fn group_of<'v>(alloc: Global, group: &case::Group<'v>) -> Result<Group<'v>, Ren
     let case::Head::Titled(title) = group.head else {
         return Err(RenderError::NotYet);
     };
-    let built = Group::with_title(alloc, title_of(title)?);
+    let built = Group::with_title(alloc, title_of(title));
     with_elements(alloc, built, &group.elements)
 }
 
@@ -90,30 +90,33 @@ fn with_elements<'v>(
 }
 
 /// A title.
-fn title_of<'v>(title: case::Title<'v>) -> Result<Title<'v>, RenderError>
-    ensures fits { IfOk result TitleFits }
+fn title_of<'v>(title: case::Title<'v>) -> Title<'v>
+    ensures fits { TitleFits result }
 {
-    if !title.is_primary {
-        return Err(RenderError::NotYet);
-    }
-    let level = level_of(title.level)?;
-    let mut built = level.primary_title(title.text.text);
+    let level = level_of(title.level);
+    let mut built = if title.is_primary {
+        level.primary_title(title.text.text)
+    } else {
+        level.secondary_title(title.text.text)
+    };
     if let Some(id) = title.id {
         built = built.id(id.text);
     }
     if let Some(url) = title.url {
         built = built.id_url(url.text);
     }
-    Ok(built)
+    built
 }
 
 /// A level.
-fn level_of<'v>(level: case::Level<'v>) -> Result<Level<'v>, RenderError>
-    ensures fits { IfOk result LevelFits }
+fn level_of<'v>(level: case::Level<'v>) -> Level<'v>
+    ensures fits { LevelFits result }
 {
+    let standard = standard_level(level.kind);
     match level.name {
-        LevelName::Standard => Ok(standard_level(level.kind)),
-        LevelName::Hidden | LevelName::Own(_) => Err(RenderError::NotYet),
+        LevelName::Standard => standard,
+        LevelName::Hidden => standard.no_name(),
+        LevelName::Own(name) => standard.with_name(OptionCow::from(name.text)),
     }
 }
 

@@ -8,7 +8,6 @@ ghost use Rattle.annotate_snippets.specs.Covered as spec;
 ghost use Rattle.annotate_snippets.specs.Shown.{levels_of};
 
 use crate::renderer::Renderer;
-use snippet_model::level::LevelName;
 use snippet_model::snippet::{Annotation, Element, Group, Snippet, Title};
 use snippet_style::LevelInner;
 
@@ -21,7 +20,6 @@ pub fn covered<'r, 'a>(renderer: &Renderer, groups: &'r [Group<'a>]) -> Option<C
     ensures level { IfSome result (λ parts. levels_of groups.now ≡ parts.0 ∷ []) }
     ensures parts { IfSome result (λ parts. IsReportOf parts.1.now parts.2.now groups.now) }
     ensures renderer { IfSome result (λ parts. spec.is_covered_renderer renderer.now ≡ true) }
-    ensures title { IfSome result (λ parts. spec.is_covered_title parts.1.now ≡ true) }
     ensures elements { IfSome result (λ parts. spec.are_covered_elements parts.2.now ≡ true) }
 {
     let [group] = groups else {
@@ -31,7 +29,7 @@ pub fn covered<'r, 'a>(renderer: &Renderer, groups: &'r [Group<'a>]) -> Option<C
         return None;
     };
     let elements = &group.elements;
-    if is_covered_renderer(renderer) && is_covered_title(title) && are_covered_elements(elements) {
+    if is_covered_renderer(renderer) && are_covered_elements(elements) {
         Some((group.level, title, elements))
     } else {
         None
@@ -80,21 +78,4 @@ fn is_covered_renderer(renderer: &Renderer) -> bool
         || renderer.anonymized_snippet_line_numbers
         || renderer.short_message
         || renderer.no_graphics)
-}
-
-/// Whether a title is drawn so far: a primary one of a standard level.
-fn is_covered_title(title: &Title) -> bool
-    ensures value { result ≡ spec.is_covered_title title.now }
-{
-    is_standard(&title.level.name) && !title.allows_styling
-}
-
-/// Whether a level's name is that of its kind.
-fn is_standard(name: &LevelName) -> bool
-    ensures value { result ≡ spec.is_standard name.now }
-{
-    match name {
-        LevelName::Standard => true,
-        LevelName::Hidden | LevelName::Own(_) => false,
-    }
 }

@@ -6,10 +6,9 @@
 //! 1 | let x = 1;
 //!   |     ^
 //! ```
-ghost use Rattle.std.specs.Prelude.{◌≡◌, ◌+◌, ◌<◌, ◌^◌, length, OnOk, IfOk, map, string_bytes};
+ghost use Rattle.std.specs.Prelude.{◌≡◌, ◌+◌, ◌<◌, ◌^◌, OnOk, IfOk, map, string_bytes};
 ghost use Rattle.std.specs.List.{AllZip};
 ghost use Rattle.snippet_model.specs.Fits.{TitleFits};
-ghost use Rattle.snippet_model.specs.Level.{name_of};
 ghost use Rattle.annotate_snippets.specs.Drawn.{AddsCause, AreDrawable, IsDrawable, IsGridOf};
 ghost use Rattle.annotate_snippets.specs.Gutter.{code_behind};
 ghost use Rattle.snippet_style.specs.Woven.{Prints};
@@ -33,7 +32,6 @@ pub fn page<'a>(
     title: &'a Title<'a>,
     elements: &'a [Element<'a>],
 ) -> Result<StyledBuffer<'a>, AllocError>
-    requires named { 0 < length (name_of title.now.level) }
     requires fits { TitleFits title.now }
     requires elements { AreDrawable elements.now }
     ensures drawn { IfOk result (λ grid. IsGridOf decor hyperlink width title.now elements.now grid) }

@@ -21,4 +21,4 @@ returns-clause-drawn c =
     let width = c.args.self.now.term_width in
     let drawable = drawable-of_report title elements c.args.groups.now known.parts known.elements c.requires.fits (sym c.in_default.ensures.value) in
     let drawn : IsGridOf decor links width title elements c.in_ok-grid.grid = ok_had (IsGridOf decor links width title elements) c.map_err.result c.in_ok-grid.grid c.in_ok-grid.was (IfOk-map_err (IsGridOf decor links width title elements) _ c.page.result c.map_err.result c.page.ensures.drawn c.map_err.ensures.cases) in
-    grid_of_report c.args.self.now c.args.groups.now c.in-Some-covered.level title elements known.level known.parts known.renderer known.title known.elements drawable c.in_ok-grid.grid drawn
+    grid_of_report c.args.self.now c.args.groups.now c.in-Some-covered.level title elements known.level known.parts known.renderer known.elements drawable c.in_ok-grid.grid drawn
