@@ -1,5 +1,5 @@
 -- The rows of lines, one after another.
-use Rattle.std.proofs.Common.{◌≡◌, ◌≢◌, ℕ, ◌+◌, ◌<◌, ◌≤◌, ◌^◌, ◌==◌, ◌&&◌, true, false, Bool, None, List, [], ◌∷◌, ◌++◌, length, map, get_or, refl, sym, ap, ◌∙◌, subst, arith, inl, inr, All, chars, zero, suc, drop}
+use Rattle.std.proofs.Common.{◌≡◌, ◌≢◌, ℕ, ◌+◌, ◌<◌, ◌≤◌, ◌^◌, ◌==◌, ◌&&◌, true, false, Bool, None, List, [], ◌∷◌, ◌++◌, length, map, get_or, refl, sym, ap, ◌∙◌, subst, arith, inl, inr, All, chars, drop}
 use Rattle.std.specs.Prelude.{filter, not}
 use Rattle.std.specs.List.{slice_index_or}
 use Rattle.std.specs.Char.{is_ascii_alphanumeric}
@@ -19,7 +19,7 @@ use Rattle.snippet_strokes.specs.declared.layout.Layout.{Layout}
 use Rattle.snippet_parts.specs.declared.margin.Margin.{Margin}
 use Rattle.snippet_parts.specs.Margin.{bounds_of}
 use Rattle.snippet_parts.specs.Window.{dropped_part}
-use Rattle.snippet_style.specs.Glyphs.{placeholder_of, separator_of}
+use Rattle.snippet_style.specs.Glyphs.{separator_of}
 use Rattle.snippet_text.specs.Width.{width_of}
 use Rattle.snippet_parts.specs.Measures.{StandsClear, is_bar}
 use Rattle.snippet_strokes.specs.Entries.{are_plain, is_end_part, shifted}

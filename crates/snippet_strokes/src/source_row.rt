@@ -11,8 +11,8 @@ ghost use Rattle.snippet_text.specs.Normalized.{is_listed, norm};
 ghost use Rattle.snippet_text.specs.Width.{width_of};
 
 use crate::layout::Layout;
-use snippet_lines::number_text;
 use crate::row::begin_row;
+use snippet_lines::number_text;
 use snippet_parts::{AnnotatedLineInfo, LineWindow, Margin, near_part, window_of};
 use snippet_style::{ElementStyle, StyledBuffer};
 use snippet_text::{normalized, str_width};

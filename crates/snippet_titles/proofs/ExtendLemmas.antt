@@ -1,7 +1,7 @@
 -- What a grid becomes where a text is added to its last row.
 use Rattle.std.proofs.Common.{◌≡◌, ℕ, ◌+◌, ◌<◌, List, [], ◌∷◌, ◌++◌, length, take, refl, sym, ap, ◌∙◌, arith}
 use Rattle.std.specs.Str.{chars}
-use Rattle.std.proofs.lemmas.List.{take_more, take_all, length-take, append-nil, get_or_past, length-append}
+use Rattle.std.proofs.lemmas.List.{take_more, take_all, length-take, append-nil, length-append}
 use Rattle.std.proofs.Math.Seq.{take-append_seam, get_or-append_seam}
 use Rattle.snippet_style.specs.Grid.{Cell, SPACE, drawn, row_at, cells_written}
 use Rattle.snippet_style.specs.declared.role.ElementStyle.{ElementStyle}

@@ -1,4 +1,4 @@
-use Rattle.std.proofs.Common.{◌≡◌, ◌∙◌, ◌↔◌, ◌<◌, ◌++◌, ◌∷◌, [], List, Bool, true, false, IsTrue, map, take, length, get_or, refl, sym, ap, arith, string_bytes}
+use Rattle.std.proofs.Common.{◌≡◌, ◌∙◌, ◌↔◌, ◌<◌, ◌++◌, ◌∷◌, [], Bool, true, false, IsTrue, map, take, length, get_or, refl, sym, ap, arith, string_bytes}
 use Rattle.std.proofs.lemmas.List.{map_more, get_or-map, take_all}
 use Rattle.replay_run.specs.declared.case.Text.{Text}
 use Rattle.replay_run.proofs.expected.are_equal.Goals as goal

@@ -1,4 +1,4 @@
-use Rattle.std.proofs.Common.{◌≡◌, refl, ap, sym, ◌∙◌, arith, false, length, chars}
+use Rattle.std.proofs.Common.{refl, ap, ◌∙◌, arith, length, chars}
 use Rattle.std.specs.List.{list_any}
 use Rattle.std.proofs.lemmas.List.Folds.{list_any_none}
 use Rattle.snippet_parts.specs.Margin.{bounds_of}
