@@ -11,7 +11,9 @@ use Rattle.std.proofs.lemmas.Str.{chars-IsAscii, IsAscii-append}
 use Rattle.std.proofs.lemmas.Str.Ascii.{IsAscii-from_all}
 use Rattle.std.specs.Str.{IsAscii}
 use Rattle.snippet_text.specs.Normalized.{is_listed}
-use Rattle.snippet_lines.specs.Number.{set_right, shown_number}
+use Rattle.snippet_lines.specs.Number.{number_width, set_right, shown_number}
+use Rattle.snippet_lines.specs.declared.number.LineNumbers.{LineNumbers}
+use Rattle.snippet_lines.specs.declared.number.LineNumbers.TheVariants.{Shown, Anonymized, Hidden}
 
 -- copies of the space's bytes
 repeat-space : (n : ℕ) → repeat n (encode_utf8 32) ≡ replicate n 32
@@ -54,11 +56,14 @@ decimal_unlisted n fits =
     decimal_by_steps (λ _ ds. All P ds) (λ m one. All-cons P (48 + m) [] (digit_unlisted m one) (All-nil P)) (λ m ds more so_far. All-push P ds (48 + m % 10) so_far (digit_unlisted (m % 10) (omega arith))) n fits
 
 -- what the gutter shows holds no listed character
-pub shown_number_unlisted : (numbered : Bool) (gutter number : ℕ) → number < 2 ^ 64 → All (λ c. is_listed c ≡ false) (shown_number numbered gutter number)
-shown_number_unlisted true gutter number fits =
+pub shown_number_unlisted : (numbers : LineNumbers) (gutter number : ℕ) → number < 2 ^ 64 → All (λ c. is_listed c ≡ false) (shown_number numbers gutter number)
+shown_number_unlisted Shown gutter number fits =
     let P : ℕ → Type 0 = λ c. is_listed c ≡ false in
     All-append P (replicate (gutter - length (decimal number)) 32) (decimal number) (All-replicate P (gutter - length (decimal number)) 32 refl) (decimal_unlisted number fits)
-shown_number_unlisted false gutter number fits =
+shown_number_unlisted Anonymized gutter number fits =
+    let P : ℕ → Type 0 = λ c. is_listed c ≡ false in
+    All-append P (replicate (gutter - 2) 32) (76 ∷ 76 ∷ []) (All-replicate P (gutter - 2) 32 refl) (All-cons P 76 (76 ∷ []) refl (All-cons P 76 [] refl (All-nil P)))
+shown_number_unlisted Hidden gutter number fits =
     let P : ℕ → Type 0 = λ c. is_listed c ≡ false in
     All-replicate P gutter 32 refl
 
@@ -66,14 +71,17 @@ spaces_ascii : (n : ℕ) → IsAscii (replicate n 32)
 spaces_ascii n = let P : ℕ → Type 0 = λ b. b < 128 in IsAscii-from_all (replicate n 32) (All-replicate P n 32 (omega arith))
 
 -- its bytes are its characters
-shown_number_ascii : (numbered : Bool) (gutter number : ℕ) → number < 2 ^ 64 → IsAscii (shown_number numbered gutter number)
-shown_number_ascii true gutter number fits =
+shown_number_ascii : (numbers : LineNumbers) (gutter number : ℕ) → number < 2 ^ 64 → IsAscii (shown_number numbers gutter number)
+shown_number_ascii Shown gutter number fits =
     IsAscii-append (replicate (gutter - length (decimal number)) 32) (decimal number) (spaces_ascii (gutter - length (decimal number))) (IsAscii-decimal number fits)
-shown_number_ascii false gutter number fits = spaces_ascii gutter
+shown_number_ascii Anonymized gutter number fits =
+    let P : ℕ → Type 0 = λ b. b < 128 in
+    IsAscii-append (replicate (gutter - 2) 32) (76 ∷ 76 ∷ []) (spaces_ascii (gutter - 2)) (IsAscii-from_all (76 ∷ 76 ∷ []) (All-cons P 76 (76 ∷ []) (omega arith) (All-cons P 76 [] (omega arith) (All-nil P))))
+shown_number_ascii Hidden gutter number fits = spaces_ascii gutter
 
-pub chars-shown_number : (numbered : Bool) (gutter number : ℕ) → number < 2 ^ 64 → chars (shown_number numbered gutter number) ≡ shown_number numbered gutter number
-chars-shown_number numbered gutter number fits =
-    chars-IsAscii (shown_number numbered gutter number) (shown_number_ascii numbered gutter number fits)
+pub chars-shown_number : (numbers : LineNumbers) (gutter number : ℕ) → number < 2 ^ 64 → chars (shown_number numbers gutter number) ≡ shown_number numbers gutter number
+chars-shown_number numbers gutter number fits =
+    chars-IsAscii (shown_number numbers gutter number) (shown_number_ascii numbers gutter number fits)
 
 -- a smaller number has no more digits
 pub length-decimal_monotone : (m n : ℕ) → m ≤ n → n < 2 ^ 64 → length (decimal m) ≤ length (decimal n)
@@ -88,8 +96,17 @@ length-decimal_monotone m n less fits =
     ] in
     decimal_by_steps P last more n fits fits m less
 
--- a number that fits the gutter fills it
-pub length-shown_number : (numbered : Bool) (gutter number : ℕ) → length (decimal number) ≤ gutter → length (shown_number numbered gutter number) ≡ gutter
-length-shown_number true gutter number fits =
+-- what fits the gutter fills it
+pub length-shown_number : (numbers : LineNumbers) (gutter number : ℕ) → number_width numbers number ≤ gutter → length (shown_number numbers gutter number) ≡ gutter
+length-shown_number Shown gutter number fits =
     omega (arith, length-append (replicate (gutter - length (decimal number)) 32) (decimal number), length-replicate {A = ℕ} (gutter - length (decimal number)) 32)
-length-shown_number false gutter number fits = length-replicate {A = ℕ} gutter 32
+length-shown_number Anonymized gutter number fits =
+    let letters : List ℕ = 76 ∷ 76 ∷ [] in
+    omega (arith, length-append {A = ℕ} (replicate (gutter - 2) 32) letters, length-replicate {A = ℕ} (gutter - 2) 32)
+length-shown_number Hidden gutter number fits = length-replicate {A = ℕ} gutter 32
+
+-- a smaller number needs no more cells
+pub number_width_monotone : (numbers : LineNumbers) (m n : ℕ) → m ≤ n → n < 2 ^ 64 → number_width numbers m ≤ number_width numbers n
+number_width_monotone Shown m n less fits = length-decimal_monotone m n less fits
+number_width_monotone Anonymized m n less fits = omega arith
+number_width_monotone Hidden m n less fits = omega arith

@@ -10,6 +10,6 @@ pub mod span;
 
 pub use counts::{line_feed_count, newline_count_before};
 pub use lines::{CursorLines, EndLine, newline_count};
-pub use number::{gutter_width, number_text};
+pub use number::{LineNumbers, number_text};
 pub use place::Loc;
 pub use span::{SpanFault, check_span};

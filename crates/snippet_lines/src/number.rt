@@ -1,13 +1,39 @@
 //! Line numbers, as the gutter shows them.
-ghost use Rattle.std.specs.Prelude.{◌≡◌, IfOk, length, string_bytes};
+ghost use Rattle.std.specs.Prelude.{◌≡◌, ◌≤◌, IfOk, codes, length, string_bytes};
 ghost use Rattle.std.specs.Fmt.{decimal};
-ghost use Rattle.snippet_lines.specs.Number.{shown_number};
+ghost use Rattle.snippet_lines.specs.Number.{number_width, set_right, shown_number};
 
 use std::alloc::{AllocError, Global};
 
+/// What the gutter shows beside lines.
+#[derive(Clone, Copy, Debug, PartialEq, Eq)]
+pub enum LineNumbers {
+    /// Each line's number.
+    Shown,
+    /// `LL` in place of each number, so that texts don't change where lines move.
+    Anonymized,
+    /// Nothing.
+    Hidden,
+}
+
+impl LineNumbers {
+    /// The number of cells that the gutter needs, where this is the greatest number.
+    pub fn width(self, number: usize) -> usize
+        ensures value { result ≡ number_width self number }
+        ensures small { result ≤ 20 }
+    {
+        match self {
+            LineNumbers::Shown => gutter_width(number),
+            LineNumbers::Anonymized => 2,
+            LineNumbers::Hidden => 0,
+        }
+    }
+}
+
 /// The number of cells that a line's number takes: its decimal digits.
-pub fn gutter_width(number: usize) -> usize
+fn gutter_width(number: usize) -> usize
     ensures value { result ≡ length (decimal number) }
+    ensures small { result ≤ 20 }
 {
     let mut width = 1;
     let mut rest = number;
@@ -18,23 +44,31 @@ pub fn gutter_width(number: usize) -> usize
     width
 }
 
-/// What stands in the gutter beside a line: its number, set right in `gutter` cells, or spaces where lines have no
-/// numbers.
+/// What stands in the gutter beside a line: its number or `LL`, set right in `gutter` cells, or spaces.
 ///
 /// # Errors
 ///
 /// There is no memory for the text.
 pub fn number_text(
     alloc: Global,
-    numbered: bool,
+    numbers: LineNumbers,
     gutter: usize,
     number: usize,
 ) -> Result<String, AllocError>
-    ensures text { IfOk result (λ text. string_bytes text ≡ shown_number numbered gutter number) }
+    ensures text { IfOk result (λ text. string_bytes text ≡ shown_number numbers gutter number) }
 {
-    if numbered {
-        format!(in alloc; "{number:>gutter$}")
-    } else {
-        " ".repeat(alloc, gutter)
+    match numbers {
+        LineNumbers::Shown => format!(in alloc; "{number:>gutter$}"),
+        LineNumbers::Anonymized => anonymized_text(alloc, gutter),
+        LineNumbers::Hidden => " ".repeat(alloc, gutter),
     }
+}
+
+/// The text `LL`, set right in `gutter` cells.
+fn anonymized_text(alloc: Global, gutter: usize) -> Result<String, AllocError>
+    ensures text { IfOk result (λ text. string_bytes text ≡ set_right gutter (codes "LL")) }
+{
+    let mut text = " ".repeat(alloc, gutter.saturating_sub(2))?;
+    text.push_str("LL")?;
+    Ok(text)
 }

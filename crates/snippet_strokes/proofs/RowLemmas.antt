@@ -17,7 +17,7 @@ use Rattle.snippet_parts.specs.Rows.{IsFreeCell}
 use Rattle.snippet_strokes.proofs.DrawLemmas.{free_drawn}
 use Rattle.snippet_strokes.specs.declared.layout.Layout.{Layout}
 use Rattle.snippet_parts.specs.Rows.{HasNoNumber, IsFree}
-use Rattle.snippet_strokes.specs.Rows.{separator_row, closing_row, bare_row, first_row, IsSourceRow, AddsSourceRow, with_cells}
+use Rattle.snippet_strokes.specs.Rows.{separator_row, closing_row, bare_row, IsSourceRow, AddsSourceRow, with_cells}
 
 -- writing into an empty row
 written-nil : (at : ℕ) (cells : List Cell) → written SPACE [] at cells ≡ replicate at SPACE ++ cells
@@ -158,41 +158,6 @@ pub file_start_short : (decor : DecorStyle) (first : Bool) → length (file_star
 file_start_short Ascii first = omega arith
 file_start_short Unicode true = omega arith
 file_start_short Unicode false = omega arith
-
-free_file_start : (first : Bool) → All (λ c. is_listed c ≡ false) (file_start_of Unicode first)
-free_file_start true =
-    let P : ℕ → Type 0 = λ c. is_listed c ≡ false in
-    All-cons P 32 (0x256D ∷ 0x25B8 ∷ 32 ∷ []) refl (All-cons P 0x256D (0x25B8 ∷ 32 ∷ []) refl (All-cons P 0x25B8 (32 ∷ []) refl (All-cons P 32 [] refl (All-nil P))))
-free_file_start false =
-    let P : ℕ → Type 0 = λ c. is_listed c ≡ false in
-    All-cons P 32 (0x251C ∷ 0x25B8 ∷ 32 ∷ []) refl (All-cons P 0x251C (0x25B8 ∷ 32 ∷ []) refl (All-cons P 0x25B8 (32 ∷ []) refl (All-cons P 32 [] refl (All-nil P))))
-
-pub first_row-ascii : (first : Bool) (gutter : ℕ) → first_row Ascii first gutter ≡ separator_row Ascii gutter
-first_row-ascii first gutter = refl
-
-pub free_first_row : (decor : DecorStyle) (first : Bool) (gutter : ℕ) → IsFree (first_row decor first gutter)
-free_first_row Ascii first gutter = free_separator_row Ascii gutter
-free_first_row Unicode first gutter = free_led gutter (file_start_of Unicode first) (free_file_start first)
-
--- up to the separator's cell the row that a snippet begins with has spaces, but for that cell in ASCII
-first_row_left : (first : Bool) (gutter c : ℕ) → c ≤ gutter → (slice_index_or (first_row Unicode first gutter) c SPACE).ch ≡ 32
-first_row_left first gutter c left =
-    elim (cases_lt c gutter) [
-      | inl before ↦ ap (λ (cell : Cell). cell.ch) (led_before gutter c (drawn LineNumber (file_start_of Unicode first)) before)
-      | inr at ↦ at_gutter first (omega (arith, at, left))
-    ]
-  where
-    at_gutter : (first : Bool) → c ≡ gutter → (slice_index_or (first_row Unicode first gutter) c SPACE).ch ≡ 32
-    at_gutter true here =
-        ap (λ (cell : Cell). cell.ch) (get_or_at (replicate gutter SPACE) (unlinked_cell LineNumber 32) (drawn LineNumber (0x256D ∷ 0x25B8 ∷ 32 ∷ [])) SPACE c (length-replicate gutter SPACE ∙ sym here))
-    at_gutter false here =
-        ap (λ (cell : Cell). cell.ch) (get_or_at (replicate gutter SPACE) (unlinked_cell LineNumber 32) (drawn LineNumber (0x251C ∷ 0x25B8 ∷ 32 ∷ [])) SPACE c (length-replicate gutter SPACE ∙ sym here))
-
--- so it can't be taken for a source row
-pub HasNoNumber-first_row : (decor : DecorStyle) (first : Bool) (gutter : ℕ) → HasNoNumber gutter (first_row decor first gutter)
-HasNoNumber-first_row Ascii first gutter c left =
-    ap (λ (cell : Cell). is_ascii_alphanumeric cell.ch) (separator_row_blank Ascii gutter c (λ same. omega (arith, same, left)))
-HasNoNumber-first_row Unicode first gutter c left = ap is_ascii_alphanumeric (first_row_left first gutter c left)
 
 -- a write of free cells keeps a row free
 pub free_written : (row : List Cell) (at : ℕ) (cells : List Cell) → IsFree row → IsFree cells → IsFree (written SPACE row at cells)

@@ -7,6 +7,7 @@ use Rattle.std.proofs.lemmas.Bool.{cases_eq, cases_lt, false≢true}
 use Rattle.std.proofs.lemmas.Bool.Decides.{nat_tests}
 use Rattle.std.proofs.lemmas.List.{append_assoc, append-nil, drop_all, drop_more, get_or_past, length_push, length-drop, get_or_push, get_or_append_left, get_or-map, length-map, ext_get_or}
 use Rattle.std.proofs.lemmas.List.Elements.{All-get_or, All-from_get_or, All-append, All-cons, All-nil, All-same}
+use Rattle.snippet_lines.specs.declared.number.LineNumbers.{LineNumbers}
 use Rattle.snippet_parts.specs.declared.entries.AnnotatedLineInfo.{AnnotatedLineInfo}
 use Rattle.snippet_parts.specs.declared.entries.LineAnnotation.{LineAnnotation}
 use Rattle.snippet_style.specs.declared.role.ElementStyle.{ElementStyle}
@@ -29,8 +30,8 @@ use Rattle.snippet_strokes.proofs.CellLemmas.{row_text-window_cells}
 use Rattle.snippet_strokes.proofs.WholeLemmas.{window_cells-whole}
 use Rattle.snippet_lines.specs.Number.{shown_number}
 use Rattle.snippet_parts.specs.Rows.{HasNoNumber, IsFree}
-use Rattle.snippet_strokes.specs.Rows.{window_cells, first_row, IsSourceRow, IsStrokeRow, HasNoBars, IsHighlighted, AddsSourceRow, AddsStrokes}
-use Rattle.snippet_strokes.proofs.RowLemmas.{bare_row_left, free_first_row}
+use Rattle.snippet_strokes.specs.Rows.{window_cells, IsSourceRow, IsStrokeRow, HasNoBars, IsHighlighted, AddsSourceRow, AddsStrokes}
+use Rattle.snippet_strokes.proofs.RowLemmas.{bare_row_left}
 use Rattle.snippet_strokes.specs.Snippet.{ShowsLine, AreLinesShown, AddsLine, AddsSnippet, IsGap}
 
 -- a row of strokes holds no number, since spaces stand left of its separator
@@ -123,9 +124,9 @@ clear_entries margin dropped es all near uncut k d within columns =
     ]
 
 -- a source row, what its entries highlight, the strokes below and beside it, and the bars that run past show a line
-pub line_added : (layout : Layout) (margin : Margin) (numbered closes : Bool) (info : AnnotatedLineInfo) (dropped : ℕ) (old mid high done new : List (List Cell)) (row : ℕ) → length (shown_number numbered layout.gutter info.line_index) ≤ layout.gutter + 1 → AddsSourceRow layout (shown_number numbered layout.gutter info.line_index) (window_cells layout.decor margin (norm (chars info.line.now))) old mid → row ≡ length old → dropped ≡ width_of (dropped_part (bounds_of margin).left (norm (chars info.line.now))) → All (λ e. is_bar e.annotation_type ≡ false → dropped ≤ e.start.display) info.annotations.items → IsHighlighted layout.code dropped (filter (λ e. not (is_end_part e.annotation_type)) info.annotations.items) (row_at mid row) (row_at high row) → ((r : ℕ) → r ≢ row → row_at high r ≡ row_at mid r) → length high ≡ length mid → ((above : List (List Cell)) (plain : List Cell) → high ≡ above ++ plain ∷ [] → HasNoBars layout plain → AddsStrokes layout margin.term_width (map (shifted dropped) info.annotations.items) closes above plain done) → DrawsBars layout row done new → AddsLine layout margin numbered closes info old new
-line_added layout margin numbered closes info dropped old mid high done new row short source last dropped_is clear highlights others count strokes draws =
-    let shown = shown_number numbered layout.gutter info.line_index in
+pub line_added : (layout : Layout) (margin : Margin) (numbers : LineNumbers) (closes : Bool) (info : AnnotatedLineInfo) (dropped : ℕ) (old mid high done new : List (List Cell)) (row : ℕ) → length (shown_number numbers layout.gutter info.line_index) ≤ layout.gutter + 1 → AddsSourceRow layout (shown_number numbers layout.gutter info.line_index) (window_cells layout.decor margin (norm (chars info.line.now))) old mid → row ≡ length old → dropped ≡ width_of (dropped_part (bounds_of margin).left (norm (chars info.line.now))) → All (λ e. is_bar e.annotation_type ≡ false → dropped ≤ e.start.display) info.annotations.items → IsHighlighted layout.code dropped (filter (λ e. not (is_end_part e.annotation_type)) info.annotations.items) (row_at mid row) (row_at high row) → ((r : ℕ) → r ≢ row → row_at high r ≡ row_at mid r) → length high ≡ length mid → ((above : List (List Cell)) (plain : List Cell) → high ≡ above ++ plain ∷ [] → HasNoBars layout plain → AddsStrokes layout margin.term_width (map (shifted dropped) info.annotations.items) closes above plain done) → DrawsBars layout row done new → AddsLine layout margin numbers closes info old new
+line_added layout margin numbers closes info dropped old mid high done new row short source last dropped_is clear highlights others count strokes draws =
+    let shown = shown_number numbers layout.gutter info.line_index in
     let text = norm (chars info.line.now) in
     let cells = window_cells layout.decor margin text in
     let es = filter (λ (e : LineAnnotation). not (is_end_part e.annotation_type)) info.annotations.items in
@@ -163,14 +164,14 @@ line_added layout margin numbered closes info dropped old mid high done new row 
     }
 
 -- the lines before one of a number were drawn: with rows that show the others they show all
-pub record AddsLines (layout : Layout) (margin : Margin) (numbered closes : Bool) (infos : List AnnotatedLineInfo) (i : ℕ) (old new : List (List Cell)) : Type 0 where
+pub record AddsLines (layout : Layout) (margin : Margin) (numbers : LineNumbers) (closes : Bool) (infos : List AnnotatedLineInfo) (i : ℕ) (old new : List (List Cell)) : Type 0 where
   pub rows : List (List Cell)
   pub added : new ≡ old ++ rows
-  pub shown : (rest : List (List Cell)) → AreLinesShown layout margin numbered closes (drop i infos) rest → AreLinesShown layout margin numbered closes infos (rows ++ rest)
+  pub shown : (rest : List (List Cell)) → AreLinesShown layout margin numbers closes (drop i infos) rest → AreLinesShown layout margin numbers closes infos (rows ++ rest)
 
 -- no line is drawn yet
-pub AddsLines-none : (layout : Layout) (margin : Margin) (numbered closes : Bool) (infos : List AnnotatedLineInfo) (rows : List (List Cell)) → AddsLines layout margin numbered closes infos 0 rows rows
-AddsLines-none layout margin numbered closes infos rows =
+pub AddsLines-none : (layout : Layout) (margin : Margin) (numbers : LineNumbers) (closes : Bool) (infos : List AnnotatedLineInfo) (rows : List (List Cell)) → AddsLines layout margin numbers closes infos 0 rows rows
+AddsLines-none layout margin numbers closes infos rows =
     record { rows = []; added = sym (append-nil rows); shown = λ rest shows. shows }
 
 -- the window closes with the last line
@@ -180,34 +181,34 @@ last_closes true infos i within =
 last_closes false infos i within = refl
 
 -- the line that stands next is drawn, and the row for lines that are left out behind it
-pub AddsLines-next : (layout : Layout) (margin : Margin) (numbered closes : Bool) (infos : List AnnotatedLineInfo) (i : ℕ) (info : AnnotatedLineInfo) (old before mid new : List (List Cell)) → i < length infos → info ≡ get_or infos i info → AddsLines layout margin numbered closes infos i old before → AddsLine layout margin numbered (closes && i + 1 == length infos) info before mid → AddsGap layout info.line_index (drop (i + 1) infos) mid new → AddsLines layout margin numbered closes infos (i + 1) old new
-AddsLines-next layout margin numbered closes infos i info old before mid new within is done line gap =
+pub AddsLines-next : (layout : Layout) (margin : Margin) (numbers : LineNumbers) (closes : Bool) (infos : List AnnotatedLineInfo) (i : ℕ) (info : AnnotatedLineInfo) (old before mid new : List (List Cell)) → i < length infos → info ≡ get_or infos i info → AddsLines layout margin numbers closes infos i old before → AddsLine layout margin numbers (closes && i + 1 == length infos) info before mid → AddsGap layout info.line_index (drop (i + 1) infos) mid new → AddsLines layout margin numbers closes infos (i + 1) old new
+AddsLines-next layout margin numbers closes infos i info old before mid new within is done line gap =
     let later = drop (i + 1) infos in
     let next : drop i infos ≡ info ∷ later = drop_more infos i info within ∙ ap (λ x. x ∷ later) (sym is) in
-    let shows : ShowsLine layout margin numbered (closes && length later == 0) info line.rows = subst (λ b. ShowsLine layout margin numbered b info line.rows) (last_closes closes infos i within) line.shown in
+    let shows : ShowsLine layout margin numbers (closes && length later == 0) info line.rows = subst (λ b. ShowsLine layout margin numbers b info line.rows) (last_closes closes infos i within) line.shown in
     let first = line.rows in
     let between = gap.rows in
     record {
       rows = done.rows ++ first ++ between;
       added = gap.added ∙ ap (λ rs. rs ++ between) (line.added ∙ ap (λ rs. rs ++ first) done.added) ∙ regroup old done.rows first between;
       shown = λ rest shown.
-          let all : AreLinesShown layout margin numbered closes (info ∷ later) (first ++ between ++ rest) = (first, between, rest, refl, shows, gap.is, shown) in
-          let whole : AreLinesShown layout margin numbered closes infos (done.rows ++ (first ++ between ++ rest)) = done.shown (first ++ between ++ rest) (subst (λ xs. AreLinesShown layout margin numbered closes xs (first ++ between ++ rest)) (sym next) all) in
-          subst (λ rs. AreLinesShown layout margin numbered closes infos rs) (sym (regroup done.rows first between rest)) whole;
+          let all : AreLinesShown layout margin numbers closes (info ∷ later) (first ++ between ++ rest) = (first, between, rest, refl, shows, gap.is, shown) in
+          let whole : AreLinesShown layout margin numbers closes infos (done.rows ++ (first ++ between ++ rest)) = done.shown (first ++ between ++ rest) (subst (λ xs. AreLinesShown layout margin numbers closes xs (first ++ between ++ rest)) (sym next) all) in
+          subst (λ rs. AreLinesShown layout margin numbers closes infos rs) (sym (regroup done.rows first between rest)) whole;
     }
   where
     regroup : (a b c d : List (List Cell)) → ((a ++ b) ++ c) ++ d ≡ a ++ ((b ++ c) ++ d)
     regroup a b c d = ap (λ rs. rs ++ d) (append_assoc a b c) ∙ append_assoc a (b ++ c) d
 
--- the row that a snippet begins with and all lines are drawn
-pub AddsSnippet-from_lines : (layout : Layout) (margin : Margin) (numbered first closes : Bool) (infos : List AnnotatedLineInfo) (i : ℕ) (old begun new : List (List Cell)) → i ≡ length infos → begun ≡ old ++ first_row layout.decor first layout.gutter ∷ [] → AddsLines layout margin numbered closes infos i begun new → AddsSnippet layout margin numbered first closes infos old new
-AddsSnippet-from_lines layout margin numbered first closes infos i old begun new all begins done =
+-- all lines are drawn
+pub AddsSnippet-from_lines : (layout : Layout) (margin : Margin) (numbers : LineNumbers) (closes : Bool) (infos : List AnnotatedLineInfo) (i : ℕ) (old new : List (List Cell)) → i ≡ length infos → AddsLines layout margin numbers closes infos i old new → AddsSnippet layout margin numbers closes infos old new
+AddsSnippet-from_lines layout margin numbers closes infos i old new all done =
     let none : drop i infos ≡ [] = drop_all i infos (omega (arith, all)) in
-    let shown : AreLinesShown layout margin numbered closes infos (done.rows ++ []) = done.shown [] (subst (λ xs. AreLinesShown layout margin numbered closes xs []) (sym none) refl) in
+    let shown : AreLinesShown layout margin numbers closes infos (done.rows ++ []) = done.shown [] (subst (λ xs. AreLinesShown layout margin numbers closes xs []) (sym none) refl) in
     record {
       rows = done.rows;
-      added = done.added ∙ ap (λ rows. rows ++ done.rows) begins ∙ append_assoc old (first_row layout.decor first layout.gutter ∷ []) done.rows;
-      shown = subst (λ rs. AreLinesShown layout margin numbered closes infos rs) (append-nil done.rows) shown;
+      added = done.added;
+      shown = subst (λ rs. AreLinesShown layout margin numbers closes infos rs) (append-nil done.rows) shown;
     }
 
 -- the row for lines that are left out holds no listed character
@@ -218,12 +219,7 @@ free_gap layout number (next ∷ infos) rows (inl gap) =
 free_gap layout number (next ∷ infos) rows (inr near) = All-same IsFree rows [] near.1 (All-nil IsFree)
 
 -- no row of the lines holds a listed character
-pub free_from_AreLinesShown : (layout : Layout) (margin : Margin) (numbered closes : Bool) (infos : List AnnotatedLineInfo) (rows : List (List Cell)) → AreLinesShown layout margin numbered closes infos rows → All IsFree rows
-free_from_AreLinesShown layout margin numbered closes [] rows none = All-same IsFree rows [] none (All-nil IsFree)
-free_from_AreLinesShown layout margin numbered closes (info ∷ infos) rows shown =
-    All-same IsFree rows (shown.0 ++ shown.1 ++ shown.2) shown.3 (All-append IsFree (shown.0 ++ shown.1) shown.2 (All-append IsFree shown.0 shown.1 shown.4.free (free_gap layout info.line_index infos shown.1 shown.5)) (free_from_AreLinesShown layout margin numbered closes infos shown.2 shown.6))
-
--- no row that a snippet adds holds a listed character
-pub free_from_AddsSnippet : (layout : Layout) (margin : Margin) (numbered first closes : Bool) (infos : List AnnotatedLineInfo) (old new : List (List Cell)) → (adds : AddsSnippet layout margin numbered first closes infos old new) → All IsFree (first_row layout.decor first layout.gutter ∷ adds.rows)
-free_from_AddsSnippet layout margin numbered first closes infos old new adds =
-    All-cons IsFree (first_row layout.decor first layout.gutter) adds.rows (free_first_row layout.decor first layout.gutter) (free_from_AreLinesShown layout margin numbered closes infos adds.rows adds.shown)
+pub free_from_AreLinesShown : (layout : Layout) (margin : Margin) (numbers : LineNumbers) (closes : Bool) (infos : List AnnotatedLineInfo) (rows : List (List Cell)) → AreLinesShown layout margin numbers closes infos rows → All IsFree rows
+free_from_AreLinesShown layout margin numbers closes [] rows none = All-same IsFree rows [] none (All-nil IsFree)
+free_from_AreLinesShown layout margin numbers closes (info ∷ infos) rows shown =
+    All-same IsFree rows (shown.0 ++ shown.1 ++ shown.2) shown.3 (All-append IsFree (shown.0 ++ shown.1) shown.2 (All-append IsFree shown.0 shown.1 shown.4.free (free_gap layout info.line_index infos shown.1 shown.5)) (free_from_AreLinesShown layout margin numbers closes infos shown.2 shown.6))

@@ -10,7 +10,7 @@ use Rattle.snippet_style.specs.declared.glyphs.DecorStyle.{DecorStyle}
 use Rattle.snippet_style.specs.declared.glyphs.DecorStyle.TheVariants.{Ascii, Unicode}
 use Rattle.snippet_style.specs.declared.role.ElementStyle.{ElementStyle}
 use Rattle.snippet_style.specs.declared.role.ElementStyle.TheVariants.{LineNumber, Quotation, UnderlinePrimary, UnderlineSecondary}
-use Rattle.snippet_style.specs.Glyphs.{separator_of, closing_of, file_start_of, placeholder_of, elision_of, underline_role}
+use Rattle.snippet_style.specs.Glyphs.{separator_of, closing_of, placeholder_of, elision_of, underline_role}
 use Rattle.snippet_style.specs.Print.{row_text}
 use Rattle.snippet_style.specs.Grid.{Cell, SPACE, drawn, written, unlinked_cell, row_at, cell_at, gives_way, restyled}
 use Rattle.snippet_strokes.specs.declared.layout.Layout.{Layout}
@@ -30,12 +30,6 @@ closing_row decor gutter = replicate (gutter + 1) SPACE ++ drawn LineNumber (clo
 abbrev pub bare_row : DecorStyle → ℕ → Bool → List Cell
 bare_row decor gutter true = closing_row decor gutter
 bare_row decor gutter false = separator_row decor gutter
-
--- the row that a group's primary snippet begins with where it has no path: in ASCII the separator row, in Unicode the
--- start of a file, from cell `gutter` on, for a group's first element or for a later one
-abbrev pub first_row : DecorStyle → Bool → ℕ → List Cell
-first_row Ascii first gutter = separator_row Ascii gutter
-first_row Unicode first gutter = replicate gutter SPACE ++ drawn LineNumber (file_start_of Unicode first)
 
 -- the cells of a text with the placeholder before it, if lines are cut on the left: then the text stands behind as many
 -- columns. If there is none, the placeholder stands alone

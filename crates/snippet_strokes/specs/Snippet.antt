@@ -13,20 +13,21 @@ use Rattle.snippet_style.specs.Print.{row_text}
 use Rattle.snippet_text.specs.Normalized.{norm}
 use Rattle.snippet_text.specs.Width.{width_of}
 use Rattle.snippet_strokes.specs.Entries.{is_end_part, shifted, wide_entries}
+use Rattle.snippet_lines.specs.declared.number.LineNumbers.{LineNumbers}
 use Rattle.snippet_lines.specs.Number.{shown_number}
 use Rattle.snippet_parts.specs.Rows.{HasNoNumber, IsFree}
-use Rattle.snippet_strokes.specs.Rows.{first_row, IsSourceRow, IsBeside, IsElisionRow, IsHighlighted, AreStrokes, window_cells}
+use Rattle.snippet_strokes.specs.Rows.{IsSourceRow, IsBeside, IsElisionRow, IsHighlighted, AreStrokes, window_cells}
 
 -- the rows show this line: the first its number and the window of its source, normalised, with what its entries highlight
 -- (all of the line, if lines aren't cut on the left and the room holds it), with bars beside it, and cut where entries are
 -- wide; the others its strokes, with which the window may close, as far left as columns of the line are dropped; none but
 -- the first can be taken for a source row, and none holds a listed character
-pub record ShowsLine (layout : Layout) (margin : Margin) (numbered closes : Bool) (info : AnnotatedLineInfo) (rows : List (List Cell)) : Type 0 where
+pub record ShowsLine (layout : Layout) (margin : Margin) (numbers : LineNumbers) (closes : Bool) (info : AnnotatedLineInfo) (rows : List (List Cell)) : Type 0 where
   pub source : List Cell
   pub below : List (List Cell)
   pub rows_are : rows ≡ source ∷ below
   pub plain : List Cell
-  pub shows : IsSourceRow layout (shown_number numbered layout.gutter info.line_index) (window_cells layout.decor margin (norm (chars info.line.now))) plain
+  pub shows : IsSourceRow layout (shown_number numbers layout.gutter info.line_index) (window_cells layout.decor margin (norm (chars info.line.now))) plain
   pub text : row_text (drop layout.code plain) ≡ window (placeholder_of layout.decor) margin.term_width (bounds_of margin).left (bounds_of margin).right (norm (chars info.line.now))
   pub whole : (bounds_of margin).left ≡ 0 → width_of (norm (chars info.line.now)) ≤ margin.term_width → drop layout.code plain ≡ drawn Quotation (norm (chars info.line.now))
   pub dropped : ℕ
@@ -48,19 +49,19 @@ IsGap layout number (next ∷ infos) rows =
 
 -- the rows show these lines, those of each line behind those of the one before, with a row between where lines are left out;
 -- the window may close with the last line
-abbrev pub AreLinesShown : Layout → Margin → Bool → Bool → List AnnotatedLineInfo → List (List Cell) → Type 0
-AreLinesShown layout margin numbered closes [] rows = rows ≡ []
-AreLinesShown layout margin numbered closes (info ∷ infos) rows =
-    (first : List (List Cell)) × (gap : List (List Cell)) × (rest : List (List Cell)) × (rows ≡ first ++ gap ++ rest) × ShowsLine layout margin numbered (closes && length infos == 0) info first × IsGap layout info.line_index infos gap × AreLinesShown layout margin numbered closes infos rest
+abbrev pub AreLinesShown : Layout → Margin → LineNumbers → Bool → List AnnotatedLineInfo → List (List Cell) → Type 0
+AreLinesShown layout margin numbers closes [] rows = rows ≡ []
+AreLinesShown layout margin numbers closes (info ∷ infos) rows =
+    (first : List (List Cell)) × (gap : List (List Cell)) × (rest : List (List Cell)) × (rows ≡ first ++ gap ++ rest) × ShowsLine layout margin numbers (closes && length infos == 0) info first × IsGap layout info.line_index infos gap × AreLinesShown layout margin numbers closes infos rest
 
--- what a snippet adds below the rows that are there: the row that it begins with, then the rows of each line
-pub record AddsSnippet (layout : Layout) (margin : Margin) (numbered first closes : Bool) (infos : List AnnotatedLineInfo) (old new : List (List Cell)) : Type 0 where
-  pub rows : List (List Cell)
-  pub added : new ≡ old ++ first_row layout.decor first layout.gutter ∷ rows
-  pub shown : AreLinesShown layout margin numbered closes infos rows
-
--- what a line adds below the rows that are there: rows that show it
-pub record AddsLine (layout : Layout) (margin : Margin) (numbered closes : Bool) (info : AnnotatedLineInfo) (old new : List (List Cell)) : Type 0 where
+-- what a snippet adds below the rows that are there: the rows of each line
+pub record AddsSnippet (layout : Layout) (margin : Margin) (numbers : LineNumbers) (closes : Bool) (infos : List AnnotatedLineInfo) (old new : List (List Cell)) : Type 0 where
   pub rows : List (List Cell)
   pub added : new ≡ old ++ rows
-  pub shown : ShowsLine layout margin numbered closes info rows
+  pub shown : AreLinesShown layout margin numbers closes infos rows
+
+-- what a line adds below the rows that are there: rows that show it
+pub record AddsLine (layout : Layout) (margin : Margin) (numbers : LineNumbers) (closes : Bool) (info : AnnotatedLineInfo) (old new : List (List Cell)) : Type 0 where
+  pub rows : List (List Cell)
+  pub added : new ≡ old ++ rows
+  pub shown : ShowsLine layout margin numbers closes info rows

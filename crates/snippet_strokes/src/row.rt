@@ -1,12 +1,9 @@
 //! Rows that are begun below all that stands in the grid.
 ghost use Rattle.std.specs.Prelude.{◌+◌, ◌≡◌, ◌-◌, ◌^◌, ◌<◌, ◌≤◌, ◌++◌, ◌∷◌, [], OnOk, IfOk, length, replicate};
-ghost use Rattle.snippet_style.specs.Glyphs.{file_start_of};
-ghost use Rattle.snippet_style.specs.Grid.{SPACE, drawn};
-ghost use Rattle.snippet_style.specs.declared.role.ElementStyle.TheVariants.{LineNumber};
-ghost use Rattle.snippet_strokes.specs.Rows.{bare_row, closing_row, first_row, separator_row};
+ghost use Rattle.snippet_strokes.specs.Rows.{bare_row, closing_row, separator_row};
 
 use crate::layout::Layout;
-use snippet_style::{DecorStyle, ElementStyle, StyledBuffer};
+use snippet_style::{ElementStyle, StyledBuffer};
 use std::alloc::AllocError;
 
 /// Begins a row below all that stands in the grid, with the separator alone, and gives the row's number.
@@ -53,49 +50,6 @@ pub(crate) fn begin_closing_row(buffer: &mut StyledBuffer, layout: Layout) -> Re
         row,
         layout.gutter + 1,
         layout.decor.closing(),
-        ElementStyle::LineNumber,
-    )
-}
-
-/// Begins the row that a group's primary snippet without a path begins with, below all that stands in the grid.
-///
-/// ```text
-///       |      in ASCII
-///      ╭▸      in Unicode, where the snippet is the group's first element
-///      ├▸      in Unicode, where it is a later one
-/// ```
-///
-/// # Errors
-///
-/// There is no memory for the row.
-pub(crate) fn begin_first_row(
-    buffer: &mut StyledBuffer,
-    layout: Layout,
-    first: bool,
-) -> Result<(), AllocError>
-    requires narrow { layout.gutter < 2 ^ 63 + 2 ^ 32 }
-    ensures added { OnOk result (buffer.new ≡ buffer.old ++ first_row layout.decor first layout.gutter ∷ []) }
-{
-    match layout.decor {
-        DecorStyle::Ascii => {
-            begin_row(buffer, layout)?;
-            Ok(())
-        }
-        DecorStyle::Unicode => begin_file_row(buffer, layout, first),
-    }
-}
-
-/// Begins a row below all that stands in the grid, with the start of a file alone, from cell `gutter` on.
-fn begin_file_row(buffer: &mut StyledBuffer, layout: Layout, first: bool) -> Result<(), AllocError>
-    requires narrow { layout.gutter < 2 ^ 63 + 2 ^ 32 }
-    ensures added { OnOk result (buffer.new ≡ buffer.old
-        ++ (replicate layout.gutter SPACE ++ drawn LineNumber (file_start_of layout.decor first)) ∷ []) }
-{
-    let row = buffer.num_lines();
-    buffer.puts(
-        row,
-        layout.gutter,
-        layout.decor.file_start(first),
         ElementStyle::LineNumber,
     )
 }

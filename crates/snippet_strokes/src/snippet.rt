@@ -1,4 +1,4 @@
-//! The rows of a snippet: the row that it begins with, and the rows of each line that is shown.
+//! The rows of a snippet: those of each line that is shown.
 ghost use Rattle.std.specs.Prelude.{◌≡◌, ◌+◌, ◌^◌, ◌<◌, ◌≤◌, ◌++◌, ◌∷◌, [], false, List, All, IfOk, IfSome, OnOk, length, map};
 ghost use Rattle.snippet_parts.specs.Measures.{StandsClear, is_bar};
 ghost use Rattle.snippet_strokes.specs.Entries.{HasPlace, HasRail, shifted};
@@ -12,20 +12,18 @@ use crate::elision::draw_gap;
 use crate::highlight::highlight_source;
 use crate::layout::Layout;
 use crate::rails::{OpenBar, RailStroke, bars_apart, draw_bars, ends_on};
-use crate::row::begin_first_row;
 use crate::source_row::draw_source_row;
 use crate::strokes::draw_strokes;
 use crate::whole_line::is_whole_line;
+use snippet_lines::LineNumbers;
 use snippet_parts::{AnnotatedLineInfo, Margin};
 use snippet_style::StyledBuffer;
 use std::alloc::{AllocError, Global};
 
-/// Draws a group's primary snippet, one without a path, below all that stands in the grid: the row that it begins with,
-/// then for each line its source row and its strokes. It may be the group's `first` element. Where the group's window
-/// `closes` with it, the last row does so; it is one of its own where the last line has no entries.
+/// Draws the lines of a snippet below all that stands in the grid: for each line its source row and its strokes. Where the
+/// group's window `closes` with it, the last row does so; it is one of its own where the last line has no entries.
 ///
 /// ```text
-///       |                        ╭▸
 ///     1 | let x = 1;           1 │ let x = 1;
 ///       |     ^                  │     ━
 ///     2 | let y = x;           2 │ let y = x;
@@ -39,9 +37,8 @@ use std::alloc::{AllocError, Global};
 /// Of each line the part between the bounds of the margin is shown, and its strokes are drawn as far left as columns of the
 /// line are dropped. No entry may stand left of the padding of the left bound.
 ///
-/// Where lines aren't numbered, spaces stand in place of the numbers. A line with no entries has no strokes. Bars run beside
-/// the rows from the line on which a span of several lines starts to the one on which it ends. Where lines between two of
-/// these are left out, a row stands for them.
+/// A line with no entries has no strokes. Bars run beside the rows from the line on which a span of several lines starts to
+/// the one on which it ends. Where lines between two of these are left out, a row stands for them.
 ///
 /// # Errors
 ///
@@ -51,29 +48,27 @@ pub fn draw_snippet(
     buffer: &mut StyledBuffer,
     layout: Layout,
     margin: Margin,
-    numbered: bool,
-    first: bool,
+    numbers: LineNumbers,
     closes: bool,
     infos: &[AnnotatedLineInfo],
 ) -> Result<(), AllocError>
     requires place { layout.gutter + 3 ≤ layout.code }
     requires narrow { layout.code < 2 ^ 63 + 2 ^ 32 }
-    requires numbers { All (λ info. length (shown_number numbered layout.gutter info.line_index) ≤ layout.gutter + 1)
+    requires numbers { All (λ info. length (shown_number numbers layout.gutter info.line_index) ≤ layout.gutter + 1)
         infos.now }
     requires texts { All (λ info. length info.line.now < 2 ^ 56) infos.now }
     requires columns { All (λ info. All HasPlace info.annotations.items) infos.now }
     requires clear { All (λ info. All (StandsClear margin) info.annotations.items) infos.now }
     requires rails { All (λ info. All (HasRail layout) info.annotations.items) infos.now }
     requires labels { All (λ info. All (λ e. IfSome e.label (λ t. length t.now < 2 ^ 56)) info.annotations.items) infos.now }
-    ensures added { OnOk result (AddsSnippet layout margin numbered first closes infos.now buffer.old buffer.new) }
+    ensures added { OnOk result (AddsSnippet layout margin numbers closes infos.now buffer.old buffer.new) }
 {
-    begin_first_row(buffer, layout, first)?;
     let mut open_bars = Vec::new(alloc);
     for i in 0..infos.len() {
         let closes = closes && i + 1 == infos.len();
         let info = &infos[i];
         open_bars = draw_line(
-            alloc, buffer, layout, margin, numbered, closes, info, &open_bars,
+            alloc, buffer, layout, margin, numbers, closes, info, &open_bars,
         )?;
         let behind = &infos[i + 1..];
         draw_gap(buffer, layout, info.line_index, behind, &open_bars)?;
@@ -93,24 +88,24 @@ fn draw_line(
     buffer: &mut StyledBuffer,
     layout: Layout,
     margin: Margin,
-    numbered: bool,
+    numbers: LineNumbers,
     closes: bool,
     info: &AnnotatedLineInfo,
     open_bars: &[OpenBar],
 ) -> Result<Vec<OpenBar>, AllocError>
     requires place { layout.gutter + 3 ≤ layout.code }
     requires narrow { layout.code < 2 ^ 63 + 2 ^ 32 }
-    requires number { length (shown_number numbered layout.gutter info.now.line_index) ≤ layout.gutter + 1 }
+    requires number { length (shown_number numbers layout.gutter info.now.line_index) ≤ layout.gutter + 1 }
     requires text { length info.now.line.now < 2 ^ 56 }
     requires columns { All HasPlace info.now.annotations.items }
     requires clear { All (StandsClear margin) info.now.annotations.items }
     requires rails { All (HasRail layout) info.now.annotations.items }
     requires labels { All (λ e. IfSome e.label (λ t. length t.now < 2 ^ 56)) info.now.annotations.items }
     requires room { All (HasRoom layout) open_bars.now }
-    ensures added { OnOk result (AddsLine layout margin numbered closes info.now buffer.old buffer.new) }
+    ensures added { OnOk result (AddsLine layout margin numbers closes info.now buffer.old buffer.new) }
     ensures bars { IfOk result (λ bars. bars.items ≡ open_below open_bars.now info.now.annotations.items) }
 {
-    let (row, dropped) = draw_source_row(alloc, buffer, layout, numbered, margin, info)?;
+    let (row, dropped) = draw_source_row(alloc, buffer, layout, numbers, margin, info)?;
     highlight_source(buffer, layout, dropped, row, &info.annotations)?;
     let ends = ends_on(alloc, &info.annotations)?;
     draw_entries(

@@ -12,7 +12,7 @@ ghost use Rattle.snippet_text.specs.Width.{width_of};
 
 use crate::layout::Layout;
 use crate::row::begin_row;
-use snippet_lines::number_text;
+use snippet_lines::{LineNumbers, number_text};
 use snippet_parts::{AnnotatedLineInfo, LineWindow, Margin, near_part, window_of};
 use snippet_style::{ElementStyle, StyledBuffer};
 use snippet_text::{normalized, str_width};
@@ -33,15 +33,15 @@ pub(crate) fn draw_source_row(
     alloc: Global,
     buffer: &mut StyledBuffer,
     layout: Layout,
-    numbered: bool,
+    numbers: LineNumbers,
     margin: Margin,
     info: &AnnotatedLineInfo,
 ) -> Result<(usize, usize), AllocError>
     requires place { layout.gutter + 3 ≤ layout.code }
     requires narrow { layout.code < 2 ^ 63 + 2 ^ 32 }
-    requires number { length (shown_number numbered layout.gutter info.now.line_index) ≤ layout.gutter + 1 }
+    requires number { length (shown_number numbers layout.gutter info.now.line_index) ≤ layout.gutter + 1 }
     requires text { length info.now.line.now < 2 ^ 56 }
-    ensures added { OnOk result (AddsSourceRow layout (shown_number numbered layout.gutter info.now.line_index)
+    ensures added { OnOk result (AddsSourceRow layout (shown_number numbers layout.gutter info.now.line_index)
         (window_cells layout.decor margin (norm (chars info.now.line.now))) buffer.old buffer.new) }
     ensures short { OnOk result (length (window_cells layout.decor margin (norm (chars info.now.line.now))) < 2 ^ 61 + 4) }
     ensures row { IfOk result (λ at. at.0 ≡ length buffer.old) }
@@ -51,7 +51,7 @@ pub(crate) fn draw_source_row(
     ensures uncut { IfOk result (λ at. (bounds_of margin).left ≡ 0 → at.1 ≡ 0) }
     ensures few { IfOk result (λ at. at.1 < 2 ^ 61) }
 {
-    let number = number_text(alloc, numbered, layout.gutter, info.line_index)?;
+    let number = number_text(alloc, numbers, layout.gutter, info.line_index)?;
     let width = str_width(info.line);
     let near = near_part(margin, info.line, width);
     let text = normalized(alloc, near.text)?;

@@ -10,13 +10,17 @@ use Rattle.snippet_style.specs.Glyphs.{placeholder_of, separator_of}
 use Rattle.snippet_style.specs.Grid.{Cell, SPACE}
 use Rattle.snippet_style.specs.Print.{row_text}
 use Rattle.snippet_text.specs.Normalized.{norm}
-use Rattle.snippet_lines.specs.Number.{shown_number}
+use Rattle.snippet_lines.specs.Number.{number_width, shown_number}
+use Rattle.snippet_lines.specs.declared.number.LineNumbers.{LineNumbers}
+use Rattle.snippet_lines.specs.declared.number.LineNumbers.TheVariants.{Shown, Anonymized, Hidden}
 use Rattle.snippet_parts.specs.Rows.{IsFree}
 use Rattle.snippet_suggest.specs.declared.layout.SuggestionLayout.{SuggestionLayout}
+use Rattle.snippet_suggest.specs.declared.layout.SuggestionStart.{SuggestionStart}
+use Rattle.snippet_suggest.specs.declared.layout.SuggestionStart.TheVariants.{Opening, Next, Path}
 use Rattle.snippet_suggest.specs.declared.shown.ShownLine.{ShownLine}
 use Rattle.snippet_suggest.specs.declared.shown.ShownLine.TheVariants.{Line, Gap}
 use Rattle.snippet_suggest.specs.Given.{counted_line, first_given, given_lines, numbers_given, removed_texts}
-use Rattle.snippet_suggest.specs.declared.glyphs.SuggestionGlyph.TheVariants.{Opening, Next, Leading, Closing}
+use Rattle.snippet_suggest.specs.declared.glyphs.SuggestionGlyph.TheVariants as glyph
 use Rattle.snippet_suggest.specs.Glyphs.{changed_mark_of, glyph_of}
 
 -- the number of the line so many lines behind one, as far as there are numbers
@@ -31,7 +35,7 @@ IsSign decor c = (c ≡ separator_of decor) ⊎ (c ≡ changed_mark_of decor) �
 -- suggestions begin and end with
 abbrev pub is_stroke : DecorStyle → ℕ → Bool
 is_stroke decor c =
-    list_any (λ d. d == c) (32 ∷ (placeholder_of decor ++ glyph_of decor Opening ++ glyph_of decor Next ++ glyph_of decor Leading ++ glyph_of decor Closing))
+    list_any (λ d. d == c) (32 ∷ (placeholder_of decor ++ glyph_of decor glyph.Opening ++ glyph_of decor glyph.Next ++ glyph_of decor glyph.Leading ++ glyph_of decor glyph.Closing))
 
 -- what stands in a row of marks: spaces, `+`, and the mark below what is changed
 abbrev pub IsMarkOrSpace : DecorStyle → ℕ → Type 0
@@ -51,19 +55,26 @@ pub record IsLineRow (decor : DecorStyle) (gutter : ℕ) (number text : List ℕ
   pub holds : HoldsText gutter text row
   pub free : IsFree row
 
--- what stands left of the sign of a line that is removed: a digit, or what stands left of the lines in a row that shows none
-abbrev pub IsBeforeSign : DecorStyle → ℕ → Type 0
-IsBeforeSign decor c = (is_stroke decor c ≡ true) ⊎ ((48 ≤ c) × (c ≤ 57))
+-- a character of what the gutter shows beside a line: a digit, or one of `LL`
+abbrev pub IsOfNumber : LineNumbers → ℕ → Type 0
+IsOfNumber Shown c = (48 ≤ c) × (c ≤ 57)
+IsOfNumber Anonymized c = c ≡ 76
+IsOfNumber Hidden c = ⊥
+
+-- what stands left of the sign of a line that is removed: a character of what the gutter shows beside it, or what stands left of
+-- the lines in a row that shows none
+abbrev pub IsBeforeSign : LineNumbers → DecorStyle → ℕ → Type 0
+IsBeforeSign numbers decor c = (is_stroke decor c ≡ true) ⊎ IsOfNumber numbers c
 
 -- what may stand behind a line that is removed: what stood there before, which is a mark or a space, or a digit of a number that
 -- is too long for the gutter
 abbrev pub IsLeftOver : DecorStyle → ℕ → Type 0
 IsLeftOver decor c = IsMarkOrSpace decor c ⊎ ((48 ≤ c) × (c ≤ 57))
 
--- the row of a line that is removed: `-` and a space stand behind the gutter, with no letter before them, and from three cells
--- behind it on the line's normalised text, and no letter behind that
-pub record IsRemovedRow (decor : DecorStyle) (gutter : ℕ) (text : List ℕ) (row : List Cell) : Type 0 where
-  pub before : (c : ℕ) → c ≤ gutter → IsBeforeSign decor (slice_index_or row c SPACE).ch
+-- the row of a line that is removed: `-` and a space stand behind the gutter, with no letter before them but `LL`, where that
+-- stands in place of numbers, and from three cells behind it on the line's normalised text, and no letter behind that
+pub record IsRemovedRow (numbers : LineNumbers) (decor : DecorStyle) (gutter : ℕ) (text : List ℕ) (row : List Cell) : Type 0 where
+  pub before : (c : ℕ) → c ≤ gutter → IsBeforeSign numbers decor (slice_index_or row c SPACE).ch
   pub minus : (slice_index_or row (gutter + 1) SPACE).ch ≡ 45
   pub space : (slice_index_or row (gutter + 2) SPACE).ch ≡ 32
   pub begins : row_text (take (length text) (drop (gutter + 3) row)) ≡ text
@@ -96,7 +107,7 @@ pub record IsRepainted (above : List (List Cell)) (last : List Cell) (new : List
 -- the row that a line of some is shown by, the first of which has this number; and one that shows none of them
 abbrev pub IsShownRow : SuggestionLayout → ℕ → List (List ℕ) → ShownLine → List Cell → Type 0
 IsShownRow layout first lines (Line k) row =
-    IsLineRow layout.decor layout.gutter (shown_number layout.numbered layout.gutter (number_after first k)) (norm (chars (slice_index_or lines k []))) row
+    IsLineRow layout.decor layout.gutter (shown_number layout.numbers layout.gutter (number_after first k)) (norm (chars (slice_index_or lines k []))) row
 IsShownRow layout first lines Gap row = IsBareRow layout.decor layout.gutter row
 
 -- rows for these, one each, stand below some rows, and nothing else
@@ -133,7 +144,7 @@ texts_removed shown = filter_map text_removed shown
 -- the row shows this, of some lines of which the first has this number
 abbrev pub Shows : SuggestionLayout → ℕ → List (List ℕ) → SuggestionRow → List Cell → Type 0
 Shows layout first lines (Offers k) row = IsShownRow layout first lines (Line k) row
-Shows layout first lines (Removes text) row = IsRemovedRow layout.decor layout.gutter (norm (chars text)) row
+Shows layout first lines (Removes text) row = IsRemovedRow layout.numbers layout.decor layout.gutter (norm (chars text)) row
 Shows layout first lines Bare row = IsBareRow layout.decor layout.gutter row
 
 -- rows stand below some rows, and nothing else: of these lines just those of these numbers are offered, in this order, and these
@@ -150,7 +161,7 @@ pub record AddsLines (layout : SuggestionLayout) (first : ℕ) (lines : List (Li
 pub record AddsRemoved (layout : SuggestionLayout) (texts : List (List ℕ)) (above new : List (List Cell)) : Type 0 where
   pub rows : List (List Cell)
   pub added : new ≡ above ++ rows
-  pub are : AllZip (λ text row. IsRemovedRow layout.decor layout.gutter (norm (chars text)) row) texts rows
+  pub are : AllZip (λ text row. IsRemovedRow layout.numbers layout.decor layout.gutter (norm (chars text)) row) texts rows
 
 -- a last row stands below some rows and so many empty ones
 pub record AddsEnd (layout : SuggestionLayout) (skipped : ℕ) (above new : List (List Cell)) : Type 0 where
@@ -161,13 +172,28 @@ pub record AddsEnd (layout : SuggestionLayout) (skipped : ℕ) (above new : List
 -- the number of a line that is shown stands left of the sign
 abbrev pub NumberFits : SuggestionLayout → ℕ → ShownLine → Type 0
 NumberFits layout first (Line k) =
-    length (shown_number layout.numbered layout.gutter (number_after first k)) ≤ layout.gutter + 1
+    length (shown_number layout.numbers layout.gutter (number_after first k)) ≤ layout.gutter + 1
 NumberFits layout first Gap = Unit {0}
 
--- what a suggestion finds below the rows above it: the last row of a suggestion before it, if it shares that, else nothing
-abbrev pub IsTail : SuggestionLayout → Bool → List (List Cell) → Type 0
-IsTail layout true tail = (row : List Cell) × (tail ≡ row ∷ []) × IsBareRow layout.decor layout.gutter row
-IsTail layout false tail = tail ≡ []
+-- what stands below the rows above an element: the row in which it begins, if it shares that with a suggestion before it, which
+-- shows no line, else nothing
+abbrev pub IsTail : DecorStyle → ℕ → Bool → List (List Cell) → Type 0
+IsTail decor gutter true tail = (row : List Cell) × (tail ≡ row ∷ []) × IsBareRow decor gutter row
+IsTail decor gutter false tail = tail ≡ []
+
+-- whether a suggestion begins in a row that is there
+abbrev pub begins_in_last : SuggestionStart → Bool
+begins_in_last Opening = false
+begins_in_last Next = true
+begins_in_last Path = true
+
+-- how many rows it finds there: that one, or none
+abbrev pub rows_shared : SuggestionStart → ℕ
+rows_shared start = if begins_in_last start then 1 else 0
+
+-- what a suggestion finds below the rows above it
+abbrev pub IsStart : SuggestionLayout → SuggestionStart → List (List Cell) → Type 0
+IsStart layout start tail = IsTail layout.decor layout.gutter (begins_in_last start) tail
 
 -- the rows of a suggestion stand below some rows, and nothing else: for each line that it offers a row, in order, for each line
 -- of the source that it shows as removed a row, in order, rows that show no line between them, and as the last such a row, in
@@ -184,4 +210,4 @@ pub record AddsSuggestion (layout : SuggestionLayout) (s : Snippet Patch) (above
 
 -- the gutter has room for the number that a suggestion counts
 abbrev pub HasGutter : SuggestionLayout → Snippet Patch → Type 0
-HasGutter layout s = layout.numbered ≡ true → length (decimal (counted_line s)) ≤ layout.gutter
+HasGutter layout s = number_width layout.numbers (counted_line s) ≤ layout.gutter

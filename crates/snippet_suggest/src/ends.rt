@@ -1,20 +1,21 @@
 //! The rows that a suggestion begins and ends with.
 ghost use Rattle.std.specs.Prelude.{◌≡◌, ℕ, ◌<◌, ◌^◌, ◌+◌, ◌++◌, Bool, false, List, IfOk, OnOk, length};
 ghost use Rattle.snippet_suggest.specs.Glyphs.{is_sign};
-ghost use Rattle.snippet_suggest.specs.Rows.{AddsEnd, AddsRow, IsBareRow, IsTail};
+ghost use Rattle.snippet_suggest.specs.Rows.{AddsEnd, AddsRow, IsBareRow, IsStart, IsTail};
 ghost use Rattle.snippet_style.specs.Grid.{Cell};
 
 use crate::glyphs::SuggestionGlyph;
-use crate::layout::SuggestionLayout;
+use crate::layout::{SuggestionLayout, SuggestionStart};
 use snippet_style::{ElementStyle, StyledBuffer};
 use std::alloc::AllocError;
 
-/// Draws what a suggestion begins with: a row below all that stands in the grid, or a glyph in the last row, if the
-/// element before is a suggestion for the same file.
+/// Draws what a suggestion begins with: a row below all that stands in the grid, or a glyph in the last row, or nothing
+/// where a path stands above it.
 ///
 /// ```text
 ///      ╭╴      a row of its own
 ///      ├╴      in the last row of a suggestion
+///      │       below a path
 /// ```
 ///
 /// # Errors
@@ -23,18 +24,21 @@ use std::alloc::AllocError;
 pub(crate) fn draw_head(
     buffer: &mut StyledBuffer,
     layout: SuggestionLayout,
-    shares: bool,
+    start: SuggestionStart,
 ) -> Result<(), AllocError>
     requires narrow { layout.gutter < 2 ^ 32 }
-    ensures added { (above tail : List (List Cell)) → buffer.old ≡ above ++ tail → IsTail layout shares tail
+    ensures added { (above tail : List (List Cell)) → buffer.old ≡ above ++ tail → IsStart layout start tail
         → OnOk result (AddsRow (IsBareRow layout.decor layout.gutter) above buffer.new) }
 {
     let rows = buffer.num_lines();
-    if shares {
-        let row = rows.saturating_sub(1);
-        return draw_glyph(buffer, layout, row, SuggestionGlyph::Next);
+    match start {
+        SuggestionStart::Opening => draw_glyph(buffer, layout, rows, SuggestionGlyph::Opening),
+        SuggestionStart::Next => {
+            let row = rows.saturating_sub(1);
+            draw_glyph(buffer, layout, row, SuggestionGlyph::Next)
+        }
+        SuggestionStart::Path => Ok(()),
     }
-    draw_glyph(buffer, layout, rows, SuggestionGlyph::Opening)
 }
 
 /// Draws a glyph that is no line's behind the gutter of a row, which stands alone unless the row is one that is there.
@@ -47,7 +51,7 @@ fn draw_glyph(
     requires narrow { layout.gutter < 2 ^ 32 }
     requires row { row + 1 < 2 ^ 64 }
     ensures added { is_sign glyph ≡ false → (above tail : List (List Cell)) (shares : Bool) → row ≡ length above → buffer.old ≡ above ++ tail
-        → IsTail layout shares tail → OnOk result (AddsRow (IsBareRow layout.decor layout.gutter) above buffer.new) }
+        → IsTail layout.decor layout.gutter shares tail → OnOk result (AddsRow (IsBareRow layout.decor layout.gutter) above buffer.new) }
     ensures end { is_sign glyph ≡ false → (skipped : ℕ) → row ≡ length buffer.old + skipped → OnOk result (AddsEnd layout skipped buffer.old buffer.new) }
 {
     buffer.puts(

@@ -16,6 +16,6 @@ pub mod shown;
 pub mod suggestion;
 
 pub use kind::DisplaySuggestion;
-pub use layout::SuggestionLayout;
+pub use layout::{SuggestionLayout, SuggestionStart};
 pub use prepared::{PreparedSuggestion, prepare_suggestion};
 pub use suggestion::draw_suggestion;

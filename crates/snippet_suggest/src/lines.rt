@@ -123,8 +123,8 @@ fn draw_text_line(
     k: usize,
 ) -> Result<(), AllocError>
     requires narrow { layout.gutter < 2 ^ 32 }
-    ensures added { length (shown_number layout.numbered layout.gutter (number_after first k)) ≤ layout.gutter + 1
-        → OnOk result (AddsRow (IsLineRow layout.decor layout.gutter (shown_number layout.numbered layout.gutter (number_after first k))
+    ensures added { length (shown_number layout.numbers layout.gutter (number_after first k)) ≤ layout.gutter + 1
+        → OnOk result (AddsRow (IsLineRow layout.decor layout.gutter (shown_number layout.numbers layout.gutter (number_after first k))
         (norm (chars (slice_index_or (map (λ l. l.now) lines.now) k [])))) buffer.old buffer.new) }
 {
     let line = line_at(lines, k);

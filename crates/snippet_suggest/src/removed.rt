@@ -32,7 +32,7 @@ pub(crate) fn draw_removed_lines(
     requires some { 0 < length lines.now }
     // Below some rows, the first of them perhaps over a row that shows no line.
     ensures added { (above tail : List (List Cell)) (shares : Bool) → row ≡ length above → buffer.old ≡ above ++ tail
-        → IsTail layout shares tail → OnOk result (AddsRemoved layout (texts_at lines.now) above buffer.new) }
+        → IsTail layout.decor layout.gutter shares tail → OnOk result (AddsRemoved layout (texts_at lines.now) above buffer.new) }
 {
     let mut row = row;
     for info in lines {

@@ -32,14 +32,14 @@ pub(crate) fn draw_line(
 ) -> Result<usize, AllocError>
     requires narrow { layout.gutter < 2 ^ 32 }
     requires sign { is_sign glyph ≡ true }
-    ensures added { let shown = shown_number layout.numbered layout.gutter number in length shown ≤ layout.gutter + 1
+    ensures added { let shown = shown_number layout.numbers layout.gutter number in length shown ≤ layout.gutter + 1
         → OnOk result (AddsRow (IsLineRow layout.decor layout.gutter shown (norm (chars line.now))) buffer.old buffer.new) }
     ensures row { IfOk result (λ row. row ≡ length buffer.old) }
 {
     let row = buffer.num_lines();
     let sign = glyph.text(layout.decor);
     buffer.puts(row, layout.gutter + 1, sign, glyph.role())?;
-    let number = number_text(alloc, layout.numbered, layout.gutter, number)?;
+    let number = number_text(alloc, layout.numbers, layout.gutter, number)?;
     buffer.puts(row, 0, number.as_str(), ElementStyle::LineNumber)?;
     let text = normalized(alloc, line)?;
     buffer.puts(row, layout.gutter + 3, text.as_str(), ElementStyle::NoStyle)?;
@@ -68,9 +68,9 @@ pub(crate) fn draw_removed_line(
     requires row { row + 1 < 2 ^ 64 }
     // In a row of its own, or over one that shows no line.
     ensures added { (above tail : List (List Cell)) (shares : Bool) → row ≡ length above → buffer.old ≡ above ++ tail
-        → IsTail layout shares tail → OnOk result (AddsRow (IsRemovedRow layout.decor layout.gutter (norm (chars line.now))) above buffer.new) }
+        → IsTail layout.decor layout.gutter shares tail → OnOk result (AddsRow (IsRemovedRow layout.numbers layout.decor layout.gutter (norm (chars line.now))) above buffer.new) }
 {
-    let number = number_text(alloc, layout.numbered, layout.gutter, number)?;
+    let number = number_text(alloc, layout.numbers, layout.gutter, number)?;
     buffer.puts(row, 0, number.as_str(), ElementStyle::LineNumber)?;
     buffer.puts(row, layout.gutter + 1, "- ", ElementStyle::Removal)?;
     let text = normalized(alloc, line)?;

@@ -6,7 +6,7 @@ ghost use Rattle.snippet_splice.specs.Copied.{end_from};
 ghost use Rattle.snippet_splice.specs.Shown.{first_start};
 ghost use Rattle.snippet_splice.specs.Edits.{AreApart, trimmed_edit_of};
 ghost use Rattle.snippet_suggest.specs.Prepared.{IsPrepared};
-ghost use Rattle.snippet_suggest.specs.Rows.{AddsLines, AddsSuggestion, HasGutter, IsBareRow, IsTail, NumberFits};
+ghost use Rattle.snippet_suggest.specs.Rows.{AddsLines, AddsSuggestion, HasGutter, IsBareRow, IsStart, NumberFits, rows_shared};
 ghost use Rattle.snippet_suggest.specs.Given.{emptied_lines, first_given, first_original, first_original_end, given_lines, numbers_given, removed_texts, replaced_lines, texts_of_source};
 ghost use Rattle.snippet_suggest.specs.declared.kind.DisplaySuggestion.TheVariants.{Diff};
 ghost use Rattle.snippet_suggest.specs.declared.shown.ShownLine.TheVariants.{Line};
@@ -14,7 +14,7 @@ ghost use Rattle.snippet_suggest.specs.declared.shown.ShownLine.TheVariants.{Lin
 use crate::diff::draw_diff;
 use crate::ends::{draw_end, draw_head};
 use crate::kind::DisplaySuggestion;
-use crate::layout::SuggestionLayout;
+use crate::layout::{SuggestionLayout, SuggestionStart};
 use crate::lines::{draw_lines, text_lines};
 use crate::marks::draw_marks;
 use crate::prepared::{PreparedSuggestion, first_number};
@@ -27,7 +27,7 @@ use snippet_style::StyledBuffer;
 use std::alloc::{AllocError, Global};
 use std::ops::Range;
 
-/// Draws a suggestion without a path below all that stands in the grid: the lines as they will be.
+/// Draws a suggestion below all that stands in the grid: the lines as they will be.
 ///
 /// ```text
 ///      ╭╴
@@ -35,8 +35,8 @@ use std::ops::Range;
 ///      ╰╴    ++++
 /// ```
 ///
-/// It begins in the last row, if it `shares` that with a suggestion for the same file, the element before. The last row
-/// leads on, if an element `follows`.
+/// It begins in a row of its own, in the last row of the suggestion before it, or below its path, which is drawn before. The
+/// last row leads on, if an element `follows`.
 ///
 /// # Errors
 ///
@@ -46,18 +46,18 @@ pub fn draw_suggestion(
     buffer: &mut StyledBuffer,
     layout: SuggestionLayout,
     suggestion: &PreparedSuggestion<'_>,
-    shares: bool,
+    start: SuggestionStart,
     follows: bool,
 ) -> Result<(), AllocError>
     requires narrow { layout.gutter < 2 ^ 32 }
     requires prepared { IsPrepared suggestion.now }
     // Where the gutter has room for the number that it counts: rows that show it, and nothing else, below what stands there.
     ensures added { HasGutter layout suggestion.now.snippet.now
-        → (above tail : List (List Cell)) → buffer.old ≡ above ++ tail → IsTail layout shares tail
+        → (above tail : List (List Cell)) → buffer.old ≡ above ++ tail → IsStart layout start tail
         → OnOk result (AddsSuggestion layout suggestion.now.snippet.now above buffer.new) }
 {
     let lines = text_lines(alloc, suggestion.splice.complete.as_str())?;
-    let skipped = draw_body(alloc, buffer, layout, suggestion, &lines, shares)?;
+    let skipped = draw_body(alloc, buffer, layout, suggestion, &lines, start)?;
     let row = draw_end(buffer, layout, skipped, follows)?;
     if suggestion.kind == DisplaySuggestion::Underline {
         let patches = &suggestion.splice.patches;
@@ -73,21 +73,21 @@ fn draw_body(
     layout: SuggestionLayout,
     suggestion: &PreparedSuggestion<'_>,
     lines: &[&str],
-    shares: bool,
+    start: SuggestionStart,
 ) -> Result<usize, AllocError>
     requires narrow { layout.gutter < 2 ^ 32 }
     requires prepared { IsPrepared suggestion.now }
     requires lines { map (λ l. l.now) lines.now ≡ given_lines suggestion.now.snippet.now }
     ensures few { IfOk result (λ skipped. skipped < 2) }
     ensures added { let s = suggestion.now.snippet.now in HasGutter layout s
-        → (above tail : List (List Cell)) → buffer.old ≡ above ++ tail → IsTail layout shares tail
+        → (above tail : List (List Cell)) → buffer.old ≡ above ++ tail → IsStart layout start tail
         → OnOk result (AddsLines layout (s.line_start + first_given s) (given_lines s) (numbers_given s) (removed_texts s) above buffer.new) }
 {
     let Some(line) = lines.first() else {
-        draw_emptied(alloc, buffer, layout, suggestion, shares)?;
+        draw_emptied(alloc, buffer, layout, suggestion, start)?;
         return Ok(0);
     };
-    draw_head(buffer, layout, shares)?;
+    draw_head(buffer, layout, start)?;
     let splice = &suggestion.splice;
     let fold = suggestion.snippet.fold;
     let first = first_number(&suggestion.map, &splice.patches, fold);
@@ -149,12 +149,12 @@ fn draw_emptied(
     buffer: &mut StyledBuffer,
     layout: SuggestionLayout,
     suggestion: &PreparedSuggestion<'_>,
-    shares: bool,
+    start: SuggestionStart,
 ) -> Result<(), AllocError>
     requires narrow { layout.gutter < 2 ^ 32 }
     requires prepared { IsPrepared suggestion.now }
     ensures added { let s = suggestion.now.snippet.now in (above tail : List (List Cell)) → buffer.old ≡ above ++ tail
-        → IsTail layout shares tail
+        → IsStart layout start tail
         → OnOk result (AddsLines layout (s.line_start + first_given s) (given_lines s) []
         (texts_of_source s (emptied_lines s)) above buffer.new) }
 {
@@ -162,23 +162,22 @@ fn draw_emptied(
     let patches = &suggestion.splice.patches;
     let removed = map.span_to_lines(given_span(map, patches, suggestion.snippet.fold))?;
     if suggestion.kind == DisplaySuggestion::Diff {
-        draw_head(buffer, layout, shares)?;
+        draw_head(buffer, layout, start)?;
         let row = buffer.num_lines();
         return draw_removed_lines(alloc, buffer, layout, row, &removed);
     }
-    let row = first_row(buffer, shares);
+    let row = first_row(buffer, start);
     draw_removed_lines(alloc, buffer, layout, row, &removed)
 }
 
-/// The row that a suggestion begins with: the last one, if it `shares` that, else the one below.
-fn first_row(buffer: &StyledBuffer, shares: bool) -> usize
-    ensures value { result ≡ length buffer.now - (if shares then 1 else 0) }
+/// The row that a suggestion begins with: the row below all others, or the last one, if that is there for it.
+fn first_row(buffer: &StyledBuffer, start: SuggestionStart) -> usize
+    ensures value { result ≡ length buffer.now - rows_shared start }
     ensures small { result < 2 ^ 60 }
 {
-    if shares {
-        buffer.num_lines().saturating_sub(1)
-    } else {
-        buffer.num_lines()
+    match start {
+        SuggestionStart::Opening => buffer.num_lines(),
+        SuggestionStart::Next | SuggestionStart::Path => buffer.num_lines().saturating_sub(1),
     }
 }
 

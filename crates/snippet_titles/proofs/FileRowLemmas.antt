@@ -10,7 +10,7 @@ use Rattle.snippet_style.specs.Grid.{Cell, SPACE, drawn, row_at, written, cells_
 use Rattle.snippet_style.proofs.GridLemmas.{length-chars_le, cells_written_below}
 use Rattle.snippet_titles.specs.declared.origin.FileStart.{FileStart}
 use Rattle.snippet_titles.specs.declared.origin.FileStart.TheVariants.{Alone, First, Later, Secondary}
-use Rattle.snippet_titles.specs.declared.origin.NamedPlace.{NamedPlace}
+use Rattle.snippet_titles.specs.declared.origin.OriginPlace.{OriginPlace}
 use Rattle.snippet_titles.specs.declared.origin.OriginLayout.{OriginLayout}
 use Rattle.snippet_titles.specs.Origin.{file_glyph, file_row, origin_row, origin_text, separator_row, closing_row}
 use Rattle.snippet_titles.proofs.ExtendLemmas.{extended, extended_from, length-begun}
@@ -86,7 +86,7 @@ separator_row-begun old new row gutter stroke decor below is writes =
     begun_by old new row (gutter + 1) (drawn LineNumber (separator_of decor ∷ [])) below (writes ∙ ap (λ s. cells_written old row (gutter + 1) (drawn LineNumber (s ∷ []))) is)
 
 -- the row of a path: the row that leads to it, with the text behind that
-pub origin_row-begun : (old now new : List (List Cell)) (row : ℕ) (text path : List ℕ) (layout : OriginLayout) (start : FileStart) (place : NamedPlace) → row ≡ length old → now ≡ old ++ file_row layout start ∷ [] → chars text ≡ origin_text layout.anonymized path place → (0 < length text → new ≡ cells_written now row (length (row_at now row)) (drawn LineAndColumn (chars text))) → (text ≡ [] → new ≡ now) → new ≡ old ++ origin_row layout start path place ∷ []
+pub origin_row-begun : (old now new : List (List Cell)) (row : ℕ) (text path : List ℕ) (layout : OriginLayout) (start : FileStart) (place : OriginPlace) → row ≡ length old → now ≡ old ++ file_row layout start ∷ [] → chars text ≡ origin_text layout.anonymized path place → (0 < length text → new ≡ cells_written now row (length (row_at now row)) (drawn LineAndColumn (chars text))) → (text ≡ [] → new ≡ now) → new ≡ old ++ origin_row layout start path place ∷ []
 unfolding origin_row
 origin_row-begun old now new row text path layout start place below begun is full empty =
     extended_from old now new row (file_row layout start) (drawn LineAndColumn (chars text)) below begun (extended now new row LineAndColumn text (length-begun old now row (file_row layout start) below begun) full empty) ∙ ap (λ cs. old ++ (file_row layout start ++ drawn LineAndColumn cs) ∷ []) is

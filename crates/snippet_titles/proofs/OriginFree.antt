@@ -14,7 +14,7 @@ use Rattle.snippet_text.specs.Normalized.{norm, is_listed}
 use Rattle.snippet_text.proofs.NormLemmas.{list_any-norm}
 use Rattle.snippet_titles.specs.declared.origin.FileStart.{FileStart}
 use Rattle.snippet_titles.specs.declared.origin.FileStart.TheVariants.{Alone, First, Later, Secondary}
-use Rattle.snippet_titles.specs.declared.origin.NamedPlace.{NamedPlace}
+use Rattle.snippet_titles.specs.declared.origin.OriginPlace.{OriginPlace}
 use Rattle.snippet_titles.specs.declared.origin.OriginLayout.{OriginLayout}
 use Rattle.snippet_titles.specs.Origin.{file_glyph, file_row, origin_row, origin_text, place_text, separator_row, closing_row, padding_row, primary_head, secondary_head, nameless_head}
 use Rattle.snippet_titles.proofs.DigitLemmas.{IsDigit}
@@ -86,24 +86,24 @@ file_row-free layout start =
 digit-unlisted : (c : ℕ) → IsDigit c → is_listed c ≡ false
 digit-unlisted c is = grind (arith, nat_tests)
 
-origin_text-free : (anonymized : Bool) (path : List ℕ) (place : NamedPlace) → All (λ c. is_listed c ≡ false) (origin_text anonymized path place)
+origin_text-free : (anonymized : Bool) (path : List ℕ) (place : OriginPlace) → All (λ c. is_listed c ≡ false) (origin_text anonymized path place)
 unfolding origin_text
 origin_text-free anonymized path place =
     let P : ℕ → Type 0 = λ c. is_listed c ≡ false in
     All-append P (norm (chars path)) (place_text anonymized place) (each-fails is_listed (norm (chars path)) (list_any-norm (chars path))) (place_text-each P digit-unlisted refl refl anonymized place)
 
-pub origin_row-free : (layout : OriginLayout) (start : FileStart) (path : List ℕ) (place : NamedPlace) → IsFree (origin_row layout start path place)
+pub origin_row-free : (layout : OriginLayout) (start : FileStart) (path : List ℕ) (place : OriginPlace) → IsFree (origin_row layout start path place)
 unfolding origin_row
 origin_row-free layout start path place =
     let text : List ℕ = origin_text layout.anonymized path place in
     All-append IsFreeCell (file_row layout start) (drawn LineAndColumn text) (file_row-free layout start) (drawn-free LineAndColumn text (origin_text-free layout.anonymized path place))
 
 -- and so are the heads of snippets
-pub primary_head-free : (layout : OriginLayout) (first : Bool) (path : List ℕ) (place : NamedPlace) → All IsFree (primary_head layout first path place)
+pub primary_head-free : (layout : OriginLayout) (first : Bool) (path : List ℕ) (place : OriginPlace) → All IsFree (primary_head layout first path place)
 primary_head-free layout first path place =
     primary_head-each IsFree layout (separator_row-free layout.decor layout.gutter) path place (λ start. origin_row-free layout start path place) first
 
-pub secondary_head-free : (layout : OriginLayout) (path : List ℕ) (place : NamedPlace) → All IsFree (secondary_head layout path place)
+pub secondary_head-free : (layout : OriginLayout) (path : List ℕ) (place : OriginPlace) → All IsFree (secondary_head layout path place)
 secondary_head-free layout path place =
     secondary_head-each IsFree layout (separator_row-free layout.decor layout.gutter) path place (λ start. origin_row-free layout start path place)
 

@@ -12,7 +12,7 @@ use Rattle.snippet_style.specs.Grid.{Cell, SPACE, drawn}
 use Rattle.snippet_style.proofs.GridLemmas.{All-drawn, length-drawn}
 use Rattle.snippet_titles.specs.declared.origin.FileStart.{FileStart}
 use Rattle.snippet_titles.specs.declared.origin.FileStart.TheVariants.{Alone, First, Later, Secondary}
-use Rattle.snippet_titles.specs.declared.origin.NamedPlace.{NamedPlace}
+use Rattle.snippet_titles.specs.declared.origin.OriginPlace.{OriginPlace}
 use Rattle.snippet_titles.specs.declared.origin.OriginLayout.{OriginLayout}
 use Rattle.snippet_titles.specs.Origin.{file_glyph, file_row, origin_row, origin_text, separator_row, closing_row, padding_row, primary_head, secondary_head, nameless_head}
 use Rattle.snippet_titles.proofs.HeadLemmas.{primary_head-each, secondary_head-each, nameless_head-each}
@@ -77,7 +77,7 @@ file_row-plain layout start =
     let glyph : List ℕ = file_glyph start layout.decor in
     All-append IsPlain (replicate layout.gutter SPACE) (drawn LineNumber glyph) (spaces-plain layout.gutter) (All-drawn IsPlain LineNumber glyph (each-fails is_ascii_alphanumeric glyph (glyphs-unnumbered start layout.decor)))
 
-pub origin_row-unnumbered : (layout : OriginLayout) (start : FileStart) (path : List ℕ) (place : NamedPlace) → HasNoNumber layout.gutter (origin_row layout start path place)
+pub origin_row-unnumbered : (layout : OriginLayout) (start : FileStart) (path : List ℕ) (place : OriginPlace) → HasNoNumber layout.gutter (origin_row layout start path place)
 unfolding origin_row
 origin_row-unnumbered layout start path place =
     front-unnumbered layout.gutter (file_row layout start) (drawn LineAndColumn (origin_text layout.anonymized path place)) (file_row-long layout start) (file_row-plain layout start)
@@ -87,11 +87,11 @@ file_row-unnumbered layout start c within =
     All-get_or IsPlain (file_row layout start) c SPACE (omega (arith, within, file_row-long layout start)) (file_row-plain layout start)
 
 -- nor in the heads of snippets
-pub primary_head-unnumbered : (layout : OriginLayout) (first : Bool) (path : List ℕ) (place : NamedPlace) → All (HasNoNumber layout.gutter) (primary_head layout first path place)
+pub primary_head-unnumbered : (layout : OriginLayout) (first : Bool) (path : List ℕ) (place : OriginPlace) → All (HasNoNumber layout.gutter) (primary_head layout first path place)
 primary_head-unnumbered layout first path place =
     primary_head-each (HasNoNumber layout.gutter) layout (separator_row-unnumbered layout.decor layout.gutter) path place (λ start. origin_row-unnumbered layout start path place) first
 
-pub secondary_head-unnumbered : (layout : OriginLayout) (path : List ℕ) (place : NamedPlace) → All (HasNoNumber layout.gutter) (secondary_head layout path place)
+pub secondary_head-unnumbered : (layout : OriginLayout) (path : List ℕ) (place : OriginPlace) → All (HasNoNumber layout.gutter) (secondary_head layout path place)
 secondary_head-unnumbered layout path place =
     secondary_head-each (HasNoNumber layout.gutter) layout (separator_row-unnumbered layout.decor layout.gutter) path place (λ start. origin_row-unnumbered layout start path place)
 

@@ -9,7 +9,7 @@ use Rattle.snippet_style.specs.Print.{row_text}
 use Rattle.snippet_style.proofs.GridLemmas.{length-drawn}
 use Rattle.snippet_text.specs.Normalized.{norm}
 use Rattle.snippet_titles.specs.declared.origin.FileStart.{FileStart}
-use Rattle.snippet_titles.specs.declared.origin.NamedPlace.{NamedPlace}
+use Rattle.snippet_titles.specs.declared.origin.OriginPlace.{OriginPlace}
 use Rattle.snippet_titles.specs.declared.origin.OriginLayout.{OriginLayout}
 use Rattle.snippet_titles.specs.Origin.{line_name, file_glyph, file_row, origin_row, origin_text}
 use Rattle.snippet_titles.proofs.TextLemmas.{row_text-append, row_text-drawn, row_text-spaces}
@@ -25,14 +25,14 @@ row_text-file layout start =
     row_text-append (replicate layout.gutter SPACE) (drawn LineNumber glyph) ∙ ap (λ cs. cs ++ row_text (drawn LineNumber glyph)) (row_text-spaces layout.gutter) ∙ ap (λ cs. replicate layout.gutter 32 ++ cs) (row_text-drawn LineNumber glyph)
 
 -- the row's characters end with the path and its place
-pub row_text-origin : (layout : OriginLayout) (start : FileStart) (path : List ℕ) (place : NamedPlace) → row_text (origin_row layout start path place) ≡ front_text layout start ++ origin_text layout.anonymized path place
+pub row_text-origin : (layout : OriginLayout) (start : FileStart) (path : List ℕ) (place : OriginPlace) → row_text (origin_row layout start path place) ≡ front_text layout start ++ origin_text layout.anonymized path place
 unfolding origin_row
 row_text-origin layout start path place =
     let text : List ℕ = origin_text layout.anonymized path place in
     row_text-append (file_row layout start) (drawn LineAndColumn text) ∙ ap (λ cs. cs ++ row_text (drawn LineAndColumn text)) (row_text-file layout start) ∙ ap (λ cs. front_text layout start ++ cs) (row_text-drawn LineAndColumn text)
 
 -- they stand behind the glyph
-pub origin_row-behind : (layout : OriginLayout) (start : FileStart) (path : List ℕ) (place : NamedPlace) → drop (layout.gutter + length (file_glyph start layout.decor)) (origin_row layout start path place) ≡ drawn LineAndColumn (origin_text layout.anonymized path place)
+pub origin_row-behind : (layout : OriginLayout) (start : FileStart) (path : List ℕ) (place : OriginPlace) → drop (layout.gutter + length (file_glyph start layout.decor)) (origin_row layout start path place) ≡ drawn LineAndColumn (origin_text layout.anonymized path place)
 unfolding origin_row file_row
 origin_row-behind layout start path place =
     let glyph : List ℕ = file_glyph start layout.decor in

@@ -9,7 +9,7 @@ use Rattle.snippet_style.specs.Grid.{Cell, SPACE, drawn}
 use Rattle.snippet_text.specs.Normalized.{norm}
 use Rattle.snippet_titles.specs.declared.origin.FileStart.{FileStart}
 use Rattle.snippet_titles.specs.declared.origin.FileStart.TheVariants.{Alone, First, Later, Secondary}
-use Rattle.snippet_titles.specs.declared.origin.NamedPlace.{NamedPlace}
+use Rattle.snippet_titles.specs.declared.origin.OriginPlace.{OriginPlace}
 use Rattle.snippet_titles.specs.declared.origin.OriginLayout.{OriginLayout}
 
 -- how a line is named behind a path: by its number, or as `LL` where the lines of paths are anonymized
@@ -27,11 +27,11 @@ abbrev pub line_text : Bool → Option ℕ → Option ℕ → List ℕ
 line_text anonymized None column = []
 line_text anonymized (Some line) column = codes ":" ++ line_name anonymized line ++ column_text column
 
-abbrev pub place_text : Bool → NamedPlace → List ℕ
+abbrev pub place_text : Bool → OriginPlace → List ℕ
 place_text anonymized place = line_text anonymized place.line place.column
 
 -- a path, normalised, with the place behind it
-unfoldable pub origin_text : Bool → List ℕ → NamedPlace → List ℕ
+unfoldable pub origin_text : Bool → List ℕ → OriginPlace → List ℕ
 origin_text anonymized path place = norm (chars path) ++ place_text anonymized place
 
 -- what leads from the gutter to a path: '--> ', or '::: ' to any but the group's primary file. In Unicode ' ─▸ ' where the
@@ -51,7 +51,7 @@ file_row layout start =
     replicate layout.gutter SPACE ++ drawn LineNumber (file_glyph start layout.decor)
 
 -- the row of a path: the same, and behind it the path with its place
-unfoldable pub origin_row : OriginLayout → FileStart → List ℕ → NamedPlace → List Cell
+unfoldable pub origin_row : OriginLayout → FileStart → List ℕ → OriginPlace → List Cell
 origin_row layout start path place =
     file_row layout start ++ drawn LineAndColumn (origin_text layout.anonymized path place)
 
@@ -67,17 +67,38 @@ closing_row decor gutter = replicate (gutter + 1) SPACE ++ drawn LineNumber (clo
 abbrev pub padding_row : DecorStyle → ℕ → Bool → List Cell
 padding_row decor gutter last = if last then closing_row decor gutter else separator_row decor gutter
 
+-- what leads to the group's primary file, from its first element or from a later one
+abbrev pub primary_start : Bool → FileStart
+primary_start first = if first then First else Later
+
+-- what a snippet without a path begins with where it is the group's primary one: in ASCII a separator row, in Unicode the start
+-- of a file
+abbrev pub opening_rows : DecorStyle → OriginLayout → Bool → List (List Cell)
+opening_rows Ascii layout first = separator_row layout.decor layout.gutter ∷ []
+opening_rows Unicode layout first = file_row layout (primary_start first) ∷ []
+
+abbrev pub opening_head : OriginLayout → Bool → List (List Cell)
+opening_head layout first = opening_rows layout.decor layout first
+
 -- what a snippet with a path begins with where it is the group's primary one, as the first element or as a later one: the
 -- row of the path, and a separator row
-abbrev pub primary_head : OriginLayout → Bool → List ℕ → NamedPlace → List (List Cell)
+abbrev pub primary_head : OriginLayout → Bool → List ℕ → OriginPlace → List (List Cell)
 primary_head layout first path place =
-    origin_row layout (if first then First else Later) path place ∷ separator_row layout.decor layout.gutter ∷ []
+    origin_row layout (primary_start first) path place ∷ separator_row layout.decor layout.gutter ∷ []
 
 -- the same where it isn't primary: the row of the path between two separator rows
-abbrev pub secondary_head : OriginLayout → List ℕ → NamedPlace → List (List Cell)
+abbrev pub secondary_head : OriginLayout → List ℕ → OriginPlace → List (List Cell)
 secondary_head layout path place =
     separator_row layout.decor layout.gutter ∷ origin_row layout Secondary path place ∷ separator_row layout.decor layout.gutter ∷ []
 
 -- what a snippet without a path begins with where it isn't primary: a separator row, and a row that leads to no path
 abbrev pub nameless_head : OriginLayout → List (List Cell)
 nameless_head layout = separator_row layout.decor layout.gutter ∷ file_row layout Secondary ∷ []
+
+-- what a snippet begins with: whether it is the group's primary one, and the first element, with its path, if it has one, and
+-- the place that is named behind that
+abbrev pub snippet_head : OriginLayout → Bool → Bool → Option (List ℕ) → OriginPlace → List (List Cell)
+snippet_head layout true first None place = opening_head layout first
+snippet_head layout true first (Some path) place = primary_head layout first path place
+snippet_head layout false first None place = nameless_head layout
+snippet_head layout false first (Some path) place = secondary_head layout path place

@@ -1,11 +1,41 @@
 //! The rows that a snippet begins with.
 ghost use Rattle.std.specs.Prelude.{◌≡◌, ◌+◌, ◌^◌, ◌<◌, ◌++◌, OnOk};
-ghost use Rattle.snippet_titles.specs.Origin.{nameless_head, primary_head, secondary_head};
+ghost use Rattle.snippet_titles.specs.Origin.{nameless_head, opening_head, primary_head, secondary_head};
+ghost use Rattle.snippet_titles.specs.Origin as spec;
 
-use crate::origin::{FileStart, NamedPlace, OriginLayout, begin_file_row, draw_origin};
+use crate::origin::{FileStart, OriginPlace, OriginLayout, begin_file_row, draw_origin};
 use crate::padding::draw_separator;
-use snippet_style::StyledBuffer;
+use snippet_style::{DecorStyle, StyledBuffer};
 use std::alloc::{AllocError, Global};
+
+/// Draws what the group's primary snippet begins with, where it has no path, below all that stands in the grid. The snippet
+/// may be the group's `first` element.
+///
+/// ```text
+///    |      in ASCII
+///   ╭▸      in Unicode, where the snippet is the first element
+///   ├▸      in Unicode, where it is a later one
+/// ```
+///
+/// # Errors
+///
+/// There is no memory for the row.
+pub fn draw_opening_head(
+    buffer: &mut StyledBuffer,
+    layout: OriginLayout,
+    first: bool,
+) -> Result<(), AllocError>
+    requires narrow { layout.gutter < 2 ^ 63 + 2 ^ 32 }
+    ensures rows { OnOk result (buffer.new ≡ buffer.old ++ opening_head layout first) }
+{
+    match layout.decor {
+        DecorStyle::Ascii => draw_separator(buffer, layout.gutter, layout.decor),
+        DecorStyle::Unicode => {
+            begin_file_row(buffer, layout, primary_start(first))?;
+            Ok(())
+        }
+    }
+}
 
 /// Draws what the group's primary snippet begins with, where it has a path, below all that stands in the grid. The snippet
 /// may be the group's `first` element.
@@ -24,17 +54,12 @@ pub fn draw_primary_head(
     layout: OriginLayout,
     first: bool,
     path: &str,
-    place: NamedPlace,
+    place: OriginPlace,
 ) -> Result<(), AllocError>
     requires narrow { layout.gutter < 2 ^ 63 + 2 ^ 32 }
     ensures rows { OnOk result (buffer.new ≡ buffer.old ++ primary_head layout first path.now place) }
 {
-    let start = if first {
-        FileStart::First
-    } else {
-        FileStart::Later
-    };
-    draw_origin(alloc, buffer, layout, start, path, place)?;
+    draw_origin(alloc, buffer, layout, primary_start(first), path, place)?;
     draw_separator(buffer, layout.gutter, layout.decor)
 }
 
@@ -54,7 +79,7 @@ pub fn draw_secondary_head(
     buffer: &mut StyledBuffer,
     layout: OriginLayout,
     path: &str,
-    place: NamedPlace,
+    place: OriginPlace,
 ) -> Result<(), AllocError>
     requires narrow { layout.gutter < 2 ^ 63 + 2 ^ 32 }
     ensures rows { OnOk result (buffer.new ≡ buffer.old ++ secondary_head layout path.now place) }
@@ -82,4 +107,15 @@ pub fn draw_nameless_head(buffer: &mut StyledBuffer, layout: OriginLayout) -> Re
     draw_separator(buffer, layout.gutter, layout.decor)?;
     begin_file_row(buffer, layout, FileStart::Secondary)?;
     Ok(())
+}
+
+/// What leads to the group's primary file, from its first element or from a later one.
+fn primary_start(first: bool) -> FileStart
+    ensures value { result ≡ spec.primary_start first }
+{
+    if first {
+        FileStart::First
+    } else {
+        FileStart::Later
+    }
 }

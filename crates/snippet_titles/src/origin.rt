@@ -23,7 +23,7 @@ pub enum FileStart {
 
 /// A place in a file, as it stands behind the file's path.
 #[derive(Clone, Copy, Debug, PartialEq, Eq)]
-pub struct NamedPlace {
+pub struct OriginPlace {
     /// The number of the line.
     pub line: Option<usize>,
     /// The column, counted in characters from 1. It is shown only where there is a line.
@@ -70,7 +70,7 @@ impl FileStart {
 pub fn origin_text(
     alloc: Global,
     path: &str,
-    place: NamedPlace,
+    place: OriginPlace,
     anonymized: bool,
 ) -> Result<String, AllocError>
     ensures value { IfOk result (λ t. chars (string_bytes t) ≡ spec.origin_text anonymized path.now place) }
@@ -81,7 +81,7 @@ pub fn origin_text(
 }
 
 /// Adds the place that stands behind a path.
-fn push_place(text: &mut String, place: NamedPlace, anonymized: bool) -> Result<(), AllocError>
+fn push_place(text: &mut String, place: OriginPlace, anonymized: bool) -> Result<(), AllocError>
     ensures added { OnOk result (string_bytes text.new ≡ string_bytes text.old ++ place_text anonymized place) }
 {
     let Some(line) = place.line else {
@@ -121,7 +121,7 @@ pub fn draw_origin(
     layout: OriginLayout,
     start: FileStart,
     path: &str,
-    place: NamedPlace,
+    place: OriginPlace,
 ) -> Result<(), AllocError>
     requires narrow { layout.gutter < 2 ^ 63 + 2 ^ 32 }
     ensures row { OnOk result (buffer.new ≡ buffer.old ++ origin_row layout start path.now place ∷ []) }

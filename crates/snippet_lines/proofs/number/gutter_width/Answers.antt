@@ -1,4 +1,4 @@
-use Rattle.std.proofs.Common.{◌≤◌, length, arith}
+use Rattle.std.proofs.Common.{◌≡◌, ◌≤◌, length, arith}
 use Rattle.std.specs.Fmt.{decimal}
 use Rattle.std.proofs.lemmas.Fmt.{length-decimal-le}
 use Rattle.snippet_lines.proofs.NumberLemmas.{length-decimal_last, length-decimal_more}
@@ -15,4 +15,6 @@ loop-rest-preserved c =
 
 pub returns : goal.returns
 returns c =
-    record { value = omega (arith, length-decimal_last c.loop-rest.rest (omega arith) (omega arith)) }
+    let short : length (decimal c.args.number) ≤ 20 = length-decimal-le 20 c.args.number (omega arith) (omega arith) (omega arith) in
+    let value : c.loop-rest.width ≡ length (decimal c.args.number) = omega (arith, length-decimal_last c.loop-rest.rest (omega arith) (omega arith)) in
+    record { value = value; small = omega (arith, value, short) }

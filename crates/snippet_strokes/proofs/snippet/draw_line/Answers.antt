@@ -27,4 +27,4 @@ returns-clause-added c =
     let highlighted = c.in_ok-highlight_source.ensures in
     let highlights = subst (λ es. IsHighlighted layout.code dropped (filter (λ (e : LineAnnotation). not (is_end_part e.annotation_type)) es) (row_at mid row) (row_at high row)) c.deref.ensures.value highlighted.highlighted in
     let clear = clear_entries margin dropped info.annotations.items c.requires.clear drawn.near drawn.uncut in
-    line_added layout margin c.args.numbered c.args.closes info dropped c.args.buffer.now mid high c.draw_entries.new.buffer c.draw_bars.new.buffer row c.requires.number drawn.added drawn.row drawn.dropped clear highlights highlighted.others highlighted.count c.in_ok-draw_entries.ensures.added c.in_ok-draw_bars.ensures.draws
+    line_added layout margin c.args.numbers c.args.closes info dropped c.args.buffer.now mid high c.draw_entries.new.buffer c.draw_bars.new.buffer row c.requires.number drawn.added drawn.row drawn.dropped clear highlights highlighted.others highlighted.count c.in_ok-draw_entries.ensures.added c.in_ok-draw_bars.ensures.draws

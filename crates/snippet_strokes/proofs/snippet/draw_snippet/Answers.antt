@@ -13,7 +13,7 @@ use Rattle.snippet_strokes.proofs.snippet.draw_snippet.Goals.{then-closes, else-
 pub loop-i-init : goal.loop-i-init
 loop-i-init c = (
   All-same (HasRoom c.args.layout) c.new-open_bars.result.items [] c.new-open_bars.ensures.items (All-nil (HasRoom c.args.layout)),
-  AddsLines-none c.args.layout c.args.margin c.args.numbered c.args.closes c.args.infos.now c.begin_first_row.new.buffer,
+  AddsLines-none c.args.layout c.args.margin c.args.numbers c.args.closes c.args.infos.now c.args.buffer.now,
 )
 
 pub draw_line-requires-clause-room : goal.draw_line-requires-clause-room
@@ -41,17 +41,17 @@ loop-i-preserved c =
       | then-closes w ↦ w.closes-is ∙ sym (ap (λ b. b && i + 1 == length infos) w.if-closes.true)
       | else-closes w ↦ w.closes-is ∙ w.if-closes.false ∙ sym (ap (λ b. b && i + 1 == length infos) w.if-closes.false)
     ] in
-    let line = subst (λ b. AddsLine layout c.args.margin c.args.numbered b info old mid) closes c.in_ok-open_bars.ensures.added in
+    let line = subst (λ b. AddsLine layout c.args.margin c.args.numbers b info old mid) closes c.in_ok-open_bars.ensures.added in
     let rest : take (length infos - (i + 1)) (drop (i + 1) infos) ≡ drop (i + 1) infos = take_rest infos (i + 1) in
     let gap = subst (λ xs. AddsGap layout info.line_index xs mid new) rest c.in_ok-draw_gap.ensures.added in
     let before = All-same (HasRoom layout) c.deref.result.now c.loop-i.open_bars.items c.deref.ensures.value c.loop-i.invariant.0 in
     let rails : All (HasRail layout) info.annotations.items = subst (λ (x : AnnotatedLineInfo). All (HasRail layout) x.annotations.items) (sym c.index-infos-i.is) (c.requires.rails i info c.loop-i-test.true) in (
       All-same (HasRoom layout) c.in_ok-open_bars.open_bars.items _ c.in_ok-open_bars.ensures.bars (room_below layout c.deref.result.now info.annotations.items before rails),
-      AddsLines-next layout c.args.margin c.args.numbered c.args.closes infos i info c.begin_first_row.new.buffer old mid new c.loop-i-test.true c.index-infos-i.is c.loop-i.invariant.1 line gap,
+      AddsLines-next layout c.args.margin c.args.numbers c.args.closes infos i info c.args.buffer.now old mid new c.loop-i-test.true c.index-infos-i.is c.loop-i.invariant.1 line gap,
     )
 
 pub returns : goal.returns
 returns c =
     record {
-      added = AddsSnippet-from_lines c.args.layout c.args.margin c.args.numbered c.args.first c.args.closes c.args.infos.now c.loop-i.i c.args.buffer.now c.begin_first_row.new.buffer c.loop-i.buffer (omega (arith, c.loop-i-test.false, c.loop-i.auto.i-end)) c.in_ok-begin_first_row.ensures.added c.loop-i.invariant.1;
+      added = AddsSnippet-from_lines c.args.layout c.args.margin c.args.numbers c.args.closes c.args.infos.now c.loop-i.i c.args.buffer.now c.loop-i.buffer (omega (arith, c.loop-i-test.false, c.loop-i.auto.i-end)) c.loop-i.invariant.1;
     }

@@ -19,11 +19,11 @@ window_of-window-requires-clause-short c =
 
 pub write_source_row-requires-clause-number : goal.write_source_row-requires-clause-number
 write_source_row-requires-clause-number c =
-    omega (arith, ap length (ap chars (c.as_str-2.ensures.value ∙ c.in_ok-number.ensures.text) ∙ chars-shown_number c.args.numbered c.args.layout.gutter c.args.info.now.line_index (omega arith)))
+    omega (arith, ap length (ap chars (c.as_str-2.ensures.value ∙ c.in_ok-number.ensures.text) ∙ chars-shown_number c.args.numbers c.args.layout.gutter c.args.info.now.line_index (omega arith)))
 
 pub write_source_row-requires-clause-number_free : goal.write_source_row-requires-clause-number_free
 write_source_row-requires-clause-number_free c =
-    ap (list_any is_listed) (ap chars (c.as_str-2.ensures.value ∙ c.in_ok-number.ensures.text) ∙ chars-shown_number c.args.numbered c.args.layout.gutter c.args.info.now.line_index (omega arith)) ∙ list_any_none is_listed (shown_number c.args.numbered c.args.layout.gutter c.args.info.now.line_index) (shown_number_unlisted c.args.numbered c.args.layout.gutter c.args.info.now.line_index (omega arith))
+    ap (list_any is_listed) (ap chars (c.as_str-2.ensures.value ∙ c.in_ok-number.ensures.text) ∙ chars-shown_number c.args.numbers c.args.layout.gutter c.args.info.now.line_index (omega arith)) ∙ list_any_none is_listed (shown_number c.args.numbers c.args.layout.gutter c.args.info.now.line_index) (shown_number_unlisted c.args.numbers c.args.layout.gutter c.args.info.now.line_index (omega arith))
 
 pub write_source_row-requires-clause-text : goal.write_source_row-requires-clause-text
 write_source_row-requires-clause-text c =
@@ -47,7 +47,7 @@ pub returns-clause-added : goal.returns-clause-added
 returns-clause-added c =
     let args = c.args in
     let line = chars args.info.now.line.now in
-    let number = ap chars (c.as_str-2.ensures.value ∙ c.in_ok-number.ensures.text) ∙ chars-shown_number args.numbered args.layout.gutter args.info.now.line_index (omega arith) in
+    let number = ap chars (c.as_str-2.ensures.value ∙ c.in_ok-number.ensures.text) ∙ chars-shown_number args.numbers args.layout.gutter args.info.now.line_index (omega arith) in
     let text = ap chars c.as_str.ensures.value ∙ c.in_ok-text.ensures.value in
     let part = part_of_norm args.margin c.str_width-width.result c.near_part-near.result.skipped line (chars c.near_part-near.result.text.now) (chars c.as_str.result.now) c.str_width-width.ensures.value text c.near_part-near.ensures.holds in
     let window = c.window_of-window in
