@@ -1,127 +1,136 @@
--- What the grid holds: a title, an annotated snippet below it, and with both a whole report.
-use Rattle.snippet_style.specs.Woven.{links_of}
-use Rattle.std.specs.Prelude.{◌≡◌, ℕ, ◌+◌, ◌-◌, ◌<◌, ◌≤◌, nat_lt, ◌==◌, ◌^◌, max, fold, All, length, Bool, true, List, [], ◌∷◌, ◌++◌, Option, None, Some, map, if◌then◌else◌}
-use Rattle.std.specs.List.{AllZip, filter_map, flat_map}
+-- What the grids of a report hold: for each group its title and its elements, one below the other.
+use Rattle.std.specs.Prelude.{◌≡◌, ℕ, ◌+◌, ◌-◌, ◌<◌, ◌≤◌, ◌^◌, Bool, List, [], ◌∷◌, ◌++◌, Option, Some, length, map}
+use Rattle.std.specs.List.{AllZip, flat_map, slice_get, slice_index_or}
 use Rattle.std.specs.Cow.{cow_str_bytes}
 use Rattle.snippet_style.specs.Grid.{Cell}
-use Rattle.snippet_style.specs.Print.{plain_text}
-use Rattle.snippet_titles.specs.Title.{title_rows}
-use Rattle.snippet_model.specs.declared.snippet.Title.{Title}
-use Rattle.snippet_model.specs.declared.snippet.Group.{Group}
-use Rattle.snippet_model.specs.Trusted.{trusted_texts}
-use Rattle.snippet_style.specs.declared.role.LevelInner.{LevelInner}
 use Rattle.snippet_style.specs.declared.glyphs.DecorStyle.{DecorStyle}
+use Rattle.snippet_model.specs.declared.snippet.Group.{Group}
 use Rattle.snippet_model.specs.declared.snippet.Snippet.{Snippet}
 use Rattle.snippet_model.specs.declared.snippet.Annotation.{Annotation}
 use Rattle.snippet_model.specs.declared.snippet.Patch.{Patch}
 use Rattle.snippet_model.specs.declared.snippet.Element.{Element}
 use Rattle.snippet_model.specs.declared.snippet.Element.TheVariants.{Message, Cause, Suggestion, Origin, Padding}
+use Rattle.snippet_lines.specs.Number.{number_width}
 use Rattle.snippet_parts.specs.declared.entries.AnnotatedLineInfo.{AnnotatedLineInfo}
-use Rattle.snippet_parts.specs.Annotated.{deepest, kept_line, seen_kept}
-use Rattle.snippet_parts.specs.Kept.{shown_lines}
-use Rattle.snippet_lines.specs.Lines.{source_lines}
-use Rattle.snippet_parts.specs.Measures.{margin_of}
-use Rattle.snippet_lines.specs.Span.{IsSpan}
-use Rattle.snippet_parts.specs.Margin.{bounds_of}
 use Rattle.snippet_parts.specs.declared.margin.Margin.{Margin}
-use Rattle.snippet_model.specs.Fits.{AnnotationFits}
+use Rattle.snippet_parts.specs.Annotated.{kept_line, seen_kept}
+use Rattle.snippet_parts.specs.Kept.{shown_lines}
+use Rattle.snippet_parts.specs.Margin.{bounds_of}
+use Rattle.snippet_parts.specs.Measures.{margin_of}
 use Rattle.snippet_strokes.specs.declared.layout.Layout.{Layout}
-use Rattle.snippet_strokes.specs.Snippet.{AddsSnippet}
+use Rattle.snippet_strokes.specs.Snippet.{AreLinesShown}
 use Rattle.snippet_suggest.specs.declared.layout.SuggestionLayout.{SuggestionLayout}
 use Rattle.snippet_suggest.specs.Given.{first_given, given_lines, numbers_given, removed_texts}
-use Rattle.snippet_suggest.specs.Prepared.{IsSuggestible}
 use Rattle.snippet_suggest.specs.Rows.{IsTail, Shows, SuggestionRow, numbers_offered, texts_removed}
+use Rattle.snippet_titles.specs.Origin.{padding_row}
 use Rattle.annotate_snippets.specs.declared.renderer.Renderer.{Renderer}
-use Rattle.annotate_snippets.specs.Gutter.{code_behind, gutter_of, gutter_of_report, gutter_of_suggestion, numbered_source}
-use Rattle.annotate_snippets.specs.Page.{GroupPage, group_rows}
-use Rattle.annotate_snippets.specs.Shown.{levels_of, report_links, ShowsGroup, IsFreeBut}
+use Rattle.annotate_snippets.specs.declared.renderer.frame.Frame.{Frame}
+use Rattle.annotate_snippets.specs.declared.renderer.graphic.GroupGrid.{GroupGrid}
+use Rattle.annotate_snippets.specs.declared.renderer.surroundings.GroupPlace.{GroupPlace}
+use Rattle.annotate_snippets.specs.declared.renderer.surroundings.Surroundings.{Surroundings}
+use Rattle.annotate_snippets.specs.Around.{closes_with, drawn_elements, file_of_group, is_end, next_of, place_at, surroundings_at}
+use Rattle.annotate_snippets.specs.Gutter.{code_behind, depth_of_element, depth_of_group, gutter_of_report, line_numbers, numbered_source, width_wanted}
+use Rattle.annotate_snippets.specs.Rows.{cause_head, message_rows, origin_rows, rows_behind_cause, suggestion_head, title_part}
 
--- the code's cell of a snippet that is its group's one element
-abbrev pub code_of : Snippet Annotation → ℕ
-code_of s = code_behind (gutter_of s) (deepest (numbered_source s) s.markers.items)
+-- where the parts of an annotated snippet's rows stand, and the strokes that they are drawn with
+abbrev pub layout_in : Renderer → Frame → Layout
+layout_in r frame = record { gutter = frame.gutter; code = frame.code; decor = r.decor_style }
 
--- where the parts of a snippet's rows stand, and the strokes that they are drawn with
-abbrev pub layout_of : DecorStyle → Snippet Annotation → Layout
-layout_of decor s = record { gutter = gutter_of s; code = code_of s; decor = decor }
-
--- the rows of a snippet's lines are added below the rows that are there: the lines that are shown, each with its entries,
--- between the bounds for those that are kept, in a room of what is left of the width. It is its group's one element, and so
--- the first and the one with which the window closes
-pub record AddsCause (decor : DecorStyle) (width : ℕ) (s : Snippet Annotation) (old new : List (List Cell)) : Type 0 where
+-- the rows of an annotated snippet's lines: the lines that are shown, each with its entries, between the bounds for those that
+-- are kept, in a room of what is left of the width. The group's window may close with the last of them
+pub record AreCauseRows (r : Renderer) (frame : Frame) (closes : Bool) (s : Snippet Annotation) (rows : List (List Cell)) : Type 0 where
   pub infos : List AnnotatedLineInfo
   pub lines : map seen_kept infos ≡ map (kept_line (numbered_source s) s.markers.items) (shown_lines s.fold (cow_str_bytes s.source) s.markers.items)
   pub margin : Margin
-  pub room : margin.term_width ≡ width - code_of s
-  pub bounds : bounds_of margin ≡ margin_of (width - code_of s) s.fold (numbered_source s) s.markers.items
+  pub room : margin.term_width ≡ r.term_width - frame.code
+  pub bounds : bounds_of margin ≡ margin_of (r.term_width - frame.code) s.fold (numbered_source s) s.markers.items
   pub ordered : (bounds_of margin).left ≤ (bounds_of margin).right
-  pub rows : AddsSnippet (layout_of decor s) margin s.line_numbering true true infos old new
+  pub shown : AreLinesShown (layout_in r frame) margin (line_numbers r s.line_numbering) closes infos rows
 
--- what drawing a snippet asks of it: that its texts and its line numbers fit, and that each of its spans is one
-pub record IsDrawable (s : Snippet Annotation) : Type 0 where
-  pub source : length (cow_str_bytes s.source) < 2 ^ 56
-  pub numbers : s.line_start + length (source_lines (cow_str_bytes s.source)) < 2 ^ 64
-  pub spans : All (λ a. IsSpan (cow_str_bytes s.source) a.span.start a.span.end) s.markers.items
-  pub labels : All AnnotationFits s.markers.items
+-- such rows were added below those that are there
+pub record AddsCauseLines (r : Renderer) (frame : Frame) (closes : Bool) (s : Snippet Annotation) (old new : List (List Cell)) : Type 0 where
+  pub rows : List (List Cell)
+  pub added : new ≡ old ++ rows
+  pub are : AreCauseRows r frame closes s rows
 
--- the snippets of patches among some elements that have patches: the others aren't there
-abbrev pub suggestion_of : Element → Option (Snippet Patch)
-suggestion_of (Message message) = None
-suggestion_of (Cause snippet) = None
-suggestion_of (Suggestion snippet) = if length snippet.markers.items == 0 then None else Some snippet
-suggestion_of (Origin origin) = None
-suggestion_of (Padding padding) = None
+-- the rows of an annotated snippet: those that it begins with, those of its lines, and what stands below
+pub record IsCauseDrawn (r : Renderer) (frame : Frame) (around : Surroundings) (s : Snippet Annotation) (rows : List (List Cell)) : Type 0 where
+  pub lines : List (List Cell)
+  pub rows_are : rows ≡ cause_head r frame around s ++ (lines ++ rows_behind_cause r frame around)
+  pub are : AreCauseRows r frame (closes_with around) s lines
 
-abbrev pub suggested : List Element → List (Snippet Patch)
-suggested es = filter_map suggestion_of es
-
--- the gutter's width for some suggestions: the greatest that one of them wants
-abbrev pub gutter_of_suggestions : List (Snippet Patch) → ℕ
-gutter_of_suggestions ss = fold (λ gutter s. max (gutter_of_suggestion s) gutter) 0 ss
+pub record AddsCause (r : Renderer) (frame : Frame) (around : Surroundings) (s : Snippet Annotation) (old new : List (List Cell)) : Type 0 where
+  pub rows : List (List Cell)
+  pub added : new ≡ old ++ rows
+  pub is : IsCauseDrawn r frame around s rows
 
 -- where the parts of a suggestion's rows stand
-abbrev pub suggestion_layout : DecorStyle → ℕ → Snippet Patch → SuggestionLayout
-suggestion_layout decor gutter s = record { gutter = gutter; numbered = s.line_numbering; decor = decor }
+abbrev pub suggestion_layout : Renderer → Frame → Snippet Patch → SuggestionLayout
+suggestion_layout r frame s =
+    record { gutter = frame.gutter; numbers = line_numbers r s.line_numbering; decor = r.decor_style }
 
--- rows of a suggestion, the last one apart: for each line that it offers a row, in order, for each line of the source that it shows
--- as removed a row, in order, and rows that show no line between them
+-- rows of a suggestion: for each line that it offers a row, in order, for each line of the source that it shows as removed a row, in
+-- order, and rows that show no line between them
 pub record AreSuggestionRows (layout : SuggestionLayout) (s : Snippet Patch) (rows : List (List Cell)) : Type 0 where
   pub shown : List SuggestionRow
   pub are : AllZip (Shows layout (s.line_start + first_given s) (given_lines s)) shown rows
   pub numbers : numbers_offered shown ≡ numbers_given s
   pub removed : texts_removed shown ≡ removed_texts s
 
--- suggestions stand below some rows, and nothing else: the rows of each, from the row with which the one above it ends, and below
--- them the row with which the last of them ends
-pub record AddsSuggestions (decor : DecorStyle) (ss : List (Snippet Patch)) (above new : List (List Cell)) : Type 0 where
+-- the rows of a suggestion: that of its path, where it names that, and those of its lines
+pub record IsSuggestionDrawn (r : Renderer) (frame : Frame) (around : Surroundings) (s : Snippet Patch) (rows : List (List Cell)) : Type 0 where
+  pub lines : List (List Cell)
+  pub rows_are : rows ≡ suggestion_head r frame around s ++ lines
+  pub are : AreSuggestionRows (suggestion_layout r frame s) s lines
+
+-- the rows of an element
+abbrev pub IsElementDrawn : Renderer → Frame → Surroundings → Element → List (List Cell) → Type 0
+IsElementDrawn r frame around (Message message) rows = rows ≡ message_rows r frame around message
+IsElementDrawn r frame around (Cause snippet) rows = IsCauseDrawn r frame around snippet rows
+IsElementDrawn r frame around (Suggestion snippet) rows = IsSuggestionDrawn r frame around snippet rows
+IsElementDrawn r frame around (Origin origin) rows = rows ≡ origin_rows r frame around origin
+IsElementDrawn r frame around (Padding padding) rows =
+    rows ≡ padding_row r.decor_style frame.gutter (is_end around.next) ∷ []
+
+-- the rows of an element stand below some rows, and nothing else, but the row in which the next one begins, where it shares that
+pub record AddsElement (r : Renderer) (frame : Frame) (around : Surroundings) (e : Element) (above new : List (List Cell)) : Type 0 where
+  pub rows : List (List Cell)
+  pub tail : List (List Cell)
+  pub added : new ≡ above ++ (rows ++ tail)
+  pub is : IsElementDrawn r frame around e rows
+  pub ends : IsTail r.decor_style frame.gutter around.shared tail
+
+-- each of these parts is the rows of one of these elements, which are all that a group draws, in order
+pub record AreElementsDrawn (r : Renderer) (frame : Frame) (place : GroupPlace) (file : Option (List ℕ)) (es : List Element) (parts : List (List (List Cell))) : Type 0 where
+  pub count : length parts ≡ length es
+  pub each : (i : ℕ) (e : Element) → slice_get es i ≡ Some e → IsElementDrawn r frame (surroundings_at place file es i e) e (slice_index_or parts i [])
+
+-- the rows of these elements stand below some rows, and nothing else
+pub record AddsElements (r : Renderer) (frame : Frame) (place : GroupPlace) (file : Option (List ℕ)) (es : List Element) (old new : List (List Cell)) : Type 0 where
   pub parts : List (List (List Cell))
-  pub last : List (List Cell)
-  pub added : new ≡ above ++ (flat_map (λ part. part) parts ++ last)
-  pub are : AllZip (λ s part. AreSuggestionRows (suggestion_layout decor (gutter_of_suggestions ss) s) s part) ss parts
-  pub ends : (s : Snippet Patch) → IsTail (suggestion_layout decor (gutter_of_suggestions ss) s) (nat_lt 0 (length ss)) last
+  pub added : new ≡ old ++ flat_map (λ part. part) parts
+  pub are : AreElementsDrawn r frame place file es parts
 
--- what drawing elements asks of them
-abbrev pub AreDrawable : List Element → Type 0
-AreDrawable [] = Unit {0}
-AreDrawable (Cause s ∷ es) = IsDrawable s × AreDrawable es
-AreDrawable (Suggestion s ∷ es) = IsSuggestible s × AreDrawable es
-AreDrawable (Message message ∷ es) = AreDrawable es
-AreDrawable (Origin origin ∷ es) = AreDrawable es
-AreDrawable (Padding padding ∷ es) = AreDrawable es
+-- the frame has room for an element: its gutter for the number that it counts, and the part behind the gutter for its bars
+pub record HasRoomFor (r : Renderer) (frame : Frame) (e : Element) : Type 0 where
+  pub small : frame.gutter ≤ 20
+  pub anonymized : r.anonymized_snippet_line_numbers ≡ true → 2 ≤ frame.gutter
+  pub numbers : r.anonymized_snippet_line_numbers ≡ false → width_wanted e ≤ frame.gutter
+  pub bars : code_behind frame.gutter (depth_of_element e) ≤ frame.code
+  pub narrow : frame.code < 2 ^ 63 + 2 ^ 32
 
--- the grid holds the rows of this title, with links or without, and below them those of these elements, in this width: an
--- annotated snippet, or suggestions
-abbrev pub IsGridOf : DecorStyle → Bool → ℕ → Title → List Element → List (List Cell) → Type 0
-IsGridOf decor hyperlink width title (Cause s ∷ []) rows =
-    AddsCause decor width s (title_rows hyperlink title) rows
-IsGridOf decor hyperlink width title es rows =
-    AddsSuggestions decor (suggested es) (title_rows hyperlink title) rows
+-- the grid of a group: its title, and its elements below it
+pub record IsGroupGrid (r : Renderer) (frame : Frame) (place : GroupPlace) (file : Option (List ℕ)) (g : Group) (rows : List (List Cell)) : Type 0 where
+  pub parts : List (List (List Cell))
+  pub rows_are : rows ≡ title_part r frame place (next_of (drawn_elements g)) g.title ++ flat_map (λ part. part) parts
+  pub are : AreElementsDrawn r frame place file (drawn_elements g) parts
 
--- the grid of a report of one group, which is printed in this level: its rows are a page that shows the group, and each
--- listed character of them is one of a trusted text; they link to what the report links to
-pub record IsGridOfReport (r : Renderer) (groups : List Group) (level : LevelInner) (rows : List (List Cell)) : Type 0 where
-  pub group : GroupPage
-  pub rows_are : rows ≡ group_rows group
-  pub level_is : levels_of groups ≡ level ∷ []
-  pub shows : AllZip (ShowsGroup r (gutter_of_report r groups)) groups (group ∷ [])
-  pub free : IsFreeBut (trusted_texts groups) (plain_text rows)
-  pub links : links_of rows ≡ report_links r groups
+-- the frame of a group: the gutter is the report's
+abbrev pub frame_of : Renderer → List Group → Group → Frame
+frame_of r groups g =
+    record { gutter = gutter_of_report r groups; code = code_behind (gutter_of_report r groups) (depth_of_group g) }
+
+-- each grid is that of a group, in order, and is printed in the group's level
+pub record AreGridsOf (r : Renderer) (groups : List Group) (grids : List GroupGrid) : Type 0 where
+  pub levels : map (λ grid. grid.level) grids ≡ map (λ g. g.level) groups
+  pub each : (i : ℕ) (g : Group) (grid : GroupGrid) → slice_get groups i ≡ Some g → slice_get grids i ≡ Some grid → IsGroupGrid r (frame_of r groups g) (place_at (length groups) i) (file_of_group groups g) g grid.buffer

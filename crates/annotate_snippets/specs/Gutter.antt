@@ -1,5 +1,5 @@
 -- The gutter: how wide it is, and what stands in it beside a line.
-use Rattle.std.specs.Prelude.{ℕ, ◌+◌, ◌==◌, ◌&&◌, max, not, Bool, List, length, fold, codes, if◌then◌else◌}
+use Rattle.std.specs.Prelude.{ℕ, ◌+◌, ◌==◌, ◌&&◌, max, not, Bool, List, length, fold, if◌then◌else◌}
 use Rattle.std.specs.List.{flat_map}
 use Rattle.std.specs.Fmt.{decimal}
 use Rattle.snippet_model.specs.declared.snippet.Group.{Group}
@@ -12,7 +12,9 @@ use Rattle.std.specs.Cow.{cow_str_bytes}
 use Rattle.snippet_parts.specs.Annotated.{deepest}
 use Rattle.snippet_lines.specs.Lines.{Source}
 use Rattle.snippet_parts.specs.Prepare.{counted_number}
-use Rattle.snippet_lines.specs.Number.{shown_number, set_right}
+use Rattle.snippet_lines.specs.Number.{shown_number}
+use Rattle.snippet_lines.specs.declared.number.LineNumbers.{LineNumbers}
+use Rattle.snippet_lines.specs.declared.number.LineNumbers.TheVariants.{Shown, Anonymized, Hidden}
 use Rattle.snippet_suggest.specs.Given.{counted_line}
 use Rattle.annotate_snippets.specs.declared.renderer.Renderer.{Renderer}
 
@@ -25,39 +27,47 @@ abbrev pub gutter_of_suggestion : Snippet Patch → ℕ
 gutter_of_suggestion s =
     if s.line_numbering && not (length s.markers.items == 0) then length (decimal (counted_line s)) else 0
 
--- the width that is wanted by some elements and by one more
-abbrev pub gutter_of_element : ℕ → Element → ℕ
-gutter_of_element gutter (Cause snippet) = max (gutter_of snippet) gutter
-gutter_of_element gutter (Suggestion snippet) = max (gutter_of_suggestion snippet) gutter
-gutter_of_element gutter (Message message) = gutter
-gutter_of_element gutter (Origin origin) = gutter
-gutter_of_element gutter (Padding padding) = gutter
+-- the width that an element wants
+abbrev pub width_wanted : Element → ℕ
+width_wanted (Cause snippet) = gutter_of snippet
+width_wanted (Suggestion snippet) = gutter_of_suggestion snippet
+width_wanted (Message message) = 0
+width_wanted (Origin origin) = 0
+width_wanted (Padding padding) = 0
+
+-- the greatest width that one of some elements wants
+abbrev pub greatest_wanted : List Element → ℕ
+greatest_wanted es = fold (λ gutter e. max (width_wanted e) gutter) 0 es
 
 -- the width of a report's gutter: the greatest that is wanted, or that of `LL` where it stands in place of all numbers
 abbrev pub gutter_of_report : Renderer → List Group → ℕ
 gutter_of_report r groups =
-    if r.anonymized_snippet_line_numbers then 2 else fold gutter_of_element 0 (flat_map (λ g. g.elements.items) groups)
+    if r.anonymized_snippet_line_numbers then 2 else greatest_wanted (flat_map (λ g. g.elements.items) groups)
+
+-- what the gutter shows beside the lines of a snippet: their numbers, `LL`, or nothing where they aren't numbered
+abbrev pub line_numbers : Renderer → Bool → LineNumbers
+line_numbers r numbered =
+    if numbered then (if r.anonymized_snippet_line_numbers then Anonymized else Shown) else Hidden
 
 -- what stands in the gutter beside a line of this number: the number, `LL` in its place, or spaces
 abbrev pub number_text : Renderer → Bool → ℕ → ℕ → List ℕ
-number_text r numbered gutter number =
-    if r.anonymized_snippet_line_numbers && numbered then set_right gutter (codes "LL") else shown_number numbered gutter number
+number_text r numbered gutter number = shown_number (line_numbers r numbered) gutter number
 
 -- a snippet's source, with the number of its first line
 abbrev pub numbered_source : Snippet Annotation → Source
 numbered_source s = record { text = cow_str_bytes s.source; first = s.line_start }
 
 -- how many bars stand side by side left of an element's code: the greatest depth of its spans of several lines
-abbrev pub depth_of_element : ℕ → Element → ℕ
-depth_of_element depth (Cause snippet) = max (deepest (numbered_source snippet) snippet.markers.items) depth
-depth_of_element depth (Suggestion snippet) = depth
-depth_of_element depth (Message message) = depth
-depth_of_element depth (Origin origin) = depth
-depth_of_element depth (Padding padding) = depth
+abbrev pub depth_of_element : Element → ℕ
+depth_of_element (Cause snippet) = deepest (numbered_source snippet) snippet.markers.items
+depth_of_element (Suggestion snippet) = 0
+depth_of_element (Message message) = 0
+depth_of_element (Origin origin) = 0
+depth_of_element (Padding padding) = 0
 
--- the same of all elements of a group
+-- the greatest number of those of a group's elements
 abbrev pub depth_of_group : Group → ℕ
-depth_of_group g = fold depth_of_element 0 g.elements.items
+depth_of_group g = fold (λ depth e. max (depth_of_element e) depth) 0 g.elements.items
 
 -- the cell at which code begins: three behind the gutter, and where bars stand between, as many more, and one
 abbrev pub code_behind : ℕ → ℕ → ℕ

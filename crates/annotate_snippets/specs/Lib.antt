@@ -1,9 +1,12 @@
+pub mod Around
 pub mod Covered
 pub mod Drawn
 pub mod Fault
 pub mod Gutter
 pub mod Levels
 pub mod Page
+pub mod Prepared
+pub mod Rows
 pub mod Settings
 pub mod Shown
 pub use Rattle.snippet_model.specs.Fits

@@ -1,9 +1,10 @@
 -- A page: the rows of a report's text, each of them part of a title or of an element; and the texts that print it.
 use Rattle.std.specs.Prelude.{◌≡◌, ℕ, ◌+◌, ◌<◌, nat_lt, Bool, true, false, List, [], ◌∷◌, ◌++◌, Option, Some, None, map, filter, if◌then◌else◌}
-use Rattle.std.specs.List.{flat_map, filter_map, join_with_byte}
+use Rattle.std.specs.List.{AllZip, flat_map, filter_map, join_with_byte}
 use Rattle.snippet_style.specs.Grid.{Cell}
 use Rattle.snippet_style.specs.Print.{plain_text}
 use Rattle.snippet_style.specs.Woven.{Prints, links_of}
+use Rattle.annotate_snippets.specs.declared.renderer.graphic.GroupGrid.{GroupGrid}
 use Rattle.snippet_style.specs.declared.role.LevelInner.{LevelInner}
 use Rattle.snippet_style.specs.declared.stylesheet.Stylesheet.{Stylesheet}
 
@@ -117,6 +118,16 @@ pub record PrintsPage (sheet : Stylesheet) (levels : List LevelInner) (page : Pa
   pub parts : List (List ℕ)
   pub printed : ArePrinted sheet levels page parts
   pub joined : text ≡ join_with_byte 10 parts
+
+-- the text prints grids under a sheet, each in its level, joined by line feeds
+pub record PrintsGrids (sheet : Stylesheet) (grids : List GroupGrid) (text : List ℕ) : Type 0 where
+  pub parts : List (List ℕ)
+  pub printed : AllZip (λ grid part. Prints sheet grid.level grid.buffer part) grids parts
+  pub joined : text ≡ join_with_byte 10 parts
+
+-- rows that show no line
+abbrev pub others : List (List Cell) → List NamedRow
+others rows = map (λ cells. record { name = Other; cells = cells }) rows
 
 -- each number is greater than the one before it
 abbrev pub IsAscending : List ℕ → Type 0

@@ -2,20 +2,25 @@
 ghost use Rattle.std.specs.Prelude.{◌≡◌, true, false, None, Err, IfSome, IfOk, IsOkUnless, alloc_error, map, string_bytes};
 ghost use Rattle.std.specs.List.{AllZip};
 
-mod coverage;
+mod cause;
+mod elements;
 mod error;
+mod frame;
 mod graphic;
 mod gutter;
 mod judge;
 pub mod parts;
+mod paths;
+mod preprocess;
 pub mod style;
 mod suggestions;
+mod surroundings;
+mod title;
 
 use crate::snippet::Report;
-use coverage::covered;
 pub use error::RenderError;
+use graphic::GroupGrid;
 use judge::first_fault;
-use snippet_style::{LevelInner, StyledBuffer};
 pub use snippet_style::{
     DEFAULT_ADDITION_STYLE, DEFAULT_CONTEXT_STYLE, DEFAULT_EMPHASIS_STYLE, DEFAULT_ERROR_STYLE,
     DEFAULT_HELP_STYLE, DEFAULT_INFO_STYLE, DEFAULT_LINE_NUM_STYLE, DEFAULT_NONE_STYLE,
@@ -54,7 +59,7 @@ impl Renderer {
     ghost use Rattle.annotate_snippets.specs.Covered.{is_covered};
     ghost use Rattle.annotate_snippets.specs.Settings.{plain_settings, styled_settings};
     ghost use Rattle.annotate_snippets.specs.Shown.{report_links, ShowsReport, SheetsShown, IsFreeUnder};
-    ghost use Rattle.annotate_snippets.specs.Drawn.{IsGridOfReport};
+    ghost use Rattle.annotate_snippets.specs.Drawn.{AreGridsOf};
     ghost use Rattle.snippet_model.specs.Trusted.{trusted_texts};
 
     /// A renderer that writes no style codes.
@@ -89,6 +94,29 @@ impl Renderer {
         ensures changed { result ≡ record self { term_width = term_width } }
     {
         self.term_width = term_width;
+        self
+    }
+
+    /// Whether the numbers of lines in snippets are shown as `LL`, so that texts don't change where lines move.
+    pub fn anonymized_snippet_line_numbers(mut self, anonymized: bool) -> Renderer
+        ensures changed { result ≡ record self { anonymized_snippet_line_numbers = anonymized } }
+    {
+        self.anonymized_snippet_line_numbers = anonymized;
+        self
+    }
+
+    /// The same switch as [`anonymized_snippet_line_numbers`](Renderer::anonymized_snippet_line_numbers).
+    pub fn anonymized_line_numbers(self, anonymized: bool) -> Renderer
+        ensures changed { result ≡ record self { anonymized_snippet_line_numbers = anonymized } }
+    {
+        self.anonymized_snippet_line_numbers(anonymized)
+    }
+
+    /// Whether the numbers of lines behind paths are shown as `LL`.
+    pub fn anonymized_origin_line_numbers(mut self, anonymized: bool) -> Renderer
+        ensures changed { result ≡ record self { anonymized_origin_line_numbers = anonymized } }
+    {
+        self.anonymized_origin_line_numbers = anonymized;
         self
     }
 
@@ -208,9 +236,9 @@ impl Renderer {
         ensures refused { IfSome (first_fault groups.now) (λ fault. result ≡ Err fault) }
 
         // One within bounds gives a text where memory is found, if it is one that is drawn so far.
-        ensures covered { IsWithinBounds groups.now → is_covered self.now groups.now ≡ true
+        ensures covered { IsWithinBounds groups.now → is_covered self.now ≡ true
             → IsOkUnless result (RenderError.Memory alloc_error) }
-        ensures not_yet { IsWithinBounds groups.now → is_covered self.now groups.now ≡ false
+        ensures not_yet { IsWithinBounds groups.now → is_covered self.now ≡ false
             → result ≡ Err RenderError.NotYet }
 
         // The text prints a page that shows the report: its titles, each line on which a span begins or ends, once and in
@@ -224,9 +252,8 @@ impl Renderer {
         ensures free { IfOk result (λ text.
             IsFreeUnder (trusted_texts groups.now) (report_links self.now groups.now) self.now.stylesheet (string_bytes text)) }
     {
-        let (level, grid) = self.page(alloc, groups)?;
-        grid.render(level, &self.stylesheet)
-            .map_err(RenderError::Memory)
+        let grids = self.grids(alloc, groups)?;
+        graphic::printed(alloc, &grids, &self.stylesheet).map_err(RenderError::Memory)
     }
 
     /// The texts of a report, one under each of these sheets, in order; the renderer's own sheet isn't looked at. The
@@ -247,9 +274,9 @@ impl Renderer {
         ensures refused { IfSome (first_fault groups.now) (λ fault. result ≡ Err fault) }
 
         // One within bounds gives its texts where memory is found, if it is one that is drawn so far.
-        ensures covered { IsWithinBounds groups.now → is_covered self.now groups.now ≡ true
+        ensures covered { IsWithinBounds groups.now → is_covered self.now ≡ true
             → IsOkUnless result (RenderError.Memory alloc_error) }
-        ensures not_yet { IsWithinBounds groups.now → is_covered self.now groups.now ≡ false
+        ensures not_yet { IsWithinBounds groups.now → is_covered self.now ≡ false
             → result ≡ Err RenderError.NotYet }
 
         // All texts print one page, each under its sheet: a page that shows the report, and each listed character of which
@@ -262,36 +289,30 @@ impl Renderer {
         ensures free { IfOk result (λ texts. AllZip (λ sheet text.
             IsFreeUnder (trusted_texts groups.now) (report_links self.now groups.now) sheet text) sheets.now (map string_bytes texts.items)) }
     {
-        let (level, grid) = self.page(alloc, groups)?;
-        graphic::printed(alloc, &grid, level, sheets).map_err(RenderError::Memory)
+        let grids = self.grids(alloc, groups)?;
+        graphic::printed_sheets(alloc, &grids, sheets).map_err(RenderError::Memory)
     }
 
-    /// The grid of a report that has no fault and is drawn so far, and the level that it is printed in.
-    fn page<'a>(
+    /// The grids of a report that has no fault and is drawn so far.
+    fn grids<'a>(
         &self,
         alloc: Global,
         groups: Report<'a>,
-    ) -> Result<(LevelInner, StyledBuffer<'a>), RenderError>
+    ) -> Result<Vec<GroupGrid<'a>>, RenderError>
         requires fits { ReportFits groups.now }
         ensures refused { IfSome (first_fault groups.now) (λ fault. result ≡ Err fault) }
-        ensures covered { IsWithinBounds groups.now → is_covered self.now groups.now ≡ true
+        ensures covered { IsWithinBounds groups.now → is_covered self.now ≡ true
             → IsOkUnless result (RenderError.Memory alloc_error) }
-        ensures not_yet { IsWithinBounds groups.now → is_covered self.now groups.now ≡ false
+        ensures not_yet { IsWithinBounds groups.now → is_covered self.now ≡ false
             → result ≡ Err RenderError.NotYet }
-        ensures drawn { IfOk result (λ page. IsGridOfReport self.now groups.now page.0 page.1) }
+        ensures drawn { IfOk result (λ grids. AreGridsOf self.now groups.now grids.items) }
     {
         if let Some(fault) = first_fault(groups) {
             return Err(fault);
         }
-        let Some((level, title, elements)) = covered(self, groups) else {
+        if self.short_message || self.no_graphics {
             return Err(RenderError::NotYet);
-        };
-        let decor = self.decor_style;
-        let links = self.hyperlink;
-        let width = self.term_width;
-        let grid = graphic::page(alloc, decor, links, width, title, elements).map_err(
-            RenderError::Memory,
-        )?;
-        Ok((level, grid))
+        }
+        graphic::grids(alloc, self, groups).map_err(RenderError::Memory)
     }
 }

@@ -1,23 +1,23 @@
 //! How a case becomes the library's renderer and groups, by the library's calls. Where the library has no call yet for what
 //! the case says, there is none: it is refused as `NotYet`.
 
-ghost use Rattle.std.specs.Prelude.{◌≡◌, [], ◌∷◌, ◌++◌, IfOk, OnOk, All};
-ghost use Rattle.annotate_snippets.specs.Fits.{ReportFits, GroupFits, TitleFits, LevelFits, ElementFits, AnnotationFits, PatchFits, SnippetFits};
+ghost use Rattle.std.specs.Prelude.{◌≡◌, [], ◌∷◌, ◌++◌, IfOk, IfSome, OnOk, All};
+ghost use Rattle.std.specs.Cow.{cow_str_bytes};
+ghost use Rattle.annotate_snippets.specs.Fits.{ReportFits, GroupFits, TitleFits, LevelFits, MessageFits, ElementFits, AnnotationFits, PatchFits, SnippetFits, TextFits};
+ghost use Rattle.annotate_snippets.specs.declared.snippet.Element.TheVariants as element;
 
 use crate::case;
 use crate::case::{LevelKind, LevelName, Mark, Settings, Source};
 use annotate_snippets::level::{ERROR, HELP, INFO, Level, NOTE, WARNING};
 use annotate_snippets::renderer::{DecorStyle, RenderError};
-use annotate_snippets::{Annotation, Element, Group, OptionCow, Patch, Renderer, Snippet, Title};
+use annotate_snippets::{
+    Annotation, Element, Group, Message, OptionCow, Origin, Padding, Patch, Renderer, Snippet, Title,
+};
 use std::alloc::{AllocError, Global};
 
 /// The renderer of these settings.
 pub fn renderer_of(settings: Settings) -> Result<Renderer, RenderError> {
-    if settings.no_graphics
-        || settings.short_message
-        || settings.anonymized_snippet
-        || settings.anonymized_origin
-    {
+    if settings.no_graphics || settings.short_message {
         return Err(RenderError::NotYet);
     }
     let decor = if settings.unicode {
@@ -29,7 +29,9 @@ pub fn renderer_of(settings: Settings) -> Result<Renderer, RenderError> {
         Renderer::plain()
             .term_width(settings.term_width)
             .decor_style(decor)
-            .hyperlink(settings.hyperlink),
+            .hyperlink(settings.hyperlink)
+            .anonymized_snippet_line_numbers(settings.anonymized_snippet)
+            .anonymized_origin_line_numbers(settings.anonymized_origin),
     )
 }
 
@@ -62,10 +64,10 @@ fn add_group<'v>(groups: &mut Vec<Group<'v>>, group: Group<'v>) -> Result<(), Al
 fn group_of<'v>(alloc: Global, group: &case::Group<'v>) -> Result<Group<'v>, RenderError>
     ensures fits { IfOk result GroupFits }
 {
-    let case::Head::Titled(title) = group.head else {
-        return Err(RenderError::NotYet);
+    let built = match group.head {
+        case::Head::Titled(title) => Group::with_title(alloc, title_of(title)),
+        case::Head::Untitled(level) => Group::with_level(alloc, level_of(level)),
     };
-    let built = Group::with_title(alloc, title_of(title));
     with_elements(alloc, built, &group.elements)
 }
 
@@ -138,6 +140,7 @@ fn element_of<'v>(alloc: Global, element: &case::Element<'v>) -> Result<Element<
     ensures fits { IfOk result ElementFits }
 {
     match element {
+        case::Element::Message(message) => Ok(Element::from(message_of(*message))),
         case::Element::Cause(source, marks) => {
             let snippet = cause_of(alloc, source, marks)?;
             Ok(Element::from(snippet))
@@ -146,7 +149,39 @@ fn element_of<'v>(alloc: Global, element: &case::Element<'v>) -> Result<Element<
             let snippet = suggestion_of(alloc, source, patches)?;
             Ok(Element::from(snippet))
         }
-        _ => Err(RenderError::NotYet),
+        case::Element::Origin(origin) => Ok(Element::from(origin_of(*origin))),
+        case::Element::Padding => Ok(Element::from(Padding)),
+    }
+}
+
+/// A message.
+fn message_of<'v>(message: case::Message<'v>) -> Message<'v>
+    ensures fits { MessageFits result }
+{
+    level_of(message.level).message(message.text.text)
+}
+
+/// A place without source.
+fn origin_of<'v>(origin: case::Origin<'v>) -> Origin<'v>
+    ensures fits { ElementFits (element.Origin result) }
+{
+    let mut built = Origin::path(origin.path.text);
+    if let Some(line) = origin.line {
+        built = built.line(line);
+    }
+    if let Some(column) = origin.column {
+        built = built.char_column(column);
+    }
+    built
+}
+
+/// A path, where there is one.
+fn path_of<'v>(source: &Source<'v>) -> OptionCow<'v>
+    ensures fits { IfSome result.0 (λ path. TextFits (cow_str_bytes path)) }
+{
+    match source.path {
+        Some(path) => OptionCow::from(path.text),
+        None => OptionCow(None),
     }
 }
 
@@ -158,10 +193,8 @@ fn cause_of<'v>(
 ) -> Result<Snippet<'v, Annotation<'v>>, RenderError>
     ensures fits { IfOk result (SnippetFits AnnotationFits) }
 {
-    if source.path.is_some() {
-        return Err(RenderError::NotYet);
-    }
     let snippet = Snippet::source(alloc, source.source.text)
+        .path(path_of(source))
         .line_start(source.line_start)
         .line_numbering(source.line_numbering)
         .fold(source.fold);
@@ -176,10 +209,8 @@ fn suggestion_of<'v>(
 ) -> Result<Snippet<'v, Patch<'v>>, RenderError>
     ensures fits { IfOk result (SnippetFits PatchFits) }
 {
-    if source.path.is_some() {
-        return Err(RenderError::NotYet);
-    }
     let snippet = Snippet::source(alloc, source.source.text)
+        .path(path_of(source))
         .line_start(source.line_start)
         .line_numbering(source.line_numbering)
         .fold(source.fold);

@@ -1,4 +1,4 @@
-//! The graphic form: a grid for the report's group, drawn from top to bottom.
+//! The graphic form: a grid for each group of a report, drawn from top to bottom.
 //!
 //! ```text
 //! error: unused
@@ -6,112 +6,126 @@
 //! 1 | let x = 1;
 //!   |     ^
 //! ```
-ghost use Rattle.std.specs.Prelude.{◌≡◌, ◌+◌, ◌<◌, ◌^◌, OnOk, IfOk, map, string_bytes};
+ghost use Rattle.std.specs.Prelude.{◌≡◌, ◌≤◌, All, IfOk, map, string_bytes};
+ghost use Rattle.std.specs.Option.{option_copied};
 ghost use Rattle.std.specs.List.{AllZip};
-ghost use Rattle.snippet_model.specs.Fits.{TitleFits};
-ghost use Rattle.annotate_snippets.specs.Drawn.{AddsCause, AreDrawable, IsDrawable, IsGridOf};
-ghost use Rattle.annotate_snippets.specs.Gutter.{code_behind};
-ghost use Rattle.snippet_style.specs.Woven.{Prints};
+ghost use Rattle.annotate_snippets.specs.Around.{file_of_group};
+ghost use Rattle.annotate_snippets.specs.Drawn.{AreGridsOf, HasRoomFor, IsGroupGrid, frame_of};
+ghost use Rattle.annotate_snippets.specs.Gutter.{gutter_of_report};
+ghost use Rattle.annotate_snippets.specs.Page.{PrintsGrids};
+ghost use Rattle.annotate_snippets.specs.Prepared.{IsGroupDrawable, IsGroupPrepared, element_of};
 
-use crate::renderer::coverage::sole_snippet;
+use crate::renderer::Renderer;
+use crate::renderer::elements::draw_elements;
+use crate::renderer::frame::{Frame, frame_for};
 use crate::renderer::gutter::gutter_of;
-use crate::renderer::suggestions::draw_suggestions;
-use snippet_model::snippet::{Annotation, Element, Snippet, Title};
-use snippet_parts::{SourceMap, margin_for, with_lines_between};
-use snippet_strokes::{Layout, draw_snippet};
-use snippet_style::{DecorStyle, LevelInner, StyledBuffer, Stylesheet};
-use snippet_titles::draw_title;
+use crate::renderer::paths::{primary_path, report_file};
+use crate::renderer::preprocess::{PreparedGroup, prepare_groups};
+use crate::renderer::surroundings::{GroupPlace, next_of};
+use crate::renderer::title::draw_title;
+use snippet_model::snippet::Group;
+use snippet_style::{LevelInner, StyledBuffer, Stylesheet};
 use std::alloc::{AllocError, Global};
 
-/// The grid of a title and the elements below it, drawn with these strokes, with links or without, in this width, in columns.
-pub fn page<'a>(
-    alloc: Global,
-    decor: DecorStyle,
-    hyperlink: bool,
-    width: usize,
-    title: &'a Title<'a>,
-    elements: &'a [Element<'a>],
-) -> Result<StyledBuffer<'a>, AllocError>
-    requires fits { TitleFits title.now }
-    requires elements { AreDrawable elements.now }
-    ensures drawn { IfOk result (λ grid. IsGridOf decor hyperlink width title.now elements.now grid) }
-{
-    let mut buffer = StyledBuffer::new(alloc);
-    draw_title(alloc, &mut buffer, hyperlink, title)?;
-    match sole_snippet(elements) {
-        Some(snippet) => draw_cause(alloc, &mut buffer, decor, width, snippet)?,
-        None => draw_suggestions(alloc, &mut buffer, decor, elements)?,
-    }
-    Ok(buffer)
+/// The rows of a group, and the level that they are printed in.
+#[derive(Drop)]
+pub struct GroupGrid<'a> {
+    /// The kind of level whose style primary marks and labels take.
+    pub level: LevelInner,
+    /// The rows.
+    pub buffer: StyledBuffer<'a>,
 }
 
-/// The texts that print a grid, in a group of this level: one under each of these sheets, in order.
+/// The grids of a report's groups, in order.
+///
+/// # Errors
+///
+/// There is no memory for the rows.
+pub fn grids<'a>(
+    alloc: Global,
+    renderer: &Renderer,
+    groups: &'a [Group<'a>],
+) -> Result<Vec<GroupGrid<'a>>, AllocError>
+    requires drawable { All IsGroupDrawable groups.now }
+    ensures drawn { IfOk result (λ grids. AreGridsOf renderer.now groups.now grids.items) }
+{
+    let prepared = prepare_groups(alloc, groups)?;
+    let gutter = gutter_of(renderer, &prepared);
+    let file = report_file(groups);
+    let mut grids = Vec::new(alloc);
+    for (i, group) in prepared.into_iter().enumerate() {
+        let frame = frame_for(gutter, group.depth());
+        let place = GroupPlace::at(groups.len(), i);
+        let file = primary_path(group.group).or(file);
+        grids.push(draw_group(alloc, renderer, frame, place, file, group)?)?;
+    }
+    Ok(grids)
+}
+
+/// The grid of a group, which stands at this place, and this is the file that its suggestions are for where they name no
+/// other.
+fn draw_group<'a>(
+    alloc: Global,
+    renderer: &Renderer,
+    frame: Frame,
+    place: GroupPlace,
+    file: Option<&str>,
+    group: PreparedGroup<'a>,
+) -> Result<GroupGrid<'a>, AllocError>
+    requires prepared { IsGroupPrepared group }
+    requires narrow { frame.gutter ≤ 20 }
+    requires room { All (λ e. HasRoomFor renderer.now frame (element_of e)) group.elements.items }
+    ensures level { IfOk result (λ grid. grid.level ≡ group.entry.group.now.level) }
+    ensures drawn { IfOk result (λ grid. IsGroupGrid renderer.now frame place (option_copied file.entry) group.entry.group.now grid.buffer) }
+{
+    let level = group.group.level;
+    let mut buffer = StyledBuffer::new(alloc);
+    if let Some(title) = &group.group.title {
+        let next = next_of(&group.elements);
+        draw_title(alloc, &mut buffer, renderer, frame, place, next, title)?;
+    }
+    draw_elements(alloc, &mut buffer, renderer, frame, place, file, group.elements)?;
+    Ok(GroupGrid { level, buffer })
+}
+
+/// The text that prints grids under a sheet, each in its level, joined by line feeds.
+///
+/// # Errors
+///
+/// There is no memory for the text.
 pub fn printed(
     alloc: Global,
-    grid: &StyledBuffer,
-    level: LevelInner,
+    grids: &[GroupGrid<'_>],
+    sheet: &Stylesheet,
+) -> Result<String, AllocError>
+    ensures printed { IfOk result (λ text. PrintsGrids sheet.now grids.now (string_bytes text)) }
+{
+    let mut text = String::new(alloc);
+    for (i, grid) in grids.iter().enumerate() {
+        if i > 0 {
+            text.push('\n')?;
+        }
+        text.push_str(grid.buffer.render(grid.level, sheet)?.as_str())?;
+    }
+    Ok(text)
+}
+
+/// The texts that print grids under some sheets: one under each, in order.
+///
+/// # Errors
+///
+/// There is no memory for the texts.
+pub fn printed_sheets(
+    alloc: Global,
+    grids: &[GroupGrid<'_>],
     sheets: &[Stylesheet],
 ) -> Result<Vec<String>, AllocError>
     ensures printed { IfOk result (λ texts.
-        AllZip (λ sheet text. Prints sheet level grid.now text) sheets.now (map string_bytes texts.items)) }
+        AllZip (λ sheet text. PrintsGrids sheet grids.now text) sheets.now (map string_bytes texts.items)) }
 {
     let mut texts = Vec::new(alloc);
     for sheet in sheets {
-        texts.push(grid.render(level, sheet)?)?;
+        texts.push(printed(alloc, grids, sheet)?)?;
     }
     Ok(texts)
-}
-
-/// Draws an annotated snippet below all that stands in the grid, in this width.
-fn draw_cause(
-    alloc: Global,
-    buffer: &mut StyledBuffer,
-    decor: DecorStyle,
-    width: usize,
-    snippet: &Snippet<Annotation>,
-) -> Result<(), AllocError>
-    requires drawable { IsDrawable snippet.now }
-    ensures added { OnOk result (AddsCause decor width snippet.now buffer.old buffer.new) }
-{
-    let source = SourceMap::new(alloc, snippet.source.as_str(), snippet.line_start)?;
-    let (depth, kept) = source.annotated_lines(&snippet.markers, snippet.fold)?;
-    let layout = layout_for(gutter_of(snippet), depth, decor);
-    let margin = margin_for(&kept, width.saturating_sub(layout.code));
-    let lines = with_lines_between(alloc, &source, kept)?;
-    draw_snippet(
-        alloc,
-        buffer,
-        layout,
-        margin,
-        snippet.line_numbering,
-        true,
-        true,
-        &lines,
-    )
-}
-
-/// Where the parts of a snippet's rows stand, in a gutter of this width, where so many bars stand side by side.
-///
-/// ```text
-///     1 |   f(a,      one bar: the code stands two cells farther right
-///       |  __^
-///     2 | |  b)
-///       | |___^
-/// ```
-fn layout_for(gutter: usize, depth: usize, decor: DecorStyle) -> Layout
-    requires narrow { gutter + depth < 2 ^ 63 + 2 ^ 32 }
-    ensures gutter { result.gutter ≡ gutter }
-    ensures code { result.code ≡ code_behind gutter depth }
-    ensures decor { result.decor ≡ decor }
-{
-    let code = if depth == 0 {
-        gutter + 3
-    } else {
-        gutter + 3 + depth + 1
-    };
-    Layout {
-        gutter,
-        code,
-        decor,
-    }
 }

@@ -1,62 +1,97 @@
-//! The rows of a group's suggestions, one below the other.
+//! The rows of a snippet of patches.
 //!
 //! ```text
-//!   |
-//! 1 | foo(x)
-//!   |     +
-//! 1 | foo(y)      begins in the last row of the one above
-//!   |     +
+//!   --> src/lib.rs:1:5      its path, where that is another than the group's file
+//!    |
+//!  1 | foo(x)             the lines as they will be
+//!    |     +
 //! ```
-ghost use Rattle.std.specs.Prelude.{◌≡◌, All, IfOk, OnOk, map};
-ghost use Rattle.annotate_snippets.specs.Drawn.{AddsSuggestions, AreDrawable, suggested};
+ghost use Rattle.std.specs.Prelude.{◌≡◌, ◌≤◌, ◌++◌, List, OnOk};
+ghost use Rattle.snippet_model.specs.declared.snippet.Element.TheVariants.{Suggestion};
+ghost use Rattle.snippet_style.specs.Grid.{Cell};
 ghost use Rattle.snippet_suggest.specs.Prepared.{IsPrepared};
+ghost use Rattle.snippet_suggest.specs.Rows.{IsTail};
+ghost use Rattle.annotate_snippets.specs.Drawn.{AddsElement, HasRoomFor};
+ghost use Rattle.annotate_snippets.specs.Rows as spec;
 
-use crate::renderer::gutter::gutter_of_suggestions;
-use snippet_model::snippet::Element;
-use snippet_style::{DecorStyle, StyledBuffer};
-use snippet_suggest::{PreparedSuggestion, SuggestionLayout, draw_suggestion, prepare_suggestion};
+use crate::renderer::Renderer;
+use crate::renderer::elements::origin_layout;
+use crate::renderer::frame::Frame;
+use crate::renderer::gutter::line_numbers;
+use crate::renderer::surroundings::Surroundings;
+use snippet_style::StyledBuffer;
+use snippet_suggest::{PreparedSuggestion, SuggestionLayout, SuggestionStart, draw_suggestion};
+use snippet_titles::{OriginPlace, draw_primary_head};
 use std::alloc::{AllocError, Global};
 
-/// Draws the snippets of patches among some elements below all that stands in the grid. Those without patches aren't there.
-pub fn draw_suggestions<'a>(
+/// Draws a snippet of patches below all that stands in the grid, or from its last row on.
+///
+/// # Errors
+///
+/// There is no memory for the rows.
+pub fn draw_patches(
     alloc: Global,
     buffer: &mut StyledBuffer,
-    decor: DecorStyle,
-    elements: &'a [Element<'a>],
+    renderer: &Renderer,
+    frame: Frame,
+    around: Surroundings,
+    suggestion: &PreparedSuggestion<'_>,
 ) -> Result<(), AllocError>
-    requires drawable { AreDrawable elements.now }
-    ensures added { OnOk result (AddsSuggestions decor (suggested elements.now) buffer.old buffer.new) }
+    requires prepared { IsPrepared suggestion.now }
+    requires room { HasRoomFor renderer.now frame (Suggestion suggestion.now.snippet.now) }
+    ensures added { (above tail : List (List Cell)) → buffer.old ≡ above ++ tail
+        → IsTail renderer.now.decor_style frame.gutter (begins_in_row_above around) tail
+        → OnOk result (AddsElement renderer.now frame around (Suggestion suggestion.now.snippet.now) above buffer.new) }
 {
-    let suggestions = prepared_suggestions(alloc, elements)?;
-    let gutter = gutter_of_suggestions(&suggestions);
-    for (i, suggestion) in suggestions.iter().enumerate() {
-        let layout = SuggestionLayout {
-            gutter,
-            numbered: suggestion.snippet.line_numbering,
-            decor,
-        };
-        let follows = i + 1 < suggestions.len();
-        draw_suggestion(alloc, buffer, layout, suggestion, i > 0, follows)?;
+    if around.start == SuggestionStart::Path {
+        draw_path(alloc, buffer, renderer, frame, around.first, suggestion)?;
     }
-    Ok(())
+    let layout = SuggestionLayout {
+        gutter: frame.gutter,
+        numbers: line_numbers(renderer, suggestion.snippet.line_numbering),
+        decor: renderer.decor_style,
+    };
+    let follows = !around.next.is_nothing();
+    draw_suggestion(alloc, buffer, layout, suggestion, around.start, follows)
 }
 
-/// The snippets of patches among some elements that have patches, prepared.
-fn prepared_suggestions<'a>(
+/// Draws the path of a snippet of patches below all that stands in the grid, and the row that sets it off. A snippet without
+/// a path has neither.
+fn draw_path(
     alloc: Global,
-    elements: &'a [Element<'a>],
-) -> Result<Vec<PreparedSuggestion<'a>>, AllocError>
-    requires drawable { AreDrawable elements.now }
-    ensures snippets { IfOk result (λ ps. map (λ p. p.snippet.now) ps.items ≡ suggested elements.now) }
-    ensures prepared { IfOk result (λ ps. All IsPrepared ps.items) }
+    buffer: &mut StyledBuffer,
+    renderer: &Renderer,
+    frame: Frame,
+    first: bool,
+    suggestion: &PreparedSuggestion<'_>,
+) -> Result<(), AllocError>
+    requires prepared { IsPrepared suggestion.now }
+    requires narrow { frame.gutter ≤ 20 }
+    ensures rows { OnOk result (buffer.new ≡ buffer.old ++ spec.path_head renderer.now frame first suggestion.now.snippet.now) }
 {
-    let mut suggestions = Vec::new(alloc);
-    for element in elements {
-        if let Element::Suggestion(snippet) = element {
-            if let Some(suggestion) = prepare_suggestion(alloc, snippet)? {
-                suggestions.push(suggestion)?;
-            }
-        }
+    let Some(path) = &suggestion.snippet.path else {
+        return Ok(());
+    };
+    let layout = origin_layout(renderer, frame);
+    let place = first_place(suggestion);
+    draw_primary_head(alloc, buffer, layout, first, path.as_str(), place)
+}
+
+/// The place at which the first patch starts.
+fn first_place(suggestion: &PreparedSuggestion<'_>) -> OriginPlace
+    requires prepared { IsPrepared suggestion.now }
+    ensures value { result ≡ spec.patch_place suggestion.now.snippet.now }
+{
+    let Some(patch) = suggestion.splice.patches.first() else {
+        return OriginPlace {
+            line: None,
+            column: None,
+        };
+    };
+    let span = patch.span.start..patch.span.end;
+    let (start, _) = suggestion.map.span_to_locations(span);
+    OriginPlace {
+        line: Some(start.line),
+        column: Some(start.char + 1),
     }
-    Ok(suggestions)
 }

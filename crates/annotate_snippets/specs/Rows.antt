@@ -1,0 +1,135 @@
+-- The rows of a report that hold nothing of a source: which they are, cell by cell.
+use Rattle.std.specs.Prelude.{ℕ, ◌+◌, ◌&&◌, Bool, true, false, not, List, [], ◌∷◌, ◌++◌, Option, None, Some, if◌then◌else◌}
+use Rattle.std.specs.Cow.{cow_str_bytes}
+use Rattle.std.specs.Option.{option_to_list}
+use Rattle.std.specs.List.{flat_map}
+use Rattle.snippet_model.specs.declared.snippet.Annotation.{Annotation}
+use Rattle.snippet_model.specs.declared.snippet.Group.{Group}
+use Rattle.snippet_model.specs.declared.snippet.Message.{Message}
+use Rattle.snippet_model.specs.declared.snippet.Origin.{Origin}
+use Rattle.snippet_model.specs.declared.snippet.Patch.{Patch}
+use Rattle.snippet_model.specs.declared.snippet.Snippet.{Snippet}
+use Rattle.snippet_model.specs.declared.snippet.Title.{Title}
+use Rattle.snippet_model.specs.Heading.{heading_of_message}
+use Rattle.snippet_style.specs.Grid.{Cell}
+use Rattle.snippet_lines.specs.Place.{start_location}
+use Rattle.snippet_parts.specs.Annotated.{KeptLine, annotated_lines}
+use Rattle.snippet_parts.specs.NamedPlace.{primary_place, secondary_place}
+use Rattle.snippet_parts.specs.declared.named_place.NamedPlace.{NamedPlace}
+use Rattle.snippet_splice.specs.Shown.{first_start}
+use Rattle.snippet_suggest.specs.Given.{source_of, trimmed_of}
+use Rattle.snippet_suggest.specs.declared.layout.SuggestionStart.{SuggestionStart}
+use Rattle.snippet_suggest.specs.declared.layout.SuggestionStart.TheVariants.{Opening, Next, Path}
+use Rattle.snippet_titles.specs.Heading.{heading_rows}
+use Rattle.snippet_titles.specs.Origin.{closing_row, origin_row, primary_start, separator_row, snippet_head}
+use Rattle.snippet_titles.specs.Title.{title_rows}
+use Rattle.snippet_titles.specs.declared.origin.FileStart.{FileStart}
+use Rattle.snippet_titles.specs.declared.origin.FileStart.TheVariants.{Alone, Secondary}
+use Rattle.snippet_titles.specs.declared.origin.OriginLayout.{OriginLayout}
+use Rattle.snippet_titles.specs.declared.origin.OriginPlace.{OriginPlace}
+use Rattle.snippet_titles.specs.declared.style.TitleStyle.{TitleStyle}
+use Rattle.snippet_titles.specs.declared.style.TitleStyle.TheVariants as style
+use Rattle.annotate_snippets.specs.Around.{closes_behind, is_before_message, is_end, is_first_group, is_first_of_several, path_bytes}
+use Rattle.annotate_snippets.specs.Gutter.{numbered_source}
+use Rattle.annotate_snippets.specs.declared.renderer.Renderer.{Renderer}
+use Rattle.annotate_snippets.specs.declared.renderer.frame.Frame.{Frame}
+use Rattle.annotate_snippets.specs.declared.renderer.surroundings.GroupPlace.{GroupPlace}
+use Rattle.annotate_snippets.specs.declared.renderer.surroundings.Next.{Next}
+use Rattle.annotate_snippets.specs.declared.renderer.surroundings.Surroundings.{Surroundings}
+
+-- the rows that set off and close, where they stand in this frame
+abbrev pub separator_rows : Renderer → Frame → List (List Cell)
+separator_rows r frame = separator_row r.decor_style frame.gutter ∷ []
+
+abbrev pub closing_rows : Renderer → Frame → List (List Cell)
+closing_rows r frame = closing_row r.decor_style frame.gutter ∷ []
+
+-- what stands below a title: a separator row before a message; and a closing row where nothing follows in the first of several
+-- groups, but not below a trusted title
+abbrev pub rows_behind_title : Renderer → Frame → GroupPlace → Next → Bool → List (List Cell)
+rows_behind_title r frame place next trusted =
+    if is_before_message next then separator_rows r frame
+    else (if is_end next && is_first_of_several place && not trusted then closing_rows r frame else [])
+
+-- what stands below the lines of an annotated snippet: in the first group a separator row before a message, and a closing row
+-- where nothing follows in the first of several groups
+abbrev pub rows_behind_cause : Renderer → Frame → Surroundings → List (List Cell)
+rows_behind_cause r frame around =
+    if is_first_group around.place && is_before_message around.next then separator_rows r frame
+    else (if closes_behind around then closing_rows r frame else [])
+
+-- where a message stands, and its rows
+abbrev pub message_style : Renderer → Frame → Surroundings → TitleStyle
+message_style r frame around =
+    style.Message (record { gutter = frame.gutter; decor = r.decor_style; followed = not (is_end around.next) })
+
+abbrev pub message_rows : Renderer → Frame → Surroundings → Message → List (List Cell)
+message_rows r frame around message =
+    heading_rows r.hyperlink (message_style r frame around) (heading_of_message message)
+
+-- where the rows of paths stand
+abbrev pub origin_layout : Renderer → Frame → OriginLayout
+origin_layout r frame =
+    record { gutter = frame.gutter; decor = r.decor_style; anonymized = r.anonymized_origin_line_numbers }
+
+-- what leads to the path of an origin: whether it is all that the group shows, or of the group's first element, or a later one,
+-- or of another file than the primary one
+abbrev pub origin_start : Surroundings → FileStart
+origin_start around =
+    if around.primary then (if around.first && is_end around.next then Alone else primary_start around.first) else Secondary
+
+-- the place that an origin gives
+abbrev pub place_given : Origin → OriginPlace
+place_given origin = record { line = origin.line; column = origin.char_column }
+
+-- its rows: that of its path, and a closing row where nothing follows in the first of several groups
+abbrev pub origin_rows : Renderer → Frame → Surroundings → Origin → List (List Cell)
+origin_rows r frame around origin =
+    origin_row (origin_layout r frame) (origin_start around) (cow_str_bytes origin.path) (place_given origin) ∷ (if closes_behind around then closing_rows r frame else [])
+
+-- a place that is found in a source
+abbrev pub place_found : Option NamedPlace → OriginPlace
+place_found None = record { line = None; column = None }
+place_found (Some place) = record { line = Some place.line; column = place.column }
+
+-- the place that the head of an annotated snippet names, given its lines that are kept, and whether it is primary
+abbrev pub place_named : Bool → List KeptLine → OriginPlace
+place_named primary lines = place_found (if primary then primary_place lines else secondary_place lines)
+
+-- what an annotated snippet begins with
+abbrev pub cause_head : Renderer → Frame → Surroundings → Snippet Annotation → List (List Cell)
+cause_head r frame around s =
+    snippet_head (origin_layout r frame) around.primary around.first (path_bytes s.path) (place_named around.primary (annotated_lines s.fold (numbered_source s) s.markers.items))
+
+-- the place at which the first patch of a snippet starts, trimmed as it is
+abbrev pub patch_place : Snippet Patch → OriginPlace
+patch_place s =
+    let start = start_location (source_of s) (first_start (trimmed_of s)) in
+    record { line = Some start.line; column = Some (start.char + 1) }
+
+-- the row of a suggestion's path
+abbrev pub path_row : Renderer → Frame → Bool → Snippet Patch → Option (List ℕ) → List (List Cell)
+path_row r frame first s None = []
+path_row r frame first s (Some path) =
+    origin_row (origin_layout r frame) (primary_start first) path (patch_place s) ∷ []
+
+-- what a suggestion begins with that names its path: the row of the path. In the separator row below it its lines may begin, so
+-- that one is the first of its own rows
+abbrev pub suggestion_head_at : SuggestionStart → Renderer → Frame → Bool → Snippet Patch → List (List Cell)
+suggestion_head_at Opening r frame first s = []
+suggestion_head_at Next r frame first s = []
+suggestion_head_at Path r frame first s = path_row r frame first s (path_bytes s.path)
+
+abbrev pub suggestion_head : Renderer → Frame → Surroundings → Snippet Patch → List (List Cell)
+suggestion_head r frame around s = suggestion_head_at around.start r frame around.first s
+
+-- the row of its path, and the separator row below it
+abbrev pub path_head : Renderer → Frame → Bool → Snippet Patch → List (List Cell)
+path_head r frame first s =
+    flat_map (λ path. path_row r frame first s (Some path) ++ separator_rows r frame) (option_to_list (path_bytes s.path))
+
+-- the rows of a group's title, and what stands below them, given what follows; none where there is no title
+abbrev pub title_part : Renderer → Frame → GroupPlace → Next → Option Title → List (List Cell)
+title_part r frame place next None = []
+title_part r frame place next (Some title) =
+    title_rows r.hyperlink title ++ rows_behind_title r frame place next title.allows_styling

@@ -1,0 +1,139 @@
+//! The rows of an annotated snippet.
+//!
+//! ```text
+//!   --> src/main.rs:3:5     its head
+//!    |
+//!  3 |     x             its lines, each with its marks and labels
+//!    |     ^ here
+//!    |                      what sets off a message, or closes the group
+//! ```
+ghost use Rattle.std.specs.Prelude.{◌≡◌, ◌≤◌, ◌<◌, ◌^◌, ◌++◌, OnOk, map};
+ghost use Rattle.snippet_model.specs.declared.snippet.Element.TheVariants.{Cause};
+ghost use Rattle.snippet_parts.specs.Annotated.{seen_kept};
+ghost use Rattle.snippet_parts.specs.Entries.{AllEntries, HasCharacterRoom};
+ghost use Rattle.annotate_snippets.specs.Drawn.{AddsCause, AreCauseRows, HasRoomFor};
+ghost use Rattle.annotate_snippets.specs.Prepared.{IsCausePrepared};
+ghost use Rattle.annotate_snippets.specs.Rows as spec;
+ghost use Rattle.annotate_snippets.specs.Rows.{cause_head, rows_behind_cause};
+
+use crate::renderer::Renderer;
+use crate::renderer::elements::origin_layout;
+use crate::renderer::frame::Frame;
+use crate::renderer::gutter::line_numbers;
+use crate::renderer::preprocess::PreparedCause;
+use crate::renderer::surroundings::Surroundings;
+use snippet_parts::{
+    AnnotatedLineInfo, margin_for, primary_place, secondary_place, with_lines_between,
+};
+use snippet_strokes::{Layout, draw_snippet};
+use snippet_style::StyledBuffer;
+use snippet_titles::{
+    OriginPlace, draw_closing, draw_nameless_head, draw_opening_head, draw_primary_head,
+    draw_secondary_head, draw_separator,
+};
+use std::alloc::{AllocError, Global};
+
+/// Draws an annotated snippet below all that stands in the grid.
+///
+/// # Errors
+///
+/// There is no memory for the rows.
+pub fn draw_cause(
+    alloc: Global,
+    buffer: &mut StyledBuffer,
+    renderer: &Renderer,
+    frame: Frame,
+    around: Surroundings,
+    cause: PreparedCause<'_>,
+) -> Result<(), AllocError>
+    requires prepared { IsCausePrepared cause }
+    requires room { HasRoomFor renderer.now frame (Cause cause.snippet.now) }
+    ensures added { OnOk result (AddsCause renderer.now frame around cause.entry.snippet.now buffer.old buffer.new) }
+{
+    draw_cause_head(alloc, buffer, renderer, frame, around, &cause)?;
+    draw_cause_lines(alloc, buffer, renderer, frame, around.closes(), cause)?;
+    if around.place.is_first() && around.next.is_message() {
+        draw_separator(buffer, frame.gutter, renderer.decor_style)?;
+    }
+    if around.closes_behind() {
+        draw_closing(buffer, frame.gutter, renderer.decor_style)?;
+    }
+    Ok(())
+}
+
+/// Draws what an annotated snippet begins with below all that stands in the grid.
+fn draw_cause_head(
+    alloc: Global,
+    buffer: &mut StyledBuffer,
+    renderer: &Renderer,
+    frame: Frame,
+    around: Surroundings,
+    cause: &PreparedCause<'_>,
+) -> Result<(), AllocError>
+    requires prepared { IsCausePrepared cause.now }
+    requires narrow { frame.gutter ≤ 20 }
+    ensures rows { OnOk result (buffer.new ≡ buffer.old ++ cause_head renderer.now frame around cause.now.snippet.now) }
+{
+    let layout = origin_layout(renderer, frame);
+    let Some(path) = &cause.snippet.path else {
+        return if around.primary {
+            draw_opening_head(buffer, layout, around.first)
+        } else {
+            draw_nameless_head(buffer, layout)
+        };
+    };
+    let path = path.as_str();
+    let place = named_place(around.primary, &cause.kept);
+    if around.primary {
+        draw_primary_head(alloc, buffer, layout, around.first, path, place)
+    } else {
+        draw_secondary_head(alloc, buffer, layout, path, place)
+    }
+}
+
+/// The place that the head of a snippet names, given its lines that are kept.
+fn named_place(primary: bool, kept: &[AnnotatedLineInfo<'_>]) -> OriginPlace
+    requires room { AllEntries HasCharacterRoom kept.now }
+    ensures value { result ≡ spec.place_named primary (map seen_kept kept.now) }
+{
+    let place = if primary {
+        primary_place(kept)
+    } else {
+        secondary_place(kept)
+    };
+    match place {
+        Some(place) => OriginPlace {
+            line: Some(place.line),
+            column: place.column,
+        },
+        None => OriginPlace {
+            line: None,
+            column: None,
+        },
+    }
+}
+
+/// Draws the lines of an annotated snippet below all that stands in the grid. The group's window may close with them.
+fn draw_cause_lines(
+    alloc: Global,
+    buffer: &mut StyledBuffer,
+    renderer: &Renderer,
+    frame: Frame,
+    closes: bool,
+    cause: PreparedCause<'_>,
+) -> Result<(), AllocError>
+    requires prepared { IsCausePrepared cause }
+    requires room { HasRoomFor renderer.now frame (Cause cause.snippet.now) }
+    ensures added { OnOk result (AddsCauseLines renderer.now frame closes cause.entry.snippet.now buffer.old buffer.new) }
+{
+    let layout = Layout {
+        gutter: frame.gutter,
+        code: frame.code,
+        decor: renderer.decor_style,
+    };
+    let room = renderer.term_width.saturating_sub(frame.code);
+    let margin = margin_for(&cause.kept, room);
+    let numbers = line_numbers(renderer, cause.snippet.line_numbering);
+    let lines = with_lines_between(alloc, &cause.map, cause.kept)?;
+    draw_snippet(alloc, buffer, layout, margin, numbers, closes, &lines)
+}

@@ -1,0 +1,170 @@
+//! The rows of a group's elements, one below the other.
+ghost use Rattle.std.specs.Prelude.{◌≡◌, ◌++◌, All, List, OnOk, map};
+ghost use Rattle.std.specs.Option.{option_copied};
+ghost use Rattle.snippet_style.specs.Grid.{Cell};
+ghost use Rattle.snippet_suggest.specs.Rows.{IsTail};
+ghost use Rattle.snippet_suggest.specs.declared.layout.SuggestionStart.TheVariants.{Opening};
+ghost use Rattle.annotate_snippets.specs.Around.{begins_in_row_above};
+ghost use Rattle.annotate_snippets.specs.Drawn.{AddsElement, AddsElements, HasRoomFor};
+ghost use Rattle.annotate_snippets.specs.Prepared.{IsElementPrepared, element_of};
+ghost use Rattle.annotate_snippets.specs.Rows.{message_rows, origin_rows};
+
+use crate::renderer::Renderer;
+use crate::renderer::cause::draw_cause;
+use crate::renderer::frame::Frame;
+use crate::renderer::preprocess::PreparedElement;
+use crate::renderer::suggestions::draw_patches;
+use crate::renderer::surroundings::{GroupPlace, Surroundings, surroundings_of};
+use snippet_model::snippet::{Message, Origin};
+use snippet_style::StyledBuffer;
+use snippet_titles::{
+    FileStart, MessagePlace, OriginLayout, OriginPlace, TitleStyle, draw_closing, draw_heading,
+    draw_origin, draw_padding,
+};
+use std::alloc::{AllocError, Global};
+
+/// Draws a group's elements below all that stands in the grid. The group stands at this place, and this is the file that
+/// its suggestions are for where they name no other.
+///
+/// # Errors
+///
+/// There is no memory for the rows.
+pub fn draw_elements<'a>(
+    alloc: Global,
+    buffer: &mut StyledBuffer<'a>,
+    renderer: &Renderer,
+    frame: Frame,
+    place: GroupPlace,
+    file: Option<&str>,
+    elements: Vec<PreparedElement<'a>>,
+) -> Result<(), AllocError>
+    requires prepared { All IsElementPrepared elements.items }
+    requires room { All (λ e. HasRoomFor renderer.now frame (element_of e)) elements.items }
+    ensures added { OnOk result (AddsElements renderer.now frame place (option_copied file.entry) (map element_of elements.entry.items) buffer.old buffer.new) }
+{
+    let around = surroundings_of(alloc, place, file, &elements)?;
+    for (i, element) in elements.into_iter().enumerate() {
+        draw_element(alloc, buffer, renderer, frame, around[i], element)?;
+    }
+    Ok(())
+}
+
+/// Draws an element below all that stands in the grid; but a suggestion may begin in the last row there.
+fn draw_element<'a>(
+    alloc: Global,
+    buffer: &mut StyledBuffer<'a>,
+    renderer: &Renderer,
+    frame: Frame,
+    around: Surroundings,
+    element: PreparedElement<'a>,
+) -> Result<(), AllocError>
+    requires prepared { IsElementPrepared element }
+    requires room { HasRoomFor renderer.now frame (element_of element) }
+    ensures added { (above tail : List (List Cell)) → buffer.old ≡ above ++ tail
+        → IsTail renderer.now.decor_style frame.gutter (begins_in_row_above around) tail
+        → OnOk result (AddsElement renderer.now frame around (element_of element.entry) above buffer.new) }
+{
+    match element {
+        PreparedElement::Message(message) => {
+            draw_message(alloc, buffer, renderer, frame, around, message)
+        }
+        PreparedElement::Cause(cause) => draw_cause(alloc, buffer, renderer, frame, around, cause),
+        PreparedElement::Suggestion(suggestion) => {
+            draw_patches(alloc, buffer, renderer, frame, around, &suggestion)
+        }
+        PreparedElement::Origin(origin) => {
+            draw_place(alloc, buffer, renderer, frame, around, origin)
+        }
+        PreparedElement::Padding(_) => {
+            let last = around.next.is_nothing();
+            draw_padding(buffer, frame.gutter, renderer.decor_style, last)
+        }
+    }
+}
+
+/// Draws a message below all that stands in the grid.
+///
+/// ```text
+///    = note: first line
+///            second line
+/// ```
+fn draw_message<'a>(
+    alloc: Global,
+    buffer: &mut StyledBuffer<'a>,
+    renderer: &Renderer,
+    frame: Frame,
+    around: Surroundings,
+    message: &'a Message<'a>,
+) -> Result<(), AllocError>
+    requires fits { MessageFits message.now }
+    requires narrow { frame.gutter ≤ 20 }
+    ensures rows { OnOk result (buffer.new ≡ buffer.old ++ message_rows renderer.now frame around message.now) }
+{
+    let place = MessagePlace {
+        gutter: frame.gutter,
+        decor: renderer.decor_style,
+        followed: !around.next.is_nothing(),
+    };
+    draw_heading(
+        alloc,
+        buffer,
+        renderer.hyperlink,
+        TitleStyle::Message(place),
+        message,
+    )
+}
+
+/// Draws a place without source below all that stands in the grid.
+///
+/// ```text
+///   --> src/main.rs:3:5
+/// ```
+fn draw_place(
+    alloc: Global,
+    buffer: &mut StyledBuffer,
+    renderer: &Renderer,
+    frame: Frame,
+    around: Surroundings,
+    origin: &Origin<'_>,
+) -> Result<(), AllocError>
+    requires narrow { frame.gutter ≤ 20 }
+    ensures rows { OnOk result (buffer.new ≡ buffer.old ++ origin_rows renderer.now frame around origin.now) }
+{
+    let layout = origin_layout(renderer, frame);
+    let place = OriginPlace {
+        line: origin.line,
+        column: origin.char_column,
+    };
+    let start = origin_start(around);
+    draw_origin(alloc, buffer, layout, start, origin.path.as_str(), place)?;
+    if around.closes_behind() {
+        draw_closing(buffer, frame.gutter, renderer.decor_style)?;
+    }
+    Ok(())
+}
+
+/// What leads to the path of a place without source.
+fn origin_start(around: Surroundings) -> FileStart
+    ensures value { result ≡ spec.origin_start around }
+{
+    if !around.primary {
+        FileStart::Secondary
+    } else if !around.first {
+        FileStart::Later
+    } else if around.next.is_nothing() {
+        FileStart::Alone
+    } else {
+        FileStart::First
+    }
+}
+
+/// Where the rows of paths stand.
+pub fn origin_layout(renderer: &Renderer, frame: Frame) -> OriginLayout
+    ensures value { result ≡ spec.origin_layout renderer.now frame }
+{
+    OriginLayout {
+        gutter: frame.gutter,
+        decor: renderer.decor_style,
+        anonymized: renderer.anonymized_origin_line_numbers,
+    }
+}

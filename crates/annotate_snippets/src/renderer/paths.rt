@@ -1,0 +1,55 @@
+//! The files that elements, groups and reports are of.
+ghost use Rattle.std.specs.Prelude.{◌≡◌};
+ghost use Rattle.std.specs.Option.{option_copied};
+ghost use Rattle.annotate_snippets.specs.Around as spec;
+ghost use Rattle.annotate_snippets.specs.Around.{path_bytes, report_path};
+
+use snippet_model::snippet::{Element, Group};
+use snippet_text::CowStr;
+
+/// A path, if there is one.
+pub fn path_of<'r>(path: &'r Option<CowStr<'_>>) -> Option<&'r str>
+    ensures value { option_copied result ≡ path_bytes path.now }
+{
+    match path {
+        Some(path) => Some(path.as_str()),
+        None => None,
+    }
+}
+
+/// Whether two paths are the same, as they are given; so are two that are missing.
+pub fn is_same_file(path: Option<&str>, other: Option<&str>) -> bool
+    ensures value { result ≡ spec.is_same_file (option_copied path.entry) (option_copied other.entry) }
+{
+    match (path, other) {
+        (Some(path), Some(other)) => path == other,
+        (None, None) => true,
+        (Some(_), None) | (None, Some(_)) => false,
+    }
+}
+
+/// The path of a group's primary file, which is that of the first element that is of a file, if it has one.
+pub fn primary_path<'r>(group: &'r Group<'_>) -> Option<&'r str>
+    ensures value { option_copied result ≡ spec.primary_path group.now }
+{
+    for element in &group.elements {
+        match element {
+            Element::Cause(snippet) => return path_of(&snippet.path),
+            Element::Origin(origin) => return Some(origin.path.as_str()),
+            Element::Message(_) | Element::Suggestion(_) | Element::Padding(_) => {}
+        }
+    }
+    None
+}
+
+/// The path of a report's primary file: the first that a group has.
+pub fn report_file<'r>(groups: &'r [Group<'_>]) -> Option<&'r str>
+    ensures value { option_copied result ≡ report_path groups.now }
+{
+    for group in groups {
+        if let Some(path) = primary_path(group) {
+            return Some(path);
+        }
+    }
+    None
+}

@@ -1,0 +1,180 @@
+//! What is known of a report before any row is drawn: the lines of each source, the entries on them, the patched texts. Each is
+//! found once, and the gutter's width needs them all.
+ghost use Rattle.std.specs.Prelude.{◌≡◌, ◌<◌, ◌^◌, All, IfOk, IfSome, None, Some, filter, map, if◌then◌else◌};
+ghost use Rattle.std.specs.Option.{option_map};
+ghost use Rattle.annotate_snippets.specs.Around as spec;
+ghost use Rattle.annotate_snippets.specs.Around.{is_drawn, share_file};
+ghost use Rattle.annotate_snippets.specs.Gutter.{depth_of_group};
+ghost use Rattle.annotate_snippets.specs.Gutter as gutter;
+ghost use Rattle.annotate_snippets.specs.Prepared.{IsCausePrepared, IsDrawable, IsElementDrawable, IsElementPrepared, IsGroupDrawable, IsGroupPrepared, element_of};
+
+use crate::renderer::paths::{is_same_file, path_of};
+use snippet_model::snippet::{Annotation, Element, Group, Message, Origin, Padding, Patch, Snippet};
+use snippet_parts::{AnnotatedLineInfo, SourceMap};
+use snippet_suggest::{PreparedSuggestion, prepare_suggestion};
+use std::alloc::{AllocError, Global};
+
+/// A group that is prepared.
+#[derive(Drop)]
+pub struct PreparedGroup<'a> {
+    /// The group.
+    pub group: &'a Group<'a>,
+    /// Its elements that are drawn, in order.
+    pub elements: Vec<PreparedElement<'a>>,
+}
+
+/// An element that is prepared.
+#[derive(Drop)]
+pub enum PreparedElement<'a> {
+    /// A trusted text.
+    Message(&'a Message<'a>),
+    /// Source with annotations.
+    Cause(PreparedCause<'a>),
+    /// Source with a suggested edit.
+    Suggestion(PreparedSuggestion<'a>),
+    /// A place without source.
+    Origin(&'a Origin<'a>),
+    /// An empty row.
+    Padding(&'a Padding),
+}
+
+/// An annotated snippet that is prepared.
+#[derive(Drop)]
+pub struct PreparedCause<'a> {
+    /// The snippet.
+    pub snippet: &'a Snippet<'a, Annotation<'a>>,
+    /// The lines of its source.
+    pub map: SourceMap<'a>,
+    /// How many bars stand side by side left of its lines.
+    pub depth: usize,
+    /// Its lines that are kept, each with its entries.
+    pub kept: Vec<AnnotatedLineInfo<'a>>,
+}
+
+impl<'a> PreparedElement<'a> {
+    /// Whether it is of a file: an annotated snippet, with a path or without, or an origin.
+    pub fn has_file(&self) -> bool
+        ensures value { result ≡ spec.has_file (element_of self.now) }
+    {
+        matches!(self, PreparedElement::Cause(_) | PreparedElement::Origin(_))
+    }
+
+    /// Whether this and another element are suggestions for one file.
+    pub fn shares_file(&self, other: &PreparedElement<'_>) -> bool
+        ensures value { result ≡ share_file (element_of self.now) (element_of other.now) }
+    {
+        match (self, other) {
+            (PreparedElement::Suggestion(s), PreparedElement::Suggestion(t)) => {
+                is_same_file(path_of(&s.snippet.path), path_of(&t.snippet.path))
+            }
+            _ => false,
+        }
+    }
+
+    /// How many bars stand side by side left of its lines.
+    fn depth(&self) -> usize
+        requires prepared { IsElementPrepared self.now }
+        ensures value { result ≡ gutter.depth_of_element (element_of self.now) }
+        ensures small { result < 2 ^ 62 }
+    {
+        match self {
+            PreparedElement::Cause(cause) => cause.depth,
+            _ => 0,
+        }
+    }
+}
+
+impl<'a> PreparedGroup<'a> {
+    /// How many bars stand side by side left of the lines of its elements.
+    pub fn depth(&self) -> usize
+        requires prepared { IsGroupPrepared self.now }
+        ensures value { result ≡ depth_of_group self.now.group.now }
+        ensures small { result < 2 ^ 62 }
+    {
+        let mut depth = 0;
+        for element in &self.elements {
+            depth = element.depth().max(depth);
+        }
+        depth
+    }
+}
+
+/// Prepares the groups of a report, in order.
+///
+/// # Errors
+///
+/// There is no memory for what is found.
+pub fn prepare_groups<'a>(
+    alloc: Global,
+    groups: &'a [Group<'a>],
+) -> Result<Vec<PreparedGroup<'a>>, AllocError>
+    requires drawable { All IsGroupDrawable groups.now }
+    ensures groups { IfOk result (λ ps. map (λ p. p.group.now) ps.items ≡ groups.now) }
+    ensures prepared { IfOk result (λ ps. All IsGroupPrepared ps.items) }
+{
+    let mut prepared = Vec::new(alloc);
+    for group in groups {
+        let elements = prepare_elements(alloc, &group.elements)?;
+        prepared.push(PreparedGroup { group, elements })?;
+    }
+    Ok(prepared)
+}
+
+/// Prepares the elements that are drawn, in order.
+fn prepare_elements<'a>(
+    alloc: Global,
+    elements: &'a [Element<'a>],
+) -> Result<Vec<PreparedElement<'a>>, AllocError>
+    requires drawable { All IsElementDrawable elements.now }
+    ensures elements { IfOk result (λ ps. map element_of ps.items ≡ filter is_drawn elements.now) }
+    ensures prepared { IfOk result (λ ps. All IsElementPrepared ps.items) }
+{
+    let mut prepared = Vec::new(alloc);
+    for element in elements {
+        if let Some(element) = prepare_element(alloc, element)? {
+            prepared.push(element)?;
+        }
+    }
+    Ok(prepared)
+}
+
+/// Prepares an element, if it is drawn.
+fn prepare_element<'a>(
+    alloc: Global,
+    element: &'a Element<'a>,
+) -> Result<Option<PreparedElement<'a>>, AllocError>
+    requires drawable { IsElementDrawable element.now }
+    ensures drawn { IfOk result (λ p. option_map element_of p ≡ (if is_drawn element.now then Some element.now else None)) }
+    ensures prepared { IfOk result (λ p. IfSome p IsElementPrepared) }
+{
+    let prepared = match element {
+        Element::Message(message) => PreparedElement::Message(message),
+        Element::Cause(snippet) => PreparedElement::Cause(prepare_cause(alloc, snippet)?),
+        Element::Suggestion(snippet) => {
+            let suggestion = prepare_suggestion(alloc, snippet)?;
+            return Ok(suggestion.map(PreparedElement::Suggestion));
+        }
+        Element::Origin(origin) => PreparedElement::Origin(origin),
+        Element::Padding(padding) => PreparedElement::Padding(padding),
+    };
+    Ok(Some(prepared))
+}
+
+/// Prepares an annotated snippet.
+fn prepare_cause<'a>(
+    alloc: Global,
+    snippet: &'a Snippet<'a, Annotation<'a>>,
+) -> Result<PreparedCause<'a>, AllocError>
+    requires drawable { IsDrawable snippet.now }
+    ensures snippet { IfOk result (λ c. c.snippet.now ≡ snippet.now) }
+    ensures prepared { IfOk result IsCausePrepared }
+{
+    let map = SourceMap::new(alloc, snippet.source.as_str(), snippet.line_start)?;
+    let (depth, kept) = map.annotated_lines(&snippet.markers, snippet.fold)?;
+    Ok(PreparedCause {
+        snippet,
+        map,
+        depth,
+        kept,
+    })
+}

@@ -1,0 +1,46 @@
+//! The rows of a group's title.
+ghost use Rattle.std.specs.Prelude.{◌≡◌, ◌≤◌, ◌++◌, OnOk, Some};
+ghost use Rattle.snippet_model.specs.Fits.{TitleFits};
+ghost use Rattle.annotate_snippets.specs.Rows.{title_part};
+
+use crate::renderer::Renderer;
+use crate::renderer::frame::Frame;
+use crate::renderer::surroundings::{GroupPlace, Next};
+use snippet_model::snippet::Title;
+use snippet_style::StyledBuffer;
+use snippet_titles::{draw_closing, draw_separator};
+use std::alloc::{AllocError, Global};
+
+/// Draws a group's title below all that stands in the grid, with what sets off a message that follows, or closes the group.
+///
+/// ```text
+/// error[E0308]: mismatched types
+///  |
+/// ```
+///
+/// # Errors
+///
+/// There is no memory for the rows.
+pub fn draw_title<'a>(
+    alloc: Global,
+    buffer: &mut StyledBuffer<'a>,
+    renderer: &Renderer,
+    frame: Frame,
+    place: GroupPlace,
+    next: Next,
+    title: &'a Title<'a>,
+) -> Result<(), AllocError>
+    requires fits { TitleFits title.now }
+    requires narrow { frame.gutter ≤ 20 }
+    ensures rows { OnOk result (buffer.new ≡ buffer.old ++ title_part renderer.now frame place next (Some title.now)) }
+{
+    snippet_titles::draw_title(alloc, buffer, renderer.hyperlink, title)?;
+    let decor = renderer.decor_style;
+    if next.is_message() {
+        draw_separator(buffer, frame.gutter, decor)
+    } else if next.is_nothing() && place.is_first_of_several() && !title.allows_styling {
+        draw_closing(buffer, frame.gutter, decor)
+    } else {
+        Ok(())
+    }
+}
