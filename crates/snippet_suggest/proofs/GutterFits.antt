@@ -1,20 +1,20 @@
 -- Why the gutter that has room for the number that a suggestion counts has room for the number of each line that it gives.
 use Rattle.std.proofs.Common.{◌≡◌, ℕ, ◌+◌, ◌<◌, ◌≤◌, ◌^◌, nat_le, ◌&&◌, Bool, true, false, if◌then◌else◌, List, [], ◌∷◌, All, length, map, refl, sym, ap, ◌∙◌, arith, subst}
 use Rattle.std.specs.Cow.{cow_str_bytes}
-use Rattle.std.specs.Fmt.{decimal}
 use Rattle.std.specs.List.{list_any}
 use Rattle.std.proofs.lemmas.Bool.{cond-true, cond_both}
 use Rattle.std.proofs.lemmas.Bool.Decides.{nat_tests}
-use Rattle.std.proofs.lemmas.List.{length-map, length-replicate}
+use Rattle.std.proofs.lemmas.List.{length-map}
 use Rattle.std.proofs.lemmas.List.Elements.{All-map}
 use Rattle.snippet_model.specs.declared.snippet.Snippet.{Snippet}
 use Rattle.snippet_model.specs.declared.snippet.Patch.{Patch}
 use Rattle.snippet_lines.specs.Lines.{lines_of, source_lines, newline_count}
-use Rattle.snippet_lines.specs.Number.{shown_number}
+use Rattle.snippet_lines.specs.Number.{number_width, shown_number}
+use Rattle.snippet_lines.specs.declared.number.LineNumbers.{LineNumbers}
 use Rattle.snippet_lines.specs.Place.{line_of}
 use Rattle.snippet_lines.specs.Span.{IsSpan}
 use Rattle.snippet_lines.proofs.LinesLemmas.{length-source_lines}
-use Rattle.snippet_lines.proofs.NumberLemmas.{length-decimal_monotone, length-shown_number}
+use Rattle.snippet_lines.proofs.NumberLemmas.{length-shown_number, number_width_monotone}
 use Rattle.snippet_lines.proofs.PlaceLemmas.{line_of-mono, line_of-within}
 use Rattle.snippet_splice.specs.Edits.{Edit, edit_of, in_order, trimmed_edit}
 use Rattle.snippet_splice.specs.Shown.{first_start}
@@ -95,10 +95,9 @@ counted_last s can k within =
     (λ _. (low, small))
 
 -- a number that is at most one for which there is room has room
-shown_fits : (numbered : Bool) (gutter number counted : ℕ) → (numbered ≡ true → length (decimal counted) ≤ gutter) → number ≤ counted → counted < 2 ^ 64 → length (shown_number numbered gutter number) ≤ gutter + 1
-shown_fits true gutter number counted room low small =
-    omega (arith, length-shown_number true gutter number (omega (arith, length-decimal_monotone number counted low small, room refl)))
-shown_fits false gutter number counted room low small = omega (arith, length-replicate {A = ℕ} gutter 32)
+shown_fits : (numbers : LineNumbers) (gutter number counted : ℕ) → number_width numbers counted ≤ gutter → number ≤ counted → counted < 2 ^ 64 → length (shown_number numbers gutter number) ≤ gutter + 1
+shown_fits numbers gutter number counted room low small =
+    omega (arith, length-shown_number numbers gutter number (omega (arith, number_width_monotone numbers number counted low small, room)))
 
 -- what the gutter shows beside a line that is given stands left of the sign
 pub numbers_fit : (layout : SuggestionLayout) (s : Snippet Patch) → IsSuggestible s → HasGutter layout s → (k : ℕ) → k < length (given_lines s) → NumberFits layout (s.line_start + first_given s) (Line k)
@@ -106,4 +105,4 @@ numbers_fit layout s can room k within =
     let first : ℕ = s.line_start + first_given s in
     let counted = counted_last s can k within in
     let same : number_after first k ≡ first + k = omega (arith, counted.0, counted.1) in
-    subst (λ (n : ℕ). length (shown_number layout.numbered layout.gutter n) ≤ layout.gutter + 1) (sym same) (shown_fits layout.numbered layout.gutter (first + k) (counted_line s) room counted.0 counted.1)
+    subst (λ (n : ℕ). length (shown_number layout.numbers layout.gutter n) ≤ layout.gutter + 1) (sym same) (shown_fits layout.numbers layout.gutter (first + k) (counted_line s) room counted.0 counted.1)

@@ -1,15 +1,18 @@
 -- What stands beside a removed line: its number, what a row that was there held, and the end of a long number.
-use Rattle.std.proofs.Common.{◌≡◌, ℕ, ◌-◌, ◌+◌, ◌^◌, ◌<◌, ◌≤◌, ◌%◌, Bool, true, false, List, [], ◌∷◌, All, chars, length, replicate, refl, sym, subst, arith, inl, inr}
+use Rattle.std.proofs.Common.{◌≡◌, ◌⊎◌, ℕ, ◌-◌, ◌+◌, ◌^◌, ◌<◌, ◌≤◌, ◌%◌, true, List, [], ◌∷◌, All, chars, length, replicate, refl, sym, subst, arith, inl, inr}
 use Rattle.std.specs.Fmt.{decimal}
 use Rattle.std.specs.List.{slice_index_or}
 use Rattle.std.proofs.lemmas.Bool.{cases_lt}
 use Rattle.std.proofs.lemmas.Fmt.{decimal_by_steps}
+use Rattle.std.proofs.lemmas.List.{length-append, length-replicate}
 use Rattle.std.proofs.lemmas.List.Elements.{All-append, All-cons, All-nil, All-push, All-replicate}
 use Rattle.snippet_style.specs.declared.glyphs.DecorStyle.{DecorStyle}
 use Rattle.snippet_style.specs.declared.role.ElementStyle.TheVariants.{LineNumber}
 use Rattle.snippet_style.specs.Grid.{Cell, SPACE, drawn, written}
-use Rattle.snippet_style.proofs.GridLemmas.{All-drawn, slice_index_or-written_behind, slice_index_or-written_inside}
-use Rattle.snippet_lines.specs.Number.{shown_number}
+use Rattle.snippet_style.proofs.GridLemmas.{All-drawn, length-drawn, slice_index_or-written_behind, slice_index_or-written_inside}
+use Rattle.snippet_lines.specs.Number.{set_right, shown_number}
+use Rattle.snippet_lines.specs.declared.number.LineNumbers.{LineNumbers}
+use Rattle.snippet_lines.specs.declared.number.LineNumbers.TheVariants.{Shown, Anonymized, Hidden}
 use Rattle.snippet_suggest.specs.Rows.{IsBeforeSign, IsLeftOver, IsMarkOrSpace, is_stroke}
 use Rattle.snippet_suggest.proofs.RowLemmas.{each_written, texted}
 
@@ -18,32 +21,46 @@ decimal_holds : (P : ℕ → Type 0) → ((d : ℕ) → d < 10 → P (48 + d)) �
 decimal_holds P digit n fits =
     decimal_by_steps (λ _ ds. All P ds) (λ m one. All-cons P (48 + m) [] (digit m one) (All-nil P)) (λ m ds more so_far. All-push P ds (48 + m % 10) so_far (digit (m % 10) (omega arith))) n fits
 
-number_holds : (P : ℕ → Type 0) → P 32 → ((d : ℕ) → d < 10 → P (48 + d)) → (numbered : Bool) (gutter number : ℕ) → number < 2 ^ 64 → All P (shown_number numbered gutter number)
-number_holds P space digit true gutter number fits =
-    All-append P (replicate (gutter - length (decimal number)) 32) (decimal number) (All-replicate P (gutter - length (decimal number)) 32 space) (decimal_holds P digit number fits)
-number_holds P space digit false gutter number fits = All-replicate P gutter 32 space
+right_holds : (P : ℕ → Type 0) → P 32 → (gutter : ℕ) (cs : List ℕ) → All P cs → All P (set_right gutter cs)
+right_holds P space gutter cs holds =
+    All-append P (replicate (gutter - length cs) 32) cs (All-replicate P (gutter - length cs) 32 space) holds
 
-pub number_left : (decor : DecorStyle) (numbered : Bool) (gutter number : ℕ) → number < 2 ^ 64 → All (IsLeftOver decor) (shown_number numbered gutter number)
-number_left decor numbered gutter number fits =
+-- what stands behind the gutter and the sign's two cells, if anything does, may be left over
+abbrev pub StaysLeft : DecorStyle → ℕ → List ℕ → Type 0
+StaysLeft decor gutter cs = All (IsLeftOver decor) cs ⊎ (length cs ≤ gutter + 3)
+
+-- a number may be too long for the gutter, but not what stands in its place
+pub number_left : (decor : DecorStyle) (numbers : LineNumbers) (gutter number : ℕ) → number < 2 ^ 64 → StaysLeft decor gutter (shown_number numbers gutter number)
+number_left decor Shown gutter number fits =
     let P : ℕ → Type 0 = IsLeftOver decor in
     let digit : (d : ℕ) → d < 10 → P (48 + d) = λ d small. inr (omega arith, omega arith) in
-    number_holds P (inl (inl refl)) digit numbered gutter number fits
+    inl (right_holds P (inl (inl refl)) gutter (decimal number) (decimal_holds P digit number fits))
+number_left decor Anonymized gutter number fits =
+    let letters : List ℕ = 76 ∷ 76 ∷ [] in
+    inr (omega (arith, length-append {A = ℕ} (replicate (gutter - 2) 32) letters, length-replicate {A = ℕ} (gutter - 2) 32))
+number_left decor Hidden gutter number fits = inr (omega (arith, length-replicate {A = ℕ} gutter 32))
 
-pub number_before : (decor : DecorStyle) (numbered : Bool) (gutter number : ℕ) → number < 2 ^ 64 → All (IsBeforeSign decor) (shown_number numbered gutter number)
-number_before decor numbered gutter number fits =
-    let P : ℕ → Type 0 = IsBeforeSign decor in
+pub number_before : (decor : DecorStyle) (numbers : LineNumbers) (gutter number : ℕ) → number < 2 ^ 64 → All (IsBeforeSign numbers decor) (shown_number numbers gutter number)
+number_before decor Shown gutter number fits =
+    let P : ℕ → Type 0 = IsBeforeSign Shown decor in
     let digit : (d : ℕ) → d < 10 → P (48 + d) = λ d small. inr (omega arith, omega arith) in
-    number_holds P (inl refl) digit numbered gutter number fits
+    right_holds P (inl refl) gutter (decimal number) (decimal_holds P digit number fits)
+number_before decor Anonymized gutter number fits =
+    let P : ℕ → Type 0 = IsBeforeSign Anonymized decor in
+    right_holds P (inl refl) gutter (76 ∷ 76 ∷ []) (All-cons P 76 (76 ∷ []) (inr refl) (All-cons P 76 [] (inr refl) (All-nil P)))
+number_before decor Hidden gutter number fits =
+    let P : ℕ → Type 0 = IsBeforeSign Hidden decor in
+    All-replicate P gutter 32 (inl refl)
 
 -- what stands in the gutter of a row that showed no line, once a number was put into it
-pub before_sign : (decor : DecorStyle) (gutter : ℕ) (number : List ℕ) (row : List Cell) → All (IsBeforeSign decor) (chars number) → ((c : ℕ) → c < gutter + 3 → is_stroke decor (slice_index_or row c SPACE).ch ≡ true) → (c : ℕ) → c < gutter + 3 → IsBeforeSign decor (slice_index_or (texted number row 0 (drawn LineNumber (chars number))) c SPACE).ch
-before_sign decor gutter [] row number_is strokes c left = inl (strokes c left)
-before_sign decor gutter (b ∷ bs) row number_is strokes c left =
-    let P : Cell → Type 0 = λ cell. IsBeforeSign decor cell.ch in
+pub before_sign : (numbers : LineNumbers) (decor : DecorStyle) (gutter : ℕ) (number : List ℕ) (row : List Cell) → All (IsBeforeSign numbers decor) (chars number) → ((c : ℕ) → c < gutter + 3 → is_stroke decor (slice_index_or row c SPACE).ch ≡ true) → (c : ℕ) → c < gutter + 3 → IsBeforeSign numbers decor (slice_index_or (texted number row 0 (drawn LineNumber (chars number))) c SPACE).ch
+before_sign numbers decor gutter [] row number_is strokes c left = inl (strokes c left)
+before_sign numbers decor gutter (b ∷ bs) row number_is strokes c left =
+    let P : Cell → Type 0 = λ cell. IsBeforeSign numbers decor cell.ch in
     each_written P row 0 (gutter + 3) (drawn LineNumber (chars (b ∷ bs))) (λ k inside. inl (strokes k inside)) (All-drawn P LineNumber (chars (b ∷ bs)) number_is) c left
 
 -- what stands behind the gutter of a row that showed no line, once a number was put into it
-pub left_over : (decor : DecorStyle) (gutter : ℕ) (number : List ℕ) (row : List Cell) → All (IsLeftOver decor) (chars number) → ((c : ℕ) → gutter + 3 ≤ c → IsMarkOrSpace decor (slice_index_or row c SPACE).ch) → (c : ℕ) → gutter + 3 ≤ c → IsLeftOver decor (slice_index_or (texted number row 0 (drawn LineNumber (chars number))) c SPACE).ch
+pub left_over : (decor : DecorStyle) (gutter : ℕ) (number : List ℕ) (row : List Cell) → StaysLeft decor gutter (chars number) → ((c : ℕ) → gutter + 3 ≤ c → IsMarkOrSpace decor (slice_index_or row c SPACE).ch) → (c : ℕ) → gutter + 3 ≤ c → IsLeftOver decor (slice_index_or (texted number row 0 (drawn LineNumber (chars number))) c SPACE).ch
 left_over decor gutter [] row number_is marks c right = inl (marks c right)
 left_over decor gutter (b ∷ bs) row number_is marks c right =
     let P : Cell → Type 0 = λ cell. IsLeftOver decor cell.ch in
@@ -51,7 +68,10 @@ left_over decor gutter (b ∷ bs) row number_is marks c right =
     let here : 0 + c ≡ c = omega arith in
     elim (cases_lt c (length cells)) [
       | inl inside ↦
-          let there : P (slice_index_or cells c SPACE) = All-drawn P LineNumber (chars (b ∷ bs)) number_is c SPACE inside in
+          let there : P (slice_index_or cells c SPACE) = elim number_is [
+            | inl left ↦ All-drawn P LineNumber (chars (b ∷ bs)) left c SPACE inside
+            | inr short ↦ absurd (omega (arith, short, inside, right, length-drawn LineNumber (chars (b ∷ bs))))
+          ] in
           subst (λ (k : ℕ). P (slice_index_or (written SPACE row 0 cells) k SPACE)) here (subst P (sym (slice_index_or-written_inside SPACE row 0 cells c SPACE inside)) there)
       | inr past ↦
           subst P (sym (slice_index_or-written_behind SPACE row 0 cells c SPACE (omega (arith, past)))) (inl (marks c right))

@@ -12,7 +12,7 @@ use Rattle.snippet_suggest.proofs.DrawnLemmas.{next_of, zip_push}
 
 -- a row of a line that is removed
 abbrev pub IsRowOfRemoved : SuggestionLayout → List ℕ → List Cell → Type 0
-IsRowOfRemoved layout text row = IsRemovedRow layout.decor layout.gutter (norm (chars text)) row
+IsRowOfRemoved layout text row = IsRemovedRow layout.numbers layout.decor layout.gutter (norm (chars text)) row
 
 -- rows of lines that are removed are rows of a suggestion
 removed_zip : (layout : SuggestionLayout) (first : ℕ) (lines texts : List (List ℕ)) (rows : List (List Cell)) → AllZip (IsRowOfRemoved layout) texts rows → AllZip (Shows layout first lines) (map Removes texts) rows
@@ -82,10 +82,10 @@ pub record RemovesAt (layout : SuggestionLayout) (above : List (List Cell)) (inf
   pub shares : Bool
   pub here : at ≡ length (above ++ rows)
   pub stands : now ≡ (above ++ rows) ++ tail
-  pub tail_is : IsTail layout shares tail
+  pub tail_is : IsTail layout.decor layout.gutter shares tail
   pub behind : 0 < count → tail ≡ []
 
-pub removes_begun : (layout : SuggestionLayout) (above tail : List (List Cell)) (shares : Bool) (infos : List LineInfo) (at : ℕ) (now : List (List Cell)) → at ≡ length above → now ≡ above ++ tail → IsTail layout shares tail → RemovesAt layout above infos at 0 now
+pub removes_begun : (layout : SuggestionLayout) (above tail : List (List Cell)) (shares : Bool) (infos : List LineInfo) (at : ℕ) (now : List (List Cell)) → at ≡ length above → now ≡ above ++ tail → IsTail layout.decor layout.gutter shares tail → RemovesAt layout above infos at 0 now
 removes_begun layout above tail shares infos at now here stands is =
     record {
       rows = [];
@@ -122,7 +122,7 @@ removes_done layout above infos at count now some all drawn =
     }
 
 -- the row in which what it finds there begins
-pub tail_row : (layout : SuggestionLayout) (shares : Bool) (above tail old : List (List Cell)) (row : ℕ) → old ≡ above ++ tail → IsTail layout shares tail → row ≡ length old - (if shares then 1 else 0) → row ≡ length above
+pub tail_row : (layout : SuggestionLayout) (shares : Bool) (above tail old : List (List Cell)) (row : ℕ) → old ≡ above ++ tail → IsTail layout.decor layout.gutter shares tail → row ≡ length old - (if shares then 1 else 0) → row ≡ length above
 tail_row layout true above tail old row is shared at =
     omega (arith, ap length is, ap length shared.1, length-append above tail)
 tail_row layout false above tail old row is none at =

@@ -9,6 +9,7 @@ use Rattle.snippet_style.specs.Grid.{Cell, SPACE}
 use Rattle.snippet_style.specs.Print.{row_text}
 use Rattle.snippet_parts.specs.Rows.{IsFree}
 use Rattle.snippet_lines.specs.Number.{shown_number}
+use Rattle.snippet_lines.specs.declared.number.LineNumbers.{LineNumbers}
 use Rattle.snippet_suggest.specs.declared.layout.SuggestionLayout.{SuggestionLayout}
 use Rattle.snippet_suggest.specs.Rows.{without_role, AddsRow, Bare, IsBareRow, IsBeforeSign, IsLeftOver, IsLineRow, IsRemovedRow, IsRepainted, IsMarkOrSpace, IsSign, Offers, Removes, Shows, SuggestionRow, is_stroke, number_after}
 
@@ -62,11 +63,11 @@ same_bare decor gutter now last same is =
       free = same_free now last same is.free;
     }
 
-same_removed : (decor : DecorStyle) (gutter : ℕ) (text : List ℕ) (now last : List Cell) → AreSame now last → IsRemovedRow decor gutter text last → IsRemovedRow decor gutter text now
-same_removed decor gutter text now last same is =
+same_removed : (numbers : LineNumbers) (decor : DecorStyle) (gutter : ℕ) (text : List ℕ) (now last : List Cell) → AreSame now last → IsRemovedRow numbers decor gutter text last → IsRemovedRow numbers decor gutter text now
+same_removed numbers decor gutter text now last same is =
     let n : ℕ = length text in
     record {
-      before = λ c left. same_char (IsBeforeSign decor) now last c same (is.before c left);
+      before = λ c left. same_char (IsBeforeSign numbers decor) now last c same (is.before c left);
       minus = same_char (λ ch. ch ≡ 45) now last (gutter + 1) same is.minus;
       space = same_char (λ ch. ch ≡ 32) now last (gutter + 2) same is.space;
       begins = same_text (take n (drop (gutter + 3) now)) (take n (drop (gutter + 3) last)) (same_take n (drop (gutter + 3) now) (drop (gutter + 3) last) (same_drop (gutter + 3) now last same)) ∙ is.begins;
@@ -87,8 +88,8 @@ same_line decor gutter number text now last same is =
 
 same_shows : (layout : SuggestionLayout) (first : ℕ) (lines : List (List ℕ)) (shown : SuggestionRow) (now last : List Cell) → AreSame now last → Shows layout first lines shown last → Shows layout first lines shown now
 same_shows layout first lines (Offers k) now last same is =
-    same_line layout.decor layout.gutter (shown_number layout.numbered layout.gutter (number_after first k)) (norm (chars (get_or lines k []))) now last same is
-same_shows layout first lines (Removes text) now last same is = same_removed layout.decor layout.gutter (norm (chars text)) now last same is
+    same_line layout.decor layout.gutter (shown_number layout.numbers layout.gutter (number_after first k)) (norm (chars (get_or lines k []))) now last same is
+same_shows layout first lines (Removes text) now last same is = same_removed layout.numbers layout.decor layout.gutter (norm (chars text)) now last same is
 same_shows layout first lines Bare now last same is = same_bare layout.decor layout.gutter now last same is
 
 -- so a row that was added and then painted is added
@@ -100,8 +101,8 @@ row_repainted P stays old mid new adds painted =
       is = stays painted.now adds.row painted.same adds.is;
     }
 
-pub removed_repainted : (decor : DecorStyle) (gutter : ℕ) (text : List ℕ) (old mid new : List (List Cell)) (adds : AddsRow (IsRemovedRow decor gutter text) old mid) → IsRepainted old adds.row new → AddsRow (IsRemovedRow decor gutter text) old new
-removed_repainted decor gutter text old mid new adds painted = row_repainted (IsRemovedRow decor gutter text) (same_removed decor gutter text) old mid new adds painted
+pub removed_repainted : (numbers : LineNumbers) (decor : DecorStyle) (gutter : ℕ) (text : List ℕ) (old mid new : List (List Cell)) (adds : AddsRow (IsRemovedRow numbers decor gutter text) old mid) → IsRepainted old adds.row new → AddsRow (IsRemovedRow numbers decor gutter text) old new
+removed_repainted numbers decor gutter text old mid new adds painted = row_repainted (IsRemovedRow numbers decor gutter text) (same_removed numbers decor gutter text) old mid new adds painted
 
 pub shows_repainted : (layout : SuggestionLayout) (first : ℕ) (lines : List (List ℕ)) (shown : SuggestionRow) (old mid new : List (List Cell)) (adds : AddsRow (Shows layout first lines shown) old mid) → IsRepainted old adds.row new → AddsRow (Shows layout first lines shown) old new
 shows_repainted layout first lines shown old mid new adds painted = row_repainted (Shows layout first lines shown) (same_shows layout first lines shown) old mid new adds painted

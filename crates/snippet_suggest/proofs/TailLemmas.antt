@@ -9,13 +9,14 @@ use Rattle.snippet_style.specs.declared.role.ElementStyle.TheVariants.{LineNumbe
 use Rattle.snippet_style.specs.Grid.{Cell, SPACE, drawn, unlinked_cell, written, cells_written}
 use Rattle.snippet_style.proofs.GridLemmas.{cells_written_below, cells_written_last, length-drawn, slice_index_or-written_before, slice_index_or-written_behind, slice_index_or-written_inside}
 use Rattle.snippet_text.specs.Normalized.{is_listed}
+use Rattle.snippet_lines.specs.declared.number.LineNumbers.{LineNumbers}
 use Rattle.snippet_parts.specs.Rows.{IsFreeCell, IsFree}
 use Rattle.snippet_suggest.specs.declared.glyphs.SuggestionGlyph.{SuggestionGlyph}
 use Rattle.snippet_suggest.specs.declared.layout.SuggestionLayout.{SuggestionLayout}
 use Rattle.snippet_suggest.specs.Glyphs.{glyph_of, is_sign}
 use Rattle.snippet_suggest.specs.Rows.{AddsEnd, AddsRow, IsBareRow, IsBeforeSign, IsLeftOver, IsRemovedRow, IsTail}
 use Rattle.snippet_suggest.proofs.BareLemmas.{bare_none, bare_signed}
-use Rattle.snippet_suggest.proofs.LeftOver.{before_sign, left_over}
+use Rattle.snippet_suggest.proofs.LeftOver.{StaysLeft, before_sign, left_over}
 use Rattle.snippet_suggest.proofs.RowLemmas.{free_drawn, free_texted, free_written, kept_behind, left_behind, stands_texted, text_put, texted}
 
 -- the row that there is, or one with no cells where there is none
@@ -24,26 +25,26 @@ tail_row [] = []
 tail_row (row ∷ rows) = row
 
 -- it shows no line
-pub tail_bare : (layout : SuggestionLayout) (shares : Bool) (tail : List (List Cell)) → IsTail layout shares tail → IsBareRow layout.decor layout.gutter (tail_row tail)
+pub tail_bare : (layout : SuggestionLayout) (shares : Bool) (tail : List (List Cell)) → IsTail layout.decor layout.gutter shares tail → IsBareRow layout.decor layout.gutter (tail_row tail)
 tail_bare layout true tail is =
     subst (λ (rows : List (List Cell)). IsBareRow layout.decor layout.gutter (tail_row rows)) (sym is.1) is.2
 tail_bare layout false tail is =
     subst (λ (rows : List (List Cell)). IsBareRow layout.decor layout.gutter (tail_row rows)) (sym is) (bare_none layout.decor layout.gutter)
 
 -- what is written below the rows above goes into it
-pub tail_written : (layout : SuggestionLayout) (shares : Bool) (above tail : List (List Cell)) (at : ℕ) (cells : List Cell) → IsTail layout shares tail → cells_written (above ++ tail) (length above) at cells ≡ above ++ written SPACE (tail_row tail) at cells ∷ []
+pub tail_written : (layout : SuggestionLayout) (shares : Bool) (above tail : List (List Cell)) (at : ℕ) (cells : List Cell) → IsTail layout.decor layout.gutter shares tail → cells_written (above ++ tail) (length above) at cells ≡ above ++ written SPACE (tail_row tail) at cells ∷ []
 tail_written layout true above tail at cells is =
     subst (λ (rows : List (List Cell)). cells_written (above ++ rows) (length above) at cells ≡ above ++ written SPACE (tail_row rows) at cells ∷ []) (sym is.1) (cells_written_last above is.0 at cells)
 tail_written layout false above tail at cells is =
     subst (λ (rows : List (List Cell)). cells_written (above ++ rows) (length above) at cells ≡ above ++ written SPACE (tail_row rows) at cells ∷ []) (sym is) (ap (λ (rows : List (List Cell)). cells_written rows (length above) at cells) (append-nil above) ∙ cells_written_below above at cells)
 
 -- the same, of a grid that has these rows
-pub tail_put : (layout : SuggestionLayout) (shares : Bool) (above tail old new : List (List Cell)) (row at : ℕ) (cells : List Cell) → row ≡ length above → old ≡ above ++ tail → IsTail layout shares tail → new ≡ cells_written old row at cells → new ≡ above ++ written SPACE (tail_row tail) at cells ∷ []
+pub tail_put : (layout : SuggestionLayout) (shares : Bool) (above tail old new : List (List Cell)) (row at : ℕ) (cells : List Cell) → row ≡ length above → old ≡ above ++ tail → IsTail layout.decor layout.gutter shares tail → new ≡ cells_written old row at cells → new ≡ above ++ written SPACE (tail_row tail) at cells ∷ []
 tail_put layout shares above tail old new row at cells here is tail_is writes =
     writes ∙ ap (λ r. cells_written old r at cells) here ∙ ap (λ (rows : List (List Cell)). cells_written rows (length above) at cells) is ∙ tail_written layout shares above tail at cells tail_is
 
 -- a glyph was drawn into it
-pub glyph_added : (layout : SuggestionLayout) (shares : Bool) (glyph : SuggestionGlyph) (above tail old new : List (List Cell)) (row : ℕ) (text : List ℕ) → is_sign glyph ≡ false → chars text ≡ glyph_of layout.decor glyph → new ≡ cells_written old row (layout.gutter + 1) (drawn LineNumber (chars text)) → row ≡ length above → old ≡ above ++ tail → IsTail layout shares tail → AddsRow (IsBareRow layout.decor layout.gutter) above new
+pub glyph_added : (layout : SuggestionLayout) (shares : Bool) (glyph : SuggestionGlyph) (above tail old new : List (List Cell)) (row : ℕ) (text : List ℕ) → is_sign glyph ≡ false → chars text ≡ glyph_of layout.decor glyph → new ≡ cells_written old row (layout.gutter + 1) (drawn LineNumber (chars text)) → row ≡ length above → old ≡ above ++ tail → IsTail layout.decor layout.gutter shares tail → AddsRow (IsBareRow layout.decor layout.gutter) above new
 glyph_added layout shares glyph above tail old new row text other is writes here old_is tail_is =
     let cells = drawn LineNumber (glyph_of layout.decor glyph) in
     record {
@@ -71,7 +72,7 @@ end_added layout glyph skipped old new row text other is writes here =
     }
 
 -- a number, which may have no bytes, and a glyph behind it were put into it
-number_and_glyph : (layout : SuggestionLayout) (shares : Bool) (above tail old mid new : List (List Cell)) (r at : ℕ) (bytes : List ℕ) (cells sign : List Cell) → r ≡ length above → old ≡ above ++ tail → IsTail layout shares tail → (0 < length bytes → mid ≡ cells_written old r 0 cells) → (bytes ≡ [] → mid ≡ old) → new ≡ cells_written mid r at sign → new ≡ above ++ written SPACE (texted bytes (tail_row tail) 0 cells) at sign ∷ []
+number_and_glyph : (layout : SuggestionLayout) (shares : Bool) (above tail old mid new : List (List Cell)) (r at : ℕ) (bytes : List ℕ) (cells sign : List Cell) → r ≡ length above → old ≡ above ++ tail → IsTail layout.decor layout.gutter shares tail → (0 < length bytes → mid ≡ cells_written old r 0 cells) → (bytes ≡ [] → mid ≡ old) → new ≡ cells_written mid r at sign → new ≡ above ++ written SPACE (texted bytes (tail_row tail) 0 cells) at sign ∷ []
 number_and_glyph layout shares above tail old mid new r at [] cells sign here is tail_is writes stays signs =
     tail_put layout shares above tail old new r at sign here is tail_is (signs ∙ ap (λ (rows : List (List Cell)). cells_written rows r at sign) (stays refl))
 number_and_glyph layout shares above tail old mid new r at (b ∷ bs) cells sign here is tail_is writes stays signs =
@@ -80,8 +81,8 @@ number_and_glyph layout shares above tail old mid new r at (b ∷ bs) cells sign
     signs ∙ ap (λ (rows : List (List Cell)). cells_written rows r at sign) put ∙ ap (λ i. cells_written (above ++ row ∷ []) i at sign) here ∙ cells_written_last above row at sign
 
 -- a row of `- ` behind the gutter and a text behind that
-removed_row : (decor : DecorStyle) (gutter : ℕ) (role : ElementStyle) (led : List Cell) (text : List ℕ) → ((c : ℕ) → c < gutter + 3 → IsBeforeSign decor (slice_index_or led c SPACE).ch) → ((c : ℕ) → gutter + 3 ≤ c → IsLeftOver decor (slice_index_or led c SPACE).ch) → IsFree led → All (λ ch. is_listed ch ≡ false) (chars text) → IsRemovedRow decor gutter (chars text) (texted text (written SPACE led (gutter + 1) (drawn Removal (45 ∷ 32 ∷ []))) (gutter + 3) (drawn role (chars text)))
-removed_row decor gutter role led text before left free_led free_text =
+removed_row : (numbers : LineNumbers) (decor : DecorStyle) (gutter : ℕ) (role : ElementStyle) (led : List Cell) (text : List ℕ) → ((c : ℕ) → c < gutter + 3 → IsBeforeSign numbers decor (slice_index_or led c SPACE).ch) → ((c : ℕ) → gutter + 3 ≤ c → IsLeftOver decor (slice_index_or led c SPACE).ch) → IsFree led → All (λ ch. is_listed ch ≡ false) (chars text) → IsRemovedRow numbers decor gutter (chars text) (texted text (written SPACE led (gutter + 1) (drawn Removal (45 ∷ 32 ∷ []))) (gutter + 3) (drawn role (chars text)))
+removed_row numbers decor gutter role led text before left free_led free_text =
     let P : Cell → Type 0 = IsFreeCell in
     let glyph = drawn Removal (45 ∷ 32 ∷ []) in
     let row = written SPACE led (gutter + 1) glyph in
@@ -91,7 +92,7 @@ removed_row decor gutter role led text before left free_led free_text =
     let minus : slice_index_or row (gutter + 1) SPACE ≡ unlinked_cell Removal 45 = subst (λ (n : ℕ). slice_index_or row n SPACE ≡ unlinked_cell Removal 45) first (slice_index_or-written_inside SPACE led (gutter + 1) glyph 0 SPACE (omega arith)) in
     let space : slice_index_or row (gutter + 2) SPACE ≡ unlinked_cell Removal 32 = subst (λ (n : ℕ). slice_index_or row n SPACE ≡ unlinked_cell Removal 32) second (slice_index_or-written_inside SPACE led (gutter + 1) glyph 1 SPACE (omega arith)) in
     record {
-      before = λ c here. subst (λ (cell : Cell). IsBeforeSign decor cell.ch) (sym (kept_behind text row (gutter + 3) c (drawn role (chars text)) (omega (arith, here)) ∙ slice_index_or-written_before SPACE led (gutter + 1) glyph c (omega (arith, here)))) (before c (omega (arith, here)));
+      before = λ c here. subst (λ (cell : Cell). IsBeforeSign numbers decor cell.ch) (sym (kept_behind text row (gutter + 3) c (drawn role (chars text)) (omega (arith, here)) ∙ slice_index_or-written_before SPACE led (gutter + 1) glyph c (omega (arith, here)))) (before c (omega (arith, here)));
       minus = ap (λ (cell : Cell). cell.ch) (kept_behind text row (gutter + 3) (gutter + 1) (drawn role (chars text)) (omega arith) ∙ minus);
       space = ap (λ (cell : Cell). cell.ch) (kept_behind text row (gutter + 3) (gutter + 2) (drawn role (chars text)) (omega arith) ∙ space);
       begins = stands_texted (gutter + 3) text row role;
@@ -102,7 +103,7 @@ removed_row decor gutter role led text before left free_led free_text =
     }
 
 -- a line that is removed was drawn into it
-pub removed_added : (layout : SuggestionLayout) (shares : Bool) (role : ElementStyle) (above tail old mid signed new : List (List Cell)) (r : ℕ) (number sign text : List ℕ) → chars sign ≡ 45 ∷ 32 ∷ [] → All (λ ch. is_listed ch ≡ false) (chars number) → All (IsBeforeSign layout.decor) (chars number) → All (IsLeftOver layout.decor) (chars number) → All (λ ch. is_listed ch ≡ false) (chars text) → (0 < length number → mid ≡ cells_written old r 0 (drawn LineNumber (chars number))) → (number ≡ [] → mid ≡ old) → signed ≡ cells_written mid r (layout.gutter + 1) (drawn Removal (chars sign)) → (0 < length text → new ≡ cells_written signed r (layout.gutter + 3) (drawn role (chars text))) → (text ≡ [] → new ≡ signed) → r ≡ length above → old ≡ above ++ tail → IsTail layout shares tail → AddsRow (IsRemovedRow layout.decor layout.gutter (chars text)) above new
+pub removed_added : (layout : SuggestionLayout) (shares : Bool) (role : ElementStyle) (above tail old mid signed new : List (List Cell)) (r : ℕ) (number sign text : List ℕ) → chars sign ≡ 45 ∷ 32 ∷ [] → All (λ ch. is_listed ch ≡ false) (chars number) → All (IsBeforeSign layout.numbers layout.decor) (chars number) → StaysLeft layout.decor layout.gutter (chars number) → All (λ ch. is_listed ch ≡ false) (chars text) → (0 < length number → mid ≡ cells_written old r 0 (drawn LineNumber (chars number))) → (number ≡ [] → mid ≡ old) → signed ≡ cells_written mid r (layout.gutter + 1) (drawn Removal (chars sign)) → (0 < length text → new ≡ cells_written signed r (layout.gutter + 3) (drawn role (chars text))) → (text ≡ [] → new ≡ signed) → r ≡ length above → old ≡ above ++ tail → IsTail layout.decor layout.gutter shares tail → AddsRow (IsRemovedRow layout.numbers layout.decor layout.gutter (chars text)) above new
 removed_added layout shares role above tail old mid signed new r number sign text minus free_number before_number left_number free_text numbers no_number signs texts no_text here old_is tail_is =
     let g = layout.gutter in
     let led = texted number (tail_row tail) 0 (drawn LineNumber (chars number)) in
@@ -113,5 +114,5 @@ removed_added layout shares role above tail old mid signed new r number sign tex
     record {
       row = texted text row (g + 3) (drawn role (chars text));
       added = text_put above signed new row r (g + 3) text (drawn role (chars text)) begun here texts no_text;
-      is = removed_row layout.decor g role led text (before_sign layout.decor g number (tail_row tail) before_number (tail_bare layout shares tail tail_is).strokes) (left_over layout.decor g number (tail_row tail) left_number (tail_bare layout shares tail tail_is).marks) free_led free_text;
+      is = removed_row layout.numbers layout.decor g role led text (before_sign layout.numbers layout.decor g number (tail_row tail) before_number (tail_bare layout shares tail tail_is).strokes) (left_over layout.decor g number (tail_row tail) left_number (tail_bare layout shares tail tail_is).marks) free_led free_text;
     }

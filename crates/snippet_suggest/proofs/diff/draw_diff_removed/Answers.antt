@@ -13,7 +13,7 @@ loop-i-preserved c =
     let old = c.loop-i.buffer in
     let adds = c.in_ok-draw_removed_line.ensures.added old [] false c.num_lines-row.ensures.count (sym (append-nil old)) refl in
     let painted = c.in_ok-paint_stretches.ensures.repaints old adds.row c.num_lines-row.ensures.count adds.added in
-    removed_more a.layout a.removed.now c.loop-i.i _ a.buffer.now old c.paint_stretches.new.buffer (omega arith) c.loop-i.invariant (removed_repainted a.layout.decor a.layout.gutter _ old c.draw_removed_line.new.buffer c.paint_stretches.new.buffer adds painted)
+    removed_more a.layout a.removed.now c.loop-i.i _ a.buffer.now old c.paint_stretches.new.buffer (omega arith) c.loop-i.invariant (removed_repainted a.layout.numbers a.layout.decor a.layout.gutter _ old c.draw_removed_line.new.buffer c.paint_stretches.new.buffer adds painted)
 
 pub returns : goal.returns
 returns c =

@@ -8,5 +8,5 @@ use Rattle.snippet_suggest.proofs.removed.draw_removed_lines.Given as goal
 abbrev pub invariant-loop-info : goal.invariant-loop-info
 invariant-loop-info l = record {
   small : l.row < 2 ^ 60;
-  drawn : (above tail : List (List Cell)) (shares : Bool) → l.initial.row ≡ length above → l.initial.buffer ≡ above ++ tail → IsTail l.layout shares tail → RemovesAt l.layout above l.lines l.row l.info-index l.buffer;
+  drawn : (above tail : List (List Cell)) (shares : Bool) → l.initial.row ≡ length above → l.initial.buffer ≡ above ++ tail → IsTail l.layout.decor l.layout.gutter shares tail → RemovesAt l.layout above l.lines l.row l.info-index l.buffer;
 }

@@ -28,10 +28,10 @@ returns-clause-added c fits =
     let sign = chars c.text-sign.result.now in
     let number = c.as_str.result.now in
     let text = c.as_str-2.result.now in
-    let shown = shown_number c.args.layout.numbered g c.args.number in
+    let shown = shown_number c.args.layout.numbers g c.args.number in
     let led = sign_row g c.role.result sign in
     let numbered = texted number led 0 (drawn LineNumber (chars number)) in
-    let is_number : chars number ≡ shown = ap chars (c.as_str.ensures.value ∙ c.in_ok-number.ensures.text) ∙ chars-shown_number c.args.layout.numbered g c.args.number (omega arith) in
+    let is_number : chars number ≡ shown = ap chars (c.as_str.ensures.value ∙ c.in_ok-number.ensures.text) ∙ chars-shown_number c.args.layout.numbers g c.args.number (omega arith) in
     let is_text : chars text ≡ norm (chars c.args.line.now) = ap chars c.as_str-2.ensures.value ∙ c.in_ok-text.ensures.value in
     let begun = begun_by old c.puts.new.self c.num_lines-row.result (g + 1) (drawn c.role.result sign) below (c.in_ok-puts.ensures.ok c.text-sign.ensures.some) in
     let put = text_put old c.puts.new.self c.puts-2.new.self led c.num_lines-row.result 0 number (drawn LineNumber (chars number)) begun below c.in_ok-puts-2.ensures.ok c.puts-2.ensures.empty in
@@ -39,5 +39,5 @@ returns-clause-added c fits =
     record {
       row = line_row g c.role.result LineNumber NoStyle sign number text;
       added = lined;
-      is = line_row_is c.args.layout.decor c.args.glyph g c.role.result LineNumber NoStyle sign number shown text (norm (chars c.args.line.now)) c.requires.sign c.text-sign.ensures.value is_number fits (shown_number_unlisted c.args.layout.numbered g c.args.number (omega arith)) is_text (list_any-norm (chars c.args.line.now));
+      is = line_row_is c.args.layout.decor c.args.glyph g c.role.result LineNumber NoStyle sign number shown text (norm (chars c.args.line.now)) c.requires.sign c.text-sign.ensures.value is_number fits (shown_number_unlisted c.args.layout.numbers g c.args.number (omega arith)) is_text (list_any-norm (chars c.args.line.now));
     }

@@ -5,8 +5,8 @@ use Rattle.snippet_text.proofs.NormLemmas.{list_any-norm}
 use Rattle.snippet_lines.specs.Number.{shown_number}
 use Rattle.snippet_suggest.proofs.GlyphLemmas.{chars-minus}
 use Rattle.snippet_lines.proofs.NumberLemmas.{chars-shown_number, shown_number_unlisted}
-use Rattle.snippet_suggest.specs.Rows.{AddsRow, IsBeforeSign, IsLeftOver, IsRemovedRow}
-use Rattle.snippet_suggest.proofs.LeftOver.{number_before, number_left}
+use Rattle.snippet_suggest.specs.Rows.{AddsRow, IsBeforeSign, IsRemovedRow}
+use Rattle.snippet_suggest.proofs.LeftOver.{StaysLeft, number_before, number_left}
 use Rattle.snippet_suggest.proofs.RowLemmas.{All-from_none}
 use Rattle.snippet_suggest.proofs.TailLemmas.{removed_added}
 use Rattle.snippet_style.proofs.GridLemmas.{length-chars_le}
@@ -27,12 +27,12 @@ returns c =
     let g = a.layout.gutter in
     let number = c.as_str.result.now in
     let text = c.as_str-2.result.now in
-    let is_number : chars number ≡ shown_number a.layout.numbered g a.number = ap chars (c.as_str.ensures.value ∙ c.in_ok-number.ensures.text) ∙ chars-shown_number a.layout.numbered g a.number (omega arith) in
+    let is_number : chars number ≡ shown_number a.layout.numbers g a.number = ap chars (c.as_str.ensures.value ∙ c.in_ok-number.ensures.text) ∙ chars-shown_number a.layout.numbers g a.number (omega arith) in
     let is_text : chars text ≡ norm (chars a.line.now) = ap chars c.as_str-2.ensures.value ∙ c.in_ok-text.ensures.value in
-    let free_number : All (λ ch. is_listed ch ≡ false) (chars number) = subst (λ (t : List ℕ). All (λ ch. is_listed ch ≡ false) t) (sym is_number) (shown_number_unlisted a.layout.numbered g a.number (omega arith)) in
-    let before_number : All (IsBeforeSign a.layout.decor) (chars number) = subst (λ (t : List ℕ). All (IsBeforeSign a.layout.decor) t) (sym is_number) (number_before a.layout.decor a.layout.numbered g a.number (omega arith)) in
-    let left_number : All (IsLeftOver a.layout.decor) (chars number) = subst (λ (t : List ℕ). All (IsLeftOver a.layout.decor) t) (sym is_number) (number_left a.layout.decor a.layout.numbered g a.number (omega arith)) in
+    let free_number : All (λ ch. is_listed ch ≡ false) (chars number) = subst (λ (t : List ℕ). All (λ ch. is_listed ch ≡ false) t) (sym is_number) (shown_number_unlisted a.layout.numbers g a.number (omega arith)) in
+    let before_number : All (IsBeforeSign a.layout.numbers a.layout.decor) (chars number) = subst (λ (t : List ℕ). All (IsBeforeSign a.layout.numbers a.layout.decor) t) (sym is_number) (number_before a.layout.decor a.layout.numbers g a.number (omega arith)) in
+    let left_number : StaysLeft a.layout.decor g (chars number) = subst (StaysLeft a.layout.decor g) (sym is_number) (number_left a.layout.decor a.layout.numbers g a.number (omega arith)) in
     let free_text = All-from_none is_listed (chars text) (ap (list_any is_listed) is_text ∙ list_any-norm (chars a.line.now)) in
     record {
-      added = λ above tail shares here is shared. subst (λ (t : List ℕ). AddsRow (IsRemovedRow a.layout.decor g t) above c.puts-3.new.self) is_text (removed_added a.layout shares a.role above tail a.buffer.now c.puts.new.self c.puts-2.new.self c.puts-3.new.self a.row number (45 ∷ 32 ∷ []) text chars-minus free_number before_number left_number free_text c.in_ok-puts.ensures.ok c.puts.ensures.empty (c.in_ok-puts-2.ensures.ok (omega arith)) c.in_ok-puts-3.ensures.ok c.puts-3.ensures.empty here is shared);
+      added = λ above tail shares here is shared. subst (λ (t : List ℕ). AddsRow (IsRemovedRow a.layout.numbers a.layout.decor g t) above c.puts-3.new.self) is_text (removed_added a.layout shares a.role above tail a.buffer.now c.puts.new.self c.puts-2.new.self c.puts-3.new.self a.row number (45 ∷ 32 ∷ []) text chars-minus free_number before_number left_number free_text c.in_ok-puts.ensures.ok c.puts.ensures.empty (c.in_ok-puts-2.ensures.ok (omega arith)) c.in_ok-puts-3.ensures.ok c.puts-3.ensures.empty here is shared);
     }

@@ -9,7 +9,7 @@ use Rattle.snippet_suggest.proofs.ComposeLemmas.{bare_lines, lines_append}
 use Rattle.snippet_suggest.proofs.RemovedRows.{removed_lines, tail_row}
 use Rattle.snippet_suggest.proofs.KnownLemmas.{known_originals, known_some}
 use Rattle.snippet_suggest.proofs.KnownRemoved.{known_emptied}
-use Rattle.snippet_suggest.specs.Rows.{AddsLines}
+use Rattle.snippet_suggest.specs.Rows.{AddsLines, begins_in_last}
 use Rattle.snippet_suggest.proofs.ReachLemmas.{touched_some}
 use Rattle.snippet_suggest.proofs.suggestion.draw_emptied.Goals as goal
 
@@ -52,5 +52,5 @@ returns c =
           let new = c.draw_removed_lines-2.new.buffer in
           let some : 0 < length c.deref.result.now = subst (λ (ps : List TrimmedPatch). 0 < length ps) (sym c.deref.ensures.value) (known_some a.suggestion.now c.requires.prepared) in
           let texts : texts_at c.deref-2.result.now ≡ texts_of_source s (emptied_lines s) = ap texts_at c.deref-2.ensures.value ∙ known_emptied a.suggestion.now c.requires.prepared c.in_ok-removed.removed.items c.given_span.result.start c.given_span.result.end (c.given_span.ensures.start ∙ ap (λ ps. if s.fold then first_original ps else 0) c.deref.ensures.value) (c.given_span.ensures.end some ∙ ap (λ ps. if s.fold then first_original_end ps else length a.suggestion.now.map.text) c.deref.ensures.value) c.in_ok-removed.ensures.lines in
-          on_ok_weaker c.draw_removed_lines-2.result (λ rows. subst (λ (ts : List (List ℕ)). AddsLines a.layout first (given_lines s) [] ts above new) texts (removed_lines a.layout first (given_lines s) (texts_at c.deref-2.result.now) above new rows)) (c.draw_removed_lines-2.ensures.added above tail a.shares (tail_row a.layout a.shares above tail a.buffer.now c.first_row-row.result is shared c.first_row-row.ensures.value) is shared);
+          on_ok_weaker c.draw_removed_lines-2.result (λ rows. subst (λ (ts : List (List ℕ)). AddsLines a.layout first (given_lines s) [] ts above new) texts (removed_lines a.layout first (given_lines s) (texts_at c.deref-2.result.now) above new rows)) (c.draw_removed_lines-2.ensures.added above tail (begins_in_last a.start) (tail_row a.layout (begins_in_last a.start) above tail a.buffer.now c.first_row-row.result is shared c.first_row-row.ensures.value) is shared);
     }
