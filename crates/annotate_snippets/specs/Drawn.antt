@@ -1,5 +1,5 @@
 -- What the grids of a report hold: for each group its title and its elements, one below the other.
-use Rattle.std.specs.Prelude.{◌≡◌, ℕ, ◌+◌, ◌-◌, ◌<◌, ◌≤◌, ◌^◌, Bool, List, [], ◌∷◌, ◌++◌, Option, Some, length, map}
+use Rattle.std.specs.Prelude.{◌≡◌, ℕ, ◌+◌, ◌-◌, ◌<◌, ◌≤◌, ◌^◌, Bool, true, false, List, [], ◌∷◌, ◌++◌, Option, Some, length, map}
 use Rattle.std.specs.List.{AllZip, flat_map, slice_get, slice_index_or}
 use Rattle.std.specs.Cow.{cow_str_bytes}
 use Rattle.snippet_style.specs.Grid.{Cell}
@@ -29,7 +29,7 @@ use Rattle.annotate_snippets.specs.declared.renderer.graphic.GroupGrid.{GroupGri
 use Rattle.annotate_snippets.specs.declared.renderer.surroundings.GroupPlace.{GroupPlace}
 use Rattle.annotate_snippets.specs.declared.renderer.surroundings.Surroundings.{Surroundings}
 use Rattle.annotate_snippets.specs.Around.{closes_with, drawn_elements, file_of_group, is_end, next_of, place_at, surroundings_at}
-use Rattle.annotate_snippets.specs.Gutter.{code_behind, depth_of_element, depth_of_group, gutter_of_report, line_numbers, numbered_source, width_wanted}
+use Rattle.annotate_snippets.specs.Gutter.{code_behind, depth_of_element, frame_of, line_numbers, numbered_source, width_wanted}
 use Rattle.annotate_snippets.specs.Rows.{cause_head, message_rows, origin_rows, rows_behind_cause, suggestion_head, title_part}
 
 -- where the parts of an annotated snippet's rows stand, and the strokes that they are drawn with
@@ -117,18 +117,12 @@ pub record HasRoomFor (r : Renderer) (frame : Frame) (e : Element) : Type 0 wher
   pub anonymized : r.anonymized_snippet_line_numbers ≡ true → 2 ≤ frame.gutter
   pub numbers : r.anonymized_snippet_line_numbers ≡ false → width_wanted e ≤ frame.gutter
   pub bars : code_behind frame.gutter (depth_of_element e) ≤ frame.code
-  pub narrow : frame.code < 2 ^ 63 + 2 ^ 32
 
 -- the grid of a group: its title, and its elements below it
 pub record IsGroupGrid (r : Renderer) (frame : Frame) (place : GroupPlace) (file : Option (List ℕ)) (g : Group) (rows : List (List Cell)) : Type 0 where
   pub parts : List (List (List Cell))
   pub rows_are : rows ≡ title_part r frame place (next_of (drawn_elements g)) g.title ++ flat_map (λ part. part) parts
   pub are : AreElementsDrawn r frame place file (drawn_elements g) parts
-
--- the frame of a group: the gutter is the report's
-abbrev pub frame_of : Renderer → List Group → Group → Frame
-frame_of r groups g =
-    record { gutter = gutter_of_report r groups; code = code_behind (gutter_of_report r groups) (depth_of_group g) }
 
 -- each grid is that of a group, in order, and is printed in the group's level
 pub record AreGridsOf (r : Renderer) (groups : List Group) (grids : List GroupGrid) : Type 0 where

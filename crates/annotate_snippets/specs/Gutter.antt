@@ -17,6 +17,7 @@ use Rattle.snippet_lines.specs.declared.number.LineNumbers.{LineNumbers}
 use Rattle.snippet_lines.specs.declared.number.LineNumbers.TheVariants.{Shown, Anonymized, Hidden}
 use Rattle.snippet_suggest.specs.Given.{counted_line}
 use Rattle.annotate_snippets.specs.declared.renderer.Renderer.{Renderer}
+use Rattle.annotate_snippets.specs.declared.renderer.frame.Frame.{Frame}
 
 -- the width that an annotated snippet wants: that of the greatest line number counted, or 0 where lines aren't numbered
 abbrev pub gutter_of : Snippet Annotation → ℕ
@@ -72,3 +73,8 @@ depth_of_group g = fold (λ depth e. max (depth_of_element e) depth) 0 g.element
 -- the cell at which code begins: three behind the gutter, and where bars stand between, as many more, and one
 abbrev pub code_behind : ℕ → ℕ → ℕ
 code_behind gutter depth = if depth == 0 then gutter + 3 else gutter + 3 + depth + 1
+
+-- the frame of a group: the gutter is the report's
+abbrev pub frame_of : Renderer → List Group → Group → Frame
+frame_of r groups g =
+    record { gutter = gutter_of_report r groups; code = code_behind (gutter_of_report r groups) (depth_of_group g) }

@@ -51,6 +51,7 @@ element_of (Padding padding) = element.Padding padding.now
 -- what was prepared of an annotated snippet is its own: the lines of its source, those that are kept, and the depth of its spans
 pub record IsCausePrepared (c : PreparedCause) : Type 0 where
   pub drawable : IsDrawable c.snippet.now
+  pub few : length c.snippet.now.markers.items < 2 ^ 63
   pub map_is : c.map ≡ numbered_source c.snippet.now
   pub kept_are : map seen_kept c.kept.items ≡ annotated_lines c.snippet.now.fold (numbered_source c.snippet.now) c.snippet.now.markers.items
   pub depth_is : c.depth ≡ deepest (numbered_source c.snippet.now) c.snippet.now.markers.items

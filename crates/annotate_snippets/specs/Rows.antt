@@ -19,7 +19,7 @@ use Rattle.snippet_parts.specs.declared.named_place.NamedPlace.{NamedPlace}
 use Rattle.snippet_splice.specs.Shown.{first_start}
 use Rattle.snippet_suggest.specs.Given.{source_of, trimmed_of}
 use Rattle.snippet_suggest.specs.declared.layout.SuggestionStart.{SuggestionStart}
-use Rattle.snippet_suggest.specs.declared.layout.SuggestionStart.TheVariants.{Opening, Next, Path}
+use Rattle.snippet_suggest.specs.declared.layout.SuggestionStart.TheVariants as start
 use Rattle.snippet_titles.specs.Heading.{heading_rows}
 use Rattle.snippet_titles.specs.Origin.{closing_row, origin_row, primary_start, separator_row, snippet_head}
 use Rattle.snippet_titles.specs.Title.{title_rows}
@@ -104,8 +104,8 @@ cause_head r frame around s =
 -- the place at which the first patch of a snippet starts, trimmed as it is
 abbrev pub patch_place : Snippet Patch → OriginPlace
 patch_place s =
-    let start = start_location (source_of s) (first_start (trimmed_of s)) in
-    record { line = Some start.line; column = Some (start.char + 1) }
+    let at = start_location (source_of s) (first_start (trimmed_of s)) in
+    record { line = Some at.line; column = Some (at.char + 1) }
 
 -- the row of a suggestion's path
 abbrev pub path_row : Renderer → Frame → Bool → Snippet Patch → Option (List ℕ) → List (List Cell)
@@ -116,9 +116,9 @@ path_row r frame first s (Some path) =
 -- what a suggestion begins with that names its path: the row of the path. In the separator row below it its lines may begin, so
 -- that one is the first of its own rows
 abbrev pub suggestion_head_at : SuggestionStart → Renderer → Frame → Bool → Snippet Patch → List (List Cell)
-suggestion_head_at Opening r frame first s = []
-suggestion_head_at Next r frame first s = []
-suggestion_head_at Path r frame first s = path_row r frame first s (path_bytes s.path)
+suggestion_head_at start.Opening r frame first s = []
+suggestion_head_at start.Next r frame first s = []
+suggestion_head_at start.Path r frame first s = path_row r frame first s (path_bytes s.path)
 
 abbrev pub suggestion_head : Renderer → Frame → Surroundings → Snippet Patch → List (List Cell)
 suggestion_head r frame around s = suggestion_head_at around.start r frame around.first s

@@ -1,31 +1,30 @@
 -- What the page of a report shows.
 use Rattle.snippet_style.specs.Stylesheet.{is_plain_sheet}
-use Rattle.std.specs.Prelude.{◌≡◌, ◌⊎◌, ℕ, ◌+◌, ◌-◌, ◌<◌, ◌≤◌, ◌==◌, ◌&&◌, nat_le, nat_lt, Bool, true, false, not, List, [], ◌∷◌, ◌++◌, All, Contains, Option, Some, None, IfSome, filter, is_none, length, map, take, drop, replicate, chars, codes, if◌then◌else◌, encode_utf8_all}
-use Rattle.std.specs.List.{AllZip, flat_map, count_by, slice_split, slice_index_or}
+use Rattle.std.specs.Prelude.{◌≡◌, ◌⊎◌, ℕ, ◌+◌, ◌-◌, ◌<◌, ◌≤◌, ◌==◌, ◌&&◌, Bool, true, false, List, [], ◌∷◌, ◌++◌, All, Contains, Option, Some, None, filter, length, map, take, drop, chars, if◌then◌else◌, encode_utf8_all}
+use Rattle.std.specs.List.{AllZip, flat_map, count_by, list_any, slice_get, slice_index_or}
 use Rattle.std.specs.Option.{option_map, option_to_list}
 use Rattle.std.specs.Char.{is_ascii_alphanumeric}
 use Rattle.std.specs.Cow.{cow_str_bytes}
-use Rattle.snippet_style.specs.Grid.{Cell, SPACE, row_at, cell_at}
+use Rattle.snippet_style.specs.Grid.{Cell, SPACE, row_at}
 use Rattle.snippet_style.specs.Print.{row_text}
 use Rattle.snippet_style.specs.Woven.{IsWoven}
 use Rattle.snippet_style.specs.declared.glyphs.DecorStyle.{DecorStyle}
 use Rattle.snippet_style.specs.declared.role.LevelInner.{LevelInner}
 use Rattle.snippet_style.specs.declared.stylesheet.Stylesheet.{Stylesheet}
 use Rattle.snippet_text.specs.Normalized.{is_listed, norm}
-use Rattle.snippet_text.specs.Width.{width_of}
-use Rattle.snippet_model.specs.Level.{name_of}
+use Rattle.snippet_model.specs.Heading.{Heading, heading_of_message, heading_of_title}
 use Rattle.snippet_model.specs.Trusted.{trusted_texts}
-use Rattle.snippet_model.specs.declared.level.LevelName.{LevelName}
-use Rattle.snippet_model.specs.declared.level.LevelName.TheVariants.{Standard, Hidden, Own}
-use Rattle.snippet_model.specs.declared.snippet.Id.{Id}
 use Rattle.snippet_model.specs.declared.snippet.Title.{Title}
 use Rattle.snippet_model.specs.declared.snippet.Group.{Group}
+use Rattle.snippet_model.specs.declared.snippet.Message as message
+use Rattle.snippet_model.specs.declared.snippet.Origin as origin
 use Rattle.snippet_model.specs.declared.snippet.Snippet.{Snippet}
 use Rattle.snippet_model.specs.declared.snippet.Annotation.{Annotation}
 use Rattle.snippet_model.specs.declared.snippet.Patch.{Patch}
 use Rattle.snippet_model.specs.declared.snippet.AnnotationKind.{AnnotationKind}
 use Rattle.snippet_model.specs.declared.snippet.Element.{Element}
-use Rattle.snippet_model.specs.declared.snippet.Element.TheVariants.{Message, Cause, Suggestion, Origin, Padding}
+use Rattle.snippet_model.specs.declared.snippet.Element.TheVariants as element
+use Rattle.snippet_parts.specs.Annotated.{is_long}
 use Rattle.snippet_parts.specs.Kept.{shown_lines}
 use Rattle.snippet_lines.specs.Lines.{source_lines, text_at}
 use Rattle.snippet_splice.specs.Edits.{patched}
@@ -36,78 +35,61 @@ use Rattle.snippet_suggest.specs.Rows.{IsBareRow, IsRemovedRow, IsSign}
 use Rattle.snippet_parts.specs.Margin.{Bounds}
 use Rattle.snippet_parts.specs.Measures.{margin_of}
 use Rattle.snippet_parts.specs.Marked.{first_line, last_line}
-use Rattle.snippet_parts.specs.Mark.{is_marked_on, is_wide, qualifies_for_marks, start_column, end_column, IsMarkedAt, IsMarkOf}
+use Rattle.snippet_parts.specs.Mark.{is_marked_on, is_marking, is_wide, qualifies_for_marks, start_column, end_column, IsMarkedAt, IsMarkOf}
+use Rattle.snippet_parts.specs.NamedPlace.{IsNamedPlace}
+use Rattle.snippet_parts.specs.declared.named_place.NamedPlace.{NamedPlace}
 use Rattle.snippet_parts.specs.Window.{chars_at, stands_whole, IsWindowOf}
-use Rattle.snippet_titles.specs.Title.{id_chars, id_address, id_links}
+use Rattle.snippet_parts.specs.Rows.{HasNoNumber, IsFree}
 use Rattle.snippet_style.specs.Glyphs.{separator_of, closing_of, placeholder_of}
 use Rattle.snippet_strokes.specs.Entries.{IsMarkCell, IsRailCell, has_mark_role}
-use Rattle.snippet_parts.specs.Rows.{HasNoNumber}
-use Rattle.snippet_strokes.specs.Rows.{first_row, IsElisionRow}
+use Rattle.snippet_strokes.specs.Rows.{IsElisionRow}
+use Rattle.snippet_titles.specs.Heading.{heading_rows}
+use Rattle.snippet_titles.specs.Origin.{origin_text, padding_row}
+use Rattle.snippet_titles.specs.Shown.{IsFreeButText, LinksId, heading_texts}
+use Rattle.snippet_titles.specs.Title.{id_links}
+use Rattle.snippet_titles.specs.declared.style.TitleStyle.{TitleStyle}
+use Rattle.snippet_titles.specs.declared.style.TitleStyle.TheVariants as style
 use Rattle.annotate_snippets.specs.declared.renderer.Renderer.{Renderer}
-use Rattle.annotate_snippets.specs.Gutter.{code_behind, depth_of_group, gutter_of_report, number_text, numbered_source}
-use Rattle.annotate_snippets.specs.Page.{RowName, SourceRow, Elision, OfferedLine, RemovedLine, Other, NamedRow, lines_named, lines_offered, lines_removed, names_in, names_of_lines, cells_below, GroupPage, Page, page_text, PrintsPage, IsAscending, page_links}
+use Rattle.annotate_snippets.specs.declared.renderer.frame.Frame.{Frame}
+use Rattle.annotate_snippets.specs.declared.renderer.surroundings.GroupPlace.{GroupPlace}
+use Rattle.annotate_snippets.specs.declared.renderer.surroundings.Next.{Next}
+use Rattle.annotate_snippets.specs.declared.renderer.surroundings.Surroundings.{Surroundings}
+use Rattle.annotate_snippets.specs.Around.{closes_with, drawn_elements, file_of_group, is_end, next_of, path_bytes, place_at, surroundings_at}
+use Rattle.annotate_snippets.specs.Gutter.{frame_of, line_numbers, number_text, numbered_source}
+use Rattle.annotate_snippets.specs.Page.{RowName, SourceRow, Elision, OfferedLine, RemovedLine, Other, NamedRow, lines_named, lines_offered, lines_removed, names_in, names_of_lines, cells_below, cells_of, others, GroupPage, Page, page_text, PrintsPage, IsAscending, page_links}
+use Rattle.annotate_snippets.specs.Rows.{cause_head, message_style, origin_rows, place_found, place_given, rows_behind_cause, rows_behind_title, suggestion_head}
 
--- the characters of a title's text as it is drawn: a trusted one as it is, any other normalised
-abbrev pub drawn_text : Title → List ℕ
-drawn_text title = if title.allows_styling then chars (cow_str_bytes title.text) else norm (chars (cow_str_bytes title.text))
+-- the rows show a title or a message, which answers this: level, identifier, text, and whether that is trusted. They are its rows
+-- cell by cell; so the row of each line of its text is the text of that line as it is drawn, the first behind the label; the text of
+-- its id links to the id's address where links are on and it has one, and nothing else links; and each listed character is one
+-- of its own text, which is trusted
+pub record ShowsHeading (hyperlink : Bool) (place : TitleStyle) (heading : Heading) (rows : List (List Cell)) : Type 0 where
+  pub rows_are : rows ≡ heading_rows hyperlink place heading
+  pub texts : (i : ℕ) → row_text (row_at rows i) ≡ slice_index_or (heading_texts place heading) i []
+  pub links : LinksId hyperlink place heading rows
+  pub free : All (IsFreeButText heading) rows
 
--- whether a level's name isn't shown
-abbrev pub is_hidden : LevelName → Bool
-is_hidden Standard = false
-is_hidden Hidden = true
-is_hidden (Own name) = false
+-- the rows show a group's title, if it has one: behind its own rows stands what sets off a message that follows, or closes the
+-- group
+pub record ShowsTitle (r : Renderer) (frame : Frame) (place : GroupPlace) (follows : Next) (title : Title) (rows : List (List Cell)) : Type 0 where
+  pub own : List (List Cell)
+  pub rows_are : rows ≡ own ++ rows_behind_title r frame place follows title.allows_styling
+  pub shows : ShowsHeading r.hyperlink style.Title (heading_of_title title) own
 
--- the characters of an id: in brackets where a name stands before it
-abbrev pub bracketed : Bool → List ℕ → List ℕ
-bracketed hidden text = if hidden then text else codes "[" ++ text ++ codes "]"
+abbrev pub ShowsTitlePart : Renderer → Frame → GroupPlace → Next → Option Title → List (List Cell) → Type 0
+ShowsTitlePart r frame place follows None rows = rows ≡ []
+ShowsTitlePart r frame place follows (Some title) rows = ShowsTitle r frame place follows title rows
 
-abbrev pub shown_id : Bool → Option Id → List ℕ
-shown_id hidden None = []
-shown_id hidden (Some id) = flat_map (λ t. bracketed hidden (norm (chars (cow_str_bytes t)))) (option_to_list id.id)
+-- the rows show a message
+pub record ShowsMessage (r : Renderer) (frame : Frame) (around : Surroundings) (m : message.Message) (rows : List NamedRow) : Type 0 where
+  pub named : rows ≡ others (cells_of rows)
+  pub shows : ShowsHeading r.hyperlink (message_style r frame around) (heading_of_message m) (cells_of rows)
 
--- what stands before a title's text: the level's name, the id, a colon and a space; no colon where neither is given
-abbrev pub title_label : Title → List ℕ
-title_label title =
-    let hidden = is_hidden title.level.name in
-    norm (chars (name_of title.level)) ++ shown_id hidden title.id ++ (if hidden && is_none title.id then [] else codes ": ")
-
--- the text of each row of a title: its first line behind the label, each further one below its text
-abbrev pub texts_below : List ℕ → List (List ℕ) → List (List ℕ)
-texts_below label [] = []
-texts_below label (line ∷ lines) =
-    (label ++ line) ∷ map (λ further. replicate (width_of label) 32 ++ further) lines
-
-abbrev pub title_texts : Option Title → List (List ℕ)
-title_texts None = []
-title_texts (Some title) =
-    texts_below (title_label title) (slice_split (λ c. c == 10) (drawn_text title))
-
--- the cell of a title's first row at which the text of its id begins
-abbrev pub id_start : Title → ℕ
-id_start title =
-    length (norm (chars (name_of title.level))) + (if is_hidden title.level.name then 0 else 1)
-
--- whether cell c of row i of a title is one of the text of its id
-abbrev pub is_id_cell : Title → ℕ → ℕ → Bool
-is_id_cell title i c =
-    i == 0 && nat_le (id_start title) c && nat_lt c (id_start title + length (id_chars title.id))
-
--- the text of a title's id links to the id's address, where links are on and it has one; nothing else in its rows links
-abbrev pub LinksId : Bool → Title → List (List Cell) → Type 0
-LinksId hyperlink title rows =
-    (i c : ℕ) → (cell_at rows i c).link ≡ (if is_id_cell title i c then id_address hyperlink title.id else None)
-
--- the rows show a title, where there is one: its texts, row by row, with the link of its id; and no further row holds a
--- letter or digit in the gutter, so that none can be taken for the row of a line
-pub record ShowsTitle (hyperlink : Bool) (gutter : ℕ) (title : Option Title) (rows : List (List Cell)) : Type 0 where
-  pub texts : (i : ℕ) → i < length (title_texts title) → row_text (row_at rows i) ≡ slice_index_or (title_texts title) i []
-  pub further : (i : ℕ) → length (title_texts title) ≤ i → HasNoNumber gutter (row_at rows i)
-  pub links : IfSome title (λ t. LinksId hyperlink t rows)
-
--- where the rows of a report's snippets have their parts: the gutter's width, and the code's cell
-pub record Frame : Type 0 where
-  pub gutter : ℕ
-  pub code : ℕ
+-- the rows show an origin: they are its rows, cell by cell; so the first of them holds, four cells behind the gutter, its path,
+-- normalised, and the place that it gives
+pub record ShowsOrigin (r : Renderer) (frame : Frame) (around : Surroundings) (o : origin.Origin) (rows : List NamedRow) : Type 0 where
+  pub rows_are : rows ≡ others (origin_rows r frame around o)
+  pub text : row_text (drop (frame.gutter + 4) (row_at (cells_of rows) 0)) ≡ origin_text r.anonymized_origin_line_numbers (cow_str_bytes o.path) (place_given o)
 
 -- the columns that code has
 abbrev pub room_of : Renderer → Frame → ℕ
@@ -178,10 +160,10 @@ HasStroke gutter text row =
     (c : ℕ) → c < length text → (slice_index_or row (gutter + 1 + c) SPACE).ch ≡ slice_index_or text c 32
 
 -- a row below that of a line: no letter or digit in the gutter, so that it can't be taken for the row of a line, and behind it
--- the separator, or in the element's last row the closing glyph; between that and the code nothing but bars
-pub record IsRowBelow (decor : DecorStyle) (frame : Frame) (last : Bool) (row : List Cell) : Type 0 where
+-- the separator, or where the group's window closes with the row the closing glyph; between that and the code nothing but bars
+pub record IsRowBelow (decor : DecorStyle) (frame : Frame) (closes : Bool) (row : List Cell) : Type 0 where
   pub unnumbered : HasNoNumber frame.gutter row
-  pub stroke : HasStroke frame.gutter (separator_of decor ∷ []) row ⊎ ((last ≡ true) × HasStroke frame.gutter (closing_of decor) row)
+  pub stroke : HasStroke frame.gutter (if closes then closing_of decor else separator_of decor ∷ []) row
   pub bars : HasBarsAlone decor frame row
 
 -- a row in place of lines that are left out: no letter or digit in the gutter, what stands for such lines, bars that run past
@@ -190,35 +172,42 @@ pub record IsElided (decor : DecorStyle) (frame : Frame) (row : List Cell) : Typ
   pub unnumbered : HasNoNumber frame.gutter row
   pub is : IsElisionRow (record { gutter = frame.gutter; code = frame.code; decor = decor }) row
 
--- a row, with the rows below it, is what its name says
-abbrev pub IsRowOf : Renderer → Frame → Snippet Annotation → RowName → List Cell → List NamedRow → Type 0
-IsRowOf r frame s (SourceRow k) row rows = ShowsLineAndMarks r frame s k row (cells_below rows)
-IsRowOf r frame s Elision row rows = IsElided r.decor_style frame row
-IsRowOf r frame s (OfferedLine j) row rows = ⊥
-IsRowOf r frame s (RemovedLine i) row rows = ⊥
-IsRowOf r frame s Other row rows = IsRowBelow r.decor_style frame (length rows == 0) row
+-- a row of an annotated snippet's lines, with the rows below it, is what its name says; the group's window may close with the
+-- last one
+abbrev pub IsRowOf : Renderer → Frame → Bool → Snippet Annotation → RowName → List Cell → List NamedRow → Type 0
+IsRowOf r frame closes s (SourceRow k) row rows = ShowsLineAndMarks r frame s k row (cells_below rows)
+IsRowOf r frame closes s Elision row rows = IsElided r.decor_style frame row
+IsRowOf r frame closes s (OfferedLine j) row rows = ⊥
+IsRowOf r frame closes s (RemovedLine i) row rows = ⊥
+IsRowOf r frame closes s Other row rows = IsRowBelow r.decor_style frame (closes && length rows == 0) row
 
 -- each row is what its name says
-abbrev pub AreRowsOf : Renderer → Frame → Snippet Annotation → List NamedRow → Type 0
-AreRowsOf r frame s [] = Unit {0}
-AreRowsOf r frame s (row ∷ rows) = IsRowOf r frame s row.name row.cells rows × AreRowsOf r frame s rows
+abbrev pub AreRowsOf : Renderer → Frame → Bool → Snippet Annotation → List NamedRow → Type 0
+AreRowsOf r frame closes s [] = Unit {0}
+AreRowsOf r frame closes s (row ∷ rows) =
+    IsRowOf r frame closes s row.name row.cells rows × AreRowsOf r frame closes s rows
 
--- the rows show an annotated snippet: behind the row that it begins with stand the source rows of the lines that are shown,
+-- a row names the place of a snippet's spans behind its path: the first line on which a span of the kind that names it starts,
+-- and the least column there, counted in characters from 1
+pub record NamesPlace (r : Renderer) (frame : Frame) (s : Snippet Annotation) (path : List ℕ) (row : List Cell) : Type 0 where
+  pub place : NamedPlace
+  pub is : IsNamedPlace (numbered_source s) s.markers.items place
+  pub text : row_text (drop (frame.gutter + 4) row) ≡ origin_text r.anonymized_origin_line_numbers path (place_found (Some place))
+
+-- the rows show an annotated snippet: behind the rows that it begins with stand the source rows of the lines that are shown,
 -- each once and in order, those that are kept and each single line between two of them, with a row between where lines are
--- left out; and each row is what its name says. So each line on which a span begins or ends has one source row, and source
--- rows of greater lines stand lower. Where the snippet is its group's first element and has no path, the first row is the
--- one with which the decor begins a file
-pub record ShowsSnippet (r : Renderer) (frame : Frame) (first : Bool) (s : Snippet Annotation) (rows : List NamedRow) : Type 0 where
-  pub opening : List Cell
+-- left out, and each row is what its name says; and below them what sets off a message, or closes the group. So each line on which
+-- a span begins or ends has one source row, and source rows of greater lines stand lower. Where the snippet is of the group's
+-- primary file and has a path and spans that are marked, none of several lines, the first row names the first of their places
+pub record ShowsSnippet (r : Renderer) (frame : Frame) (around : Surroundings) (s : Snippet Annotation) (rows : List NamedRow) : Type 0 where
   pub behind : List NamedRow
-  pub rows_are : rows ≡ record { name = Other; cells = opening } ∷ behind
-  pub opens : s.path ≡ None → first ≡ true → opening ≡ first_row r.decor_style true frame.gutter
-  pub unnumbered : HasNoNumber frame.gutter opening
+  pub rows_are : rows ≡ others (cause_head r frame around s) ++ (behind ++ others (rows_behind_cause r frame around))
+  pub origin : around.primary ≡ true → (path : List ℕ) → path_bytes s.path ≡ Some path → list_any (λ a. is_marking a.kind) s.markers.items ≡ true → All (λ a. is_long (cow_str_bytes s.source) a ≡ false) s.markers.items → NamesPlace r frame s path (row_at (cells_of rows) 0)
   pub lines : lines_named behind ≡ shown_lines s.fold (cow_str_bytes s.source) s.markers.items
   pub elided : names_in behind ≡ names_of_lines (shown_lines s.fold (cow_str_bytes s.source) s.markers.items)
   pub ends : All (λ a. Contains (lines_named behind) (first_line (cow_str_bytes s.source) a) × Contains (lines_named behind) (last_line (cow_str_bytes s.source) a)) s.markers.items
   pub ordered : IsAscending (lines_named behind)
-  pub named : AreRowsOf r frame s behind
+  pub named : AreRowsOf r frame (closes_with around) s behind
 
 -- the row offers line j of the patched source: its number in the gutter, a separator, `+` or the glyph of a changed line behind
 -- it and no other letter or digit between them and the line; and three cells behind the gutter, to the row's end, the
@@ -234,59 +223,62 @@ pub record IsOfferedRow (r : Renderer) (gutter : ℕ) (s : Snippet Patch) (j : �
   pub patched_line : IsOfferable s → (j < length (source_lines (patched (cow_str_bytes s.source) (edits_of s)))) × (row_text (drop (gutter + 3) row) ≡ norm (chars (text_at (source_lines (patched (cow_str_bytes s.source) (edits_of s))) j)))
 
 -- a row of a suggestion is what its name says: it offers a line; or it shows a line of the source as removed, with `-` behind the
--- gutter, the line's normalised text from three cells behind it on, and no letter before the one or behind the other; or it
+-- gutter, the line's normalised text from three cells behind it on, and no letter before the one, but `LL`, or behind the other; or it
 -- shows no line: it holds nothing but what stands left of lines, and behind that marks
 abbrev pub IsSuggestionRow : Renderer → ℕ → Snippet Patch → RowName → List Cell → Type 0
 IsSuggestionRow r gutter s (SourceRow k) row = ⊥
 IsSuggestionRow r gutter s Elision row = ⊥
 IsSuggestionRow r gutter s (OfferedLine j) row = IsOfferedRow r gutter s j row
 IsSuggestionRow r gutter s (RemovedLine i) row =
-    IsRemovedRow r.decor_style gutter (norm (chars (text_at (source_lines (cow_str_bytes s.source)) i))) row
+    IsRemovedRow (line_numbers r s.line_numbering) r.decor_style gutter (norm (chars (text_at (source_lines (cow_str_bytes s.source)) i))) row
 IsSuggestionRow r gutter s Other row = IsBareRow r.decor_style gutter row
 
--- the rows show a suggestion: they offer lines of the patched source, each once and in order, they show as removed the lines of
--- the source that it takes away, in order, and each row is what its name says. Each line that a patch touches is offered, if it
--- isn't blank; but not where the spliced text has one line, and that is the last source line that is reached
-pub record ShowsSuggestion (r : Renderer) (gutter : ℕ) (s : Snippet Patch) (rows : List NamedRow) : Type 0 where
-  pub offered : IsOfferable s → (j : ℕ) → IsTouched (cow_str_bytes s.source) (edits_of s) j → is_blank (text_at (source_lines (patched (cow_str_bytes s.source) (edits_of s))) j) ≡ false → IsAsItWas s ⊎ Contains (lines_offered rows) j
-  pub ordered : IsAscending (lines_offered rows)
-  pub lines : lines_offered rows ≡ offered_lines s
-  pub removed : lines_removed rows ≡ removed_lines s
-  pub named : All (λ row. IsSuggestionRow r gutter s row.name row.cells) rows
+-- the rows show a suggestion: behind the row of its path, where it names that, they offer lines of the patched source, each once and
+-- in order, they show as removed the lines of the source that it takes away, in order, and each row is what its name says. Each line
+-- that a patch touches is offered, if it isn't blank; but not where the spliced text has one line, and that is the last source line
+-- that is reached
+pub record ShowsSuggestion (r : Renderer) (frame : Frame) (around : Surroundings) (s : Snippet Patch) (rows : List NamedRow) : Type 0 where
+  pub behind : List NamedRow
+  pub rows_are : rows ≡ others (suggestion_head r frame around s) ++ behind
+  pub offered : IsOfferable s → (j : ℕ) → IsTouched (cow_str_bytes s.source) (edits_of s) j → is_blank (text_at (source_lines (patched (cow_str_bytes s.source) (edits_of s))) j) ≡ false → IsAsItWas s ⊎ Contains (lines_offered behind) j
+  pub ordered : IsAscending (lines_offered behind)
+  pub lines : lines_offered behind ≡ offered_lines s
+  pub removed : lines_removed behind ≡ removed_lines s
+  pub named : All (λ row. IsSuggestionRow r frame.gutter s row.name row.cells) behind
 
--- the rows show an element, which is the group's first or a later one. Of annotated snippets and of suggestions something is
--- said so far
-abbrev pub ShowsElement : Renderer → Frame → Bool → Element → List NamedRow → Type 0
-ShowsElement r frame first (Cause snippet) rows = ShowsSnippet r frame first snippet rows
-ShowsElement r frame first (Suggestion snippet) rows = ShowsSuggestion r frame.gutter snippet rows
-ShowsElement r frame first (Message message) rows = Unit {0}
-ShowsElement r frame first (Origin origin) rows = Unit {0}
-ShowsElement r frame first (Padding padding) rows = Unit {0}
+-- the rows show an element
+abbrev pub ShowsElement : Renderer → Frame → Surroundings → Element → List NamedRow → Type 0
+ShowsElement r frame around (element.Message message) rows = ShowsMessage r frame around message rows
+ShowsElement r frame around (element.Cause snippet) rows = ShowsSnippet r frame around snippet rows
+ShowsElement r frame around (element.Suggestion snippet) rows = ShowsSuggestion r frame around snippet rows
+ShowsElement r frame around (element.Origin origin) rows = ShowsOrigin r frame around origin rows
+ShowsElement r frame around (element.Padding padding) rows =
+    rows ≡ others (padding_row r.decor_style frame.gutter (is_end around.next) ∷ [])
 
--- whether an element is drawn: a snippet of patches without patches is left out, as if it weren't there
-abbrev pub is_drawn : Element → Bool
-is_drawn (Message message) = true
-is_drawn (Cause snippet) = true
-is_drawn (Suggestion snippet) = not (length snippet.markers.items == 0)
-is_drawn (Origin origin) = true
-is_drawn (Padding padding) = true
+-- a row of an element that isn't a message holds no listed character, and no link; for a message see ShowsHeading
+abbrev pub IsFreeElement : Element → List NamedRow → Type 0
+IsFreeElement (element.Message message) rows = All (λ row. IsFreeButText (heading_of_message message) row.cells) rows
+IsFreeElement (element.Cause snippet) rows = All (λ row. IsFree row.cells) rows
+IsFreeElement (element.Suggestion snippet) rows = All (λ row. IsFree row.cells) rows
+IsFreeElement (element.Origin origin) rows = All (λ row. IsFree row.cells) rows
+IsFreeElement (element.Padding padding) rows = All (λ row. IsFree row.cells) rows
 
--- the parts of a group's page show its elements, one by one
-abbrev pub AreElementsShown : Renderer → Frame → Bool → List Element → List (List NamedRow) → Type 0
-AreElementsShown r frame first [] [] = Unit {0}
-AreElementsShown r frame first (e ∷ es) (rows ∷ parts) =
-    ShowsElement r frame first e rows × AreElementsShown r frame false es parts
-AreElementsShown r frame first es parts = ⊥
+-- the parts of a group's page show these elements, which are all that are drawn, one by one, in order
+pub record AreElementsShown (r : Renderer) (frame : Frame) (place : GroupPlace) (file : Option (List ℕ)) (es : List Element) (parts : List (List NamedRow)) : Type 0 where
+  pub count : length parts ≡ length es
+  pub each : (i : ℕ) (e : Element) → slice_get es i ≡ Some e → ShowsElement r frame (surroundings_at place file es i e) e (slice_index_or parts i [])
+  pub free : (i : ℕ) (e : Element) → slice_get es i ≡ Some e → IsFreeElement e (slice_index_or parts i [])
 
 -- the rows show a group: its title, and each element that is drawn, in order. Where a suggestion begins in the row with which
--- the one above it ends, this is its row. The code's cell is three behind the gutter, and more
--- where bars stand between, as many as its spans of several lines need
-pub record ShowsGroup (r : Renderer) (gutter : ℕ) (g : Group) (page : GroupPage) : Type 0 where
-  pub frame : Frame
-  pub gutter_is : frame.gutter ≡ gutter
-  pub code_is : frame.code ≡ code_behind gutter (depth_of_group g)
-  pub title : ShowsTitle r.hyperlink gutter g.title page.title
-  pub elements : AreElementsShown r frame true (filter is_drawn g.elements.items) page.elements
+-- the one above it ends, this is its row
+pub record ShowsGroup (r : Renderer) (frame : Frame) (place : GroupPlace) (file : Option (List ℕ)) (g : Group) (page : GroupPage) : Type 0 where
+  pub title : ShowsTitlePart r frame place (next_of (drawn_elements g)) g.title page.title
+  pub elements : AreElementsShown r frame place file (drawn_elements g) page.elements
+
+-- a page shows each group of a report, in order, in the frame that the report gives it
+pub record AreGroupsShown (r : Renderer) (groups : List Group) (page : Page) : Type 0 where
+  pub count : length page ≡ length groups
+  pub each : (i : ℕ) (g : Group) (part : GroupPage) → slice_get groups i ≡ Some g → slice_get page i ≡ Some part → ShowsGroup r (frame_of r groups g) (place_at (length groups) i) (file_of_group groups g) g part
 
 -- each listed character is one of a trusted text
 abbrev pub IsFreeBut : List (List ℕ) → List ℕ → Type 0
@@ -307,7 +299,7 @@ report_links r groups =
 -- plain sheet, the text is the page's characters and nothing else (`plain` follows from `printed` and `links`)
 pub record SheetsShown (r : Renderer) (groups : List Group) (sheets : List Stylesheet) (texts : List (List ℕ)) : Type 0 where
   pub page : Page
-  pub shows : AllZip (ShowsGroup r (gutter_of_report r groups)) groups page
+  pub shows : AreGroupsShown r groups page
   pub printed : AllZip (λ sheet text. PrintsPage sheet (levels_of groups) page text) sheets texts
   pub free : IsFreeBut (trusted_texts groups) (page_text page)
   pub links : page_links page ≡ report_links r groups

@@ -7,14 +7,14 @@
 //!    |     ^ here
 //!    |                      what sets off a message, or closes the group
 //! ```
-ghost use Rattle.std.specs.Prelude.{◌≡◌, ◌≤◌, ◌<◌, ◌^◌, ◌++◌, OnOk, map};
+ghost use Rattle.std.specs.Prelude.{◌≡◌, ◌+◌, ◌≤◌, ◌<◌, ◌^◌, ◌++◌, OnOk, map};
 ghost use Rattle.snippet_model.specs.declared.snippet.Element.TheVariants.{Cause};
 ghost use Rattle.snippet_parts.specs.Annotated.{seen_kept};
 ghost use Rattle.snippet_parts.specs.Entries.{AllEntries, HasCharacterRoom};
-ghost use Rattle.annotate_snippets.specs.Drawn.{AddsCause, AreCauseRows, HasRoomFor};
+ghost use Rattle.annotate_snippets.specs.Drawn.{AddsCause, AddsCauseLines, HasRoomFor};
 ghost use Rattle.annotate_snippets.specs.Prepared.{IsCausePrepared};
 ghost use Rattle.annotate_snippets.specs.Rows as spec;
-ghost use Rattle.annotate_snippets.specs.Rows.{cause_head, rows_behind_cause};
+ghost use Rattle.annotate_snippets.specs.Rows.{cause_head};
 
 use crate::renderer::Renderer;
 use crate::renderer::elements::origin_layout;
@@ -48,6 +48,7 @@ pub fn draw_cause(
 ) -> Result<(), AllocError>
     requires prepared { IsCausePrepared cause }
     requires room { HasRoomFor renderer.now frame (Cause cause.snippet.now) }
+    requires narrow { frame.code < 2 ^ 63 + 2 ^ 32 }
     ensures added { OnOk result (AddsCause renderer.now frame around cause.entry.snippet.now buffer.old buffer.new) }
 {
     draw_cause_head(alloc, buffer, renderer, frame, around, &cause)?;
@@ -124,6 +125,7 @@ fn draw_cause_lines(
 ) -> Result<(), AllocError>
     requires prepared { IsCausePrepared cause }
     requires room { HasRoomFor renderer.now frame (Cause cause.snippet.now) }
+    requires narrow { frame.code < 2 ^ 63 + 2 ^ 32 }
     ensures added { OnOk result (AddsCauseLines renderer.now frame closes cause.entry.snippet.now buffer.old buffer.new) }
 {
     let layout = Layout {

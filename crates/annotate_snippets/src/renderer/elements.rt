@@ -1,13 +1,14 @@
 //! The rows of a group's elements, one below the other.
-ghost use Rattle.std.specs.Prelude.{◌≡◌, ◌++◌, All, List, OnOk, map};
+ghost use Rattle.std.specs.Prelude.{◌≡◌, ◌+◌, ◌<◌, ◌≤◌, ◌^◌, ◌++◌, All, List, OnOk, map};
 ghost use Rattle.std.specs.Option.{option_copied};
 ghost use Rattle.snippet_style.specs.Grid.{Cell};
 ghost use Rattle.snippet_suggest.specs.Rows.{IsTail};
-ghost use Rattle.snippet_suggest.specs.declared.layout.SuggestionStart.TheVariants.{Opening};
 ghost use Rattle.annotate_snippets.specs.Around.{begins_in_row_above};
 ghost use Rattle.annotate_snippets.specs.Drawn.{AddsElement, AddsElements, HasRoomFor};
 ghost use Rattle.annotate_snippets.specs.Prepared.{IsElementPrepared, element_of};
+ghost use Rattle.annotate_snippets.specs.Rows as spec;
 ghost use Rattle.annotate_snippets.specs.Rows.{message_rows, origin_rows};
+ghost use Rattle.snippet_model.specs.Fits.{MessageFits};
 
 use crate::renderer::Renderer;
 use crate::renderer::cause::draw_cause;
@@ -40,6 +41,8 @@ pub fn draw_elements<'a>(
 ) -> Result<(), AllocError>
     requires prepared { All IsElementPrepared elements.items }
     requires room { All (λ e. HasRoomFor renderer.now frame (element_of e)) elements.items }
+    requires small { frame.gutter ≤ 20 }
+    requires narrow { frame.code < 2 ^ 63 + 2 ^ 32 }
     ensures added { OnOk result (AddsElements renderer.now frame place (option_copied file.entry) (map element_of elements.entry.items) buffer.old buffer.new) }
 {
     let around = surroundings_of(alloc, place, file, &elements)?;
@@ -60,6 +63,7 @@ fn draw_element<'a>(
 ) -> Result<(), AllocError>
     requires prepared { IsElementPrepared element }
     requires room { HasRoomFor renderer.now frame (element_of element) }
+    requires narrow { frame.code < 2 ^ 63 + 2 ^ 32 }
     ensures added { (above tail : List (List Cell)) → buffer.old ≡ above ++ tail
         → IsTail renderer.now.decor_style frame.gutter (begins_in_row_above around) tail
         → OnOk result (AddsElement renderer.now frame around (element_of element.entry) above buffer.new) }

@@ -6,12 +6,10 @@
 //! 1 | let x = 1;
 //!   |     ^
 //! ```
-ghost use Rattle.std.specs.Prelude.{◌≡◌, ◌≤◌, All, IfOk, map, string_bytes};
+ghost use Rattle.std.specs.Prelude.{◌≡◌, ◌+◌, ◌<◌, ◌≤◌, ◌^◌, All, IfOk, map, string_bytes};
 ghost use Rattle.std.specs.Option.{option_copied};
 ghost use Rattle.std.specs.List.{AllZip};
-ghost use Rattle.annotate_snippets.specs.Around.{file_of_group};
-ghost use Rattle.annotate_snippets.specs.Drawn.{AreGridsOf, HasRoomFor, IsGroupGrid, frame_of};
-ghost use Rattle.annotate_snippets.specs.Gutter.{gutter_of_report};
+ghost use Rattle.annotate_snippets.specs.Drawn.{AreGridsOf, HasRoomFor, IsGroupGrid};
 ghost use Rattle.annotate_snippets.specs.Page.{PrintsGrids};
 ghost use Rattle.annotate_snippets.specs.Prepared.{IsGroupDrawable, IsGroupPrepared, element_of};
 
@@ -73,7 +71,8 @@ fn draw_group<'a>(
     group: PreparedGroup<'a>,
 ) -> Result<GroupGrid<'a>, AllocError>
     requires prepared { IsGroupPrepared group }
-    requires narrow { frame.gutter ≤ 20 }
+    requires small { frame.gutter ≤ 20 }
+    requires narrow { frame.code < 2 ^ 63 + 2 ^ 32 }
     requires room { All (λ e. HasRoomFor renderer.now frame (element_of e)) group.elements.items }
     ensures level { IfOk result (λ grid. grid.level ≡ group.entry.group.now.level) }
     ensures drawn { IfOk result (λ grid. IsGroupGrid renderer.now frame place (option_copied file.entry) group.entry.group.now grid.buffer) }

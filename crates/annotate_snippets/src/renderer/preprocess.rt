@@ -75,7 +75,7 @@ impl<'a> PreparedElement<'a> {
     fn depth(&self) -> usize
         requires prepared { IsElementPrepared self.now }
         ensures value { result ≡ gutter.depth_of_element (element_of self.now) }
-        ensures small { result < 2 ^ 62 }
+        ensures small { result < 2 ^ 63 }
     {
         match self {
             PreparedElement::Cause(cause) => cause.depth,
@@ -89,7 +89,7 @@ impl<'a> PreparedGroup<'a> {
     pub fn depth(&self) -> usize
         requires prepared { IsGroupPrepared self.now }
         ensures value { result ≡ depth_of_group self.now.group.now }
-        ensures small { result < 2 ^ 62 }
+        ensures small { result < 2 ^ 63 }
     {
         let mut depth = 0;
         for element in &self.elements {

@@ -12,6 +12,7 @@ ghost use Rattle.snippet_style.specs.Grid.{Cell};
 ghost use Rattle.snippet_suggest.specs.Prepared.{IsPrepared};
 ghost use Rattle.snippet_suggest.specs.Rows.{IsTail};
 ghost use Rattle.annotate_snippets.specs.Drawn.{AddsElement, HasRoomFor};
+ghost use Rattle.annotate_snippets.specs.Around.{begins_in_row_above};
 ghost use Rattle.annotate_snippets.specs.Rows as spec;
 
 use crate::renderer::Renderer;

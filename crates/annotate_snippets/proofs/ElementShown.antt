@@ -1,0 +1,16 @@
+-- Rows that show an element.
+use Rattle.std.proofs.Common.{◌≡◌, List}
+use Rattle.snippet_style.specs.Grid.{Cell}
+use Rattle.snippet_model.specs.declared.snippet.Element.{Element}
+use Rattle.annotate_snippets.specs.Page.{NamedRow, cells_of}
+use Rattle.annotate_snippets.specs.Shown.{IsFreeElement, ShowsElement}
+use Rattle.annotate_snippets.specs.declared.renderer.Renderer.{Renderer}
+use Rattle.annotate_snippets.specs.declared.renderer.frame.Frame.{Frame}
+use Rattle.annotate_snippets.specs.declared.renderer.surroundings.Surroundings.{Surroundings}
+
+-- rows that show an element once they have names, and hold no listed character but a message's own
+pub record ElementShown (r : Renderer) (frame : Frame) (around : Surroundings) (e : Element) (rows : List (List Cell)) : Type 0 where
+  pub part : List NamedRow
+  pub cells : cells_of part ≡ rows
+  pub shows : ShowsElement r frame around e part
+  pub free : IsFreeElement e part

@@ -1,0 +1,25 @@
+-- Rows that show a group.
+use Rattle.std.proofs.Common.{◌≡◌, ℕ, List, [], ◌∷◌, Option}
+use Rattle.std.specs.List.{flat_map}
+use Rattle.std.specs.Option.{option_to_list}
+use Rattle.snippet_style.specs.Grid.{Cell}
+use Rattle.snippet_style.specs.Print.{plain_text}
+use Rattle.snippet_style.specs.Woven.{links_of}
+use Rattle.snippet_model.specs.declared.snippet.Group.{Group}
+use Rattle.snippet_model.specs.declared.snippet.Title.{Title}
+use Rattle.snippet_model.specs.Trusted.{trusted_texts}
+use Rattle.snippet_titles.specs.Title.{id_links}
+use Rattle.annotate_snippets.specs.Page.{GroupPage, group_rows}
+use Rattle.annotate_snippets.specs.Shown.{IsFreeBut, ShowsGroup}
+use Rattle.annotate_snippets.specs.declared.renderer.Renderer.{Renderer}
+use Rattle.annotate_snippets.specs.declared.renderer.frame.Frame.{Frame}
+use Rattle.annotate_snippets.specs.declared.renderer.surroundings.GroupPlace.{GroupPlace}
+
+-- rows that show a group once they have names: they link to what its title links to, and each listed character of them is one of
+-- its trusted texts
+pub record GroupShown (r : Renderer) (frame : Frame) (place : GroupPlace) (file : Option (List ℕ)) (g : Group) (rows : List (List Cell)) : Type 0 where
+  pub page : GroupPage
+  pub rows_are : rows ≡ group_rows page
+  pub shows : ShowsGroup r frame place file g page
+  pub links : links_of rows ≡ flat_map (λ (t : Title). id_links r.hyperlink t.id) (option_to_list g.title)
+  pub free : IsFreeBut (trusted_texts (g ∷ [])) (plain_text rows)
