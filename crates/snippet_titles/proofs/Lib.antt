@@ -5,6 +5,7 @@ pub mod EndLemmas
 pub mod ExtendLemmas
 pub mod FileRowLemmas
 pub mod FreeLemmas
+pub mod HeadFacts
 pub mod HeadLemmas
 pub mod HeadingLemmas
 pub mod LabelLemmas

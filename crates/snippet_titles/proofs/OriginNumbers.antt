@@ -36,7 +36,7 @@ glyphs-unnumbered Secondary Ascii = refl
 glyphs-unnumbered Secondary Unicode = refl
 
 -- cells that hold no letter or digit and reach past the gutter, with others behind them
-abbrev IsPlain : Cell → Type 0
+abbrev pub IsPlain : Cell → Type 0
 IsPlain cell = is_ascii_alphanumeric cell.ch ≡ false
 
 front-unnumbered : (gutter : ℕ) (front others : List Cell) → gutter < length front → All IsPlain front → HasNoNumber gutter (front ++ others)

@@ -3,7 +3,7 @@ ghost use Rattle.std.specs.Prelude.{◌≡◌, ◌+◌, ◌^◌, ◌<◌, ◌++�
 ghost use Rattle.snippet_titles.specs.Origin.{nameless_head, opening_head, primary_head, secondary_head};
 ghost use Rattle.snippet_titles.specs.Origin as spec;
 
-use crate::origin::{FileStart, OriginPlace, OriginLayout, begin_file_row, draw_origin};
+use crate::origin::{FileStart, OriginLayout, OriginPlace, begin_file_row, draw_origin};
 use crate::padding::draw_separator;
 use snippet_style::{DecorStyle, StyledBuffer};
 use std::alloc::{AllocError, Global};

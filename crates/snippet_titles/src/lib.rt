@@ -12,7 +12,7 @@ pub mod title;
 
 pub use head::{draw_nameless_head, draw_opening_head, draw_primary_head, draw_secondary_head};
 pub use heading::draw_heading;
-pub use origin::{FileStart, OriginPlace, OriginLayout, draw_origin, origin_text};
+pub use origin::{FileStart, OriginLayout, OriginPlace, draw_origin, origin_text};
 pub use padding::{draw_closing, draw_padding, draw_separator};
 pub use style::{MessagePlace, TitleStyle};
 pub use title::draw_title;
