@@ -2,6 +2,7 @@ pub mod AscendLemmas
 pub mod BareLemmas
 pub mod ComposeLemmas
 pub mod DrawnLemmas
+pub mod Examples
 pub mod GlyphLemmas
 pub mod GutterFits
 pub mod KnownLemmas

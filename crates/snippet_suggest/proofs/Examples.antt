@@ -1,0 +1,213 @@
+-- The definitions, computed on small suggestions. In these LF is 10.
+use Rattle.std.proofs.Common.{◌≡◌, ℕ, ◌<◌, ◌^◌, Bool, true, false, None, Vec, List, [], ◌∷◌, ◌++◌, codes, length, refl, arith}
+use Rattle.std.specs.declared.alloc.Global.{Global}
+use Rattle.std.specs.declared.borrow.CowStr.{CowStr}
+use Rattle.std.specs.declared.borrow.CowStr.TheVariants.{Borrowed}
+use Rattle.std.specs.Str.{chars, trim_end, trim_start}
+use Rattle.snippet_model.specs.declared.snippet.Snippet.{Snippet}
+use Rattle.snippet_model.specs.declared.snippet.Patch.{Patch}
+use Rattle.snippet_lines.specs.Lines.{newline_count, start_of}
+use Rattle.snippet_lines.specs.Place.{line_of}
+use Rattle.snippet_splice.specs.Edits.{trimmed_edit}
+use Rattle.snippet_splice.specs.Shown.{shown_text}
+use Rattle.snippet_splice.specs.Spliced.{last_line_reached}
+use Rattle.snippet_splice.specs.Trim.{kept_before, sandwich}
+use Rattle.snippet_suggest.specs.declared.kind.DisplaySuggestion.{DisplaySuggestion}
+use Rattle.snippet_suggest.specs.declared.kind.DisplaySuggestion.TheVariants.{Add, Diff, Plain, Underline}
+use Rattle.snippet_suggest.specs.Given.{counted_line, given_lines, offered_lines, removed_lines, shown_kind}
+
+-- a patch that puts a text in place of the bytes from one to another, and a snippet of such patches, whose first line has number 1
+abbrev text_of : List ℕ → CowStr Global
+text_of text = Borrowed (record { ref_ptr = (0, 0); now = text })
+
+abbrev patch : ℕ → ℕ → List ℕ → Patch
+patch start end text = record { span = record { start = start; end = end }; replacement = text_of text }
+
+abbrev snippet : Vec Patch Global → Bool → List ℕ → (ps : List Patch) → length ps < 2 ^ 63 → Snippet Patch
+snippet v folds text ps few =
+    record {
+      path = None;
+      line_start = 1;
+      source = text_of text;
+      markers = record { ptr = v.ptr; len = length ps; cap = length ps; alloc = v.alloc; items = ps; ok = (refl, omega arith); small = few };
+      line_numbering = true;
+      fold = folds;
+    }
+
+-- a suggestion of some patches is of this kind. These lines are given. Of the lines of the patched source those of these numbers
+-- are offered, and of the source's lines those of these are shown as removed. This number is counted
+record Gives (s : Snippet Patch) (kind : DisplaySuggestion) (lines : List (List ℕ)) (offered removed : List ℕ) (counted : ℕ) : Type 0 where
+  kind_is : shown_kind s ≡ kind
+  lines_are : given_lines s ≡ lines
+  offered_are : offered_lines s ≡ offered
+  removed_are : removed_lines s ≡ removed
+  counted_is : counted_line s ≡ counted
+
+-- `foo` with `bar` in its place:
+--
+--       |
+--     1 - foo
+--     1 + bar
+--       |
+abbrev one_word : Vec Patch Global → Snippet Patch
+one_word v = snippet v true (codes "foo") (patch 0 3 (codes "bar") ∷ []) (omega arith)
+
+one_word_gives : (v : Vec Patch Global) → Gives (one_word v) Diff (codes "bar" ∷ []) (0 ∷ []) (0 ∷ []) 1
+unfolding shown_text trimmed_edit sandwich kept_before start_of line_of chars last_line_reached newline_count trim_start trim_end lib.Utf8.encode
+one_word_gives v = record { kind_is = refl; lines_are = refl; offered_are = refl; removed_are = refl; counted_is = refl }
+
+-- `foo()` with `x` put before the bracket:
+--
+--       |
+--     1 | foo(x)
+--       |     +
+abbrev text_put_in : Vec Patch Global → Snippet Patch
+text_put_in v = snippet v true (codes "foo()") (patch 4 4 (codes "x") ∷ []) (omega arith)
+
+text_put_in_gives : (v : Vec Patch Global) → Gives (text_put_in v) Underline (codes "foo(x)" ∷ []) (0 ∷ []) [] 1
+unfolding shown_text trimmed_edit sandwich kept_before start_of line_of chars last_line_reached newline_count trim_start trim_end lib.Utf8.encode
+text_put_in_gives v = record { kind_is = refl; lines_are = refl; offered_are = refl; removed_are = refl; counted_is = refl }
+
+-- `a` and `bc` with `x` put first and `b` deleted. No line is lost:
+--
+--       |
+--     1 ~ xa
+--     2 | c
+--       |
+abbrev two_lines : Vec Patch Global → Snippet Patch
+two_lines v = snippet v true (codes "a" ++ 10 ∷ codes "bc") (patch 0 0 (codes "x") ∷ patch 2 3 [] ∷ []) (omega arith)
+
+two_lines_gives : (v : Vec Patch Global) → Gives (two_lines v) Plain (codes "xa" ∷ codes "c" ∷ []) (0 ∷ 1 ∷ []) [] 2
+unfolding shown_text trimmed_edit sandwich kept_before start_of line_of chars last_line_reached newline_count trim_start trim_end lib.Utf8.encode
+two_lines_gives v = record { kind_is = refl; lines_are = refl; offered_are = refl; removed_are = refl; counted_is = refl }
+
+-- `a` with `b` in its place, given before `x` that is put before it:
+--
+--       |
+--     1 - a
+--     1 + xb
+--       |
+abbrev insertion_first : Vec Patch Global → Snippet Patch
+insertion_first v = snippet v true (codes "a") (patch 0 1 (codes "b") ∷ patch 0 0 (codes "x") ∷ []) (omega arith)
+
+insertion_first_gives : (v : Vec Patch Global) → Gives (insertion_first v) Diff (codes "xb" ∷ []) (0 ∷ []) (0 ∷ []) 1
+unfolding shown_text trimmed_edit sandwich kept_before start_of line_of chars last_line_reached newline_count trim_start trim_end lib.Utf8.encode
+insertion_first_gives v = record { kind_is = refl; lines_are = refl; offered_are = refl; removed_are = refl; counted_is = refl }
+
+-- `a`, deleted:
+--
+--       |
+--     1 - a
+--       |
+abbrev deleted_line : Vec Patch Global → Snippet Patch
+deleted_line v = snippet v true (codes "a") (patch 0 1 [] ∷ []) (omega arith)
+
+deleted_line_gives : (v : Vec Patch Global) → Gives (deleted_line v) Diff [] [] (0 ∷ []) 1
+unfolding shown_text trimmed_edit sandwich kept_before start_of line_of chars last_line_reached newline_count trim_start trim_end lib.Utf8.encode
+deleted_line_gives v = record { kind_is = refl; lines_are = refl; offered_are = refl; removed_are = refl; counted_is = refl }
+
+-- `a` and a final LF, with `x` put behind that. It is joined to the last line:
+--
+--       |
+--     1 | ax
+--       |  +
+abbrev behind_final : Vec Patch Global → Snippet Patch
+behind_final v = snippet v true (codes "a" ++ 10 ∷ []) (patch 2 2 (codes "x") ∷ []) (omega arith)
+
+behind_final_gives : (v : Vec Patch Global) → Gives (behind_final v) Underline (codes "ax" ∷ []) (0 ∷ []) [] 1
+unfolding shown_text trimmed_edit sandwich kept_before start_of line_of chars last_line_reached newline_count trim_start trim_end lib.Utf8.encode
+behind_final_gives v = record { kind_is = refl; lines_are = refl; offered_are = refl; removed_are = refl; counted_is = refl }
+
+-- `a` and `b`, the first with its LF deleted. The one line that is left is the same as the last line that is reached,
+-- so neither is shown:
+--
+--       |
+--     1 - a
+--       |
+abbrev first_line_deleted : Vec Patch Global → Snippet Patch
+first_line_deleted v = snippet v true (codes "a" ++ 10 ∷ codes "b") (patch 0 2 [] ∷ []) (omega arith)
+
+first_line_deleted_gives : (v : Vec Patch Global) → Gives (first_line_deleted v) Diff (codes "b" ∷ []) [] (0 ∷ []) 2
+unfolding shown_text trimmed_edit sandwich kept_before start_of line_of chars last_line_reached newline_count trim_start trim_end lib.Utf8.encode
+first_line_deleted_gives v = record { kind_is = refl; lines_are = refl; offered_are = refl; removed_are = refl; counted_is = refl }
+
+-- `a` and `b`, the first with its LF put in its own place, and the second deleted. No text of a patch stands on the one line:
+--
+--       |
+--
+--       |
+abbrev untouched_only : Vec Patch Global → Snippet Patch
+untouched_only v = snippet v true (codes "a" ++ 10 ∷ codes "b") (patch 0 2 (codes "a" ++ 10 ∷ []) ∷ patch 2 3 [] ∷ []) (omega arith)
+
+untouched_only_gives : (v : Vec Patch Global) → Gives (untouched_only v) Diff (codes "a" ∷ []) [] [] 2
+unfolding shown_text trimmed_edit sandwich kept_before start_of line_of chars last_line_reached newline_count trim_start trim_end lib.Utf8.encode
+untouched_only_gives v = record { kind_is = refl; lines_are = refl; offered_are = refl; removed_are = refl; counted_is = refl }
+
+-- `a`, `b` and `c`, with `x` put first and `c` deleted. A line that is emptied at the end isn't given, and `b` isn't touched:
+--
+--       |
+--     1 ~ xa
+--       |
+abbrev first_of_three : Vec Patch Global → Snippet Patch
+first_of_three v = snippet v true (codes "a" ++ 10 ∷ codes "b" ++ 10 ∷ codes "c") (patch 0 0 (codes "x") ∷ patch 4 5 [] ∷ []) (omega arith)
+
+first_of_three_gives : (v : Vec Patch Global) → Gives (first_of_three v) Plain (codes "xa" ∷ codes "b" ∷ []) (0 ∷ []) [] 2
+unfolding shown_text trimmed_edit sandwich kept_before start_of line_of chars last_line_reached newline_count trim_start trim_end lib.Utf8.encode
+first_of_three_gives v = record { kind_is = refl; lines_are = refl; offered_are = refl; removed_are = refl; counted_is = refl }
+
+-- `a` to `g`, with `x` put before the first and `y` behind the last. Of more than three lines between these the first and the last
+-- are shown:
+--
+--       |
+--     1 ~ xa
+--     2 | b
+--     ...
+--     6 | f
+--     7 ~ gy
+--       |
+abbrev gap : Vec Patch Global → Snippet Patch
+gap v = snippet v true (codes "a" ++ 10 ∷ codes "b" ++ 10 ∷ codes "c" ++ 10 ∷ codes "d" ++ 10 ∷ codes "e" ++ 10 ∷ codes "f" ++ 10 ∷ codes "g") (patch 0 0 (codes "x") ∷ patch 13 13 (codes "y") ∷ []) (omega arith)
+
+gap_gives : (v : Vec Patch Global) → Gives (gap v) Plain (codes "xa" ∷ codes "b" ∷ codes "c" ∷ codes "d" ∷ codes "e" ∷ codes "f" ∷ codes "gy" ∷ []) (0 ∷ 1 ∷ 5 ∷ 6 ∷ []) [] 7
+unfolding shown_text trimmed_edit sandwich kept_before start_of line_of chars last_line_reached newline_count trim_start trim_end lib.Utf8.encode
+gap_gives v = record { kind_is = refl; lines_are = refl; offered_are = refl; removed_are = refl; counted_is = refl }
+
+-- `a`, `b` and `c`, with `x` in place of `c`. Folded one line is given:
+--
+--       |
+--     3 - c
+--     3 + x
+--       |
+abbrev third_line : Vec Patch Global → Snippet Patch
+third_line v = snippet v true (codes "a" ++ 10 ∷ codes "b" ++ 10 ∷ codes "c") (patch 4 5 (codes "x") ∷ []) (omega arith)
+
+third_line_gives : (v : Vec Patch Global) → Gives (third_line v) Diff (codes "x" ∷ []) (2 ∷ []) (2 ∷ []) 3
+unfolding shown_text trimmed_edit sandwich kept_before start_of line_of chars last_line_reached newline_count trim_start trim_end lib.Utf8.encode
+third_line_gives v = record { kind_is = refl; lines_are = refl; offered_are = refl; removed_are = refl; counted_is = refl }
+
+-- `a`, `b` and `c`, with `x` in place of `c`. Unfolded all are given:
+--
+--       |
+--     1 | a
+--     2 | b
+--     3 + x
+--       |
+abbrev third_unfolded : Vec Patch Global → Snippet Patch
+third_unfolded v = snippet v false (codes "a" ++ 10 ∷ codes "b" ++ 10 ∷ codes "c") (patch 4 5 (codes "x") ∷ []) (omega arith)
+
+third_unfolded_gives : (v : Vec Patch Global) → Gives (third_unfolded v) Plain (codes "a" ∷ codes "b" ∷ codes "x" ∷ []) (0 ∷ 1 ∷ 2 ∷ []) [] 3
+unfolding shown_text trimmed_edit sandwich kept_before start_of line_of chars last_line_reached newline_count trim_start trim_end lib.Utf8.encode
+third_unfolded_gives v = record { kind_is = refl; lines_are = refl; offered_are = refl; removed_are = refl; counted_is = refl }
+
+-- `a` with a line `x` put before it:
+--
+--       |
+--     1 + x
+--       |
+abbrev line_put_in : Vec Patch Global → Snippet Patch
+line_put_in v = snippet v true (codes "a") (patch 0 0 (codes "x" ++ 10 ∷ []) ∷ []) (omega arith)
+
+line_put_in_gives : (v : Vec Patch Global) → Gives (line_put_in v) Add (codes "x" ∷ []) (0 ∷ []) [] 1
+unfolding shown_text trimmed_edit sandwich kept_before start_of line_of chars last_line_reached newline_count trim_start trim_end lib.Utf8.encode
+line_put_in_gives v =
+    record { kind_is = refl; lines_are = refl; offered_are = refl; removed_are = refl; counted_is = refl }
