@@ -12,7 +12,9 @@ ghost use Rattle.snippet_titles.specs.Heading as spec;
 ghost use Rattle.snippet_titles.specs.Shown.{IsFreeButText, LinksId, heading_texts};
 ghost use Rattle.snippet_style.specs.Grid.{drawn, row_at};
 ghost use Rattle.snippet_style.specs.Print.{row_text};
+ghost use Rattle.snippet_text.specs.Normalized.{norm};
 ghost use Rattle.snippet_text.specs.Width.{width_of};
+ghost use Rattle.snippet_model.specs.Level.{name_of};
 
 use crate::id::draw_id;
 use crate::row::{draw_indent, draw_sign, extend_row};
@@ -81,7 +83,7 @@ fn draw_label<'a>(
 {
     let level = heading.level();
     let hidden = is_hidden(level);
-    let name = normalized(alloc, level.as_str())?;
+    let name = shown_name(alloc, level)?;
     extend_row(buffer, row, name.as_str(), roles.label)?;
     let start = start + char_count(name.as_str());
     draw_id(
@@ -96,6 +98,13 @@ fn draw_label<'a>(
     )?;
     extend_row(buffer, row, colon(hidden, heading.id()), roles.colon)?;
     Ok(())
+}
+
+/// A level's name as it is drawn, which is empty where it isn't shown.
+fn shown_name<'r>(alloc: Global, level: &'r Level<'_>) -> Result<CowStr<'r>, AllocError>
+    ensures value { IfOk result (λ name. chars (cow_str_bytes name) ≡ norm (chars (name_of level.now))) }
+{
+    normalized(alloc, level.as_str())
 }
 
 /// Whether a level's name isn't shown.

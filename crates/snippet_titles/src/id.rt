@@ -1,8 +1,10 @@
 //! A heading's identifier.
-ghost use Rattle.std.specs.Prelude.{◌≡◌, ◌+◌, ◌^◌, ◌<◌, ◌≤◌, chars, length, IfSome, OnOk};
+ghost use Rattle.std.specs.Prelude.{◌≡◌, ◌+◌, ◌^◌, ◌<◌, ◌≤◌, chars, length, IfOk, IfSome, OnOk};
+ghost use Rattle.std.specs.Cow.{cow_str_bytes};
 ghost use Rattle.std.specs.Option.{option_copied};
 ghost use Rattle.snippet_model.specs.Fits.{IdFits};
 ghost use Rattle.snippet_style.specs.Grid.{row_at};
+ghost use Rattle.snippet_text.specs.Normalized.{norm};
 ghost use Rattle.snippet_titles.specs.Appended.{appended};
 ghost use Rattle.snippet_titles.specs.Heading.{id_cells};
 ghost use Rattle.snippet_titles.specs.Heading as spec;
@@ -10,7 +12,7 @@ ghost use Rattle.snippet_titles.specs.Heading as spec;
 use crate::row::{extend_row, link_from};
 use snippet_model::snippet::Id;
 use snippet_style::{ElementStyle, StyledBuffer};
-use snippet_text::normalized;
+use snippet_text::{CowStr, normalized};
 use std::alloc::{AllocError, Global};
 
 /// Draws an id behind a row's cells, of which there are `start`: in brackets, unless the level's name is hidden. Its text
@@ -41,7 +43,7 @@ pub(crate) fn draw_id<'a>(
     let Some(text) = &id.id else {
         return Ok(());
     };
-    let shown = normalized(alloc, text.as_str())?;
+    let shown = shown_text(alloc, text)?;
     let opening = opening_bracket(hidden);
     extend_row(buffer, row, opening, role)?;
     extend_row(buffer, row, shown.as_str(), role)?;
@@ -53,6 +55,13 @@ pub(crate) fn draw_id<'a>(
     )?;
     extend_row(buffer, row, closing_bracket(hidden), role)?;
     Ok(())
+}
+
+/// An id's text as it is drawn.
+fn shown_text<'r>(alloc: Global, text: &'r CowStr<'_>) -> Result<CowStr<'r>, AllocError>
+    ensures value { IfOk result (λ shown. chars (cow_str_bytes shown) ≡ norm (chars (cow_str_bytes text.now))) }
+{
+    normalized(alloc, text.as_str())
 }
 
 /// What stands before an id's text.

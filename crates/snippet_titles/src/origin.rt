@@ -1,5 +1,6 @@
 //! The row of a path, and of the place behind it.
 ghost use Rattle.std.specs.Prelude.{◌≡◌, ◌+◌, ◌^◌, ◌<◌, ◌∷◌, ◌++◌, [], length, chars, string_bytes, OnOk, IfOk};
+ghost use Rattle.snippet_text.specs.Normalized.{norm};
 ghost use Rattle.snippet_titles.specs.Origin as spec;
 ghost use Rattle.snippet_titles.specs.Origin.{file_glyph, file_row, origin_row, place_text};
 
@@ -75,9 +76,16 @@ pub fn origin_text(
 ) -> Result<String, AllocError>
     ensures value { IfOk result (λ t. chars (string_bytes t) ≡ spec.origin_text anonymized path.now place) }
 {
-    let mut text = normalize_untrusted_str(alloc, path)?;
+    let mut text = shown_path(alloc, path)?;
     push_place(&mut text, place, anonymized)?;
     Ok(text)
+}
+
+/// A path as it is drawn.
+fn shown_path(alloc: Global, path: &str) -> Result<String, AllocError>
+    ensures value { IfOk result (λ text. chars (string_bytes text) ≡ norm (chars path.now)) }
+{
+    normalize_untrusted_str(alloc, path)
 }
 
 /// Adds the place that stands behind a path.
