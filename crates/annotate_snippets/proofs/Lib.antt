@@ -1,6 +1,12 @@
+pub mod CauseShown
 pub mod DisjointLemmas
 pub mod ElementShown
 pub mod FaultLemmas
 pub mod GroupShown
+pub mod GutterLemmas
+pub mod LineLemmas
 pub mod ListLemmas
+pub mod MarkLemmas
+pub mod PageLemmas
+pub mod PartsFacts
 pub mod WindowLemmas

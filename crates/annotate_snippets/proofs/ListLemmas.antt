@@ -1,6 +1,7 @@
 -- What a list contains after its elements are chosen or mapped.
 use Rattle.std.proofs.Common.{◌≡◌, zero, suc, Bool, true, false, cond, List, [], ◌∷◌, map, refl, ap, subst, ◌∙◌, arith, inl, inr, ◌⊎◌}
-use Rattle.std.specs.List.{Contains, filter}
+use Rattle.std.specs.List.{Contains, filter, list_any}
+use Rattle.std.proofs.lemmas.Bool.{cases_Bool}
 use Rattle.std.proofs.lemmas.List.{length-map, get_or-map}
 
 module _ {X : Type 0} where
@@ -37,3 +38,17 @@ module _ {X : Type 0} where
   pub Contains-map : {Y : Type 0} (f : X → Y) (xs : List X) (x : X) → Contains xs x → Contains (map f xs) (f x)
   Contains-map f xs x among =
       (among.0, omega (arith, length-map xs f, among.1), get_or-map f xs among.0 x (f x) among.1 ∙ ap f among.2)
+
+  rest_any : (q : X → Bool) (x : X) (xs : List X) → q x ≡ false → list_any q (x ∷ xs) ≡ true → list_any q xs ≡ true
+  rest_any q x xs fails some = grind (arith, fails, some)
+
+  -- where some element passes, there is one that does
+  pub from_any : (q : X → Bool) (xs : List X) → list_any q xs ≡ true → (x : X) × Contains xs x × (q x ≡ true)
+  from_any q [] some = cc
+  from_any q (x ∷ xs) some =
+      elim (cases_Bool (q x)) [
+        | inl passes ↦ (x, Contains-head x xs, passes)
+        | inr fails ↦
+            let rest = from_any q xs (rest_any q x xs fails some) in
+            (rest.0, Contains-tail x rest.0 xs rest.1, rest.2)
+      ]

@@ -1,0 +1,367 @@
+-- The rows of a line show it: its source row, the row of its marks, and the others below.
+use Rattle.std.proofs.Common.{◌≡◌, ℕ, zero, suc, ◌+◌, ◌-◌, ◌<◌, ◌≤◌, ◌==◌, ◌&&◌, nat_le, not, replicate, Bool, true, false, cond, List, [], ◌∷◌, ◌++◌, map, length, take, drop, chars, count_by, get_or, refl, sym, ap, subst, ◌∙◌, arith, inl, inr}
+use Rattle.std.specs.List.{All, filter, list_all, list_any}
+use Rattle.std.specs.Cow.{cow_str_bytes}
+use Rattle.std.specs.Char.{is_ascii_alphanumeric}
+use Rattle.std.proofs.lemmas.Bool.{and_parts, and_from, cases_lt, cases_eq, eqb-true, eq-eqb, lt-ltb}
+use Rattle.std.proofs.lemmas.Bool.Decides.{nat_tests}
+use Rattle.std.proofs.lemmas.List.{take-map, drop-map, take-take, get_or-take, get_or-append_right, get_or-map, length-map, length-replicate}
+use Rattle.std.proofs.lemmas.List.Elements.{All-get_or, All-contains, All-head, All-map, All-tail, Contains-get_or}
+use Rattle.std.proofs.lemmas.List.Sums.{AllPass-from_list_all, list_all-from_AllPass, sum_by-cons}
+use Rattle.snippet_model.specs.declared.snippet.Annotation.{Annotation}
+use Rattle.snippet_model.specs.declared.snippet.Snippet.{Snippet}
+use Rattle.snippet_style.specs.Grid.{Cell, SPACE, row_at, drawn, unlinked_cell}
+use Rattle.snippet_style.specs.Print.{row_text}
+use Rattle.snippet_style.specs.Glyphs.{separator_of, closing_of, placeholder_of, rail_glyphs}
+use Rattle.snippet_style.specs.declared.glyphs.DecorStyle.{DecorStyle}
+use Rattle.snippet_style.specs.declared.glyphs.DecorStyle.TheVariants.{Ascii, Unicode}
+use Rattle.snippet_style.specs.declared.role.ElementStyle.TheVariants.{LineNumber, Quotation}
+use Rattle.snippet_text.specs.Normalized.{norm}
+use Rattle.snippet_text.specs.Width.{width_of}
+use Rattle.snippet_text.proofs.NormLemmas.{width_of-norm}
+use Rattle.snippet_parts.specs.declared.entries.AnnotatedLineInfo.{AnnotatedLineInfo}
+use Rattle.snippet_parts.specs.declared.entries.LineAnnotation.{LineAnnotation}
+use Rattle.snippet_parts.specs.declared.entries.LineAnnotationType.{LineAnnotationType}
+use Rattle.snippet_parts.specs.declared.entries.LineAnnotationType.TheVariants.{Singleline, MultilineStart, MultilineEnd, MultilineLine}
+use Rattle.snippet_parts.specs.declared.margin.Margin.{Margin}
+use Rattle.snippet_parts.specs.Annotated.{KeptLine, PartEntry, kept_line, seen_kept, seen_part, single_part}
+use Rattle.snippet_lines.specs.Lines.{source_lines}
+use Rattle.snippet_parts.specs.Margin.{Bounds, bounds_of}
+use Rattle.snippet_parts.specs.Mark.{end_column, is_marked_on, is_marking, is_single_line, is_wide, qualifies_for_marks, touches}
+use Rattle.snippet_parts.specs.Marked.{seen_entry, entry_of}
+use Rattle.snippet_parts.specs.Measures.{is_bar, is_single_part, is_wide_entry}
+use Rattle.snippet_lines.specs.Span.{IsSpan}
+use Rattle.snippet_parts.specs.Window.{AreReplaced, chars_at, dropped_part, stands_whole, window}
+use Rattle.snippet_strokes.specs.Entries.{IsEntryMark, IsMarkCell, IsRailCell, are_plain, has_column, has_mark_role, is_single, label_role, label_text, shifted, wide_entries}
+use Rattle.snippet_lines.specs.Number.{shown_number}
+use Rattle.snippet_parts.specs.Rows.{HasNoNumber}
+use Rattle.snippet_strokes.specs.Rows.{bare_row, IsSourceRow, IsStrokeRow, ShowsMarks}
+use Rattle.snippet_strokes.specs.Snippet as strokes
+use Rattle.snippet_strokes.specs.declared.layout.Layout.{Layout}
+use Rattle.snippet_strokes.proofs.SnippetLemmas.{highlighted_text}
+use Rattle.snippet_titles.proofs.TextLemmas.{row_text-drawn}
+use Rattle.annotate_snippets.specs.declared.renderer.Renderer.{Renderer}
+use Rattle.annotate_snippets.specs.declared.renderer.frame.Frame.{Frame}
+use Rattle.annotate_snippets.specs.Drawn.{layout_in}
+use Rattle.annotate_snippets.specs.Gutter.{line_numbers, number_text, numbered_source}
+use Rattle.annotate_snippets.specs.Shown.{HasStroke, IsRowBelow, ShowsMarksOf, ShowsSourceLine, bounds_in, room_of, shown_label, wide_spans}
+use Rattle.annotate_snippets.proofs.ListLemmas.{from_any}
+use Rattle.annotate_snippets.proofs.MarkLemmas.{span_of_entry, IsEntryOf, mark_of_entries, unmarked_by_entries, entries_behind, unlabelled_entries, lone_entry, some_entry, shifted_mark, shifted_unmarked, shifted_behind}
+use Rattle.annotate_snippets.proofs.PartsFacts.{stands_left, untouched, wide_on_line}
+use Rattle.annotate_snippets.proofs.WindowLemmas.{dropped-none}
+
+pub head_same : {X : Type 0} (x y : X) (xs ys : List X) → x ∷ xs ≡ y ∷ ys → x ≡ y
+head_same x y xs ys same = cc
+
+pub tail_same : {X : Type 0} (x y : X) (xs ys : List X) → x ∷ xs ≡ y ∷ ys → xs ≡ ys
+tail_same x y xs ys same = cc
+
+-- between a line's number and its code stand the separator and spaces
+beside_number : (layout : Layout) (shown : List ℕ) (cells row : List Cell) (c : ℕ) → IsSourceRow layout shown cells row → length shown ≤ c → c < layout.code → is_ascii_alphanumeric (get_or row c SPACE).ch ≡ false
+beside_number layout shown cells row c is right left =
+    elim (cases_eq c (layout.gutter + 1)) [
+      | inl at ↦ ap (λ (cell : Cell). is_ascii_alphanumeric cell.ch) (ap (λ n. get_or row n SPACE) at ∙ is.separator) ∙ no_letter layout.decor
+      | inr other ↦ ap (λ (cell : Cell). is_ascii_alphanumeric cell.ch) (is.blank c right other left)
+    ]
+  where
+    no_letter : (decor : DecorStyle) → is_ascii_alphanumeric (separator_of decor) ≡ false
+    no_letter Ascii = refl
+    no_letter Unicode = refl
+
+-- the character of a cell, read from the row's text
+char_at : (row : List Cell) (c : ℕ) → (get_or row c SPACE).ch ≡ get_or (row_text row) c 32
+char_at [] c = refl
+char_at (x ∷ row) zero = refl
+char_at (x ∷ row) (suc c) = char_at row c
+
+-- the characters that a row begins with behind some spaces
+led_by : (n : ℕ) (cs : List ℕ) (c : ℕ) → c < length cs → (get_or (replicate n SPACE ++ drawn LineNumber cs) (n + c) SPACE).ch ≡ get_or cs c 32
+led_by n cs c within =
+    ap (λ (cell : Cell). cell.ch) (get_or-append_right (replicate n SPACE) (drawn LineNumber cs) n (n + c) SPACE (length-replicate n SPACE) (omega arith) ∙ ap (λ i. get_or (drawn LineNumber cs) i SPACE) (let back : n + c - n ≡ c = omega arith in back)) ∙ ap (λ (cell : Cell). cell.ch) (get_or-map (λ ch. unlinked_cell LineNumber ch) cs c 32 SPACE within)
+
+-- a row that is as a bare one left of the bars has its stroke
+bare_stroke : (decor : DecorStyle) (gutter : ℕ) (closed : Bool) (row : List Cell) → ((c : ℕ) → c < gutter + 3 → get_or row c SPACE ≡ get_or (bare_row decor gutter closed) c SPACE) → HasStroke gutter (cond closed (closing_of decor) (separator_of decor ∷ [])) row
+bare_stroke decor gutter false row same =
+    λ c within. ap (λ (cell : Cell). cell.ch) (same (gutter + 1 + c) (omega (arith, within))) ∙ led_by (gutter + 1) (separator_of decor ∷ []) c within
+bare_stroke decor gutter true row same =
+    λ c within. ap (λ (cell : Cell). cell.ch) (same (gutter + 1 + c) (omega (arith, within, closing_short decor))) ∙ led_by (gutter + 1) (closing_of decor) c within
+  where
+    closing_short : (decor : DecorStyle) → length (closing_of decor) ≤ 2
+    closing_short Ascii = omega arith
+    closing_short Unicode = omega arith
+
+-- no part of a bar is a letter or a digit
+no_letters : (gs : List ℕ) (ch : ℕ) → list_all (λ g. not (is_ascii_alphanumeric g)) gs ≡ true → list_any (λ g. ch == g) gs ≡ true → is_ascii_alphanumeric ch ≡ false
+no_letters gs ch none among =
+    let found = from_any (λ g. ch == g) gs among in
+    let same : ch ≡ found.0 = eqb-true ch found.0 found.2 in
+    let other : not (is_ascii_alphanumeric found.0) ≡ true = All-contains (λ g. not (is_ascii_alphanumeric g) ≡ true) gs found.0 (AllPass-from_list_all (λ g. not (is_ascii_alphanumeric g)) gs none) found.1 in
+    ap is_ascii_alphanumeric same ∙ negated (is_ascii_alphanumeric found.0) other
+  where
+    negated : (b : Bool) → not b ≡ true → b ≡ false
+    negated true is = cc
+    negated false is = refl
+
+rail_letter : (decor : DecorStyle) (ch : ℕ) → list_any (λ g. ch == g) (rail_glyphs decor) ≡ true → is_ascii_alphanumeric ch ≡ false
+rail_letter Ascii ch among = no_letters (rail_glyphs Ascii) ch refl among
+rail_letter Unicode ch among = no_letters (rail_glyphs Unicode) ch refl among
+
+-- a row that is as a bare one left of the bars is a row below a line
+pub row_below : (decor : DecorStyle) (frame : Frame) (closes plain : Bool) (es : List LineAnnotation) (rows : List (List Cell)) (i : ℕ) → i < length rows → All (HasNoNumber frame.gutter) rows → IsStrokeRow (record { gutter = frame.gutter; code = frame.code; decor = decor }) plain es (closes && i + 1 == length rows) (row_at rows i) → IsRowBelow decor frame (closes && i + 1 == length rows) (row_at rows i)
+row_below decor frame closes plain es rows i within unnumbered is =
+    record {
+      unnumbered = All-get_or (HasNoNumber frame.gutter) rows i [] within unnumbered;
+      stroke = bare_stroke decor frame.gutter (closes && i + 1 == length rows) (row_at rows i) is.left;
+      bars = is.rails;
+    }
+
+-- a wide entry stays one, however many columns are dropped left of it
+wide_shifted : (dropped room width : ℕ) (e : LineAnnotation) → (is_bar e.annotation_type ≡ false → dropped ≤ e.start.display) → is_wide_entry room width (shifted dropped e) ≡ is_wide_entry room width e
+wide_shifted dropped room width e clear =
+    by_part e.annotation_type refl
+  where
+    same_columns : dropped ≤ e.start.display → e.end.display - dropped - (e.start.display - dropped) ≡ e.end.display - e.start.display
+    same_columns right = omega (arith, right)
+
+    by_part : (part : LineAnnotationType) → e.annotation_type ≡ part → is_wide_entry room width (shifted dropped e) ≡ is_wide_entry room width e
+    by_part Singleline is = rw (same_columns (clear (ap is_bar is))) refl
+    by_part (MultilineStart depth) is = rw is refl
+    by_part (MultilineEnd depth) is = rw is refl
+    by_part (MultilineLine depth) is = rw is refl
+
+wide-shifted : (dropped room width : ℕ) (es : List LineAnnotation) → All (λ e. is_bar e.annotation_type ≡ false → dropped ≤ e.start.display) es → count_by (is_wide_entry room width) (map (shifted dropped) es) ≡ count_by (is_wide_entry room width) es
+wide-shifted dropped room width [] clear = refl
+wide-shifted dropped room width (e ∷ es) clear =
+    let here = wide_shifted dropped room width e (All-head (λ (x : LineAnnotation). is_bar x.annotation_type ≡ false → dropped ≤ x.start.display) e es clear) in
+    let rest = wide-shifted dropped room width es (All-tail (λ (x : LineAnnotation). is_bar x.annotation_type ≡ false → dropped ≤ x.start.display) e es clear) in
+    sum_by-cons (λ x. cond (is_wide_entry room width x) 1 0) (shifted dropped e) (map (shifted dropped) es) ∙ ap (λ b. cond b 1 0 + count_by (is_wide_entry room width) (map (shifted dropped) es)) here ∙ ap (λ n. cond (is_wide_entry room width e) 1 0 + n) rest ∙ sym (sum_by-cons (λ x. cond (is_wide_entry room width x) 1 0) e es)
+
+-- a number that passes the test is at most the other
+le_of : (a b : ℕ) → nat_le a b ≡ true → a ≤ b
+le_of a b is = grind (arith, nat_tests, is)
+
+-- a count of things that aren't there
+count-none : {X : Type 0} (p : X → Bool) (xs : List X) → list_all (λ x. not (p x)) xs ≡ true → count_by p xs ≡ 0
+count-none p [] none = refl
+count-none p (x ∷ xs) none =
+    let parts = and_parts (not (p x)) (list_all (λ y. not (p y)) xs) none in
+    let first : ◌≡◌ {A = ℕ} (cond (p x) 1 0) 0 = ap (λ b. cond b 1 0) (negated (p x) parts.0) in
+    omega (arith, sum_by-cons (λ y. cond (p y) 1 0) x xs, first, count-none p xs parts.1)
+  where
+    negated : (b : Bool) → not b ≡ true → b ≡ false
+    negated true is = cc
+    negated false is = refl
+
+-- an entry of a line as it is seen, and the part that it stands for
+seen_alone : (es : List LineAnnotation) → map (λ (p : PartEntry). p.entry) (map seen_part es) ≡ map seen_entry es
+seen_alone [] = refl
+seen_alone (e ∷ es) = ap (λ xs. seen_entry e ∷ xs) (seen_alone es)
+
+module _ (s : Snippet Annotation) (es : List LineAnnotation) (k : ℕ) (same : map seen_part es ≡ map (single_part (numbered_source s)) (filter (is_marked_on (cow_str_bytes s.source) k) s.markers.items)) where
+  abbrev marked : List Annotation
+  marked = filter (is_marked_on (cow_str_bytes s.source) k) s.markers.items
+
+  -- entries that stand for whole spans are seen as these
+  pub single_seen : map seen_entry es ≡ map (entry_of (numbered_source s)) marked
+  single_seen =
+      sym (seen_alone es) ∙ ap (map (λ (p : PartEntry). p.entry)) same ∙ entries marked
+    where
+      entries : (ys : List Annotation) → map (λ (p : PartEntry). p.entry) (map (single_part (numbered_source s)) ys) ≡ map (entry_of (numbered_source s)) ys
+      entries [] = refl
+      entries (y ∷ ys) = ap (λ xs. entry_of (numbered_source s) y ∷ xs) (entries ys)
+
+  -- and each of them does
+  pub all_single : list_all is_single es ≡ true
+  all_single = each es marked same
+    where
+      each : (xs : List LineAnnotation) (ys : List Annotation) → map seen_part xs ≡ map (single_part (numbered_source s)) ys → list_all is_single xs ≡ true
+      each [] ys is = refl
+      each (x ∷ xs) [] is = cc
+      each (x ∷ xs) (y ∷ ys) is =
+          let here : seen_part x ≡ single_part (numbered_source s) y = head_same (seen_part x) (single_part (numbered_source s) y) (map seen_part xs) (map (single_part (numbered_source s)) ys) is in
+          let rest : map seen_part xs ≡ map (single_part (numbered_source s)) ys = tail_same (seen_part x) (single_part (numbered_source s) y) (map seen_part xs) (map (single_part (numbered_source s)) ys) is in
+          and_from (is_single x) (list_all is_single xs) (ap is_single_part (ap (λ (p : PartEntry). p.part) here)) (each xs ys rest)
+
+-- so they are where columns are dropped
+single-shifted : (dropped : ℕ) (es : List LineAnnotation) → list_all is_single es ≡ true → list_all is_single (map (shifted dropped) es) ≡ true
+single-shifted dropped [] all = refl
+single-shifted dropped (e ∷ es) all =
+    let parts = and_parts (is_single e) (list_all is_single es) all in
+    and_from (is_single e) (list_all is_single (map (shifted dropped) es)) parts.0 (single-shifted dropped es parts.1)
+
+-- an entry that stands for a whole span is no bar
+single_columns : (dropped : ℕ) (es : List LineAnnotation) → list_all is_single es ≡ true → All (λ e. is_bar e.annotation_type ≡ false → dropped ≤ e.start.display) es → All (λ e. dropped ≤ e.start.display) es
+single_columns dropped es all clear = λ i d within.
+    clear i d within (no_bar (get_or es i d).annotation_type (AllPass-from_list_all is_single es all i d within))
+  where
+    no_bar : (part : LineAnnotationType) → is_single_part part ≡ true → is_bar part ≡ false
+    no_bar Singleline is = refl
+    no_bar (MultilineStart depth) is = refl
+    no_bar (MultilineEnd depth) is = refl
+    no_bar (MultilineLine depth) is = cc
+
+module _ (r : Renderer) (frame : Frame) (s : Snippet Annotation) (spans : All (λ a. IsSpan (cow_str_bytes s.source) a.span.start a.span.end) s.markers.items) (margin : Margin) (room : margin.term_width ≡ room_of r frame) (bounds : bounds_of margin ≡ bounds_in r frame s) (ordered : (bounds_of margin).left ≤ (bounds_of margin).right) where
+  abbrev row_shows : Bool → AnnotatedLineInfo → List (List Cell) → Type 0
+  row_shows closes info rows = strokes.ShowsLine (layout_in r frame) margin (line_numbers r s.line_numbering) closes info rows
+
+  abbrev placeholder_width : ℕ
+  placeholder_width = length (placeholder_of r.decor_style)
+
+  module _ (closes : Bool) (k : ℕ) (info : AnnotatedLineInfo) (rows : List (List Cell)) (within : k < length (source_lines (cow_str_bytes s.source))) (seen : seen_kept info ≡ kept_line (numbered_source s) s.markers.items k) (fits : length (shown_number (line_numbers r s.line_numbering) frame.gutter info.line_index) ≤ frame.gutter + 1) (shows : row_shows closes info rows) where
+    abbrev text : List ℕ
+    text = norm (chars_at (cow_str_bytes s.source) k)
+
+    abbrev shown : List ℕ
+    shown = shown_number (line_numbers r s.line_numbering) frame.gutter info.line_index
+
+    abbrev es : List LineAnnotation
+    es = info.annotations.items
+
+    same_number : shown ≡ number_text r s.line_numbering frame.gutter (s.line_start + k)
+    same_number = ap (λ n. shown_number (line_numbers r s.line_numbering) frame.gutter n) (ap (λ (l : KeptLine). l.number) seen)
+
+    line_text : norm (chars info.line.now) ≡ text
+    line_text = ap (λ bytes. norm (chars bytes)) (ap (λ (l : KeptLine). l.text) seen)
+
+    -- as many entries are wide as spans
+    wide_is : wide_entries margin.term_width r.decor_style (map (shifted shows.dropped) es) ≡ wide_spans (room_of r frame) placeholder_width s k
+    wide_is = wide-shifted shows.dropped margin.term_width placeholder_width es shows.clear ∙ ap (λ n. count_by (is_wide_entry n placeholder_width) es) room ∙ wide_on_line (numbered_source s) s.markers.items spans k info (room_of r frame) placeholder_width seen
+
+    -- what the row has left of the bars is as drawn
+    front_text : row_text (take (frame.gutter + 2) shows.source) ≡ row_text (take (frame.gutter + 2) shows.plain)
+    front_text = ap row_text shows.beside.front ∙ sym (take-map (λ (cell : Cell). cell.ch) (frame.gutter + 2) shows.highlighted) ∙ ap (take (frame.gutter + 2)) same ∙ take-map (λ (cell : Cell). cell.ch) (frame.gutter + 2) shows.plain
+      where
+        same : row_text shows.highlighted ≡ row_text shows.plain
+        same = highlighted_text frame.code shows.dropped _ shows.plain shows.highlighted shows.highlights
+
+    -- a cell left of the bars is as drawn
+    front_cell : (c : ℕ) → c < frame.gutter + 2 → (get_or shows.source c SPACE).ch ≡ (get_or shows.plain c SPACE).ch
+    front_cell c left =
+        sym (ap (λ (cell : Cell). cell.ch) (get_or-take (frame.gutter + 2) shows.source c SPACE left)) ∙ char_at (take (frame.gutter + 2) shows.source) c ∙ ap (λ cs. get_or cs c 32) front_text ∙ sym (char_at (take (frame.gutter + 2) shows.plain) c) ∙ ap (λ (cell : Cell). cell.ch) (get_or-take (frame.gutter + 2) shows.plain c SPACE left)
+
+    gap_cell : (get_or shows.source (frame.gutter + 2) SPACE).ch ≡ (get_or shows.plain (frame.gutter + 2) SPACE).ch
+    gap_cell =
+        ap (λ (cell : Cell). cell.ch) shows.beside.gap ∙ char_at shows.highlighted (frame.gutter + 2) ∙ ap (λ cs. get_or cs (frame.gutter + 2) 32) (highlighted_text frame.code shows.dropped _ shows.plain shows.highlighted shows.highlights) ∙ sym (char_at shows.plain (frame.gutter + 2))
+
+    -- the text of the line before it is cut where spans are wide
+    window_text : row_text (drop frame.code shows.highlighted) ≡ window (placeholder_of r.decor_style) (room_of r frame) (bounds_in r frame s).left (bounds_in r frame s).right text
+    window_text =
+        sym (drop-map (λ (cell : Cell). cell.ch) frame.code shows.highlighted) ∙ ap (drop frame.code) (highlighted_text frame.code shows.dropped _ shows.plain shows.highlighted shows.highlights) ∙ drop-map (λ (cell : Cell). cell.ch) frame.code shows.plain ∙ shows.text ∙ ap (λ n. window (placeholder_of r.decor_style) n (bounds_of margin).left (bounds_of margin).right (norm (chars info.line.now))) room ∙ ap (λ (b : Bounds). window (placeholder_of r.decor_style) (room_of r frame) b.left b.right (norm (chars info.line.now))) bounds ∙ ap (λ cs. window (placeholder_of r.decor_style) (room_of r frame) (bounds_in r frame s).left (bounds_in r frame s).right cs) line_text
+
+    dropped_here : shows.dropped ≡ width_of (dropped_part (bounds_in r frame s).left text)
+    dropped_here =
+        shows.dropped_is ∙ ap (λ (b : Bounds). width_of (dropped_part b.left (norm (chars info.line.now)))) bounds ∙ ap (λ cs. width_of (dropped_part (bounds_in r frame s).left cs)) line_text
+
+    -- where the line stands whole, nothing is dropped and nothing is cut
+    whole_text : stands_whole (room_of r frame) placeholder_width s.fold (cow_str_bytes s.source) s.markers.items k ≡ true → (shows.dropped ≡ 0) × (row_text (drop frame.code shows.source) ≡ text)
+    whole_text stands =
+        let left : (bounds_in r frame s).left ≡ 0 = stands_left (numbered_source s) s.markers.items spans (room_of r frame) placeholder_width s.fold k stands in
+        let parts = and_parts _ _ stands in
+        let narrow : list_all (λ a. not (is_marked_on (cow_str_bytes s.source) k a && is_wide (room_of r frame) placeholder_width (cow_str_bytes s.source) a)) s.markers.items ≡ true = parts.1 in
+        let none : wide_spans (room_of r frame) placeholder_width s k ≡ 0 = count-none (λ a. is_marked_on (cow_str_bytes s.source) k a && is_wide (room_of r frame) placeholder_width (cow_str_bytes s.source) a) s.markers.items narrow in
+        let own_fits : width_of (chars_at (cow_str_bytes s.source) k) ≤ room_of r frame = le_of _ _ (and_parts _ _ (and_parts _ _ parts.0).0).0 in
+        let at_left : (bounds_of margin).left ≡ 0 = ap (λ (b : Bounds). b.left) bounds ∙ left in
+        let uncut : drop frame.code shows.source ≡ drop frame.code shows.highlighted = shows.beside.uncut (wide_is ∙ none) in
+        let narrow_text : width_of (norm (chars info.line.now)) ≤ margin.term_width = omega (arith, room, own_fits, ap width_of line_text, width_of-norm (chars_at (cow_str_bytes s.source) k)) in
+        let all : row_text (drop frame.code shows.plain) ≡ text = ap row_text (shows.whole at_left narrow_text) ∙ row_text-drawn Quotation (norm (chars info.line.now)) ∙ line_text in
+        (dropped_here ∙ ap (λ n. width_of (dropped_part n text)) left ∙ dropped-none text, ap row_text uncut ∙ sym (drop-map (λ (cell : Cell). cell.ch) frame.code shows.highlighted) ∙ ap (drop frame.code) (highlighted_text frame.code shows.dropped _ shows.plain shows.highlighted shows.highlights) ∙ drop-map (λ (cell : Cell). cell.ch) frame.code shows.plain ∙ all)
+
+    -- the source row shows its line
+    pub source_line : ShowsSourceLine r frame s k shows.dropped shows.source
+    source_line =
+        let is = shows.shows in
+        let near : length shown ≤ frame.gutter + 2 = omega (arith, fits) in
+        let number_row : row_text (take (length shown) shows.source) ≡ shown = ap row_text (sym (take-take (length shown) (frame.gutter + 2) shows.source near)) ∙ sym (take-map (λ (cell : Cell). cell.ch) (length shown) (take (frame.gutter + 2) shows.source)) ∙ ap (take (length shown)) front_text ∙ take-map (λ (cell : Cell). cell.ch) (length shown) (take (frame.gutter + 2) shows.plain) ∙ ap row_text (take-take (length shown) (frame.gutter + 2) shows.plain near) ∙ ap row_text is.shows.number ∙ row_text-drawn LineNumber shown in
+        record {
+          within = within;
+          number = subst (λ cs. row_text (take (length cs) shows.source) ≡ cs) same_number number_row;
+          separator = front_cell (frame.gutter + 1) (omega arith) ∙ ap (λ (cell : Cell). cell.ch) is.separator;
+          beside = λ c right left. beside_is c (omega (arith, ap length same_number, right)) left;
+          bars = shows.beside.rails;
+          window = record {
+            ordered = omega (arith, ordered, ap (λ (b : Bounds). b.left) bounds, ap (λ (b : Bounds). b.right) bounds);
+            dropped_is = dropped_here;
+            shown_is = subst (λ n. AreReplaced (placeholder_of r.decor_style) n (window (placeholder_of r.decor_style) (room_of r frame) (bounds_in r frame s).left (bounds_in r frame s).right text) (row_text (drop frame.code shows.source))) wide_is (subst (λ before. AreReplaced (placeholder_of r.decor_style) (wide_entries margin.term_width r.decor_style (map (shifted shows.dropped) es)) before (row_text (drop frame.code shows.source))) window_text shows.beside.text);
+          };
+          whole = whole_text;
+        }
+      where
+        beside_is : (c : ℕ) → length shown ≤ c → c < frame.code → is_ascii_alphanumeric (get_or shows.source c SPACE).ch ≡ false
+        beside_is c right left =
+            elim (cases_lt c (frame.gutter + 2)) [
+              | inl front ↦ ap is_ascii_alphanumeric (front_cell c front) ∙ beside_number (layout_in r frame) _ _ shows.plain c shows.shows right left
+              | inr behind ↦ elim (cases_eq c (frame.gutter + 2)) [
+                | inl at ↦ ap (λ n. is_ascii_alphanumeric (get_or shows.source n SPACE).ch) at ∙ ap is_ascii_alphanumeric gap_cell ∙ beside_number (layout_in r frame) _ _ shows.plain (frame.gutter + 2) shows.shows (omega (arith, right, at)) (omega (arith, left, at))
+                | inr other ↦
+                    let rail : IsRailCell r.decor_style (get_or shows.source c SPACE) = shows.beside.rails c (omega (arith, behind, other)) left in
+                    rail_letter r.decor_style (get_or shows.source c SPACE).ch rail.glyph
+              ]
+            ]
+
+    -- where the line qualifies, its strokes are those of whole spans
+    module _ (qualifies : qualifies_for_marks (room_of r frame) placeholder_width (cow_str_bytes s.source) s.markers.items k ≡ true) where
+      abbrev moved : List LineAnnotation
+      moved = map (shifted shows.dropped) es
+
+      qualified_parts : (list_any (is_marked_on (cow_str_bytes s.source) k) s.markers.items ≡ true) × (list_all (λ a. not (is_marked_on (cow_str_bytes s.source) k a && is_wide (room_of r frame) placeholder_width (cow_str_bytes s.source) a)) s.markers.items ≡ true) × (list_all (λ a. not (is_marking a.kind && touches (cow_str_bytes s.source) a k && not (is_single_line (cow_str_bytes s.source) a))) s.markers.items ≡ true)
+      qualified_parts =
+          let outer = and_parts _ _ qualifies in
+          let inner = and_parts _ _ outer.0 in
+          (inner.0, inner.1, outer.1)
+
+      same_parts : map seen_part es ≡ map (single_part (numbered_source s)) (filter (is_marked_on (cow_str_bytes s.source) k) s.markers.items)
+      same_parts = ap (λ (l : KeptLine). l.parts) seen ∙ untouched (numbered_source s) s.markers.items spans k qualified_parts.2
+
+      same : map seen_entry es ≡ map (entry_of (numbered_source s)) (filter (is_marked_on (cow_str_bytes s.source) k) s.markers.items)
+      same = single_seen s es k same_parts
+
+      single : list_all is_single es ≡ true
+      single = all_single s es k same_parts
+
+      clear : All (λ e. shows.dropped ≤ e.start.display) es
+      clear = single_columns shows.dropped es single shows.clear
+
+      -- each entry covers a column, where it stands then
+      columns : list_all has_column moved ≡ true
+      columns =
+          list_all-from_AllPass has_column moved (All-map (λ e. has_column e ≡ true) (shifted shows.dropped) es (λ i d inside.
+          let e : LineAnnotation = get_or es i d in
+          let own = span_of_entry (numbered_source s) s.markers.items k es same e (Contains-get_or es i d inside) in
+          let is : IsEntryOf (numbered_source s) k own.0 e = own.2 in
+          lt-ltb (e.start.display - shows.dropped) (e.end.display - shows.dropped) (omega (arith, clear i d inside, is.start, is.end))))
+
+      plain : are_plain margin.term_width r.decor_style moved ≡ true
+      plain =
+          let none : wide_spans (room_of r frame) placeholder_width s k ≡ 0 = count-none (λ a. is_marked_on (cow_str_bytes s.source) k a && is_wide (room_of r frame) placeholder_width (cow_str_bytes s.source) a) s.markers.items qualified_parts.1 in
+          let narrow : (wide_entries margin.term_width r.decor_style moved == 0) ≡ true = eq-eqb (wide_entries margin.term_width r.decor_style moved) 0 (wide_is ∙ none) in
+          and_from (list_all is_single moved) (list_all has_column moved && wide_entries margin.term_width r.decor_style moved == 0) (single-shifted shows.dropped es single) (and_from (list_all has_column moved) (wide_entries margin.term_width r.decor_style moved == 0) columns narrow)
+
+      -- there is a row below
+      pub marks_there : 0 < length shows.below
+      marks_there =
+          let some : 0 < length es = some_entry (numbered_source s) s.markers.items k es same qualified_parts.0 in
+          shows.strokes.some plain (omega (arith, some, length-map es (shifted shows.dropped)))
+
+      -- and it has the marks of the line
+      pub marks_of_line : ShowsMarksOf r.decor_style frame s k shows.dropped (row_at shows.below 0)
+      marks_of_line =
+          let row : List Cell = row_at shows.below 0 in
+          let d : ℕ = shows.dropped in
+          let marks_are : ShowsMarks r.decor_style frame.code moved row = shows.strokes.marks plain in
+          let strokes_row = shows.strokes.are 0 marks_there in
+          record {
+            marks = λ p kind mark.
+                let own : IsEntryMark es p kind = mark_of_entries (numbered_source s) s.markers.items k es same p kind mark in
+                let right : d ≤ p = omega (arith, All-contains (λ (e : LineAnnotation). d ≤ e.start.display) es own.entry clear own.among, own.covers.0) in
+                subst (λ c. IsMarkCell r.decor_style kind (get_or row c SPACE)) (omega (arith, right)) (marks_are.marks (p - d) kind (shifted_mark d es clear p kind own));
+            unmarked = λ p right none. subst (λ c. has_mark_role (get_or row c SPACE) ≡ false) (omega (arith, right)) (marks_are.unmarked (p - d) (shifted_unmarked d es clear p right (unmarked_by_entries (numbered_source s) s.markers.items k es same p none)));
+            before = λ p right left. subst (λ c. get_or row c SPACE ≡ SPACE) (omega (arith, right)) (strokes_row.before plain (frame.code + (p - d)) (frame.code + (p - d) + 1) (omega arith) (omega arith) (shifted_behind d es clear frame.code p right (entries_behind (numbered_source s) s.markers.items k es same frame.code p left)));
+            spaces = λ unlabelled p right none. subst (λ c. get_or row c SPACE ≡ SPACE) (omega (arith, right)) (marks_are.spaces (All-map (λ (e : LineAnnotation). label_text e ≡ []) (shifted d) es (unlabelled_entries (numbered_source s) s.markers.items k es same unlabelled)) (p - d) (shifted_unmarked d es clear p right (unmarked_by_entries (numbered_source s) s.markers.items k es same p none)));
+            lone = λ a alone label.
+                let own = lone_entry (numbered_source s) s.markers.items k es same a alone in
+                let e : LineAnnotation = own.0 in
+                let is : IsEntryOf (numbered_source s) k a e = own.2 in
+                let right : d ≤ e.start.display = All-head (λ (x : LineAnnotation). d ≤ x.start.display) e [] (subst (All (λ (x : LineAnnotation). d ≤ x.start.display)) own.1 clear) in
+                let behind = marks_are.lone (shifted d e) (ap (map (shifted d)) own.1) (omega (arith, is.start, is.end, right)) (omega (arith, label, ap length is.label)) in
+                subst (λ c. row_text (drop c row) ≡ 32 ∷ shown_label a) (let at : frame.code + (e.end.display - d) ≡ frame.code + end_column (cow_str_bytes s.source) a - d = omega (arith, is.end, is.start, right) in at) (ap row_text behind ∙ ap (λ cs. 32 ∷ cs) (row_text-drawn (label_role e.kind) (label_text e) ∙ is.label));
+          }

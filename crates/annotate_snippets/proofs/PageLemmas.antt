@@ -1,0 +1,183 @@
+-- The rows of an annotated snippet's lines, with their names.
+use Rattle.std.proofs.Common.{◌≡◌, ℕ, zero, suc, ◌+◌, ◌<◌, ◌≤◌, ◌==◌, ◌&&◌, ltb, Bool, true, false, cond, List, [], ◌∷◌, ◌++◌, map, length, get_or, replicate, refl, sym, ap, subst, ◌∙◌, arith, inl, inr}
+use Rattle.std.specs.List.{All}
+use Rattle.std.specs.Cow.{cow_str_bytes}
+use Rattle.std.specs.Char.{is_ascii_alphanumeric}
+use Rattle.std.proofs.lemmas.Bool.{le-ltb, lt-ltb}
+use Rattle.std.proofs.lemmas.Bool.Decides.{nat_tests}
+use Rattle.std.proofs.lemmas.List.{append_assoc, get_or-replicate, get_or_append_left, length-map, length-replicate, map-append}
+use Rattle.std.proofs.lemmas.List.Elements.{All-head, All-tail}
+use Rattle.snippet_model.specs.declared.snippet.Annotation.{Annotation}
+use Rattle.snippet_model.specs.declared.snippet.Snippet.{Snippet}
+use Rattle.snippet_style.specs.Grid.{Cell, SPACE, drawn, row_at}
+use Rattle.snippet_style.specs.Glyphs.{elision_of}
+use Rattle.snippet_style.specs.declared.role.ElementStyle.TheVariants.{LineNumber}
+use Rattle.snippet_style.specs.declared.glyphs.DecorStyle.{DecorStyle}
+use Rattle.snippet_style.specs.declared.glyphs.DecorStyle.TheVariants.{Ascii, Unicode}
+use Rattle.snippet_parts.specs.declared.entries.AnnotatedLineInfo.{AnnotatedLineInfo}
+use Rattle.snippet_parts.specs.declared.margin.Margin.{Margin}
+use Rattle.snippet_parts.specs.Annotated.{KeptLine, kept_line, seen_kept}
+use Rattle.snippet_lines.specs.Lines.{source_lines}
+use Rattle.snippet_parts.specs.Margin.{bounds_of}
+use Rattle.snippet_lines.specs.Span.{IsSpan}
+use Rattle.snippet_lines.specs.Number.{shown_number}
+use Rattle.snippet_strokes.specs.Rows.{bare_elision_row}
+use Rattle.snippet_strokes.specs.Snippet as strokes
+use Rattle.annotate_snippets.specs.declared.renderer.Renderer.{Renderer}
+use Rattle.annotate_snippets.specs.declared.renderer.frame.Frame.{Frame}
+use Rattle.annotate_snippets.specs.Drawn.{layout_in}
+use Rattle.annotate_snippets.specs.Gutter.{line_numbers, numbered_source}
+use Rattle.annotate_snippets.specs.Page.{SourceRow, Elision, NamedRow, lines_named, names_in, names_of_lines, cells_of, cells_below, others}
+use Rattle.annotate_snippets.specs.Shown.{AreRowsOf, IsRowBelow, ShowsLineAndMarks, ShowsMarksOf, bounds_in, room_of}
+use Rattle.annotate_snippets.proofs.LineLemmas.{head_same, marks_of_line, marks_there, row_below, source_line, tail_same}
+
+-- rows that aren't named by a line
+pub cells_of-others : (rows : List (List Cell)) → cells_of (others rows) ≡ rows
+cells_of-others [] = refl
+cells_of-others (row ∷ rows) = ap (λ rs. row ∷ rs) (cells_of-others rows)
+
+lines_named-others : (rows : List (List Cell)) (more : List NamedRow) → lines_named (others rows ++ more) ≡ lines_named more
+lines_named-others [] more = refl
+lines_named-others (row ∷ rows) more = lines_named-others rows more
+
+pub cells_of-append : (xs ys : List NamedRow) → cells_of (xs ++ ys) ≡ cells_of xs ++ cells_of ys
+cells_of-append xs ys = map-append (λ (row : NamedRow). row.cells) xs ys
+
+-- the first row below, where there is one
+below-first : (below : List (List Cell)) (more : List NamedRow) → 0 < length below → cells_below (others below ++ more) ≡ row_at below 0
+below-first [] more some = absurd (omega arith)
+below-first (row ∷ below) more some = refl
+
+names_in-others : (rows : List (List Cell)) (more : List NamedRow) → names_in (others rows ++ more) ≡ names_in more
+names_in-others [] more = refl
+names_in-others (row ∷ rows) more = names_in-others rows more
+
+-- numbers above 0 are both not 0
+some_more : (m n : ℕ) → (suc m == 0) ≡ (suc n == 0)
+some_more m n = grind (arith, nat_tests)
+
+-- no letter or digit stands in the gutter of a row in place of lines that are left out
+elision_unnumbered : (decor : DecorStyle) (gutter c : ℕ) → c ≤ gutter → is_ascii_alphanumeric (get_or (bare_elision_row decor gutter) c SPACE).ch ≡ false
+elision_unnumbered Ascii gutter zero left = refl
+elision_unnumbered Ascii gutter (suc zero) left = refl
+elision_unnumbered Ascii gutter (suc (suc zero)) left = refl
+elision_unnumbered Ascii gutter (suc (suc (suc c))) left = refl
+elision_unnumbered Unicode gutter c left =
+    ap (λ (cell : Cell). is_ascii_alphanumeric cell.ch) (get_or_append_left (replicate (gutter + 1) SPACE) (drawn LineNumber (elision_of Unicode)) SPACE c (omega (arith, left, length-replicate (gutter + 1) SPACE)) ∙ get_or-replicate (gutter + 1) c SPACE SPACE (omega (arith, left)))
+
+module _ (r : Renderer) (frame : Frame) (s : Snippet Annotation) (spans : All (λ a. IsSpan (cow_str_bytes s.source) a.span.start a.span.end) s.markers.items) (margin : Margin) (room : margin.term_width ≡ room_of r frame) (bounds : bounds_of margin ≡ bounds_in r frame s) (ordered : (bounds_of margin).left ≤ (bounds_of margin).right) (closes : Bool) where
+  abbrev own_lines : ℕ
+  own_lines = length (source_lines (cow_str_bytes s.source))
+
+  abbrev line_of_snippet : ℕ → KeptLine
+  line_of_snippet k = kept_line (numbered_source s) s.markers.items k
+
+  abbrev NumberFits : AnnotatedLineInfo → Type 0
+  NumberFits info = length (shown_number (line_numbers r s.line_numbering) frame.gutter info.line_index) ≤ frame.gutter + 1
+
+  -- the rows of a line show it, with the marks below
+  line_and_marks : (last : Bool) (k : ℕ) (info : AnnotatedLineInfo) (rows : List (List Cell)) (more : List NamedRow) → k < own_lines → seen_kept info ≡ line_of_snippet k → NumberFits info → (shows : strokes.ShowsLine (layout_in r frame) margin (line_numbers r s.line_numbering) last info rows) → ShowsLineAndMarks r frame s k shows.source (cells_below (others shows.below ++ more))
+  line_and_marks last k info rows more within seen fits shows =
+      record {
+        dropped = shows.dropped;
+        line = source_line r frame s spans margin room bounds ordered last k info rows within seen fits shows;
+        marks = λ qualifies. subst (λ row. ShowsMarksOf r.decor_style frame s k shows.dropped row) (sym (below-first shows.below more (marks_there r frame s spans margin room bounds ordered last k info rows within seen fits shows qualifies))) (marks_of_line r frame s spans margin room bounds ordered last k info rows within seen fits shows qualifies);
+      }
+
+  -- rows below a line, with the last of which the window closes where no row stands behind
+  others_are : (last : Bool) (rows : List (List Cell)) (more : List NamedRow) → (length more == 0) ≡ last → ((i : ℕ) → i < length rows → IsRowBelow r.decor_style frame ((closes && last) && i + 1 == length rows) (row_at rows i)) → AreRowsOf r frame closes s more → AreRowsOf r frame closes s (others rows ++ more)
+  others_are last [] more ends below are = are
+  others_are last (row ∷ rows) more ends below are =
+      let own : IsRowBelow r.decor_style frame ((closes && last) && 0 + 1 == length (row ∷ rows)) row = below 0 (omega arith) in
+      let further : (i : ℕ) → i < length rows → IsRowBelow r.decor_style frame ((closes && last) && i + 1 == length rows) (row_at rows i) = λ i within. subst (λ b. IsRowBelow r.decor_style frame ((closes && last) && b) (row_at rows i)) (shifted i (length rows)) (below (suc i) (omega (arith, within))) in
+      (subst (λ b. IsRowBelow r.decor_style frame b row) (with_last rows) own, others_are last rows more ends further are)
+    where
+      shifted : (i n : ℕ) → (suc i + 1 == suc n) ≡ (i + 1 == n)
+      shifted i n = grind (arith, nat_tests)
+
+      alone : (closes last : Bool) → ((closes && last) && 0 + 1 == 1) ≡ (closes && last)
+      alone true true = refl
+      alone true false = refl
+      alone false last = refl
+
+      with_last : (rows : List (List Cell)) → ((closes && last) && 0 + 1 == length (row ∷ rows)) ≡ (closes && length (others rows ++ more) == 0)
+      with_last [] = alone closes last ∙ ap (λ b. closes && b) (sym ends)
+      with_last (x ∷ xs) = grind (arith, nat_tests)
+
+  -- rows with names: those that show these lines, and the others below them
+  pub record AreNamed (ks : List ℕ) (rows : List (List Cell)) : Type 0 where
+    pub part : List NamedRow
+    pub cells : cells_of part ≡ rows
+    pub lines : lines_named part ≡ ks
+    pub names : names_in part ≡ names_of_lines ks
+    pub are : AreRowsOf r frame closes s part
+    pub ends : (length part == 0) ≡ (length ks == 0)
+
+  -- the rows between a line and the next: one where lines are left out
+  pub record IsGapNamed (j : ℕ) (ks : List ℕ) (rows : List (List Cell)) : Type 0 where
+    pub gap : List NamedRow
+    pub cells : cells_of gap ≡ rows
+    pub lines : (more : List NamedRow) → lines_named (gap ++ more) ≡ lines_named more
+    pub names : (more : List NamedRow) → names_in more ≡ names_of_lines ks → SourceRow j ∷ names_in (gap ++ more) ≡ names_of_lines (j ∷ ks)
+    pub are : (more : List NamedRow) → AreRowsOf r frame closes s more → AreRowsOf r frame closes s (gap ++ more)
+    pub ends : (more : List NamedRow) → (length more == 0) ≡ (length ks == 0) → (length (gap ++ more) == 0) ≡ (length ks == 0)
+
+  gap_named : (j : ℕ) (ks : List ℕ) (info : AnnotatedLineInfo) (infos : List AnnotatedLineInfo) (rows : List (List Cell)) → seen_kept info ≡ line_of_snippet j → map seen_kept infos ≡ map line_of_snippet ks → strokes.IsGap (layout_in r frame) info.line_index infos rows → IsGapNamed j ks rows
+  gap_named j [] info [] rows here lines gap = record { gap = []; cells = sym gap; lines = λ more. refl; names = λ more none. ap (λ names. SourceRow j ∷ names) none; are = λ more are. are; ends = λ more same. same }
+  gap_named j [] info (next ∷ infos) rows here lines gap = cc
+  gap_named j (k ∷ ks) info [] rows here lines gap = cc
+  gap_named j (k ∷ ks) info (next ∷ infos) rows here lines gap =
+      let there : seen_kept next ≡ line_of_snippet k = head_same (seen_kept next) (line_of_snippet k) (map seen_kept infos) (map line_of_snippet ks) lines in
+      let own : info.line_index ≡ s.line_start + j = ap (λ (l : KeptLine). l.number) here in
+      let its : next.line_index ≡ s.line_start + k = ap (λ (l : KeptLine). l.number) there in
+      elim gap [
+        | inl left_out ↦
+            let row : NamedRow = record { name = Elision; cells = left_out.1 } in
+            let far : ltb (j + 1) k ≡ true = lt-ltb (j + 1) k (omega (arith, own, its, left_out.0)) in
+            record {
+              gap = row ∷ [];
+              cells = sym left_out.2;
+              lines = λ more. refl;
+              names = λ more named. ap (λ names. SourceRow j ∷ Elision ∷ names) named ∙ sym (ap (λ b. cond b (SourceRow j ∷ Elision ∷ names_of_lines (k ∷ ks)) (SourceRow j ∷ names_of_lines (k ∷ ks))) far);
+              are = λ more are. (record { unnumbered = λ c left. ap (λ (cell : Cell). is_ascii_alphanumeric cell.ch) (left_out.3.left c (omega arith)) ∙ elision_unnumbered r.decor_style frame.gutter c left; is = left_out.3 }, are);
+              ends = λ more same. some_more (length more) (length ks);
+            }
+        | inr next_to ↦
+            let near : ltb (j + 1) k ≡ false = le-ltb (j + 1) k (omega (arith, own, its, next_to.0)) in
+            record {
+              gap = [];
+              cells = sym next_to.1;
+              lines = λ more. refl;
+              names = λ more named. ap (λ names. SourceRow j ∷ names) named ∙ sym (ap (λ b. cond b (SourceRow j ∷ Elision ∷ names_of_lines (k ∷ ks)) (SourceRow j ∷ names_of_lines (k ∷ ks))) near);
+              are = λ more are. are;
+              ends = λ more same. same;
+            }
+      ]
+
+  -- as many lines are left as there are entries of lines
+  none_left : (ks : List ℕ) (infos : List AnnotatedLineInfo) → map seen_kept infos ≡ map line_of_snippet ks → (length ks == 0) ≡ (length infos == 0)
+  none_left ks infos same =
+      ap (λ n. n == 0) (sym (length-map ks line_of_snippet) ∙ sym (ap length same) ∙ length-map infos seen_kept)
+
+  pub named_lines : (ks : List ℕ) (infos : List AnnotatedLineInfo) (rows : List (List Cell)) → All (λ k. k < own_lines) ks → map seen_kept infos ≡ map line_of_snippet ks → All NumberFits infos → strokes.AreLinesShown (layout_in r frame) margin (line_numbers r s.line_numbering) closes infos rows → AreNamed ks rows
+  named_lines [] [] rows within lines fit shown = record { part = []; cells = sym shown; lines = refl; names = refl; are = tt; ends = refl }
+  named_lines [] (info ∷ infos) rows within lines fit shown = cc
+  named_lines (k ∷ ks) [] rows within lines fit shown = cc
+  named_lines (k ∷ ks) (info ∷ infos) rows within lines fit shown =
+      let here = head_same (seen_kept info) (line_of_snippet k) (map seen_kept infos) (map line_of_snippet ks) lines in
+      let further = tail_same (seen_kept info) (line_of_snippet k) (map seen_kept infos) (map line_of_snippet ks) lines in
+      let rest : AreNamed ks shown.2 = named_lines ks infos shown.2 (All-tail (λ j. j < own_lines) k ks within) further (All-tail NumberFits info infos fit) shown.6 in
+      let last : Bool = length infos == 0 in
+      let shows : strokes.ShowsLine (layout_in r frame) margin (line_numbers r s.line_numbering) (closes && last) info shown.0 = shown.4 in
+      let source_row : NamedRow = record { name = SourceRow k; cells = shows.source } in
+      let between : IsGapNamed k ks shown.1 = gap_named k ks info infos shown.1 here further shown.5 in
+      let behind : List NamedRow = between.gap ++ rest.part in
+      let ends : (length behind == 0) ≡ last = between.ends rest.part rest.ends ∙ none_left ks infos further in
+      record {
+        part = source_row ∷ (others shows.below ++ behind);
+        cells = ap (λ rs. shows.source ∷ rs) (cells_of-append (others shows.below) behind ∙ ap (λ rs. rs ++ cells_of behind) (cells_of-others shows.below) ∙ ap (λ rs. shows.below ++ rs) (cells_of-append between.gap rest.part ∙ ap (λ rs. rs ++ cells_of rest.part) between.cells ∙ ap (λ rs. shown.1 ++ rs) rest.cells)) ∙ ap (λ rs. rs ++ (shown.1 ++ shown.2)) (sym shows.rows_are) ∙ sym (append_assoc shown.0 shown.1 shown.2) ∙ sym shown.3;
+        lines = ap (λ js. k ∷ js) (lines_named-others shows.below behind ∙ between.lines rest.part ∙ rest.lines);
+        names = ap (λ names. SourceRow k ∷ names) (names_in-others shows.below behind) ∙ between.names rest.part rest.names;
+        are = (line_and_marks (closes && last) k info shown.0 behind (All-head (λ j. j < own_lines) k ks within) here (All-head NumberFits info infos fit) shows, others_are last shows.below behind ends (λ i inside. row_below r.decor_style frame (closes && last) _ _ shows.below i inside shows.unnumbered (shows.strokes.are i inside)) (between.are rest.part rest.are));
+        ends = some_more (length (others shows.below ++ behind)) (length ks);
+      }

@@ -1,0 +1,194 @@
+-- What is known of the lines of a snippet, in the words of its page.
+use Rattle.std.proofs.Common.{◌≡◌, ℕ, ◌+◌, ◌<◌, ◌≤◌, ◌^◌, ◌&&◌, not, Bool, true, false, List, map, length, count_by}
+use Rattle.std.specs.List.{All, Contains, filter, list_all}
+use Rattle.snippet_model.specs.declared.snippet.Annotation.{Annotation}
+use Rattle.snippet_parts.specs.declared.entries.AnnotatedLineInfo.{AnnotatedLineInfo}
+use Rattle.std.proofs.Common.{cond, ◌==◌, ◌||◌, suc, sym, subst, ◌∙◌, get_or, ap, arith, inl, inr, IfSome, [], ◌∷◌}
+use Rattle.std.specs.List.{list_any}
+use Rattle.std.proofs.lemmas.Bool.{cases_Bool, cond-true, cond-false, or_parts}
+use Rattle.std.proofs.lemmas.Bool.Decides.{nat_tests}
+use Rattle.std.proofs.lemmas.List.Elements.{All-cons, All-contains, All-head, All-nil, All-tail, All-weaker, Contains-get_or}
+use Rattle.std.proofs.lemmas.List.FromFn.{get_or-range_with_len, length-range_with_len}
+use Rattle.std.specs.List.{range_with_len}
+use Rattle.snippet_parts.specs.Kept.{keeps, kept_lines}
+use Rattle.snippet_parts.specs.Measures.{is_bar}
+use Rattle.snippet_parts.proofs.KeptPartLemmas.{none-unkept}
+use Rattle.snippet_strokes.proofs.MarkLemmas.{from_map}
+use Rattle.annotate_snippets.proofs.ListLemmas.{Contains-filter, Contains-map}
+use Rattle.std.proofs.lemmas.List.{length-map}
+use Rattle.std.proofs.lemmas.List.Sums.{count_by-le-length, length-filter}
+use Rattle.snippet_model.specs.Fits.{AnnotationFits}
+use Rattle.snippet_parts.specs.declared.depths.LongPlace.{LongPlace}
+use Rattle.snippet_parts.specs.declared.entries.LineAnnotation.{LineAnnotation}
+use Rattle.snippet_parts.specs.declared.entries.LineAnnotationType.{LineAnnotationType}
+use Rattle.snippet_parts.specs.declared.entries.LineAnnotationType.TheVariants.{Singleline, MultilineStart, MultilineEnd, MultilineLine}
+use Rattle.snippet_parts.specs.declared.margin.Margin.{Margin}
+use Rattle.snippet_parts.specs.Entries.{Ascends, HasDepthWithin, HasRoom}
+use Rattle.snippet_parts.proofs.EntryFacts.{depths-fit, each-line, labels-fit, places-fit, texts-fit, untouched-parts, wide-count}
+use Rattle.snippet_parts.proofs.MarginLaws.{margin_of_kept, margin_whole}
+use Rattle.snippet_parts.proofs.ShownFacts.{first-shown, last-shown, shown-ascends, shown-within}
+use Rattle.snippet_parts.specs.Depths.{greatest_raw_depth, places_of, raw_depth, same_place, share_line}
+use Rattle.snippet_parts.specs.Annotated.{KeptLine, PartEntry, seen_part, annotated_lines, deepest, is_long, kept_line, long_entry, long_place, long_places, long_spans, parts_on, seen_kept, single_part, stands_before}
+use Rattle.snippet_lines.specs.Order.{ordered_by, put_in}
+use Rattle.snippet_parts.specs.Kept.{shown_lines}
+use Rattle.snippet_lines.specs.Lines.{Source, source_lines}
+use Rattle.snippet_parts.specs.Mark.{is_marked_on, is_marking, is_single_line, is_wide, touches}
+use Rattle.snippet_parts.specs.Marked.{first_line, last_line}
+use Rattle.snippet_parts.specs.Measures.{StandsClear, bounds_of_lines, is_wide_entry, margin_of}
+use Rattle.snippet_strokes.specs.Entries.{HasPlace, HasRail, HasRailAt}
+use Rattle.snippet_strokes.specs.declared.layout.Layout.{Layout}
+use Rattle.annotate_snippets.specs.Gutter.{code_behind}
+use Rattle.snippet_lines.specs.Span.{IsSpan}
+use Rattle.snippet_parts.specs.Window.{stands_whole}
+use Rattle.annotate_snippets.specs.Page.{IsAscending}
+
+-- numbers that ascend do so in the words of a page
+ascending : (ks : List ℕ) → Ascends ks → IsAscending ks
+ascending [] ascends = tt
+ascending (j ∷ []) ascends = tt
+ascending (j ∷ k ∷ ks) ascends =
+    (ascends 0 1 0 (omega arith) (omega arith), ascending (k ∷ ks) (λ i l d less within. ascends (suc i) (suc l) d (omega (arith, less)) (omega (arith, within))))
+
+module _ (s : Source) (marks : List Annotation) (spans : All (λ a. IsSpan s.text a.span.start a.span.end) marks) where
+  pub untouched : (k : ℕ) → list_all (λ a. not (is_marking a.kind && touches s.text a k && not (is_single_line s.text a))) marks ≡ true → parts_on s marks k ≡ map (single_part s) (filter (is_marked_on s.text k) marks)
+  untouched k none = untouched-parts s marks k spans none
+
+  pub wide_on_line : (k : ℕ) (info : AnnotatedLineInfo) (room placeholder_width : ℕ) → seen_kept info ≡ kept_line s marks k → count_by (is_wide_entry room placeholder_width) info.annotations.items ≡ count_by (λ a. is_marked_on s.text k a && is_wide room placeholder_width s.text a) marks
+  wide_on_line k info room placeholder_width same = wide-count room placeholder_width s marks k info same
+
+  pub shown_within : (fold : Bool) → All (λ k. k < length (source_lines s.text)) (shown_lines fold s.text marks)
+  shown_within fold = shown-within fold s.text marks
+
+  pub shown_ascending : (fold : Bool) → IsAscending (shown_lines fold s.text marks)
+  shown_ascending fold = ascending (shown_lines fold s.text marks) (shown-ascends fold s.text marks)
+
+  pub ends_shown : (fold : Bool) → All (λ a. Contains (shown_lines fold s.text marks) (first_line s.text a) × Contains (shown_lines fold s.text marks) (last_line s.text a)) marks
+  ends_shown fold = λ k d within.
+      let a : Annotation = get_or marks k d in
+      (first-shown fold s.text marks a (Contains-get_or marks k d within) (spans k d within), last-shown fold s.text marks a (Contains-get_or marks k d within) (spans k d within))
+
+  pub stands_left : (room placeholder_width : ℕ) (fold : Bool) (k : ℕ) → stands_whole room placeholder_width fold s.text marks k ≡ true → (margin_of room fold s marks).left ≡ 0
+  stands_left room placeholder_width fold k whole = margin_whole room placeholder_width fold s marks k whole
+
+-- where the code leaves room for the greatest depth, a bar of a depth that is no greater has a cell
+rail : (layout : Layout) (deepest : ℕ) → code_behind layout.gutter deepest ≤ layout.code → (part : LineAnnotationType) → HasDepthWithin deepest part → HasRailAt layout part
+rail layout deepest code part depth = by part depth
+  where
+    behind : (depth : ℕ) → 0 < depth → depth ≤ deepest → layout.gutter + 3 + depth < layout.code
+    behind depth some low =
+        let more : (deepest == 0) ≡ false = grind (arith, nat_tests, some, low) in
+        let wide : code_behind layout.gutter deepest ≡ layout.gutter + 3 + deepest + 1 = ap (λ b. cond b (layout.gutter + 3) (layout.gutter + 3 + deepest + 1)) more in
+        omega (arith, code, wide, low)
+
+    by : (part : LineAnnotationType) → HasDepthWithin deepest part → HasRailAt layout part
+    by Singleline depth = tt
+    by (MultilineStart n) depth = (depth.0, behind n depth.0 depth.1)
+    by (MultilineEnd n) depth = (depth.0, behind n depth.0 depth.1)
+    by (MultilineLine n) depth = (depth.0, behind n depth.0 depth.1)
+
+-- ---- what drawing asks of the lines
+
+module _ (s : Source) (marks : List Annotation) (spans : All (λ a. IsSpan s.text a.span.start a.span.end) marks) (ks : List ℕ) (infos : List AnnotatedLineInfo) (same : map seen_kept infos ≡ map (kept_line s marks) ks) where
+  pub lines_texts : length s.text < 2 ^ 56 → All (λ info. length info.line.now < 2 ^ 56) infos
+  lines_texts short = texts-fit s marks ks infos same short
+
+  pub lines_labels : All AnnotationFits marks → All (λ info. All (λ e. IfSome e.label (λ t. length t.now < 2 ^ 56)) info.annotations.items) infos
+  lines_labels fit = labels-fit s marks ks infos same fit
+
+  pub lines_places : length s.text < 2 ^ 56 → All (λ info. All HasPlace info.annotations.items) infos
+  lines_places short = All-weaker (λ (info : AnnotatedLineInfo). All HasRoom info.annotations.items) (λ info. All HasPlace info.annotations.items) (λ info places. All-weaker HasRoom HasPlace (λ e room. record { ordered = room.0; near = room.1 }) info.annotations.items places) infos (places-fit s marks ks infos same short)
+
+  pub lines_rails : (layout : Layout) → code_behind layout.gutter (deepest s marks) ≤ layout.code → All (λ info. All (HasRail layout) info.annotations.items) infos
+  lines_rails layout code =
+      let Within : LineAnnotation → Type 0 = λ e. HasDepthWithin (deepest s marks) e.annotation_type in
+      All-weaker (λ (info : AnnotatedLineInfo). All Within info.annotations.items) (λ info. All (HasRail layout) info.annotations.items) (λ info depths. All-weaker Within (HasRail layout) (λ e depth. rail layout (deepest s marks) code e.annotation_type depth) info.annotations.items depths) infos (depths-fit s marks ks infos same)
+
+-- an entry stands clear where one that is seen as it does
+clear_seen : (margin : Margin) (d e : LineAnnotation) → seen_part d ≡ seen_part e → StandsClear margin d → StandsClear margin e
+clear_seen margin d e same clear own cut =
+    let part : d.annotation_type ≡ e.annotation_type = ap (λ (p : PartEntry). p.part) same in
+    let start : d.start.display ≡ e.start.display = ap (λ (p : PartEntry). p.entry.start.display) same in
+    omega (arith, clear (ap is_bar part ∙ own) cut, start)
+
+-- entries stand clear on all lines that are shown, where they do on those that are kept: none stand on the others
+pub shown_clear : (s : Source) (marks : List Annotation) → All (λ a. IsSpan s.text a.span.start a.span.end) marks → (fold : Bool) (kept shown : List AnnotatedLineInfo) (margin : Margin) → map seen_kept kept ≡ annotated_lines fold s marks → map seen_kept shown ≡ map (kept_line s marks) (shown_lines fold s.text marks) → All (λ info. All (StandsClear margin) info.annotations.items) kept → All (λ info. All (StandsClear margin) info.annotations.items) shown
+shown_clear s marks spans fold kept shown margin kept_is shown_is clear =
+    each-line (λ info. All (StandsClear margin) info.annotations.items) s marks (shown_lines fold s.text marks) shown shown_is (λ i d within info seen. on_line (get_or (shown_lines fold s.text marks) i d) (All-get_or_within i d within) info seen)
+  where
+    keeps_it : ℕ → Bool
+    keeps_it k = not fold || list_any (keeps s.text k) marks
+
+    All-get_or_within : (i d : ℕ) → i < length (shown_lines fold s.text marks) → get_or (shown_lines fold s.text marks) i d < length (source_lines s.text)
+    All-get_or_within i d within = shown-within fold s.text marks i d within
+
+    on_line : (k : ℕ) → k < length (source_lines s.text) → (info : AnnotatedLineInfo) → seen_kept info ≡ kept_line s marks k → All (StandsClear margin) info.annotations.items
+    on_line k within info seen =
+        elim (cases_Bool (keeps_it k)) [
+          | inl kept_here ↦
+              let among : Contains (kept_lines fold s.text marks) k = Contains-filter keeps_it (range_with_len 0 (length (source_lines s.text))) k kept_here (k, omega (arith, within, length-range_with_len 0 (length (source_lines s.text))), omega (arith, get_or-range_with_len 0 (length (source_lines s.text)) k k within)) in
+              let found = from_map seen_kept kept (kept_line s marks k) (subst (λ ls. Contains ls (kept_line s marks k)) (sym kept_is) (Contains-map (kept_line s marks) (kept_lines fold s.text marks) k among)) in
+              let own : All (StandsClear margin) found.0.annotations.items = All-contains (λ (x : AnnotatedLineInfo). All (StandsClear margin) x.annotations.items) kept found.0 clear found.1 in
+              let same : map seen_part found.0.annotations.items ≡ map seen_part info.annotations.items = ap (λ (l : KeptLine). l.parts) (found.2 ∙ sym seen) in
+              all_seen found.0.annotations.items info.annotations.items same own
+          | inr left_out ↦
+              let unkept = (or_parts (not fold) (list_any (keeps s.text k) marks) left_out).1 in
+              let none : map seen_part info.annotations.items ≡ [] = ap (λ (l : KeptLine). l.parts) seen ∙ none-unkept s marks k spans unkept in
+              all_seen [] info.annotations.items (sym none) (All-nil (StandsClear margin))
+        ]
+      where
+        all_seen : (ds es : List LineAnnotation) → map seen_part ds ≡ map seen_part es → All (StandsClear margin) ds → All (StandsClear margin) es
+        all_seen [] [] same own = All-nil (StandsClear margin)
+        all_seen [] (e ∷ es) same own = cc
+        all_seen (d ∷ ds) [] same own = cc
+        all_seen (d ∷ ds) (e ∷ es) same own =
+            All-cons (StandsClear margin) e es (clear_seen margin d e (head_seen (seen_part d) (seen_part e) (map seen_part ds) (map seen_part es) same) (All-head (StandsClear margin) d ds own)) (all_seen ds es (tail_seen (seen_part d) (seen_part e) (map seen_part ds) (map seen_part es) same) (All-tail (StandsClear margin) d ds own))
+          where
+            head_seen : (x y : PartEntry) (xs ys : List PartEntry) → x ∷ xs ≡ y ∷ ys → x ≡ y
+            head_seen x y xs ys same = cc
+
+            tail_seen : (x y : PartEntry) (xs ys : List PartEntry) → x ∷ xs ≡ y ∷ ys → xs ≡ ys
+            tail_seen x y xs ys same = cc
+
+-- the bounds for the lines that are kept are those for the snippet
+pub bounds_of_kept : (room : ℕ) (fold : Bool) (s : Source) (marks : List Annotation) (infos : List AnnotatedLineInfo) → All (λ a. IsSpan s.text a.span.start a.span.end) marks → map seen_kept infos ≡ annotated_lines fold s marks → bounds_of_lines room infos ≡ margin_of room fold s marks
+bounds_of_kept room fold s marks infos spans lines = margin_of_kept room fold s marks infos lines spans
+
+-- ---- how deep bars stand
+
+raw_few : (p : LongPlace) (later : List LongPlace) → raw_depth p later ≤ length later + 1
+raw_few p [] = omega arith
+raw_few p (q ∷ later) =
+    elim (cases_Bool (share_line p q)) [
+      | inl shares ↦ omega (arith, raw_few p later, raw_few q later, ap (λ b. cond b (raw_depth q later + 1) 1) shares)
+      | inr apart ↦ omega (arith, raw_few p later, ap (λ b. cond b (raw_depth q later + 1) 1) apart)
+    ]
+
+greatest_few : (ps : List LongPlace) → greatest_raw_depth ps ≤ length ps
+greatest_few [] = omega arith
+greatest_few (p ∷ later) = omega (arith, raw_few p later, greatest_few later)
+
+places_few : (ps : List LongPlace) → length (places_of ps) ≤ length ps
+places_few [] = omega arith
+places_few (p ∷ ps) =
+    elim (cases_Bool (list_any (same_place p) ps)) [
+      | inl again ↦ omega (arith, places_few ps, ap length (cond-true (list_any (same_place p) ps) (places_of ps) (p ∷ places_of ps) again))
+      | inr once ↦ omega (arith, places_few ps, ap length (cond-false (list_any (same_place p) ps) (places_of ps) (p ∷ places_of ps) once))
+    ]
+
+length-put_in : {X : Type 0} (before : X → X → Bool) (x : X) (ys : List X) → length (put_in before x ys) ≡ length ys + 1
+length-put_in before x [] = omega arith
+length-put_in before x (y ∷ ys) =
+    elim (cases_Bool (before y x)) [
+      | inl t ↦ omega (arith, length-put_in before x ys, ap length (cond-true (before y x) (y ∷ put_in before x ys) (x ∷ y ∷ ys) t))
+      | inr f ↦ omega (arith, ap length (cond-false (before y x) (y ∷ put_in before x ys) (x ∷ y ∷ ys) f))
+    ]
+
+length-in_order : {X : Type 0} (before : X → X → Bool) (xs : List X) → length (ordered_by before xs) ≡ length xs
+length-in_order before [] = omega arith
+length-in_order before (x ∷ xs) = omega (arith, length-in_order before xs, length-put_in before x (ordered_by before xs))
+
+-- no deeper than there are spans
+pub deepest_few : (s : Source) (marks : List Annotation) → deepest s marks ≤ length marks
+deepest_few s marks =
+    let spans = map (long_entry s) (filter (is_long s.text) marks) in
+    omega (arith, greatest_few (places_of (long_places s marks)), places_few (long_places s marks), length-map (long_spans s marks) long_place, length-in_order stands_before spans, length-map (filter (is_long s.text) marks) (long_entry s), length-filter (is_long s.text) marks, count_by-le-length (is_long s.text) marks)
