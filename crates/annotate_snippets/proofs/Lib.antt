@@ -2,11 +2,16 @@ pub mod CauseShown
 pub mod DisjointLemmas
 pub mod ElementShown
 pub mod FaultLemmas
+pub mod GroupLemmas
 pub mod GroupShown
 pub mod GutterLemmas
+pub mod HeadingShown
 pub mod LineLemmas
 pub mod ListLemmas
 pub mod MarkLemmas
 pub mod PageLemmas
 pub mod PartsFacts
+pub mod SuggestionLemmas
+pub mod SuggestionShown
+pub mod TrustedLemmas
 pub mod WindowLemmas

@@ -1,0 +1,213 @@
+-- The rows of a group show it.
+use Rattle.std.proofs.Common.{◌≡◌, ◌≢◌, ◌∙◌, ℕ, zero, suc, ◌<◌, ◌==◌, true, not, Option, None, Some, List, [], ◌∷◌, ◌++◌, map, length, get_or, refl, sym, ap, subst, arith, inl, inr}
+use Rattle.std.specs.List.{All, flat_map, slice_get}
+use Rattle.std.specs.Option.{option_to_list}
+use Rattle.std.proofs.lemmas.Bool.{cases_lt}
+use Rattle.std.proofs.lemmas.Grind.{flat_map-append}
+use Rattle.std.proofs.lemmas.List.{append-nil, ext_get_or, get_or-map, get_or_past, length-map}
+use Rattle.std.proofs.lemmas.List.Elements.{All-nil, All-append, All-filter, All-get_or, All-map, All-weaker, filter_passes}
+use Rattle.std.proofs.lemmas.List.Folds.{flat_map-map}
+use Rattle.std.proofs.lemmas.Option.{get_or_from_slice_get, slice_get_cases, slice_get_within}
+use Rattle.snippet_style.specs.Grid.{Cell, SPACE}
+use Rattle.snippet_style.specs.Print.{plain_text}
+use Rattle.snippet_style.specs.Woven.{links_behind, links_of}
+use Rattle.snippet_style.proofs.WovenLemmas.{links_of-unlinked}
+use Rattle.snippet_model.specs.Heading.{heading_of_message}
+use Rattle.snippet_model.specs.Trusted.{trusted_of_element, trusted_of_title}
+use Rattle.snippet_model.specs.declared.snippet.Element.{Element}
+use Rattle.snippet_model.specs.declared.snippet.Element.TheVariants.{Message, Cause, Suggestion, Origin, Padding}
+use Rattle.snippet_model.specs.declared.snippet.Group.{Group}
+use Rattle.snippet_model.specs.declared.snippet.Patch.{Patch}
+use Rattle.snippet_model.specs.declared.snippet.Title.{Title}
+use Rattle.snippet_parts.specs.Rows.{IsFree, IsFreeCell}
+use Rattle.snippet_titles.specs.Title.{id_links, title_rows}
+use Rattle.snippet_titles.proofs.HeadFacts.{message_rows-unlinked}
+use Rattle.snippet_titles.proofs.LinkLemmas.{title_rows-links}
+use Rattle.annotate_snippets.specs.Around.{drawn_elements, is_drawn, is_end, next_of, surroundings_at}
+use Rattle.annotate_snippets.specs.Drawn.{AreElementsDrawn, HasRoomFor, IsElementDrawn, IsGroupGrid}
+use Rattle.annotate_snippets.specs.Page.{NamedRow, cells_of}
+use Rattle.annotate_snippets.specs.Prepared.{IsElementDrawable, IsGroupDrawable}
+use Rattle.annotate_snippets.specs.Rows.{rows_behind_title, title_part}
+use Rattle.annotate_snippets.specs.Shown.{IsFreeBut, IsFreeElement, ShowsElement}
+use Rattle.annotate_snippets.specs.declared.renderer.Renderer.{Renderer}
+use Rattle.annotate_snippets.specs.declared.renderer.frame.Frame.{Frame}
+use Rattle.annotate_snippets.specs.declared.renderer.surroundings.GroupPlace.{GroupPlace}
+use Rattle.annotate_snippets.specs.declared.renderer.surroundings.Next.{Next}
+use Rattle.annotate_snippets.specs.declared.renderer.surroundings.Surroundings.{Surroundings}
+use Rattle.annotate_snippets.proofs.CauseShown.{cause_shown}
+use Rattle.annotate_snippets.proofs.ElementShown.{ElementShown}
+use Rattle.annotate_snippets.proofs.GroupShown.{GroupShown}
+use Rattle.annotate_snippets.proofs.HeadingShown.{message_shown, origin_shown, padding_shown, title_shown}
+use Rattle.annotate_snippets.proofs.SuggestionShown.{suggestion_shown}
+use Rattle.annotate_snippets.proofs.TrustedLemmas.{AreTextsAmong, IsFreeRow, behind_title-free, element-free, free_text, texts_among, title_part-free}
+
+-- the rows of an element that is drawn show it
+pub element_shown : (r : Renderer) (frame : Frame) (around : Surroundings) (e : Element) (rows : List (List Cell)) → IsElementDrawable e → is_drawn e ≡ true → HasRoomFor r frame e → IsElementDrawn r frame around e rows → ElementShown r frame around e rows
+element_shown r frame around (Message message) rows drawable drawn room is = message_shown r frame around message rows is
+element_shown r frame around (Cause snippet) rows drawable drawn room is = cause_shown r frame around snippet rows drawable room is
+element_shown r frame around (Suggestion snippet) rows drawable drawn room is =
+    suggestion_shown r frame around snippet rows drawable (some snippet.markers.items drawn) room is
+  where
+    some : (patches : List Patch) → not (length patches == 0) ≡ true → patches ≢ []
+    some [] given empty = cc
+    some (p ∷ ps) given empty = cc
+element_shown r frame around (Origin origin) rows drawable drawn room is = origin_shown r frame around origin rows is
+element_shown r frame around (Padding padding) rows drawable drawn room is = padding_shown r frame around padding rows is
+
+-- where there is a value for each item of a list, by its index, there is a list of them
+chosen : {X Y : Type 0} (R : ℕ → X → Y → Type 0) (d : Y) (xs : List X) → ((i : ℕ) (x : X) → slice_get xs i ≡ Some x → (y : Y) × R i x y) → (ys : List Y) × (length ys ≡ length xs) × ((i : ℕ) (x : X) → slice_get xs i ≡ Some x → R i x (get_or ys i d))
+chosen {X} {Y} R d [] at = ([], refl, λ i x is. cc)
+chosen {X} {Y} R d (z ∷ xs) at =
+    let rest = chosen (λ i. R (suc i)) d xs (λ i x is. at (suc i) x is) in
+    ((at 0 z refl).0 ∷ rest.0, ap suc rest.1, by rest.0 rest.2)
+  where
+    by : (ys : List Y) → ((i : ℕ) (x : X) → slice_get xs i ≡ Some x → R (suc i) x (get_or ys i d)) → (i : ℕ) (x : X) → slice_get (z ∷ xs) i ≡ Some x → R i x (get_or ((at 0 z refl).0 ∷ ys) i d)
+    by ys more zero x is =
+        let same : z ≡ x = cc in
+        subst (λ v. R 0 v (at 0 z refl).0) same (at 0 z refl).1
+    by ys more (suc i) x is = more i x is
+
+-- what holds of each part of a list holds of the whole
+All-flat_map : {X Y : Type 0} (P : Y → Type 0) (f : X → List Y) (xs : List X) (d : X) → ((i : ℕ) → i < length xs → All P (f (get_or xs i d))) → All P (flat_map f xs)
+All-flat_map P f [] d each = All-nil P
+All-flat_map P f (x ∷ xs) d each =
+    All-append P (f x) (flat_map f xs) (each 0 (omega arith)) (All-flat_map P f xs d (λ i within. each (suc i) (omega (arith, within))))
+
+-- a row that links to nothing
+abbrev IsUnlinked : List Cell → Type 0
+IsUnlinked row = All (λ (cell : Cell). cell.link ≡ None) row
+
+free_unlinked : (rows : List (List Cell)) → All IsFree rows → All IsUnlinked rows
+free_unlinked rows free =
+    All-weaker IsFree IsUnlinked (λ row is. All-weaker IsFreeCell (λ (cell : Cell). cell.link ≡ None) (λ cell both. both.1) row is) rows free
+
+no_links : (rows : List (List Cell)) → All IsUnlinked rows → links_of rows ≡ []
+no_links rows none =
+    links_of-unlinked rows (λ r c. elim (cases_lt r (length rows)) [
+      | inl within ↦ in_row (get_or rows r []) (All-get_or IsUnlinked rows r [] within none) c
+      | inr past ↦ in_row (get_or rows r []) (subst IsUnlinked (sym (get_or_past rows r [] past)) (All-nil (λ (cell : Cell). cell.link ≡ None))) c
+    ])
+  where
+    in_row : (row : List Cell) → IsUnlinked row → (c : ℕ) → (get_or row c SPACE).link ≡ None
+    in_row row none c =
+        elim (cases_lt c (length row)) [
+          | inl within ↦ All-get_or (λ (cell : Cell). cell.link ≡ None) row c SPACE within none
+          | inr past ↦ ap (λ (cell : Cell). cell.link) (get_or_past row c SPACE past)
+        ]
+
+-- the rows of an element link to nothing
+element-unlinked : (r : Renderer) (frame : Frame) (around : Surroundings) (e : Element) (part : List NamedRow) → ShowsElement r frame around e part → IsFreeElement e part → All IsUnlinked (cells_of part)
+element-unlinked r frame around (Message message) part shows free =
+    subst (All IsUnlinked) (sym shows.shows.rows_are) (message_rows-unlinked r.hyperlink (record { gutter = frame.gutter; decor = r.decor_style; followed = not (is_end around.next) }) (heading_of_message message) refl)
+element-unlinked r frame around (Cause snippet) part shows free =
+    free_unlinked (cells_of part) (All-map IsFree (λ (row : NamedRow). row.cells) part free)
+element-unlinked r frame around (Suggestion snippet) part shows free =
+    free_unlinked (cells_of part) (All-map IsFree (λ (row : NamedRow). row.cells) part free)
+element-unlinked r frame around (Origin origin) part shows free =
+    free_unlinked (cells_of part) (All-map IsFree (λ (row : NamedRow). row.cells) part free)
+element-unlinked r frame around (Padding padding) part shows free =
+    free_unlinked (cells_of part) (All-map IsFree (λ (row : NamedRow). row.cells) part free)
+
+-- what stands below rows that link to nothing doesn't link
+links-append : (xs ys : List (List Cell)) → All IsUnlinked ys → links_of (xs ++ ys) ≡ links_of xs
+links-append xs ys none =
+    flat_map-append (λ row. links_behind None row) xs ys ∙ ap (λ urls. links_of xs ++ urls) (no_links ys none) ∙ append-nil (links_of xs)
+
+-- a title's part of a group links to what the title's id links to
+title_part-links : (r : Renderer) (frame : Frame) (place : GroupPlace) (follows : Next) (title : Option Title) → links_of (title_part r frame place follows title) ≡ flat_map (λ (t : Title). id_links r.hyperlink t.id) (option_to_list title)
+title_part-links r frame place follows None = refl
+title_part-links r frame place follows (Some title) =
+    let behind : List (List Cell) = rows_behind_title r frame place follows title.allows_styling in
+    links-append (title_rows r.hyperlink title) behind (free_unlinked behind (behind_title-free r frame place follows title.allows_styling)) ∙ title_rows-links r.hyperlink title ∙ sym (append-nil (id_links r.hyperlink title.id))
+
+module _ (r : Renderer) (frame : Frame) (place : GroupPlace) (file : Option (List ℕ)) (es : List Element) (parts : List (List (List Cell))) where
+  -- rows with names that show element i, and are part i without them
+  record IsPartShown (i : ℕ) (e : Element) (part : List NamedRow) : Type 0 where
+    cells : cells_of part ≡ get_or parts i []
+    shows : ShowsElement r frame (surroundings_at place file es i e) e part
+    free : IsFreeElement e part
+
+  -- the parts with names
+  record AreNamed : Type 0 where
+    named : List (List NamedRow)
+    count : length named ≡ length es
+    each : (i : ℕ) (e : Element) → slice_get es i ≡ Some e → IsPartShown i e (get_or named i [])
+
+  module _ (drawable : All IsElementDrawable es) (drawn : All (λ e. is_drawn e ≡ true) es) (room : All (HasRoomFor r frame) es) (are : AreElementsDrawn r frame place file es parts) where
+    -- each part shows its element, with names
+    part_shown : (i : ℕ) (e : Element) → slice_get es i ≡ Some e → (part : List NamedRow) × IsPartShown i e part
+    part_shown i e is =
+        let within : i < length es = slice_get_within es i e is in
+        let own : get_or es i e ≡ e = get_or_from_slice_get es i e e is in
+        let shown = element_shown r frame (surroundings_at place file es i e) e (get_or parts i []) (subst IsElementDrawable own (All-get_or IsElementDrawable es i e within drawable)) (subst (λ x. is_drawn x ≡ true) own (All-get_or (λ x. is_drawn x ≡ true) es i e within drawn)) (subst (HasRoomFor r frame) own (All-get_or (HasRoomFor r frame) es i e within room)) (are.each i e is) in
+        (shown.part, record { cells = shown.cells; shows = shown.shows; free = shown.free })
+
+    named_parts : AreNamed
+    named_parts =
+        let all = chosen IsPartShown [] es part_shown in
+        record { named = all.0; count = all.1; each = all.2 }
+
+  -- the element whose part this is
+  element_at : (names : AreNamed) (i : ℕ) → i < length names.named → (e : Element) × (slice_get es i ≡ Some e)
+  element_at names i within =
+      elim (slice_get_cases es i).1 [
+        | inl (e, inside, is, same) ↦ (e, is)
+        | inr (past, none) ↦ absurd (omega (arith, within, names.count, past))
+      ]
+
+  -- the parts with names are those without them
+  parts_are : (names : AreNamed) → length parts ≡ length es → flat_map cells_of names.named ≡ flat_map (λ part. part) parts
+  parts_are names count =
+      let counts : length (map cells_of names.named) ≡ length parts = length-map names.named cells_of ∙ names.count ∙ sym count in
+      sym (flat_map-map (λ part. part) cells_of names.named) ∙ ap (flat_map (λ part. part)) (ext_get_or [] (map cells_of names.named) parts counts same)
+    where
+      same : (i : ℕ) → i < length (map cells_of names.named) → get_or (map cells_of names.named) i [] ≡ get_or parts i []
+      same i within =
+          let inside : i < length names.named = omega (arith, within, length-map names.named cells_of) in
+          let e = element_at names i inside in
+          get_or-map cells_of names.named i [] [] inside ∙ (names.each i e.0 e.1).cells
+
+  -- they link to nothing
+  parts-unlinked : (names : AreNamed) → All IsUnlinked (flat_map cells_of names.named)
+  parts-unlinked names = All-flat_map IsUnlinked cells_of names.named [] each
+    where
+      each : (i : ℕ) → i < length names.named → All IsUnlinked (cells_of (get_or names.named i []))
+      each i within =
+          let e = element_at names i within in
+          let part = names.each i e.0 e.1 in
+          element-unlinked r frame (surroundings_at place file es i e.0) e.0 (get_or names.named i []) part.shows part.free
+
+  -- and hold no listed character but those of trusted texts
+  parts-free : (trusted : List (List ℕ)) → All (λ e. AreTextsAmong trusted (trusted_of_element e)) es → (names : AreNamed) → All (IsFreeRow trusted) (flat_map cells_of names.named)
+  parts-free trusted among names = All-flat_map (IsFreeRow trusted) cells_of names.named [] each
+    where
+      each : (i : ℕ) → i < length names.named → All (IsFreeRow trusted) (cells_of (get_or names.named i []))
+      each i within =
+          let e = element_at names i within in
+          let own : get_or es i e.0 ≡ e.0 = get_or_from_slice_get es i e.0 e.0 e.1 in
+          let texts : AreTextsAmong trusted (trusted_of_element e.0) = subst (λ x. AreTextsAmong trusted (trusted_of_element x)) own (All-get_or (λ x. AreTextsAmong trusted (trusted_of_element x)) es i e.0 (slice_get_within es i e.0 e.1) among) in
+          element-free trusted e.0 (get_or names.named i []) texts (names.each i e.0 e.1).free
+
+-- the rows of a group show it: each part that is drawn shows its element
+pub group_shown : (r : Renderer) (frame : Frame) (place : GroupPlace) (file : Option (List ℕ)) (g : Group) (rows : List (List Cell)) → IsGroupDrawable g → All (HasRoomFor r frame) (drawn_elements g) → IsGroupGrid r frame place file g rows → GroupShown r frame place file g rows
+group_shown r frame place file g rows drawable room grid =
+    let es : List Element = drawn_elements g in
+    let parts : List (List (List Cell)) = grid.parts in
+    let names = named_parts r frame place file es parts (All-filter is_drawn IsElementDrawable g.elements.items drawable.1) (filter_passes is_drawn g.elements.items) room grid.are in
+    let title : List (List Cell) = title_part r frame place (next_of es) g.title in
+    let below : List (List Cell) = flat_map cells_of names.named in
+    let rows_are : rows ≡ title ++ below = grid.rows_are ∙ ap (λ rs. title ++ rs) (sym (parts_are r frame place file es parts names grid.are.count)) in
+    let titles : List (List ℕ) = flat_map trusted_of_title (option_to_list g.title) in
+    let texts : List (List ℕ) = flat_map trusted_of_element g.elements.items in
+    let among : All (λ e. AreTextsAmong (titles ++ texts) (trusted_of_element e)) es = All-filter is_drawn (λ e. AreTextsAmong (titles ++ texts) (trusted_of_element e)) g.elements.items (texts_among titles g.elements.items) in
+    let free : All (IsFreeRow (titles ++ texts)) (title ++ below) = All-append (IsFreeRow (titles ++ texts)) title below (title_part-free r frame place (next_of es) g.title texts) (parts-free r frame place file es parts (titles ++ texts) among names) in
+    record {
+      page = record { title = title; elements = names.named };
+      rows_are = rows_are;
+      shows = record {
+        title = title_shown r frame place (next_of es) g.title;
+        elements = record { count = names.count; each = λ i e is. (names.each i e is).shows; free = λ i e is. (names.each i e is).free };
+      };
+      links = ap links_of rows_are ∙ links-append title below (parts-unlinked r frame place file es parts names) ∙ title_part-links r frame place (next_of es) g.title;
+      free = subst (λ ts. IsFreeBut ts (plain_text rows)) (sym (append-nil (titles ++ texts))) (free_text (titles ++ texts) rows (subst (All (IsFreeRow (titles ++ texts))) (sym rows_are) free));
+    }

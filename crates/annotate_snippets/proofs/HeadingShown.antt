@@ -1,0 +1,113 @@
+-- The rows of messages, origins, paddings and titles show them.
+use Rattle.std.proofs.Common.{◌≡◌, ◌∙◌, ℕ, ◌+◌, Bool, true, false, None, Option, Some, List, [], ◌∷◌, drop, if◌then◌else◌, refl, sym, ap, subst}
+use Rattle.std.specs.Cow.{cow_str_bytes}
+use Rattle.std.specs.List.{All}
+use Rattle.std.proofs.lemmas.List.Elements.{All-cons, All-nil}
+use Rattle.snippet_style.specs.Grid.{Cell, row_at}
+use Rattle.snippet_style.specs.Print.{row_text}
+use Rattle.snippet_model.specs.Heading.{Heading, heading_of_message, heading_of_title}
+use Rattle.snippet_model.specs.declared.snippet.Element.TheVariants.{Message, Origin, Padding}
+use Rattle.snippet_model.specs.declared.snippet.Message as the_message
+use Rattle.snippet_model.specs.declared.snippet.Origin as the_origin
+use Rattle.snippet_model.specs.declared.snippet.Padding as the_padding
+use Rattle.snippet_model.specs.declared.snippet.Title.{Title}
+use Rattle.snippet_parts.specs.Rows.{IsFree}
+use Rattle.snippet_parts.proofs.PartLemmas.{All-unmapped}
+use Rattle.snippet_titles.specs.Heading.{heading_rows}
+use Rattle.snippet_titles.specs.Origin.{origin_row, padding_row}
+use Rattle.snippet_titles.specs.Shown.{IsFreeButText}
+use Rattle.snippet_titles.specs.Title.{title_rows}
+use Rattle.snippet_titles.specs.declared.style.TitleStyle.{TitleStyle}
+use Rattle.snippet_titles.specs.declared.style.TitleStyle.TheVariants as style
+use Rattle.snippet_titles.proofs.FreeLemmas.{heading_rows-free}
+use Rattle.snippet_titles.proofs.HeadFacts.{origin_row-text}
+use Rattle.snippet_titles.proofs.OriginFree.{closing_row-free, origin_row-free, padding_row-free}
+use Rattle.snippet_titles.proofs.PlaceLemmas.{heading_rows-places}
+use Rattle.snippet_titles.proofs.TextLemmas.{heading_rows-texts}
+use Rattle.annotate_snippets.specs.Around.{closes_behind, is_end}
+use Rattle.annotate_snippets.specs.Page.{NamedRow, cells_of, others}
+use Rattle.annotate_snippets.specs.Rows.{closing_rows, message_rows, message_style, origin_layout, origin_rows, origin_start, place_given, title_part}
+use Rattle.annotate_snippets.specs.Shown.{ShowsHeading, ShowsTitlePart}
+use Rattle.annotate_snippets.specs.declared.renderer.Renderer.{Renderer}
+use Rattle.annotate_snippets.specs.declared.renderer.frame.Frame.{Frame}
+use Rattle.annotate_snippets.specs.declared.renderer.surroundings.GroupPlace.{GroupPlace}
+use Rattle.annotate_snippets.specs.declared.renderer.surroundings.Next.{Next}
+use Rattle.annotate_snippets.specs.declared.renderer.surroundings.Surroundings.{Surroundings}
+use Rattle.annotate_snippets.proofs.ElementShown.{ElementShown}
+
+-- rows that show no line keep their cells
+pub others-cells : (rows : List (List Cell)) → cells_of (others rows) ≡ rows
+others-cells [] = refl
+others-cells (row ∷ rows) = ap (λ rs. row ∷ rs) (others-cells rows)
+
+-- what holds of rows holds of them with names
+pub others-each : (P : List Cell → Type 0) (rows : List (List Cell)) → All P rows → All (λ (row : NamedRow). P row.cells) (others rows)
+others-each P rows each =
+    All-unmapped P (λ (row : NamedRow). row.cells) (others rows) (subst (All P) (sym (others-cells rows)) each)
+
+-- the rows of a heading show it
+heading_shown : (hyperlink : Bool) (place : TitleStyle) (heading : Heading) → ShowsHeading hyperlink place heading (heading_rows hyperlink place heading)
+heading_shown hyperlink place heading =
+    record {
+      rows_are = refl;
+      texts = heading_rows-texts hyperlink place heading;
+      links = heading_rows-places hyperlink place heading;
+      free = heading_rows-free hyperlink place heading;
+    }
+
+-- so do those of a message
+pub message_shown : (r : Renderer) (frame : Frame) (around : Surroundings) (message : the_message.Message) (rows : List (List Cell)) → rows ≡ message_rows r frame around message → ElementShown r frame around (Message message) rows
+message_shown r frame around message rows are =
+    let heading : Heading = heading_of_message message in
+    let shows : ShowsHeading r.hyperlink (message_style r frame around) heading rows = subst (ShowsHeading r.hyperlink (message_style r frame around) heading) (sym are) (heading_shown r.hyperlink (message_style r frame around) heading) in
+    record {
+      part = others rows;
+      cells = others-cells rows;
+      shows = record {
+        named = ap others (sym (others-cells rows));
+        shows = subst (ShowsHeading r.hyperlink (message_style r frame around) heading) (sym (others-cells rows)) shows;
+      };
+      free = others-each (IsFreeButText heading) rows shows.free;
+    }
+
+-- those of an origin
+closing-free : (r : Renderer) (frame : Frame) (closes : Bool) → All IsFree (if closes then closing_rows r frame else [])
+closing-free r frame true = All-cons IsFree _ [] (closing_row-free r.decor_style frame.gutter) (All-nil IsFree)
+closing-free r frame false = All-nil IsFree
+
+pub origin_shown : (r : Renderer) (frame : Frame) (around : Surroundings) (origin : the_origin.Origin) (rows : List (List Cell)) → rows ≡ origin_rows r frame around origin → ElementShown r frame around (Origin origin) rows
+origin_shown r frame around origin rows are =
+    let path : List ℕ = cow_str_bytes origin.path in
+    let row : List Cell = origin_row (origin_layout r frame) (origin_start around) path (place_given origin) in
+    let free : All IsFree (origin_rows r frame around origin) = All-cons IsFree row _ (origin_row-free (origin_layout r frame) (origin_start around) path (place_given origin)) (closing-free r frame (closes_behind around)) in
+    record {
+      part = others rows;
+      cells = others-cells rows;
+      shows = record {
+        rows_are = ap others are;
+        text = ap (λ (rs : List (List Cell)). row_text (drop (frame.gutter + 4) (row_at (cells_of (others rs)) 0))) are ∙ origin_row-text (origin_layout r frame) (origin_start around) path (place_given origin);
+      };
+      free = others-each IsFree rows (subst (All IsFree) (sym are) free);
+    }
+
+-- and that of a padding
+pub padding_shown : (r : Renderer) (frame : Frame) (around : Surroundings) (padding : the_padding.Padding) (rows : List (List Cell)) → rows ≡ padding_row r.decor_style frame.gutter (is_end around.next) ∷ [] → ElementShown r frame around (Padding padding) rows
+padding_shown r frame around padding rows are =
+    let row : List Cell = padding_row r.decor_style frame.gutter (is_end around.next) in
+    let free : All IsFree (row ∷ []) = All-cons IsFree row [] (padding_row-free r.decor_style frame.gutter (is_end around.next)) (All-nil IsFree) in
+    record {
+      part = others rows;
+      cells = others-cells rows;
+      shows = ap others are;
+      free = others-each IsFree rows (subst (All IsFree) (sym are) free);
+    }
+
+-- the title's part of a group shows the title
+pub title_shown : (r : Renderer) (frame : Frame) (place : GroupPlace) (follows : Next) (title : Option Title) → ShowsTitlePart r frame place follows title (title_part r frame place follows title)
+title_shown r frame place follows None = refl
+title_shown r frame place follows (Some title) =
+    record {
+      own = title_rows r.hyperlink title;
+      rows_are = refl;
+      shows = heading_shown r.hyperlink style.Title (heading_of_title title);
+    }

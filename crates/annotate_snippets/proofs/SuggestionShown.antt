@@ -1,0 +1,75 @@
+-- The rows of a suggestion show it.
+use Rattle.std.proofs.Common.{◌≡◌, ◌≢◌, ◌∙◌, ℕ, ◌+◌, Bool, Option, None, Some, List, [], ◌++◌, map, length, refl, sym, ap, subst, inl, inr}
+use Rattle.std.specs.List.{All, Contains}
+use Rattle.std.proofs.lemmas.List.{map-append}
+use Rattle.std.proofs.lemmas.List.Elements.{All-append, All-cons, All-nil}
+use Rattle.snippet_model.specs.declared.snippet.Element.TheVariants.{Suggestion}
+use Rattle.snippet_model.specs.declared.snippet.Patch.{Patch}
+use Rattle.snippet_model.specs.declared.snippet.Snippet.{Snippet}
+use Rattle.snippet_style.specs.Grid.{Cell}
+use Rattle.snippet_parts.specs.Rows.{IsFree}
+use Rattle.snippet_parts.proofs.PartLemmas.{All-unmapped}
+use Rattle.snippet_suggest.specs.Given.{first_given, given_lines, offered_lines, removed_lines}
+use Rattle.snippet_suggest.specs.Prepared.{IsSuggestible}
+use Rattle.snippet_suggest.specs.Rows.{Shows, SuggestionRow, numbers_offered}
+use Rattle.snippet_suggest.specs.Shown.{AreRising}
+use Rattle.snippet_suggest.specs.declared.layout.SuggestionStart.{SuggestionStart}
+use Rattle.snippet_suggest.specs.declared.layout.SuggestionStart.TheVariants as start
+use Rattle.snippet_suggest.proofs.OfferLaws.{offered-ascends}
+use Rattle.snippet_suggest.proofs.TouchLaws.{touched-offered}
+use Rattle.snippet_titles.specs.Origin.{primary_start}
+use Rattle.snippet_titles.proofs.OriginFree.{origin_row-free}
+use Rattle.annotate_snippets.specs.Around.{path_bytes}
+use Rattle.annotate_snippets.specs.Drawn.{AreSuggestionRows, HasRoomFor, IsSuggestionDrawn, suggestion_layout}
+use Rattle.annotate_snippets.specs.Page.{IsAscending, NamedRow, cells_of, lines_offered, others}
+use Rattle.annotate_snippets.specs.Rows.{origin_layout, patch_place, path_row, suggestion_head, suggestion_head_at}
+use Rattle.annotate_snippets.specs.Shown.{ShowsSuggestion}
+use Rattle.annotate_snippets.specs.declared.renderer.Renderer.{Renderer}
+use Rattle.annotate_snippets.specs.declared.renderer.frame.Frame.{Frame}
+use Rattle.annotate_snippets.specs.declared.renderer.surroundings.Surroundings.{Surroundings}
+use Rattle.annotate_snippets.proofs.ElementShown.{ElementShown}
+use Rattle.annotate_snippets.proofs.HeadingShown.{others-cells}
+use Rattle.annotate_snippets.proofs.SuggestionLemmas.{cells_of-named, lines_free, lines_offered-named, lines_removed-named, named_rows, rising_ascends, rows_named, source_text}
+
+-- the row of its path holds no listed character and no link
+path_row-free : (r : Renderer) (frame : Frame) (first : Bool) (s : Snippet Patch) (path : Option (List ℕ)) → All IsFree (path_row r frame first s path)
+path_row-free r frame first s None = All-nil IsFree
+path_row-free r frame first s (Some path) =
+    All-cons IsFree _ [] (origin_row-free (origin_layout r frame) (primary_start first) path (patch_place s)) (All-nil IsFree)
+
+suggestion_head-free : (r : Renderer) (frame : Frame) (begins : SuggestionStart) (first : Bool) (s : Snippet Patch) → All IsFree (suggestion_head_at begins r frame first s)
+suggestion_head-free r frame start.Opening first s = All-nil IsFree
+suggestion_head-free r frame start.Next first s = All-nil IsFree
+suggestion_head-free r frame start.Path first s = path_row-free r frame first s (path_bytes s.path)
+
+-- the rows of a suggestion show it, once they have names: behind the row of its path those of its lines
+pub suggestion_shown : (r : Renderer) (frame : Frame) (around : Surroundings) (s : Snippet Patch) (rows : List (List Cell)) → IsSuggestible s → s.markers.items ≢ [] → HasRoomFor r frame (Suggestion s) → IsSuggestionDrawn r frame around s rows → ElementShown r frame around (Suggestion s) rows
+suggestion_shown r frame around s rows suggestible some room drawn =
+    let IsShown : SuggestionRow → List Cell → Type 0 = Shows (suggestion_layout r frame s) (s.line_start + first_given s) (given_lines s) in
+    let own : AreSuggestionRows (suggestion_layout r frame s) s drawn.lines = drawn.are in
+    let head : List (List Cell) = suggestion_head r frame around s in
+    let removed : List ℕ = removed_lines s in
+    let behind : List NamedRow = named_rows (first_given s) own.shown removed drawn.lines in
+    let same : map (λ k. first_given s + k) (numbers_offered own.shown) ≡ offered_lines s = ap (map (λ k. first_given s + k)) own.numbers in
+    let lines : lines_offered behind ≡ offered_lines s = lines_offered-named IsShown (first_given s) own.shown removed drawn.lines own.are ∙ same in
+    let end : ℕ = first_given s + length (given_lines s) in
+    let cells : cells_of (others head ++ behind) ≡ rows = map-append (λ (row : NamedRow). row.cells) (others head) behind ∙ ap (λ rs. rs ++ cells_of behind) (others-cells head) ∙ ap (λ rs. head ++ rs) (cells_of-named IsShown (first_given s) own.shown removed drawn.lines own.are) ∙ sym drawn.rows_are in
+    let free : All IsFree rows = subst (All IsFree) (sym drawn.rows_are) (All-append IsFree head drawn.lines (suggestion_head-free r frame around.start around.first s) (lines_free r frame s own.shown drawn.lines own.are)) in
+    let shows : ShowsSuggestion r frame around s (others head ++ behind) = record {
+      behind = behind;
+      rows_are = refl;
+      offered = λ offerable j touched visible. elim (touched-offered s suggestible.spans suggestible.disjoint offerable j touched visible) [
+        | inl as_it_was ↦ inl as_it_was
+        | inr among ↦ inr (subst (λ js. Contains js j) (sym lines) among)
+      ];
+      ordered = subst IsAscending (sym lines) (rising_ascends (first_given s) end (offered_lines s) (offered-ascends s));
+      lines = lines;
+      removed = lines_removed-named IsShown (source_text r frame s) (first_given s) own.shown removed drawn.lines own.are own.removed;
+      named = rows_named r frame s suggestible some (first_given s) own.shown removed drawn.lines (subst (AreRising (first_given s) end) (sym same) (offered-ascends s)) own.removed own.are;
+    } in
+    record {
+      part = others head ++ behind;
+      cells = cells;
+      shows = shows;
+      free = All-unmapped IsFree (λ (row : NamedRow). row.cells) (others head ++ behind) (subst (All IsFree) (sym cells) free);
+    }

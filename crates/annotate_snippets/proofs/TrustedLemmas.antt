@@ -1,0 +1,131 @@
+-- Each listed character of a group's rows is one of a trusted text.
+use Rattle.std.proofs.Common.{◌≡◌, ℕ, Bool, true, false, Option, None, Some, List, [], ◌∷◌, ◌++◌, chars, if◌then◌else◌, refl, sym, subst}
+use Rattle.std.specs.List.{All, Contains, flat_map}
+use Rattle.std.specs.Option.{option_to_list}
+use Rattle.std.specs.Cow.{cow_str_bytes}
+use Rattle.std.proofs.lemmas.List.Elements.{All-nil, All-cons, All-head, All-tail, All-append, All-map, All-weaker, Contains-append_left, Contains-append_right}
+use Rattle.std.proofs.lemmas.Grind.{flat_map-append}
+use Rattle.snippet_text.specs.Normalized.{is_listed}
+use Rattle.snippet_parts.specs.Rows.{IsFree, IsFreeCell}
+use Rattle.snippet_style.specs.Grid.{Cell}
+use Rattle.snippet_style.specs.Print.{row_text, further_text, plain_text}
+use Rattle.snippet_model.specs.declared.snippet.Element.{Element}
+use Rattle.snippet_model.specs.declared.snippet.Element.TheVariants.{Message, Cause, Suggestion, Origin, Padding}
+use Rattle.snippet_model.specs.declared.snippet.Title.{Title}
+use Rattle.snippet_model.specs.Heading.{Heading, heading_of_message, heading_of_title}
+use Rattle.snippet_model.specs.Trusted.{trusted_of_element, trusted_of_title}
+use Rattle.snippet_titles.specs.Shown.{IsFreeButText}
+use Rattle.snippet_titles.specs.Title.{title_rows}
+use Rattle.snippet_titles.specs.declared.style.TitleStyle.TheVariants as style
+use Rattle.snippet_titles.proofs.FreeLemmas.{heading_rows-free}
+use Rattle.snippet_titles.proofs.OriginFree.{closing_row-free, separator_row-free}
+use Rattle.annotate_snippets.specs.Around.{is_before_message}
+use Rattle.annotate_snippets.specs.Page.{NamedRow, cells_of}
+use Rattle.annotate_snippets.specs.Rows.{closing_rows, rows_behind_title, separator_rows, title_part}
+use Rattle.annotate_snippets.specs.Shown.{IsFreeBut, IsFreeElement}
+use Rattle.annotate_snippets.specs.declared.renderer.Renderer.{Renderer}
+use Rattle.annotate_snippets.specs.declared.renderer.frame.Frame.{Frame}
+use Rattle.annotate_snippets.specs.declared.renderer.surroundings.GroupPlace.{GroupPlace}
+use Rattle.annotate_snippets.specs.declared.renderer.surroundings.Next.{Next}
+
+-- a character that isn't listed, or is one of a trusted text
+abbrev IsTrusted : List (List ℕ) → ℕ → Type 0
+IsTrusted trusted c = is_listed c ≡ true → Contains (flat_map chars trusted) c
+
+-- a row none of whose listed characters is of another text
+abbrev pub IsFreeRow : List (List ℕ) → List Cell → Type 0
+IsFreeRow trusted row = IsFreeBut trusted (row_text row)
+
+-- a character that isn't listed
+unlisted : (trusted : List (List ℕ)) (c : ℕ) → is_listed c ≡ false → IsTrusted trusted c
+unlisted trusted c free listed = absurd (clash (is_listed c) free listed)
+  where
+    clash : (b : Bool) → b ≡ false → b ≡ true → ⊥
+    clash true is_false is_true = cc
+    clash false is_false is_true = cc
+
+-- rows that hold no listed character
+pub free_rows : (trusted : List (List ℕ)) (rows : List (List Cell)) → All IsFree rows → All (IsFreeRow trusted) rows
+free_rows trusted rows free =
+    All-weaker IsFree (IsFreeRow trusted) (λ row free_row. All-map (IsTrusted trusted) (λ (cell : Cell). cell.ch) row (All-weaker IsFreeCell (λ cell. IsTrusted trusted cell.ch) (λ cell is. unlisted trusted cell.ch is.0) row free_row)) rows free
+
+-- the text of such rows
+further_free : (trusted : List (List ℕ)) (rows : List (List Cell)) → All (IsFreeRow trusted) rows → IsFreeBut trusted (further_text rows)
+further_free trusted [] free = All-nil (IsTrusted trusted)
+further_free trusted (row ∷ rows) free =
+    All-append (IsTrusted trusted) (10 ∷ row_text row) (further_text rows) (All-cons (IsTrusted trusted) 10 (row_text row) (unlisted trusted 10 refl) (All-head (IsFreeRow trusted) row rows free)) (further_free trusted rows (All-tail (IsFreeRow trusted) row rows free))
+
+pub free_text : (trusted : List (List ℕ)) (rows : List (List Cell)) → All (IsFreeRow trusted) rows → IsFreeBut trusted (plain_text rows)
+free_text trusted [] free = All-nil (IsTrusted trusted)
+free_text trusted (row ∷ rows) free =
+    All-append (IsTrusted trusted) (row_text row) (further_text rows) (All-head (IsFreeRow trusted) row rows free) (further_free trusted rows (All-tail (IsFreeRow trusted) row rows free))
+
+-- each character of these texts is one of those
+abbrev pub AreTextsAmong : List (List ℕ) → List (List ℕ) → Type 0
+AreTextsAmong trusted texts = (c : ℕ) → Contains (flat_map chars texts) c → Contains (flat_map chars trusted) c
+
+-- rows that hold no listed character but those of a heading's text, which is among the trusted texts if it is trusted
+own_row : (trusted : List (List ℕ)) (heading : Heading) → (heading.allows_styling ≡ true → (c : ℕ) → Contains (chars heading.text) c → Contains (flat_map chars trusted) c) → (row : List Cell) → IsFreeButText heading row → IsFreeRow trusted row
+own_row trusted heading among row own =
+    All-weaker (λ c. is_listed c ≡ true → (heading.allows_styling ≡ true) × Contains (chars heading.text) c) (IsTrusted trusted) (λ c is listed. among (is listed).0 c (is listed).1) (row_text row) own
+
+-- the rows below a title
+pub behind_title-free : (r : Renderer) (frame : Frame) (place : GroupPlace) (follows : Next) (trusted : Bool) → All IsFree (rows_behind_title r frame place follows trusted)
+behind_title-free r frame place follows trusted = by (is_before_message follows) _
+  where
+    closing : (closes : Bool) → All IsFree (if closes then closing_rows r frame else [])
+    closing true = All-cons IsFree _ [] (closing_row-free r.decor_style frame.gutter) (All-nil IsFree)
+    closing false = All-nil IsFree
+
+    by : (before closes : Bool) → All IsFree (if before then separator_rows r frame else (if closes then closing_rows r frame else []))
+    by true closes = All-cons IsFree _ [] (separator_row-free r.decor_style frame.gutter) (All-nil IsFree)
+    by false closes = closing closes
+
+-- the listed characters of a title's part of a group are of its trusted text
+pub title_part-free : (r : Renderer) (frame : Frame) (place : GroupPlace) (follows : Next) (title : Option Title) (more : List (List ℕ)) → All (IsFreeRow (flat_map trusted_of_title (option_to_list title) ++ more)) (title_part r frame place follows title)
+title_part-free r frame place follows None more = All-nil (IsFreeRow more)
+title_part-free r frame place follows (Some title) more =
+    let trusted : List (List ℕ) = flat_map trusted_of_title (title ∷ []) ++ more in
+    let own : List (List Cell) = title_rows r.hyperlink title in
+    let behind : List (List Cell) = rows_behind_title r frame place follows title.allows_styling in
+    All-append (IsFreeRow trusted) own behind (All-weaker (IsFreeButText (heading_of_title title)) (IsFreeRow trusted) (own_row trusted (heading_of_title title) among) own (heading_rows-free r.hyperlink style.Title (heading_of_title title))) (free_rows trusted behind (behind_title-free r frame place follows title.allows_styling))
+  where
+    among : title.allows_styling ≡ true → (c : ℕ) → Contains (chars (cow_str_bytes title.text)) c → Contains (flat_map chars (flat_map trusted_of_title (title ∷ []) ++ more)) c
+    among styled c is =
+        let text : List ℕ = cow_str_bytes title.text in
+        let same : flat_map trusted_of_title (title ∷ []) ++ more ≡ text ∷ more = rw styled refl in
+        subst (λ (ts : List (List ℕ)). Contains (flat_map chars ts) c) (sym same) (Contains-append_left (chars text) (flat_map chars more) c is)
+
+-- so are those of the rows of an element whose trusted texts are among these
+pub element-free : (trusted : List (List ℕ)) (e : Element) (part : List NamedRow) → AreTextsAmong trusted (trusted_of_element e) → IsFreeElement e part → All (IsFreeRow trusted) (cells_of part)
+element-free trusted (Message message) part among free =
+    All-map (IsFreeRow trusted) (λ (row : NamedRow). row.cells) part (All-weaker (λ (row : NamedRow). IsFreeButText (heading_of_message message) row.cells) (λ (row : NamedRow). IsFreeRow trusted row.cells) (λ row own. own_row trusted (heading_of_message message) of_text row.cells own) part free)
+  where
+    of_text : true ≡ true → (c : ℕ) → Contains (chars (cow_str_bytes message.text)) c → Contains (flat_map chars trusted) c
+    of_text styled c is = among c (Contains-append_left (chars (cow_str_bytes message.text)) [] c is)
+element-free trusted (Cause snippet) part among free =
+    free_rows trusted (cells_of part) (All-map IsFree (λ (row : NamedRow). row.cells) part free)
+element-free trusted (Suggestion snippet) part among free =
+    free_rows trusted (cells_of part) (All-map IsFree (λ (row : NamedRow). row.cells) part free)
+element-free trusted (Origin origin) part among free =
+    free_rows trusted (cells_of part) (All-map IsFree (λ (row : NamedRow). row.cells) part free)
+element-free trusted (Padding padding) part among free =
+    free_rows trusted (cells_of part) (All-map IsFree (λ (row : NamedRow). row.cells) part free)
+
+-- the trusted texts of each of some elements are among those of all
+pub texts_among : (titles : List (List ℕ)) (es : List Element) → All (λ e. AreTextsAmong (titles ++ flat_map trusted_of_element es) (trusted_of_element e)) es
+texts_among titles es =
+    All-weaker (λ e. AreTextsAmong (flat_map trusted_of_element es) (trusted_of_element e)) (λ e. AreTextsAmong (titles ++ flat_map trusted_of_element es) (trusted_of_element e)) (λ e among c is. behind c (among c is)) es (each es)
+  where
+    behind : (c : ℕ) → Contains (flat_map chars (flat_map trusted_of_element es)) c → Contains (flat_map chars (titles ++ flat_map trusted_of_element es)) c
+    behind c is =
+        subst (λ cs. Contains cs c) (sym (flat_map-append chars titles (flat_map trusted_of_element es))) (Contains-append_right (flat_map chars titles) (flat_map chars (flat_map trusted_of_element es)) c is)
+
+    each : (xs : List Element) → All (λ e. AreTextsAmong (flat_map trusted_of_element xs) (trusted_of_element e)) xs
+    each [] = All-nil (λ e. AreTextsAmong [] (trusted_of_element e))
+    each (x ∷ xs) =
+        let own : List (List ℕ) = trusted_of_element x in
+        let others : List (List ℕ) = flat_map trusted_of_element xs in
+        let same : flat_map chars (own ++ others) ≡ flat_map chars own ++ flat_map chars others = flat_map-append chars own others in
+        let All_in : Element → Type 0 = λ e. AreTextsAmong (own ++ others) (trusted_of_element e) in
+        All-cons All_in x xs (λ c is. subst (λ cs. Contains cs c) (sym same) (Contains-append_left (flat_map chars own) (flat_map chars others) c is)) (All-weaker (λ e. AreTextsAmong others (trusted_of_element e)) All_in (λ e among c is. subst (λ cs. Contains cs c) (sym same) (Contains-append_right (flat_map chars own) (flat_map chars others) c (among c is))) xs (each xs))
