@@ -128,14 +128,15 @@ fn draw_cause_lines(
     requires narrow { frame.code < 2 ^ 63 + 2 ^ 32 }
     ensures added { OnOk result (AddsCauseLines renderer.now frame closes cause.entry.snippet.now buffer.old buffer.new) }
 {
+    let numbers = line_numbers(renderer, cause.snippet.line_numbering);
     let layout = Layout {
         gutter: frame.gutter,
         code: frame.code,
         decor: renderer.decor_style,
     };
+    let kept = cause.kept;
     let room = renderer.term_width.saturating_sub(frame.code);
-    let margin = margin_for(&cause.kept, room);
-    let numbers = line_numbers(renderer, cause.snippet.line_numbering);
-    let lines = with_lines_between(alloc, &cause.map, cause.kept)?;
+    let margin = margin_for(&kept, room);
+    let lines = with_lines_between(alloc, &cause.map, kept)?;
     draw_snippet(alloc, buffer, layout, margin, numbers, closes, &lines)
 }

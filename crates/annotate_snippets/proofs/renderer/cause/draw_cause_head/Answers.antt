@@ -1,0 +1,17 @@
+use Rattle.std.proofs.Common.{◌≡◌, ◌∙◌, ap, map, subst, sym, List}
+use Rattle.std.specs.Cow.{cow_str_bytes}
+use Rattle.snippet_parts.specs.Annotated.{annotated_lines, seen_kept}
+use Rattle.snippet_parts.specs.Entries.{AllEntries, HasCharacterRoom}
+use Rattle.snippet_parts.specs.Kept.{kept_lines}
+use Rattle.snippet_parts.specs.declared.entries.AnnotatedLineInfo.{AnnotatedLineInfo}
+use Rattle.snippet_parts.proofs.EntryFacts.{characters-fit}
+use Rattle.annotate_snippets.specs.Gutter.{numbered_source}
+use Rattle.annotate_snippets.proofs.renderer.cause.draw_cause_head.Goals as goal
+
+-- src/renderer/cause.rt:87:9
+pub named_place-place-requires : goal.named_place-place-requires
+named_place-place-requires c =
+    let p = c.requires.prepared in
+    let s = c.args.cause.now.snippet.now in
+    let kept : map seen_kept c.deref.result.now ≡ annotated_lines s.fold (numbered_source s) s.markers.items = ap (map seen_kept) c.deref.ensures.value ∙ p.kept_are in
+    record { room = characters-fit (numbered_source s) s.markers.items (kept_lines s.fold (cow_str_bytes s.source) s.markers.items) c.deref.result.now kept p.drawable.source }

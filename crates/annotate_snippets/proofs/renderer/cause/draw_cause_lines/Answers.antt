@@ -1,0 +1,122 @@
+use Rattle.std.proofs.Common.{◌≡◌, ◌∙◌, ◌+◌, ◌-◌, ◌≤◌, ◌==◌, ℕ, cond, All, Bool, List, ap, arith, inl, inr, length, map, refl, subst, sym}
+use Rattle.std.proofs.lemmas.Bool.{cases_Bool}
+use Rattle.std.proofs.lemmas.Result.{on_ok_weaker}
+use Rattle.std.specs.Cow.{cow_str_bytes}
+use Rattle.snippet_model.specs.declared.snippet.Annotation.{Annotation}
+use Rattle.snippet_lines.specs.Lines.{Source}
+use Rattle.snippet_lines.specs.Number.{shown_number}
+use Rattle.snippet_lines.specs.Span.{IsSpan}
+use Rattle.snippet_lines.specs.declared.number.LineNumbers.{LineNumbers}
+use Rattle.snippet_parts.specs.declared.entries.AnnotatedLineInfo.{AnnotatedLineInfo}
+use Rattle.snippet_parts.specs.Annotated.{annotated_lines, deepest, kept_line, seen_kept}
+use Rattle.snippet_parts.specs.Kept.{kept_lines, shown_lines}
+use Rattle.snippet_parts.specs.Margin.{bounds_of}
+use Rattle.snippet_parts.specs.Measures.{margin_of}
+use Rattle.snippet_strokes.specs.Snippet.{AreLinesShown}
+use Rattle.annotate_snippets.specs.Drawn.{layout_in}
+use Rattle.annotate_snippets.specs.Gutter.{code_behind, numbered_source}
+use Rattle.annotate_snippets.specs.Prepared.{IsCausePrepared}
+use Rattle.annotate_snippets.specs.declared.renderer.preprocess.PreparedCause.{PreparedCause}
+use Rattle.annotate_snippets.proofs.GutterLemmas.{numbers_fit}
+use Rattle.annotate_snippets.proofs.PartsFacts.{lines_labels, lines_places, lines_rails, lines_texts, bounds_of_kept, shown_clear}
+use Rattle.annotate_snippets.proofs.renderer.cause.draw_cause_lines.Goals as goal
+use Rattle.annotate_snippets.proofs.renderer.cause.draw_cause_lines.Goals.{After-deref, After-deref-2}
+
+-- the lines that are kept
+kept_is : (c : After-deref) → map seen_kept c.deref.result.now ≡ annotated_lines c.args.cause.snippet.now.fold (numbered_source c.args.cause.snippet.now) c.args.cause.snippet.now.markers.items
+kept_is c = ap (map seen_kept) c.deref.ensures.value ∙ c.requires.prepared.kept_are
+
+pub margin_for-margin-requires-clause-texts : goal.margin_for-margin-requires-clause-texts
+margin_for-margin-requires-clause-texts c =
+    let s = c.args.cause.snippet.now in
+    let drawable = c.requires.prepared.drawable in
+    lines_texts (numbered_source s) s.markers.items drawable.spans (kept_lines s.fold (cow_str_bytes s.source) s.markers.items) c.deref.result.now (kept_is c) drawable.source
+
+pub margin_for-margin-requires-clause-labels : goal.margin_for-margin-requires-clause-labels
+margin_for-margin-requires-clause-labels c =
+    let s = c.args.cause.snippet.now in
+    let drawable = c.requires.prepared.drawable in
+    lines_labels (numbered_source s) s.markers.items drawable.spans (kept_lines s.fold (cow_str_bytes s.source) s.markers.items) c.deref.result.now (kept_is c) drawable.labels
+
+-- those that are shown
+shown_of : (cause : PreparedCause) → IsCausePrepared cause → (source : Source) → source ≡ cause.map → (shown infos : List AnnotatedLineInfo) → infos ≡ shown → ((fold : Bool) (marks : List Annotation) → All (λ a. IsSpan source.text a.span.start a.span.end) marks → map seen_kept cause.kept.items ≡ annotated_lines fold source marks → map seen_kept shown ≡ map (kept_line source marks) (shown_lines fold source.text marks)) → map seen_kept infos ≡ map (kept_line (numbered_source cause.snippet.now) cause.snippet.now.markers.items) (shown_lines cause.snippet.now.fold (cow_str_bytes cause.snippet.now.source) cause.snippet.now.markers.items)
+shown_of cause prepared source is shown infos same between =
+    let s = cause.snippet.now in
+    let marks : List Annotation = s.markers.items in
+    let Spans : Source → Type 0 = λ x. All (λ a. IsSpan x.text a.span.start a.span.end) marks in
+    let source_is : source ≡ numbered_source s = is ∙ prepared.map_is in
+    ap (map seen_kept) same ∙ between s.fold marks (subst Spans (sym source_is) prepared.drawable.spans) (prepared.kept_are ∙ ap (λ (x : Source). annotated_lines s.fold x marks) (sym source_is)) ∙ ap (λ (x : Source). map (kept_line x marks) (shown_lines s.fold x.text marks)) source_is
+
+shown_is : (c : After-deref-2) → map seen_kept c.deref-2.result.now ≡ map (kept_line (numbered_source c.args.cause.snippet.now) c.args.cause.snippet.now.markers.items) (shown_lines c.args.cause.snippet.now.fold (cow_str_bytes c.args.cause.snippet.now.source) c.args.cause.snippet.now.markers.items)
+shown_is c =
+    shown_of c.args.cause c.requires.prepared c.args.cause.map refl c.in_ok-lines.lines.items c.deref-2.result.now c.deref-2.ensures.value c.in_ok-lines.ensures.value
+
+-- the code stands at least three cells behind the gutter
+code_at_least : (gutter depth : ℕ) → gutter + 3 ≤ code_behind gutter depth
+code_at_least gutter depth =
+    elim (cases_Bool (depth == 0)) [
+      | inl none ↦ omega (arith, ap (λ b. cond b (gutter + 3) (gutter + 3 + depth + 1)) none)
+      | inr some ↦ omega (arith, ap (λ b. cond b (gutter + 3) (gutter + 3 + depth + 1)) some)
+    ]
+
+pub draw_snippet-requires-clause-place : goal.draw_snippet-requires-clause-place
+draw_snippet-requires-clause-place c =
+    let s = c.args.cause.snippet.now in
+    omega (arith, code_at_least c.args.frame.gutter (deepest (numbered_source s) s.markers.items), c.requires.room.bars)
+
+pub draw_snippet-requires-clause-numbers : goal.draw_snippet-requires-clause-numbers
+draw_snippet-requires-clause-numbers c =
+    let s = c.args.cause.snippet.now in
+    subst (λ (numbers : LineNumbers). All (λ (info : AnnotatedLineInfo). length (shown_number numbers c.args.frame.gutter info.line_index) ≤ c.args.frame.gutter + 1) c.deref-2.result.now) (sym c.line_numbers-numbers.ensures.value) (numbers_fit c.args.renderer.now c.args.frame s c.deref-2.result.now c.requires.room c.requires.prepared.drawable (shown_is c))
+
+pub draw_snippet-requires-clause-texts : goal.draw_snippet-requires-clause-texts
+draw_snippet-requires-clause-texts c =
+    let s = c.args.cause.snippet.now in
+    let drawable = c.requires.prepared.drawable in
+    lines_texts (numbered_source s) s.markers.items drawable.spans (shown_lines s.fold (cow_str_bytes s.source) s.markers.items) c.deref-2.result.now (shown_is c) drawable.source
+
+pub draw_snippet-requires-clause-columns : goal.draw_snippet-requires-clause-columns
+draw_snippet-requires-clause-columns c =
+    let s = c.args.cause.snippet.now in
+    let drawable = c.requires.prepared.drawable in
+    lines_places (numbered_source s) s.markers.items drawable.spans (shown_lines s.fold (cow_str_bytes s.source) s.markers.items) c.deref-2.result.now (shown_is c) drawable.source
+
+pub draw_snippet-requires-clause-clear : goal.draw_snippet-requires-clause-clear
+draw_snippet-requires-clause-clear c =
+    let s = c.args.cause.snippet.now in
+    shown_clear (numbered_source s) s.markers.items c.requires.prepared.drawable.spans s.fold c.deref.result.now c.deref-2.result.now c.margin_for-margin.result (ap (map seen_kept) c.deref.ensures.value ∙ c.requires.prepared.kept_are) (shown_is c) c.margin_for-margin.ensures.clear
+
+pub draw_snippet-requires-clause-rails : goal.draw_snippet-requires-clause-rails
+draw_snippet-requires-clause-rails c =
+    let s = c.args.cause.snippet.now in
+    lines_rails (numbered_source s) s.markers.items c.requires.prepared.drawable.spans (shown_lines s.fold (cow_str_bytes s.source) s.markers.items) c.deref-2.result.now (shown_is c) (record { gutter = c.args.frame.gutter; code = c.args.frame.code; decor = c.args.renderer.now.decor_style }) c.requires.room.bars
+
+pub draw_snippet-requires-clause-labels : goal.draw_snippet-requires-clause-labels
+draw_snippet-requires-clause-labels c =
+    let s = c.args.cause.snippet.now in
+    let drawable = c.requires.prepared.drawable in
+    lines_labels (numbered_source s) s.markers.items drawable.spans (shown_lines s.fold (cow_str_bytes s.source) s.markers.items) c.deref-2.result.now (shown_is c) drawable.labels
+
+pub returns : goal.returns
+returns c =
+    let s = c.args.cause.snippet.now in
+    let prepared = c.requires.prepared in
+    let frame = c.args.frame in
+    let kept : map seen_kept c.deref.result.now ≡ annotated_lines s.fold (numbered_source s) s.markers.items = ap (map seen_kept) c.deref.ensures.value ∙ prepared.kept_are in
+    let room : c.saturating_sub-room.result ≡ c.args.renderer.now.term_width - frame.code = c.saturating_sub-room.ensures in
+    let bounds : bounds_of c.margin_for-margin.result ≡ margin_of (c.args.renderer.now.term_width - frame.code) s.fold (numbered_source s) s.markers.items = c.margin_for-margin.ensures.bounds ∙ bounds_of_kept c.saturating_sub-room.result s.fold (numbered_source s) s.markers.items c.deref.result.now prepared.drawable.spans kept ∙ ap (λ n. margin_of n s.fold (numbered_source s) s.markers.items) room in
+    record {
+      added = on_ok_weaker c.draw_snippet.result (λ adds. record {
+        rows = adds.rows;
+        added = adds.added;
+        are = record {
+          infos = c.deref-2.result.now;
+          lines = shown_of c.args.cause prepared c.args.cause.map refl c.in_ok-lines.lines.items c.deref-2.result.now c.deref-2.ensures.value c.in_ok-lines.ensures.value;
+          margin = c.margin_for-margin.result;
+          room = c.margin_for-margin.ensures.room ∙ room;
+          bounds = bounds;
+          ordered = c.margin_for-margin.ensures.ordered;
+          shown = subst (λ (numbers : LineNumbers). AreLinesShown (layout_in c.args.renderer.now frame) c.margin_for-margin.result numbers c.args.closes c.deref-2.result.now adds.rows) c.line_numbers-numbers.ensures.value adds.shown;
+        };
+      }) c.draw_snippet.ensures.added;
+    }
