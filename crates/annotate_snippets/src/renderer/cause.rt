@@ -14,7 +14,7 @@ ghost use Rattle.snippet_parts.specs.Entries.{AllEntries, HasCharacterRoom};
 ghost use Rattle.annotate_snippets.specs.Drawn.{AddsCause, AddsCauseLines, HasRoomFor};
 ghost use Rattle.annotate_snippets.specs.Prepared.{IsCausePrepared};
 ghost use Rattle.annotate_snippets.specs.Rows as spec;
-ghost use Rattle.annotate_snippets.specs.Rows.{cause_head};
+ghost use Rattle.annotate_snippets.specs.Rows.{cause_head, rows_behind_cause};
 
 use crate::renderer::Renderer;
 use crate::renderer::elements::origin_layout;
@@ -53,13 +53,7 @@ pub fn draw_cause(
 {
     draw_cause_head(alloc, buffer, renderer, frame, around, &cause)?;
     draw_cause_lines(alloc, buffer, renderer, frame, around.closes(), cause)?;
-    if around.place.is_first() && around.next.is_message() {
-        draw_separator(buffer, frame.gutter, renderer.decor_style)?;
-    }
-    if around.closes_behind() {
-        draw_closing(buffer, frame.gutter, renderer.decor_style)?;
-    }
-    Ok(())
+    draw_behind(buffer, renderer, frame, around)
 }
 
 /// Draws what an annotated snippet begins with below all that stands in the grid.
@@ -139,4 +133,24 @@ fn draw_cause_lines(
     let margin = margin_for(&kept, room);
     let lines = with_lines_between(alloc, &cause.map, kept)?;
     draw_snippet(alloc, buffer, layout, margin, numbers, closes, &lines)
+}
+
+/// Draws what stands below an annotated snippet's lines, below all that stands in the grid: what sets off a message, or
+/// closes the group.
+fn draw_behind(
+    buffer: &mut StyledBuffer,
+    renderer: &Renderer,
+    frame: Frame,
+    around: Surroundings,
+) -> Result<(), AllocError>
+    requires narrow { frame.gutter ≤ 20 }
+    ensures rows { OnOk result (buffer.new ≡ buffer.old ++ rows_behind_cause renderer.now frame around) }
+{
+    if around.place.is_first() && around.next.is_message() {
+        draw_separator(buffer, frame.gutter, renderer.decor_style)
+    } else if around.closes_behind() {
+        draw_closing(buffer, frame.gutter, renderer.decor_style)
+    } else {
+        Ok(())
+    }
 }
