@@ -1,8 +1,8 @@
 -- What a report without faults is.
-use Rattle.std.proofs.Common.{◌≡◌, ℕ, ◌+◌, ◌<◌, ◌&&◌, ◌==◌, nat_lt, Bool, true, false, List, [], ◌∷◌, ◌++◌, Option, Some, None, All, length, map, get_or, refl, sym, ap, ◌∙◌, arith, inl, inr, cond, subst, ◌^◌, IfSome}
+use Rattle.std.proofs.Common.{◌≡◌, ℕ, ◌+◌, ◌<◌, ◌&&◌, ◌==◌, nat_lt, Bool, true, false, List, [], ◌∷◌, ◌++◌, Option, Some, None, All, length, map, refl, sym, ap, ◌∙◌, arith, inl, inr, cond, ◌^◌}
 use Rattle.std.specs.Option.{option_map, option_to_list}
 use Rattle.std.proofs.lemmas.Bool.Decides.{nat_tests}
-use Rattle.std.proofs.lemmas.List.Elements.{All-nil, All-cons, All-head, All-same, All-tail}
+use Rattle.std.proofs.lemmas.List.Elements.{All-nil, All-cons, All-head, All-tail}
 use Rattle.std.specs.Str.{IsCharBoundary}
 use Rattle.snippet_model.specs.declared.snippet.Group.{Group}
 use Rattle.std.specs.declared.ops.Range.{Range}
@@ -19,20 +19,12 @@ use Rattle.snippet_splice.specs.Edits.{edit_of}
 use Rattle.snippet_splice.specs.Overlap.{first_overlap}
 use Rattle.annotate_snippets.specs.Fault.{added_lines, faults_from, number_behind, first_of, span_faults, overlap_faults, group_faults, element_faults, first_fault, refusal_of, number_faults}
 use Rattle.snippet_suggest.specs.Prepared.{IsSuggestible}
-use Rattle.annotate_snippets.specs.Covered.{IsReportOf, are_covered_elements}
-use Rattle.annotate_snippets.specs.Drawn.{AreDrawable, IsDrawable}
+use Rattle.annotate_snippets.specs.Prepared.{IsDrawable, IsElementDrawable, IsGroupDrawable}
 use Rattle.annotate_snippets.proofs.DisjointLemmas.{first_overlap-clear}
 use Rattle.snippet_suggest.proofs.NumberLaws.{numbers-bound}
-use Rattle.snippet_model.specs.Fits.{ReportFits, GroupFits, ElementFits, TitleFits}
-use Rattle.snippet_model.specs.declared.snippet.Title.{Title}
+use Rattle.snippet_model.specs.Fits.{ReportFits, GroupFits, ElementFits}
 use Rattle.annotate_snippets.specs.declared.renderer.error.RenderError.TheVariants.{PatchesOverlap, LineNumberTooLarge}
 use Rattle.annotate_snippets.specs.declared.renderer.error.RenderError.{RenderError}
-
--- a list of one thing
-pub one_thing : {X : Type 0} (xs : List X) (x : X) → length xs ≡ 1 → x ≡ get_or xs 0 x → xs ≡ x ∷ []
-one_thing [] x one is = cc
-one_thing (y ∷ []) x one is = ap (λ z. z ∷ []) (sym is)
-one_thing (y ∷ z ∷ zs) x one is = absurd (omega (arith, one))
 
 -- no first fault, no fault
 pub none_first : (faults : List RenderError) → first_of faults ≡ None → faults ≡ []
@@ -129,38 +121,28 @@ suggestion-drawable group element s none fits =
     let disjoint = first_overlap-clear (map edit_of s.markers.items) (no_overlap group element (first_overlap (map edit_of s.markers.items)) (back_none _ _ (front_none _ _ none))) in
     record { source = fits.0; lines = without_more last _ all; spans = spans; disjoint = disjoint; numbers = numbers-bound s spans disjoint all }
 
+-- and any element
+element-drawable : (group element : ℕ) (e : Element) → element_faults group element e ≡ [] → ElementFits e → IsElementDrawable e
+element-drawable group element (Message message) none fits = fits
+element-drawable group element (Cause s) none fits = cause-drawable group element s none fits
+element-drawable group element (Suggestion s) none fits = suggestion-drawable group element s none fits
+element-drawable group element (Origin origin) none fits = tt
+element-drawable group element (Padding padding) none fits = tt
+
 -- and elements without faults
-elements-drawable : (group n : ℕ) (es : List Element) → faults_from (element_faults group) n es ≡ [] → All ElementFits es → AreDrawable es
-elements-drawable group n [] none fit = tt
-elements-drawable group n (Cause s ∷ es) none fit =
-    (cause-drawable group n s (front_none _ _ none) (All-head ElementFits (Cause s) es fit), elements-drawable group (n + 1) es (back_none _ _ none) (All-tail ElementFits (Cause s) es fit))
-elements-drawable group n (Suggestion s ∷ es) none fit =
-    (suggestion-drawable group n s (front_none _ _ none) (All-head ElementFits (Suggestion s) es fit), elements-drawable group (n + 1) es (back_none _ _ none) (All-tail ElementFits (Suggestion s) es fit))
-elements-drawable group n (Message m ∷ es) none fit =
-    elements-drawable group (n + 1) es none (All-tail ElementFits (Message m) es fit)
-elements-drawable group n (Origin o ∷ es) none fit =
-    elements-drawable group (n + 1) es none (All-tail ElementFits (Origin o) es fit)
-elements-drawable group n (Padding p ∷ es) none fit =
-    elements-drawable group (n + 1) es none (All-tail ElementFits (Padding p) es fit)
+elements-drawable : (group n : ℕ) (es : List Element) → faults_from (element_faults group) n es ≡ [] → All ElementFits es → All IsElementDrawable es
+elements-drawable group n [] none fit = All-nil IsElementDrawable
+elements-drawable group n (e ∷ es) none fit =
+    All-cons IsElementDrawable e es (element-drawable group n e (front_none _ _ none) (All-head ElementFits e es fit)) (elements-drawable group (n + 1) es (back_none _ _ none) (All-tail ElementFits e es fit))
 
--- the elements of a report of one group have no faults where the report has none
-elements-faultless : (title : Title) (elements : List Element) (groups : List Group) → IsReportOf title elements groups → first_fault groups ≡ None → faults_from (element_faults 0) 0 elements ≡ []
+-- and groups without faults
+groups-faultless : (n : ℕ) (groups : List Group) → faults_from group_faults n groups ≡ [] → All GroupFits groups → All IsGroupDrawable groups
+groups-faultless n [] none fit = All-nil IsGroupDrawable
+groups-faultless n (g ∷ groups) none fit =
+    let fits : GroupFits g = All-head GroupFits g groups fit in
+    All-cons IsGroupDrawable g groups (fits, elements-drawable n 0 g.elements.items (front_none _ _ none) fits.1) (groups-faultless (n + 1) groups (back_none _ _ none) (All-tail GroupFits g groups fit))
+
+-- each group of a report without faults can be drawn
+pub groups-drawable : (groups : List Group) → ReportFits groups → first_fault groups ≡ None → All IsGroupDrawable groups
 unfolding first_fault
-elements-faultless title elements groups of none =
-    ap (faults_from (element_faults 0) 0) (sym of.elements_are) ∙ front_none (group_faults 0 of.group) [] (none_first _ (ap (λ (gs : List Group). first_of (faults_from group_faults 0 gs)) (sym of.groups_are) ∙ none))
-
--- its texts fit where those of the report do
-group-fits : (title : Title) (elements : List Element) (groups : List Group) (of : IsReportOf title elements groups) → ReportFits groups → GroupFits of.group
-group-fits title elements groups of fits =
-    All-head GroupFits of.group [] (All-same GroupFits (of.group ∷ []) groups (sym of.groups_are) fits)
-
--- the elements of a covered report without faults can be drawn
-pub drawable-of_report : (title : Title) (elements : List Element) (groups : List Group) → IsReportOf title elements groups → are_covered_elements elements ≡ true → ReportFits groups → first_fault groups ≡ None → AreDrawable elements
-drawable-of_report title elements groups of covered fits none =
-    elements-drawable 0 0 elements (elements-faultless title elements groups of none) (All-same ElementFits elements of.group.elements.items (sym of.elements_are) (group-fits title elements groups of fits).1)
-
--- and its title fits
-pub title-of_report : (title : Title) (elements : List Element) (groups : List Group) → IsReportOf title elements groups → ReportFits groups → TitleFits title
-title-of_report title elements groups of fits =
-    let one : IfSome of.group.title TitleFits = (group-fits title elements groups of fits).0 in
-    subst (λ t. IfSome t TitleFits) of.title_is one
+groups-drawable groups fits none = groups-faultless 0 groups (none_first _ none) fits

@@ -11,7 +11,10 @@ pub mod ListLemmas
 pub mod MarkLemmas
 pub mod PageLemmas
 pub mod PartsFacts
+pub mod PreparedLemmas
 pub mod SuggestionLemmas
 pub mod SuggestionShown
 pub mod TrustedLemmas
+pub mod WalkLemmas
+pub mod WidestLemmas
 pub mod WindowLemmas

@@ -36,7 +36,7 @@ pub fn primary_path<'r>(group: &'r Group<'_>) -> Option<&'r str>
         match element {
             Element::Cause(snippet) => return path_of(&snippet.path),
             Element::Origin(origin) => return Some(origin.path.as_str()),
-            Element::Message(_) | Element::Suggestion(_) | Element::Padding(_) => {}
+            _ => {}
         }
     }
     None

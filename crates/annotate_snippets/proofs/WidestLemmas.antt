@@ -1,0 +1,75 @@
+-- The greatest of what some elements want: as wide a gutter as any of them, as many bars as stand beside any of them.
+use Rattle.std.proofs.Common.{◌≡◌, ℕ, ◌+◌, ◌<◌, ◌≤◌, ◌^◌, ◌&&◌, ◌==◌, not, max, fold, map, take, Bool, true, false, cond, List, [], ◌∷◌, ◌++◌, length, get_or, refl, sym, ap, ◌∙◌, arith}
+use Rattle.std.specs.List.{filter, flat_map}
+use Rattle.std.specs.Fmt.{decimal}
+use Rattle.std.proofs.lemmas.Grind.{flat_map-append}
+use Rattle.std.proofs.lemmas.List.{append-nil, take_more}
+use Rattle.std.proofs.lemmas.List.Folds.{flat_map-map, fold-map}
+use Rattle.std.proofs.lemmas.List.Sums.{fold-append, fold_more}
+use Rattle.snippet_model.specs.declared.snippet.Element.{Element}
+use Rattle.snippet_model.specs.declared.snippet.Element.TheVariants.{Message, Cause, Suggestion, Origin, Padding}
+use Rattle.snippet_suggest.specs.Given.{counted_line}
+use Rattle.annotate_snippets.specs.Around.{drawn_elements, is_drawn}
+use Rattle.annotate_snippets.specs.Gutter.{depth_of_element, width_wanted}
+use Rattle.annotate_snippets.specs.Prepared.{IsGroupPrepared, element_of}
+use Rattle.annotate_snippets.specs.declared.renderer.preprocess.PreparedElement.{PreparedElement}
+use Rattle.annotate_snippets.specs.declared.renderer.preprocess.PreparedGroup.{PreparedGroup}
+
+-- the greater of a number and of what an element wants
+abbrev pub greater : (Element → ℕ) → ℕ → Element → ℕ
+greater wants most e = max (wants e) most
+
+-- one more of some elements, as they were prepared
+pub widest-more : (wants : Element → ℕ) (most : ℕ) (ps : List PreparedElement) (i : ℕ) (p : PreparedElement) → i < length ps → p ≡ get_or ps i p → fold (greater wants) most (map element_of (take (i + 1) ps)) ≡ max (wants (element_of p)) (fold (greater wants) most (map element_of (take i ps)))
+widest-more wants most ps i p within is =
+    let f : ℕ → Element → ℕ = greater wants in
+    fold-map f element_of most (take (i + 1) ps) ∙ fold_more (λ m q. f m (element_of q)) most ps i p within ∙ ap (λ q. f (fold (λ m t. f m (element_of t)) most (take i ps)) (element_of q)) (sym is) ∙ ap (λ m. f m (element_of p)) (sym (fold-map f element_of most (take i ps)))
+
+-- elements that aren't drawn want nothing
+unnumbered : (b : Bool) (n : ℕ) → cond (b && false) n 0 ≡ 0
+unnumbered true n = refl
+unnumbered false n = refl
+
+pub width-undrawn : (e : Element) → is_drawn e ≡ false → width_wanted e ≡ 0
+width-undrawn (Message m) out = refl
+width-undrawn (Cause s) out = cc
+width-undrawn (Suggestion s) out =
+    ap (λ t. cond (s.line_numbering && t) (length (decimal (counted_line s))) 0) out ∙ unnumbered s.line_numbering (length (decimal (counted_line s)))
+width-undrawn (Origin o) out = refl
+width-undrawn (Padding p) out = refl
+
+pub depth-undrawn : (e : Element) → is_drawn e ≡ false → depth_of_element e ≡ 0
+depth-undrawn (Message m) out = refl
+depth-undrawn (Cause s) out = cc
+depth-undrawn (Suggestion s) out = refl
+depth-undrawn (Origin o) out = refl
+depth-undrawn (Padding p) out = refl
+
+-- so the greatest is that of those that are drawn
+pub widest-drawn : (wants : Element → ℕ) → ((e : Element) → is_drawn e ≡ false → wants e ≡ 0) → (most : ℕ) (es : List Element) → fold (greater wants) most (filter is_drawn es) ≡ fold (greater wants) most es
+widest-drawn wants none most [] = refl
+widest-drawn wants none most (e ∷ es) = by (is_drawn e) refl (λ m. widest-drawn wants none m es)
+  where
+    by : (drawn : Bool) → is_drawn e ≡ drawn → ((m : ℕ) → fold (greater wants) m (filter is_drawn es) ≡ fold (greater wants) m es) → fold (greater wants) most (cond (is_drawn e) (e ∷ filter is_drawn es) (filter is_drawn es)) ≡ fold (greater wants) (greater wants most e) es
+    by true is rest =
+        ap (λ b. fold (greater wants) most (cond b (e ∷ filter is_drawn es) (filter is_drawn es))) is ∙ rest (greater wants most e)
+    by false is rest =
+        let same : most ≡ greater wants most e = omega (arith, none e is) in
+        ap (λ b. fold (greater wants) most (cond b (e ∷ filter is_drawn es) (filter is_drawn es))) is ∙ rest most ∙ ap (λ m. fold (greater wants) m es) same
+
+-- that of a group's elements that were prepared is that of the group
+pub widest-prepared : (wants : Element → ℕ) → ((e : Element) → is_drawn e ≡ false → wants e ≡ 0) → (most : ℕ) (p : PreparedGroup) (ps : List PreparedElement) → ps ≡ p.elements.items → IsGroupPrepared p → fold (greater wants) most (map element_of ps) ≡ fold (greater wants) most p.group.now.elements.items
+widest-prepared wants none most p ps is prepared =
+    ap (λ (qs : List PreparedElement). fold (greater wants) most (map element_of qs)) is ∙ ap (fold (greater wants) most) prepared.elements_are ∙ widest-drawn wants none most p.group.now.elements.items
+
+-- the elements of a group that was prepared
+abbrev pub elements_in : PreparedGroup → List Element
+elements_in p = p.group.now.elements.items
+
+-- one more of some groups
+pub widest-more_groups : (wants : Element → ℕ) (ps : List PreparedGroup) (i : ℕ) (p : PreparedGroup) → i < length ps → p ≡ get_or ps i p → fold (greater wants) 0 (flat_map elements_in (take (i + 1) ps)) ≡ fold (greater wants) (fold (greater wants) 0 (flat_map elements_in (take i ps))) p.group.now.elements.items
+widest-more_groups wants ps i p within is =
+    let f : ℕ → Element → ℕ = greater wants in
+    let before : List Element = flat_map elements_in (take i ps) in
+    let more : flat_map elements_in (take (i + 1) ps) ≡ before ++ elements_in p = ap (flat_map elements_in) (take_more ps i p within ∙ ap (λ (q : PreparedGroup). take i ps ++ q ∷ []) (sym is)) ∙ flat_map-append elements_in (take i ps) (p ∷ []) ∙ ap (λ es. before ++ es) (append-nil (elements_in p)) in
+    ap (fold f 0) more ∙ fold-append f 0 before (elements_in p)

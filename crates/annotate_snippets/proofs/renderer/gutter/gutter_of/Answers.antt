@@ -1,0 +1,39 @@
+use Rattle.std.proofs.Common.{◌≡◌, ◌∙◌, List, ap, arith, cond, fold, map, subst, sym}
+use Rattle.std.specs.List.{flat_map}
+use Rattle.std.proofs.lemmas.List.{take_all}
+use Rattle.std.proofs.lemmas.List.Elements.{All-same}
+use Rattle.std.proofs.lemmas.List.Folds.{flat_map-map}
+use Rattle.snippet_model.specs.declared.snippet.Group.{Group}
+use Rattle.annotate_snippets.specs.Gutter.{gutter_of_report, greatest_wanted, width_wanted}
+use Rattle.annotate_snippets.specs.Prepared.{IsElementPrepared, IsGroupPrepared}
+use Rattle.annotate_snippets.specs.declared.renderer.preprocess.PreparedGroup.{PreparedGroup}
+use Rattle.annotate_snippets.proofs.WidestLemmas.{elements_in, greater, widest-more_groups, widest-prepared, width-undrawn}
+use Rattle.annotate_snippets.proofs.renderer.gutter.gutter_of.Goals as goal
+use Rattle.annotate_snippets.proofs.renderer.gutter.gutter_of.Goals.{After-deref}
+
+prepared_at : (c : After-deref) → IsGroupPrepared c.group-item.result
+prepared_at c =
+    subst IsGroupPrepared (sym c.group-item.is) (c.requires.prepared c.loop-group.group-index c.group-item.result c.loop-group-test.true)
+
+pub widened-gutter-requires-clause-prepared : goal.widened-gutter-requires-clause-prepared
+widened-gutter-requires-clause-prepared c =
+    All-same IsElementPrepared c.deref.result.now c.group-item.result.elements.items c.deref.ensures.value (prepared_at c).prepared
+
+pub loop-group-preserved : goal.loop-group-preserved
+loop-group-preserved c =
+    let ps = c.args.groups.now in
+    let p = c.group-item.result in
+    let prepared : IsGroupPrepared p = subst IsGroupPrepared (sym c.group-item.is) (c.requires.prepared c.loop-group.group-index p c.loop-group-test.true) in
+    let more = widest-more_groups width_wanted ps c.loop-group.group-index p c.loop-group-test.true c.group-item.is in
+    let own = widest-prepared width_wanted width-undrawn c.loop-group.gutter p c.deref.result.now c.deref.ensures.value prepared in
+    record {
+      value = c.widened-gutter.ensures.value ∙ own ∙ ap (λ most. fold (greater width_wanted) most p.group.now.elements.items) c.loop-group.invariant.value ∙ sym more;
+      small = c.widened-gutter.ensures.small;
+    }
+
+pub returns-clause-value : goal.returns-clause-value
+returns-clause-value c =
+    let ps = c.args.groups.now in
+    let gs : List Group = map (λ (p : PreparedGroup). p.group.now) ps in
+    let all : c.loop-group.gutter ≡ fold (greater width_wanted) 0 (flat_map elements_in ps) = c.loop-group.invariant.value ∙ ap (λ (qs : List PreparedGroup). fold (greater width_wanted) 0 (flat_map elements_in qs)) (take_all c.loop-group.group-index ps c.loop-group-test.false) in
+    all ∙ sym (ap (λ b. cond b 2 (greatest_wanted (flat_map (λ (g : Group). g.elements.items) gs))) c.if-renderer.false ∙ ap (fold (greater width_wanted) 0) (flat_map-map (λ (g : Group). g.elements.items) (λ (p : PreparedGroup). p.group.now) ps))

@@ -1,0 +1,20 @@
+use Rattle.std.proofs.Common.{◌∙◌, Some, ap}
+use Rattle.annotate_snippets.specs.Around.{file_of_element}
+use Rattle.annotate_snippets.proofs.WalkLemmas.{filter_map-passed, no_file, primary_path-first, primary_path-none}
+use Rattle.annotate_snippets.proofs.renderer.paths.primary_path.Goals as goal
+
+pub returns-in-Cause : goal.returns-in-Cause
+returns-in-Cause c =
+    record { value = c.path_of.ensures.value ∙ primary_path-first c.args.group.now c.deref-element-items.result.now c.loop-element.element-index c.element-item.result _ c.deref-element-items.ensures.value c.loop-element.invariant c.loop-element-test.true c.element-item.is (ap file_of_element c.in-Cause.is) }
+
+pub returns-in-Origin : goal.returns-in-Origin
+returns-in-Origin c =
+    record { value = ap Some c.as_str.ensures.value ∙ primary_path-first c.args.group.now c.deref-element-items.result.now c.loop-element.element-index c.element-item.result _ c.deref-element-items.ensures.value c.loop-element.invariant c.loop-element-test.true c.element-item.is (ap file_of_element c.in-Origin.is) }
+
+pub loop-element-preserved : goal.loop-element-preserved
+loop-element-preserved c =
+    filter_map-passed file_of_element c.deref-element-items.result.now c.loop-element.element-index c.element-item.result c.loop-element.invariant c.loop-element-test.true c.element-item.is (no_file c.element-item.result c.in_default.not-Cause c.in_default.not-Origin)
+
+pub returns : goal.returns
+returns c =
+    record { value = primary_path-none c.args.group.now c.deref-element-items.result.now c.loop-element.element-index c.deref-element-items.ensures.value c.loop-element.invariant c.loop-element-test.false }

@@ -1,0 +1,27 @@
+use Rattle.std.proofs.Common.{◌≡◌, ◌∙◌, All, List, ap, arith, fold, map, subst, sym}
+use Rattle.std.proofs.lemmas.List.{take_all}
+use Rattle.std.proofs.lemmas.List.Elements.{All-same}
+use Rattle.annotate_snippets.specs.Gutter.{depth_of_element}
+use Rattle.annotate_snippets.specs.Prepared.{IsElementPrepared, element_of}
+use Rattle.annotate_snippets.specs.declared.renderer.preprocess.PreparedElement.{PreparedElement}
+use Rattle.annotate_snippets.proofs.WidestLemmas.{depth-undrawn, greater, widest-more, widest-prepared}
+use Rattle.annotate_snippets.proofs.renderer.preprocess.PreparedGroup.depth.Goals as goal
+
+pub depth-requires : goal.depth-requires
+depth-requires c =
+    let ps = c.deref-element-items.result.now in
+    let all : All IsElementPrepared ps = All-same IsElementPrepared ps c.args.self.now.elements.items c.deref-element-items.ensures.value c.requires.prepared.prepared in
+    record { prepared = subst IsElementPrepared (sym c.element-item.is) (all c.loop-element.element-index c.element-item.result c.loop-element-test.true) }
+
+pub loop-element-preserved : goal.loop-element-preserved
+loop-element-preserved c =
+    let more = widest-more depth_of_element 0 c.deref-element-items.result.now c.loop-element.element-index c.element-item.result c.loop-element-test.true c.element-item.is in
+    record {
+      value = omega (arith, more, c.max-depth.ensures, c.depth.ensures.value, c.loop-element.invariant.value);
+      small = omega (arith, c.max-depth.ensures, c.depth.ensures.small, c.loop-element.invariant.small);
+    }
+
+pub returns-clause-value : goal.returns-clause-value
+returns-clause-value c =
+    let ps = c.deref-element-items.result.now in
+    c.loop-element.invariant.value ∙ ap (λ (qs : List PreparedElement). fold (greater depth_of_element) 0 (map element_of qs)) (take_all c.loop-element.element-index ps c.loop-element-test.false) ∙ widest-prepared depth_of_element depth-undrawn 0 c.args.self.now ps c.deref-element-items.ensures.value c.requires.prepared

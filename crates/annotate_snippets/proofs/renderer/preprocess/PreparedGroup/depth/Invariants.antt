@@ -1,0 +1,12 @@
+-- The depth so far is the greatest of those of the elements so far.
+use Rattle.std.proofs.Common.{◌≡◌, ◌<◌, ◌^◌, fold, map, take}
+use Rattle.annotate_snippets.specs.Gutter.{depth_of_element}
+use Rattle.annotate_snippets.specs.Prepared.{element_of}
+use Rattle.annotate_snippets.proofs.WidestLemmas.{greater}
+use Rattle.annotate_snippets.proofs.renderer.preprocess.PreparedGroup.depth.Given as goal
+
+abbrev pub invariant-loop-element : goal.invariant-loop-element
+invariant-loop-element l = record {
+  value : l.depth ≡ fold (greater depth_of_element) 0 (map element_of (take l.element-index l.element-items));
+  small : l.depth < 2 ^ 63;
+}

@@ -1,0 +1,33 @@
+use Rattle.std.proofs.Common.{◌≡◌, ◌∙◌, [], List, ap, map, refl, subst, sym}
+use Rattle.std.specs.List.{filter}
+use Rattle.std.proofs.lemmas.List.{take_all}
+use Rattle.std.proofs.lemmas.List.Elements.{All-nil, All-same}
+use Rattle.annotate_snippets.specs.Around.{is_drawn}
+use Rattle.annotate_snippets.specs.Prepared.{IsElementDrawable, IsGroupDrawable, IsGroupPrepared}
+use Rattle.annotate_snippets.proofs.PreparedLemmas.{ArePrepared-push, group_of}
+use Rattle.annotate_snippets.proofs.renderer.preprocess.prepare_groups.Goals as goal
+
+pub loop-group-init : goal.loop-group-init
+loop-group-init c =
+    let none = c.new-prepared.ensures.items in
+    record { groups = ap (map group_of) none; prepared = All-same IsGroupPrepared c.new-prepared.result.items [] none (All-nil IsGroupPrepared) }
+
+pub prepare_elements-requires : goal.prepare_elements-requires
+prepare_elements-requires c =
+    let g = c.group-item.result in
+    let drawable : IsGroupDrawable g = subst IsGroupDrawable (sym c.group-item.is) (c.requires.drawable c.loop-group.group-index g c.loop-group-test.true) in
+    record { drawable = All-same IsElementDrawable c.deref.result.now g.elements.items c.deref.ensures.value drawable.1 }
+
+pub loop-group-preserved : goal.loop-group-preserved
+loop-group-preserved c =
+    let g = c.group-item.result in
+    let drawable : IsGroupDrawable g = subst IsGroupDrawable (sym c.group-item.is) (c.requires.drawable c.loop-group.group-index g c.loop-group-test.true) in
+    let elements = c.in_ok-elements.ensures.elements ∙ ap (filter is_drawn) c.deref.ensures.value in
+    ArePrepared-push c.args.groups.now c.loop-group.group-index g c.loop-group.prepared.items c.push.new.self.items _ c.in_ok-push.ensures.items c.loop-group-test.true c.group-item.is refl c.loop-group.invariant (record { fits = drawable.0; elements_are = elements; prepared = c.in_ok-elements.ensures.prepared })
+
+pub returns-clause-groups : goal.returns-clause-groups
+returns-clause-groups c =
+    c.loop-group.invariant.groups ∙ take_all c.loop-group.group-index c.args.groups.now c.loop-group-test.false
+
+pub returns-clause-prepared : goal.returns-clause-prepared
+returns-clause-prepared c = c.loop-group.invariant.prepared
