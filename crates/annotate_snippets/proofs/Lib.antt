@@ -12,9 +12,12 @@ pub mod MarkLemmas
 pub mod PageLemmas
 pub mod PartsFacts
 pub mod PreparedLemmas
+pub mod PrintLemmas
+pub mod ReportLemmas
 pub mod SuggestionLemmas
 pub mod SuggestionShown
 pub mod TrustedLemmas
 pub mod WalkLemmas
 pub mod WidestLemmas
 pub mod WindowLemmas
+pub mod WovenLemmas

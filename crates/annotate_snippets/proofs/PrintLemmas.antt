@@ -1,0 +1,77 @@
+-- A text that prints grids, one behind the other.
+use Rattle.std.proofs.Common.{◌≡◌, ℕ, zero, suc, ◌+◌, ◌<◌, ◌≤◌, List, [], ◌∷◌, ◌++◌, length, take, get_or, refl, sym, ap, subst, ◌∙◌, arith}
+use Rattle.std.specs.List.{AllZip, join_with_byte}
+use Rattle.std.proofs.Math.Seq.{take-suc}
+use Rattle.std.proofs.lemmas.List.{append-nil, append_assoc}
+use Rattle.snippet_style.specs.Woven.{Prints}
+use Rattle.snippet_style.specs.declared.stylesheet.Stylesheet.{Stylesheet}
+use Rattle.annotate_snippets.specs.Page.{PrintsGrids}
+use Rattle.annotate_snippets.specs.declared.renderer.graphic.GroupGrid.{GroupGrid}
+
+-- what holds of the items of two lists, place by place, and what follows from it
+pub AllZip-weaker : {A B : Type 0} (P Q : A → B → Type 0) → ((x : A) (y : B) → P x y → Q x y) → (xs : List A) (ys : List B) → AllZip P xs ys → AllZip Q xs ys
+AllZip-weaker P Q weaker [] [] holds = tt
+AllZip-weaker P Q weaker [] (y ∷ ys) holds = absurd holds
+AllZip-weaker P Q weaker (x ∷ xs) [] holds = absurd holds
+AllZip-weaker P Q weaker (x ∷ xs) (y ∷ ys) holds =
+    (weaker x y holds.0, AllZip-weaker P Q weaker xs ys holds.1)
+
+-- one more of both: the next item of the first list, and an item behind the second
+pub AllZip-last : {A B : Type 0} (P : A → B → Type 0) (xs : List A) (ys : List B) (x : A) (y : B) → AllZip P xs ys → P x y → AllZip P (xs ++ x ∷ []) (ys ++ y ∷ [])
+AllZip-last P [] [] x y before last = (last, tt)
+AllZip-last P [] (z ∷ ys) x y before last = absurd before
+AllZip-last P (z ∷ xs) [] x y before last = absurd before
+AllZip-last P (v ∷ xs) (z ∷ ys) x y before last = (before.0, AllZip-last P xs ys x y before.1 last)
+
+-- the items before one, and that one
+take-next : {A : Type 0} (xs : List A) (i : ℕ) (d : A) → i < length xs → take (i + 1) xs ≡ take i xs ++ get_or xs i d ∷ []
+take-next xs i d within =
+    ap (λ n. take n xs) (let e : i + 1 ≡ suc i = omega arith in e) ∙ take-suc xs i d within
+
+pub AllZip-push : {A B : Type 0} (P : A → B → Type 0) (xs : List A) (i : ℕ) (d : A) → i < length xs → (ys new : List B) (y : B) → new ≡ ys ++ y ∷ [] → AllZip P (take i xs) ys → P (get_or xs i d) y → AllZip P (take (i + 1) xs) new
+AllZip-push P xs i d within ys new y pushed before last =
+    subst (λ zs. AllZip P zs new) (sym (take-next xs i d within)) (subst (λ zs. AllZip P (take i xs ++ get_or xs i d ∷ []) zs) (sym pushed) (AllZip-last P (take i xs) ys (get_or xs i d) y before last))
+
+-- one more part behind some that are joined
+join-last : (x : List ℕ) (xs : List (List ℕ)) (part : List ℕ) → join_with_byte 10 ((x ∷ xs) ++ part ∷ []) ≡ join_with_byte 10 (x ∷ xs) ++ 10 ∷ part
+join-last x [] part = refl
+join-last x (y ∷ xs) part =
+    ap (λ text. x ++ 10 ∷ text) (join-last y xs part) ∙ sym (append_assoc x (10 ∷ join_with_byte 10 (y ∷ xs)) (10 ∷ part))
+
+-- a grid
+abbrev pub IsPart : Stylesheet → GroupGrid → List ℕ → Type 0
+IsPart sheet grid part = Prints sheet grid.level grid.buffer part
+
+-- no grids print no text
+pub PrintsGrids-none : (sheet : Stylesheet) → PrintsGrids sheet [] []
+PrintsGrids-none sheet = record { parts = []; printed = tt; joined = refl }
+
+-- the first grid
+pub PrintsGrids-first : (sheet : Stylesheet) (grids : List GroupGrid) (i : ℕ) (d : GroupGrid) (old new part : List ℕ) → i ≡ 0 → i < length grids → PrintsGrids sheet (take i grids) old → IsPart sheet (get_or grids i d) part → new ≡ old ++ part → PrintsGrids sheet (take (i + 1) grids) new
+PrintsGrids-first sheet [] i d old new part none within before prints added = absurd (omega (arith, within))
+PrintsGrids-first sheet (grid ∷ grids) (suc i) d old new part none within before prints added = absurd (omega (arith, none))
+PrintsGrids-first sheet (grid ∷ grids) zero d old new part none within before prints added =
+    record {
+      parts = part ∷ [];
+      printed = (prints, tt);
+      joined = added ∙ ap (λ text. text ++ part) (no_text before.parts before.printed before.joined);
+    }
+  where
+    no_text : (parts : List (List ℕ)) → AllZip (IsPart sheet) [] parts → old ≡ join_with_byte 10 parts → old ≡ []
+    no_text [] printed joined = joined
+    no_text (x ∷ parts) printed joined = absurd printed
+
+-- a further one, behind a line feed
+pub PrintsGrids-next : (sheet : Stylesheet) (grids : List GroupGrid) (i : ℕ) (d : GroupGrid) (old new part : List ℕ) → 0 < i → i < length grids → PrintsGrids sheet (take i grids) old → IsPart sheet (get_or grids i d) part → new ≡ old ++ 10 ∷ part → PrintsGrids sheet (take (i + 1) grids) new
+PrintsGrids-next sheet [] i d old new part later within before prints added = absurd (omega (arith, within))
+PrintsGrids-next sheet (grid ∷ grids) (suc i) d old new part later within before prints added =
+    record {
+      parts = before.parts ++ part ∷ [];
+      printed = AllZip-push (IsPart sheet) (grid ∷ grids) (suc i) d within before.parts (before.parts ++ part ∷ []) part refl before.printed prints;
+      joined = added ∙ ap (λ text. text ++ 10 ∷ part) before.joined ∙ behind before.parts before.printed;
+    }
+  where
+    behind : (parts : List (List ℕ)) → AllZip (IsPart sheet) (grid ∷ take i grids) parts → join_with_byte 10 parts ++ 10 ∷ part ≡ join_with_byte 10 (parts ++ part ∷ [])
+    behind [] printed = absurd printed
+    behind (x ∷ parts) printed = sym (join-last x parts part)
+PrintsGrids-next sheet (grid ∷ grids) zero d old new part later within before prints added = absurd (omega (arith, later))

@@ -1,0 +1,256 @@
+-- The texts that print the grids of a report show it.
+use Rattle.std.proofs.Common.{◌≡◌, ℕ, zero, suc, ◌+◌, arith, drop, Bool, true, false, List, [], ◌∷◌, ◌++◌, All, Option, Some, None, Result, Ok, Err, IfSome, length, map, chars, refl, sym, ap, subst, ◌∙◌, encode_utf8_all}
+use Rattle.std.specs.List.{AllZip, Contains, flat_map, join_with_byte, slice_get}
+use Rattle.std.specs.Option.{option_to_list}
+use Rattle.std.specs.Cow.{cow_str_bytes}
+use Rattle.std.specs.Result.{IfOk, MatchResult, IsErrAnd}
+use Rattle.std.proofs.lemmas.List.Elements.{All-nil, All-cons, All-append, All-get_or, All-weaker, Contains-append_left, Contains-append_right}
+use Rattle.std.proofs.lemmas.List.{append-nil, append_assoc}
+use Rattle.std.proofs.lemmas.Grind.{flat_map-append}
+use Rattle.std.proofs.lemmas.Option.{get_or_from_slice_get, slice_get_within}
+use Rattle.snippet_style.specs.Grid.{Cell}
+use Rattle.snippet_style.specs.Print.{plain_text}
+use Rattle.snippet_style.specs.Stylesheet.{is_plain_sheet}
+use Rattle.snippet_style.specs.Woven.{IsWoven, Prints, links_of}
+use Rattle.snippet_style.specs.declared.role.LevelInner.{LevelInner}
+use Rattle.snippet_style.specs.declared.stylesheet.Stylesheet.{Stylesheet}
+use Rattle.snippet_style.proofs.WeaveLemmas.{some_same}
+use Rattle.snippet_style.proofs.WovenLemmas.{plain_woven}
+use Rattle.snippet_text.specs.Normalized.{is_listed, norm}
+use Rattle.snippet_model.specs.Trusted.{trusted_of_element, trusted_of_title, trusted_texts}
+use Rattle.snippet_model.specs.declared.snippet.Group.{Group}
+use Rattle.snippet_model.specs.declared.snippet.Id.{Id}
+use Rattle.snippet_model.specs.declared.snippet.Title.{Title}
+use Rattle.snippet_titles.specs.Title.{id_links, text_links}
+use Rattle.annotate_snippets.specs.declared.renderer.Renderer.{Renderer}
+use Rattle.annotate_snippets.specs.declared.renderer.graphic.GroupGrid.{GroupGrid}
+use Rattle.annotate_snippets.specs.Around.{drawn_elements, file_of_group, place_at}
+use Rattle.annotate_snippets.specs.Drawn.{AreGridsOf, HasRoomFor}
+use Rattle.annotate_snippets.specs.Gutter.{frame_of}
+use Rattle.annotate_snippets.specs.Page.{ArePrinted, GroupPage, Page, PrintsGrids, PrintsPage, group_rows, page_links, page_text}
+use Rattle.annotate_snippets.specs.Prepared.{IsGroupDrawable}
+use Rattle.annotate_snippets.specs.Shown.{AreGroupsShown, IsFreeBut, IsFreeUnder, SheetsShown, ShowsGroup, ShowsReport, levels_of, report_links}
+use Rattle.annotate_snippets.proofs.GroupLemmas.{group_shown}
+use Rattle.annotate_snippets.proofs.GroupShown.{GroupShown}
+use Rattle.annotate_snippets.proofs.PrintLemmas.{AllZip-weaker}
+use Rattle.annotate_snippets.proofs.RoomLemmas.{room_in_report}
+use Rattle.annotate_snippets.proofs.WovenLemmas.{IsWoven-from_grids, grid_links, grid_plain}
+
+-- the trusted texts of a group
+abbrev trusted_of : Group → List (List ℕ)
+trusted_of g = flat_map trusted_of_title (option_to_list g.title) ++ flat_map trusted_of_element g.elements.items
+
+-- what a title links to
+abbrev title_links : Bool → Group → List (List ℕ)
+title_links hyperlink g = flat_map (λ (t : Title). id_links hyperlink t.id) (option_to_list g.title)
+
+-- a text that is free but for some trusted texts is so with more of them
+free_more : (few many : List (List ℕ)) (text : List ℕ) → ((c : ℕ) → Contains (flat_map chars few) c → Contains (flat_map chars many) c) → IsFreeBut few text → IsFreeBut many text
+free_more few many text more free =
+    All-weaker (λ c. is_listed c ≡ true → Contains (flat_map chars few) c) (λ c. is_listed c ≡ true → Contains (flat_map chars many) c) (λ c trusted listed. more c (trusted listed)) text free
+
+free_first : (g : Group) (gs : List Group) (text : List ℕ) → IsFreeBut (trusted_texts (g ∷ [])) text → IsFreeBut (trusted_texts (g ∷ gs)) text
+free_first g gs text free =
+    free_more (trusted_texts (g ∷ [])) (trusted_texts (g ∷ gs)) text (λ c among. subst (λ cs. Contains cs c) (sym (flat_map-append chars (trusted_of g) (trusted_texts gs))) (Contains-append_left (flat_map chars (trusted_of g)) (flat_map chars (trusted_texts gs)) c (subst (λ ts. Contains (flat_map chars ts) c) (append-nil (trusted_of g)) among))) free
+
+free_rest : (g : Group) (gs : List Group) (text : List ℕ) → IsFreeBut (trusted_texts gs) text → IsFreeBut (trusted_texts (g ∷ gs)) text
+free_rest g gs text free =
+    free_more (trusted_texts gs) (trusted_texts (g ∷ gs)) text (λ c among. subst (λ cs. Contains cs c) (sym (flat_map-append chars (trusted_of g) (trusted_texts gs))) (Contains-append_right (flat_map chars (trusted_of g)) (flat_map chars (trusted_texts gs)) c among)) free
+
+-- two free texts with a line feed between them, which isn't listed
+free_joined : (trusted : List (List ℕ)) (a b : List ℕ) → IsFreeBut trusted a → IsFreeBut trusted b → IsFreeBut trusted (a ++ 10 ∷ b)
+free_joined trusted a b first second =
+    All-append (λ c. is_listed c ≡ true → Contains (flat_map chars trusted) c) a (10 ∷ b) first (All-cons (λ c. is_listed c ≡ true → Contains (flat_map chars trusted) c) 10 b (λ listed. cc) second)
+
+-- without links nothing links
+no_links : (id : Option Id) → id_links false id ≡ []
+no_links None = refl
+no_links (Some id) = of_text (flat_map (λ t. norm (chars (cow_str_bytes t))) (option_to_list id.id))
+  where
+    of_text : (shown : List ℕ) → text_links None shown ≡ []
+    of_text [] = refl
+    of_text (c ∷ cs) = refl
+
+no_title_links : (gs : List Group) → flat_map (title_links false) gs ≡ []
+no_title_links [] = refl
+no_title_links (g ∷ gs) = ap (λ urls. urls ++ flat_map (title_links false) gs) (of_title g.title) ∙ no_title_links gs
+  where
+    of_title : (title : Option Title) → flat_map (λ (t : Title). id_links false t.id) (option_to_list title) ≡ []
+    of_title None = refl
+    of_title (Some title) = ap (λ urls. urls ++ []) (no_links title.id)
+
+-- a report links to what its titles link to
+links_of_titles : (r : Renderer) (groups : List Group) → flat_map (title_links r.hyperlink) groups ≡ report_links r groups
+links_of_titles r groups = by r.hyperlink refl
+  where
+    by : (hyperlink : Bool) → r.hyperlink ≡ hyperlink → flat_map (title_links r.hyperlink) groups ≡ report_links r groups
+    by true is = rw is refl
+    by false is = rw is (no_title_links groups)
+
+-- places that are counted on
+none_more : (n : ℕ) → n + 0 ≡ n
+none_more n = omega arith
+
+none_before : (i : ℕ) → 0 + i ≡ i
+none_before i = omega arith
+
+one_more : (n i : ℕ) → suc n + i ≡ n + suc i
+one_more n i = omega arith
+
+module _ (r : Renderer) (groups : List Group) where
+  -- a group of the report, which stands at this place in it
+  abbrev IsShownAt : ℕ → Group → GroupPage → Type 0
+  IsShownAt i g page = ShowsGroup r (frame_of r groups g) (place_at (length groups) i) (file_of_group groups g) g page
+
+  abbrev IsGridShown : ℕ → Group → GroupGrid → Type 0
+  IsGridShown i g grid =
+      GroupShown r (frame_of r groups g) (place_at (length groups) i) (file_of_group groups g) g grid.buffer
+
+  -- the page of some groups, whose grids these are, and of which the first is the report's n-th
+  record PageOf (n : ℕ) (gs : List Group) (grids : List GroupGrid) : Type 0 where
+    pub page : Page
+    pub count : length page ≡ length gs
+    pub each : (i : ℕ) (g : Group) (part : GroupPage) → slice_get gs i ≡ Some g → slice_get page i ≡ Some part → IsShownAt (n + i) g part
+    pub text : map grid_plain grids ≡ map (λ g. plain_text (group_rows g)) page
+    pub linked : flat_map grid_links grids ≡ page_links page
+    pub links : flat_map grid_links grids ≡ flat_map (title_links r.hyperlink) gs
+    pub free : IsFreeBut (trusted_texts gs) (join_with_byte 10 (map grid_plain grids))
+    pub printed : (sheet : Stylesheet) (parts : List (List ℕ)) → AllZip (λ (grid : GroupGrid) part. Prints sheet grid.level grid.buffer part) grids parts → ArePrinted sheet (levels_of gs) page parts
+
+  -- one more group above
+  free_above : (g : Group) (gs : List Group) (grid : GroupGrid) (grids : List GroupGrid) → IsFreeBut (trusted_texts (g ∷ [])) (grid_plain grid) → IsFreeBut (trusted_texts gs) (join_with_byte 10 (map grid_plain grids)) → IsFreeBut (trusted_texts (g ∷ gs)) (join_with_byte 10 (map grid_plain (grid ∷ grids)))
+  free_above g gs grid [] first rest = free_first g gs (grid_plain grid) first
+  free_above g gs grid (other ∷ grids) first rest =
+      free_joined (trusted_texts (g ∷ gs)) (grid_plain grid) (join_with_byte 10 (map grid_plain (other ∷ grids))) (free_first g gs (grid_plain grid) first) (free_rest g gs (join_with_byte 10 (map grid_plain (other ∷ grids))) rest)
+
+  PageOf-cons : (n : ℕ) (g : Group) (gs : List Group) (grid : GroupGrid) (grids : List GroupGrid) → grid.level ≡ g.level → IsGridShown n g grid → PageOf (suc n) gs grids → PageOf n (g ∷ gs) (grid ∷ grids)
+  PageOf-cons n g gs grid grids leveled shown rest =
+      record {
+        page = shown.page ∷ rest.page;
+        count = ap suc rest.count;
+        each = each;
+        text = ap (λ rows. plain_text rows ∷ map grid_plain grids) shown.rows_are ∙ ap (λ texts. plain_text (group_rows shown.page) ∷ texts) rest.text;
+        linked = ap (λ rows. links_of rows ++ flat_map grid_links grids) shown.rows_are ∙ ap (λ urls. links_of (group_rows shown.page) ++ urls) rest.linked;
+        links = ap (λ urls. urls ++ flat_map grid_links grids) shown.links ∙ ap (λ urls. title_links r.hyperlink g ++ urls) rest.links;
+        free = free_above g gs grid grids shown.free rest.free;
+        printed = printed;
+      }
+    where
+      each : (i : ℕ) (h : Group) (part : GroupPage) → slice_get (g ∷ gs) i ≡ Some h → slice_get (shown.page ∷ rest.page) i ≡ Some part → IsShownAt (n + i) h part
+      each zero h part at there =
+          let here : IsShownAt n h part = subst (λ (x : GroupPage). IsShownAt n h x) (some_same there) (subst (λ (x : Group). IsShownAt n x shown.page) (some_same at) shown.shows) in
+          subst (λ k. IsShownAt k h part) (sym (none_more n)) here
+      each (suc i) h part at there =
+          subst (λ k. IsShownAt k h part) (one_more n i) (rest.each i h part at there)
+
+      printed : (sheet : Stylesheet) (parts : List (List ℕ)) → AllZip (λ (grid : GroupGrid) part. Prints sheet grid.level grid.buffer part) (grid ∷ grids) parts → ArePrinted sheet (levels_of (g ∷ gs)) (shown.page ∷ rest.page) parts
+      printed sheet [] prints = absurd prints
+      printed sheet (part ∷ parts) prints =
+          (subst (λ level. Prints sheet level (group_rows shown.page) part) leveled (subst (λ rows. Prints sheet grid.level rows part) shown.rows_are prints.0), rest.printed sheet parts prints.1)
+
+  PageOf-grids : (n : ℕ) (gs : List Group) (grids : List GroupGrid) → map (λ (grid : GroupGrid). grid.level) grids ≡ levels_of gs → ((i : ℕ) (g : Group) (grid : GroupGrid) → slice_get gs i ≡ Some g → slice_get grids i ≡ Some grid → IsGridShown (n + i) g grid) → PageOf n gs grids
+  PageOf-grids n [] [] levels shown =
+      record {
+        page = [];
+        count = refl;
+        each = λ i g part at there. cc;
+        text = refl;
+        linked = refl;
+        links = refl;
+        free = All-nil (λ c. is_listed c ≡ true → Contains (flat_map chars (trusted_texts [])) c);
+        printed = nothing;
+      }
+    where
+      nothing : (sheet : Stylesheet) (parts : List (List ℕ)) → AllZip (λ (grid : GroupGrid) part. Prints sheet grid.level grid.buffer part) [] parts → ArePrinted sheet [] [] parts
+      nothing sheet [] prints = tt
+      nothing sheet (part ∷ parts) prints = absurd prints
+  PageOf-grids n [] (grid ∷ grids) levels shown = cc
+  PageOf-grids n (g ∷ gs) [] levels shown = cc
+  PageOf-grids n (g ∷ gs) (grid ∷ grids) levels shown =
+      let leveled : grid.level ≡ g.level = ap (first_level g.level) levels in
+      let rest : map (λ (d : GroupGrid). d.level) grids ≡ levels_of gs = ap (drop 1) levels in
+      PageOf-cons n g gs grid grids leveled (subst (λ k. IsGridShown k g grid) (none_more n) (shown 0 g grid refl refl)) (PageOf-grids (suc n) gs grids rest (λ i h other at there. subst (λ k. IsGridShown k h other) (sym (one_more n i)) (shown (suc i) h other at there)))
+    where
+      first_level : LevelInner → List LevelInner → LevelInner
+      first_level default [] = default
+      first_level default (level ∷ levels) = level
+
+module _ (r : Renderer) (groups : List Group) (grids : List GroupGrid) (drawable : All IsGroupDrawable groups) (are : AreGridsOf r groups grids) where
+  -- the page of the report
+  report_page : PageOf r groups 0 groups grids
+  report_page =
+      PageOf-grids r groups 0 groups grids are.levels (λ i g grid at there. subst (λ k. IsGridShown r groups k g grid) (sym (none_before i)) (group_shown r (frame_of r groups g) (place_at (length groups) i) (file_of_group groups g) g grid.buffer (All-in i g at) (room_in_report r groups drawable i g at) (are.each i g grid at there)))
+    where
+      All-in : (i : ℕ) (g : Group) → slice_get groups i ≡ Some g → IsGroupDrawable g
+      All-in i g at =
+          subst IsGroupDrawable (get_or_from_slice_get groups i g g at) (All-get_or IsGroupDrawable groups i g (slice_get_within groups i g at) drawable)
+
+  -- it shows each group
+  page_shows : AreGroupsShown r groups report_page.page
+  page_shows =
+      record { count = report_page.count; each = λ i g part at there. subst (λ k. IsShownAt r groups k g part) (none_before i) (report_page.each i g part at there) }
+
+  -- its characters are those of the grids
+  text_of_page : page_text report_page.page ≡ join_with_byte 10 (map grid_plain grids)
+  text_of_page = ap (join_with_byte 10) (sym report_page.text)
+
+  -- it links to what the report links to
+  links_of_page : page_links report_page.page ≡ report_links r groups
+  links_of_page = sym report_page.linked ∙ report_page.links ∙ links_of_titles r groups
+
+  -- a text that prints the grids prints it
+  page_printed : (sheet : Stylesheet) (text : List ℕ) → PrintsGrids sheet grids text → PrintsPage sheet (levels_of groups) report_page.page text
+  page_printed sheet text prints =
+      record { parts = prints.parts; printed = report_page.printed sheet prints.parts prints.printed; joined = prints.joined }
+
+  -- it is woven of the page's characters
+  page_woven : (sheet : Stylesheet) (text : List ℕ) → PrintsGrids sheet grids text → IsWoven sheet text (page_text report_page.page) (report_links r groups)
+  page_woven sheet text prints =
+      let woven : IsWoven sheet (join_with_byte 10 prints.parts) (join_with_byte 10 (map grid_plain grids)) (flat_map grid_links grids) = IsWoven-from_grids sheet grids prints.parts prints.printed in
+      let paged : IsWoven sheet (join_with_byte 10 prints.parts) (page_text report_page.page) (flat_map grid_links grids) = subst (λ plain. IsWoven sheet (join_with_byte 10 prints.parts) plain (flat_map grid_links grids)) (sym text_of_page) woven in
+      let linked : IsWoven sheet (join_with_byte 10 prints.parts) (page_text report_page.page) (report_links r groups) = subst (IsWoven sheet (join_with_byte 10 prints.parts) (page_text report_page.page)) (report_page.links ∙ links_of_titles r groups) paged in
+      subst (λ t. IsWoven sheet t (page_text report_page.page) (report_links r groups)) (sym prints.joined) linked
+
+  page_free : IsFreeBut (trusted_texts groups) (page_text report_page.page)
+  page_free = subst (IsFreeBut (trusted_texts groups)) (sym text_of_page) report_page.free
+
+  -- texts that print the grids under some sheets show the report under them
+  pub sheets_shown : (sheets : List Stylesheet) (texts : List (List ℕ)) → AllZip (λ sheet text. PrintsGrids sheet grids text) sheets texts → SheetsShown r groups sheets texts
+  sheets_shown sheets texts printed =
+      record {
+        page = report_page.page;
+        shows = page_shows;
+        printed = AllZip-weaker (λ sheet text. PrintsGrids sheet grids text) (λ sheet text. PrintsPage sheet (levels_of groups) report_page.page text) page_printed sheets texts printed;
+        free = page_free;
+        links = links_of_page;
+        plain = λ none. AllZip-weaker (λ sheet text. PrintsGrids sheet grids text) (λ sheet text. is_plain_sheet sheet ≡ true → text ≡ encode_utf8_all (page_text report_page.page)) (λ sheet text prints plain. plain_woven sheet text (page_text report_page.page) (report_links r groups) plain none (page_woven sheet text prints)) sheets texts printed;
+      }
+
+  -- a text that prints the grids is free, but for its codes
+  pub text_is_free : (sheet : Stylesheet) (text : List ℕ) → PrintsGrids sheet grids text → IsFreeUnder (trusted_texts groups) (report_links r groups) sheet text
+  text_is_free sheet text prints =
+      record { plain = page_text report_page.page; woven = page_woven sheet text prints; free = page_free }
+
+-- the text of a report of no groups is empty
+pub text_of_none : (r : Renderer) (sheet : Stylesheet) (text : List ℕ) → ShowsReport r [] sheet text → text ≡ []
+text_of_none r sheet text shows = of_page shows.page shows.shows.count shows.printed.0
+  where
+    of_parts : (page : Page) → length page ≡ 0 → (parts : List (List ℕ)) → ArePrinted sheet [] page parts → join_with_byte 10 parts ≡ []
+    of_parts [] none [] printed = refl
+    of_parts [] none (part ∷ parts) printed = absurd printed
+    of_parts (g ∷ page) none parts printed = cc
+
+    of_page : (page : Page) → length page ≡ 0 → PrintsPage sheet [] page text → text ≡ []
+    of_page page none prints = prints.joined ∙ of_parts page none prints.parts prints.printed
+
+-- what holds of an answer holds of it where another error stands for the first
+pub IfOk-map_err : {T E D : Type 0} (P : T → Type 0) (R : E → D → Type 0) (r : Result T E) (q : Result T D) → IfOk r P → MatchResult r (λ x. q ≡ Ok x) (λ e. IsErrAnd q (R e)) → IfOk q P
+IfOk-map_err P R (Ok x) q holds same = subst (λ z. IfOk z P) (sym same) holds
+IfOk-map_err P R (Err e) (Ok y) holds same = absurd same
+IfOk-map_err P R (Err e) (Err d) holds same = tt
+
+-- a report that isn't refused has no fault
+pub faultless-from_ok : {T E : Type 0} (fault : Option E) (r : Result T E) (x : T) → IfSome fault (λ e. r ≡ Err e) → r ≡ Ok x → fault ≡ None
+faultless-from_ok None r x refused given = refl
+faultless-from_ok (Some e) r x refused given =
+    let never : Err e ≡ Ok x = sym refused ∙ given in cc

@@ -1,0 +1,7 @@
+-- The text so far prints the grids so far.
+use Rattle.std.proofs.Common.{take, string_bytes}
+use Rattle.annotate_snippets.specs.Page.{PrintsGrids}
+use Rattle.annotate_snippets.proofs.renderer.graphic.printed.Given as goal
+
+abbrev pub invariant-loop-i : goal.invariant-loop-i
+invariant-loop-i l = PrintsGrids l.sheet (take l.i l.grids) (string_bytes l.text)
