@@ -11,6 +11,8 @@ pub mod ListLemmas
 pub mod MarkLemmas
 pub mod PageLemmas
 pub mod PartsFacts
+pub mod PatchRows
+pub mod PlaceLemmas
 pub mod PreparedLemmas
 pub mod PrintLemmas
 pub mod ReportLemmas

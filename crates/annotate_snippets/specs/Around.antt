@@ -1,14 +1,16 @@
 -- What stands around an element of a report, as far as its rows depend on it.
-use Rattle.std.specs.Prelude.{ℕ, ◌+◌, ◌-◌, ◌==◌, ◌&&◌, Bool, true, false, not, List, [], ◌∷◌, Option, None, Some, drop, filter, length, take, if◌then◌else◌}
+use Rattle.std.specs.Prelude.{◌≡◌, ℕ, ◌+◌, ◌-◌, ◌==◌, ◌&&◌, Bool, true, false, not, List, [], ◌∷◌, Option, None, Some, drop, filter, length, take, if◌then◌else◌}
 use Rattle.std.specs.Cow.{cow_str_bytes}
 use Rattle.std.specs.List.{filter_map, list_any, slice_get}
-use Rattle.std.specs.Option.{option_flatten, option_map, option_or}
+use Rattle.std.specs.Option.{is_some, option_flatten, option_map, option_or}
 use Rattle.std.specs.Str.{bytes_eq}
 use Rattle.std.specs.declared.alloc.Global.{Global}
 use Rattle.std.specs.declared.borrow.CowStr.{CowStr}
 use Rattle.snippet_model.specs.declared.snippet.Group.{Group}
 use Rattle.snippet_model.specs.declared.snippet.Element.{Element}
 use Rattle.snippet_model.specs.declared.snippet.Element.TheVariants.{Message, Cause, Suggestion, Origin, Padding}
+use Rattle.snippet_model.specs.declared.snippet.Patch.{Patch}
+use Rattle.snippet_model.specs.declared.snippet.Snippet.{Snippet}
 use Rattle.snippet_suggest.specs.declared.layout.SuggestionStart.{SuggestionStart}
 use Rattle.snippet_suggest.specs.declared.layout.SuggestionStart.TheVariants as start
 use Rattle.annotate_snippets.specs.declared.renderer.surroundings.GroupPlace.{GroupPlace}
@@ -159,3 +161,13 @@ is_next_start start.Path = false
 
 abbrev pub begins_in_row_above : Surroundings → Bool
 begins_in_row_above around = is_next_start around.start
+
+-- a suggestion that begins below its path has one
+abbrev pub HasPathFor : SuggestionStart → Snippet Patch → Type 0
+HasPathFor at s = at ≡ start.Path → is_some (path_bytes s.path) ≡ true
+
+-- what stands around an element is such that it can be drawn there: no element but a suggestion begins in the row above it, or has
+-- the next one begin in its last row
+abbrev pub CanStandIn : Surroundings → Element → Type 0
+CanStandIn around (Suggestion s) = HasPathFor around.start s
+CanStandIn around other = (begins_in_row_above around ≡ false) × (around.shared ≡ false)

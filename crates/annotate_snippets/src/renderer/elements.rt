@@ -3,7 +3,7 @@ ghost use Rattle.std.specs.Prelude.{◌≡◌, ◌+◌, ◌<◌, ◌≤◌, ◌^
 ghost use Rattle.std.specs.Option.{option_copied};
 ghost use Rattle.snippet_style.specs.Grid.{Cell};
 ghost use Rattle.snippet_suggest.specs.Rows.{IsTail};
-ghost use Rattle.annotate_snippets.specs.Around.{begins_in_row_above};
+ghost use Rattle.annotate_snippets.specs.Around.{CanStandIn, begins_in_row_above};
 ghost use Rattle.annotate_snippets.specs.Drawn.{AddsElement, AddsElements, HasRoomFor};
 ghost use Rattle.annotate_snippets.specs.Prepared.{IsElementPrepared, element_of};
 ghost use Rattle.annotate_snippets.specs.Rows as spec;
@@ -63,6 +63,7 @@ fn draw_element<'a>(
 ) -> Result<(), AllocError>
     requires prepared { IsElementPrepared element }
     requires room { HasRoomFor renderer.now frame (element_of element) }
+    requires around { CanStandIn around (element_of element) }
     requires narrow { frame.code < 2 ^ 63 + 2 ^ 32 }
     ensures added { (above tail : List (List Cell)) → buffer.old ≡ above ++ tail
         → IsTail renderer.now.decor_style frame.gutter (begins_in_row_above around) tail

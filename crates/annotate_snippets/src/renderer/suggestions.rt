@@ -12,7 +12,7 @@ ghost use Rattle.snippet_style.specs.Grid.{Cell};
 ghost use Rattle.snippet_suggest.specs.Prepared.{IsPrepared};
 ghost use Rattle.snippet_suggest.specs.Rows.{IsTail};
 ghost use Rattle.annotate_snippets.specs.Drawn.{AddsElement, HasRoomFor};
-ghost use Rattle.annotate_snippets.specs.Around.{begins_in_row_above};
+ghost use Rattle.annotate_snippets.specs.Around.{HasPathFor, begins_in_row_above};
 ghost use Rattle.annotate_snippets.specs.Rows as spec;
 
 use crate::renderer::Renderer;
@@ -40,6 +40,7 @@ pub fn draw_patches(
 ) -> Result<(), AllocError>
     requires prepared { IsPrepared suggestion.now }
     requires room { HasRoomFor renderer.now frame (Suggestion suggestion.now.snippet.now) }
+    requires path { HasPathFor around.start suggestion.now.snippet.now }
     ensures added { (above tail : List (List Cell)) → buffer.old ≡ above ++ tail
         → IsTail renderer.now.decor_style frame.gutter (begins_in_row_above around) tail
         → OnOk result (AddsElement renderer.now frame around (Suggestion suggestion.now.snippet.now) above buffer.new) }

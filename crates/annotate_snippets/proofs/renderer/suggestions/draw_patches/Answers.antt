@@ -1,0 +1,24 @@
+use Rattle.std.proofs.Common.{◌≡◌, ◌∙◌, Bool, true, false, ap, sym, rules}
+use denote.Enum.Bare.{same_true, sameb}
+use Rattle.snippet_suggest.specs.contracts.layout.SuggestionStart.{the_type}
+use Rattle.snippet_suggest.specs.declared.layout.SuggestionStart.TheVariants.{Path}
+use Rattle.annotate_snippets.proofs.PatchRows.{patches_added}
+use Rattle.annotate_snippets.proofs.renderer.suggestions.draw_patches.Goals.{then-eq+in_ok-draw_path, else-eq}
+use Rattle.annotate_snippets.proofs.renderer.suggestions.draw_patches.Goals as goal
+
+pub returns : goal.returns
+returns c = record {
+  added = λ above tail is tail_is.
+      patches_added c.args.renderer.now c.args.frame c.args.around c.args.suggestion.now.snippet.now above tail c.args.buffer.now c.if-eq.buffer c.draw_suggestion.new.buffer c.line_numbers.result c.draw_suggestion.result
+      c.line_numbers.ensures.value
+      c.requires.prepared.some c.requires.room is tail_is c.requires.path
+      (elim c.if-eq.branch [
+        | then-eq+in_ok-draw_path w ↦ λ starts. w.buffer-is ∙ w.in_ok-draw_path.ensures.rows
+        | else-eq w ↦ λ starts. let never : ◌≡◌ {A = Bool} false true = w.if-eq.ensures ∙ ap (λ at. sameb the_type at Path) starts in absurd (cc)
+      ])
+      (elim c.if-eq.branch [
+        | then-eq+in_ok-draw_path w ↦ λ other. absurd (other (same_true the_type (search rules) _ _ (sym w.if-eq.ensures)))
+        | else-eq w ↦ λ other. w.buffer-is
+      ])
+      c.draw_suggestion.ensures.added;
+}
