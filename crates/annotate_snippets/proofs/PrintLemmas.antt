@@ -1,8 +1,8 @@
 -- A text that prints grids, one behind the other.
-use Rattle.std.proofs.Common.{◌≡◌, ℕ, zero, suc, ◌+◌, ◌<◌, ◌≤◌, List, [], ◌∷◌, ◌++◌, length, take, get_or, refl, sym, ap, subst, ◌∙◌, arith}
+use Rattle.std.proofs.Common.{◌≡◌, ℕ, zero, suc, ◌+◌, ◌<◌, List, [], ◌∷◌, ◌++◌, length, take, get_or, refl, sym, ap, subst, ◌∙◌, arith}
 use Rattle.std.specs.List.{AllZip, join_with_byte}
 use Rattle.std.proofs.Math.Seq.{take-suc}
-use Rattle.std.proofs.lemmas.List.{append-nil, append_assoc}
+use Rattle.std.proofs.lemmas.List.{append_assoc}
 use Rattle.snippet_style.specs.Woven.{Prints}
 use Rattle.snippet_style.specs.declared.stylesheet.Stylesheet.{Stylesheet}
 use Rattle.annotate_snippets.specs.Page.{PrintsGrids}
@@ -38,13 +38,9 @@ join-last x [] part = refl
 join-last x (y ∷ xs) part =
     ap (λ text. x ++ 10 ∷ text) (join-last y xs part) ∙ sym (append_assoc x (10 ∷ join_with_byte 10 (y ∷ xs)) (10 ∷ part))
 
--- a grid
+-- the part of a text that prints a grid
 abbrev pub IsPart : Stylesheet → GroupGrid → List ℕ → Type 0
 IsPart sheet grid part = Prints sheet grid.level grid.buffer part
-
--- no grids print no text
-pub PrintsGrids-none : (sheet : Stylesheet) → PrintsGrids sheet [] []
-PrintsGrids-none sheet = record { parts = []; printed = tt; joined = refl }
 
 -- the first grid
 pub PrintsGrids-first : (sheet : Stylesheet) (grids : List GroupGrid) (i : ℕ) (d : GroupGrid) (old new part : List ℕ) → i ≡ 0 → i < length grids → PrintsGrids sheet (take i grids) old → IsPart sheet (get_or grids i d) part → new ≡ old ++ part → PrintsGrids sheet (take (i + 1) grids) new

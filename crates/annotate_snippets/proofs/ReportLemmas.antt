@@ -5,10 +5,9 @@ use Rattle.std.specs.Option.{option_to_list}
 use Rattle.std.specs.Cow.{cow_str_bytes}
 use Rattle.std.specs.Result.{IfOk, MatchResult, IsErrAnd}
 use Rattle.std.proofs.lemmas.List.Elements.{All-nil, All-cons, All-append, All-get_or, All-weaker, Contains-append_left, Contains-append_right}
-use Rattle.std.proofs.lemmas.List.{append-nil, append_assoc}
+use Rattle.std.proofs.lemmas.List.{append-nil}
 use Rattle.std.proofs.lemmas.Grind.{flat_map-append}
 use Rattle.std.proofs.lemmas.Option.{get_or_from_slice_get, slice_get_within}
-use Rattle.snippet_style.specs.Grid.{Cell}
 use Rattle.snippet_style.specs.Print.{plain_text}
 use Rattle.snippet_style.specs.Stylesheet.{is_plain_sheet}
 use Rattle.snippet_style.specs.Woven.{IsWoven, Prints, links_of}
@@ -17,6 +16,7 @@ use Rattle.snippet_style.specs.declared.stylesheet.Stylesheet.{Stylesheet}
 use Rattle.snippet_style.proofs.WeaveLemmas.{some_same}
 use Rattle.snippet_style.proofs.WovenLemmas.{plain_woven}
 use Rattle.snippet_text.specs.Normalized.{is_listed, norm}
+use Rattle.snippet_model.specs.Fits.{ReportFits}
 use Rattle.snippet_model.specs.Trusted.{trusted_of_element, trusted_of_title, trusted_texts}
 use Rattle.snippet_model.specs.declared.snippet.Group.{Group}
 use Rattle.snippet_model.specs.declared.snippet.Id.{Id}
@@ -24,12 +24,15 @@ use Rattle.snippet_model.specs.declared.snippet.Title.{Title}
 use Rattle.snippet_titles.specs.Title.{id_links, text_links}
 use Rattle.annotate_snippets.specs.declared.renderer.Renderer.{Renderer}
 use Rattle.annotate_snippets.specs.declared.renderer.graphic.GroupGrid.{GroupGrid}
-use Rattle.annotate_snippets.specs.Around.{drawn_elements, file_of_group, place_at}
-use Rattle.annotate_snippets.specs.Drawn.{AreGridsOf, HasRoomFor}
+use Rattle.annotate_snippets.specs.Around.{file_of_group, place_at}
+use Rattle.annotate_snippets.specs.Drawn.{AreGridsOf}
+use Rattle.annotate_snippets.specs.Fault.{first_fault}
 use Rattle.annotate_snippets.specs.Gutter.{frame_of}
 use Rattle.annotate_snippets.specs.Page.{ArePrinted, GroupPage, Page, PrintsGrids, PrintsPage, group_rows, page_links, page_text}
 use Rattle.annotate_snippets.specs.Prepared.{IsGroupDrawable}
 use Rattle.annotate_snippets.specs.Shown.{AreGroupsShown, IsFreeBut, IsFreeUnder, SheetsShown, ShowsGroup, ShowsReport, levels_of, report_links}
+use Rattle.annotate_snippets.specs.declared.renderer.error.RenderError.{RenderError}
+use Rattle.annotate_snippets.proofs.FaultLemmas.{groups-drawable}
 use Rattle.annotate_snippets.proofs.GroupLemmas.{group_shown}
 use Rattle.annotate_snippets.proofs.GroupShown.{GroupShown}
 use Rattle.annotate_snippets.proofs.PrintLemmas.{AllZip-weaker}
@@ -249,8 +252,11 @@ IfOk-map_err P R (Ok x) q holds same = subst (λ z. IfOk z P) (sym same) holds
 IfOk-map_err P R (Err e) (Ok y) holds same = absurd same
 IfOk-map_err P R (Err e) (Err d) holds same = tt
 
--- a report that isn't refused has no fault
-pub faultless-from_ok : {T E : Type 0} (fault : Option E) (r : Result T E) (x : T) → IfSome fault (λ e. r ≡ Err e) → r ≡ Ok x → fault ≡ None
-faultless-from_ok None r x refused given = refl
-faultless-from_ok (Some e) r x refused given =
-    let never : Err e ≡ Ok x = sym refused ∙ given in cc
+-- a report that isn't refused has no fault, so each of its groups can be drawn
+faultless : {T E : Type 0} (fault : Option E) (r : Result T E) (x : T) → IfSome fault (λ e. r ≡ Err e) → r ≡ Ok x → fault ≡ None
+faultless None r x refused given = refl
+faultless (Some e) r x refused given = let never : Err e ≡ Ok x = sym refused ∙ given in cc
+
+pub drawable-from_ok : {T : Type 0} (groups : List Group) (r : Result T RenderError) (x : T) → ReportFits groups → IfSome (first_fault groups) (λ fault. r ≡ Err fault) → r ≡ Ok x → All IsGroupDrawable groups
+drawable-from_ok groups r x fits refused given =
+    groups-drawable groups fits (faultless (first_fault groups) r x refused given)

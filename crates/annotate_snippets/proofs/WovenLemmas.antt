@@ -1,5 +1,5 @@
 -- Woven texts that are joined by line feeds are woven.
-use Rattle.std.proofs.Common.{◌≡◌, ℕ, Bool, true, false, map, List, [], ◌∷◌, ◌++◌, All, lit<, refl, sym, ap, ◌∙◌, subst}
+use Rattle.std.proofs.Common.{◌≡◌, ℕ, Bool, true, false, map, List, [], ◌∷◌, ◌++◌, lit<, refl, sym, ap, ◌∙◌, subst}
 use Rattle.std.specs.List.{AllZip, flat_map, join_with_byte}
 use Rattle.std.proofs.lemmas.List.{append-nil}
 use Rattle.std.proofs.lemmas.List.Elements.{All-nil, All-append, All-cons}

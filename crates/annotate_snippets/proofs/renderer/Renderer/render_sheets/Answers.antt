@@ -5,13 +5,11 @@ use Rattle.std.specs.Result.{IfOk}
 use Rattle.snippet_style.specs.declared.stylesheet.Stylesheet.{Stylesheet}
 use Rattle.snippet_model.specs.Trusted.{trusted_texts}
 use Rattle.snippet_model.specs.declared.snippet.Group.{Group}
-use Rattle.annotate_snippets.specs.Fault.{first_fault}
 use Rattle.annotate_snippets.specs.Page.{PrintsGrids}
 use Rattle.annotate_snippets.specs.Shown.{SheetsShown, IsFreeUnder, report_links}
 use Rattle.annotate_snippets.specs.declared.renderer.graphic.GroupGrid.{GroupGrid}
-use Rattle.annotate_snippets.proofs.FaultLemmas.{groups-drawable}
 use Rattle.annotate_snippets.proofs.PrintLemmas.{AllZip-weaker}
-use Rattle.annotate_snippets.proofs.ReportLemmas.{faultless-from_ok, IfOk-map_err, sheets_shown, text_is_free}
+use Rattle.annotate_snippets.proofs.ReportLemmas.{drawable-from_ok, IfOk-map_err, sheets_shown, text_is_free}
 use Rattle.annotate_snippets.proofs.renderer.Renderer.render_sheets.Goals as goal
 
 pub returns-clause-shows : goal.returns-clause-shows
@@ -20,7 +18,7 @@ returns-clause-shows c =
     let groups : List Group = c.args.groups.now in
     let grids : List GroupGrid = c.in_ok-grids.grids.items in
     let sheets : List Stylesheet = c.args.sheets.now in
-    let drawable = groups-drawable groups c.requires.fits (faultless-from_ok (first_fault groups) c.grids.result c.in_ok-grids.grids c.grids.ensures.refused c.in_ok-grids.was) in
+    let drawable = drawable-from_ok groups c.grids.result c.in_ok-grids.grids c.requires.fits c.grids.ensures.refused c.in_ok-grids.was in
     let prints = subst (λ gs. IfOk c.printed_sheets.result (λ texts. AllZip (λ sheet text. PrintsGrids sheet gs text) sheets (map string_bytes texts.items))) c.deref.ensures.value c.printed_sheets.ensures.printed in
     IfOk-map_err (λ texts. SheetsShown r groups sheets (map string_bytes texts.items)) _ c.printed_sheets.result c.map_err.result (IfOk-weaker c.printed_sheets.result (λ texts. AllZip (λ sheet text. PrintsGrids sheet grids text) sheets (map string_bytes texts.items)) (λ texts. SheetsShown r groups sheets (map string_bytes texts.items)) (λ texts printed. sheets_shown r groups grids drawable c.in_ok-grids.ensures.drawn sheets (map string_bytes texts.items) printed) prints) c.map_err.ensures.cases
 
@@ -30,6 +28,6 @@ returns-clause-free c =
     let groups : List Group = c.args.groups.now in
     let grids : List GroupGrid = c.in_ok-grids.grids.items in
     let sheets : List Stylesheet = c.args.sheets.now in
-    let drawable = groups-drawable groups c.requires.fits (faultless-from_ok (first_fault groups) c.grids.result c.in_ok-grids.grids c.grids.ensures.refused c.in_ok-grids.was) in
+    let drawable = drawable-from_ok groups c.grids.result c.in_ok-grids.grids c.requires.fits c.grids.ensures.refused c.in_ok-grids.was in
     let prints = subst (λ gs. IfOk c.printed_sheets.result (λ texts. AllZip (λ sheet text. PrintsGrids sheet gs text) sheets (map string_bytes texts.items))) c.deref.ensures.value c.printed_sheets.ensures.printed in
     IfOk-map_err (λ texts. AllZip (λ sheet text. IsFreeUnder (trusted_texts groups) (report_links r groups) sheet text) sheets (map string_bytes texts.items)) _ c.printed_sheets.result c.map_err.result (IfOk-weaker c.printed_sheets.result (λ texts. AllZip (λ sheet text. PrintsGrids sheet grids text) sheets (map string_bytes texts.items)) (λ texts. AllZip (λ sheet text. IsFreeUnder (trusted_texts groups) (report_links r groups) sheet text) sheets (map string_bytes texts.items)) (λ texts printed. AllZip-weaker (λ sheet text. PrintsGrids sheet grids text) (λ sheet text. IsFreeUnder (trusted_texts groups) (report_links r groups) sheet text) (text_is_free r groups grids drawable c.in_ok-grids.ensures.drawn) sheets (map string_bytes texts.items) printed) prints) c.map_err.ensures.cases
