@@ -9,6 +9,9 @@ pub mod HeadingShown
 pub mod LineLemmas
 pub mod ListLemmas
 pub mod MarkLemmas
+pub mod NotOffered
+pub mod NotShown
+pub mod NotWhole
 pub mod PageLemmas
 pub mod PartsFacts
 pub mod PatchRows

@@ -2,6 +2,43 @@
 
 use std::fmt;
 
+/// The fields of the settings.
+const SETTINGS: &[&str] = &[
+    "no_graphics",
+    "short_message",
+    "term_width",
+    "unicode",
+    "anonymized_snippet",
+    "anonymized_origin",
+    "hyperlink",
+];
+
+/// The fields of a sheet.
+const SHEET: &[&str] = &[
+    "error", "warning", "info", "note", "help", "line_num", "emphasis", "none", "context",
+    "addition", "removal",
+];
+
+/// The fields of an annotated source.
+const CAUSE: &[&str] = &[
+    "source",
+    "path",
+    "line_start",
+    "line_numbering",
+    "fold",
+    "annotations",
+];
+
+/// The fields of a suggestion.
+const SUGGESTION: &[&str] = &[
+    "source",
+    "path",
+    "line_start",
+    "line_numbering",
+    "fold",
+    "patches",
+];
+
 /// An object of the format, which has fields of its own names.
 #[derive(Clone, Copy)]
 pub enum Shape {
@@ -30,19 +67,8 @@ impl Shape {
     pub fn names(self) -> &'static [&'static str] {
         match self {
             Shape::Case => &["id", "settings", "sheets", "groups"],
-            Shape::Settings => &[
-                "no_graphics",
-                "short_message",
-                "term_width",
-                "unicode",
-                "anonymized_snippet",
-                "anonymized_origin",
-                "hyperlink",
-            ],
-            Shape::Sheet => &[
-                "error", "warning", "info", "note", "help", "line_num", "emphasis", "none",
-                "context", "addition", "removal",
-            ],
+            Shape::Settings => SETTINGS,
+            Shape::Sheet => SHEET,
             Shape::Style => &["fg", "bg", "effects"],
             Shape::Color => &["ansi256", "rgb"],
             Shape::Group => &["title", "level", "elements"],
@@ -50,22 +76,8 @@ impl Shape {
             Shape::Level => &["kind", "name"],
             Shape::Element => &["message", "cause", "suggestion", "origin", "padding"],
             Shape::Message => &["level", "text"],
-            Shape::Cause => &[
-                "source",
-                "path",
-                "line_start",
-                "line_numbering",
-                "fold",
-                "annotations",
-            ],
-            Shape::Suggestion => &[
-                "source",
-                "path",
-                "line_start",
-                "line_numbering",
-                "fold",
-                "patches",
-            ],
+            Shape::Cause => CAUSE,
+            Shape::Suggestion => SUGGESTION,
             Shape::Annotation => &["kind", "start", "end", "label", "highlight_source"],
             Shape::Patch => &["start", "end", "text"],
             Shape::Origin => &["path", "line", "column"],

@@ -1,5 +1,5 @@
 -- The report that a command asks for.
-use Rattle.std.specs.Prelude.{◌≡◌, ℕ, true, false, List, [], ◌∷◌, None, unwrap_or, if◌then◌else◌}
+use Rattle.std.specs.Prelude.{◌≡◌, ℕ, true, false, List, [], ◌∷◌, Some, None, unwrap_or, if◌then◌else◌}
 use Rattle.std.specs.Borrow.{Bor}
 use Rattle.std.specs.Cow.{cow_str_bytes}
 use Rattle.std.specs.Option.{option_map}
@@ -11,7 +11,6 @@ use Rattle.annotate_snippets.specs.declared.snippet.Element.TheVariants.{Cause}
 use Rattle.annotate_snippets.specs.declared.snippet.Group.{Group}
 use Rattle.annotate_snippets.specs.declared.snippet.Snippet.{Snippet}
 use Rattle.annotate_snippets.specs.declared.snippet.Title.{Title}
-use Rattle.annotate_snippets.specs.Covered.{IsReportOf}
 use Rattle.annotate_snippets.specs.Levels.{error_level}
 use Rattle.annotate_snippets.specs.Settings.{plain_settings, styled_settings}
 use Rattle.annotate_snippets.specs.Shown.{ShowsReport}
@@ -58,8 +57,11 @@ pub record IsReportFor (command : Command) (source : List ℕ) (groups : List Gr
   pub title_is : IsTitleFor command title
   pub snippet : Snippet Annotation
   pub snippet_is : IsSnippetFor command source snippet
-  pub parts : IsReportOf title (Cause snippet ∷ []) groups
-  pub kind : parts.group.level ≡ error_level.kind
+  pub group : Group
+  pub groups_are : groups ≡ group ∷ []
+  pub titled : group.title ≡ Some title
+  pub elements : group.elements.items ≡ Cause snippet ∷ []
+  pub kind : group.level ≡ error_level.kind
 
 -- the text shows the command's report over the source, in the settings that its options ask for
 pub record ShowsCommand (command : Command) (source text : List ℕ) : Type 0 where

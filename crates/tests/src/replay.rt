@@ -97,12 +97,17 @@ fn reads_each_field(rt: HostRuntime) -> Result<(), Fail> {
 }
 
 /// Lines, what is answered to them, and what is told.
-const ANSWERED: [(&str, &str, &str); 10] = [
+const ANSWERED: [(&str, &str, &str); 11] = [
     ("", "", ""),
     (
         "{\"id\": \"a\", \"groups\": []}\n{}\n",
-        "{\"id\":\"a\",\"refused\":\"NotYet\",\"text\":\"not yet\"}\n",
+        "{\"id\":\"a\",\"ok\":[\"\"]}\n",
         "line 2: id: missing, expected a text of fewer than 2^56 bytes",
+    ),
+    (
+        "{\"id\": \"a\", \"settings\": {\"short_message\": true}, \"groups\": []}",
+        "{\"id\":\"a\",\"refused\":\"NotYet\",\"text\":\"not yet\"}\n",
+        "",
     ),
     ("[]", "", "line 1: the line: expected an object"),
     (

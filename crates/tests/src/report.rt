@@ -2,7 +2,7 @@
 ghost use Rattle.std.specs.Prelude.{IfOk};
 ghost use Rattle.snippet_model.specs.Fits.{AnnotationFits, GroupFits, PatchFits, SnippetFits};
 
-use annotate_snippets::level::ERROR;
+use annotate_snippets::level::{ERROR, HELP};
 use annotate_snippets::renderer::RenderError;
 use annotate_snippets::renderer::style::Stylesheet;
 use annotate_snippets::{
@@ -68,11 +68,51 @@ fn prints_under_the_sheet_of_the_renderer(rt: HostRuntime) -> Result<(), Fail> {
 }
 
 #[test]
-fn says_why_a_report_is_refused(rt: HostRuntime) -> Result<(), Fail> {
+fn draws_nothing_of_no_groups(rt: HostRuntime) -> Result<(), Fail> {
+    let text = Renderer::plain().render(rt.alloc(), &[])?;
+    assert_eq!(rt; text.as_str(), "");
+    Ok(())
+}
+
+#[test]
+fn draws_a_copy_as_the_original(rt: HostRuntime) -> Result<(), Fail> {
+    let alloc = rt.alloc();
+    let copy = unused_variable(alloc)?.clone()?;
+    let drawn = text(alloc, &Renderer::styled(), copy)?;
+    assert_eq!(rt; drawn.as_str(), STYLED_UNUSED);
+    Ok(())
+}
+
+#[test]
+fn hides_line_numbers_by_either_switch(rt: HostRuntime) -> Result<(), Fail> {
+    let alloc = rt.alloc();
+    let one = Renderer::plain().anonymized_line_numbers(true);
+    let other = Renderer::plain().anonymized_snippet_line_numbers(true);
+    let hidden = "error: unused\n   |\nLL | let x = 1;\n   |     ^ here";
+    assert_eq!(rt;
+        text(alloc, &one, unused_variable(alloc)?)?.as_str(),
+        hidden
+    );
+    assert_eq!(rt;
+        text(alloc, &other, unused_variable(alloc)?)?.as_str(),
+        hidden
+    );
+    Ok(())
+}
+
+#[test]
+fn keeps_the_codes_of_a_trusted_title(rt: HostRuntime) -> Result<(), Fail> {
+    let alloc = rt.alloc();
+    let group = Group::with_title(alloc, HELP.secondary_title("\u{1b}[1mx"));
+    let text = text(alloc, &Renderer::plain(), group)?;
+    assert_eq!(rt; text.as_str(), "help: \u{1b}[1mx");
+    Ok(())
+}
+
+/// The refusals of a marker, and what they say.
+fn refused_markers() -> [(RenderError, &'static str); 4] {
     let (group, element, marker) = (0, 1, 2);
-    let refusals = [
-        (RenderError::NoGroup, "a short message needs a group"),
-        (RenderError::NoTitle, "a short message needs a title"),
+    [
         (
             RenderError::SpanReversed {
                 group,
@@ -106,16 +146,40 @@ fn says_why_a_report_is_refused(rt: HostRuntime) -> Result<(), Fail> {
             },
             "group 0, element 1: markers 2 and 3 overlap",
         ),
+    ]
+}
+
+/// The other refusals, and what they say.
+fn other_refusals() -> [(RenderError, &'static str); 5] {
+    [
+        (RenderError::NoGroup, "a short message needs a group"),
+        (RenderError::NoTitle, "a short message needs a title"),
         (
-            RenderError::LineNumberTooLarge { group, element },
+            RenderError::LineNumberTooLarge {
+                group: 0,
+                element: 1,
+            },
             "group 0, element 1: line numbers are too large",
         ),
         (RenderError::Memory(AllocError), "out of memory"),
         (RenderError::NotYet, "not yet"),
-    ];
-    for (refusal, text) in &refusals {
-        assert_eq!(rt; format!(in rt.alloc(); "{refusal}")?.as_str(), *text);
+    ]
+}
+
+/// Whether each of some refusals says its text.
+fn says_each(alloc: Global, refusals: &[(RenderError, &'static str)]) -> Result<bool, AllocError> {
+    for (refusal, text) in refusals {
+        if format!(in alloc; "{refusal}")?.as_str() != *text {
+            return Ok(false);
+        }
     }
+    Ok(true)
+}
+
+#[test]
+fn says_why_a_report_is_refused(rt: HostRuntime) -> Result<(), Fail> {
+    assert!(rt; says_each(rt.alloc(), &refused_markers())?);
+    assert!(rt; says_each(rt.alloc(), &other_refusals())?);
     Ok(())
 }
 

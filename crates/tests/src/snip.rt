@@ -9,11 +9,32 @@ const SOURCE: &[u8] = b"let x = 1;\n";
 
 const REPORT: &str = "error: unused\n  |\n1 | let x = 1;\n  |     ^\n";
 
+/// The report with a label, in Unicode.
+const UNICODE: &str = "error: unused\n  ╭▸ \n1 │ let x = 1;\n  ╰╴    ━ here\n";
+
+/// The same in colours.
+const STYLED: &str =
+    "\x1b[1m\x1b[91merror\x1b[0m\x1b[1m: unused\x1b[0m\n  \x1b[1m\x1b[94m|\x1b[0m\n\x1b[1m\x1b[94m1\x1b[0m \x1b[1m\x1b[94m|\x1b[0m let x = 1;\n  \x1b[1m\x1b[94m|\x1b[0m     \x1b[1m\x1b[91m^\x1b[0m \x1b[1m\x1b[91mhere\x1b[0m\n";
+
+/// The same in both.
+const STYLED_UNICODE: &str =
+    "\x1b[1m\x1b[91merror\x1b[0m\x1b[1m: unused\x1b[0m\n \x1b[1m\x1b[94m ╭▸ \x1b[0m\n\x1b[1m\x1b[94m1\x1b[0m \x1b[1m\x1b[94m│\x1b[0m let x = 1;\n  \x1b[1m\x1b[94m╰╴\x1b[0m    \x1b[1m\x1b[91m━\x1b[0m \x1b[1m\x1b[91mhere\x1b[0m\n";
+
 const USAGE: &str =
     "usage: snip [--unicode] [--text] [--short] [--styled] [--width N] FILE START END TITLE [LABEL]\n";
 
 /// A run: its words, what FILE holds, and what is wanted: the status and what stands on each output.
 type Run<'a> = (&'a [&'a str], Option<&'a [u8]>, u8, &'a str, &'a str);
+
+/// A run over the source that prints this and nothing else.
+fn printing<'a>(words: &'a [&'a str], printed: &'a str) -> Run<'a> {
+    (words, Some(SOURCE), 0, printed, "")
+}
+
+/// A run over this file that prints nothing and tells this.
+fn telling<'a>(words: &'a [&'a str], file: Option<&'a [u8]>, told: &'a str) -> Run<'a> {
+    (words, file, 1, "", told)
+}
 
 /// Whether the run does what is wanted.
 fn does(alloc: Global, wanted: Run<'_>) -> bool {
@@ -47,54 +68,33 @@ fn refuses_wrong_words(rt: HostRuntime) {
 #[test]
 fn tells_what_is_in_the_way(rt: HostRuntime) {
     let not_yet = "snip: not yet\n";
-    let runs: [Run<'_>; 7] = [
-        (
+    let no_file = "snip: cannot read a.rs\n";
+    let runs = [
+        telling(
             &["--short", "a.rs", "0", "1", "t", "l"],
             Some(SOURCE),
-            1,
-            "",
             not_yet,
         ),
-        (
+        telling(
             &["--unicode", "--text", "--styled", "a.rs", "0", "1", "t"],
             None,
-            1,
-            "",
             not_yet,
         ),
-        (
-            &["a.rs", "0", "1", "t"],
-            None,
-            1,
-            "",
-            "snip: cannot read a.rs\n",
-        ),
-        (
-            &["a.rs", "0", "1", "t"],
-            Some(b"\xff"),
-            1,
-            "",
-            "snip: cannot read a.rs\n",
-        ),
-        (
+        telling(&["a.rs", "0", "1", "t"], None, no_file),
+        telling(&["a.rs", "0", "1", "t"], Some(b"\xff"), no_file),
+        telling(
             &["a\t\x1b", "0", "1", "t"],
             None,
-            1,
-            "",
             "snip: cannot read a    \u{241b}\n",
         ),
-        (
+        telling(
             &["a.rs", "5", "4", "t"],
             Some(SOURCE),
-            1,
-            "",
             "snip: group 0, element 0, marker 0: span is reversed\n",
         ),
-        (
+        telling(
             &["a.rs", "0", "13", "t"],
             Some(SOURCE),
-            1,
-            "",
             "snip: group 0, element 0, marker 0: span ends past the source\n",
         ),
     ];
@@ -106,21 +106,12 @@ fn tells_what_is_in_the_way(rt: HostRuntime) {
 #[test]
 fn prints_the_report(rt: HostRuntime) {
     let labelled = "error: unused\n  |\n1 | let x = 1;\n  |     ^ here\n";
-    let runs: [Run<'_>; 3] = [
-        (&["a.rs", "4", "5", "unused"], Some(SOURCE), 0, REPORT, ""),
-        (
-            &["a.rs", "4", "5", "unused", "here"],
-            Some(SOURCE),
-            0,
-            labelled,
-            "",
-        ),
-        (
+    let runs = [
+        printing(&["a.rs", "4", "5", "unused"], REPORT),
+        printing(&["a.rs", "4", "5", "unused", "here"], labelled),
+        printing(
             &["--width", "20", "--width", "80", "a.rs", "4", "5", "unused"],
-            Some(SOURCE),
-            0,
             REPORT,
-            "",
         ),
     ];
     for wanted in runs {
@@ -130,27 +121,10 @@ fn prints_the_report(rt: HostRuntime) {
 
 #[test]
 fn draws_in_unicode_and_in_colours(rt: HostRuntime) {
-    let unicode = "error: unused\n  ╭▸ \n1 │ let x = 1;\n  ╰╴    ━ here\n";
-    let styled =
-        "\x1b[1m\x1b[91merror\x1b[0m\x1b[1m: unused\x1b[0m\n  \x1b[1m\x1b[94m|\x1b[0m\n\x1b[1m\x1b[94m1\x1b[0m \x1b[1m\x1b[94m|\x1b[0m let x = 1;\n  \x1b[1m\x1b[94m|\x1b[0m     \x1b[1m\x1b[91m^\x1b[0m \x1b[1m\x1b[91mhere\x1b[0m\n";
-    let both =
-        "\x1b[1m\x1b[91merror\x1b[0m\x1b[1m: unused\x1b[0m\n \x1b[1m\x1b[94m ╭▸ \x1b[0m\n\x1b[1m\x1b[94m1\x1b[0m \x1b[1m\x1b[94m│\x1b[0m let x = 1;\n  \x1b[1m\x1b[94m╰╴\x1b[0m    \x1b[1m\x1b[91m━\x1b[0m \x1b[1m\x1b[91mhere\x1b[0m\n";
-    let runs: [Run<'_>; 4] = [
-        (
-            &["--unicode", "a.rs", "4", "5", "unused", "here"],
-            Some(SOURCE),
-            0,
-            unicode,
-            "",
-        ),
-        (
-            &["--styled", "a.rs", "4", "5", "unused", "here"],
-            Some(SOURCE),
-            0,
-            styled,
-            "",
-        ),
-        (
+    let runs = [
+        printing(&["--unicode", "a.rs", "4", "5", "unused", "here"], UNICODE),
+        printing(&["--styled", "a.rs", "4", "5", "unused", "here"], STYLED),
+        printing(
             &[
                 "--unicode",
                 "--width",
@@ -161,12 +135,9 @@ fn draws_in_unicode_and_in_colours(rt: HostRuntime) {
                 "unused",
                 "here",
             ],
-            Some(SOURCE),
-            0,
-            unicode,
-            "",
+            UNICODE,
         ),
-        (
+        printing(
             &[
                 "--styled",
                 "--width",
@@ -178,10 +149,7 @@ fn draws_in_unicode_and_in_colours(rt: HostRuntime) {
                 "unused",
                 "here",
             ],
-            Some(SOURCE),
-            0,
-            both,
-            "",
+            STYLED_UNICODE,
         ),
     ];
     for wanted in runs {

@@ -1,4 +1,5 @@
 //! The rows of a snippet.
+use snippet_lines::LineNumbers;
 use snippet_model::AnnotationKind;
 use snippet_parts::{AnnotatedLineInfo, LineAnnotation, LineAnnotationType, Loc, Margin};
 use snippet_strokes::{Layout, draw_snippet};
@@ -43,12 +44,11 @@ fn draws_where_memory_suffices(rt: HostRuntime) -> Result<(), Fail> {
         &mut buffer,
         layout,
         margin,
-        true,
-        true,
+        LineNumbers::Shown,
         true,
         &[marked],
     )?;
     let text = buffer.render(LevelInner::Error, &Stylesheet::plain())?;
-    assert_eq!(rt; text.as_str(), "  ╭▸ \n1 │ let x = 1;\n  ╰╴    ━ here");
+    assert_eq!(rt; text.as_str(), "1 │ let x = 1;\n  ╰╴    ━ here");
     Ok(())
 }

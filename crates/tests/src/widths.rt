@@ -98,7 +98,7 @@ const LONG: &str = "aaaaaaaaaaaaaaaaaaaaaaaaaaaaaaTaaaaaaaaaaaaaaaaaaaaaaaaaaaaa
 const FORTY: &str = "aaaaaaaaaaaaaaaaaaaaaaaaaaaaaaaaaaaaaaaa";
 
 /// Lines of one span.
-fn single_lines() -> [Case; 15] {
+fn single_lines() -> [Case; 5] {
     [
         row(
             "let x = 1;",
@@ -118,6 +118,12 @@ fn single_lines() -> [Case; 15] {
             0,
             row("ab", primary(0, 1), 0, "error: e\n  |\n1 | ab\n  | ^"),
         ),
+    ]
+}
+
+/// Lines whose characters aren't one byte and one column each.
+fn odd_characters() -> [Case; 6] {
+    [
         row("日本", primary(3, 6), 8, "error: e\n  |\n1 | 日本\n  |   ^^"),
         row(
             "\tx",
@@ -144,6 +150,12 @@ fn single_lines() -> [Case; 15] {
             7,
             "error: e\n  |\n1 | a␛b\n  |  ^",
         ),
+    ]
+}
+
+/// Labels and titles whose characters aren't so, and a great line number.
+fn odd_texts() -> [Case; 4] {
+    [
         row(
             "ab",
             labelled(primary(0, 1), "\u{1b}[31mx"),
@@ -177,10 +189,8 @@ fn single_lines() -> [Case; 15] {
     ]
 }
 
-/// Lines of several spans, and several lines of one each.
-fn several_spans() -> [Case; 10] {
-    let a = labelled(context(0, 2), "a");
-    let c = labelled(primary(3, 5), "c");
+/// Lines of several spans without labels.
+fn several_spans() -> [Case; 4] {
     [
         two(
             "ab\ncd",
@@ -210,6 +220,14 @@ fn several_spans() -> [Case; 10] {
             8,
             "error: e\n  |\n1 | abcd\n  | ^^",
         ),
+    ]
+}
+
+/// Lines of several spans with labels.
+fn several_labels() -> [Case; 3] {
+    let a = labelled(context(0, 2), "a");
+    let c = labelled(primary(3, 5), "c");
+    [
         two(
             "ab cd",
             a,
@@ -231,6 +249,12 @@ fn several_spans() -> [Case; 10] {
             10,
             "error: e\n  |\n1 | abcdef\n  | --^^--\n  | | |\n  | | x\n  | f",
         ),
+    ]
+}
+
+/// Several lines of one span each.
+fn several_lines() -> [Case; 3] {
+    [
         two(
             "a\nb\nc\nd",
             primary(0, 1),
@@ -255,44 +279,33 @@ fn several_spans() -> [Case; 10] {
     ]
 }
 
+/// A line of one span that is cut, in a width of 20.
+fn cut(source: &'static str, span: Span, text: &'static str) -> Case {
+    only_in(20, row(source, span, 0, text))
+}
+
 /// Lines that are cut.
 fn windows() -> [Case; 5] {
     [
-        only_in(
-            20,
-            row(
-                LONG,
-                primary(30, 31),
-                0,
-                "error: e\n  |\n1 | ...aaaaTaaaaa...\n  |        ^",
-            ),
+        cut(
+            LONG,
+            primary(30, 31),
+            "error: e\n  |\n1 | ...aaaaTaaaaa...\n  |        ^",
         ),
-        only_in(
-            20,
-            unicode(row(
-                LONG,
-                primary(30, 31),
-                0,
-                "error: e\n  ╭▸ \n1 │ …aaaaaaTaaaaaaa…\n  ╰╴       ━",
-            )),
+        unicode(cut(
+            LONG,
+            primary(30, 31),
+            "error: e\n  ╭▸ \n1 │ …aaaaaaTaaaaaaa…\n  ╰╴       ━",
+        )),
+        cut(
+            FORTY,
+            primary(0, 40),
+            "error: e\n  |\n1 | aaaaa...aaaaa\n  | ^^^^^...^^^^^",
         ),
-        only_in(
-            20,
-            row(
-                FORTY,
-                primary(0, 40),
-                0,
-                "error: e\n  |\n1 | aaaaa...aaaaa\n  | ^^^^^...^^^^^",
-            ),
-        ),
-        only_in(
-            20,
-            row(
-                "日日日日日日日日日日日日日日日Taaaaaaaaaaaaaaaaaaaaaaaaaaaaa",
-                primary(45, 46),
-                0,
-                "error: e\n  |\n1 | ... 日Taaaaaa...\n  |       ^",
-            ),
+        cut(
+            "日日日日日日日日日日日日日日日Taaaaaaaaaaaaaaaaaaaaaaaaaaaaa",
+            primary(45, 46),
+            "error: e\n  |\n1 | ... 日Taaaaaa...\n  |       ^",
         ),
         row(
             "                              x = 1;",
@@ -304,7 +317,7 @@ fn windows() -> [Case; 5] {
 }
 
 /// Spans of several lines.
-fn blocks() -> [Case; 8] {
+fn blocks() -> [Case; 5] {
     let whole = primary(0, 3);
     [
         row(
@@ -338,6 +351,13 @@ fn blocks() -> [Case; 8] {
             7,
             "error: e\n  |\n9 | / a\n10| | b\n  | |_^",
         ),
+    ]
+}
+
+/// Lines that aren't folded, several spans of several lines, and such a span beside great numbers.
+fn larger_blocks() -> [Case; 3] {
+    let whole = primary(0, 3);
+    [
         Case {
             fold: false,
             ..row(
@@ -440,12 +460,16 @@ fn draws(alloc: Global, cases: &[Case]) -> Result<(), Fail> {
 
 #[test]
 fn single_lines_at_every_width(rt: HostRuntime) -> Result<(), Fail> {
-    draws(rt.alloc(), &single_lines())
+    draws(rt.alloc(), &single_lines())?;
+    draws(rt.alloc(), &odd_characters())?;
+    draws(rt.alloc(), &odd_texts())
 }
 
 #[test]
 fn several_spans_at_every_width(rt: HostRuntime) -> Result<(), Fail> {
-    draws(rt.alloc(), &several_spans())
+    draws(rt.alloc(), &several_spans())?;
+    draws(rt.alloc(), &several_labels())?;
+    draws(rt.alloc(), &several_lines())
 }
 
 #[test]
@@ -455,5 +479,6 @@ fn windows_at_every_width(rt: HostRuntime) -> Result<(), Fail> {
 
 #[test]
 fn blocks_at_every_width(rt: HostRuntime) -> Result<(), Fail> {
-    draws(rt.alloc(), &blocks())
+    draws(rt.alloc(), &blocks())?;
+    draws(rt.alloc(), &larger_blocks())
 }

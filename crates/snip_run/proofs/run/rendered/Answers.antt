@@ -57,13 +57,10 @@ returns c =
       title_is = title_is;
       snippet = snippet;
       snippet_is = snippet_is;
-      parts =
-          record {
-            group = group;
-            groups_are = refl;
-            title_is = grouped (λ g. g.title ≡ Some title) c.element.ensures.title;
-            elements_are = grouped (λ g. g.elements.items ≡ c.from-2.result ∷ []) c.element.ensures.elements ∙ ap (λ (e : Element). e ∷ []) c.from-2.ensures;
-          };
+      group = group;
+      groups_are = refl;
+      titled = grouped (λ g. g.title ≡ Some title) c.element.ensures.title;
+      elements = grouped (λ g. g.elements.items ≡ c.from-2.result ∷ []) c.element.ensures.elements ∙ ap (λ (e : Element). e ∷ []) c.from-2.ensures;
       kind = grouped (λ g. g.level ≡ title.level.kind) c.element.ensures.level ∙ ap (λ l. l.kind) c.primary_title.ensures.level;
     } in
     let settings = c.renderer_of-renderer.ensures.settings in

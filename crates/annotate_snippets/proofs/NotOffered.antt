@@ -1,0 +1,192 @@
+-- What is not offered: rows of suggestions that are wrong, each on a small report, contradict the definitions of what rows
+-- show.
+use Rattle.std.proofs.Common.{◌≡◌, ◌≢◌, ℕ, ◌-◌, ◌==◌, not, Bool, true, false, List, [], ◌∷◌, ◌++◌, codes, get_or, length, refl, sym, ap, subst, ◌∙◌, arith, inl, inr}
+use Rattle.std.specs.Cow.{cow_str_bytes}
+use Rattle.std.specs.List.{All, Contains, list_all}
+use Rattle.std.specs.Str.{chars}
+use Rattle.std.proofs.lemmas.Bool.{eq-eqb}
+use Rattle.std.proofs.lemmas.List.{append_cancel_left}
+use Rattle.std.proofs.lemmas.List.Elements.{All-nil, All-cons, All-head, All-tail, All-weaker, filter_map-append}
+use Rattle.std.proofs.lemmas.List.Sums.{AllPass-from_list_all}
+use Rattle.snippet_style.specs.Grid.{Cell, SPACE, drawn}
+use Rattle.snippet_style.specs.declared.glyphs.DecorStyle.TheVariants.{Ascii}
+use Rattle.snippet_style.specs.declared.role.ElementStyle.TheVariants.{Addition, LineNumber, Quotation}
+use Rattle.snippet_text.specs.Normalized.{norm}
+use Rattle.snippet_text.specs.Width.{char_width}
+use Rattle.snippet_text.proofs.WidthLemmas.{unicode_width}
+use Rattle.snippet_model.specs.declared.snippet.Patch.{Patch}
+use Rattle.snippet_model.specs.declared.snippet.Snippet.{Snippet}
+use Rattle.snippet_lines.specs.Lines.{last_byte, lines_of, source_lines, start_of, text_at}
+use Rattle.snippet_lines.specs.Place.{line_of}
+use Rattle.snippet_splice.specs.Edits.{Edit, patched, trimmed_edit}
+use Rattle.snippet_splice.specs.Shown.{shown_line, shown_text}
+use Rattle.snippet_splice.specs.Spliced.{HasNoCr, IsTouched, spliced_text, texts_of}
+use Rattle.snippet_splice.specs.Trim.{kept_before, sandwich}
+use Rattle.snippet_suggest.specs.Given.{IsAsItWas, IsOfferable, edits_of, first_given, given_lines, last_reached}
+use Rattle.snippet_suggest.specs.Kind.{is_blank}
+use Rattle.snippet_suggest.specs.Rows.{IsBareRow}
+use Rattle.annotate_snippets.specs.Page.{Elision, NamedRow, OfferedLine, RemovedLine, Other, RowName, IsAscending, SourceRow, lines_offered, others}
+use Rattle.annotate_snippets.specs.Rows.{suggestion_head}
+use Rattle.annotate_snippets.specs.Settings.{plain_settings}
+use Rattle.annotate_snippets.specs.declared.renderer.frame.Frame.{Frame}
+use Rattle.annotate_snippets.specs.declared.renderer.surroundings.Surroundings.{Surroundings}
+use Rattle.annotate_snippets.specs.Shown.{IsOfferedRow, IsSuggestionRow, ShowsSuggestion}
+use Rattle.annotate_snippets.proofs.NotShown.{two_of_one}
+
+-- ---- small suggestions, and their rows
+
+-- a row that offers the first line of a source, with this code, as in `1 + code`
+abbrev offering_row : List ℕ → List Cell
+offering_row code = drawn LineNumber (codes "1") ++ SPACE ∷ drawn Addition (codes "+") ++ SPACE ∷ drawn Quotation code
+
+-- the bytes from one to another are replaced by a text
+abbrev replaced : ℕ → ℕ → List ℕ → Edit
+replaced start end text = record { start = start; end = end; text = text }
+
+-- the snippet has this source and these patches
+record IsSnippetOf (s : Snippet Patch) (source : List ℕ) (es : List Edit) : Type 0 where
+  source_is : cow_str_bytes s.source ≡ source
+  edits_are : edits_of s ≡ es
+
+-- what is given of a snippet, by its source and its edits
+given_by : (s : Snippet Patch) (source : List ℕ) (es : List Edit) (lines : List (List ℕ)) → IsSnippetOf s source es → ((fold : Bool) → texts_of (lines_of (shown_text fold source es)) ≡ lines) → given_lines s ≡ lines
+given_by s source es lines is given =
+    ap (λ text. texts_of (lines_of (shown_text s.fold text (edits_of s)))) is.source_is ∙ ap (λ xs. texts_of (lines_of (shown_text s.fold source xs))) is.edits_are ∙ given s.fold
+
+-- ---- the source's own lines
+
+-- `ab`, with `c` in place of `b`, gives `ac`
+abbrev one_edit : List Edit
+one_edit = replaced 1 2 (codes "c") ∷ []
+
+gives_ac : (fold : Bool) → texts_of (lines_of (shown_text fold (codes "ab") one_edit)) ≡ codes "ac" ∷ []
+unfolding shown_text trimmed_edit sandwich kept_before start_of line_of
+gives_ac true = refl
+gives_ac false = refl
+
+-- so no row offers the line as it was, whatever line it is said to be:
+--
+--     1 + ab
+old_line_offered : (s : Snippet Patch) → IsSnippetOf s (codes "ab") one_edit → (j : ℕ) → IsOfferedRow plain_settings 1 s j (offering_row (codes "ab")) → ⊥
+unfolding char_width unicode_width norm chars
+old_line_offered s is j offers =
+    let given : given_lines s ≡ codes "ac" ∷ [] = given_by s (codes "ab") one_edit (codes "ac" ∷ []) is gives_ac in
+    let first : j - first_given s ≡ 0 = omega (arith, offers.from, offers.within, ap length given) in
+    let text : codes "ab" ≡ norm (chars (codes "ac")) = offers.line ∙ ap (λ k. norm (chars (get_or (given_lines s) k []))) first ∙ ap (λ lines. norm (chars (get_or lines 0 []))) given in
+    let letter : ◌≡◌ {A = ℕ} 98 99 = ap (λ (cs : List ℕ). get_or cs 1 0) text in
+    absurd (omega (arith, letter))
+
+-- ---- a second copy
+
+from_first : (fold : Bool) → shown_line fold (codes "ab") one_edit ≡ 0
+unfolding line_of
+from_first true = refl
+from_first false = refl
+
+-- a row `1 + ac` can only be named as that of the first line of `ac`: it has a digit in the gutter, and `+` behind it
+named_first : (s : Snippet Patch) → IsSnippetOf s (codes "ab") one_edit → (name : RowName) (cells : List Cell) → cells ≡ offering_row (codes "ac") → IsSuggestionRow plain_settings 1 s name cells → name ≡ OfferedLine 0
+named_first s is (SourceRow k) cells same shows = absurd shows
+named_first s is Elision cells same shows = absurd shows
+named_first s is (OfferedLine j) cells same shows =
+    let given : given_lines s ≡ codes "ac" ∷ [] = given_by s (codes "ab") one_edit (codes "ac" ∷ []) is gives_ac in
+    let from : first_given s ≡ 0 = ap (λ text. shown_line s.fold text (edits_of s)) is.source_is ∙ ap (shown_line s.fold (codes "ab")) is.edits_are ∙ from_first s.fold in
+    let at : j ≡ 0 = omega (arith, shows.from, shows.within, ap length given, from) in
+    ap OfferedLine at
+named_first s is (RemovedLine i) cells same shows =
+    let P : List Cell → Type 0 = λ row. (get_or row 2 SPACE).ch ≡ 45 in
+    let minus : ◌≡◌ {A = ℕ} 43 45 = subst P same shows.minus in
+    absurd (omega (arith, minus))
+named_first s is Other cells same shows =
+    let digit : false ≡ true = (subst (IsBareRow Ascii 1) same shows).strokes 0 (omega arith) in
+    cc
+
+-- a row behind others is what its name says, if all are, and so are those behind it
+row_named : (s : Snippet Patch) (before : List NamedRow) (row : NamedRow) (behind : List NamedRow) → All (λ r. IsSuggestionRow plain_settings 1 s r.name r.cells) (before ++ (row ∷ behind)) → IsSuggestionRow plain_settings 1 s row.name row.cells × All (λ r. IsSuggestionRow plain_settings 1 s r.name r.cells) behind
+row_named s [] row behind named =
+    (All-head (λ r. IsSuggestionRow plain_settings 1 s r.name r.cells) row behind named, All-tail (λ r. IsSuggestionRow plain_settings 1 s r.name r.cells) row behind named)
+row_named s (first ∷ before) row behind named =
+    row_named s before row behind (All-tail (λ r. IsSuggestionRow plain_settings 1 s r.name r.cells) first (before ++ (row ∷ behind)) named)
+
+-- so no rows that offer it twice show the suggestion, behind the row of its path, where that is named:
+--
+--     1 + ac
+--     1 + ac
+second_copy_offered : (s : Snippet Patch) → IsSnippetOf s (codes "ab") one_edit → (frame : Frame) → frame.gutter ≡ 1 → (around : Surroundings) (row copy : NamedRow) (before between behind : List NamedRow) → row.cells ≡ offering_row (codes "ac") → copy.cells ≡ offering_row (codes "ac") → ShowsSuggestion plain_settings frame around s (others (suggestion_head plain_settings frame around s) ++ (before ++ (row ∷ (between ++ (copy ∷ behind))))) → ⊥
+second_copy_offered s is frame narrow around row copy before between behind row_is copy_is shown =
+    let rows : List NamedRow = before ++ (row ∷ (between ++ (copy ∷ behind))) in
+    let same : shown.behind ≡ rows = append_cancel_left (others (suggestion_head plain_settings frame around s)) shown.behind rows (sym shown.rows_are) in
+    let named : All (λ r. IsSuggestionRow plain_settings 1 s r.name r.cells) rows = subst (λ gutter. All (λ r. IsSuggestionRow plain_settings gutter s r.name r.cells) rows) narrow (subst (All (λ r. IsSuggestionRow plain_settings frame.gutter s r.name r.cells)) same shown.named) in
+    let ordered : IsAscending (lines_offered rows) = subst (λ all. IsAscending (lines_offered all)) same shown.ordered in
+    let first = row_named s before row (between ++ (copy ∷ behind)) named in
+    let second = row_named s between copy behind first.1 in
+    let row_named : row.name ≡ OfferedLine 0 = named_first s is row.name row.cells row_is first.0 in
+    let copy_named : copy.name ≡ OfferedLine 0 = named_first s is copy.name copy.cells copy_is second.0 in
+    two_of_one 0 (lines_offered before) (lines_offered between) (lines_offered behind) (simp (filter_map-append, row_named, copy_named) at ordered)
+
+-- ---- a touched line that is left out
+
+-- `a` and `b` on two lines, with `x` in place of the one and `y` in place of the other, give `x` and `y`
+abbrev two_lines : List ℕ
+two_lines = codes "a" ++ 10 ∷ codes "b"
+
+abbrev two_edits : List Edit
+two_edits = replaced 0 1 (codes "x") ∷ replaced 2 3 (codes "y") ∷ []
+
+-- a text without a CR
+no_cr : (text : List ℕ) → list_all (λ b. not (b == 13)) text ≡ true → HasNoCr text
+no_cr text none =
+    All-weaker (λ b. not (b == 13) ≡ true) (λ b. b ≢ 13) (λ b other same. clash (b == 13) (eq-eqb b 13 same) other) text (AllPass-from_list_all (λ b. not (b == 13)) text none)
+  where
+    clash : (t : Bool) → t ≡ true → not t ≡ true → ⊥
+    clash true is isnt = cc
+    clash false is isnt = cc
+
+-- the promise speaks of the snippet
+offerable : (s : Snippet Patch) → IsSnippetOf s two_lines two_edits → IsOfferable s
+offerable s is =
+    record {
+      no_cr = subst HasNoCr (sym is.source_is) (no_cr two_lines refl);
+      no_cr_in = subst (All (λ (e : Edit). HasNoCr e.text)) (sym is.edits_are) (All-cons (λ (e : Edit). HasNoCr e.text) (replaced 0 1 (codes "x")) (replaced 2 3 (codes "y") ∷ []) (no_cr (codes "x") refl) (All-cons (λ (e : Edit). HasNoCr e.text) (replaced 2 3 (codes "y")) [] (no_cr (codes "y") refl) (All-nil (λ (e : Edit). HasNoCr e.text))));
+      before = λ k d inside final. let other : ◌≡◌ {A = ℕ} 98 10 = subst (λ text. last_byte text ≡ 10) is.source_is final in absurd (omega (arith, other));
+    }
+
+-- the second line is touched
+second_touched : IsTouched two_lines two_edits 1
+unfolding trimmed_edit sandwich kept_before start_of
+second_touched =
+    record {
+      stand = record { from = 2; to = 3 };
+      among = (1, omega arith, refl);
+      by = record {
+        place = 2;
+        in_line = record { within = omega arith; from = omega arith; to = inl (omega arith) };
+        from = omega arith;
+        to = inl (omega arith);
+      };
+    }
+
+-- it isn't blank
+second_visible : is_blank (text_at (source_lines (patched two_lines two_edits)) 1) ≡ false
+unfolding chars
+second_visible = refl
+
+-- the spliced text has two lines
+two_spliced : (fold : Bool) → texts_of (lines_of (spliced_text fold two_lines two_edits)) ≡ codes "x" ∷ codes "y" ∷ []
+unfolding spliced_text trimmed_edit sandwich kept_before start_of line_of
+two_spliced true = refl
+two_spliced false = refl
+
+-- so no rows show it that don't offer its second line, as where the text is cut off behind the first:
+--
+--     1 ~ x
+touched_left_out : (s : Snippet Patch) → IsSnippetOf s two_lines two_edits → (frame : Frame) (around : Surroundings) (rows : List NamedRow) → (Contains (lines_offered rows) 1 → ⊥) → ShowsSuggestion plain_settings frame around s (others (suggestion_head plain_settings frame around s) ++ rows) → ⊥
+touched_left_out s is frame around rows out shown =
+    let same : shown.behind ≡ rows = append_cancel_left (others (suggestion_head plain_settings frame around s)) shown.behind rows (sym shown.rows_are) in
+    let touched : IsTouched (cow_str_bytes s.source) (edits_of s) 1 = subst (λ text. IsTouched text (edits_of s) 1) (sym is.source_is) (subst (λ es. IsTouched two_lines es 1) (sym is.edits_are) second_touched) in
+    let visible : is_blank (text_at (source_lines (patched (cow_str_bytes s.source) (edits_of s))) 1) ≡ false = ap (λ text. is_blank (text_at (source_lines (patched text (edits_of s))) 1)) is.source_is ∙ ap (λ es. is_blank (text_at (source_lines (patched two_lines es)) 1)) is.edits_are ∙ second_visible in
+    elim (shown.offered (offerable s is) 1 touched visible) [ inl as_it_was ↦ changed as_it_was | inr among ↦ out (subst (λ all. Contains (lines_offered all) 1) same among) ]
+  where
+    changed : IsAsItWas s → ⊥
+    changed same =
+        let both : codes "x" ∷ codes "y" ∷ [] ≡ last_reached s ∷ [] = sym (two_spliced s.fold) ∙ ap (λ es. texts_of (lines_of (spliced_text s.fold two_lines es))) (sym is.edits_are) ∙ ap (λ text. texts_of (lines_of (spliced_text s.fold text (edits_of s)))) (sym is.source_is) ∙ same in
+        cc

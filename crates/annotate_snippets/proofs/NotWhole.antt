@@ -1,0 +1,252 @@
+-- What no whole page shows: pages of small reports, wrong in what stands around their snippets, contradict the definitions of what
+-- pages show.
+use Rattle.std.proofs.Common.{Option, Some, None, ◌≡◌, ℕ, ◌+◌, ◌<◌, ◌≤◌, zero, suc, Bool, true, false, not, ◌&&◌, if◌then◌else◌, List, [], ◌∷◌, ◌++◌, codes, drop, length, replicate, take, refl, sym, ap, subst, ◌∙◌, append_assoc, arith, inl, inr, ◌⊎◌}
+use Rattle.std.specs.Char.{is_ascii_alphanumeric}
+use Rattle.std.specs.Cow.{cow_str_bytes}
+use Rattle.std.specs.Fmt.{digits}
+use Rattle.std.specs.List.{All, Contains, slice_index_or}
+use Rattle.std.specs.Str.{chars}
+use Rattle.std.specs.declared.alloc.Global.{Global}
+use Rattle.std.specs.declared.borrow.CowStr.{CowStr}
+use Rattle.std.proofs.lemmas.List.{length-append}
+use Rattle.std.proofs.lemmas.List.Elements.{All-nil, All-cons, All-head, All-tail}
+use Rattle.snippet_style.specs.Grid.{Cell, SPACE, cell_at, drawn, row_at}
+use Rattle.snippet_style.specs.Print.{row_text}
+use Rattle.snippet_style.specs.declared.role.ElementStyle.TheVariants.{LineNumber, MainHeaderMsg, NoStyle, UnderlinePrimary}
+use Rattle.snippet_text.specs.Normalized.{norm}
+use Rattle.snippet_model.specs.declared.snippet.Annotation.{Annotation}
+use Rattle.snippet_model.specs.declared.snippet.AnnotationKind.TheVariants.{Primary}
+use Rattle.snippet_model.specs.declared.snippet.Element.TheVariants as element
+use Rattle.snippet_model.specs.declared.snippet.Id.{Id}
+use Rattle.snippet_model.specs.declared.snippet.Message as message
+use Rattle.snippet_model.specs.declared.snippet.Snippet.{Snippet}
+use Rattle.snippet_model.specs.declared.snippet.Title.{Title}
+use Rattle.snippet_lines.specs.Lines.{Source, source_lines, start_of}
+use Rattle.snippet_lines.specs.Place.{line_of, location_of, place_of, start_location, steps_behind_text}
+use Rattle.snippet_parts.specs.Marked.{first_line}
+use Rattle.snippet_parts.specs.Kept.{shown_lines}
+use Rattle.snippet_parts.proofs.PartLemmas.{All-unmapped}
+use Rattle.snippet_parts.specs.NamedPlace.{IsNamedPlace, start_at}
+use Rattle.snippet_parts.specs.Rows.{HasNoNumber}
+use Rattle.snippet_parts.specs.declared.named_place.NamedPlace.{NamedPlace}
+use Rattle.snippet_titles.specs.Origin.{closing_row, origin_text, separator_row}
+use Rattle.snippet_style.specs.declared.glyphs.DecorStyle.{DecorStyle}
+use Rattle.snippet_style.specs.declared.glyphs.DecorStyle.TheVariants.{Ascii}
+use Rattle.snippet_titles.specs.Shown.{heading_texts}
+use Rattle.snippet_titles.specs.declared.style.TitleStyle.TheVariants as style
+use Rattle.annotate_snippets.specs.Around.{closes_with, is_before_message, is_end, is_first_of_several, surroundings_at}
+use Rattle.annotate_snippets.specs.Gutter.{number_text}
+use Rattle.annotate_snippets.specs.Levels.{error_level}
+use Rattle.annotate_snippets.specs.Page.{Elision, NamedRow, OfferedLine, Other, RemovedLine, RowName, SourceRow, cells_of, line_named, lines_named, others}
+use Rattle.annotate_snippets.specs.Rows.{cause_head, rows_behind_cause, rows_behind_title}
+use Rattle.annotate_snippets.specs.Settings.{plain_settings}
+use Rattle.annotate_snippets.specs.Shown.{AreElementsShown, AreRowsOf, IsRowOf, NamesPlace, ShowsSnippet, ShowsTitle}
+use Rattle.annotate_snippets.specs.declared.renderer.Renderer.{Renderer}
+use Rattle.annotate_snippets.specs.declared.renderer.surroundings.GroupPlace.{GroupPlace}
+use Rattle.annotate_snippets.specs.declared.renderer.surroundings.GroupPlace.TheVariants as place
+use Rattle.annotate_snippets.specs.declared.renderer.surroundings.Next.{Next}
+use Rattle.annotate_snippets.specs.declared.renderer.surroundings.Next.TheVariants as next
+use Rattle.annotate_snippets.specs.declared.renderer.surroundings.Surroundings.{Surroundings}
+use Rattle.annotate_snippets.proofs.ListLemmas.{Contains-head, Contains-tail, Contains-cons_cases, Contains-nil}
+use Rattle.annotate_snippets.proofs.NotShown.{IsSnippetOf, frame, row_below, span_of}
+
+-- ---- a message where the snippet should stand
+
+-- the row of a message, `  = note: m`
+abbrev note_row : List Cell
+note_row =
+    replicate 2 SPACE ++ drawn LineNumber (codes "= ") ++ drawn MainHeaderMsg (codes "note") ++ drawn NoStyle (codes ": m")
+
+note_unnumbered : HasNoNumber 1 note_row
+note_unnumbered zero within = refl
+note_unnumbered (suc zero) within = refl
+note_unnumbered (suc (suc c)) within = absurd (omega (arith, within))
+
+-- a snippet of the line `a`, which has number 1
+record IsLineA (s : Snippet Annotation) : Type 0 where
+  is : IsSnippetOf s (codes "a") (span_of Primary 0 1 ∷ [])
+  numbered : s.line_numbering ≡ true
+  first : s.line_start ≡ 1
+
+-- a row without a number isn't its line's
+digit_left_out : (row : List Cell) → HasNoNumber 1 row → row_text (take 1 row) ≡ codes "1" → ⊥
+digit_left_out [] none text = cc
+digit_left_out (c ∷ cs) none text =
+    let digit : c.ch ≡ 49 = cc in
+    let letter : true ≡ false = subst (λ ch. is_ascii_alphanumeric ch ≡ false) digit (none 0 (omega arith)) in
+    cc
+
+-- so it isn't named as the row of a line
+unnamed : (closes : Bool) (s : Snippet Annotation) → IsLineA s → (name : RowName) (cells : List Cell) (rows : List NamedRow) → HasNoNumber 1 cells → IsRowOf plain_settings frame closes s name cells rows → line_named name ≡ None
+unfolding digits
+unnamed closes s is (SourceRow k) cells rows none shows =
+    let within : k < 1 = subst (λ source. k < length (source_lines source)) is.is.source_is shows.line.within in
+    let first : k ≡ 0 = omega arith in
+    let IsNumber : Bool → ℕ → Type 0 = λ numbered number. row_text (take (length (number_text plain_settings numbered 1 number)) cells) ≡ number_text plain_settings numbered 1 number in
+    let one : s.line_start + k ≡ 1 = omega (arith, first, is.first) in
+    let text : row_text (take 1 cells) ≡ codes "1" = subst (IsNumber true) one (subst (λ numbered. IsNumber numbered (s.line_start + k)) is.numbered shows.line.number) in
+    absurd (digit_left_out cells none text)
+unnamed closes s is Elision cells rows none shows = refl
+unnamed closes s is (OfferedLine j) cells rows none shows = refl
+unnamed closes s is (RemovedLine i) cells rows none shows = refl
+unnamed closes s is Other cells rows none shows = refl
+
+-- and no row of several is
+none_named : (closes : Bool) (s : Snippet Annotation) → IsLineA s → (rows : List NamedRow) → All (λ row. HasNoNumber 1 row.cells) rows → AreRowsOf plain_settings frame closes s rows → lines_named rows ≡ []
+none_named closes s is [] none named = refl
+none_named closes s is (row ∷ rows) none named =
+    let IsUnnumbered : NamedRow → Type 0 = λ r. HasNoNumber 1 r.cells in
+    let head : line_named row.name ≡ None = unnamed closes s is row.name row.cells rows (All-head IsUnnumbered row rows none) named.0 in
+    let rest : lines_named rows ≡ [] = none_named closes s is rows (All-tail IsUnnumbered row rows none) named.1 in
+    simp (head, rest)
+
+-- rows without numbers among others
+unnumbered_behind : (rows more : List NamedRow) → All (λ row. HasNoNumber 1 row.cells) (rows ++ more) → All (λ row. HasNoNumber 1 row.cells) more
+unnumbered_behind [] more all = all
+unnumbered_behind (row ∷ rows) more all =
+    unnumbered_behind rows more (All-tail (λ r. HasNoNumber 1 r.cells) row (rows ++ more) all)
+
+unnumbered_before : (rows more : List NamedRow) → All (λ row. HasNoNumber 1 row.cells) (rows ++ more) → All (λ row. HasNoNumber 1 row.cells) rows
+unnumbered_before [] more all = All-nil (λ row. HasNoNumber 1 row.cells)
+unnumbered_before (row ∷ rows) more all =
+    All-cons (λ r. HasNoNumber 1 r.cells) row rows (All-head (λ r. HasNoNumber 1 r.cells) row (rows ++ more) all) (unnumbered_before rows more (All-tail (λ r. HasNoNumber 1 r.cells) row (rows ++ more) all))
+
+-- so rows without a number show no snippet of a line that has one, whatever they are named
+line_left_out : (s : Snippet Annotation) → IsLineA s → (around : Surroundings) (rows : List NamedRow) → All (λ row. HasNoNumber 1 row.cells) rows → ShowsSnippet plain_settings frame around s rows → ⊥
+unfolding line_of start_of
+line_left_out s is around rows none shown =
+    let tail : List NamedRow = others (rows_behind_cause plain_settings frame around) in
+    let behind : All (λ row. HasNoNumber 1 row.cells) shown.behind = unnumbered_before shown.behind tail (unnumbered_behind (others (cause_head plain_settings frame around s)) (shown.behind ++ tail) (subst (All (λ row. HasNoNumber 1 row.cells)) shown.rows_are none)) in
+    let empty : lines_named shown.behind ≡ [] = none_named (closes_with around) s is shown.behind behind shown.named in
+    let one : shown_lines s.fold (codes "a") (span_of Primary 0 1 ∷ []) ≡ [] = ap (λ marks. shown_lines s.fold (codes "a") marks) (sym is.is.marks_are) ∙ ap (λ source. shown_lines s.fold source s.markers.items) (sym is.is.source_is) ∙ sym shown.lines ∙ empty in
+    some s.fold one
+  where
+    some : (fold : Bool) → shown_lines fold (codes "a") (span_of Primary 0 1 ∷ []) ≡ [] → ⊥
+    some true none = cc
+    some false none = cc
+
+-- so a message doesn't stand where a snippet above it should, as where the two are exchanged:
+--
+--       = note: m
+--     1 | a
+--       | ^
+exchanged : (s : Snippet Annotation) → IsLineA s → (m : message.Message) (place : GroupPlace) (file : Option (List ℕ)) (rows : List NamedRow) (parts : List (List NamedRow)) → cells_of rows ≡ note_row ∷ [] → AreElementsShown plain_settings frame place file (element.Cause s ∷ element.Message m ∷ []) (rows ∷ parts) → ⊥
+exchanged s is m place file rows parts cells shown =
+    line_left_out s is (surroundings_at place file (element.Cause s ∷ element.Message m ∷ []) 0 (element.Cause s)) rows (All-unmapped (HasNoNumber 1) (λ row. row.cells) rows (subst (All (HasNoNumber 1)) (sym cells) (All-cons (HasNoNumber 1) note_row [] note_unnumbered (All-nil (HasNoNumber 1))))) (shown.each 0 (element.Cause s) refl)
+
+-- ---- a title that is trusted, and normalised anyhow
+
+-- a title of the level `error`, with this text, which is trusted
+abbrev trusted_title : CowStr Global → Title
+trusted_title text = record { level = error_level; id = None; text = text; allows_styling = true }
+
+-- a trusted code stays as it is, and isn't shown as a picture of its escape:
+--
+--     error: ␛[1mx
+normalised_away : (text : CowStr Global) → cow_str_bytes text ≡ 27 ∷ codes "[1mx" → (place : GroupPlace) (follows : Next) (rows : List (List Cell)) → row_text (row_at rows 0) ≡ codes "error: " ++ 9243 ∷ codes "[1mx" → ShowsTitle plain_settings frame place follows (trusted_title text) rows → ⊥
+unfolding chars norm
+normalised_away text is place follows rows wrong shown =
+    in_own shown.own shown.rows_are (shown.shows.texts 0 ∙ ap (λ bytes. slice_index_or (heading_texts style.Title (record { level = error_level; id = None; text = bytes; allows_styling = true })) 0 []) is)
+  where
+    in_own : (own : List (List Cell)) → rows ≡ own ++ rows_behind_title plain_settings frame place follows true → row_text (row_at own 0) ≡ codes "error: " ++ 27 ∷ codes "[1mx" → ⊥
+    in_own [] same right = cc
+    in_own (row ∷ own) same right =
+        let both : codes "error: " ++ 9243 ∷ codes "[1mx" ≡ codes "error: " ++ 27 ∷ codes "[1mx" = sym wrong ∙ ap (λ all. row_text (row_at all 0)) same ∙ right in
+        let code : ◌≡◌ {A = ℕ} 9243 27 = ap (λ (cs : List ℕ). slice_index_or cs 7 0) both in
+        absurd (omega (arith, code))
+
+-- ---- a link on another cell than those of an id's text
+
+-- the name of a level doesn't link, as `error` would in `error[E1]: e`, whatever its id is, and whether links are on or not:
+--
+--     error[E1]: e
+--     ^ links
+linked_elsewhere : (r : Renderer) (text : CowStr Global) (id : Option Id) (trusted : Bool) (place : GroupPlace) (follows : Next) (rows : List (List Cell)) (url : List ℕ) → (cell_at rows 0 0).link ≡ Some url → ShowsTitle r frame place follows (record { level = error_level; id = id; text = text; allows_styling = trusted }) rows → ⊥
+unfolding chars norm
+linked_elsewhere r text id trusted place follows rows url wrong shown =
+    in_own shown.own shown.rows_are (shown.shows.links 0 0)
+  where
+    below : (decor : DecorStyle) (first second : Bool) → (cell_at (if first then separator_row decor 1 ∷ [] else (if second then closing_row decor 1 ∷ [] else [])) 0 0).link ≡ None
+    below decor true second = refl
+    below decor false true = refl
+    below decor false false = refl
+
+    in_own : (own : List (List Cell)) → rows ≡ own ++ rows_behind_title r frame place follows trusted → (cell_at own 0 0).link ≡ None → ⊥
+    in_own [] same none =
+        let both : ◌≡◌ {A = Option (List ℕ)} (Some url) None = sym wrong ∙ ap (λ all. (cell_at all 0 0).link) same ∙ below r.decor_style (is_before_message follows) (is_end follows && is_first_of_several place && not trusted) in
+        cc
+    in_own (row ∷ own) same none =
+        let both : ◌≡◌ {A = Option (List ℕ)} (Some url) None = sym wrong ∙ ap (λ all. (cell_at all 0 0).link) same ∙ none in
+        cc
+
+-- ---- a later column than the least
+
+-- two primary spans of `ab`, of which the second starts at column 1: the row of the path doesn't name the column at which the
+-- first one starts
+--
+--      --> f:1:2
+abbrev both_spans : List Annotation
+both_spans = span_of Primary 1 2 ∷ span_of Primary 0 1 ∷ []
+
+abbrev source_ab : Source
+source_ab = record { text = codes "ab"; first = 1 }
+
+-- the place that they name is at line 1 and column 1
+at_first : (place : NamedPlace) → IsNamedPlace source_ab both_spans place → (place.line ≡ 1) × (place.column ≡ Some 1)
+unfolding start_location location_of steps_behind_text place_of line_of start_of chars
+at_first place is =
+    elim (Contains-cons_cases second is.span (first ∷ []) is.naming.0) [
+      | inl same ↦ absurd (not_second same)
+      | inr rest ↦ by_first (Contains-cons_cases first is.span [] rest)
+    ]
+  where
+    first : Annotation
+    first = span_of Primary 0 1
+
+    second : Annotation
+    second = span_of Primary 1 2
+
+    not_second : second ≡ is.span → ⊥
+    not_second same =
+        let line : first_line (codes "ab") first ≡ first_line (codes "ab") is.span = ap (first_line (codes "ab")) same in
+        let less : start_at source_ab is.span ≤ start_at source_ab first = is.least first (Contains-tail second first (first ∷ []) (Contains-head first []), refl) line in
+        let two : 2 ≤ 1 = subst (λ a. start_at source_ab a ≤ 1) (sym same) less in
+        absurd (omega (arith, two))
+
+    by_first : (first ≡ is.span) ⊎ Contains [] is.span → (place.line ≡ 1) × (place.column ≡ Some 1)
+    by_first (inl same) =
+        (is.line ∙ ap (λ a. 1 + first_line (codes "ab") a) (sym same), is.column ∙ ap (λ a. Some (start_at source_ab a)) (sym same))
+    by_first (inr rest) = absurd (Contains-nil is.span rest)
+
+later_column : (s : Snippet Annotation) → IsSnippetOf s (codes "ab") both_spans → s.line_start ≡ 1 → (row : List Cell) → row_text (drop 5 row) ≡ codes "f:1:2" → NamesPlace plain_settings frame s (codes "f") row → ⊥
+unfolding origin_text digits norm chars
+later_column s is first row wrong named =
+    let Names : List ℕ → ℕ → List Annotation → Type 0 = λ text line marks. IsNamedPlace (record { text = text; first = line }) marks named.place in
+    let there : IsNamedPlace source_ab both_spans named.place = subst (λ marks. Names (codes "ab") 1 marks) is.marks_are (subst (λ line. Names (codes "ab") line s.markers.items) first (subst (λ text. Names text s.line_start s.markers.items) is.source_is named.is)) in
+    let at : (named.place.line ≡ 1) × (named.place.column ≡ Some 1) = at_first named.place there in
+    let right : row_text (drop 5 row) ≡ codes "f:1:1" = named.text ∙ ap (λ line. origin_text false (codes "f") (record { line = Some line; column = named.place.column })) at.0 ∙ ap (λ column. origin_text false (codes "f") (record { line = Some 1; column = column })) at.1 in
+    let digit : ◌≡◌ {A = ℕ} 50 49 = ap (λ (cs : List ℕ). slice_index_or cs 4 0) (sym wrong ∙ right) in
+    absurd (omega (arith, digit))
+
+-- ---- a closing row that is missing
+
+-- behind other rows one alone is the last
+last_row : (rows more : List NamedRow) (row other : NamedRow) → rows ++ row ∷ [] ≡ more ++ other ∷ [] → row ≡ other
+last_row [] [] row other same = cc
+last_row [] (m ∷ more) row other same = absurd (omega (arith, ap length same, length-append more (other ∷ [])))
+last_row (r ∷ rows) [] row other same = absurd (omega (arith, ap length same, length-append rows (row ∷ [])))
+last_row (r ∷ rows) (m ∷ more) row other same = last_row rows more row other (ap (drop 1) same)
+
+-- the first of several groups closes: no row of marks is the last one of a snippet with which it ends, as in
+--
+--     1 | a
+--       | ^
+--     note: n
+closing_left_out : (s : Snippet Annotation) (around : Surroundings) → around.place ≡ place.First → around.next ≡ next.Nothing → (rows : List NamedRow) (row : NamedRow) → row.cells ≡ row_below (drawn UnderlinePrimary (codes "^")) → ShowsSnippet plain_settings frame around s (rows ++ row ∷ []) → ⊥
+closing_left_out s around first last rows row cells shown =
+    let closing : NamedRow = record { name = Other; cells = closing_row Ascii 1 } in
+    let head : List NamedRow = others (cause_head plain_settings frame around s) in
+    let closes : rows_behind_cause plain_settings frame around ≡ closing_row Ascii 1 ∷ [] = ap (λ p. rows_behind_cause plain_settings frame (record around { place = p })) first ∙ ap (λ n. rows_behind_cause plain_settings frame (record around { place = place.First; next = n })) last in
+    let same : rows ++ row ∷ [] ≡ (head ++ shown.behind) ++ closing ∷ [] = shown.rows_are ∙ ap (λ tail. head ++ (shown.behind ++ others tail)) closes ∙ sym (append_assoc head shown.behind (closing ∷ [])) in
+    let is : row.cells ≡ closing_row Ascii 1 = ap (λ (r : NamedRow). r.cells) (last_row rows (head ++ shown.behind) row closing same) in
+    absurd (omega (arith, ap length (sym cells ∙ is)))
