@@ -19,6 +19,7 @@ pub mod PlaceLemmas
 pub mod PreparedLemmas
 pub mod PrintLemmas
 pub mod ReportLemmas
+pub mod RoomLemmas
 pub mod SuggestionLemmas
 pub mod SuggestionShown
 pub mod TrustedLemmas

@@ -1,0 +1,135 @@
+-- The frames of a report have room for each element that is drawn in them.
+use Rattle.std.proofs.Common.{◌≡◌, ℕ, zero, suc, ◌+◌, ◌<◌, ◌≤◌, ◌^◌, ◌&&◌, ◌==◌, not, max, fold, All, Bool, true, false, cond, List, [], ◌∷◌, ◌++◌, Option, Some, length, refl, sym, ap, subst, arith}
+use Rattle.std.specs.Cow.{cow_str_bytes}
+use Rattle.std.specs.Fmt.{decimal}
+use Rattle.std.specs.List.{flat_map, slice_get}
+use Rattle.std.proofs.lemmas.Bool.{cond_both}
+use Rattle.std.proofs.lemmas.Bool.Decides.{nat_tests}
+use Rattle.std.proofs.lemmas.Fmt.{length-decimal-le}
+use Rattle.std.proofs.lemmas.List.Elements.{All-append, All-cons, All-filter, All-head, All-nil, All-tail, All-weaker}
+use Rattle.std.proofs.lemmas.List.Sums.{fold-append}
+use Rattle.snippet_model.specs.declared.snippet.Element.{Element}
+use Rattle.snippet_model.specs.declared.snippet.Element.TheVariants.{Message, Cause, Suggestion, Origin, Padding}
+use Rattle.snippet_model.specs.declared.snippet.Group.{Group}
+use Rattle.snippet_model.specs.declared.snippet.Patch.{Patch}
+use Rattle.snippet_model.specs.declared.snippet.Snippet.{Snippet}
+use Rattle.snippet_lines.specs.Lines.{newline_count, source_lines}
+use Rattle.snippet_lines.specs.Place.{line_of}
+use Rattle.snippet_lines.proofs.PlaceLemmas.{line_of-within}
+use Rattle.snippet_parts.specs.Prepare.{counted_number}
+use Rattle.snippet_suggest.specs.declared.kind.DisplaySuggestion.{DisplaySuggestion}
+use Rattle.snippet_suggest.specs.declared.kind.DisplaySuggestion.TheVariants.{Underline, Diff, Plain, Add}
+use Rattle.snippet_suggest.specs.Given.{counted_folded, counted_line, first_end, first_given, given_text, shown_kind, trimmed_of}
+use Rattle.snippet_suggest.specs.Prepared.{IsSuggestible}
+use Rattle.snippet_suggest.proofs.PreparedLemmas.{last-fits}
+use Rattle.annotate_snippets.specs.Around.{drawn_elements, is_drawn}
+use Rattle.annotate_snippets.specs.Drawn.{HasRoomFor}
+use Rattle.annotate_snippets.specs.Gutter.{code_behind, depth_of_element, depth_of_group, frame_of, greatest_wanted, gutter_of_report, width_wanted}
+use Rattle.annotate_snippets.specs.Prepared.{IsElementDrawable, IsGroupDrawable}
+use Rattle.annotate_snippets.specs.declared.renderer.Renderer.{Renderer}
+use Rattle.annotate_snippets.proofs.GutterLemmas.{counted-small}
+use Rattle.annotate_snippets.proofs.WidestLemmas.{greater}
+
+-- ---- the greatest of what some elements want
+
+widest-from : (wants : Element → ℕ) (most : ℕ) (es : List Element) → most ≤ fold (greater wants) most es
+widest-from wants most [] = omega arith
+widest-from wants most (e ∷ es) = omega (arith, widest-from wants (greater wants most e) es)
+
+-- is no less than what each of them wants
+widest-each : (wants : Element → ℕ) (most : ℕ) (es : List Element) → All (λ e. wants e ≤ fold (greater wants) most es) es
+widest-each wants most [] = All-nil (λ e. wants e ≤ most)
+widest-each wants most (e ∷ es) =
+    All-cons (λ d. wants d ≤ fold (greater wants) (greater wants most e) es) e es (omega (arith, widest-from wants (greater wants most e) es)) (widest-each wants (greater wants most e) es)
+
+-- and no more than what none of them exceeds
+widest-low : (wants : Element → ℕ) (most top : ℕ) (es : List Element) → most ≤ top → All (λ e. wants e ≤ top) es → fold (greater wants) most es ≤ top
+widest-low wants most top [] low all = low
+widest-low wants most top (e ∷ es) low all =
+    widest-low wants (greater wants most e) top es (omega (arith, low, All-head (λ d. wants d ≤ top) e es all)) (All-tail (λ d. wants d ≤ top) e es all)
+
+abbrev elements_of : Group → List Element
+elements_of g = g.elements.items
+
+-- so is that of a report's groups no less than what the elements of each of these want
+widest-group : (wants : Element → ℕ) (most : ℕ) (gs : List Group) (i : ℕ) (g : Group) → slice_get gs i ≡ Some g → All (λ e. wants e ≤ fold (greater wants) most (flat_map elements_of gs)) g.elements.items
+widest-group wants most [] i g is = cc
+widest-group wants most (h ∷ gs) zero g is =
+    let same : h ≡ g = cc in
+    let own : ℕ = fold (greater wants) most h.elements.items in
+    let all : fold (greater wants) most (flat_map elements_of (h ∷ gs)) ≡ fold (greater wants) own (flat_map elements_of gs) = fold-append (greater wants) most h.elements.items (flat_map elements_of gs) in
+    let more : own ≤ fold (greater wants) own (flat_map elements_of gs) = widest-from wants own (flat_map elements_of gs) in
+    let here : All (λ e. wants e ≤ fold (greater wants) most (flat_map elements_of (h ∷ gs))) h.elements.items = All-weaker (λ e. wants e ≤ own) (λ e. wants e ≤ fold (greater wants) most (flat_map elements_of (h ∷ gs))) (λ e low. omega (arith, low, all, more)) h.elements.items (widest-each wants most h.elements.items) in
+    subst (λ (k : Group). All (λ e. wants e ≤ fold (greater wants) most (flat_map elements_of (h ∷ gs))) k.elements.items) same here
+widest-group wants most (h ∷ gs) (suc i) g is =
+    let own : ℕ = fold (greater wants) most h.elements.items in
+    subst (λ n. All (λ e. wants e ≤ n) g.elements.items) (sym (fold-append (greater wants) most h.elements.items (flat_map elements_of gs))) (widest-group wants own gs i g is)
+
+-- what holds of the elements of each group holds of all
+all_elements : (P : Element → Type 0) (gs : List Group) → All (λ (g : Group). All P g.elements.items) gs → All P (flat_map elements_of gs)
+all_elements P [] all = All-nil P
+all_elements P (g ∷ gs) all =
+    All-append P g.elements.items (flat_map elements_of gs) (All-head (λ (h : Group). All P h.elements.items) g gs all) (all_elements P gs (All-tail (λ (h : Group). All P h.elements.items) g gs all))
+
+-- ---- the numbers that are counted have at most 20 digits
+
+folded-small : (kind : DisplaySuggestion) (first removed last : ℕ) → first < 2 ^ 64 → removed < 2 ^ 64 → last < 2 ^ 64 → counted_folded kind first removed last < 2 ^ 64
+folded-small Underline first removed last a b c = a
+folded-small Diff first removed last a b c = b
+folded-small Plain first removed last a b c = c
+folded-small Add first removed last a b c = c
+
+-- the number that a suggestion counts fits
+counted-suggested : (s : Snippet Patch) → IsSuggestible s → counted_line s < 2 ^ 64
+counted-suggested s can =
+    let source : List ℕ = cow_str_bytes s.source in
+    let first : ℕ = s.line_start + first_given s in
+    let removed : ℕ = s.line_start + line_of (source_lines source) (first_end (trimmed_of s)) in
+    let last : ℕ = first + newline_count (given_text s) in
+    let small : last < 2 ^ 64 = last-fits s can in
+    let there : removed < 2 ^ 64 = omega (arith, can.lines, line_of-within source (first_end (trimmed_of s))) in
+    cond_both s.fold (counted_folded (shown_kind s) first removed last) last (λ n. n < 2 ^ 64) (λ _. folded-small (shown_kind s) first removed last (omega (arith, small)) there small) (λ _. small)
+
+digits : (number : ℕ) → number < 2 ^ 64 → length (decimal number) ≤ 20
+digits number small = length-decimal-le 20 number (omega arith) (omega (arith, small)) small
+
+wanted-low : (e : Element) → IsElementDrawable e → width_wanted e ≤ 20
+wanted-low (Message m) drawable = omega arith
+wanted-low (Cause s) drawable =
+    cond_both s.line_numbering (length (decimal (counted_number s))) 0 (λ n. n ≤ 20) (λ _. digits (counted_number s) (counted-small s drawable.numbers)) (λ _. omega arith)
+wanted-low (Suggestion s) drawable =
+    cond_both (s.line_numbering && not (length s.markers.items == 0)) (length (decimal (counted_line s))) 0 (λ n. n ≤ 20) (λ _. digits (counted_line s) (counted-suggested s drawable)) (λ _. omega arith)
+wanted-low (Origin o) drawable = omega arith
+wanted-low (Padding p) drawable = omega arith
+
+-- so the gutter isn't wider
+gutter-small : (r : Renderer) (groups : List Group) → All IsGroupDrawable groups → gutter_of_report r groups ≤ 20
+gutter-small r groups drawable =
+    let Low : Element → Type 0 = λ e. width_wanted e ≤ 20 in
+    let each : All (λ (g : Group). All Low g.elements.items) groups = All-weaker IsGroupDrawable (λ (g : Group). All Low g.elements.items) (λ g can. All-weaker IsElementDrawable Low wanted-low g.elements.items can.1) groups drawable in
+    cond_both r.anonymized_snippet_line_numbers 2 (greatest_wanted (flat_map elements_of groups)) (λ n. n ≤ 20) (λ _. omega arith) (λ _. widest-low width_wanted 0 20 (flat_map elements_of groups) (omega arith) (all_elements Low groups each))
+
+-- ---- and the frame has room
+
+-- more bars push the code no less far
+code-monotone : (gutter depth more : ℕ) → depth ≤ more → code_behind gutter depth ≤ code_behind gutter more
+code-monotone gutter depth more low = by (depth == 0) (more == 0) refl refl
+  where
+    by : (none all : Bool) → (depth == 0) ≡ none → (more == 0) ≡ all → cond none (gutter + 3) (gutter + 3 + depth + 1) ≤ cond all (gutter + 3) (gutter + 3 + more + 1)
+    by true true d m = omega arith
+    by true false d m = omega arith
+    by false true d m = grind (arith, nat_tests, low)
+    by false false d m = omega (arith, low)
+
+-- each element that a group of a report draws has room in the group's frame
+pub room_in_report : (r : Renderer) (groups : List Group) → All IsGroupDrawable groups → (i : ℕ) (g : Group) → slice_get groups i ≡ Some g → All (HasRoomFor r (frame_of r groups g)) (drawn_elements g)
+room_in_report r groups drawable i g is =
+    let widest : ℕ = greatest_wanted (flat_map elements_of groups) in
+    let each : All (λ e. width_wanted e ≤ widest) g.elements.items = widest-group width_wanted 0 groups i g is in
+    let deep : All (λ e. depth_of_element e ≤ depth_of_group g) g.elements.items = widest-each depth_of_element 0 g.elements.items in
+    All-filter is_drawn (HasRoomFor r (frame_of r groups g)) g.elements.items (λ k d within. record {
+      small = gutter-small r groups drawable;
+      anonymized = λ on. omega (arith, ap (λ b. cond b 2 widest) on);
+      numbers = λ off. omega (arith, ap (λ b. cond b 2 widest) off, each k d within);
+      bars = code-monotone (gutter_of_report r groups) _ (depth_of_group g) (deep k d within);
+    })
