@@ -22,6 +22,7 @@ pub mod ReportLemmas
 pub mod RoomLemmas
 pub mod SuggestionLemmas
 pub mod SuggestionShown
+pub mod SurroundingLemmas
 pub mod TrustedLemmas
 pub mod WalkLemmas
 pub mod WidestLemmas
