@@ -1,5 +1,7 @@
+pub mod AroundLaws
 pub mod CauseShown
 pub mod DisjointLemmas
+pub mod ElementRows
 pub mod ElementShown
 pub mod FaultLemmas
 pub mod GroupLemmas
@@ -16,6 +18,7 @@ pub mod PageLemmas
 pub mod PartsFacts
 pub mod PatchRows
 pub mod PlaceLemmas
+pub mod PlainRows
 pub mod PreparedLemmas
 pub mod PrintLemmas
 pub mod ReportLemmas

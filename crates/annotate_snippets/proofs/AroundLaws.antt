@@ -1,0 +1,121 @@
+-- Laws of what stands around the elements of a group.
+use Rattle.std.proofs.Common.{◌≡◌, ℕ, ◌+◌, ◌-◌, ◌<◌, nat_eq, ◌&&◌, not, Bool, true, false, if◌then◌else◌, Option, None, Some, List, [], ◌∷◌, drop, length, zero, suc, refl, sym, ap, ◌∙◌, arith, subst}
+use Rattle.std.specs.List.{slice_get}
+use Rattle.std.specs.Option.{is_some}
+use Rattle.std.proofs.lemmas.Bool.Decides.{nat_tests}
+use Rattle.snippet_model.specs.declared.snippet.Element.{Element}
+use Rattle.snippet_model.specs.declared.snippet.Element.TheVariants.{Cause, Message, Origin, Padding, Suggestion}
+use Rattle.snippet_suggest.specs.declared.layout.SuggestionStart.TheVariants.{Next, Opening, Path}
+use Rattle.annotate_snippets.specs.Around.{CanStandIn, begins_in_row_above, first_two_share, is_next_start, is_other_file, path_bytes, share_file, start_of, surroundings_at}
+use Rattle.annotate_snippets.specs.declared.renderer.surroundings.GroupPlace.{GroupPlace}
+
+-- whether the element of this number begins in the last row of the one before
+abbrev pub shares_before : List Element → ℕ → Bool
+shares_before es i = not (nat_eq i 0) && first_two_share (drop (i - 1) es)
+
+-- the elements from one on are that one and others
+pub from_element : (es : List Element) (i : ℕ) (e : Element) → slice_get es i ≡ Some e → (rest : List Element) × (drop i es ≡ e ∷ rest)
+from_element [] i e is = absurd (cc)
+from_element (x ∷ es) zero e is =
+    let same : x ≡ e = cc in
+    (es, ap (λ y. y ∷ es) same)
+from_element (x ∷ es) (suc i) e is = from_element es i e is
+
+-- whether an element is a snippet of patches; no other shares a file
+abbrev is_patches : Element → Bool
+is_patches (Message message) = false
+is_patches (Cause snippet) = false
+is_patches (Suggestion snippet) = true
+is_patches (Origin origin) = false
+is_patches (Padding padding) = false
+
+shares_none : (d e : Element) → is_patches e ≡ false → share_file d e ≡ false
+shares_none (Message message) e other = refl
+shares_none (Cause snippet) e other = refl
+shares_none (Suggestion snippet) (Message message) other = refl
+shares_none (Suggestion snippet) (Cause cause) other = refl
+shares_none (Suggestion snippet) (Suggestion patches) other = absurd (cc)
+shares_none (Suggestion snippet) (Origin origin) other = refl
+shares_none (Suggestion snippet) (Padding padding) other = refl
+shares_none (Origin origin) e other = refl
+shares_none (Padding padding) e other = refl
+
+-- so it shares no row with the one behind it
+first_alone : (e : Element) (rest : List Element) → ((d : Element) → share_file e d ≡ false) → first_two_share (e ∷ rest) ≡ false
+first_alone e [] never = refl
+first_alone e (d ∷ rest) never = never d
+
+shared_not : (es : List Element) (i : ℕ) (e : Element) → slice_get es i ≡ Some e → ((d : Element) → share_file e d ≡ false) → first_two_share (drop i es) ≡ false
+shared_not es i e is never =
+    let from = from_element es i e is in
+    ap first_two_share from.1 ∙ first_alone e from.0 never
+
+-- nor with the one before it
+pair_not : (es : List Element) (k : ℕ) (e : Element) → slice_get es (suc k) ≡ Some e → is_patches e ≡ false → first_two_share (drop k es) ≡ false
+pair_not [] k e is other = absurd (cc)
+pair_not (d ∷ []) zero e is other = refl
+pair_not (d ∷ x ∷ es) zero e is other =
+    let same : x ≡ e = cc in
+    subst (λ y. share_file d y ≡ false) (sym same) (shares_none d e other)
+pair_not (d ∷ es) (suc k) e is other = pair_not es k e is other
+
+and_false : (a b : Bool) → b ≡ false → a && b ≡ false
+and_false true b none = none
+and_false false b none = refl
+
+before_alone : (es : List Element) (i : ℕ) (e : Element) → slice_get es i ≡ Some e → is_patches e ≡ false → shares_before es i ≡ false
+before_alone es zero e is other = refl
+before_alone es (suc k) e is other =
+    let at : suc k - 1 ≡ k = omega arith in
+    and_false (not (nat_eq (suc k) 0)) (first_two_share (drop (suc k - 1) es)) (ap (λ j. first_two_share (drop j es)) at ∙ pair_not es k e is other)
+
+-- behind the last element there is none to share a row
+last_not : (es : List Element) (k : ℕ) → length es ≡ suc k → first_two_share (drop k es) ≡ false
+last_not [] k is = absurd (omega arith)
+last_not (d ∷ []) zero is = refl
+last_not (d ∷ x ∷ es) zero is = absurd (omega (arith, is))
+last_not (d ∷ es) (suc k) is = last_not es k (omega (arith, is))
+
+pub shares_end : (es : List Element) → shares_before es (length es) ≡ false
+shares_end [] = refl
+shares_end (d ∷ es) =
+    let at : length (d ∷ es) - 1 ≡ length es = omega arith in
+    and_false (not (nat_eq (length (d ∷ es)) 0)) (first_two_share (drop (length (d ∷ es) - 1) (d ∷ es))) (ap (λ j. first_two_share (drop j (d ∷ es))) at ∙ last_not (d ∷ es) (length es) (omega arith))
+
+-- an element begins in the row above it where the one before it shares that
+pub shares_after : (es : List Element) (i : ℕ) → shares_before es (i + 1) ≡ first_two_share (drop i es)
+shares_after es i =
+    let at : i + 1 - 1 ≡ i = omega arith in
+    let some : nat_eq (i + 1) 0 ≡ false = grind (arith, nat_tests) in
+    ap (λ b. not b && first_two_share (drop (i + 1 - 1) es)) some ∙ ap (λ j. first_two_share (drop j es)) at
+
+-- where a suggestion begins below its path it has one
+other_has : (file path : Option (List ℕ)) → is_other_file file path ≡ true → is_some path ≡ true
+other_has file None other = other
+other_has file (Some path) other = refl
+
+path_start : (shares other : Bool) (file path : Option (List ℕ)) → is_other_file file path ≡ other → (if shares then Next else (if other then Path else Opening)) ≡ Path → is_some path ≡ true
+path_start true other file path is starts = absurd (cc)
+path_start false true file path is starts = other_has file path is
+path_start false false file path is starts = absurd (cc)
+
+-- each element can stand in what is around it
+pub can_stand : (place : GroupPlace) (file : Option (List ℕ)) (es : List Element) (i : ℕ) (e : Element) → slice_get es i ≡ Some e → CanStandIn (surroundings_at place file es i e) e
+can_stand place file es i (Message message) is = (refl, shared_not es i (Message message) is (λ d. refl))
+can_stand place file es i (Cause snippet) is = (refl, shared_not es i (Cause snippet) is (λ d. refl))
+can_stand place file es i (Suggestion snippet) is = λ starts. path_start (shares_before es i) (is_other_file file (path_bytes snippet.path)) file (path_bytes snippet.path) refl starts
+can_stand place file es i (Origin origin) is = (refl, shared_not es i (Origin origin) is (λ d. refl))
+can_stand place file es i (Padding padding) is = (refl, shared_not es i (Padding padding) is (λ d. refl))
+
+-- a suggestion begins in the row above it where it shares that, and no other element does
+next_start : (shares other : Bool) → is_next_start (if shares then Next else (if other then Path else Opening)) ≡ shares
+next_start true other = refl
+next_start false true = refl
+next_start false false = refl
+
+pub begins_is : (place : GroupPlace) (file : Option (List ℕ)) (es : List Element) (i : ℕ) (e : Element) → slice_get es i ≡ Some e → begins_in_row_above (surroundings_at place file es i e) ≡ shares_before es i
+begins_is place file es i (Message message) is = sym (before_alone es i (Message message) is refl)
+begins_is place file es i (Cause snippet) is = sym (before_alone es i (Cause snippet) is refl)
+begins_is place file es i (Suggestion snippet) is = next_start (shares_before es i) (is_other_file file (path_bytes snippet.path))
+begins_is place file es i (Origin origin) is = sym (before_alone es i (Origin origin) is refl)
+begins_is place file es i (Padding padding) is = sym (before_alone es i (Padding padding) is refl)

@@ -1,0 +1,9 @@
+use Rattle.std.proofs.Common.{length, map}
+use Rattle.std.specs.Option.{option_copied}
+use Rattle.annotate_snippets.specs.Prepared.{element_of}
+use Rattle.annotate_snippets.proofs.ElementRows.{DrawnSoFar}
+use Rattle.annotate_snippets.proofs.renderer.elements.draw_elements.Given as goal
+
+abbrev pub invariant-loop-i : goal.invariant-loop-i
+invariant-loop-i l =
+    DrawnSoFar l.fn.renderer l.fn.frame l.fn.place (option_copied l.fn.file) (map element_of l.fn.elements.items) (length l.yielded) l.fn.buffer l.buffer
