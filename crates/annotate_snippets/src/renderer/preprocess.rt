@@ -9,7 +9,9 @@ ghost use Rattle.annotate_snippets.specs.Gutter as gutter;
 ghost use Rattle.annotate_snippets.specs.Prepared.{IsCausePrepared, IsDrawable, IsElementDrawable, IsElementPrepared, IsGroupDrawable, IsGroupPrepared, element_of};
 
 use crate::renderer::paths::{is_same_file, path_of};
-use snippet_model::snippet::{Annotation, Element, Group, Message, Origin, Padding, Patch, Snippet};
+use snippet_model::snippet::{
+    Annotation, Element, Group, Message, Origin, Padding, Patch, Snippet,
+};
 use snippet_parts::{AnnotatedLineInfo, SourceMap};
 use snippet_suggest::{PreparedSuggestion, prepare_suggestion};
 use std::alloc::{AllocError, Global};

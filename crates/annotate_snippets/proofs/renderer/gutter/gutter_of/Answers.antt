@@ -1,10 +1,10 @@
-use Rattle.std.proofs.Common.{◌≡◌, ◌∙◌, List, ap, arith, cond, fold, map, subst, sym}
+use Rattle.std.proofs.Common.{◌≡◌, ◌∙◌, List, ap, cond, fold, map, subst, sym}
 use Rattle.std.specs.List.{flat_map}
 use Rattle.std.proofs.lemmas.List.{take_all}
 use Rattle.std.proofs.lemmas.List.Elements.{All-same}
 use Rattle.std.proofs.lemmas.List.Folds.{flat_map-map}
 use Rattle.snippet_model.specs.declared.snippet.Group.{Group}
-use Rattle.annotate_snippets.specs.Gutter.{gutter_of_report, greatest_wanted, width_wanted}
+use Rattle.annotate_snippets.specs.Gutter.{greatest_wanted, width_wanted}
 use Rattle.annotate_snippets.specs.Prepared.{IsElementPrepared, IsGroupPrepared}
 use Rattle.annotate_snippets.specs.declared.renderer.preprocess.PreparedGroup.{PreparedGroup}
 use Rattle.annotate_snippets.proofs.WidestLemmas.{elements_in, greater, widest-more_groups, widest-prepared, width-undrawn}

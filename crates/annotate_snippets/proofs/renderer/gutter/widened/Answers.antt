@@ -1,4 +1,4 @@
-use Rattle.std.proofs.Common.{◌≡◌, ◌∙◌, List, ap, arith, fold, map, subst, sym}
+use Rattle.std.proofs.Common.{◌∙◌, List, ap, arith, fold, map, subst, sym}
 use Rattle.std.proofs.lemmas.List.{take_all}
 use Rattle.annotate_snippets.specs.Gutter.{width_wanted}
 use Rattle.annotate_snippets.specs.Prepared.{IsElementPrepared, element_of}

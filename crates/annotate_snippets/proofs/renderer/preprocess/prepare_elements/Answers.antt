@@ -1,9 +1,8 @@
-use Rattle.std.proofs.Common.{◌≡◌, ◌∙◌, ◌++◌, ◌∷◌, [], Global, IfSome, List, None, Option, Some, Vec, ap, cond, map, subst, sym}
+use Rattle.std.proofs.Common.{◌≡◌, ◌∙◌, ◌++◌, ◌∷◌, [], Global, IfSome, None, Option, Some, Vec, ap, cond, map, subst, sym}
 use Rattle.std.specs.List.{filter}
 use Rattle.std.specs.Option.{option_map}
 use Rattle.std.proofs.lemmas.List.{append-nil, take_all}
 use Rattle.std.proofs.lemmas.List.Elements.{All-nil, All-same}
-use Rattle.snippet_model.specs.declared.snippet.Element.{Element}
 use Rattle.annotate_snippets.specs.Around.{is_drawn}
 use Rattle.annotate_snippets.specs.Prepared.{IsElementDrawable, IsElementPrepared, element_of}
 use Rattle.annotate_snippets.specs.declared.renderer.preprocess.PreparedElement.{PreparedElement}

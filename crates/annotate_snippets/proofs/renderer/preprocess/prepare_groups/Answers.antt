@@ -1,4 +1,4 @@
-use Rattle.std.proofs.Common.{◌≡◌, ◌∙◌, [], List, ap, map, refl, subst, sym}
+use Rattle.std.proofs.Common.{◌∙◌, [], ap, map, refl, subst, sym}
 use Rattle.std.specs.List.{filter}
 use Rattle.std.proofs.lemmas.List.{take_all}
 use Rattle.std.proofs.lemmas.List.Elements.{All-nil, All-same}

@@ -1,4 +1,4 @@
-use Rattle.std.proofs.Common.{◌≡◌, ◌∙◌, All, List, ap, arith, fold, map, subst, sym}
+use Rattle.std.proofs.Common.{◌∙◌, All, List, ap, arith, fold, map, subst, sym}
 use Rattle.std.proofs.lemmas.List.{take_all}
 use Rattle.std.proofs.lemmas.List.Elements.{All-same}
 use Rattle.annotate_snippets.specs.Gutter.{depth_of_element}
