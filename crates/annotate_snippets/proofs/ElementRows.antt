@@ -92,14 +92,14 @@ drawn_all r frame place file es n old new all drawn =
     within es i e is = slice_get_within es i e is
 
 -- the item that an iteration has is the next of some, with its number
-turn_item : {X : Type 0} (xs : List X) (n i : ℕ) (x : X) → (n < length (enumerate_from 0 xs)) × ((i, x) ≡ get_or (enumerate_from 0 xs) n (i, x)) → (i ≡ n) × (slice_get xs n ≡ Some x)
+pub turn_item : {X : Type 0} (xs : List X) (n i : ℕ) (x : X) → (n < length (enumerate_from 0 xs)) × ((i, x) ≡ get_or (enumerate_from 0 xs) n (i, x)) → (i ≡ n) × (slice_get xs n ≡ Some x)
 turn_item xs n i x turn =
     let within : n < length xs = omega (arith, turn.0, length-enumerate_from 0 xs) in
     let at : 0 + n ≡ n = omega arith in
     let is : (i, x) ≡ (0 + n, get_or xs n x) = turn.1 ∙ get_or-enumerate_from 0 xs n (i, x) within in
     (ap (λ p. p.0) is ∙ at, slice_get-get_or xs n x within ∙ ap Some (sym (ap (λ p. p.1) is)))
 
-get-mapped : {X Y : Type 0} (f : X → Y) (xs : List X) (n : ℕ) (x : X) → slice_get xs n ≡ Some x → slice_get (map f xs) n ≡ Some (f x)
+pub get-mapped : {X Y : Type 0} (f : X → Y) (xs : List X) (n : ℕ) (x : X) → slice_get xs n ≡ Some x → slice_get (map f xs) n ≡ Some (f x)
 get-mapped f [] n x is = absurd (cc)
 get-mapped f (y ∷ xs) zero x is =
     let same : y ≡ x = cc in

@@ -4,6 +4,7 @@ pub mod DisjointLemmas
 pub mod ElementRows
 pub mod ElementShown
 pub mod FaultLemmas
+pub mod GridRows
 pub mod GroupLemmas
 pub mod GroupShown
 pub mod GutterLemmas

@@ -1,0 +1,125 @@
+-- The grids of a report's groups, in order.
+use Rattle.std.proofs.Common.{◌≡◌, ℕ, ◌+◌, ◌<◌, All, Option, None, Some, List, [], ◌∷◌, ◌++◌, length, get_or, map, take, zero, suc, Bor, inl, inr, refl, sym, ap, ◌∙◌, arith, subst}
+use Rattle.std.specs.List.{enumerate_from, slice_get}
+use Rattle.std.specs.Option.{option_copied, option_or}
+use Rattle.std.proofs.lemmas.Bool.{cases_lt}
+use Rattle.std.proofs.lemmas.List.{length-append, length-map, map-append, places, take_all}
+use Rattle.std.proofs.lemmas.List.FromFn.{length-enumerate_from}
+use Rattle.std.proofs.lemmas.Option.{slice_get-get_or, slice_get_within}
+use Rattle.snippet_model.specs.declared.snippet.Group.{Group}
+use Rattle.snippet_parts.proofs.PartLemmas.{All-unmapped}
+use Rattle.snippet_suggest.proofs.DrawnLemmas.{next_of}
+use Rattle.annotate_snippets.specs.Around.{drawn_elements, file_of_group, place_at, primary_path, report_path}
+use Rattle.annotate_snippets.specs.Drawn.{AreGridsOf, HasRoomFor, IsGroupGrid}
+use Rattle.annotate_snippets.specs.Gutter.{code_behind, depth_of_group, frame_of, gutter_of_report}
+use Rattle.annotate_snippets.specs.Prepared.{IsGroupDrawable, IsGroupPrepared, element_of}
+use Rattle.annotate_snippets.specs.declared.renderer.Renderer.{Renderer}
+use Rattle.annotate_snippets.specs.declared.renderer.frame.Frame.{Frame}
+use Rattle.annotate_snippets.specs.declared.renderer.graphic.GroupGrid.{GroupGrid}
+use Rattle.annotate_snippets.specs.declared.renderer.preprocess.PreparedGroup.{PreparedGroup}
+use Rattle.annotate_snippets.specs.declared.renderer.surroundings.GroupPlace.{GroupPlace}
+use Rattle.annotate_snippets.proofs.ElementRows.{get-mapped, turn_item}
+use Rattle.annotate_snippets.proofs.PreparedLemmas.{group_of}
+use Rattle.annotate_snippets.proofs.RoomLemmas.{room_in_report}
+
+-- the grids of the first so many groups
+pub record GridsSoFar (r : Renderer) (groups : List Group) (n : ℕ) (grids : List GroupGrid) : Type 0 where
+  pub count : length grids ≡ n
+  pub levels : map (λ (grid : GroupGrid). grid.level) grids ≡ map (λ (g : Group). g.level) (take n groups)
+  pub each : (i : ℕ) (g : Group) (grid : GroupGrid) → slice_get groups i ≡ Some g → slice_get grids i ≡ Some grid → IsGroupGrid r (frame_of r groups g) (place_at (length groups) i) (file_of_group groups g) g grid.buffer
+
+pub grids_none : (r : Renderer) (groups : List Group) (grids : List GroupGrid) → grids ≡ [] → GridsSoFar r groups 0 grids
+grids_none r groups grids none =
+    record {
+      count = ap length none;
+      levels = ap (map (λ (grid : GroupGrid). grid.level)) none;
+      each = λ i g grid here is. absurd (never i grid (ap (λ (xs : List GroupGrid). slice_get xs i) (sym none) ∙ is));
+    }
+  where
+    never : (i : ℕ) (grid : GroupGrid) → slice_get [] i ≡ Some grid → ⊥
+    never i grid is = absurd (omega (arith, slice_get_within [] i grid is))
+
+-- where two files are there in turn
+pub copied_or : (a b : Option (Bor (List ℕ))) → option_copied (option_or a b) ≡ option_or (option_copied a) (option_copied b)
+copied_or None b = refl
+copied_or (Some x) b = refl
+
+-- a frame, by its parts
+abbrev framed : ℕ → ℕ → Frame
+framed gutter code = record { gutter = gutter; code = code }
+
+-- the frame is the one that the report gives the group
+pub frame_is : (r : Renderer) (groups gs : List Group) (g : Group) (frame : Frame) (gutter depth : ℕ) → gs ≡ groups → gutter ≡ gutter_of_report r gs → depth ≡ depth_of_group g → frame.gutter ≡ gutter → frame.code ≡ code_behind gutter depth → frame ≡ frame_of r groups g
+frame_is r groups gs g frame gutter depth same wide deep left code =
+    let wanted : gutter ≡ gutter_of_report r groups = wide ∙ ap (gutter_of_report r) same in
+    let behind : frame.code ≡ code_behind (gutter_of_report r groups) (depth_of_group g) = code ∙ ap (λ w. code_behind w depth) wanted ∙ ap (code_behind (gutter_of_report r groups)) deep in
+    let first : ◌≡◌ {A = Frame} frame (record { gutter = gutter_of_report r groups; code = frame.code }) = ap (λ w. framed w frame.code) (left ∙ wanted) in
+    first ∙ ap (framed (gutter_of_report r groups)) behind
+
+-- an iteration's group is the next of the report
+pub turn_group : (groups : List Group) (ps : List PreparedGroup) (n i : ℕ) (p : PreparedGroup) → map group_of ps ≡ groups → (n < length (enumerate_from 0 ps)) × ((i, p) ≡ get_or (enumerate_from 0 ps) n (i, p)) → slice_get groups n ≡ Some p.group.now
+turn_group groups ps n i p same turn =
+    ap (λ (gs : List Group). slice_get gs n) (sym same) ∙ get-mapped group_of ps n p (turn_item ps n i p turn).1
+
+-- it is prepared
+pub turn_prepared : (ps : List PreparedGroup) (n i : ℕ) (p : PreparedGroup) → All IsGroupPrepared ps → (n < length (enumerate_from 0 ps)) × ((i, p) ≡ get_or (enumerate_from 0 ps) n (i, p)) → IsGroupPrepared p
+turn_prepared ps n i p all turn =
+    let item : slice_get ps n ≡ Some p = (turn_item ps n i p turn).1 in
+    let within : n < length ps = slice_get_within ps n p item in
+    let found : Some (get_or ps n p) ≡ Some p = sym (slice_get-get_or ps n p within) ∙ item in
+    let is : get_or ps n p ≡ p = cc in
+    subst IsGroupPrepared is (all n p within)
+
+-- the frame has room for its elements
+pub turn_room : (r : Renderer) (groups : List Group) (ps : List PreparedGroup) (n i : ℕ) (p : PreparedGroup) (frame : Frame) → All IsGroupDrawable groups → IsGroupPrepared p → map group_of ps ≡ groups → (n < length (enumerate_from 0 ps)) × ((i, p) ≡ get_or (enumerate_from 0 ps) n (i, p)) → frame ≡ frame_of r groups p.group.now → All (λ e. HasRoomFor r frame (element_of e)) p.elements.items
+turn_room r groups ps n i p frame drawable prepared same turn is =
+    All-unmapped (HasRoomFor r frame) element_of p.elements.items (subst (λ es. All (HasRoomFor r frame) es) (sym prepared.elements_are) (subst (λ f. All (HasRoomFor r f) (drawn_elements p.group.now)) (sym is) (room_in_report r groups drawable n p.group.now (turn_group groups ps n i p same turn))))
+
+-- one more grid
+pub turn_grid : (r : Renderer) (groups : List Group) (ps : List PreparedGroup) (n m i : ℕ) (p : PreparedGroup) (frame : Frame) (place : GroupPlace) (file : Option (List ℕ)) (grid : GroupGrid) (grids new : List GroupGrid) → map group_of ps ≡ groups → (n < length (enumerate_from 0 ps)) × ((i, p) ≡ get_or (enumerate_from 0 ps) n (i, p)) → frame ≡ frame_of r groups p.group.now → place ≡ place_at (length groups) i → file ≡ file_of_group groups p.group.now → grid.level ≡ p.group.now.level → IsGroupGrid r frame place file p.group.now grid.buffer → new ≡ grids ++ grid ∷ [] → m ≡ n + 1 → GridsSoFar r groups n grids → GridsSoFar r groups m new
+turn_grid r groups ps n m i p frame place file grid grids new same turn frame_here place_here file_here level drawn pushed next before =
+    let g : Group = p.group.now in
+    let at : i ≡ n = (turn_item ps n i p turn).0 in
+    let here : slice_get groups n ≡ Some g = turn_group groups ps n i p same turn in
+    let within : n < length groups = slice_get_within groups n g here in
+    let found : Some (get_or groups n g) ≡ Some g = sym (slice_get-get_or groups n g within) ∙ here in
+    let is : get_or groups n g ≡ g = cc in
+    let taken : take m groups ≡ take n groups ++ g ∷ [] = ap (λ k. take k groups) next ∙ next_of groups n g within ∙ ap (λ x. take n groups ++ x ∷ []) is in
+    let whole : IsGroupGrid r (frame_of r groups g) (place_at (length groups) n) (file_of_group groups g) g grid.buffer =
+      subst (λ f. IsGroupGrid r f (place_at (length groups) n) (file_of_group groups g) g grid.buffer) frame_here (subst (λ at_place. IsGroupGrid r frame at_place (file_of_group groups g) g grid.buffer) (place_here ∙ ap (place_at (length groups)) at) (subst (λ path. IsGroupGrid r frame place path g grid.buffer) file_here drawn)) in
+    record {
+      count = ap length pushed ∙ omega (arith, length-append grids (grid ∷ []), before.count, next);
+      levels = ap (map (λ (d : GroupGrid). d.level)) pushed ∙ map-append (λ (d : GroupGrid). d.level) grids (grid ∷ []) ∙ ap (λ xs. xs ++ grid.level ∷ []) before.levels ∙ ap (λ x. map (λ (h : Group). h.level) (take n groups) ++ x ∷ []) level ∙ sym (map-append (λ (h : Group). h.level) (take n groups) (g ∷ [])) ∙ ap (map (λ (h : Group). h.level)) (sym taken);
+      each = λ j h d is_group is_grid.
+          let put : slice_get (grids ++ grid ∷ []) j ≡ Some d = ap (λ (xs : List GroupGrid). slice_get xs j) (sym pushed) ∙ is_grid in
+          elim (cases_lt j n) [
+            | inl below ↦ before.each j h d is_group (early grids grid d j (omega (arith, below, before.count)) put)
+            | inr past ↦
+                let low : j < length (grids ++ grid ∷ []) = slice_get_within (grids ++ grid ∷ []) j d put in
+                let equal : n ≡ j = omega (arith, past, low, length-append grids (grid ∷ []), before.count) in
+                let group_same : Some g ≡ Some h = sym here ∙ ap (slice_get groups) equal ∙ is_group in
+                let grid_same : grid ≡ d = last grids grid d j (before.count ∙ equal) put in
+                let g_is : g ≡ h = cc in
+                subst (λ k. IsGroupGrid r (frame_of r groups h) (place_at (length groups) k) (file_of_group groups h) h d.buffer) equal (subst (λ x. IsGroupGrid r (frame_of r groups h) (place_at (length groups) n) (file_of_group groups h) h x.buffer) grid_same (subst (λ y. IsGroupGrid r (frame_of r groups y) (place_at (length groups) n) (file_of_group groups y) y grid.buffer) g_is whole))
+          ];
+    }
+  where
+    early : (grids : List GroupGrid) (grid d : GroupGrid) (j : ℕ) → j < length grids → slice_get (grids ++ grid ∷ []) j ≡ Some d → slice_get grids j ≡ Some d
+    early [] grid d j below is = absurd (omega (arith, below))
+    early (x ∷ xs) grid d zero below is = is
+    early (x ∷ xs) grid d (suc j) below is = early xs grid d j (omega (arith, below)) is
+
+    last : (grids : List GroupGrid) (grid d : GroupGrid) (j : ℕ) → length grids ≡ j → slice_get (grids ++ grid ∷ []) j ≡ Some d → grid ≡ d
+    last [] grid d zero at is = cc
+    last [] grid d (suc j) at is = absurd (omega (arith, at))
+    last (x ∷ xs) grid d zero at is = absurd (omega (arith, at))
+    last (x ∷ xs) grid d (suc j) at is = last xs grid d j (omega (arith, at)) is
+
+-- all of them
+pub grids_all : (r : Renderer) (groups : List Group) (ps : List PreparedGroup) (n : ℕ) (grids : List GroupGrid) → map group_of ps ≡ groups → n ≡ length (enumerate_from 0 ps) → GridsSoFar r groups n grids → AreGridsOf r groups grids
+grids_all r groups ps n grids same all drawn =
+    let size : n ≡ length groups = omega (arith, all, length-enumerate_from 0 ps, length-map ps group_of, ap length same) in
+    record {
+      levels = drawn.levels ∙ ap (map (λ (h : Group). h.level)) (take_all n groups (omega (arith, size)));
+      each = drawn.each;
+    }
