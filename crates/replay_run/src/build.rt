@@ -11,7 +11,8 @@ use crate::case::{LevelKind, LevelName, Mark, Settings, Source};
 use annotate_snippets::level::{ERROR, HELP, INFO, Level, NOTE, WARNING};
 use annotate_snippets::renderer::{DecorStyle, RenderError};
 use annotate_snippets::{
-    Annotation, Element, Group, Message, OptionCow, Origin, Padding, Patch, Renderer, Snippet, Title,
+    Annotation, Element, Group, Message, OptionCow, Origin, Padding, Patch, Renderer, Snippet,
+    Title,
 };
 use std::alloc::{AllocError, Global};
 
