@@ -1,12 +1,12 @@
 -- Laws of what stands around the elements of a group.
-use Rattle.std.proofs.Common.{◌≡◌, ℕ, ◌+◌, ◌-◌, ◌<◌, nat_eq, ◌&&◌, not, Bool, true, false, if◌then◌else◌, Option, None, Some, List, [], ◌∷◌, drop, length, zero, suc, refl, sym, ap, ◌∙◌, arith, subst}
+use Rattle.std.proofs.Common.{◌≡◌, ℕ, ◌+◌, ◌-◌, nat_eq, ◌&&◌, not, Bool, true, false, if◌then◌else◌, Option, None, Some, List, [], ◌∷◌, drop, length, zero, suc, refl, sym, ap, ◌∙◌, arith, subst}
 use Rattle.std.specs.List.{slice_get}
 use Rattle.std.specs.Option.{is_some}
 use Rattle.std.proofs.lemmas.Bool.Decides.{nat_tests}
 use Rattle.snippet_model.specs.declared.snippet.Element.{Element}
 use Rattle.snippet_model.specs.declared.snippet.Element.TheVariants.{Cause, Message, Origin, Padding, Suggestion}
 use Rattle.snippet_suggest.specs.declared.layout.SuggestionStart.TheVariants.{Next, Opening, Path}
-use Rattle.annotate_snippets.specs.Around.{CanStandIn, begins_in_row_above, first_two_share, is_next_start, is_other_file, path_bytes, share_file, start_of, surroundings_at}
+use Rattle.annotate_snippets.specs.Around.{CanStandIn, begins_in_row_above, first_two_share, is_next_start, is_other_file, path_bytes, share_file, surroundings_at}
 use Rattle.annotate_snippets.specs.declared.renderer.surroundings.GroupPlace.{GroupPlace}
 
 -- whether the element of this number begins in the last row of the one before

@@ -3,13 +3,13 @@ use Rattle.std.proofs.Common.{◌≡◌, ℕ, ◌+◌, ◌<◌, All, Option, Non
 use Rattle.std.specs.List.{enumerate_from, slice_get}
 use Rattle.std.specs.Option.{option_copied, option_or}
 use Rattle.std.proofs.lemmas.Bool.{cases_lt}
-use Rattle.std.proofs.lemmas.List.{length-append, length-map, map-append, places, take_all}
+use Rattle.std.proofs.lemmas.List.{length-append, length-map, map-append, take_all}
 use Rattle.std.proofs.lemmas.List.FromFn.{length-enumerate_from}
 use Rattle.std.proofs.lemmas.Option.{slice_get-get_or, slice_get_within}
 use Rattle.snippet_model.specs.declared.snippet.Group.{Group}
 use Rattle.snippet_parts.proofs.PartLemmas.{All-unmapped}
 use Rattle.snippet_suggest.proofs.DrawnLemmas.{next_of}
-use Rattle.annotate_snippets.specs.Around.{drawn_elements, file_of_group, place_at, primary_path, report_path}
+use Rattle.annotate_snippets.specs.Around.{drawn_elements, file_of_group, place_at}
 use Rattle.annotate_snippets.specs.Drawn.{AreGridsOf, HasRoomFor, IsGroupGrid}
 use Rattle.annotate_snippets.specs.Gutter.{code_behind, depth_of_group, frame_of, gutter_of_report}
 use Rattle.annotate_snippets.specs.Prepared.{IsGroupDrawable, IsGroupPrepared, element_of}
@@ -86,7 +86,7 @@ turn_grid r groups ps n m i p frame place file grid grids new same turn frame_he
     let is : get_or groups n g ≡ g = cc in
     let taken : take m groups ≡ take n groups ++ g ∷ [] = ap (λ k. take k groups) next ∙ next_of groups n g within ∙ ap (λ x. take n groups ++ x ∷ []) is in
     let whole : IsGroupGrid r (frame_of r groups g) (place_at (length groups) n) (file_of_group groups g) g grid.buffer =
-      subst (λ f. IsGroupGrid r f (place_at (length groups) n) (file_of_group groups g) g grid.buffer) frame_here (subst (λ at_place. IsGroupGrid r frame at_place (file_of_group groups g) g grid.buffer) (place_here ∙ ap (place_at (length groups)) at) (subst (λ path. IsGroupGrid r frame place path g grid.buffer) file_here drawn)) in
+    subst (λ f. IsGroupGrid r f (place_at (length groups) n) (file_of_group groups g) g grid.buffer) frame_here (subst (λ at_place. IsGroupGrid r frame at_place (file_of_group groups g) g grid.buffer) (place_here ∙ ap (place_at (length groups)) at) (subst (λ path. IsGroupGrid r frame place path g grid.buffer) file_here drawn)) in
     record {
       count = ap length pushed ∙ omega (arith, length-append grids (grid ∷ []), before.count, next);
       levels = ap (map (λ (d : GroupGrid). d.level)) pushed ∙ map-append (λ (d : GroupGrid). d.level) grids (grid ∷ []) ∙ ap (λ xs. xs ++ grid.level ∷ []) before.levels ∙ ap (λ x. map (λ (h : Group). h.level) (take n groups) ++ x ∷ []) level ∙ sym (map-append (λ (h : Group). h.level) (take n groups) (g ∷ [])) ∙ ap (map (λ (h : Group). h.level)) (sym taken);

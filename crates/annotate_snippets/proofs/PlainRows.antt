@@ -1,5 +1,5 @@
 -- Elements that share no row with others.
-use Rattle.std.proofs.Common.{◌≡◌, Bool, false, List, [], ◌++◌, refl, sym, ap, ◌∙◌, subst}
+use Rattle.std.proofs.Common.{◌≡◌, false, List, [], ◌++◌, refl, sym, ap, ◌∙◌, subst}
 use Rattle.std.proofs.lemmas.List.{append-nil}
 use Rattle.snippet_style.specs.Grid.{Cell}
 use Rattle.snippet_model.specs.declared.snippet.Element.{Element}

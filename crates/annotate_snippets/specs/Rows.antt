@@ -1,10 +1,9 @@
 -- The rows of a report that hold nothing of a source: which they are, cell by cell.
-use Rattle.std.specs.Prelude.{ℕ, ◌+◌, ◌&&◌, Bool, true, false, not, List, [], ◌∷◌, ◌++◌, Option, None, Some, if◌then◌else◌}
+use Rattle.std.specs.Prelude.{ℕ, ◌+◌, ◌&&◌, Bool, not, List, [], ◌∷◌, ◌++◌, Option, None, Some, if◌then◌else◌}
 use Rattle.std.specs.Cow.{cow_str_bytes}
 use Rattle.std.specs.Option.{option_to_list}
 use Rattle.std.specs.List.{flat_map}
 use Rattle.snippet_model.specs.declared.snippet.Annotation.{Annotation}
-use Rattle.snippet_model.specs.declared.snippet.Group.{Group}
 use Rattle.snippet_model.specs.declared.snippet.Message.{Message}
 use Rattle.snippet_model.specs.declared.snippet.Origin.{Origin}
 use Rattle.snippet_model.specs.declared.snippet.Patch.{Patch}

@@ -83,7 +83,15 @@ fn draw_group<'a>(
         let next = next_of(&group.elements);
         draw_title(alloc, &mut buffer, renderer, frame, place, next, title)?;
     }
-    draw_elements(alloc, &mut buffer, renderer, frame, place, file, group.elements)?;
+    draw_elements(
+        alloc,
+        &mut buffer,
+        renderer,
+        frame,
+        place,
+        file,
+        group.elements,
+    )?;
     Ok(GroupGrid { level, buffer })
 }
 

@@ -1,4 +1,4 @@
-use Rattle.std.proofs.Common.{◌≡◌, ◌∙◌, List, length, map, ap, sym, subst}
+use Rattle.std.proofs.Common.{◌≡◌, ◌∙◌, length, map, ap}
 use Rattle.std.specs.Option.{option_copied, option_or}
 use Rattle.std.proofs.lemmas.Iterator.Adapters.{YieldsList-from_vec}
 use Rattle.std.proofs.lemmas.Iterator.Consumers.{YieldsList-end, YieldsList-from_enumerate, YieldsList-turn}
@@ -6,7 +6,6 @@ use Rattle.std.proofs.lemmas.List.{length_push}
 use Rattle.annotate_snippets.specs.Around.{primary_path}
 use Rattle.annotate_snippets.specs.Gutter.{frame_of}
 use Rattle.annotate_snippets.specs.Prepared.{IsGroupPrepared}
-use Rattle.annotate_snippets.proofs.ElementRows.{turn_item}
 use Rattle.annotate_snippets.proofs.GridRows.{copied_or, frame_is, grids_all, grids_none, turn_grid, turn_prepared, turn_room}
 use Rattle.annotate_snippets.proofs.PreparedLemmas.{group_of}
 use Rattle.annotate_snippets.proofs.renderer.graphic.grids.Goals as goal

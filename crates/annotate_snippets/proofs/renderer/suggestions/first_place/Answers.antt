@@ -1,4 +1,4 @@
-use Rattle.std.proofs.Common.{◌≡◌, ap, sym, ◌∙◌}
+use Rattle.std.proofs.Common.{ap, sym, ◌∙◌}
 use Rattle.std.specs.Option.{option_copied}
 use Rattle.std.specs.List.{slice_get}
 use Rattle.annotate_snippets.proofs.PlaceLemmas.{first-is_some, first-place, first-span}

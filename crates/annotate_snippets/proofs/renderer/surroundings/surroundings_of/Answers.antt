@@ -1,7 +1,6 @@
-use Rattle.std.proofs.Common.{◌≡◌, ◌∙◌, ◌+◌, ◌&&◌, not, map, ap, sym, subst, true, false, List, length, arith}
+use Rattle.std.proofs.Common.{◌∙◌, ◌+◌, ◌&&◌, not, map, ap, sym, subst, true, false, List, arith}
 use Rattle.std.specs.Option.{option_copied}
 use Rattle.std.proofs.lemmas.List.{length-map}
-use Rattle.snippet_model.specs.declared.snippet.Element.{Element}
 use Rattle.annotate_snippets.specs.declared.renderer.surroundings.Surroundings.{Surroundings}
 use Rattle.annotate_snippets.specs.Around.{first_two_share, has_file, next_of}
 use Rattle.annotate_snippets.specs.Prepared.{element_of}
