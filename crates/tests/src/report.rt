@@ -75,15 +75,6 @@ fn draws_nothing_of_no_groups(rt: HostRuntime) -> Result<(), Fail> {
 }
 
 #[test]
-fn draws_a_copy_as_the_original(rt: HostRuntime) -> Result<(), Fail> {
-    let alloc = rt.alloc();
-    let copy = unused_variable(alloc)?.clone()?;
-    let drawn = text(alloc, &Renderer::styled(), copy)?;
-    assert_eq!(rt; drawn.as_str(), STYLED_UNUSED);
-    Ok(())
-}
-
-#[test]
 fn hides_line_numbers_by_either_switch(rt: HostRuntime) -> Result<(), Fail> {
     let alloc = rt.alloc();
     let one = Renderer::plain().anonymized_line_numbers(true);

@@ -1,4 +1,4 @@
-use Rattle.std.proofs.Common.{◌≡◌, ◌∷◌, ◌++◌, [], ℕ, List, Some, IfOk, refl, ap, subst, ◌∙◌, string_bytes}
+use Rattle.std.proofs.Common.{◌≡◌, ◌∷◌, ◌++◌, [], ℕ, List, Some, IfOk, Ok, Result, refl, ap, subst, ◌∙◌, string_bytes}
 use Rattle.std.specs.Cow.{cow_str_bytes}
 use Rattle.std.specs.Option.{option_map}
 use Rattle.std.proofs.lemmas.Result.{IfOk-weaker}
@@ -9,10 +9,14 @@ use Rattle.annotate_snippets.specs.declared.snippet.Group.{Group}
 use Rattle.annotate_snippets.specs.declared.snippet.Snippet.{Snippet}
 use Rattle.annotate_snippets.specs.declared.snippet.Title.{Title}
 use Rattle.annotate_snippets.specs.Shown.{ShowsReport}
-use Rattle.annotate_snippets.proofs.ReportLemmas.{IfOk-map_err, ok_had}
+use Rattle.annotate_snippets.proofs.ReportLemmas.{IfOk-map_err}
 use Rattle.snip_run.specs.declared.words.Command.{Command}
 use Rattle.snip_run.specs.Report.{IsMarkFor, IsReportFor, IsSnippetFor, IsTitleFor, ShowsCommand}
 use Rattle.snip_run.proofs.run.rendered.Goals as goal
+
+-- what holds of an answer that is known holds of what it gives
+ok_had : {T E : Type 0} (P : T → Type 0) (r : Result T E) (x : T) → r ≡ Ok x → IfOk r P → P x
+ok_had P r x is holds = subst (λ z. IfOk z P) is holds
 
 pub returns : goal.returns
 returns c =
