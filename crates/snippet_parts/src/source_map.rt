@@ -172,6 +172,7 @@ impl<'a> SourceMap<'a> {
         ensures start_bound { result.0.display < 2 ^ 58 }
         ensures end_bound { result.1.display ≤ 2 ^ 58 }
         ensures start_char { result.0.char ≤ 2 ^ 56 }
+        ensures end_char { result.1.char ≤ 2 ^ 56 }
     {
         let (mut start, start_steps) = self.locate(span.start);
         start.char += start_steps;

@@ -105,7 +105,7 @@ fn destroys(source: &str, patch: &TrimmedPatch<'_>) -> bool
 
 /// Whether a patch stands over text that isn't blank. A span that isn't inside the source counts as such text, unless it
 /// is empty.
-fn overwrites(source: &str, patch: &TrimmedPatch<'_>) -> bool
+pub fn overwrites(source: &str, patch: &TrimmedPatch<'_>) -> bool
     ensures value { let e = trimmed_edit_of patch.now in IsSpan source.now patch.now.span.start patch.now.span.end
         → result ≡ is_under_text e (text_under source.now e) }
 {
@@ -132,7 +132,7 @@ pub(crate) fn is_addition(source: &str, patch: &TrimmedPatch<'_>) -> bool
 }
 
 /// Whether a text is nothing but whitespace.
-pub(crate) fn is_blank(text: &str) -> bool
+pub fn is_blank(text: &str) -> bool
     ensures value { result ≡ spec.is_blank text.now }
 {
     text.chars().all(|c| c.is_whitespace())

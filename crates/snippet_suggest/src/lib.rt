@@ -15,7 +15,7 @@ pub mod row;
 pub mod shown;
 pub mod suggestion;
 
-pub use kind::DisplaySuggestion;
+pub use kind::{DisplaySuggestion, is_blank, overwrites};
 pub use layout::{SuggestionLayout, SuggestionStart};
 pub use prepared::{PreparedSuggestion, prepare_suggestion};
 pub use suggestion::draw_suggestion;
