@@ -46,7 +46,7 @@ refilled (row ∷ rows) =
     let rest = refilled rows in on_top-refilled row (trimmed rows) rows rest.0 rest.1
 
 -- a row reads the same
-get_or-append_seam : (xs ys : List (List Cell)) → row_at (xs ++ ys) (length xs) ≡ row_at ys 0
+pub get_or-append_seam : (xs ys : List (List Cell)) → row_at (xs ++ ys) (length xs) ≡ row_at ys 0
 get_or-append_seam xs ys = grind (arith, places)
 
 past_rows : (xs : List (List Cell)) (n k : ℕ) → row_at (xs ++ replicate n []) k ≡ row_at xs k

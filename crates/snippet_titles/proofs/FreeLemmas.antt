@@ -73,7 +73,7 @@ module _ (P : List Cell → Type 0) where
 -- what holds of each character that isn't listed
 module _ (P : ℕ → Type 0) (free : (c : ℕ) → IsFree c → P c) where
   -- holds of those of an id, of a label, and of what stands left of them
-  from_free : (cs : List ℕ) → All IsFree cs → All P cs
+  pub from_free : (cs : List ℕ) → All IsFree cs → All P cs
   from_free cs all = All-weaker IsFree P free cs all
 
   opening-all : (hidden : Bool) → All P (opening_of hidden)
@@ -98,7 +98,7 @@ module _ (P : ℕ → Type 0) (free : (c : ℕ) → IsFree c → P c) where
   id-all hidden None = All-nil P
   id-all hidden (Some id) = text-all hidden (option_map cow_str_bytes id.id)
 
-  label-all : (heading : Heading) → All P (label_text heading)
+  pub label-all : (heading : Heading) → All P (label_text heading)
   label-all heading =
       let hidden : Bool = is_hidden heading.level.name in
       let name : List ℕ = norm (chars (name_of heading.level)) in
@@ -128,7 +128,7 @@ module _ (P : ℕ → Type 0) (free : (c : ℕ) → IsFree c → P c) where
       let sign : List ℕ = note_sign_of place.decor place.followed in
       parts-all (replicate (place.gutter + 1) SPACE) (drawn LineNumber sign) (spaces-all (place.gutter + 1)) (subst (All P) (sym (row_text-drawn LineNumber sign)) (note_sign-all place.decor place.followed))
 
-  indent-all : (style : TitleStyle) (width : ℕ) → All P (row_text (indent_cells style width))
+  pub indent-all : (style : TitleStyle) (width : ℕ) → All P (row_text (indent_cells style width))
   indent-all Title width = spaces-all width
   indent-all Short width = spaces-all width
   indent-all (Message place) width =
@@ -136,11 +136,11 @@ module _ (P : ℕ → Type 0) (free : (c : ℕ) → IsFree c → P c) where
       parts-all (replicate (place.gutter + 1) SPACE) (bar ∷ replicate (width + 1) SPACE) (spaces-all (place.gutter + 1)) (All-cons P bar.ch (row_text (replicate (width + 1) SPACE)) (note_bar-free place.decor place.followed) (spaces-all (width + 1)))
 
   -- and of those of the rows of lines, where it holds of those of the lines
-  row-all : (cells : List Cell) (r : ElementStyle) → All P (row_text cells) → (line : List ℕ) → All P line → All P (row_text (cells ++ drawn r line))
+  pub row-all : (cells : List Cell) (r : ElementStyle) → All P (row_text cells) → (line : List ℕ) → All P line → All P (row_text (cells ++ drawn r line))
   row-all cells r before line all =
       subst (All P) (sym (row_text-behind cells (row_text cells) r line refl)) (All-append P (row_text cells) line before all)
 
-  lines-all : (first further : List Cell) (r : ElementStyle) (lines : List (List ℕ)) → All P (row_text first) → All P (row_text further) → All (All P) lines → All (λ row. All P (row_text row)) (lines_below first further r lines)
+  pub lines-all : (first further : List Cell) (r : ElementStyle) (lines : List (List ℕ)) → All P (row_text first) → All P (row_text further) → All (All P) lines → All (λ row. All P (row_text row)) (lines_below first further r lines)
   lines-all first further r [] begun below all = All-nil (λ row. All P (row_text row))
   lines-all first further r (line ∷ lines) begun below all =
       All-cons (λ row. All P (row_text row)) (first ++ drawn r line) (map (λ l. further ++ drawn r l) lines) (row-all first r begun line (All-head (All P) line lines all)) (All-map (λ row. All P (row_text row)) (λ l. further ++ drawn r l) lines (All-weaker (All P) (λ l. All P (row_text (further ++ drawn r l))) (row-all further r below) lines (All-tail (All P) line lines all)))
@@ -164,13 +164,13 @@ heading_rows-untrusted hyperlink style heading untrusted =
     heading_rows-all IsFree (λ c is. is) hyperlink style heading (rw untrusted (norm-free (chars heading.text)))
 
 -- each listed character of a heading's rows stands in its text, and that is trusted
-abbrev IsOwn : Heading → ℕ → Type 0
+abbrev pub IsOwn : Heading → ℕ → Type 0
 IsOwn heading c = is_listed c ≡ true → (heading.allows_styling ≡ true) × Contains (chars heading.text) c
 
-own_unlisted : (heading : Heading) (c : ℕ) → IsFree c → IsOwn heading c
+pub own_unlisted : (heading : Heading) (c : ℕ) → IsFree c → IsOwn heading c
 own_unlisted heading c unlisted listed = cc
 
-own_text : (heading : Heading) (trusted : Bool) → heading.allows_styling ≡ trusted → All (IsOwn heading) (drawn_text heading)
+pub own_text : (heading : Heading) (trusted : Bool) → heading.allows_styling ≡ trusted → All (IsOwn heading) (drawn_text heading)
 own_text heading true is =
     let same : drawn_text heading ≡ chars heading.text = rw is refl in
     subst (All (IsOwn heading)) (sym same) (All-from_get_or (IsOwn heading) (chars heading.text) 0 (λ k within listed. (is, (k, within, get_or_default (chars heading.text) k _ 0 within))))

@@ -3,12 +3,13 @@ use Rattle.std.proofs.Common.{◌≡◌, ℕ, List, [], ◌++◌, length, map, t
 use Rattle.std.specs.Str.{chars, IsUtf8}
 use Rattle.std.proofs.lemmas.List.{get_or_past}
 use Rattle.snippet_style.specs.Grid.{Cell, row_at}
+use Rattle.snippet_style.specs.declared.role.ElementStyle.{ElementStyle}
 use Rattle.snippet_model.specs.declared.level.Level.{Level}
 use Rattle.snippet_model.specs.Heading.{Heading}
 use Rattle.snippet_titles.specs.declared.style.HeadingRoles.{HeadingRoles}
 use Rattle.snippet_titles.specs.declared.style.TitleStyle.{TitleStyle}
 use Rattle.snippet_titles.specs.Appended.{IsAtEnd, appended}
-use Rattle.snippet_titles.specs.Heading.{drawn_text, heading_lines, heading_rows, indent_cells, label_cells, label_width, lines_below, roles_of, sign_cells, trimmed}
+use Rattle.snippet_titles.specs.Heading.{heading_lines, heading_rows, indent_cells, label_cells, label_width, lines_below, roles_of, sign_cells, trimmed}
 use Rattle.snippet_titles.proofs.AppendLemmas.{row_at-appended}
 use Rattle.snippet_titles.proofs.EndLemmas.{IsAtEnd-begun}
 use Rattle.snippet_titles.proofs.RowLemmas.{appended-two}
@@ -28,11 +29,20 @@ pub label_begun : (old one two : List (List Cell)) (row : ℕ) (sign label : Lis
 label_begun old one two row sign label at first second =
     IsAtEnd-begun old two row (sign ++ label) at (appended-two old one two row sign label first second)
 
--- the lines behind it make the rows
-pub heading_drawn : (old one two new : List (List Cell)) (row width : ℕ) (hyperlink : Bool) (style : TitleStyle) (heading : Heading) (level : Level) (trusted : Bool) (roles : HeadingRoles) (text : List ℕ) → row ≡ length old → level ≡ heading.level → trusted ≡ heading.allows_styling → roles ≡ roles_of style level.kind trusted → width ≡ label_width heading → IsUtf8 text → chars text ≡ drawn_text heading → one ≡ appended old row (sign_cells style) → two ≡ appended one row (label_cells hyperlink roles heading) → new ≡ take row two ++ trimmed (lines_below (row_at two row) (indent_cells style width) roles.text (map chars (lines_at text))) → new ≡ old ++ heading_rows hyperlink style heading
+-- the roles of a heading's parts
+pub roles_known : (style : TitleStyle) (heading : Heading) (level : Level) (trusted : Bool) (roles : HeadingRoles) → level ≡ heading.level → trusted ≡ heading.allows_styling → roles ≡ roles_of style level.kind trusted → roles ≡ roles_of style heading.level.kind heading.allows_styling
+roles_known style heading level trusted roles leveled trusts are =
+    are ∙ ap (λ (l : Level). roles_of style l.kind trusted) leveled ∙ ap (roles_of style heading.level.kind) trusts
+
+-- what is drawn of a text that spells these characters, below a label of this width
+pub text_drawn : (old new : List (List Cell)) (row width wide : ℕ) (style : TitleStyle) (role : ElementStyle) (text shown : List ℕ) → width ≡ wide → IsUtf8 text → chars text ≡ shown → new ≡ take row old ++ trimmed (lines_below (row_at old row) (indent_cells style width) role (map chars (lines_at text))) → new ≡ take row old ++ trimmed (lines_below (row_at old row) (indent_cells style wide) role (lines_at shown))
+text_drawn old new row width wide style role text shown measured utf8 spelled is =
+    let cut : map chars (lines_at text) ≡ lines_at shown = lines_at-chars text utf8 ∙ ap lines_at spelled in
+    is ∙ ap (λ n. take row old ++ trimmed (lines_below (row_at old row) (indent_cells style n) role (map chars (lines_at text)))) measured ∙ ap (λ (ls : List (List ℕ)). take row old ++ trimmed (lines_below (row_at old row) (indent_cells style wide) role ls)) cut
+
+-- the lines behind a label make the rows
+pub heading_drawn : (old one two new : List (List Cell)) (row : ℕ) (hyperlink : Bool) (style : TitleStyle) (heading : Heading) (level : Level) (trusted : Bool) (roles : HeadingRoles) → row ≡ length old → level ≡ heading.level → trusted ≡ heading.allows_styling → roles ≡ roles_of style level.kind trusted → one ≡ appended old row (sign_cells style) → two ≡ appended one row (label_cells hyperlink roles heading) → new ≡ take row two ++ trimmed (lines_below (row_at two row) (indent_cells style (label_width heading)) roles.text (heading_lines heading)) → new ≡ old ++ heading_rows hyperlink style heading
 unfolding heading_rows
-heading_drawn old one two new row width hyperlink style heading level trusted roles text at leveled trusts roles_are wide utf8 spelled first second third =
+heading_drawn old one two new row hyperlink style heading level trusted roles at leveled trusts roles_are first second third =
     let begun = label_begun old one two row (sign_cells style) (label_cells hyperlink roles heading) at first second in
-    let cut : map chars (lines_at text) ≡ heading_lines heading = lines_at-chars text utf8 ∙ ap lines_at spelled in
-    let known : roles ≡ roles_of style heading.level.kind heading.allows_styling = roles_are ∙ ap (λ (l : Level). roles_of style l.kind trusted) leveled ∙ ap (roles_of style heading.level.kind) trusts in
-    third ∙ ap (λ rs. rs ++ trimmed (lines_below (row_at two row) (indent_cells style width) roles.text (map chars (lines_at text)))) begun.0 ∙ ap (λ (r : List Cell). old ++ trimmed (lines_below r (indent_cells style width) roles.text (map chars (lines_at text)))) begun.1 ∙ ap (λ n. old ++ trimmed (lines_below (sign_cells style ++ label_cells hyperlink roles heading) (indent_cells style n) roles.text (map chars (lines_at text)))) wide ∙ ap (λ (ls : List (List ℕ)). old ++ trimmed (lines_below (sign_cells style ++ label_cells hyperlink roles heading) (indent_cells style (label_width heading)) roles.text ls)) cut ∙ ap (λ (rs : HeadingRoles). old ++ trimmed (lines_below (sign_cells style ++ label_cells hyperlink rs heading) (indent_cells style (label_width heading)) rs.text (heading_lines heading))) known
+    third ∙ ap (λ rs. rs ++ trimmed (lines_below (row_at two row) (indent_cells style (label_width heading)) roles.text (heading_lines heading))) begun.0 ∙ ap (λ (r : List Cell). old ++ trimmed (lines_below r (indent_cells style (label_width heading)) roles.text (heading_lines heading))) begun.1 ∙ ap (λ (rs : HeadingRoles). old ++ trimmed (lines_below (sign_cells style ++ label_cells hyperlink rs heading) (indent_cells style (label_width heading)) rs.text (heading_lines heading))) (roles_known style heading level trusted roles leveled trusts roles_are)

@@ -18,6 +18,9 @@ pub mod OriginRowText
 pub mod OriginText
 pub mod PlaceLemmas
 pub mod RowLemmas
+pub mod ShortExamples
+pub mod ShortLaws
+pub mod ShortLemmas
 pub mod SignLemmas
 pub mod SplitLemmas
 pub mod TextLemmas

@@ -53,7 +53,7 @@ indent_unlinked (Message place) width =
     All-append IsUnlinked (replicate (place.gutter + 1) SPACE) (bar ∷ spaces) (All-replicate IsUnlinked (place.gutter + 1) SPACE refl) (All-cons IsUnlinked bar spaces (bar_unlinked place.decor place.followed) (All-replicate IsUnlinked (width + 1) SPACE refl))
 
 -- such cells link to nothing, behind others and before them
-links-behind : (last : Option (List ℕ)) (xs ys : List Cell) → All IsUnlinked ys → links_behind last (xs ++ ys) ≡ links_behind last xs
+pub links-behind : (last : Option (List ℕ)) (xs ys : List Cell) → All IsUnlinked ys → links_behind last (xs ++ ys) ≡ links_behind last xs
 links-behind last [] [] none = refl
 links-behind last [] (y ∷ ys) none =
     let here : y.link ≡ None = All-head IsUnlinked y ys none in
@@ -61,7 +61,7 @@ links-behind last [] (y ∷ ys) none =
 links-behind last (x ∷ xs) ys none =
     ap (λ (urls : List (List ℕ)). link_begun last x.link ++ urls) (links-behind x.link xs ys none)
 
-links-before : (xs ys : List Cell) → All IsUnlinked xs → links_behind None (xs ++ ys) ≡ links_behind None ys
+pub links-before : (xs ys : List Cell) → All IsUnlinked xs → links_behind None (xs ++ ys) ≡ links_behind None ys
 links-before [] ys none = refl
 links-before (x ∷ xs) ys none =
     let here : x.link ≡ None = All-head IsUnlinked x xs none in
@@ -99,7 +99,7 @@ id-links hyperlink hidden r (Some id) = of_text id.id refl
         rw (is, append-nil (norm (chars (cow_str_bytes text)))) (bracketed-links hidden r (address_of hyperlink id) (cow_str_bytes text))
 
 -- so does a label, and the row that begins with it
-label-links : (hyperlink : Bool) (roles : HeadingRoles) (heading : Heading) → links_behind None (label_cells hyperlink roles heading) ≡ id_links hyperlink heading.id
+pub label-links : (hyperlink : Bool) (roles : HeadingRoles) (heading : Heading) → links_behind None (label_cells hyperlink roles heading) ≡ id_links hyperlink heading.id
 unfolding label_cells
 label-links hyperlink roles heading =
     let hidden : Bool = is_hidden heading.level.name in
@@ -117,7 +117,7 @@ further-links further r [] none = refl
 further-links further r (line ∷ lines) none =
     ap (λ (urls : List (List ℕ)). urls ++ links_of (map (λ l. further ++ drawn r l) lines)) (unlinked_row further r line none) ∙ further-links further r lines none
 
-lines-links : (first further : List Cell) (r : ElementStyle) (lines : List (List ℕ)) → 0 < length lines → All IsUnlinked further → links_of (lines_below first further r lines) ≡ links_behind None first
+pub lines-links : (first further : List Cell) (r : ElementStyle) (lines : List (List ℕ)) → 0 < length lines → All IsUnlinked further → links_of (lines_below first further r lines) ≡ links_behind None first
 lines-links first further r [] some none = absurd (omega (arith, some))
 lines-links first further r (line ∷ lines) some none =
     ap (λ (urls : List (List ℕ)). links_behind None (first ++ drawn r line) ++ urls) (further-links further r lines none) ∙ append-nil (links_behind None (first ++ drawn r line)) ∙ links-behind None first (drawn r line) (drawn_unlinked r line)
@@ -128,7 +128,7 @@ on_top-links [] [] = refl
 on_top-links [] (r ∷ rows) = refl
 on_top-links (cell ∷ cells) rows = refl
 
-trimmed-links : (rows : List (List Cell)) → links_of (trimmed rows) ≡ links_of rows
+pub trimmed-links : (rows : List (List Cell)) → links_of (trimmed rows) ≡ links_of rows
 trimmed-links [] = refl
 trimmed-links (row ∷ rows) =
     on_top-links row (trimmed rows) ∙ ap (λ urls. links_behind None row ++ urls) (trimmed-links rows)

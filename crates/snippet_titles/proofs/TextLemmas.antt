@@ -67,13 +67,13 @@ further_texts further r [] = refl
 further_texts further r (line ∷ lines) =
     ap (λ t. t ∷ map row_text (map (λ l. further ++ drawn r l) lines)) (row_text-behind further (row_text further) r line refl) ∙ ap (λ ts. (row_text further ++ line) ∷ ts) (further_texts further r lines)
 
-texts_of_lines : (first further : List Cell) (text : List ℕ) (r : ElementStyle) (lines : List (List ℕ)) → row_text first ≡ text → map row_text (lines_below first further r lines) ≡ texts_below text (row_text further) lines
+pub texts_of_lines : (first further : List Cell) (text : List ℕ) (r : ElementStyle) (lines : List (List ℕ)) → row_text first ≡ text → map row_text (lines_below first further r lines) ≡ texts_below text (row_text further) lines
 texts_of_lines first further text r [] is = refl
 texts_of_lines first further text r (line ∷ lines) is =
     ap (λ t. t ∷ map row_text (map (λ l. further ++ drawn r l) lines)) (row_text-behind first text r line is) ∙ ap (λ ts. (text ++ line) ∷ ts) (further_texts further r lines)
 
 -- the text of a row, which is empty where it isn't there
-text_at : (rows : List (List Cell)) (k : ℕ) → row_text (row_at rows k) ≡ get_or (map row_text rows) k []
+pub text_at : (rows : List (List Cell)) (k : ℕ) → row_text (row_at rows k) ≡ get_or (map row_text rows) k []
 text_at rows k = elim (cases_lt k (length rows)) [
   | inl within ↦ sym (get_or-map row_text rows k [] [] within)
   | inr past ↦ ap row_text (get_or_past rows k [] past) ∙ sym (get_or_past (map row_text rows) k [] (omega (arith, past, length-map rows row_text)))

@@ -52,20 +52,11 @@ pub fn draw_heading<'a>(
     let roles = roles_of(style, heading.level().kind, heading.allows_styling());
     draw_sign(buffer, row, style)?;
     draw_label(alloc, buffer, row, style.start(), hyperlink, roles, heading)?;
-    let text = text_of(alloc, heading)?;
-    draw_lines(
-        buffer,
-        row,
-        style,
-        label_width(heading),
-        roles.text,
-        text.as_str(),
-    )?;
-    Ok(())
+    draw_text(alloc, buffer, row, style, roles.text, heading)
 }
 
 /// Draws what stands before a heading's text behind the cells of a row, of which there are `start`.
-fn draw_label<'a>(
+pub(crate) fn draw_label<'a>(
     alloc: Global,
     buffer: &mut StyledBuffer<'a>,
     row: usize,
@@ -76,7 +67,7 @@ fn draw_label<'a>(
 ) -> Result<(), AllocError>
     requires row { row + 1 < 2 ^ 64 }
     requires start { length (row_at buffer.old row) ≡ start }
-    requires small { start < 2 ^ 33 }
+    requires small { start < 2 ^ 59 }
     requires fits { HeadingFits (heading_of heading.now) }
     ensures extended { OnOk result (buffer.new
         ≡ appended buffer.old row (label_cells hyperlink roles (heading_of heading.now))) }
@@ -108,7 +99,7 @@ fn shown_name<'r>(alloc: Global, level: &'r Level<'_>) -> Result<CowStr<'r>, All
 }
 
 /// Whether a level's name isn't shown.
-fn is_hidden(level: &Level) -> bool
+pub fn is_hidden(level: &Level) -> bool
     ensures value { result ≡ model.is_hidden level.now.name }
 {
     matches!(level.name, LevelName::Hidden)
@@ -158,6 +149,34 @@ fn text_of(alloc: Global, heading: &dyn MessageOrTitle) -> Result<CowStr<'_>, Al
     } else {
         normalized(alloc, heading.text())
     }
+}
+
+/// Draws a heading's text behind the cells of the grid's last row; each further line of it stands in a row of its own, below a
+/// label of its width.
+pub(crate) fn draw_text(
+    alloc: Global,
+    buffer: &mut StyledBuffer,
+    row: usize,
+    style: TitleStyle,
+    role: ElementStyle,
+    heading: &dyn MessageOrTitle,
+) -> Result<(), AllocError>
+    requires row { row < 2 ^ 60 }
+    requires last { IsAtEnd row buffer.old }
+    requires narrow { gutter_of style < 2 ^ 32 }
+    requires fits { HeadingFits (heading_of heading.now) }
+    ensures rows { OnOk result (buffer.new ≡ take row buffer.old
+        ++ trimmed (spec.lines_below (row_at buffer.old row) (indent_cells style (spec.label_width (heading_of heading.now))) role (spec.heading_lines (heading_of heading.now)))) }
+{
+    let text = text_of(alloc, heading)?;
+    draw_lines(
+        buffer,
+        row,
+        style,
+        label_width(heading),
+        role,
+        text.as_str(),
+    )
 }
 
 /// Draws a text behind the cells of the grid's last row; each further line of it stands in a row of its own, below a label of

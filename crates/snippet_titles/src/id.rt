@@ -82,7 +82,7 @@ pub(crate) fn closing_bracket(hidden: bool) -> &'static str
 }
 
 /// The address that an id's text links to, where links are on and it has one.
-fn address_of<'a>(hyperlink: bool, id: &'a Id<'a>) -> Option<&'a str>
+pub fn address_of<'a>(hyperlink: bool, id: &'a Id<'a>) -> Option<&'a str>
     ensures value { option_copied result ≡ spec.address_of hyperlink id.now }
 {
     match &id.url {

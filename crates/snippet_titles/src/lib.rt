@@ -7,12 +7,15 @@ mod id;
 pub mod origin;
 pub mod padding;
 mod row;
+pub mod short;
 pub mod style;
 pub mod title;
 
 pub use head::{draw_nameless_head, draw_opening_head, draw_primary_head, draw_secondary_head};
-pub use heading::draw_heading;
+pub use heading::{draw_heading, is_hidden};
+pub use id::address_of;
 pub use origin::{FileStart, OriginLayout, OriginPlace, draw_origin, origin_text};
 pub use padding::{draw_closing, draw_padding, draw_separator};
-pub use style::{MessagePlace, TitleStyle};
+pub use short::draw_short;
+pub use style::{HeadingRoles, MessagePlace, TitleStyle, roles_of};
 pub use title::draw_title;

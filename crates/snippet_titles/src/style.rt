@@ -40,7 +40,7 @@ pub struct HeadingRoles {
 }
 
 /// The roles of a heading of this kind, whose text is trusted or not.
-pub(crate) fn roles_of(style: TitleStyle, kind: LevelInner, trusted: bool) -> HeadingRoles
+pub fn roles_of(style: TitleStyle, kind: LevelInner, trusted: bool) -> HeadingRoles
     ensures value { result ≡ spec.roles_of style kind trusted }
 {
     match style {

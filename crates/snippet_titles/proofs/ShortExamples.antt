@@ -1,0 +1,37 @@
+-- Rows of the short form, computed.
+use Rattle.std.proofs.Common.{◌≡◌, List, ℕ, [], ◌∷◌, false, None, codes, refl}
+use Rattle.std.specs.Str.{chars}
+use Rattle.snippet_style.specs.declared.role.LevelInner.TheVariants.{Error}
+use Rattle.snippet_style.specs.Print.{plain_text}
+use Rattle.snippet_text.specs.Normalized.{norm}
+use Rattle.snippet_text.specs.Width.{char_width}
+use Rattle.snippet_text.proofs.WidthLemmas.{unicode_width}
+use Rattle.snippet_model.specs.declared.level.LevelName.{LevelName}
+use Rattle.snippet_model.specs.declared.level.LevelName.TheVariants.{Hidden, Standard}
+use Rattle.snippet_model.specs.Heading.{Heading}
+use Rattle.snippet_titles.specs.Heading.{label_cells}
+use Rattle.snippet_titles.specs.Short.{short_rows, short_texts}
+
+-- an error whose name is shown like this, with this text
+abbrev error_of : LevelName → List ℕ → Heading
+error_of name text =
+    record { level = record { name = name; kind = Error }; id = None; text = text; allows_styling = false }
+
+-- a path stands before the label, and another text behind the title's
+path_before : short_texts (codes "src/main.rs:1:5: ") (codes ": here") (error_of Standard (codes "unused")) ≡ codes "src/main.rs:1:5: error: unused: here" ∷ []
+unfolding chars norm
+path_before = refl
+
+rows : plain_text (short_rows false (codes "src/main.rs:1:5: ") (codes ": here") (error_of Standard (codes "unused"))) ≡ codes "src/main.rs:1:5: error: unused: here"
+unfolding chars norm label_cells short_rows
+rows = refl
+
+-- where there are two lines it stands behind the first one, and the second one below the label's width
+two_lines : plain_text (short_rows false (codes "a.rs: ") (codes ": here") (error_of Standard (codes "one\ntwo"))) ≡ codes "a.rs: error: one: here\n       two"
+unfolding chars norm char_width unicode_width label_cells short_rows
+two_lines = refl
+
+-- a text behind an empty title makes its row
+empty_title : plain_text (short_rows false [] (codes ": here") (error_of Hidden [])) ≡ codes ": here"
+unfolding chars norm label_cells short_rows
+empty_title = refl

@@ -1,0 +1,52 @@
+-- The rows of the short form, from what is drawn of them.
+use Rattle.std.proofs.Common.{◌≡◌, ℕ, ◌-◌, List, [], ◌∷◌, ◌++◌, length, replicate, take, Bool, refl, sym, ap, ◌∙◌, arith}
+use Rattle.std.proofs.lemmas.List.{append-nil, places, same_lists}
+use Rattle.snippet_style.specs.Grid.{Cell, drawn, row_at, written}
+use Rattle.snippet_style.specs.declared.role.ElementStyle.TheVariants.{LineAndColumn, NoStyle}
+use Rattle.snippet_model.specs.declared.level.Level.{Level}
+use Rattle.snippet_model.specs.Heading.{Heading}
+use Rattle.snippet_titles.specs.declared.style.HeadingRoles.{HeadingRoles}
+use Rattle.snippet_titles.specs.declared.style.TitleStyle.TheVariants.{Short}
+use Rattle.snippet_titles.specs.Appended.{appended}
+use Rattle.snippet_titles.specs.Heading.{heading_lines, indent_cells, label_cells, label_width, lines_below, on_top, roles_of, trimmed}
+use Rattle.snippet_titles.specs.Short.{short_rows, with_end}
+use Rattle.snippet_titles.proofs.AppendLemmas.{appended-is}
+use Rattle.snippet_titles.proofs.EndLemmas.{appended_below, get_or-append_seam, row_at-trimmed, written_past}
+use Rattle.snippet_titles.proofs.HeadingLemmas.{label_begun, roles_known}
+
+-- a row with cells in the place of the first of some rows, or where none of them is there
+first_written : (base : List (List Cell)) (row : List Cell) (rows : List (List Cell)) (new : List Cell) → written [] (base ++ on_top row rows) (length base) (new ∷ []) ≡ base ++ new ∷ rows
+first_written base [] [] new =
+    let none : length base - length base ≡ 0 = omega arith in
+    ap (λ rs. written [] rs (length base) (new ∷ [])) (append-nil base) ∙ written_past [] base (new ∷ []) (length base) (omega arith) ∙ ap (λ n. base ++ replicate n [] ++ new ∷ []) none ∙ ap (λ (rs : List (List Cell)). rs ++ new ∷ []) (append-nil base)
+first_written base [] (r ∷ rows) new =
+    same_lists _ _ (unfold written in grind (arith, places)) (λ k d h. unfold written in grind (arith, places))
+first_written base (cell ∷ cells) rows new =
+    same_lists _ _ (unfold written in grind (arith, places)) (λ k d h. unfold written in grind (arith, places))
+
+-- cells behind those of the first of some rows
+on_top-full : (row : List Cell) (cell : Cell) (cells : List Cell) (rows : List (List Cell)) → on_top (row ++ cell ∷ cells) rows ≡ (row ++ cell ∷ cells) ∷ rows
+on_top-full [] cell cells rows = refl
+on_top-full (r ∷ row) cell cells rows = refl
+
+pub appended-first : (base rows : List (List Cell)) (row : ℕ) (cells : List Cell) → row ≡ length base → appended (base ++ trimmed rows) row cells ≡ base ++ trimmed (with_end cells rows)
+appended-first base [] row cells at =
+    ap (λ rs. appended rs row cells) (append-nil base) ∙ appended_below base row cells at
+appended-first base (r ∷ rows) row [] at =
+    ap (λ (first : List Cell). base ++ trimmed (first ∷ rows)) (sym (append-nil r))
+appended-first base (r ∷ rows) row (cell ∷ cells) at =
+    let there : List (List Cell) = base ++ trimmed (r ∷ rows) in
+    let here : row_at there row ≡ r = ap (λ n. row_at there n) at ∙ get_or-append_seam base (trimmed (r ∷ rows)) ∙ row_at-trimmed (r ∷ rows) 0 in
+    appended-is there row (cell ∷ cells) (omega arith) ∙ ap (λ (first : List Cell). written [] there row ((first ++ cell ∷ cells) ∷ [])) here ∙ ap (λ n. written [] there n ((r ++ cell ∷ cells) ∷ [])) at ∙ first_written base r (trimmed rows) (r ++ cell ∷ cells) ∙ ap (λ (rs : List (List Cell)). base ++ rs) (sym (on_top-full r cell cells (trimmed rows)))
+
+-- a text, a label and a heading's text behind it, and a text behind the first row
+pub short_drawn : (old one two three new : List (List Cell)) (row : ℕ) (hyperlink : Bool) (before behind : List ℕ) (heading : Heading) (level : Level) (trusted : Bool) (roles : HeadingRoles) → row ≡ length old → level ≡ heading.level → trusted ≡ heading.allows_styling → roles ≡ roles_of Short level.kind trusted → one ≡ appended old row (drawn LineAndColumn before) → two ≡ appended one row (label_cells hyperlink roles heading) → three ≡ take row two ++ trimmed (lines_below (row_at two row) (indent_cells Short (label_width heading)) roles.text (heading_lines heading)) → new ≡ appended three row (drawn NoStyle behind) → new ≡ old ++ short_rows hyperlink before behind heading
+unfolding short_rows
+short_drawn old one two three new row hyperlink before behind heading level trusted roles at leveled trusts roles_are first second third fourth =
+    let begun = label_begun old one two row (drawn LineAndColumn before) (label_cells hyperlink roles heading) at first second in
+    let known : roles ≡ roles_of Short heading.level.kind heading.allows_styling = roles_known Short heading level trusted roles leveled trusts roles_are in
+    let further : List Cell = indent_cells Short (label_width heading) in
+    let lines : List (List ℕ) = heading_lines heading in
+    let front : List Cell = drawn LineAndColumn before ++ label_cells hyperlink roles heading in
+    let drawn_are : three ≡ old ++ trimmed (lines_below front further roles.text lines) = third ∙ ap (λ rs. rs ++ trimmed (lines_below (row_at two row) further roles.text lines)) begun.0 ∙ ap (λ (r : List Cell). old ++ trimmed (lines_below r further roles.text lines)) begun.1 in
+    fourth ∙ ap (λ rs. appended rs row (drawn NoStyle behind)) drawn_are ∙ appended-first old (lines_below front further roles.text lines) row (drawn NoStyle behind) at ∙ ap (λ (rs : HeadingRoles). old ++ trimmed (with_end (drawn NoStyle behind) (lines_below (drawn LineAndColumn before ++ label_cells hyperlink rs heading) further rs.text lines))) known

@@ -1,0 +1,50 @@
+//! The rows of a report's short form.
+ghost use Rattle.std.specs.Prelude.{◌≡◌, ◌<◌, ◌^◌, ◌++◌, chars, length, OnOk};
+ghost use Rattle.snippet_model.specs.Heading.{HeadingFits};
+ghost use Rattle.snippet_titles.specs.Short.{short_rows};
+
+use crate::heading::{draw_label, draw_text};
+use crate::row::extend_row;
+use crate::style::{TitleStyle, roles_of};
+use snippet_model::MessageOrTitle;
+use snippet_style::{ElementStyle, StyledBuffer, char_count};
+use std::alloc::{AllocError, Global};
+
+/// Draws a title in the short form below all that stands in the grid: behind a text, and its first row goes on with another.
+///
+///     src/main.rs:1:5: error: unused: here
+///
+/// # Errors
+///
+/// There is no memory for the rows. The grid may then hold a part of them.
+pub fn draw_short<'a>(
+    alloc: Global,
+    buffer: &mut StyledBuffer<'a>,
+    hyperlink: bool,
+    before: &str,
+    behind: &str,
+    heading: &'a dyn MessageOrTitle,
+) -> Result<(), AllocError>
+    requires fits { HeadingFits (heading_of heading.now) }
+    requires short { length (chars before.now) < 2 ^ 59 }
+    ensures rows { OnOk result (buffer.new ≡ buffer.old ++ short_rows hyperlink (chars before.now) (chars behind.now) (heading_of heading.now)) }
+{
+    let row = buffer.num_lines();
+    let roles = roles_of(
+        TitleStyle::Short,
+        heading.level().kind,
+        heading.allows_styling(),
+    );
+    extend_row(buffer, row, before, ElementStyle::LineAndColumn)?;
+    draw_label(
+        alloc,
+        buffer,
+        row,
+        char_count(before),
+        hyperlink,
+        roles,
+        heading,
+    )?;
+    draw_text(alloc, buffer, row, TitleStyle::Short, roles.text, heading)?;
+    extend_row(buffer, row, behind, ElementStyle::NoStyle)
+}
