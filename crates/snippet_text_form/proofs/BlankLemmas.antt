@@ -1,0 +1,79 @@
+-- Whitespace at the front of a line and behind a place of it, as it is looked for.
+use Rattle.std.proofs.Common.{◌≡◌, ℕ, zero, suc, ◌+◌, ◌-◌, ◌<◌, Bool, true, false, not, ◌&&◌, eqb, leb, List, [], ◌∷◌, length, take, drop, get_or, refl, sym, ap, ◌∙◌, arith}
+use Rattle.std.proofs.lemmas.Bool.Decides.{nat_tests}
+use Rattle.std.proofs.lemmas.List.{at_drop_more, drop_all}
+use Rattle.std.specs.Char.{is_whitespace}
+use Rattle.std.specs.List.{list_all}
+
+-- ---- before a place
+
+-- whether the first so many characters are whitespace
+abbrev pub blank_to : List ℕ → ℕ → Bool
+blank_to cs left = list_all is_whitespace (take left cs)
+
+pub blank_to-none : (cs : List ℕ) (left : ℕ) → left ≡ 0 → blank_to cs left ≡ true
+blank_to-none cs left none = ap (blank_to cs) none
+
+to-here : (cs : List ℕ) (n c left : ℕ) → (n < length cs) × (c ≡ get_or cs n c) → blank_to (drop n cs) left ≡ blank_to (c ∷ drop (n + 1) cs) left
+to-here cs n c left at =
+    at_drop_more (λ l. blank_to l left) cs n c at.0 ∙ ap (λ d. blank_to (d ∷ drop (n + 1) cs) left) (sym at.1)
+
+-- one character more of which this is known
+first-to : (cs : List ℕ) (c left : ℕ) (blank : Bool) → (left ≡ 0 → ⊥) → is_whitespace c ≡ blank → blank_to (c ∷ cs) left ≡ (blank && blank_to cs (left - 1))
+first-to cs c zero blank some is = absurd (some refl)
+first-to cs c (suc left) blank some is =
+    let fewer : suc left - 1 ≡ left = omega arith in
+    ap (λ b. b && blank_to cs left) is ∙ ap (λ n. blank && blank_to cs n) (sym fewer)
+
+pub blank_to-stop : (cs : List ℕ) (n c left : ℕ) → (n < length cs) × (c ≡ get_or cs n c) → (left ≡ 0 → ⊥) → is_whitespace c ≡ false → blank_to (drop n cs) left ≡ false
+blank_to-stop cs n c left at some visible =
+    to-here cs n c left at ∙ first-to (drop (n + 1) cs) c left false some visible
+
+pub blank_to-step : (cs : List ℕ) (n c left : ℕ) → (n < length cs) × (c ≡ get_or cs n c) → (left ≡ 0 → ⊥) → is_whitespace c ≡ true → blank_to (drop (n + 1) cs) (left - 1) ≡ blank_to (drop n cs) left
+blank_to-step cs n c left at some blank =
+    sym (to-here cs n c left at ∙ first-to (drop (n + 1) cs) c left true some blank)
+
+pub blank_to-end : (cs : List ℕ) (n left : ℕ) → length cs ≡ n → blank_to (drop n cs) left ≡ true
+blank_to-end cs n left all = ap (λ l. blank_to l left) (drop_all n cs (omega arith)) ∙ of_none left
+  where
+    of_none : (left : ℕ) → blank_to [] left ≡ true
+    of_none zero = refl
+    of_none (suc left) = refl
+
+-- ---- behind a place
+
+-- whether a line has so many characters, and nothing but whitespace behind them
+abbrev pub blank_from : List ℕ → ℕ → Bool
+blank_from cs left = leb left (length cs) && list_all is_whitespace (drop left cs)
+
+-- a character that is no whitespace, with none left to be passed
+stopped : (cs : List ℕ) (c left : ℕ) → (eqb left 0 && not (is_whitespace c)) ≡ true → blank_from (c ∷ cs) left ≡ false
+stopped cs c zero visible = grind (arith, nat_tests)
+stopped cs c (suc left) visible = grind (arith, nat_tests)
+
+passed : (cs : List ℕ) (c left : ℕ) → (eqb left 0 && not (is_whitespace c)) ≡ false → blank_from (c ∷ cs) left ≡ blank_from cs (left - 1)
+passed cs c zero hidden = grind (arith, nat_tests)
+passed cs c (suc left) hidden =
+    let fewer : suc left - 1 ≡ left = omega arith in
+    ap (λ b. b && list_all is_whitespace (drop left cs)) (both_less left (length cs)) ∙ ap (blank_from cs) (sym fewer)
+  where
+    both_less : (a b : ℕ) → leb (suc a) (suc b) ≡ leb a b
+    both_less a b = grind (arith, nat_tests)
+
+ended : (left : ℕ) → blank_from [] left ≡ eqb left 0
+ended zero = grind (arith, nat_tests)
+ended (suc left) = grind (arith, nat_tests)
+
+from-here : (cs : List ℕ) (n c left : ℕ) → (n < length cs) × (c ≡ get_or cs n c) → blank_from (drop n cs) left ≡ blank_from (c ∷ drop (n + 1) cs) left
+from-here cs n c left at =
+    at_drop_more (λ l. blank_from l left) cs n c at.0 ∙ ap (λ d. blank_from (d ∷ drop (n + 1) cs) left) (sym at.1)
+
+pub blank_from-stop : (cs : List ℕ) (n c left : ℕ) → (n < length cs) × (c ≡ get_or cs n c) → (eqb left 0 && not (is_whitespace c)) ≡ true → blank_from (drop n cs) left ≡ false
+blank_from-stop cs n c left at visible = from-here cs n c left at ∙ stopped (drop (n + 1) cs) c left visible
+
+pub blank_from-step : (cs : List ℕ) (n c left fewer : ℕ) → (n < length cs) × (c ≡ get_or cs n c) → (eqb left 0 && not (is_whitespace c)) ≡ false → fewer ≡ left - 1 → blank_from (drop (n + 1) cs) fewer ≡ blank_from (drop n cs) left
+blank_from-step cs n c left fewer at hidden less =
+    ap (blank_from (drop (n + 1) cs)) less ∙ sym (from-here cs n c left at ∙ passed (drop (n + 1) cs) c left hidden)
+
+pub blank_from-end : (cs : List ℕ) (n left : ℕ) → length cs ≡ n → blank_from (drop n cs) left ≡ eqb left 0
+blank_from-end cs n left all = ap (λ l. blank_from l left) (drop_all n cs (omega arith)) ∙ ended left

@@ -1,0 +1,177 @@
+-- Named spans: their order, what holds of each, and the texts that are added for several.
+use Rattle.std.proofs.Common.{◌≡◌, ℕ, suc, ◌==◌, Bool, true, false, cond, not, eqb, ltb, Option, None, List, [], ◌∷◌, ◌++◌, length, map, filter, All, codes, encode_utf8_all, refl, sym, ap, ◌∙◌, arith, append_assoc}
+use Rattle.std.proofs.lemmas.Bool.{cond-true, cond-false}
+use Rattle.std.proofs.lemmas.Bool.Decides.{nat_tests}
+use Rattle.std.proofs.lemmas.List.{append-nil, map-append}
+use Rattle.std.proofs.lemmas.List.Elements.{All-nil, All-cons, All-head, All-tail, All-filter}
+use Rattle.std.proofs.lemmas.Str.{chars-nil, encodes-chars}
+use Rattle.std.specs.Cmp.{IsStrictWeakOrder}
+use Rattle.std.specs.Cow.{cow_str_bytes}
+use Rattle.std.specs.List.{flat_map}
+use Rattle.std.specs.List.Sorted.{IsSortedBy, IsStableBy}
+use Rattle.std.specs.Option.{option_map}
+use Rattle.std.specs.Ordering.{is_lt, ordering_then, nat_cmp}
+use Rattle.std.specs.Str.{IsUtf8, chars}
+use Rattle.snippet_lines.specs.Lines.{Source}
+use Rattle.snippet_lines.specs.Order.{ordered_by}
+use Rattle.snippet_lines.specs.Place.{locations_of}
+use Rattle.snippet_lines.specs.declared.place.Loc.{Loc}
+use Rattle.snippet_lines.proofs.OrderLemmas.{All-put_in, sorted-only, map-ordered_by}
+use Rattle.snippet_model.specs.declared.snippet.Annotation.{Annotation}
+use Rattle.snippet_model.specs.declared.snippet.Snippet.{Snippet}
+use Rattle.snippet_parts.specs.Mark.{is_marking}
+use Rattle.snippet_text_form.specs.Cause.{behind_place, cause_form, comes_before, further_indent, has_label, kind_rank, label_of, named_spans, source_of, span_form, span_place, spans_form}
+use Rattle.snippet_text_form.specs.Form.{FormPiece, Break, bare}
+use Rattle.snippet_text_form.specs.Position.{place}
+use Rattle.snippet_text_form.specs.declared.cause.NamedSpan.{NamedSpan}
+
+-- ---- the order
+
+pub compare-tells : (a b c d : ℕ) → is_lt (ordering_then (nat_cmp a c) (nat_cmp b d)) ≡ cond (eqb a c) (ltb b d) (ltb a c)
+compare-tells a b c d = grind (arith, nat_tests)
+
+one_way : (a b c d : ℕ) → cond (eqb a c) (ltb b d) (ltb a c) ≡ true → cond (eqb c a) (ltb d b) (ltb c a) ≡ false
+one_way a b c d h = grind (arith, nat_tests)
+
+chained : (a b c d e f : ℕ) → cond (eqb a c) (ltb b d) (ltb a c) ≡ false → cond (eqb c e) (ltb d f) (ltb c e) ≡ false → cond (eqb a e) (ltb b f) (ltb a e) ≡ false
+chained a b c d e f h k = grind (arith, nat_tests)
+
+pub comes_before-order : IsStrictWeakOrder comes_before
+comes_before-order = record {
+  one_way = λ x y h. one_way (kind_rank x.kind) x.span.start (kind_rank y.kind) y.span.start h;
+  chain = λ x y z h k. chained (kind_rank x.kind) x.span.start (kind_rank y.kind) y.span.start (kind_rank z.kind) z.span.start h k;
+}
+
+abbrev pub annotation_of : NamedSpan → Annotation
+annotation_of s = s.annotation.now
+
+-- which of two named spans comes first
+abbrev pub span_before : NamedSpan → NamedSpan → Bool
+span_before a b = comes_before (annotation_of a) (annotation_of b)
+
+pub span_before-order : IsStrictWeakOrder span_before
+span_before-order = record {
+  one_way = λ x y h. comes_before-order.one_way (annotation_of x) (annotation_of y) h;
+  chain = λ x y z h k. comes_before-order.chain (annotation_of x) (annotation_of y) (annotation_of z) h k;
+}
+
+-- what a stable sort makes of the spans that are marked
+pub named_spans-is : (given sorted : List NamedSpan) (marks : List Annotation) → IsSortedBy span_before sorted → IsStableBy span_before given sorted → map annotation_of given ≡ filter (λ a. is_marking a.kind) marks → map annotation_of sorted ≡ named_spans marks
+named_spans-is given sorted marks up stable are =
+    ap (map annotation_of) (sorted-only span_before span_before-order given sorted up stable) ∙ map-ordered_by annotation_of comes_before given ∙ ap (ordered_by comes_before) are
+
+-- ---- what holds of each
+
+All-ordered_by : {X : Type 0} (before : X → X → Bool) (P : X → Type 0) (xs : List X) → All P xs → All P (ordered_by before xs)
+All-ordered_by before P [] all = all
+All-ordered_by before P (x ∷ xs) all =
+    All-put_in before P x (ordered_by before xs) (All-head P x xs all) (All-ordered_by before P xs (All-tail P x xs all))
+
+pub All-named_spans : (P : Annotation → Type 0) (marks : List Annotation) → All P marks → All P (named_spans marks)
+All-named_spans P marks all =
+    All-ordered_by comes_before P (filter (λ a. is_marking a.kind) marks) (All-filter (λ a. is_marking a.kind) P marks all)
+
+pub All-annotations : (P : Annotation → Type 0) (spans : List NamedSpan) → All P (map annotation_of spans) → All (λ s. P (annotation_of s)) spans
+All-annotations P [] all = All-nil (λ s. P (annotation_of s))
+All-annotations P (s ∷ spans) all =
+    All-cons (λ t. P (annotation_of t)) s spans (All-head P (annotation_of s) (map annotation_of spans) all) (All-annotations P spans (All-tail P (annotation_of s) (map annotation_of spans) all))
+
+-- ---- what is added
+
+-- four texts, one behind the other
+pub bare-four : (old one two three four : List FormPiece) (a b c d : List ℕ) → one ≡ old ++ bare a → two ≡ one ++ bare b → three ≡ two ++ bare c → four ≡ three ++ bare d → four ≡ old ++ bare (a ++ b ++ c ++ d)
+bare-four old one two three four a b c d first second third fourth =
+    fourth ∙ ap (λ l. l ++ bare d) (third ∙ ap (λ l. l ++ bare c) (second ∙ ap (λ l. l ++ bare b) first)) ∙ joined
+  where
+    joined : (((old ++ bare a) ++ bare b) ++ bare c) ++ bare d ≡ old ++ bare (a ++ b ++ c ++ d)
+    joined = simp (append_assoc, map-append)
+
+pub bare-three : (old one two three : List FormPiece) (a b c : List ℕ) → one ≡ old ++ bare a → two ≡ one ++ bare b → three ≡ two ++ bare c → three ≡ old ++ bare (a ++ b ++ c)
+bare-three old one two three a b c first second third =
+    third ∙ ap (λ l. l ++ bare c) (second ∙ ap (λ l. l ++ bare b) first) ∙ joined
+  where
+    joined : ((old ++ bare a) ++ bare b) ++ bare c ≡ old ++ bare (a ++ b ++ c)
+    joined = simp (append_assoc, map-append)
+
+-- ---- a span that is added
+
+-- a break, an indent and a place
+pub place-added : (old one two three : List FormPiece) (indent place : List ℕ) → one ≡ old ++ Break ∷ [] → two ≡ one ++ bare indent → three ≡ two ++ bare place → three ≡ old ++ Break ∷ bare (indent ++ place)
+place-added old one two three indent place first second third =
+    third ∙ ap (λ l. l ++ bare place) (second ∙ ap (λ l. l ++ bare indent) first) ∙ joined
+  where
+    joined : ((old ++ Break ∷ []) ++ bare indent) ++ bare place ≡ old ++ Break ∷ bare (indent ++ place)
+    joined = simp (append_assoc, map-append)
+
+-- a span at its place
+placed : (anonymized : Bool) (source : Source) (indent : List ℕ) (path : Option (List ℕ)) (a : Annotation) (at : Loc × Loc) (old : List FormPiece) → at ≡ locations_of source a.span.start a.span.end → old ++ Break ∷ bare ((indent ++ span_place anonymized source path at.0 at.1) ++ behind_place (label_of a)) ≡ old ++ span_form anonymized source indent path a
+placed anonymized source indent path a at old is =
+    ap (λ (p : Loc × Loc). old ++ Break ∷ bare ((indent ++ span_place anonymized source path p.0 p.1) ++ behind_place (label_of a))) is
+
+-- a span without a label
+pub span-plain : (anonymized : Bool) (source : Source) (indent : List ℕ) (path : Option (List ℕ)) (a : Annotation) (at : Loc × Loc) (old one two three : List FormPiece) → at ≡ locations_of source a.span.start a.span.end → one ≡ old ++ Break ∷ [] → two ≡ one ++ bare indent → three ≡ two ++ bare (span_place anonymized source path at.0 at.1) → has_label a ≡ false → three ≡ old ++ span_form anonymized source indent path a
+span-plain anonymized source indent path a at old one two three is first second third none =
+    let front : List ℕ = indent ++ span_place anonymized source path at.0 at.1 in
+    let same : front ++ behind_place (label_of a) ≡ front = ap (λ l. front ++ l) (cond-false (has_label a) (codes ": " ++ label_of a) [] none) ∙ append-nil front in
+    place-added old one two three indent (span_place anonymized source path at.0 at.1) first second third ∙ ap (λ l. old ++ Break ∷ bare l) (sym same) ∙ placed anonymized source indent path a at old is
+
+-- a span with a label
+pub span-labelled : (anonymized : Bool) (source : Source) (indent : List ℕ) (path : Option (List ℕ)) (a : Annotation) (at : Loc × Loc) (old one two three four five : List FormPiece) → at ≡ locations_of source a.span.start a.span.end → one ≡ old ++ Break ∷ [] → two ≡ one ++ bare indent → three ≡ two ++ bare (span_place anonymized source path at.0 at.1) → four ≡ three ++ bare (codes ": ") → five ≡ four ++ bare (label_of a) → has_label a ≡ true → five ≡ old ++ span_form anonymized source indent path a
+span-labelled anonymized source indent path a at old one two three four five is first second third fourth fifth some =
+    let front : List ℕ = indent ++ span_place anonymized source path at.0 at.1 in
+    let label : List ℕ = label_of a in
+    let behind : codes ": " ++ label ≡ behind_place label = sym (cond-true (has_label a) (codes ": " ++ label) [] some) in
+    fifth ∙ ap (λ l. l ++ bare label) (fourth ∙ ap (λ l. l ++ bare (codes ": ")) (place-added old one two three indent (span_place anonymized source path at.0 at.1) first second third)) ∙ joined front (codes ": ") label ∙ ap (λ l. old ++ Break ∷ bare (front ++ l)) behind ∙ placed anonymized source indent path a at old is
+  where
+    joined : (front colon label : List ℕ) → ((old ++ Break ∷ bare front) ++ bare colon) ++ bare label ≡ old ++ Break ∷ bare (front ++ (colon ++ label))
+    joined front colon label = simp (append_assoc, map-append)
+
+-- ---- spans behind the first
+
+pub further-none : (form : Annotation → List FormPiece) (old : List FormPiece) (a : Annotation) → has_label a ≡ false → old ≡ old ++ flat_map form (filter has_label (a ∷ []))
+further-none form old a none =
+    sym (ap (λ l. old ++ flat_map form l) (cond-false (has_label a) (a ∷ []) [] none) ∙ append-nil old)
+
+pub further-one : (form : Annotation → List FormPiece) (old new : List FormPiece) (a : Annotation) → has_label a ≡ true → new ≡ old ++ form a → new ≡ old ++ flat_map form (filter has_label (a ∷ []))
+further-one form old new a some added =
+    added ∙ ap (λ l. old ++ l) (sym (ap (flat_map form) (cond-true (has_label a) (a ∷ []) [] some) ∙ append-nil (form a)))
+
+-- the first span and those behind it
+pub spans-added : (anonymized : Bool) (source : Source) (path : Option (List ℕ)) (old one new : List FormPiece) (spans others so_far : List NamedSpan) (first : NamedSpan) (indent : List ℕ) → spans ≡ first ∷ others → one ≡ old ++ span_form anonymized source (codes " ") path (annotation_of first) → indent ≡ further_indent path → so_far ≡ others → new ≡ one ++ flat_map (span_form anonymized source indent None) (filter has_label (map annotation_of so_far)) → new ≡ old ++ spans_form anonymized source path (map annotation_of spans)
+spans-added anonymized source path old one new spans others so_far first indent parts begun by all added =
+    let more : List NamedSpan → List ℕ → List FormPiece = λ ss i. flat_map (span_form anonymized source i None) (filter has_label (map annotation_of ss)) in
+    let form : List FormPiece = span_form anonymized source (codes " ") path (annotation_of first) in
+    added ∙ ap (λ i. one ++ more so_far i) by ∙ ap (λ ss. one ++ more ss (further_indent path)) all ∙ ap (λ l. l ++ more others (further_indent path)) begun ∙ append_assoc old form (more others (further_indent path)) ∙ ap (λ ss. old ++ spans_form anonymized source path (map annotation_of ss)) (sym parts)
+
+-- without spans the place where the source begins
+pub no_span-added : (anonymized : Bool) (source : Source) (path : Option (List ℕ)) (old one two three : List FormPiece) (spans : List NamedSpan) (line : ℕ) → line ≡ source.first → one ≡ old ++ Break ∷ [] → two ≡ one ++ bare (codes " ") → three ≡ two ++ bare (place anonymized path line None) → spans ≡ [] → three ≡ old ++ spans_form anonymized source path (map annotation_of spans)
+no_span-added anonymized source path old one two three spans line number first second third none =
+    place-added old one two three (codes " ") (place anonymized path line None) first second third ∙ ap (λ n. old ++ Break ∷ bare (codes " " ++ place anonymized path n None)) number ∙ ap (λ ss. old ++ spans_form anonymized source path (map annotation_of ss)) (sym none)
+
+-- the whole snippet
+pub cause-added : (anonymized : Bool) (source : Source) (path : Option (List ℕ)) (spans : List Annotation) (s : Snippet Annotation) (old new : List FormPiece) → source ≡ source_of s → path ≡ option_map cow_str_bytes s.path → spans ≡ named_spans s.markers.items → new ≡ old ++ spans_form anonymized source path spans → new ≡ old ++ cause_form anonymized s
+unfolding cause_form
+cause-added anonymized source path spans s old new its by are added =
+    added ∙ ap (λ (given : Source). old ++ spans_form anonymized given path spans) its ∙ ap (λ p. old ++ spans_form anonymized (source_of s) p spans) by ∙ ap (λ marks. old ++ spans_form anonymized (source_of s) (option_map cow_str_bytes s.path) marks) are
+
+-- ---- texts of labels
+
+-- a text has characters where it has bytes
+pub is_shown-chars : (bytes : List ℕ) → IsUtf8 bytes → not (length bytes == 0) ≡ ltb 0 (length (chars bytes))
+is_shown-chars [] utf8 = sym (ap (λ cs. ltb 0 (length cs)) chars-nil)
+is_shown-chars (b ∷ bs) utf8 = filled (length bs) ∙ sym (some (chars (b ∷ bs)) (encodes-chars (b ∷ bs) utf8))
+  where
+    filled : (n : ℕ) → not (suc n == 0) ≡ true
+    filled n = grind (arith, nat_tests)
+
+    some : (cs : List ℕ) → encode_utf8_all cs ≡ b ∷ bs → ltb 0 (length cs) ≡ true
+    some [] same = absurd (cc)
+    some (c ∷ cs) same = grind (arith, nat_tests)
+
+pub two-spaces : chars (32 ∷ 32 ∷ []) ≡ codes "  "
+unfolding chars
+two-spaces = refl
+
+pub one-space : chars (32 ∷ []) ≡ codes " "
+unfolding chars
+one-space = refl

@@ -1,0 +1,90 @@
+-- What stands before a heading's text, and the whole heading.
+use Rattle.std.proofs.Common.{◌≡◌, ℕ, ◌+◌, ◌==◌, Bool, true, false, nat_lt, List, [], ◌∷◌, ◌++◌, Option, None, Some, Result, chars, length, if◌then◌else◌, refl, sym, ap, ◌∙◌, subst, arith}
+use Rattle.std.specs.Borrow.{Bor}
+use Rattle.std.specs.Cow.{cow_str_bytes}
+use Rattle.std.specs.Option.{is_some, option_copied, option_map}
+use Rattle.std.specs.Result.{OnOk}
+use Rattle.std.specs.Str.{IsUtf8}
+use Rattle.std.proofs.lemmas.List.Sums.{sum_by-append}
+use Rattle.std.proofs.lemmas.Result.{on_ok_weaker}
+use Rattle.snippet_model.specs.Heading.{Heading, is_hidden}
+use Rattle.snippet_model.specs.Level.{name_of}
+use Rattle.snippet_model.specs.declared.level.Level.{Level}
+use Rattle.snippet_model.specs.declared.snippet.Id.{Id}
+use Rattle.snippet_style.specs.declared.role.ElementStyle.{ElementStyle}
+use Rattle.snippet_text.specs.Normalized.{norm}
+use Rattle.snippet_text.specs.Width.{char_width, width_of}
+use Rattle.snippet_text.proofs.NormLemmas.{width_of-norm}
+use Rattle.snippet_titles.specs.Heading.{address_of, colon_of, heading_lines}
+use Rattle.snippet_titles.specs.declared.style.HeadingRoles.{HeadingRoles}
+use Rattle.snippet_titles.proofs.SignLemmas.{chars-colon}
+use Rattle.snippet_text_form.specs.Form.{FormPiece, Break, Styled, bare, styled}
+use Rattle.snippet_text_form.specs.Heading.{before_id, before_name, colon_form, heading_form, id_form, id_label, label_form, label_of_id, label_text, lines_form, link_for, id_text_form, roles_of}
+use Rattle.snippet_text_form.specs.declared.heading.HeadingKind.{HeadingKind}
+use Rattle.snippet_text_form.proofs.AddedLemmas.{added-two, added-two-on_ok}
+use Rattle.snippet_text_form.proofs.FormSteps.{begun-chars}
+
+-- ---- the colon
+
+pub colon-named : (role : ElementStyle) (hidden : Bool) (id : Option (Bor Id)) → hidden ≡ false → styled role (chars (58 ∷ 32 ∷ [])) ≡ colon_form role hidden (option_copied id)
+colon-named role hidden id is = rw is (ap (styled role) chars-colon)
+
+pub colon-set : (role : ElementStyle) (hidden : Bool) (id : Option (Bor Id)) → is_some id ≡ true → styled role (chars (58 ∷ 32 ∷ [])) ≡ colon_form role hidden (option_copied id)
+colon-set role hidden None some = cc
+colon-set role true (Some id) some = ap (styled role) chars-colon
+colon-set role false (Some id) some = ap (styled role) chars-colon
+
+-- ---- the id
+
+-- an address for a text, which is none where the text is empty
+pub link-known : (empty : Bool) (bytes own text : List ℕ) (address given : Option (List ℕ)) → IsUtf8 bytes → bytes ≡ own → empty ≡ (length bytes == 0) → chars own ≡ text → (empty ≡ true → given ≡ None) → (empty ≡ false → given ≡ address) → given ≡ link_for address text
+link-known true bytes own text address given utf8 same is spelled none some =
+    none refl ∙ ap (λ (b : Bool). if b then address else None) (begun-chars true bytes own utf8 same is ∙ ap (λ (cs : List ℕ). nat_lt 0 (length cs)) spelled)
+link-known false bytes own text address given utf8 same is spelled none some =
+    some refl ∙ ap (λ (b : Bool). if b then address else None) (begun-chars false bytes own utf8 same is ∙ ap (λ (cs : List ℕ). nat_lt 0 (length cs)) spelled)
+
+pub id-added : {T E : Type 0} (r : Result T E) (old one new : List FormPiece) (hyperlink hidden : Bool) (role : ElementStyle) (id : Id) (text before shown : List ℕ) (address : Option (List ℕ)) → option_map cow_str_bytes id.id ≡ Some text → before ≡ before_id hidden → shown ≡ norm (chars text) → address ≡ link_for (address_of hyperlink id) (norm (chars text)) → one ≡ old ++ bare before → OnOk r (new ≡ one ++ Styled role address shown ∷ []) → OnOk r (new ≡ old ++ id_form hyperlink hidden role (Some id))
+id-added r old one new hyperlink hidden role id text before shown address is led shows known first second =
+    let own : List ℕ = norm (chars text) in
+    let parts : bare before ++ Styled role address shown ∷ [] ≡ id_form hyperlink hidden role (Some id) = ap (λ (cs : List ℕ). bare cs ++ Styled role address shown ∷ []) led ∙ ap (λ (cs : List ℕ). bare (before_id hidden) ++ Styled role address cs ∷ []) shows ∙ ap (λ (a : Option (List ℕ)). bare (before_id hidden) ++ Styled role a own ∷ []) known ∙ ap (id_text_form hidden role (address_of hyperlink id)) (sym is) in
+    subst (λ (ps : List FormPiece). OnOk r (new ≡ old ++ ps)) parts (added-two-on_ok r old one new (bare before) (Styled role address shown ∷ []) first second)
+
+-- ---- the columns
+
+width_of-two : (xs ys : List ℕ) → width_of (xs ++ ys) ≡ width_of xs + width_of ys
+width_of-two xs ys = sum_by-append char_width xs ys
+
+pub name-width : (hidden : Bool) (before text : List ℕ) (one two : ℕ) → hidden ≡ false → one ≡ width_of before → two ≡ width_of text → one + two ≡ (if hidden then 0 else width_of (before ++ norm text))
+name-width true before text one two is first second = cc
+name-width false before text one two is first second =
+    omega (arith, first, second, width_of-two before (norm text), width_of-norm text)
+
+pub id-width : (hidden : Bool) (id : Id) (before text : List ℕ) (one two : ℕ) → option_map cow_str_bytes id.id ≡ Some text → before ≡ before_id hidden → one ≡ width_of before → two ≡ width_of (chars text) → one + two ≡ width_of (label_of_id hidden (Some id))
+id-width hidden id before text one two is led first second =
+    let whole : width_of (before_id hidden ++ norm (chars text)) ≡ width_of (label_of_id hidden (Some id)) = ap (λ t. width_of (id_label hidden t)) (sym is) in
+    let lead : width_of before ≡ width_of (before_id hidden) = ap width_of led in
+    omega (arith, first, second, whole, lead, width_of-two (before_id hidden) (norm (chars text)), width_of-norm (chars text))
+
+width_of-shown_if : (hidden : Bool) (name : List ℕ) → (if hidden then 0 else width_of name) ≡ width_of (if hidden then [] else name)
+width_of-shown_if true name = refl
+width_of-shown_if false name = refl
+
+pub label-width : (kind : HeadingKind) (known level : Level) (hidden : Bool) (owned id set : Option Id) (name shown colon : ℕ) (colons : List ℕ) → level ≡ known → hidden ≡ is_hidden known.name → id ≡ owned → set ≡ owned → name ≡ (if is_hidden level.name then 0 else width_of (before_name kind ++ norm (chars (name_of level)))) → shown ≡ width_of (label_of_id hidden id) → colons ≡ colon_of hidden set → colon ≡ width_of colons → name + shown + colon ≡ width_of ((if is_hidden known.name then [] else before_name kind ++ norm (chars (name_of known))) ++ (label_of_id (is_hidden known.name) owned ++ colon_of (is_hidden known.name) owned))
+label-width kind known level hidden owned id set name shown colon colons leveled hides own is_set named identified spelled measured =
+    let h : Bool = is_hidden known.name in
+    let front : List ℕ = if h then [] else before_name kind ++ norm (chars (name_of known)) in
+    let one : name ≡ width_of front = named ∙ ap (λ (l : Level). if is_hidden l.name then 0 else width_of (before_name kind ++ norm (chars (name_of l)))) leveled ∙ width_of-shown_if h (before_name kind ++ norm (chars (name_of known))) in
+    let two : shown ≡ width_of (label_of_id h owned) = identified ∙ ap (λ (b : Bool). width_of (label_of_id b id)) hides ∙ ap (λ (i : Option Id). width_of (label_of_id h i)) own in
+    let three : colon ≡ width_of (colon_of h owned) = measured ∙ ap width_of spelled ∙ ap (λ (b : Bool). width_of (colon_of b set)) hides ∙ ap (λ (i : Option Id). width_of (colon_of h i)) is_set in
+    omega (arith, one, two, three, width_of-two front (label_of_id h owned ++ colon_of h owned), width_of-two (label_of_id h owned) (colon_of h owned))
+
+-- ---- the whole heading
+
+pub heading-added : {T E : Type 0} (r : Result T E) (old one two new : List FormPiece) (hyperlink : Bool) (kind : HeadingKind) (heading : Heading) (level : Level) (trusted : Bool) (roles : HeadingRoles) (width : ℕ) → level ≡ heading.level → trusted ≡ heading.allows_styling → roles ≡ roles_of kind level.kind trusted → width ≡ width_of (label_text kind heading) → one ≡ old ++ Break ∷ [] → two ≡ one ++ label_form hyperlink kind roles heading → OnOk r (new ≡ two ++ lines_form roles.text width (heading_lines heading)) → OnOk r (new ≡ old ++ heading_form hyperlink kind heading)
+unfolding heading_form
+heading-added r old one two new hyperlink kind heading level trusted roles width leveled trusts are wide first second third =
+    let label : List FormPiece = label_form hyperlink kind roles heading in
+    let lines : List FormPiece = lines_form roles.text width (heading_lines heading) in
+    let known : roles ≡ roles_of kind heading.level.kind heading.allows_styling = are ∙ ap (λ (l : Level). roles_of kind l.kind trusted) leveled ∙ ap (roles_of kind heading.level.kind) trusts in
+    let parts : old ++ (Break ∷ (label ++ lines)) ≡ old ++ heading_form hyperlink kind heading = ap (λ (rs : HeadingRoles). old ++ (Break ∷ (label_form hyperlink kind rs heading ++ lines_form rs.text width (heading_lines heading)))) known ∙ ap (λ n. old ++ (Break ∷ (label_form hyperlink kind (roles_of kind heading.level.kind heading.allows_styling) heading ++ lines_form (roles_of kind heading.level.kind heading.allows_styling).text n (heading_lines heading)))) wide in
+    on_ok_weaker r (λ last. added-two old one new (Break ∷ []) (label ++ lines) first (added-two one two new label lines second last) ∙ parts) third

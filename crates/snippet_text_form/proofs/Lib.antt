@@ -1,0 +1,13 @@
+pub mod AddedLemmas
+pub mod BlankLemmas
+pub mod CauseLemmas
+pub mod Examples
+pub mod FormLaws
+pub mod FormSteps
+pub mod FreeLaws
+pub mod LabelForm
+pub mod LinkLaws
+pub mod OrderLaws
+pub mod SplitForm
+pub mod SuggestionLemmas
+pub mod TextLemmas

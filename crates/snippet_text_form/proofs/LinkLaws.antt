@@ -1,0 +1,166 @@
+-- What a text form links to.
+use Rattle.std.proofs.Common.{◌≡◌, ℕ, Bool, true, false, Option, None, Some, List, [], ◌∷◌, ◌++◌, Global, chars, codes, filter, replicate, if◌then◌else◌, refl, ap, ◌∙◌, arith}
+use Rattle.std.specs.Cow.{cow_str_bytes}
+use Rattle.std.specs.Fmt.{decimal}
+use Rattle.std.specs.List.{flat_map}
+use Rattle.std.specs.Option.{option_map, option_to_list}
+use Rattle.std.specs.declared.borrow.CowStr.{CowStr}
+use Rattle.std.proofs.lemmas.Bool.Decides.{nat_tests}
+use Rattle.std.proofs.lemmas.Grind.{flat_map-append}
+use Rattle.std.proofs.lemmas.List.{append-nil}
+use Rattle.snippet_lines.specs.Lines.{Source}
+use Rattle.snippet_lines.specs.Place.{locations_of}
+use Rattle.snippet_model.specs.Heading.{Heading, is_hidden}
+use Rattle.snippet_model.specs.Level.{name_of}
+use Rattle.snippet_model.specs.declared.level.Level.{Level}
+use Rattle.snippet_model.specs.declared.snippet.Annotation.{Annotation}
+use Rattle.snippet_model.specs.declared.snippet.Id.{Id}
+use Rattle.snippet_model.specs.declared.snippet.Origin.{Origin}
+use Rattle.snippet_model.specs.declared.snippet.Patch.{Patch}
+use Rattle.snippet_model.specs.declared.snippet.Snippet.{Snippet}
+use Rattle.snippet_splice.specs.Edits.{Edit}
+use Rattle.snippet_splice.specs.Shown.{without_final_line_feeds}
+use Rattle.snippet_style.specs.declared.role.ElementStyle.{ElementStyle}
+use Rattle.snippet_style.specs.declared.role.ElementStyle.TheVariants.{Addition}
+use Rattle.snippet_suggest.specs.Given as given
+use Rattle.snippet_suggest.specs.Kind.{is_blank}
+use Rattle.snippet_text.specs.Normalized.{norm}
+use Rattle.snippet_text.specs.Width.{width_of}
+use Rattle.snippet_titles.specs.Heading.{address_of, heading_lines}
+use Rattle.snippet_titles.specs.Title.{id_links, text_links}
+use Rattle.snippet_titles.specs.declared.style.HeadingRoles.{HeadingRoles}
+use Rattle.snippet_text_form.specs.Cause.{cause_form, has_label, named_spans, further_indent, source_of, span_form, span_text, spans_form}
+use Rattle.snippet_text_form.specs.Form.{FormPiece, bare, form_links, styled}
+use Rattle.snippet_text_form.specs.Heading.{before_id, before_name, colon_form, further_line, heading_form, id_form, id_text_form, label_form, label_text, link_for, linking, lines_form, name_form, roles_of}
+use Rattle.snippet_text_form.specs.Position.{place, place_in_file}
+use Rattle.snippet_text_form.specs.Suggestion.{added_form, edit_form, edit_indent, edit_place, named_path, option_form, origin_form, overwrites, suggestion_form}
+use Rattle.snippet_text_form.specs.declared.heading.HeadingKind.{HeadingKind}
+use Rattle.snippet_text_form.specs.declared.suggestion.SuggestionPlace.{SuggestionPlace}
+
+-- one text form behind another
+pub links-append : (a b : List FormPiece) → form_links (a ++ b) ≡ form_links a ++ form_links b
+links-append a b = flat_map-append _ a b
+
+-- behind one that links to nothing, and before one
+pub links-behind : (a b : List FormPiece) → form_links a ≡ [] → form_links (a ++ b) ≡ form_links b
+links-behind a b none = links-append a b ∙ ap (λ ls. ls ++ form_links b) none
+
+pub links-before : (a b : List FormPiece) → form_links b ≡ [] → form_links (a ++ b) ≡ form_links a
+links-before a b none = links-append a b ∙ ap (λ ls. form_links a ++ ls) none ∙ append-nil (form_links a)
+
+-- text without codes links to nothing
+bare-links : (text : List ℕ) → form_links (bare text) ≡ []
+bare-links [] = refl
+bare-links (c ∷ cs) = bare-links cs
+
+-- nor do text forms that do so each, one behind another
+module _ {A : Type 0} (form : A → List FormPiece) (none : (x : A) → form_links (form x) ≡ []) where
+  pub each-links : (xs : List A) → form_links (flat_map form xs) ≡ []
+  each-links [] = refl
+  each-links (x ∷ xs) = links-behind (form x) (flat_map form xs) (none x) ∙ each-links xs
+
+-- a text links to its address where it shows anything
+link_for-some : (address : Option (List ℕ)) (c : ℕ) (cs : List ℕ) → link_for address (c ∷ cs) ≡ address
+link_for-some address c cs = grind (arith, nat_tests)
+
+linking-links : (role : ElementStyle) (address : Option (List ℕ)) (text : List ℕ) → form_links (linking role address text) ≡ text_links address text
+linking-links role address [] = refl
+linking-links role address (c ∷ cs) =
+    ap (λ a. option_to_list a ++ []) (link_for-some address c cs) ∙ append-nil (option_to_list address)
+
+-- so does an id
+id_text-links : (hidden : Bool) (role : ElementStyle) (address : Option (List ℕ)) (text : List ℕ) → form_links (id_text_form hidden role address (Some text)) ≡ text_links address (norm (chars text))
+id_text-links hidden role address text =
+    links-behind (bare (before_id hidden)) (linking role address (norm (chars text))) (bare-links (before_id hidden)) ∙ linking-links role address (norm (chars text))
+
+id-links : (hyperlink hidden : Bool) (role : ElementStyle) (id : Option Id) → form_links (id_form hyperlink hidden role id) ≡ id_links hyperlink id
+id-links hyperlink hidden role None = refl
+id-links hyperlink hidden role (Some id) = of_text id.id refl
+  where
+    of_text : (text : Option (CowStr Global)) → id.id ≡ text → form_links (id_form hyperlink hidden role (Some id)) ≡ id_links hyperlink (Some id)
+    of_text None is = rw is refl
+    of_text (Some text) is =
+        rw (is, append-nil (norm (chars (cow_str_bytes text)))) (id_text-links hidden role (address_of hyperlink id) (cow_str_bytes text))
+
+-- nothing else of a heading does
+name-links : (kind : HeadingKind) (role : ElementStyle) (level : Level) → form_links (name_form kind role level) ≡ []
+name-links kind role level = of_hidden (is_hidden level.name) refl
+  where
+    of_hidden : (hidden : Bool) → is_hidden level.name ≡ hidden → form_links (name_form kind role level) ≡ []
+    of_hidden true is = rw is refl
+    of_hidden false is =
+        rw is (links-before (bare (before_name kind)) (styled role (norm (chars (name_of level)))) refl ∙ bare-links (before_name kind))
+
+colon-links : (role : ElementStyle) (hidden : Bool) (id : Option Id) → form_links (colon_form role hidden id) ≡ []
+colon-links role true None = refl
+colon-links role true (Some id) = refl
+colon-links role false id = refl
+
+label-links : (hyperlink : Bool) (kind : HeadingKind) (roles : HeadingRoles) (heading : Heading) → form_links (label_form hyperlink kind roles heading) ≡ id_links hyperlink heading.id
+label-links hyperlink kind roles heading =
+    let hidden : Bool = is_hidden heading.level.name in
+    let id : List FormPiece = id_form hyperlink hidden roles.label heading.id in
+    let colon : List FormPiece = colon_form roles.colon hidden heading.id in
+    links-behind (name_form kind roles.label heading.level) (id ++ colon) (name-links kind roles.label heading.level) ∙ links-before id colon (colon-links roles.colon hidden heading.id) ∙ id-links hyperlink hidden roles.label heading.id
+
+lines-links : (role : ElementStyle) (width : ℕ) (lines : List (List ℕ)) → form_links (lines_form role width lines) ≡ []
+lines-links role width [] = refl
+lines-links role width (line ∷ lines) =
+    each-links (further_line role width) (λ l. links-before (bare (10 ∷ replicate width 32)) (styled role l) refl ∙ bare-links (10 ∷ replicate width 32)) lines
+
+-- a heading links to the address of its id
+pub heading-links : (hyperlink : Bool) (kind : HeadingKind) (heading : Heading) → form_links (heading_form hyperlink kind heading) ≡ id_links hyperlink heading.id
+unfolding heading_form
+heading-links hyperlink kind heading =
+    let roles : HeadingRoles = roles_of kind heading.level.kind heading.allows_styling in
+    let width : ℕ = width_of (label_text kind heading) in
+    let label : List FormPiece = label_form hyperlink kind roles heading in
+    let lines : List FormPiece = lines_form roles.text width (heading_lines heading) in
+    links-before label lines (lines-links roles.text width (heading_lines heading)) ∙ label-links hyperlink kind roles heading
+
+-- the other elements link to nothing
+spans-links : (anonymized : Bool) (source : Source) (path : Option (List ℕ)) (marks : List Annotation) → form_links (spans_form anonymized source path marks) ≡ []
+spans-links anonymized source path [] = bare-links (codes " " ++ place anonymized path source.first None)
+spans-links anonymized source path (a ∷ marks) =
+    let first : List FormPiece = span_form anonymized source (codes " ") path a in
+    let further : Annotation → List FormPiece = span_form anonymized source (further_indent path) None in
+    links-behind first (flat_map further (filter has_label marks)) (bare-links (span_text anonymized source (codes " ") path a)) ∙ each-links further (λ b. bare-links (span_text anonymized source (further_indent path) None b)) (filter has_label marks)
+
+pub cause-links : (anonymized : Bool) (s : Snippet Annotation) → form_links (cause_form anonymized s) ≡ []
+unfolding cause_form
+cause-links anonymized s =
+    spans-links anonymized (source_of s) (option_map cow_str_bytes s.path) (named_spans s.markers.items)
+
+option-links : (option : Option ℕ) → form_links (option_form option) ≡ []
+option-links None = refl
+option-links (Some number) = bare-links (codes " option " ++ decimal number)
+
+added-links : (source : List ℕ) (e : Edit) → form_links (added_form source e) ≡ []
+added-links source e = of_blank (is_blank e.text) refl
+  where
+    sign : List ℕ
+    sign = if overwrites source e then codes " replace with: " else codes " add: "
+
+    of_blank : (blank : Bool) → is_blank e.text ≡ blank → form_links (added_form source e) ≡ []
+    of_blank true is = rw is refl
+    of_blank false is =
+        rw is (links-before (bare sign) (styled Addition (norm (chars (without_final_line_feeds e.text)))) refl ∙ bare-links sign)
+
+edit-links : (anonymized : Bool) (source : Source) (indent : List ℕ) (path : Option (List ℕ)) (e : Edit) → form_links (edit_form anonymized source indent path e) ≡ []
+edit-links anonymized source indent path e =
+    let at = locations_of source e.start e.end in
+    let front : List ℕ = indent ++ edit_place anonymized source path e at.0 at.1 in
+    links-behind (bare front) (added_form source.text e) (bare-links front) ∙ added-links source.text e
+
+pub suggestion-links : (anonymized : Bool) (at : SuggestionPlace) (s : Snippet Patch) → form_links (suggestion_form anonymized at s) ≡ []
+unfolding suggestion_form
+suggestion-links anonymized at s =
+    let source : Source = given.source_of s in
+    let path : Option (List ℕ) = named_path at.names_path (option_map cow_str_bytes s.path) in
+    let edits : Edit → List FormPiece = edit_form anonymized source (edit_indent at.option) path in
+    links-behind (option_form at.option) (flat_map edits (given.trimmed_of s)) (option-links at.option) ∙ each-links edits (edit-links anonymized source (edit_indent at.option) path) (given.trimmed_of s)
+
+pub origin-links : (anonymized : Bool) (o : Origin) → form_links (origin_form anonymized o) ≡ []
+unfolding origin_form
+origin-links anonymized o =
+    bare-links (codes " " ++ place_in_file anonymized (cow_str_bytes o.path) o.line o.char_column)

@@ -1,0 +1,98 @@
+-- The lines of a heading's text, and what they add to a form.
+use Rattle.std.proofs.Common.{◌≡◌, ◌≢◌, ℕ, zero, suc, ◌+◌, ◌<◌, ◌==◌, Bool, true, false, List, [], ◌∷◌, ◌++◌, chars, length, map, replicate, if◌then◌else◌, refl, sym, ap, ◌∙◌, arith}
+use Rattle.std.specs.Borrow.{Bor}
+use Rattle.std.specs.List.{enumerate_from, flat_map, onto_first}
+use Rattle.std.specs.Str.{IsUtf8}
+use Rattle.std.proofs.lemmas.Bool.Decides.{nat_tests}
+use Rattle.std.proofs.lemmas.Grind.{flat_map-append}
+use Rattle.std.proofs.lemmas.List.{append-nil, append_assoc, length-map, map-append}
+use Rattle.std.specs.List.{list_any}
+use Rattle.std.proofs.lemmas.List.Splits.{slice_split-cons_no, slice_split-cons_yes, length-slice_split}
+use Rattle.snippet_style.specs.declared.role.ElementStyle.{ElementStyle}
+use Rattle.snippet_suggest.proofs.RowLemmas.{All-from_none}
+use Rattle.snippet_text.specs.Normalized.{norm, shown}
+use Rattle.snippet_titles.proofs.LineLemmas.{line_of}
+use Rattle.snippet_titles.proofs.SplitLemmas.{lines_at, lines_at-behind, lines_at-chars}
+use Rattle.snippet_text_form.specs.Form.{FormPiece, bare, styled}
+use Rattle.snippet_text_form.specs.Heading.{before_line, further_line, lines_form}
+
+-- ---- normalising and cutting at line feeds commute
+
+-- what is shown for a character that is no line feed holds none
+list_any-shown_feed : (c : ℕ) → (c == 10) ≡ false → list_any (λ b. b == 10) (shown c) ≡ false
+list_any-shown_feed c other = grind (arith, nat_tests, other)
+
+norm-onto : (c : ℕ) (rest : List ℕ) (parts : List (List ℕ)) → (c == 10) ≡ false → lines_at (norm rest) ≡ map norm parts → 0 < length parts → lines_at (shown c ++ norm rest) ≡ map norm (onto_first c parts)
+unfolding norm
+norm-onto c rest [] other is some = absurd (omega (arith, some))
+norm-onto c rest (part ∷ parts) other is some =
+    lines_at-behind (shown c) (norm rest) (norm part) (map norm parts) (All-from_none (λ b. b == 10) (shown c) (list_any-shown_feed c other)) is
+
+norm-step : (c : ℕ) (cs : List ℕ) (feed : Bool) → (c == 10) ≡ feed → lines_at (norm cs) ≡ map norm (lines_at cs) → lines_at (shown c ++ norm cs) ≡ map norm (lines_at (c ∷ cs))
+unfolding norm
+norm-step c cs true is same =
+    let feed : c ≡ 10 = grind (arith, nat_tests, is) in
+    ap (λ d. lines_at (shown d ++ norm cs)) feed ∙ ap (λ parts. [] ∷ parts) same ∙ ap (map norm) (sym (slice_split-cons_yes (λ d. d == 10) c cs is))
+norm-step c cs false is same =
+    norm-onto c cs (lines_at cs) is same (omega (arith, length-slice_split (λ b. b == 10) cs)) ∙ ap (map norm) (sym (slice_split-cons_no (λ d. d == 10) c cs is))
+
+pub lines_at-norm : (cs : List ℕ) → lines_at (norm cs) ≡ map norm (lines_at cs)
+unfolding norm
+lines_at-norm [] = refl
+lines_at-norm (c ∷ cs) = norm-step c cs (c == 10) refl (lines_at-norm cs)
+
+-- a line as it is shown: a trusted one as it is, any other normalised
+abbrev pub line_shown : Bool → List ℕ → List ℕ
+line_shown trusted line = if trusted then line else norm line
+
+map-trusted : (lines : List (List ℕ)) → map (line_shown true) lines ≡ lines
+map-trusted [] = refl
+map-trusted (line ∷ lines) = ap (λ (ls : List (List ℕ)). line ∷ ls) (map-trusted lines)
+
+shown_lines-of : (trusted : Bool) (cs : List ℕ) → map (line_shown trusted) (lines_at cs) ≡ lines_at (if trusted then cs else norm cs)
+shown_lines-of true cs = map-trusted (lines_at cs)
+shown_lines-of false cs = sym (lines_at-norm cs)
+
+-- ---- the lines so far
+
+abbrev pub shown_lines : Bool → List (ℕ × Bor (List ℕ)) → List (List ℕ)
+shown_lines trusted numbered = map (λ p. line_shown trusted (line_of p)) numbered
+
+-- all lines
+shown_lines-seen : (trusted : Bool) (numbered : List (ℕ × Bor (List ℕ))) → shown_lines trusted numbered ≡ map (λ (p : ℕ × List ℕ). line_shown trusted (chars p.1)) (map (λ (p : ℕ × Bor (List ℕ)). (p.0, p.1.now)) numbered)
+shown_lines-seen trusted [] = refl
+shown_lines-seen trusted (p ∷ ps) =
+    ap (λ (ls : List (List ℕ)). line_shown trusted (line_of p) ∷ ls) (shown_lines-seen trusted ps)
+
+shown_lines-numbered : (trusted : Bool) (n : ℕ) (lines : List (List ℕ)) → map (λ (p : ℕ × List ℕ). line_shown trusted (chars p.1)) (enumerate_from n lines) ≡ map (line_shown trusted) (map chars lines)
+shown_lines-numbered trusted n [] = refl
+shown_lines-numbered trusted n (line ∷ lines) =
+    ap (λ (ls : List (List ℕ)). line_shown trusted (chars line) ∷ ls) (shown_lines-numbered trusted (n + 1) lines)
+
+pub shown_lines-all : (styling trusted : Bool) (own text : List ℕ) (numbered : List (ℕ × Bor (List ℕ))) → trusted ≡ styling → IsUtf8 text → text ≡ own → map (λ (p : ℕ × Bor (List ℕ)). (p.0, p.1.now)) numbered ≡ enumerate_from 0 (lines_at text) → shown_lines trusted numbered ≡ lines_at (if styling then chars own else norm (chars own))
+shown_lines-all styling trusted own text numbered trusts utf8 is all =
+    shown_lines-seen trusted numbered ∙ ap (map (λ (p : ℕ × List ℕ). line_shown trusted (chars p.1))) all ∙ shown_lines-numbered trusted 0 (lines_at text) ∙ ap (map (line_shown trusted)) (lines_at-chars text utf8) ∙ shown_lines-of trusted (chars text) ∙ ap (λ (b : Bool). lines_at (if b then chars text else norm (chars text))) trusts ∙ ap (λ (bs : List ℕ). lines_at (if styling then chars bs else norm (chars bs))) is
+
+-- one line more
+lines_form-push : (role : ElementStyle) (width : ℕ) (lines : List (List ℕ)) (line : List ℕ) → lines_form role width (lines ++ line ∷ []) ≡ lines_form role width lines ++ (bare (before_line width (length lines)) ++ styled role line)
+lines_form-push role width [] line = refl
+lines_form-push role width (first ∷ lines) line =
+    ap (λ (ps : List FormPiece). styled role first ++ ps) (flat_map-append (further_line role width) lines (line ∷ []) ∙ ap (λ (ps : List FormPiece). flat_map (further_line role width) lines ++ ps) (append-nil (further_line role width line)))
+
+-- the form behind these lines
+abbrev pub with_lines : List FormPiece → ElementStyle → ℕ → Bool → List (ℕ × Bor (List ℕ)) → List FormPiece
+with_lines old role width trusted numbered = old ++ lines_form role width (shown_lines trusted numbered)
+
+pub line_added : (old form one new : List FormPiece) (role : ElementStyle) (width index : ℕ) (trusted : Bool) (numbered : List (ℕ × Bor (List ℕ))) (line : Bor (List ℕ)) (text : List ℕ) → index ≡ length numbered → form ≡ with_lines old role width trusted numbered → one ≡ form ++ bare (before_line width index) → new ≡ one ++ styled role text → text ≡ line_shown trusted (chars line.now) → new ≡ with_lines old role width trusted (numbered ++ (index, line) ∷ [])
+line_added old form one new role width index trusted numbered line text at is first second shows =
+    let ls : List (List ℕ) = shown_lines trusted numbered in
+    let l : List ℕ = line_shown trusted (chars line.now) in
+    let before : List FormPiece = lines_form role width ls in
+    let count : index ≡ length ls = at ∙ sym (length-map numbered (λ p. line_shown trusted (line_of p))) in
+    let both : shown_lines trusted (numbered ++ (index, line) ∷ []) ≡ ls ++ l ∷ [] = map-append (λ p. line_shown trusted (line_of p)) numbered ((index, line) ∷ []) in
+    second ∙ ap (λ (ps : List FormPiece). ps ++ styled role text) first ∙ append_assoc form (bare (before_line width index)) (styled role text) ∙ ap (λ (cs : List ℕ). form ++ (bare (before_line width index) ++ styled role cs)) shows ∙ ap (λ n. form ++ (bare (before_line width n) ++ styled role l)) count ∙ ap (λ (ps : List FormPiece). ps ++ (bare (before_line width (length ls)) ++ styled role l)) is ∙ append_assoc old before (bare (before_line width (length ls)) ++ styled role l) ∙ ap (λ (ps : List FormPiece). old ++ ps) (sym (lines_form-push role width ls l) ∙ ap (lines_form role width) (sym both))
+
+-- what stands before a further line
+pub before_line-later : (width index : ℕ) → index ≢ 0 → 10 ∷ replicate width 32 ≡ before_line width index
+before_line-later width zero other = absurd (other refl)
+before_line-later width (suc index) other = refl

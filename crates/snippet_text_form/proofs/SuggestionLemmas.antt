@@ -1,0 +1,58 @@
+-- What is added to a text form for a suggestion, one text behind the other.
+use Rattle.std.proofs.Common.{◌≡◌, ℕ, ◌+◌, ◌<◌, Bool, true, false, not, Option, Some, List, [], ◌∷◌, ◌++◌, get_or, length, map, take, sym, ap, subst, ◌∙◌}
+use Rattle.std.proofs.lemmas.Bool.{and_from, cond-false, cond-true}
+use Rattle.std.proofs.lemmas.List.{flat_map_more, map_more}
+use Rattle.std.specs.Cow.{cow_str_bytes}
+use Rattle.std.specs.List.{flat_map}
+use Rattle.std.specs.Option.{option_map}
+use Rattle.snippet_lines.specs.Lines.{Source}
+use Rattle.snippet_lines.specs.Span.{IsSpan}
+use Rattle.snippet_lines.specs.declared.place.Loc.{Loc}
+use Rattle.snippet_model.specs.declared.snippet.Patch.{Patch}
+use Rattle.snippet_model.specs.declared.snippet.Snippet.{Snippet}
+use Rattle.snippet_splice.specs.Edits.{Edit, trimmed_edit_of}
+use Rattle.snippet_splice.specs.declared.patches.TrimmedPatch.{TrimmedPatch}
+use Rattle.snippet_suggest.specs.Given.{source_of, trimmed_of}
+use Rattle.snippet_suggest.specs.Kind.{is_blank}
+use Rattle.snippet_suggest.specs.Prepared.{IsPrepared}
+use Rattle.snippet_suggest.specs.declared.prepared.PreparedSuggestion.{PreparedSuggestion}
+use Rattle.snippet_text_form.specs.Cause.{column_unless}
+use Rattle.snippet_text_form.specs.Form.{FormPiece, Break}
+use Rattle.snippet_text_form.specs.Position.{place}
+use Rattle.snippet_text_form.specs.Suggestion.{edit_form, edit_indent, edit_place, is_whole_line, named_path, option_form, overwrites, replaced_to, replaces, suggestion_form}
+use Rattle.snippet_text_form.specs.declared.suggestion.SuggestionPlace.{SuggestionPlace}
+use Rattle.snippet_text_form.proofs.AddedLemmas.{added-two}
+
+-- a text on a line of its own
+pub adds_line : (old mid new form : List FormPiece) → mid ≡ old ++ Break ∷ [] → new ≡ mid ++ form → new ≡ old ++ Break ∷ form
+adds_line old mid new form first last = added-two old mid new (Break ∷ []) form first last
+
+-- whether an edit stands over text that isn't blank, as it was asked of the source itself
+pub seen_over : (text source : List ℕ) (e : Edit) (over : Bool) → text ≡ source → IsSpan source e.start e.end → (IsSpan text e.start e.end → over ≡ overwrites text e) → over ≡ overwrites source e
+seen_over text source e over same span asked =
+    asked (subst (λ t. IsSpan t e.start e.end) (sym same) span) ∙ ap (λ t. overwrites t e) same
+
+-- where an edit stands that replaces text, and where any other stands
+pub replaced_place : (anonymized : Bool) (source : Source) (path : Option (List ℕ)) (e : Edit) (start end : Loc) → overwrites source.text e ≡ true → is_blank e.text ≡ false → edit_place anonymized source path e start end ≡ place anonymized path start.line (Some (start.char + 1)) ++ replaced_to anonymized start end
+replaced_place anonymized source path e start end over given =
+    cond-true (replaces source.text e) (place anonymized path start.line (Some (start.char + 1)) ++ replaced_to anonymized start end) (place anonymized path start.line (column_unless (is_whole_line source start end e) start)) (and_from (overwrites source.text e) (not (is_blank e.text)) over (ap not given))
+
+pub other_place : (anonymized : Bool) (source : Source) (path : Option (List ℕ)) (e : Edit) (start end : Loc) → replaces source.text e ≡ false → edit_place anonymized source path e start end ≡ place anonymized path start.line (column_unless (is_whole_line source start end e) start)
+other_place anonymized source path e start end other =
+    cond-false (replaces source.text e) (place anonymized path start.line (Some (start.char + 1)) ++ replaced_to anonymized start end) (place anonymized path start.line (column_unless (is_whole_line source start end e) start)) other
+
+-- what is added for one more patch
+pub edits_more : (f : Edit → List FormPiece) (old mid new : List FormPiece) (ps : List TrimmedPatch) (i : ℕ) (d : TrimmedPatch) → i < length ps → mid ≡ old ++ flat_map f (map trimmed_edit_of (take i ps)) → new ≡ mid ++ f (trimmed_edit_of (get_or ps i d)) → new ≡ old ++ flat_map f (map trimmed_edit_of (take (i + 1) ps))
+edits_more f old mid new ps i d within first last =
+    let e : Edit = trimmed_edit_of (get_or ps i d) in
+    last ∙ ap (λ form. form ++ f e) first ∙ flat_map_more f old (map trimmed_edit_of (take i ps)) e ∙ ap (λ es. old ++ flat_map f es) (sym (map_more trimmed_edit_of ps i d within))
+
+-- a suggestion is added once its number and all of its patches are
+pub suggestion_added : (anonymized : Bool) (at : SuggestionPlace) (p : PreparedSuggestion) (indent : List ℕ) (path : Option (List ℕ)) (old mid new : List FormPiece) → IsPrepared p → indent ≡ edit_indent at.option → path ≡ named_path at.names_path (option_map cow_str_bytes p.snippet.now.path) → mid ≡ old ++ option_form at.option → new ≡ mid ++ flat_map (edit_form anonymized p.map indent path) (map trimmed_edit_of p.splice.patches.items) → new ≡ old ++ suggestion_form anonymized at p.snippet.now
+unfolding suggestion_form
+suggestion_added anonymized at p indent path old mid new is indents names first last =
+    let s : Snippet Patch = p.snippet.now in
+    let edits : List Edit = map trimmed_edit_of p.splice.patches.items in
+    let named : Option (List ℕ) = named_path at.names_path (option_map cow_str_bytes s.path) in
+    let forms : flat_map (edit_form anonymized p.map indent path) edits ≡ flat_map (edit_form anonymized (source_of s) (edit_indent at.option) named) (trimmed_of s) = ap (λ source. flat_map (edit_form anonymized source indent path) edits) is.lines ∙ ap (λ text. flat_map (edit_form anonymized (source_of s) text path) edits) indents ∙ ap (λ to. flat_map (edit_form anonymized (source_of s) (edit_indent at.option) to) edits) names ∙ ap (λ es. flat_map (edit_form anonymized (source_of s) (edit_indent at.option) named) es) is.edits in
+    added-two old mid new (option_form at.option) (flat_map (edit_form anonymized p.map indent path) edits) first last ∙ ap (λ form. old ++ (option_form at.option ++ form)) forms

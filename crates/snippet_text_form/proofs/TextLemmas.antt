@@ -1,0 +1,33 @@
+-- The characters of texts that the library itself writes.
+use Rattle.std.proofs.Common.{◌≡◌, ◌∷◌, [], codes, chars, refl}
+use Rattle.std.proofs.lemmas.Str.{chars-encodes}
+
+pub chars-space : chars (32 ∷ []) ≡ codes " "
+unfolding lib.Utf8.encode
+chars-space = chars-encodes (codes " ") refl
+
+pub chars-feed : chars (10 ∷ []) ≡ 10 ∷ []
+unfolding lib.Utf8.encode
+chars-feed = chars-encodes (10 ∷ []) refl
+
+-- of a place
+pub chars-at : chars (97 ∷ 116 ∷ 32 ∷ []) ≡ codes "at "
+unfolding lib.Utf8.encode
+chars-at = chars-encodes (codes "at ") refl
+
+pub chars-behind : chars (58 ∷ []) ≡ codes ":"
+unfolding lib.Utf8.encode
+chars-behind = chars-encodes (codes ":") refl
+
+pub chars-on_line : chars (111 ∷ 110 ∷ 32 ∷ 108 ∷ 105 ∷ 110 ∷ 101 ∷ 32 ∷ []) ≡ codes "on line "
+unfolding lib.Utf8.encode
+chars-on_line = chars-encodes (codes "on line ") refl
+
+pub chars-column : chars (44 ∷ 32 ∷ 99 ∷ 111 ∷ 108 ∷ 117 ∷ 109 ∷ 110 ∷ 32 ∷ []) ≡ codes ", column "
+unfolding lib.Utf8.encode
+chars-column = chars-encodes (codes ", column ") refl
+
+-- an anonymized line
+pub chars-anonymized : chars (76 ∷ 76 ∷ []) ≡ codes "LL"
+unfolding lib.Utf8.encode
+chars-anonymized = chars-encodes (codes "LL") refl

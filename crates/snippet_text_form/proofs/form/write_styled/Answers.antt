@@ -1,0 +1,17 @@
+use Rattle.std.proofs.Common.{◌∙◌, ◌++◌, List, ℕ, ap, string_bytes, encode_utf8_all}
+use Rattle.std.specs.Option.{option_copied}
+use Rattle.snippet_style.specs.Codes.{opening, reset}
+use Rattle.snippet_style.specs.declared.style.Style.{Style}
+use Rattle.snippet_text_form.specs.Form.{role_style}
+use Rattle.snippet_text_form.proofs.FormSteps.{styled_added}
+use Rattle.snippet_text_form.proofs.form.write_styled.Goals as goal
+
+pub returns : goal.returns
+returns c =
+    let style : Style = role_style c.args.sheet.now c.args.text.now.role in
+    let opened = c.as_str.ensures.value ∙ c.in_ok-open_code.ensures.text ∙ ap (λ (s : Style). encode_utf8_all (opening s)) c.style_of-style.ensures.value in
+    let closed = c.reset_code.ensures.text ∙ ap (λ (s : Style). encode_utf8_all (reset s)) c.style_of-style.ensures.value in
+    let begun = c.in_ok-push_str.ensures.bytes ∙ ap (λ (bs : List ℕ). string_bytes c.args.out.now ++ bs) opened in
+    let ended = c.in_ok-push_str-3.ensures.bytes ∙ ap (λ (bs : List ℕ). string_bytes c.end_link.new.out ++ bs) closed in
+    let added = styled_added style (option_copied c.args.text.now.link) c.as_str-2.result.now _ _ _ _ _ _ c.as_str-2.utf8 begun c.in_ok-begin_link.ensures.added c.in_ok-push_str-2.ensures.bytes c.in_ok-end_link.ensures.added ended in
+    record { added = rw c.as_str-2.ensures.value at added }

@@ -1,0 +1,47 @@
+use Rattle.std.proofs.Common.{◌≡◌, ℕ, ◌+◌, ◌++◌, ◌∙◌, List, Option, Some, ap, false, not, sym, true}
+use Rattle.std.proofs.lemmas.Bool.{and_left, and_right}
+use Rattle.std.proofs.lemmas.Result.{on_ok_weaker}
+use Rattle.std.specs.Option.{option_copied}
+use Rattle.snippet_splice.specs.Edits.{Edit, trimmed_edit_of}
+use Rattle.snippet_suggest.specs.Kind.{is_blank}
+use Rattle.snippet_text_form.specs.Cause.{column_unless}
+use Rattle.snippet_text_form.specs.Form.{FormPiece, bare}
+use Rattle.snippet_text_form.specs.Position.{place}
+use Rattle.snippet_text_form.specs.Suggestion.{is_whole_line, overwrites, replaced_to, replaces}
+use Rattle.snippet_text_form.proofs.AddedLemmas.{text-two}
+use Rattle.snippet_text_form.proofs.SuggestionLemmas.{other_place, replaced_place, seen_over}
+use Rattle.snippet_text_form.proofs.suggestion.add_patch_place.Goals as goal
+use Rattle.snippet_text_form.proofs.suggestion.add_patch_place.Goals.{else-overwrites-via-then-overwrites+else-not-is_blank, else-overwrites-via-else-overwrites}
+
+pub returns-in_ok-add_place : goal.returns-in_ok-add_place
+returns-in_ok-add_place c =
+    let a = c.args in
+    let e : Edit = trimmed_edit_of a.patch.now in
+    let path : Option (List ℕ) = option_copied a.path in
+    let old : List FormPiece = a.form.now in
+    let mid : List FormPiece = c.add_place.new.form in
+    let new : List FormPiece = c.add_end.new.form in
+    let over : overwrites a.map.now.text e ≡ true = sym (seen_over c.source.result.now a.map.now.text e c.overwrites.result c.source.ensures.value c.requires.span c.overwrites.ensures.value) ∙ c.if-overwrites.true in
+    let given : is_blank e.text ≡ false = sym c.is_blank.ensures.value ∙ c.if-not-is_blank.true in
+    record {
+      added = on_ok_weaker c.add_end.result (λ last. text-two old mid new (place a.anonymized path a.start.line (Some (a.start.char + 1))) (replaced_to a.anonymized a.start a.end) c.in_ok-add_place.ensures.added last ∙ ap (λ text. old ++ bare text) (sym (replaced_place a.anonymized a.map.now path e a.start a.end over given))) c.add_end.ensures.added;
+    }
+
+pub returns-else-overwrites : goal.returns-else-overwrites
+returns-else-overwrites c =
+    let a = c.args in
+    let e : Edit = trimmed_edit_of a.patch.now in
+    let path : Option (List ℕ) = option_copied a.path in
+    let old : List FormPiece = a.form.now in
+    let over = overwrites a.map.now.text e in
+    let seen : c.overwrites.result ≡ over = seen_over c.source.result.now a.map.now.text e c.overwrites.result c.source.ensures.value c.requires.span c.overwrites.ensures.value in
+    let other : replaces a.map.now.text e ≡ false = elim c.else-overwrites.branch [
+      | else-overwrites-via-then-overwrites+else-not-is_blank w ↦
+          and_right over (not (is_blank e.text)) (ap not (sym w.is_blank.ensures.value ∙ w.if-not-is_blank.false))
+      | else-overwrites-via-else-overwrites w ↦
+          and_left over (not (is_blank e.text)) (sym seen ∙ w.if-overwrites.false)
+    ] in
+    let column : c.column_unless-column.result ≡ column_unless (is_whole_line a.map.now a.start a.end e) a.start = c.column_unless-column.ensures.value ∙ ap (λ whole. column_unless whole a.start) c.is_whole_line-whole.ensures.value in
+    record {
+      added = on_ok_weaker c.add_place-else-overwrites.result (λ added. added ∙ ap (λ to. old ++ bare (place a.anonymized path a.start.line to)) column ∙ ap (λ text. old ++ bare text) (sym (other_place a.anonymized a.map.now path e a.start a.end other))) c.add_place-else-overwrites.ensures.added;
+    }

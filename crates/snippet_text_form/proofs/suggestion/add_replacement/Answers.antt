@@ -1,0 +1,39 @@
+use Rattle.std.proofs.Common.{◌≡◌, ℕ, [], List, ◌++◌, ◌∙◌, ap, chars, codes, false, if◌then◌else◌, refl, sym}
+use Rattle.std.proofs.lemmas.Bool.{cond-false, cond-true}
+use Rattle.std.proofs.lemmas.Result.{on_ok_weaker}
+use Rattle.std.proofs.lemmas.Str.{chars-encodes}
+use Rattle.std.specs.Borrow.{Bor}
+use Rattle.std.specs.Cow.{cow_str_bytes}
+use Rattle.snippet_splice.specs.Edits.{Edit, trimmed_edit_of}
+use Rattle.snippet_splice.specs.Shown.{without_final_line_feeds}
+use Rattle.snippet_style.specs.declared.role.ElementStyle.TheVariants.{Addition}
+use Rattle.snippet_suggest.specs.Kind.{is_blank}
+use Rattle.snippet_text.specs.Normalized.{norm}
+use Rattle.snippet_text_form.specs.Form.{FormPiece, bare, styled}
+use Rattle.snippet_text_form.specs.Suggestion.{overwrites}
+use Rattle.snippet_text_form.proofs.AddedLemmas.{added-two}
+use Rattle.snippet_text_form.proofs.suggestion.add_replacement.Goals as goal
+use Rattle.snippet_text_form.proofs.suggestion.add_replacement.Goals.{then-overwrites, else-overwrites}
+
+pub returns : goal.returns
+unfolding lib.Utf8.encode
+returns c =
+    let old : List FormPiece = c.args.form.now in
+    let mid : List FormPiece = c.add_text.new.self in
+    let new : List FormPiece = c.add_styled.new.self in
+    let e : Edit = trimmed_edit_of c.args.patch.now in
+    let over = overwrites c.args.source.now e in
+    let lead : List ℕ = if over then codes " replace with: " else codes " add: " in
+    let form : List FormPiece = styled Addition (norm (chars (without_final_line_feeds e.text))) in
+    let given : is_blank e.text ≡ false = sym c.is_blank.ensures.value ∙ c.if-is_blank.false in
+    let led : chars c.if-overwrites.add_text.now ≡ lead = elim c.if-overwrites.branch [
+      | then-overwrites w ↦
+          ap (λ (t : Bor (List ℕ)). chars t.now) w.add_text-is ∙ chars-encodes (codes " replace with: ") refl ∙ sym (cond-true over (codes " replace with: ") (codes " add: ") (sym (c.overwrites.ensures.value c.requires.span) ∙ w.if-overwrites.true))
+      | else-overwrites w ↦
+          ap (λ (t : Bor (List ℕ)). chars t.now) w.add_text-is ∙ chars-encodes (codes " add: ") refl ∙ sym (cond-false over (codes " replace with: ") (codes " add: ") (sym (c.overwrites.ensures.value c.requires.span) ∙ w.if-overwrites.false))
+    ] in
+    let front : mid ≡ old ++ bare lead = c.in_ok-add_text.ensures.added ∙ ap (λ text. old ++ bare text) led in
+    let shown : chars (cow_str_bytes c.in_ok-normalized.field-0) ≡ norm (chars (without_final_line_feeds e.text)) = c.in_ok-normalized.ensures.value ∙ ap (λ text. norm (chars text)) c.without_final_line_feeds-text.ensures.value in
+    record {
+      added = on_ok_weaker c.add_styled.result (λ last. added-two old mid new (bare lead) form front (last ∙ ap (λ text. mid ++ styled Addition text) shown) ∙ ap (λ pieces. old ++ pieces) (sym (cond-false (is_blank e.text) [] (bare lead ++ form) given))) c.add_styled.ensures.added;
+    }

@@ -1,0 +1,40 @@
+use Rattle.std.proofs.Common.{◌≡◌, ℕ, All, List, Option, ◌++◌, ◌∙◌, ap, chars, map, subst, sym, take}
+use Rattle.std.proofs.lemmas.List.{append-nil, take_all}
+use Rattle.std.specs.List.{flat_map}
+use Rattle.std.specs.Option.{option_copied}
+use Rattle.snippet_lines.specs.Span.{IsSpan}
+use Rattle.snippet_splice.specs.Edits.{Edit, trimmed_edit_of}
+use Rattle.snippet_splice.specs.declared.patches.TrimmedPatch.{TrimmedPatch}
+use Rattle.snippet_suggest.proofs.KnownLemmas.{known_spans}
+use Rattle.snippet_text_form.specs.Form.{FormPiece}
+use Rattle.snippet_text_form.specs.Suggestion.{edit_form}
+use Rattle.snippet_text_form.proofs.SuggestionLemmas.{edits_more, suggestion_added}
+use Rattle.snippet_text_form.proofs.suggestion.add_suggestion.Goals as goal
+
+pub loop-patch-init : goal.loop-patch-init
+loop-patch-init c =
+    let begun : List FormPiece = c.add_option.new.form in
+    sym (append-nil begun)
+
+pub add_patch-requires : goal.add_patch-requires
+add_patch-requires c =
+    let p = c.args.suggestion.now in
+    let spans : All (λ (t : TrimmedPatch). IsSpan p.map.text t.span.start t.span.end) c.deref-patch-items.result.now = subst (λ (ts : List TrimmedPatch). All (λ t. IsSpan p.map.text t.span.start t.span.end) ts) (sym c.deref-patch-items.ensures.value) (known_spans p c.requires.prepared) in
+    record { span = spans c.loop-patch.patch-index _ c.loop-patch-test.true }
+
+pub loop-patch-preserved : goal.loop-patch-preserved
+loop-patch-preserved c =
+    let added : Edit → List FormPiece = edit_form c.args.anonymized c.args.suggestion.now.map (chars c.indent_below-indent.result.now) (option_copied c.shown_path-path.result) in
+    edits_more added c.add_option.new.form c.loop-patch.form c.add_patch.new.form c.deref-patch-items.result.now c.loop-patch.patch-index _ c.loop-patch-test.true c.loop-patch.invariant c.in_ok-add_patch.ensures.added
+
+pub returns : goal.returns
+returns c =
+    let a = c.args in
+    let p = a.suggestion.now in
+    let begun : List FormPiece = c.add_option.new.form in
+    let indent : List ℕ = chars c.indent_below-indent.result.now in
+    let path : Option (List ℕ) = option_copied c.shown_path-path.result in
+    let all : take c.loop-patch.patch-index c.deref-patch-items.result.now ≡ p.splice.patches.items = take_all c.loop-patch.patch-index c.deref-patch-items.result.now c.loop-patch-test.false ∙ c.deref-patch-items.ensures.value in
+    record {
+      added = suggestion_added a.anonymized a.place p indent path a.form.now begun c.loop-patch.form c.requires.prepared c.indent_below-indent.ensures.value c.shown_path-path.ensures.value c.in_ok-add_option.ensures.added (c.loop-patch.invariant ∙ ap (λ ts. begun ++ flat_map (edit_form a.anonymized p.map indent path) (map trimmed_edit_of ts)) all);
+    }

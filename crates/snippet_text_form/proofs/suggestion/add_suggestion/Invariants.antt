@@ -1,0 +1,11 @@
+use Rattle.std.proofs.Common.{◌≡◌, ◌++◌, chars, take, map}
+use Rattle.std.specs.List.{flat_map}
+use Rattle.std.specs.Option.{option_copied}
+use Rattle.snippet_splice.specs.Edits.{trimmed_edit_of}
+use Rattle.snippet_text_form.specs.Suggestion.{edit_form}
+use Rattle.snippet_text_form.proofs.suggestion.add_suggestion.Given as goal
+
+-- the patches so far are added
+abbrev pub invariant-loop-patch : goal.invariant-loop-patch
+invariant-loop-patch l =
+    l.form ≡ l.initial.form ++ flat_map (edit_form l.anonymized l.map (chars l.indent) (option_copied l.path)) (map trimmed_edit_of (take l.patch-index l.patch-items))

@@ -1,0 +1,97 @@
+-- What a suggestion and a place without source are in the text form.
+use Rattle.std.specs.Prelude.{ℕ, ◌+◌, nat_lt, ◌==◌, ◌&&◌, ◌||◌, not, Bool, false, List, [], ◌∷◌, ◌++◌, Option, None, Some, chars, codes, drop, length, take, if◌then◌else◌}
+use Rattle.std.specs.Cow.{cow_str_bytes}
+use Rattle.std.specs.Fmt.{decimal}
+use Rattle.std.specs.List.{flat_map}
+use Rattle.std.specs.Option.{option_map}
+use Rattle.snippet_lines.specs.Lines.{Source, line_at, lines_of}
+use Rattle.snippet_lines.specs.Place.{locations_of}
+use Rattle.snippet_lines.specs.Span.{is_character_border}
+use Rattle.snippet_lines.specs.declared.place.Loc.{Loc}
+use Rattle.snippet_model.specs.declared.snippet.Origin.{Origin}
+use Rattle.snippet_model.specs.declared.snippet.Patch.{Patch}
+use Rattle.snippet_model.specs.declared.snippet.Snippet.{Snippet}
+use Rattle.snippet_splice.specs.Edits.{Edit}
+use Rattle.snippet_splice.specs.Shown.{without_final_line_feeds}
+use Rattle.snippet_style.specs.declared.role.ElementStyle.TheVariants.{Addition}
+use Rattle.snippet_suggest.specs.Given.{source_of, trimmed_of}
+use Rattle.snippet_suggest.specs.Kind.{is_blank, is_under_text, text_under}
+use Rattle.snippet_text.specs.Normalized.{norm}
+use Rattle.snippet_titles.specs.Origin.{line_name}
+use Rattle.snippet_text_form.specs.Cause.{column_unless}
+use Rattle.snippet_text_form.specs.Form.{FormPiece, Break, bare, styled}
+use Rattle.snippet_text_form.specs.Position.{place, place_in_file}
+use Rattle.snippet_text_form.specs.declared.suggestion.SuggestionPlace.{SuggestionPlace}
+
+-- whether an edit stands over text that isn't blank
+abbrev pub overwrites : List ℕ → Edit → Bool
+overwrites source e = is_under_text e (text_under source e)
+
+-- whether it puts text that isn't blank in place of such text
+abbrev pub replaces : List ℕ → Edit → Bool
+replaces source e = overwrites source e && not (is_blank e.text)
+
+-- where a replaced span ends, behind the place at which it starts
+abbrev pub replaced_to : Bool → Loc → Loc → List ℕ
+replaced_to anonymized start end =
+    if start.line == end.line then codes " to column " ++ decimal (end.char + 1)
+    else codes " to line " ++ line_name anonymized end.line ++ codes ", column " ++ decimal (end.char + 1)
+
+-- whether a text has several lines
+abbrev pub has_several_lines : List ℕ → Bool
+has_several_lines text = nat_lt 1 (length (lines_of text))
+
+-- whether a line can be cut at two bytes with nothing but whitespace before the first, and behind the second too, unless that
+-- doesn't matter
+abbrev pub is_alone : Option (List ℕ) → ℕ → ℕ → Bool → Bool
+is_alone None from to anything = false
+is_alone (Some line) from to anything =
+    is_character_border line from && is_character_border line to && is_blank (take from line) && (anything || is_blank (drop to line))
+
+-- whether an edit is that of a whole line: its span is on one line, on which nothing else stands. The bytes at which the line is cut
+-- are those of the source, so it is mostly a first line
+abbrev pub is_whole_line : Source → Loc → Loc → Edit → Bool
+is_whole_line source start end e =
+    start.line == end.line && is_alone (line_at source start.line) start.byte end.byte (has_several_lines e.text)
+
+-- where an edit stands
+abbrev pub edit_place : Bool → Source → Option (List ℕ) → Edit → Loc → Loc → List ℕ
+edit_place anonymized source path e start end =
+    if replaces source.text e then place anonymized path start.line (Some (start.char + 1)) ++ replaced_to anonymized start end
+    else place anonymized path start.line (column_unless (is_whole_line source start end e) start)
+
+-- what an edit puts there, in the style of additions: its text without the line feeds that end it, normalised; nothing where it
+-- is blank
+abbrev pub added_form : List ℕ → Edit → List FormPiece
+added_form source e =
+    if is_blank e.text then []
+    else bare (if overwrites source e then codes " replace with: " else codes " add: ") ++ styled Addition (norm (chars (without_final_line_feeds e.text)))
+
+-- an edit, on a line of its own: behind an indent the place where it stands, and what it puts there
+abbrev pub edit_form : Bool → Source → List ℕ → Option (List ℕ) → Edit → List FormPiece
+edit_form anonymized source indent path e =
+    let at = locations_of source e.start e.end in
+    Break ∷ (bare (indent ++ edit_place anonymized source path e at.0 at.1) ++ added_form source.text e)
+
+-- a suggestion's number among those for one file, on a line of its own, and the indent below it
+abbrev pub option_form : Option ℕ → List FormPiece
+option_form None = []
+option_form (Some number) = Break ∷ bare (codes " option " ++ decimal number)
+
+abbrev pub edit_indent : Option ℕ → List ℕ
+edit_indent None = codes " "
+edit_indent (Some number) = codes "  "
+
+-- a path that is named, if it is there
+abbrev pub named_path : Bool → Option (List ℕ) → Option (List ℕ)
+named_path names path = if names then path else None
+
+-- a suggestion: its number, where it is one of several for one file, and its trimmed edits, in order
+unfoldable pub suggestion_form : Bool → SuggestionPlace → Snippet Patch → List FormPiece
+suggestion_form anonymized at s =
+    option_form at.option ++ flat_map (edit_form anonymized (source_of s) (edit_indent at.option) (named_path at.names_path (option_map cow_str_bytes s.path))) (trimmed_of s)
+
+-- a place without source, on a line of its own
+unfoldable pub origin_form : Bool → Origin → List FormPiece
+origin_form anonymized o =
+    Break ∷ bare (codes " " ++ place_in_file anonymized (cow_str_bytes o.path) o.line o.char_column)

@@ -1,0 +1,360 @@
+//! Annotated snippets.
+ghost use Rattle.std.specs.Prelude.{◌≡◌, ◌==◌, ◌&&◌, ◌++◌, ◌^◌, ◌≤◌, [], ◌∷◌, All, None, Some, chars, filter, length, map, nat_lt, not, IfOk, OnOk};
+ghost use Rattle.std.specs.Char.{is_whitespace};
+ghost use Rattle.std.specs.List.{flat_map};
+ghost use Rattle.std.specs.Cow.{cow_str_bytes};
+ghost use Rattle.std.specs.Option.{option_copied, option_map};
+ghost use Rattle.std.specs.Ordering.{nat_cmp, ordering_then};
+ghost use Rattle.snippet_lines.specs.Span.{IsSpan};
+ghost use Rattle.snippet_text_form.specs.Cause.{cause_form, end_in_file, end_on_line, has_label, kind_rank, source_of, span_form, span_place, spans_form};
+ghost use Rattle.snippet_text_form.specs.Cause as spec;
+ghost use Rattle.snippet_text_form.specs.Form.{bare};
+
+use crate::form::TextForm;
+use crate::position::{add_column, add_line, add_place, add_place_in_file, add_place_on_line};
+use snippet_model::snippet::{Annotation, AnnotationKind, Snippet};
+use snippet_parts::{Loc, SourceMap, is_marking};
+use snippet_text::{CowStr, normalized};
+use std::alloc::{AllocError, Global};
+use std::cmp::Ordering;
+
+/// Adds an annotated snippet, a line for its first span and for each other that has a label.
+///
+/// ```text
+///  at src/main.rs:3:5: here
+///   on line 4, column 9: value
+/// ```
+///
+/// # Errors
+///
+/// There is no memory for the text, or to order the spans.
+pub fn add_cause<'a>(
+    alloc: Global,
+    form: &mut TextForm<'a>,
+    anonymized: bool,
+    snippet: &'a Snippet<'a, Annotation<'a>>,
+    map: &SourceMap<'a>,
+) -> Result<(), AllocError>
+    requires map { map.now ≡ source_of snippet.now }
+    requires spans { All (λ a. IsSpan map.now.text a.span.start a.span.end) snippet.now.markers.items }
+    ensures added { OnOk result (form.new ≡ form.old ++ cause_form anonymized snippet.now) }
+{
+    let path = path_of(snippet);
+    let spans = named_spans(alloc, &snippet.markers)?;
+    add_spans(alloc, form, anonymized, map, path, &spans)
+}
+
+/// An annotation that is named.
+#[derive(Clone, Copy)]
+struct NamedSpan<'a> {
+    annotation: &'a Annotation<'a>,
+}
+
+/// Adds the spans of a snippet, in order; where there are none, the place where its source begins.
+fn add_spans<'a>(
+    alloc: Global,
+    form: &mut TextForm<'a>,
+    anonymized: bool,
+    source: &SourceMap<'a>,
+    path: Option<&'a str>,
+    spans: &[NamedSpan<'a>],
+) -> Result<(), AllocError>
+    requires spans { All (λ s. IsSpan source.now.text s.annotation.now.span.start s.annotation.now.span.end) spans.now }
+    ensures added { OnOk result (form.new ≡ form.old
+        ++ spans_form anonymized source.now (option_copied path.entry) (map (λ s. s.annotation.now) spans.now)) }
+{
+    let Some((first, others)) = spans.split_first() else {
+        form.add_break()?;
+        form.add_text(" ")?;
+        return add_place(alloc, form, anonymized, path, source.line_start(), None);
+    };
+    let label = label_of(alloc, first.annotation)?;
+    add_span(
+        alloc,
+        form,
+        anonymized,
+        source,
+        " ",
+        path,
+        first.annotation,
+        label,
+    )?;
+    let indent = further_indent(path);
+    for span in others {
+        add_further_span(alloc, form, anonymized, source, indent, span.annotation)?;
+    }
+    Ok(())
+}
+
+/// What stands before a span behind the first: it stands below the first one's path, where there is one.
+fn further_indent<'a>(path: Option<&'a str>) -> &'a str
+    ensures value { chars result.now ≡ spec.further_indent (option_copied path.entry) }
+{
+    match path {
+        Some(_) => "  ",
+        None => " ",
+    }
+}
+
+/// A snippet's path, if it has one.
+fn path_of<'a>(snippet: &'a Snippet<'a, Annotation<'a>>) -> Option<&'a str>
+    ensures value { option_copied result ≡ option_map cow_str_bytes snippet.now.path }
+{
+    match &snippet.path {
+        Some(path) => Some(path.as_str()),
+        None => None,
+    }
+}
+
+/// The annotations that are named, in order.
+fn named_spans<'a>(
+    alloc: Global,
+    annotations: &'a [Annotation<'a>],
+) -> Result<Vec<NamedSpan<'a>>, AllocError>
+    ensures value { IfOk result (λ spans. map (λ s. s.annotation.now) spans.items ≡ spec.named_spans annotations.now) }
+{
+    let mut spans = Vec::new(alloc);
+    for annotation in annotations {
+        if is_marking(annotation.kind) {
+            spans.push(NamedSpan { annotation })?;
+        }
+    }
+    spans.sort_by(|a, b| compare(a.annotation, b.annotation))?;
+    Ok(spans)
+}
+
+/// Which of two annotations comes first: a primary one, then the one that starts first.
+fn compare(a: &Annotation<'_>, b: &Annotation<'_>) -> Ordering
+    ensures value { result ≡ ordering_then (nat_cmp (kind_rank a.now.kind) (kind_rank b.now.kind)) (nat_cmp a.now.span.start b.now.span.start) }
+{
+    rank_of(a.kind)
+        .cmp(&rank_of(b.kind))
+        .then(a.span.start.cmp(&b.span.start))
+}
+
+/// Which kind of span is named first: 0 for a primary one.
+fn rank_of(kind: AnnotationKind) -> usize
+    ensures value { result ≡ kind_rank kind }
+{
+    match kind {
+        AnnotationKind::Primary => 0,
+        AnnotationKind::Context | AnnotationKind::Visible => 1,
+    }
+}
+
+/// An annotation's label as it is shown, empty where it has none.
+fn label_of<'a>(alloc: Global, annotation: &'a Annotation<'a>) -> Result<CowStr<'a>, AllocError>
+    ensures value { IfOk result (λ label. chars (cow_str_bytes label) ≡ spec.label_of annotation.now) }
+{
+    match &annotation.label {
+        Some(label) => normalized(alloc, label.as_str()),
+        None => Ok(CowStr::Borrowed("")),
+    }
+}
+
+/// Adds an annotation behind the first, if it has a label.
+fn add_further_span<'a>(
+    alloc: Global,
+    form: &mut TextForm<'a>,
+    anonymized: bool,
+    map: &SourceMap<'a>,
+    indent: &'a str,
+    span: &'a Annotation<'a>,
+) -> Result<(), AllocError>
+    requires span { IsSpan map.now.text span.now.span.start span.now.span.end }
+    ensures added { OnOk result (form.new ≡ form.old
+        ++ flat_map (span_form anonymized map.now (chars indent.now) None) (filter has_label (span.now ∷ []))) }
+{
+    let label = label_of(alloc, span)?;
+    if is_shown(&label) {
+        add_span(alloc, form, anonymized, map, indent, None, span, label)?;
+    }
+    Ok(())
+}
+
+/// Whether a label shows anything.
+fn is_shown(label: &CowStr<'_>) -> bool
+    ensures value { result ≡ nat_lt 0 (length (chars (cow_str_bytes label.now))) }
+{
+    !label.as_str().is_empty()
+}
+
+/// Adds an annotation, on a line of its own, with its label, which may be empty.
+fn add_span<'a>(
+    alloc: Global,
+    form: &mut TextForm<'a>,
+    anonymized: bool,
+    map: &SourceMap<'a>,
+    indent: &'a str,
+    path: Option<&'a str>,
+    span: &'a Annotation<'a>,
+    label: CowStr<'a>,
+) -> Result<(), AllocError>
+    requires span { IsSpan map.now.text span.now.span.start span.now.span.end }
+    requires label { chars (cow_str_bytes label) ≡ spec.label_of span.now }
+    ensures added { OnOk result (form.new ≡ form.old
+        ++ span_form anonymized map.now (chars indent.now) (option_copied path.entry) span.now) }
+{
+    form.add_break()?;
+    form.add_text(indent)?;
+    let (start, end) = map.span_to_locations(span.span.start..span.span.end);
+    add_span_place(alloc, form, anonymized, map, path, start, end)?;
+    if is_shown(&label) {
+        form.add_text(": ")?;
+        form.add_shown(label)?;
+    }
+    Ok(())
+}
+
+/// Adds where a span starts and ends: in a file, or without a path.
+fn add_span_place<'a>(
+    alloc: Global,
+    form: &mut TextForm<'a>,
+    anonymized: bool,
+    map: &SourceMap<'a>,
+    path: Option<&'a str>,
+    start: Loc,
+    end: Loc,
+) -> Result<(), AllocError>
+    requires start { start.char ≤ 2 ^ 56 }
+    requires end { end.char ≤ 2 ^ 56 }
+    ensures added { OnOk result (form.new ≡ form.old
+        ++ bare (span_place anonymized map.now (option_copied path.entry) start end)) }
+{
+    let Some(path) = path else {
+        return add_place_on_lines(form, anonymized, map, start, end);
+    };
+    let column = start.char + 1;
+    add_place_in_file(
+        alloc,
+        form,
+        anonymized,
+        path,
+        Some(start.line),
+        Some(column),
+    )?;
+    add_end_in_file(form, anonymized, start, end)
+}
+
+/// Adds where a span ends behind the place in a file at which it starts, if it ends on another line: ` to 4:7`.
+fn add_end_in_file(
+    form: &mut TextForm<'_>,
+    anonymized: bool,
+    start: Loc,
+    end: Loc,
+) -> Result<(), AllocError>
+    requires end { end.char ≤ 2 ^ 56 }
+    ensures added { OnOk result (form.new ≡ form.old ++ bare (end_in_file anonymized start end)) }
+{
+    if start.line == end.line {
+        return Ok(());
+    }
+    form.add_text(" to ")?;
+    add_line(form, anonymized, end.line)?;
+    form.add_text(":")?;
+    form.add_number(end.char + 1)
+}
+
+/// Adds where a span starts and ends without a path: `on line 3, column 5 to line 4, column 7`. A column is left out where
+/// nothing but whitespace stands before the span, or behind it.
+fn add_place_on_lines(
+    form: &mut TextForm<'_>,
+    anonymized: bool,
+    map: &SourceMap<'_>,
+    start: Loc,
+    end: Loc,
+) -> Result<(), AllocError>
+    requires start { start.char ≤ 2 ^ 56 }
+    requires end { end.char ≤ 2 ^ 56 }
+    ensures added { OnOk result (form.new ≡ form.old ++ bare (span_place anonymized map.now None start end)) }
+{
+    let begins = is_blank_before(map.get_line(start.line), start.char);
+    add_place_on_line(form, anonymized, start.line, column_unless(begins, start))?;
+    add_end_on_line(form, anonymized, map, start, end)
+}
+
+/// Adds where a span ends behind the place at which it starts, if it ends on another line: ` to line 4, column 7`.
+fn add_end_on_line(
+    form: &mut TextForm<'_>,
+    anonymized: bool,
+    map: &SourceMap<'_>,
+    start: Loc,
+    end: Loc,
+) -> Result<(), AllocError>
+    requires end { end.char ≤ 2 ^ 56 }
+    ensures added { OnOk result (form.new ≡ form.old ++ bare (end_on_line anonymized map.now start end)) }
+{
+    if start.line == end.line {
+        return Ok(());
+    }
+    form.add_text(" to line ")?;
+    add_line(form, anonymized, end.line)?;
+    let ends = is_blank_behind(map.get_line(end.line), end.char);
+    add_column(form, column_unless(ends, end))
+}
+
+/// The column of a place, from 1; but not where it says nothing.
+pub(crate) fn column_unless(plain: bool, loc: Loc) -> Option<usize>
+    requires small { loc.char ≤ 2 ^ 56 }
+    ensures value { result ≡ spec.column_unless plain loc }
+{
+    if plain { None } else { Some(loc.char + 1) }
+}
+
+/// Whether the first characters of a line, so many of them, are whitespace.
+fn is_blank_before(line: Option<&str>, count: usize) -> bool
+    ensures value { result ≡ spec.is_blank_before (option_copied line.entry) count }
+{
+    match line {
+        Some(line) => is_blank_to(line, count),
+        None => false,
+    }
+}
+
+/// The same of a line that is there. It is read no further than it has to be.
+fn is_blank_to(line: &str, count: usize) -> bool
+    ensures value { result ≡ spec.is_blank_before (Some line.now) count }
+{
+    let mut left = count;
+    for c in line.chars() {
+        if left == 0 {
+            return true;
+        }
+        if !c.is_whitespace() {
+            return false;
+        }
+        left -= 1;
+    }
+    true
+}
+
+/// Whether a line has so many characters, and nothing but whitespace behind them.
+fn is_blank_behind(line: Option<&str>, count: usize) -> bool
+    ensures value { result ≡ spec.is_blank_behind (option_copied line.entry) count }
+{
+    match line {
+        Some(line) => is_blank_from(line, count),
+        None => false,
+    }
+}
+
+/// The same of a line that is there.
+fn is_blank_from(line: &str, count: usize) -> bool
+    ensures value { result ≡ spec.is_blank_behind (Some line.now) count }
+{
+    let mut left = count;
+    for c in line.chars() {
+        if is_visible_behind(left, c) {
+            return false;
+        }
+        left = left.saturating_sub(1);
+    }
+    left == 0
+}
+
+/// Whether no character is left to be passed, and this one is no whitespace.
+fn is_visible_behind(left: usize, c: char) -> bool
+    ensures value { result ≡ (left == 0 && not (is_whitespace c)) }
+{
+    left == 0 && !c.is_whitespace()
+}

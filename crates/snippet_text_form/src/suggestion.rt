@@ -1,0 +1,236 @@
+//! Suggestions.
+ghost use Rattle.std.specs.Prelude.{◌≡◌, ◌++◌, ◌^◌, ◌≤◌, Some, chars, IsTrue, OnOk};
+ghost use Rattle.std.specs.Cow.{cow_str_bytes};
+ghost use Rattle.std.specs.Option.{option_copied, option_map};
+ghost use Rattle.std.specs.Str.{IsCharBoundary};
+ghost use Rattle.snippet_lines.specs.Span.{IsSpan, is_character_border};
+ghost use Rattle.snippet_splice.specs.Edits.{trimmed_edit_of};
+ghost use Rattle.snippet_splice.specs.Shown.{without_final_line_feeds};
+ghost use Rattle.snippet_suggest.specs.Prepared.{IsPrepared};
+ghost use Rattle.snippet_text_form.specs.Form.{bare};
+ghost use Rattle.snippet_text_form.specs.Suggestion.{added_form, edit_form, edit_indent, edit_place, named_path, option_form, replaced_to, suggestion_form};
+ghost use Rattle.snippet_text_form.specs.Suggestion as spec;
+
+use crate::cause::column_unless;
+use crate::form::TextForm;
+use crate::position::{add_line, add_place};
+use snippet_lines::newline_count;
+use snippet_model::snippet::{Patch, Snippet};
+use snippet_parts::{Loc, SourceMap};
+use snippet_splice::TrimmedPatch;
+use snippet_style::ElementStyle;
+use snippet_suggest::{PreparedSuggestion, is_blank, overwrites};
+use snippet_text::normalized;
+use std::alloc::{AllocError, Global};
+
+/// Where a suggestion stands among others.
+#[derive(Clone, Copy, Debug, PartialEq, Eq)]
+pub struct SuggestionPlace {
+    /// Its number, from 1, where it is one of several in a row for one file.
+    pub option: Option<usize>,
+    /// Whether its path is named.
+    pub names_path: bool,
+}
+
+/// Adds a suggestion: its number, where it has one, and a line for each of its patches.
+///
+/// ```text
+///  option 1
+///   on line 1, column 5 add: x
+/// ```
+///
+/// # Errors
+///
+/// There is no memory for the text.
+pub fn add_suggestion<'a>(
+    alloc: Global,
+    form: &mut TextForm<'a>,
+    anonymized: bool,
+    place: SuggestionPlace,
+    suggestion: &PreparedSuggestion<'a>,
+) -> Result<(), AllocError>
+    requires prepared { IsPrepared suggestion.now }
+    ensures added { OnOk result (form.new ≡ form.old ++ suggestion_form anonymized place suggestion.now.snippet.now) }
+{
+    let path = shown_path(place.names_path, suggestion.snippet);
+    add_option(form, place.option)?;
+    let indent = indent_below(place.option);
+    let map = &suggestion.map;
+    for patch in &suggestion.splice.patches {
+        add_patch(alloc, form, anonymized, map, indent, path, patch)?;
+    }
+    Ok(())
+}
+
+/// A snippet's path, if it has one and that is named.
+fn shown_path<'a>(names_path: bool, snippet: &'a Snippet<'a, Patch<'a>>) -> Option<&'a str>
+    ensures value { option_copied result ≡ named_path names_path (option_map cow_str_bytes snippet.now.path) }
+{
+    match &snippet.path {
+        Some(path) if names_path => Some(path.as_str()),
+        _ => None,
+    }
+}
+
+/// Adds a suggestion's number, where it has one.
+fn add_option(form: &mut TextForm<'_>, option: Option<usize>) -> Result<(), AllocError>
+    ensures added { OnOk result (form.new ≡ form.old ++ option_form option) }
+{
+    let Some(number) = option else {
+        return Ok(());
+    };
+    form.add_break()?;
+    form.add_text(" option ")?;
+    form.add_number(number)
+}
+
+/// What stands before the places of a suggestion's patches.
+fn indent_below<'a>(option: Option<usize>) -> &'a str
+    ensures value { chars result.now ≡ edit_indent option }
+{
+    match option {
+        Some(_) => "  ",
+        None => " ",
+    }
+}
+
+/// Adds a patch, on a line of its own.
+fn add_patch<'a>(
+    alloc: Global,
+    form: &mut TextForm<'a>,
+    anonymized: bool,
+    map: &SourceMap<'a>,
+    indent: &'a str,
+    path: Option<&'a str>,
+    patch: &TrimmedPatch<'a>,
+) -> Result<(), AllocError>
+    requires span { IsSpan map.now.text patch.now.span.start patch.now.span.end }
+    ensures added { OnOk result (form.new ≡ form.old
+        ++ edit_form anonymized map.now (chars indent.now) (option_copied path.entry) (trimmed_edit_of patch.now)) }
+{
+    form.add_break()?;
+    form.add_text(indent)?;
+    let (start, end) = map.span_to_locations(patch.span.start..patch.span.end);
+    add_patch_place(alloc, form, anonymized, map, path, patch, start, end)?;
+    let source = map.source();
+    add_replacement(alloc, form, source, patch)
+}
+
+/// Adds where a patch stands.
+fn add_patch_place<'a>(
+    alloc: Global,
+    form: &mut TextForm<'a>,
+    anonymized: bool,
+    map: &SourceMap<'a>,
+    path: Option<&'a str>,
+    patch: &TrimmedPatch<'a>,
+    start: Loc,
+    end: Loc,
+) -> Result<(), AllocError>
+    requires span { IsSpan map.now.text patch.now.span.start patch.now.span.end }
+    requires start { start.char ≤ 2 ^ 56 }
+    requires end { end.char ≤ 2 ^ 56 }
+    ensures added { OnOk result (form.new ≡ form.old
+        ++ bare (edit_place anonymized map.now (option_copied path.entry) (trimmed_edit_of patch.now) start end)) }
+{
+    if overwrites(map.source(), patch) && !is_blank(patch.replacement) {
+        let column = start.char + 1;
+        add_place(alloc, form, anonymized, path, start.line, Some(column))?;
+        add_end(form, anonymized, start, end)
+    } else {
+        let whole = is_whole_line(map, patch, start, end);
+        let column = column_unless(whole, start);
+        add_place(alloc, form, anonymized, path, start.line, column)
+    }
+}
+
+/// Adds where a replaced span ends behind the place at which it starts: ` to column 4`.
+fn add_end(
+    form: &mut TextForm<'_>,
+    anonymized: bool,
+    start: Loc,
+    end: Loc,
+) -> Result<(), AllocError>
+    requires end { end.char ≤ 2 ^ 56 }
+    ensures added { OnOk result (form.new ≡ form.old ++ bare (replaced_to anonymized start end)) }
+{
+    if start.line == end.line {
+        form.add_text(" to column ")?;
+    } else {
+        form.add_text(" to line ")?;
+        add_line(form, anonymized, end.line)?;
+        form.add_text(", column ")?;
+    }
+    form.add_number(end.char + 1)
+}
+
+/// Whether a patch is that of a whole line: its span is on one line, on which nothing else stands. The bytes at which the line is
+/// cut are those of the source.
+fn is_whole_line(map: &SourceMap<'_>, patch: &TrimmedPatch<'_>, start: Loc, end: Loc) -> bool
+    ensures value { result ≡ spec.is_whole_line map.now start end (trimmed_edit_of patch.now) }
+{
+    if start.line != end.line {
+        return false;
+    }
+    let Some(line) = map.get_line(start.line) else {
+        return false;
+    };
+    is_alone(
+        line,
+        start.byte,
+        end.byte,
+        newline_count(patch.replacement) > 0,
+    )
+}
+
+/// Whether a line can be cut at two bytes with nothing but whitespace before the first, and behind the second too, unless
+/// that doesn't matter.
+fn is_alone(line: &str, from: usize, to: usize, anything: bool) -> bool
+    ensures value { result ≡ spec.is_alone (Some line.now) from to anything }
+{
+    can_cut(line, from)
+        && can_cut(line, to)
+        && is_blank(&line[..from])
+        && (anything || is_blank(&line[to..]))
+}
+
+/// Whether a line can be cut at a byte: no character lies across it.
+fn can_cut(line: &str, byte: usize) -> bool
+    ensures value { result ≡ is_character_border line.now byte }
+    ensures border { IsTrue result → IsCharBoundary line.now byte }
+{
+    line.is_char_boundary(byte)
+}
+
+/// Adds what a patch puts in its place: ` add: ` or ` replace with: ` and its text; nothing where that is blank.
+fn add_replacement<'a>(
+    alloc: Global,
+    form: &mut TextForm<'a>,
+    source: &str,
+    patch: &TrimmedPatch<'a>,
+) -> Result<(), AllocError>
+    requires span { IsSpan source.now patch.now.span.start patch.now.span.end }
+    ensures added { OnOk result (form.new ≡ form.old ++ added_form source.now (trimmed_edit_of patch.now)) }
+{
+    if is_blank(patch.replacement) {
+        return Ok(());
+    }
+    form.add_text(if overwrites(source, patch) {
+        " replace with: "
+    } else {
+        " add: "
+    })?;
+    let text = without_final_line_feeds(patch.replacement);
+    form.add_styled(ElementStyle::Addition, None, normalized(alloc, text)?)
+}
+
+/// A text without the line feeds that end it.
+fn without_final_line_feeds(text: &str) -> &str
+    ensures value { result.now ≡ without_final_line_feeds text.now }
+{
+    let mut rest = text;
+    while let Some(front) = rest.strip_suffix('\n') {
+        rest = front;
+    }
+    rest
+}
