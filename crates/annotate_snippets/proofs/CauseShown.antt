@@ -57,7 +57,7 @@ place_of_primary true lines is = refl
 place_of_primary false lines is = cc
 
 -- a place that has a property, where there is one
-place_known : (o : Option NamedPlace) (P : NamedPlace → Type 0) → IsSomeAnd o P → (place : NamedPlace) × (o ≡ Some place) × P place
+pub place_known : (o : Option NamedPlace) (P : NamedPlace → Type 0) → IsSomeAnd o P → (place : NamedPlace) × (o ≡ Some place) × P place
 place_known None P known = absurd known
 place_known (Some place) P known = (place, refl, known)
 

@@ -1,6 +1,7 @@
 -- What a report without faults is.
 use Rattle.std.proofs.Common.{◌≡◌, ℕ, ◌+◌, ◌<◌, ◌&&◌, ◌==◌, nat_lt, Bool, true, false, List, [], ◌∷◌, ◌++◌, Option, Some, None, All, length, map, refl, sym, ap, ◌∙◌, arith, inl, inr, cond, ◌^◌}
-use Rattle.std.specs.Option.{option_map, option_to_list}
+use Rattle.std.specs.List.{slice_get}
+use Rattle.std.specs.Option.{option_map, option_or, option_to_list}
 use Rattle.std.proofs.lemmas.Bool.Decides.{nat_tests}
 use Rattle.std.proofs.lemmas.List.Elements.{All-nil, All-cons, All-head, All-tail}
 use Rattle.std.specs.Str.{IsCharBoundary}
@@ -17,19 +18,42 @@ use Rattle.snippet_lines.specs.declared.span.SpanFault.TheVariants.{Reversed, Pa
 use Rattle.snippet_lines.specs.Span.{IsSpan, IsSpanBorder, is_span_border, is_character_border, span_fault}
 use Rattle.snippet_splice.specs.Edits.{edit_of}
 use Rattle.snippet_splice.specs.Overlap.{first_overlap}
-use Rattle.annotate_snippets.specs.Fault.{added_lines, faults_from, number_behind, first_of, span_faults, overlap_faults, group_faults, element_faults, first_fault, refusal_of, number_faults}
+use Rattle.annotate_snippets.specs.Fault.{added_lines, faults_from, missing_title, number_behind, first_of, span_faults, overlap_faults, group_faults, element_faults, first_fault, refusal_of, number_faults}
 use Rattle.snippet_suggest.specs.Prepared.{IsSuggestible}
 use Rattle.annotate_snippets.specs.Prepared.{IsDrawable, IsElementDrawable, IsGroupDrawable}
 use Rattle.annotate_snippets.proofs.DisjointLemmas.{first_overlap-clear}
 use Rattle.snippet_suggest.proofs.NumberLaws.{numbers-bound}
 use Rattle.snippet_model.specs.Fits.{ReportFits, GroupFits, ElementFits}
-use Rattle.annotate_snippets.specs.declared.renderer.error.RenderError.TheVariants.{PatchesOverlap, LineNumberTooLarge}
+use Rattle.annotate_snippets.specs.declared.renderer.error.RenderError.TheVariants.{NoTitle, PatchesOverlap, LineNumberTooLarge}
 use Rattle.annotate_snippets.specs.declared.renderer.error.RenderError.{RenderError}
+use Rattle.annotate_snippets.specs.declared.renderer.form.Form.TheVariants.{Short}
+use Rattle.snippet_style.proofs.WeaveLemmas.{some_same}
 
 -- no first fault, no fault
 pub none_first : (faults : List RenderError) → first_of faults ≡ None → faults ≡ []
 none_first [] none = refl
 none_first (fault ∷ faults) none = cc
+
+-- no refusal in a form: a title isn't missing, and no fault is found
+pub titled : (missing fault : Option RenderError) → option_or missing fault ≡ None → missing ≡ None
+titled None fault none = refl
+titled (Some refusal) fault none = cc
+
+pub unrefused : (missing fault : Option RenderError) → option_or missing fault ≡ None → fault ≡ None
+unrefused None fault none = none
+unrefused (Some refusal) fault none = cc
+
+-- a report whose short form misses no title has a first group, and that has a title
+pub first-there : (groups : List Group) → missing_title Short groups ≡ None → slice_get groups 0 ≡ None → ⊥
+first-there [] given none = cc
+first-there (g ∷ groups) given none = cc
+
+pub title-there : (groups : List Group) (g : Group) → missing_title Short groups ≡ None → slice_get groups 0 ≡ Some g → g.title ≡ None → ⊥
+title-there [] g given first none = cc
+title-there (h ∷ groups) g given first none =
+    let untitled : h.title ≡ None = ap (λ (x : Group). x.title) (some_same first) ∙ none in
+    let missing : Some NoTitle ≡ None = rw untitled at given in
+    cc
 
 -- two lists that join to nothing
 front_none : (front back : List RenderError) → front ++ back ≡ [] → front ≡ []

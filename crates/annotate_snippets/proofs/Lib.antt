@@ -4,6 +4,8 @@ pub mod DisjointLemmas
 pub mod ElementRows
 pub mod ElementShown
 pub mod FaultLemmas
+pub mod FormSteps
+pub mod FormsShown
 pub mod GridRows
 pub mod GroupLemmas
 pub mod GroupShown
@@ -23,10 +25,14 @@ pub mod PlainRows
 pub mod PreparedLemmas
 pub mod PrintLemmas
 pub mod ReportLemmas
+pub mod ReportTexts
 pub mod RoomLemmas
+pub mod ShortLemmas
+pub mod ShortShown
 pub mod SuggestionLemmas
 pub mod SuggestionShown
 pub mod SurroundingLemmas
+pub mod TextShown
 pub mod TrustedLemmas
 pub mod WalkLemmas
 pub mod WidestLemmas

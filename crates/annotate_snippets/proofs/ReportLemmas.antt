@@ -1,12 +1,8 @@
 -- The texts that print the grids of a report show it.
-use Rattle.std.proofs.Common.{◌≡◌, ℕ, zero, suc, ◌+◌, arith, drop, Bool, true, false, List, [], ◌∷◌, ◌++◌, All, Option, Some, None, Result, Ok, Err, IfSome, length, map, chars, refl, sym, ap, subst, ◌∙◌, encode_utf8_all}
+use Rattle.std.proofs.Common.{◌≡◌, ℕ, zero, suc, ◌+◌, arith, drop, true, List, [], ◌∷◌, ◌++◌, All, Option, Some, None, Result, Ok, Err, IfSome, length, map, chars, refl, sym, ap, subst, ◌∙◌, encode_utf8_all}
 use Rattle.std.specs.List.{AllZip, Contains, flat_map, join_with_byte, slice_get}
-use Rattle.std.specs.Option.{option_to_list}
-use Rattle.std.specs.Cow.{cow_str_bytes}
 use Rattle.std.specs.Result.{IfOk, MatchResult, IsErrAnd}
-use Rattle.std.proofs.lemmas.List.Elements.{All-nil, All-cons, All-append, All-get_or, All-weaker, Contains-append_left, Contains-append_right}
-use Rattle.std.proofs.lemmas.List.{append-nil}
-use Rattle.std.proofs.lemmas.Grind.{flat_map-append}
+use Rattle.std.proofs.lemmas.List.Elements.{All-nil, All-cons, All-append, All-get_or}
 use Rattle.std.proofs.lemmas.Option.{get_or_from_slice_get, slice_get_within}
 use Rattle.snippet_style.specs.Print.{plain_text}
 use Rattle.snippet_style.specs.Stylesheet.{is_plain_sheet}
@@ -15,80 +11,32 @@ use Rattle.snippet_style.specs.declared.role.LevelInner.{LevelInner}
 use Rattle.snippet_style.specs.declared.stylesheet.Stylesheet.{Stylesheet}
 use Rattle.snippet_style.proofs.WeaveLemmas.{some_same}
 use Rattle.snippet_style.proofs.WovenLemmas.{plain_woven}
-use Rattle.snippet_text.specs.Normalized.{is_listed, norm}
+use Rattle.snippet_text.specs.Normalized.{is_listed}
 use Rattle.snippet_model.specs.Fits.{ReportFits}
-use Rattle.snippet_model.specs.Trusted.{trusted_of_element, trusted_of_title, trusted_texts}
+use Rattle.snippet_model.specs.Trusted.{trusted_texts}
 use Rattle.snippet_model.specs.declared.snippet.Group.{Group}
-use Rattle.snippet_model.specs.declared.snippet.Id.{Id}
-use Rattle.snippet_model.specs.declared.snippet.Title.{Title}
-use Rattle.snippet_titles.specs.Title.{id_links, text_links}
 use Rattle.annotate_snippets.specs.declared.renderer.Renderer.{Renderer}
 use Rattle.annotate_snippets.specs.declared.renderer.graphic.GroupGrid.{GroupGrid}
 use Rattle.annotate_snippets.specs.Around.{file_of_group, place_at}
 use Rattle.annotate_snippets.specs.Drawn.{AreGridsOf}
-use Rattle.annotate_snippets.specs.Fault.{first_fault}
+use Rattle.annotate_snippets.specs.Fault.{first_fault, first_refusal, form_of, missing_title}
 use Rattle.annotate_snippets.specs.Gutter.{frame_of}
 use Rattle.annotate_snippets.specs.Page.{ArePrinted, GroupPage, Page, PrintsGrids, PrintsPage, group_rows, page_links, page_text}
 use Rattle.annotate_snippets.specs.Prepared.{IsGroupDrawable}
-use Rattle.annotate_snippets.specs.Shown.{AreGroupsShown, IsFreeBut, IsFreeUnder, SheetsShown, ShowsGroup, ShowsReport, levels_of, report_links}
+use Rattle.annotate_snippets.specs.Shown.{AreGroupsShown, IsFreeBut, SheetsShown, ShowsGroup, levels_of, report_links}
 use Rattle.annotate_snippets.specs.declared.renderer.error.RenderError.{RenderError}
-use Rattle.annotate_snippets.proofs.FaultLemmas.{groups-drawable}
+use Rattle.annotate_snippets.proofs.FaultLemmas.{groups-drawable, unrefused}
 use Rattle.annotate_snippets.proofs.GroupLemmas.{group_shown}
 use Rattle.annotate_snippets.proofs.GroupShown.{GroupShown}
 use Rattle.annotate_snippets.proofs.PrintLemmas.{AllZip-weaker}
+use Rattle.annotate_snippets.proofs.ReportTexts.{free_first, free_rest, links_of_titles, title_links}
 use Rattle.annotate_snippets.proofs.RoomLemmas.{room_in_report}
-use Rattle.annotate_snippets.proofs.WovenLemmas.{IsWoven-from_grids, grid_links, grid_plain}
-
--- the trusted texts of a group
-abbrev trusted_of : Group → List (List ℕ)
-trusted_of g = flat_map trusted_of_title (option_to_list g.title) ++ flat_map trusted_of_element g.elements.items
-
--- what a title links to
-abbrev title_links : Bool → Group → List (List ℕ)
-title_links hyperlink g = flat_map (λ (t : Title). id_links hyperlink t.id) (option_to_list g.title)
-
--- a text that is free but for some trusted texts is so with more of them
-free_more : (few many : List (List ℕ)) (text : List ℕ) → ((c : ℕ) → Contains (flat_map chars few) c → Contains (flat_map chars many) c) → IsFreeBut few text → IsFreeBut many text
-free_more few many text more free =
-    All-weaker (λ c. is_listed c ≡ true → Contains (flat_map chars few) c) (λ c. is_listed c ≡ true → Contains (flat_map chars many) c) (λ c trusted listed. more c (trusted listed)) text free
-
-free_first : (g : Group) (gs : List Group) (text : List ℕ) → IsFreeBut (trusted_texts (g ∷ [])) text → IsFreeBut (trusted_texts (g ∷ gs)) text
-free_first g gs text free =
-    free_more (trusted_texts (g ∷ [])) (trusted_texts (g ∷ gs)) text (λ c among. subst (λ cs. Contains cs c) (sym (flat_map-append chars (trusted_of g) (trusted_texts gs))) (Contains-append_left (flat_map chars (trusted_of g)) (flat_map chars (trusted_texts gs)) c (subst (λ ts. Contains (flat_map chars ts) c) (append-nil (trusted_of g)) among))) free
-
-free_rest : (g : Group) (gs : List Group) (text : List ℕ) → IsFreeBut (trusted_texts gs) text → IsFreeBut (trusted_texts (g ∷ gs)) text
-free_rest g gs text free =
-    free_more (trusted_texts gs) (trusted_texts (g ∷ gs)) text (λ c among. subst (λ cs. Contains cs c) (sym (flat_map-append chars (trusted_of g) (trusted_texts gs))) (Contains-append_right (flat_map chars (trusted_of g)) (flat_map chars (trusted_texts gs)) c among)) free
+use Rattle.annotate_snippets.proofs.WovenLemmas.{IsWoven-from_page, grid_links, grid_plain}
 
 -- two free texts with a line feed between them, which isn't listed
 free_joined : (trusted : List (List ℕ)) (a b : List ℕ) → IsFreeBut trusted a → IsFreeBut trusted b → IsFreeBut trusted (a ++ 10 ∷ b)
 free_joined trusted a b first second =
     All-append (λ c. is_listed c ≡ true → Contains (flat_map chars trusted) c) a (10 ∷ b) first (All-cons (λ c. is_listed c ≡ true → Contains (flat_map chars trusted) c) 10 b (λ listed. cc) second)
-
--- without links nothing links
-no_links : (id : Option Id) → id_links false id ≡ []
-no_links None = refl
-no_links (Some id) = of_text (flat_map (λ t. norm (chars (cow_str_bytes t))) (option_to_list id.id))
-  where
-    of_text : (shown : List ℕ) → text_links None shown ≡ []
-    of_text [] = refl
-    of_text (c ∷ cs) = refl
-
-no_title_links : (gs : List Group) → flat_map (title_links false) gs ≡ []
-no_title_links [] = refl
-no_title_links (g ∷ gs) = ap (λ urls. urls ++ flat_map (title_links false) gs) (of_title g.title) ∙ no_title_links gs
-  where
-    of_title : (title : Option Title) → flat_map (λ (t : Title). id_links false t.id) (option_to_list title) ≡ []
-    of_title None = refl
-    of_title (Some title) = ap (λ urls. urls ++ []) (no_links title.id)
-
--- a report links to what its titles link to
-links_of_titles : (r : Renderer) (groups : List Group) → flat_map (title_links r.hyperlink) groups ≡ report_links r groups
-links_of_titles r groups = by r.hyperlink refl
-  where
-    by : (hyperlink : Bool) → r.hyperlink ≡ hyperlink → flat_map (title_links r.hyperlink) groups ≡ report_links r groups
-    by true is = rw is refl
-    by false is = rw is (no_title_links groups)
 
 -- places that are counted on
 none_more : (n : ℕ) → n + 0 ≡ n
@@ -209,10 +157,7 @@ module _ (r : Renderer) (groups : List Group) (grids : List GroupGrid) (drawable
   -- it is woven of the page's characters
   page_woven : (sheet : Stylesheet) (text : List ℕ) → PrintsGrids sheet grids text → IsWoven sheet text (page_text report_page.page) (report_links r groups)
   page_woven sheet text prints =
-      let woven : IsWoven sheet (join_with_byte 10 prints.parts) (join_with_byte 10 (map grid_plain grids)) (flat_map grid_links grids) = IsWoven-from_grids sheet grids prints.parts prints.printed in
-      let paged : IsWoven sheet (join_with_byte 10 prints.parts) (page_text report_page.page) (flat_map grid_links grids) = subst (λ plain. IsWoven sheet (join_with_byte 10 prints.parts) plain (flat_map grid_links grids)) (sym text_of_page) woven in
-      let linked : IsWoven sheet (join_with_byte 10 prints.parts) (page_text report_page.page) (report_links r groups) = subst (IsWoven sheet (join_with_byte 10 prints.parts) (page_text report_page.page)) (report_page.links ∙ links_of_titles r groups) paged in
-      subst (λ t. IsWoven sheet t (page_text report_page.page) (report_links r groups)) (sym prints.joined) linked
+      subst (IsWoven sheet text (page_text report_page.page)) links_of_page (IsWoven-from_page sheet (levels_of groups) report_page.page text (page_printed sheet text prints))
 
   page_free : IsFreeBut (trusted_texts groups) (page_text report_page.page)
   page_free = subst (IsFreeBut (trusted_texts groups)) (sym text_of_page) report_page.free
@@ -229,13 +174,8 @@ module _ (r : Renderer) (groups : List Group) (grids : List GroupGrid) (drawable
         plain = λ none. AllZip-weaker (λ sheet text. PrintsGrids sheet grids text) (λ sheet text. is_plain_sheet sheet ≡ true → text ≡ encode_utf8_all (page_text report_page.page)) (λ sheet text prints plain. plain_woven sheet text (page_text report_page.page) (report_links r groups) plain none (page_woven sheet text prints)) sheets texts printed;
       }
 
-  -- a text that prints the grids is free, but for its codes
-  pub text_is_free : (sheet : Stylesheet) (text : List ℕ) → PrintsGrids sheet grids text → IsFreeUnder (trusted_texts groups) (report_links r groups) sheet text
-  text_is_free sheet text prints =
-      record { plain = page_text report_page.page; woven = page_woven sheet text prints; free = page_free }
-
 -- the text of a report of no groups is empty
-pub text_of_none : (r : Renderer) (sheet : Stylesheet) (text : List ℕ) → ShowsReport r [] sheet text → text ≡ []
+pub text_of_none : (r : Renderer) (sheet : Stylesheet) (text : List ℕ) → SheetsShown r [] (sheet ∷ []) (text ∷ []) → text ≡ []
 text_of_none r sheet text shows = of_page shows.page shows.shows.count shows.printed.0
   where
     of_parts : (page : Page) → length page ≡ 0 → (parts : List (List ℕ)) → ArePrinted sheet [] page parts → join_with_byte 10 parts ≡ []
@@ -257,6 +197,6 @@ faultless : {T E : Type 0} (fault : Option E) (r : Result T E) (x : T) → IfSom
 faultless None r x refused given = refl
 faultless (Some e) r x refused given = let never : Err e ≡ Ok x = sym refused ∙ given in cc
 
-pub drawable-from_ok : {T : Type 0} (groups : List Group) (r : Result T RenderError) (x : T) → ReportFits groups → IfSome (first_fault groups) (λ fault. r ≡ Err fault) → r ≡ Ok x → All IsGroupDrawable groups
-drawable-from_ok groups r x fits refused given =
-    groups-drawable groups fits (faultless (first_fault groups) r x refused given)
+pub drawable-from_ok : {T : Type 0} (r : Renderer) (groups : List Group) (answer : Result T RenderError) (x : T) → ReportFits groups → IfSome (first_refusal r groups) (λ refusal. answer ≡ Err refusal) → answer ≡ Ok x → All IsGroupDrawable groups
+drawable-from_ok r groups answer x fits refused given =
+    groups-drawable groups fits (unrefused (missing_title (form_of r) groups) (first_fault groups) (faultless (first_refusal r groups) answer x refused given))

@@ -11,6 +11,7 @@ use Rattle.snippet_style.specs.Grid.{Cell}
 use Rattle.snippet_style.specs.Print.{row_text, further_text, plain_text}
 use Rattle.snippet_model.specs.declared.snippet.Element.{Element}
 use Rattle.snippet_model.specs.declared.snippet.Element.TheVariants.{Message, Cause, Suggestion, Origin, Padding}
+use Rattle.snippet_model.specs.declared.snippet.Message.{Message as MessageGiven}
 use Rattle.snippet_model.specs.declared.snippet.Title.{Title}
 use Rattle.snippet_model.specs.Heading.{Heading, heading_of_message, heading_of_title}
 use Rattle.snippet_model.specs.Trusted.{trusted_of_element, trusted_of_title}
@@ -29,7 +30,7 @@ use Rattle.annotate_snippets.specs.declared.renderer.surroundings.GroupPlace.{Gr
 use Rattle.annotate_snippets.specs.declared.renderer.surroundings.Next.{Next}
 
 -- a character that isn't listed, or is one of a trusted text
-abbrev IsTrusted : List (List ℕ) → ℕ → Type 0
+abbrev pub IsTrusted : List (List ℕ) → ℕ → Type 0
 IsTrusted trusted c = is_listed c ≡ true → Contains (flat_map chars trusted) c
 
 -- a row none of whose listed characters is of another text
@@ -43,6 +44,10 @@ unlisted trusted c free listed = absurd (clash (is_listed c) free listed)
     clash : (b : Bool) → b ≡ false → b ≡ true → ⊥
     clash true is_false is_true = cc
     clash false is_false is_true = cc
+
+-- a text that holds none
+pub unlisted_text : (trusted : List (List ℕ)) (text : List ℕ) → All (λ c. is_listed c ≡ false) text → IsFreeBut trusted text
+unlisted_text trusted text free = All-weaker (λ c. is_listed c ≡ false) (IsTrusted trusted) (unlisted trusted) text free
 
 -- rows that hold no listed character
 pub free_rows : (trusted : List (List ℕ)) (rows : List (List Cell)) → All IsFree rows → All (IsFreeRow trusted) rows
@@ -64,10 +69,24 @@ free_text trusted (row ∷ rows) free =
 abbrev pub AreTextsAmong : List (List ℕ) → List (List ℕ) → Type 0
 AreTextsAmong trusted texts = (c : ℕ) → Contains (flat_map chars texts) c → Contains (flat_map chars trusted) c
 
--- rows that hold no listed character but those of a heading's text, which is among the trusted texts if it is trusted
-own_row : (trusted : List (List ℕ)) (heading : Heading) → (heading.allows_styling ≡ true → (c : ℕ) → Contains (chars heading.text) c → Contains (flat_map chars trusted) c) → (row : List Cell) → IsFreeButText heading row → IsFreeRow trusted row
-own_row trusted heading among row own =
-    All-weaker (λ c. is_listed c ≡ true → (heading.allows_styling ≡ true) × Contains (chars heading.text) c) (IsTrusted trusted) (λ c is listed. among (is listed).0 c (is listed).1) (row_text row) own
+-- a text that holds no listed character but those of a heading's text, which is among the trusted texts if it is trusted
+pub own_text : (trusted : List (List ℕ)) (heading : Heading) → (heading.allows_styling ≡ true → (c : ℕ) → Contains (chars heading.text) c → Contains (flat_map chars trusted) c) → (text : List ℕ) → All (λ c. is_listed c ≡ true → (heading.allows_styling ≡ true) × Contains (chars heading.text) c) text → IsFreeBut trusted text
+own_text trusted heading among text own =
+    All-weaker (λ c. is_listed c ≡ true → (heading.allows_styling ≡ true) × Contains (chars heading.text) c) (IsTrusted trusted) (λ c is listed. among (is listed).0 c (is listed).1) text own
+
+-- a row that holds no other
+pub own_row : (trusted : List (List ℕ)) (heading : Heading) → (heading.allows_styling ≡ true → (c : ℕ) → Contains (chars heading.text) c → Contains (flat_map chars trusted) c) → (row : List Cell) → IsFreeButText heading row → IsFreeRow trusted row
+own_row trusted heading among row own = own_text trusted heading among (row_text row) own
+
+-- the text of a title is among the trusted ones if it is trusted, and that of a message is
+pub title_among : (title : Title) (more : List (List ℕ)) → title.allows_styling ≡ true → (c : ℕ) → Contains (chars (cow_str_bytes title.text)) c → Contains (flat_map chars (flat_map trusted_of_title (title ∷ []) ++ more)) c
+title_among title more styled c is =
+    let text : List ℕ = cow_str_bytes title.text in
+    let same : flat_map trusted_of_title (title ∷ []) ++ more ≡ text ∷ more = rw styled refl in
+    subst (λ (ts : List (List ℕ)). Contains (flat_map chars ts) c) (sym same) (Contains-append_left (chars text) (flat_map chars more) c is)
+
+pub message_among : (trusted : List (List ℕ)) (message : MessageGiven) → AreTextsAmong trusted (trusted_of_element (Message message)) → (c : ℕ) → Contains (chars (cow_str_bytes message.text)) c → Contains (flat_map chars trusted) c
+message_among trusted message among c is = among c (Contains-append_left (chars (cow_str_bytes message.text)) [] c is)
 
 -- the rows below a title
 pub behind_title-free : (r : Renderer) (frame : Frame) (place : GroupPlace) (follows : Next) (trusted : Bool) → All IsFree (rows_behind_title r frame place follows trusted)
@@ -88,21 +107,12 @@ title_part-free r frame place follows (Some title) more =
     let trusted : List (List ℕ) = flat_map trusted_of_title (title ∷ []) ++ more in
     let own : List (List Cell) = title_rows r.hyperlink title in
     let behind : List (List Cell) = rows_behind_title r frame place follows title.allows_styling in
-    All-append (IsFreeRow trusted) own behind (All-weaker (IsFreeButText (heading_of_title title)) (IsFreeRow trusted) (own_row trusted (heading_of_title title) among) own (heading_rows-free r.hyperlink style.Title (heading_of_title title))) (free_rows trusted behind (behind_title-free r frame place follows title.allows_styling))
-  where
-    among : title.allows_styling ≡ true → (c : ℕ) → Contains (chars (cow_str_bytes title.text)) c → Contains (flat_map chars (flat_map trusted_of_title (title ∷ []) ++ more)) c
-    among styled c is =
-        let text : List ℕ = cow_str_bytes title.text in
-        let same : flat_map trusted_of_title (title ∷ []) ++ more ≡ text ∷ more = rw styled refl in
-        subst (λ (ts : List (List ℕ)). Contains (flat_map chars ts) c) (sym same) (Contains-append_left (chars text) (flat_map chars more) c is)
+    All-append (IsFreeRow trusted) own behind (All-weaker (IsFreeButText (heading_of_title title)) (IsFreeRow trusted) (own_row trusted (heading_of_title title) (title_among title more)) own (heading_rows-free r.hyperlink style.Title (heading_of_title title))) (free_rows trusted behind (behind_title-free r frame place follows title.allows_styling))
 
 -- so are those of the rows of an element whose trusted texts are among these
 pub element-free : (trusted : List (List ℕ)) (e : Element) (part : List NamedRow) → AreTextsAmong trusted (trusted_of_element e) → IsFreeElement e part → All (IsFreeRow trusted) (cells_of part)
 element-free trusted (Message message) part among free =
-    All-map (IsFreeRow trusted) (λ (row : NamedRow). row.cells) part (All-weaker (λ (row : NamedRow). IsFreeButText (heading_of_message message) row.cells) (λ (row : NamedRow). IsFreeRow trusted row.cells) (λ row own. own_row trusted (heading_of_message message) of_text row.cells own) part free)
-  where
-    of_text : true ≡ true → (c : ℕ) → Contains (chars (cow_str_bytes message.text)) c → Contains (flat_map chars trusted) c
-    of_text styled c is = among c (Contains-append_left (chars (cow_str_bytes message.text)) [] c is)
+    All-map (IsFreeRow trusted) (λ (row : NamedRow). row.cells) part (All-weaker (λ (row : NamedRow). IsFreeButText (heading_of_message message) row.cells) (λ (row : NamedRow). IsFreeRow trusted row.cells) (λ row own. own_row trusted (heading_of_message message) (λ styled. message_among trusted message among) row.cells own) part free)
 element-free trusted (Cause snippet) part among free =
     free_rows trusted (cells_of part) (All-map IsFree (λ (row : NamedRow). row.cells) part free)
 element-free trusted (Suggestion snippet) part among free =

@@ -1,14 +1,16 @@
 -- Woven texts that are joined by line feeds are woven.
-use Rattle.std.proofs.Common.{◌≡◌, ℕ, Bool, true, false, map, List, [], ◌∷◌, ◌++◌, lit<, refl, sym, ap, ◌∙◌, subst}
-use Rattle.std.specs.List.{AllZip, flat_map, join_with_byte}
+use Rattle.std.proofs.Common.{◌≡◌, ℕ, Bool, true, false, List, [], ◌∷◌, ◌++◌, lit<, refl, sym, ap, ◌∙◌, subst}
+use Rattle.std.specs.List.{flat_map, join_with_byte}
 use Rattle.std.proofs.lemmas.List.{append-nil}
 use Rattle.std.proofs.lemmas.List.Elements.{All-nil, All-append, All-cons}
 use Rattle.std.proofs.lemmas.Grind.{flat_map-append}
 use Rattle.std.proofs.lemmas.Str.{encode_ascii}
 use Rattle.snippet_style.specs.Print.{plain_text}
-use Rattle.snippet_style.specs.Woven.{Piece, Char, Opening, Reset, LinkTo, LinkEnd, piece_text, plain_piece, piece_link, AreLinksEnded, IsOfSheet, IsWoven, Prints, links_of}
+use Rattle.snippet_style.specs.Woven.{Piece, Char, Opening, Reset, LinkTo, LinkEnd, piece_text, plain_piece, piece_link, AreLinksEnded, IsOfSheet, IsWoven, links_of}
+use Rattle.snippet_style.specs.declared.role.LevelInner.{LevelInner}
 use Rattle.snippet_style.specs.declared.stylesheet.Stylesheet.{Stylesheet}
 use Rattle.snippet_style.proofs.WovenLemmas.{IsWoven-from_prints}
+use Rattle.annotate_snippets.specs.Page.{ArePrinted, Page, PrintsPage, group_rows, page_links, page_text}
 use Rattle.annotate_snippets.specs.declared.renderer.graphic.GroupGrid.{GroupGrid}
 
 -- behind pieces that end their links, others that do so end them too
@@ -46,14 +48,22 @@ grid_plain grid = plain_text grid.buffer
 abbrev pub grid_links : GroupGrid → List (List ℕ)
 grid_links grid = links_of grid.buffer
 
--- so the texts that print grids, joined, are woven of the grids' characters, joined, with the grids' links
-pub IsWoven-from_grids : (sheet : Stylesheet) (grids : List GroupGrid) (parts : List (List ℕ)) → AllZip (λ (grid : GroupGrid) part. Prints sheet grid.level grid.buffer part) grids parts → IsWoven sheet (join_with_byte 10 parts) (join_with_byte 10 (map grid_plain grids)) (flat_map grid_links grids)
-IsWoven-from_grids sheet [] [] printed = IsWoven-nil sheet
-IsWoven-from_grids sheet [] (part ∷ parts) printed = absurd printed
-IsWoven-from_grids sheet (grid ∷ grids) [] printed = absurd printed
-IsWoven-from_grids sheet (grid ∷ []) (part ∷ []) printed =
-    subst (IsWoven sheet part (grid_plain grid)) (sym (append-nil (grid_links grid))) (IsWoven-from_prints sheet grid.level grid.buffer part printed.0)
-IsWoven-from_grids sheet (grid ∷ []) (part ∷ next ∷ parts) printed = absurd printed.1
-IsWoven-from_grids sheet (grid ∷ other ∷ grids) (part ∷ []) printed = absurd printed.1
-IsWoven-from_grids sheet (grid ∷ other ∷ grids) (part ∷ next ∷ parts) printed =
-    IsWoven-joined sheet part (grid_plain grid) (grid_links grid) (join_with_byte 10 (next ∷ parts)) (join_with_byte 10 (map grid_plain (other ∷ grids))) (flat_map grid_links (other ∷ grids)) (IsWoven-from_prints sheet grid.level grid.buffer part printed.0) (IsWoven-from_grids sheet (other ∷ grids) (next ∷ parts) printed.1)
+-- so texts that print the groups of a page, joined, are woven of the page's characters, with the page's links
+IsWoven-from_groups : (sheet : Stylesheet) (levels : List LevelInner) (page : Page) (parts : List (List ℕ)) → ArePrinted sheet levels page parts → IsWoven sheet (join_with_byte 10 parts) (page_text page) (page_links page)
+IsWoven-from_groups sheet [] [] [] printed = IsWoven-nil sheet
+IsWoven-from_groups sheet [] [] (part ∷ parts) printed = absurd printed
+IsWoven-from_groups sheet [] (g ∷ gs) parts printed = absurd printed
+IsWoven-from_groups sheet (level ∷ levels) [] parts printed = absurd printed
+IsWoven-from_groups sheet (level ∷ levels) (g ∷ gs) [] printed = absurd printed
+IsWoven-from_groups sheet (level ∷ []) (g ∷ []) (part ∷ []) printed =
+    subst (IsWoven sheet part (plain_text (group_rows g))) (sym (append-nil (links_of (group_rows g)))) (IsWoven-from_prints sheet level (group_rows g) part printed.0)
+IsWoven-from_groups sheet (level ∷ []) (g ∷ []) (part ∷ next ∷ parts) printed = absurd printed.1
+IsWoven-from_groups sheet (level ∷ []) (g ∷ other ∷ gs) (part ∷ parts) printed = absurd printed.1
+IsWoven-from_groups sheet (level ∷ more ∷ levels) (g ∷ []) (part ∷ parts) printed = absurd printed.1
+IsWoven-from_groups sheet (level ∷ more ∷ levels) (g ∷ other ∷ gs) (part ∷ []) printed = absurd printed.1
+IsWoven-from_groups sheet (level ∷ more ∷ levels) (g ∷ other ∷ gs) (part ∷ next ∷ parts) printed =
+    IsWoven-joined sheet part (plain_text (group_rows g)) (links_of (group_rows g)) (join_with_byte 10 (next ∷ parts)) (page_text (other ∷ gs)) (page_links (other ∷ gs)) (IsWoven-from_prints sheet level (group_rows g) part printed.0) (IsWoven-from_groups sheet (more ∷ levels) (other ∷ gs) (next ∷ parts) printed.1)
+
+pub IsWoven-from_page : (sheet : Stylesheet) (levels : List LevelInner) (page : Page) (text : List ℕ) → PrintsPage sheet levels page text → IsWoven sheet text (page_text page) (page_links page)
+IsWoven-from_page sheet levels page text prints =
+    subst (λ t. IsWoven sheet t (page_text page) (page_links page)) (sym prints.joined) (IsWoven-from_groups sheet levels page prints.parts prints.printed)

@@ -29,6 +29,18 @@ use Rattle.annotate_snippets.specs.declared.renderer.surroundings.Surroundings.{
 use Rattle.annotate_snippets.specs.Around.{closes_with, drawn_elements, file_of_group, is_end, next_of, place_at, surroundings_at}
 use Rattle.annotate_snippets.specs.Gutter.{code_behind, depth_of_element, frame_of, line_numbers, numbered_source, width_wanted}
 use Rattle.annotate_snippets.specs.Rows.{cause_head, message_rows, origin_rows, rows_behind_cause, suggestion_head, title_part}
+use Rattle.snippet_model.specs.declared.snippet.Title.{Title}
+use Rattle.snippet_style.specs.Woven.{IsWoven}
+use Rattle.snippet_style.specs.declared.stylesheet.Stylesheet.{Stylesheet}
+use Rattle.snippet_text_form.specs.Form.{form_bytes, form_links, form_text}
+use Rattle.annotate_snippets.specs.Page.{PrintsGrids}
+use Rattle.annotate_snippets.specs.Short.{short_form}
+use Rattle.annotate_snippets.specs.TextForm.{text_form}
+use Rattle.annotate_snippets.specs.declared.renderer.drawn.Drawn.{Drawn}
+use Rattle.annotate_snippets.specs.declared.renderer.drawn.Drawn.TheVariants.{Page}
+use Rattle.annotate_snippets.specs.declared.renderer.drawn.Drawn.TheVariants as drawn
+use Rattle.annotate_snippets.specs.declared.renderer.form.Form.{Form}
+use Rattle.annotate_snippets.specs.declared.renderer.form.Form.TheVariants.{Graphic, Short, Text}
 
 -- where the parts of an annotated snippet's rows stand, and the strokes that they are drawn with
 abbrev pub layout_in : Renderer → Frame → Layout
@@ -126,3 +138,27 @@ pub record IsGroupGrid (r : Renderer) (frame : Frame) (place : GroupPlace) (file
 pub record AreGridsOf (r : Renderer) (groups : List Group) (grids : List GroupGrid) : Type 0 where
   pub levels : map (λ grid. grid.level) grids ≡ map (λ g. g.level) groups
   pub each : (i : ℕ) (g : Group) (grid : GroupGrid) → slice_get groups i ≡ Some g → slice_get grids i ≡ Some grid → IsGroupGrid r (frame_of r groups g) (place_at (length groups) i) (file_of_group groups g) g grid.buffer
+
+-- the one grid of the short form is that of the first group, which has a title
+pub record IsShortPage (r : Renderer) (groups : List Group) (grids : List GroupGrid) : Type 0 where
+  pub group : Group
+  pub title : Title
+  pub grid : GroupGrid
+  pub first : slice_get groups 0 ≡ Some group
+  pub titled : group.title ≡ Some title
+  pub grids_are : grids ≡ grid ∷ []
+  pub level : grid.level ≡ group.level
+  pub rows : grid.buffer ≡ short_form r group title
+
+-- a report is drawn in a form
+abbrev pub IsDrawnAs : Form → Renderer → List Group → Drawn → Type 0
+IsDrawnAs Graphic r groups (Page grids) = AreGridsOf r groups grids.items
+IsDrawnAs Short r groups (Page grids) = IsShortPage r groups grids.items
+IsDrawnAs Text r groups (drawn.Text form) = form ≡ text_form r groups
+IsDrawnAs form r groups drawn = ⊥
+
+-- a text is that of a report that is drawn, under a sheet
+abbrev pub IsPrintedAs : Drawn → Stylesheet → List ℕ → Type 0
+IsPrintedAs (Page grids) sheet text = PrintsGrids sheet grids.items text
+IsPrintedAs (drawn.Text form) sheet text =
+    (text ≡ form_bytes sheet form) × IsWoven sheet text (form_text form) (form_links form)

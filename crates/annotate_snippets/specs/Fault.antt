@@ -1,6 +1,6 @@
 -- The faults of a report, in the order in which they are looked for.
-use Rattle.std.specs.Prelude.{◌≡◌, ℕ, ◌+◌, ◌^◌, List, [], ◌∷◌, ◌++◌, Option, Some, None, is_some, length, map, sum_by, count_by, nat_lt, ◌==◌, if◌then◌else◌}
-use Rattle.std.specs.Option.{option_map, option_to_list}
+use Rattle.std.specs.Prelude.{◌≡◌, ℕ, ◌+◌, ◌^◌, List, [], ◌∷◌, ◌++◌, Option, Some, None, is_none, is_some, length, map, sum_by, count_by, nat_lt, ◌==◌, if◌then◌else◌}
+use Rattle.std.specs.Option.{option_map, option_or, option_to_list}
 use Rattle.std.specs.Cow.{cow_str_bytes}
 use Rattle.std.specs.declared.ops.Range.{Range}
 use Rattle.snippet_model.specs.declared.snippet.Group.{Group}
@@ -14,8 +14,11 @@ use Rattle.snippet_lines.specs.declared.span.SpanFault.{SpanFault}
 use Rattle.snippet_lines.specs.declared.span.SpanFault.TheVariants.{Reversed, PastEnd, OffBoundary}
 use Rattle.snippet_splice.specs.Edits.{edit_of}
 use Rattle.snippet_splice.specs.Overlap.{first_overlap}
+use Rattle.annotate_snippets.specs.declared.renderer.Renderer.{Renderer}
 use Rattle.annotate_snippets.specs.declared.renderer.error.RenderError.{RenderError}
-use Rattle.annotate_snippets.specs.declared.renderer.error.RenderError.TheVariants.{SpanReversed, SpanPastEnd, SpanOffBoundary, PatchesOverlap, LineNumberTooLarge}
+use Rattle.annotate_snippets.specs.declared.renderer.error.RenderError.TheVariants.{NoGroup, NoTitle, SpanReversed, SpanPastEnd, SpanOffBoundary, PatchesOverlap, LineNumberTooLarge}
+use Rattle.annotate_snippets.specs.declared.renderer.form.Form.{Form}
+use Rattle.annotate_snippets.specs.declared.renderer.form.Form.TheVariants.{Graphic, Short, Text}
 
 -- the refusal that names a fault of this marker
 abbrev pub refusal_of : ℕ → ℕ → ℕ → SpanFault → RenderError
@@ -78,7 +81,26 @@ first_of (fault ∷ faults) = Some fault
 unfoldable pub first_fault : List Group → Option RenderError
 first_fault groups = first_of (faults_from group_faults 0 groups)
 
+-- the form that a renderer is set to: `no_graphics` is looked at first, then `short_message`
+abbrev pub form_of : Renderer → Form
+form_of r = if r.no_graphics then Text else if r.short_message then Short else Graphic
+
+-- the refusal of a report that has no title for the short form: no group, or a first group without a title
+abbrev pub missing_title : Form → List Group → Option RenderError
+missing_title Graphic groups = None
+missing_title Text groups = None
+missing_title Short [] = Some NoGroup
+missing_title Short (g ∷ gs) = if is_none g.title then Some NoTitle else None
+
+-- the refusal of a report in a form, where there is one: that of a missing title first, then the first for what it holds, which is
+-- the same in each form
+abbrev pub refusal_in : Form → List Group → Option RenderError
+refusal_in form groups = option_or (missing_title form groups) (first_fault groups)
+
+abbrev pub first_refusal : Renderer → List Group → Option RenderError
+first_refusal r groups = refusal_in (form_of r) groups
+
 -- a report is within bounds: no refusal stands, and each of its texts fits
-pub record IsWithinBounds (groups : List Group) : Type 0 where
-  pub faultless : first_fault groups ≡ None
+pub record IsWithinBounds (r : Renderer) (groups : List Group) : Type 0 where
+  pub faultless : first_refusal r groups ≡ None
   pub fits : ReportFits groups

@@ -1,14 +1,16 @@
 pub mod Around
-pub mod Covered
 pub mod Drawn
 pub mod Fault
+pub mod Forms
 pub mod Gutter
 pub mod Levels
 pub mod Page
 pub mod Prepared
 pub mod Rows
 pub mod Settings
+pub mod Short
 pub mod Shown
+pub mod TextForm
 pub use Rattle.snippet_model.specs.Fits
 pub use Rattle.snippet_model.specs.Level
 pub use Rattle.snippet_model.specs.Trusted

@@ -7,7 +7,6 @@ use Rattle.std.specs.Char.{is_ascii_alphanumeric}
 use Rattle.std.specs.Cow.{cow_str_bytes}
 use Rattle.snippet_style.specs.Grid.{Cell, SPACE, row_at}
 use Rattle.snippet_style.specs.Print.{row_text}
-use Rattle.snippet_style.specs.Woven.{IsWoven}
 use Rattle.snippet_style.specs.declared.glyphs.DecorStyle.{DecorStyle}
 use Rattle.snippet_style.specs.declared.role.LevelInner.{LevelInner}
 use Rattle.snippet_style.specs.declared.stylesheet.Stylesheet.{Stylesheet}
@@ -304,14 +303,3 @@ pub record SheetsShown (r : Renderer) (groups : List Group) (sheets : List Style
   pub free : IsFreeBut (trusted_texts groups) (page_text page)
   pub links : page_links page ≡ report_links r groups
   pub plain : report_links r groups ≡ [] → AllZip (λ sheet text. is_plain_sheet sheet ≡ true → text ≡ encode_utf8_all (page_text page)) sheets texts
-
--- the text shows a report under this sheet
-abbrev pub ShowsReport : Renderer → List Group → Stylesheet → List ℕ → Type 0
-ShowsReport r groups sheet text = SheetsShown r groups (sheet ∷ []) (text ∷ [])
-
--- the text under a sheet is a plain one with codes of the sheet and of these links between its characters, and each listed
--- character of the plain text is one of a trusted text
-pub record IsFreeUnder (trusted links : List (List ℕ)) (sheet : Stylesheet) (text : List ℕ) : Type 0 where
-  pub plain : List ℕ
-  pub woven : IsWoven sheet text plain links
-  pub free : IsFreeBut trusted plain

@@ -1,10 +1,11 @@
 //! The settings that reports are drawn with.
-ghost use Rattle.std.specs.Prelude.{◌≡◌, true, false, None, Err, IfSome, IfOk, IsOkUnless, alloc_error, map, string_bytes};
-ghost use Rattle.std.specs.List.{AllZip};
+ghost use Rattle.std.specs.Prelude.{◌≡◌, [], ◌∷◌, Err, IfSome, IfOk, IsOkUnless, alloc_error, map, string_bytes};
 
 mod cause;
+mod drawn;
 mod elements;
 mod error;
+mod form;
 mod frame;
 mod graphic;
 mod gutter;
@@ -12,15 +13,18 @@ mod judge;
 pub mod parts;
 mod paths;
 mod preprocess;
+mod short;
 pub mod style;
 mod suggestions;
 mod surroundings;
+mod text_form;
 mod title;
 
 use crate::snippet::Report;
+use drawn::{Drawn, draw, text_under, texts_under};
 pub use error::RenderError;
-use graphic::GroupGrid;
-use judge::first_fault;
+use form::form_of;
+use judge::first_refusal;
 pub use snippet_style::{
     DEFAULT_ADDITION_STYLE, DEFAULT_CONTEXT_STYLE, DEFAULT_EMPHASIS_STYLE, DEFAULT_ERROR_STYLE,
     DEFAULT_HELP_STYLE, DEFAULT_INFO_STYLE, DEFAULT_LINE_NUM_STYLE, DEFAULT_NONE_STYLE,
@@ -55,11 +59,11 @@ pub struct Renderer {
 
 impl Renderer {
     ghost use Rattle.snippet_model.specs.Fits.{ReportFits};
-    ghost use Rattle.annotate_snippets.specs.Fault.{first_fault, IsWithinBounds};
-    ghost use Rattle.annotate_snippets.specs.Covered.{is_covered};
+    ghost use Rattle.annotate_snippets.specs.Fault as spec;
+    ghost use Rattle.annotate_snippets.specs.Fault.{IsWithinBounds};
     ghost use Rattle.annotate_snippets.specs.Settings.{plain_settings, styled_settings};
-    ghost use Rattle.annotate_snippets.specs.Shown.{report_links, ShowsReport, SheetsShown, IsFreeUnder};
-    ghost use Rattle.annotate_snippets.specs.Drawn.{AreGridsOf};
+    ghost use Rattle.annotate_snippets.specs.Forms.{AreFree, ShowsReport, TextsShown, links_in};
+    ghost use Rattle.annotate_snippets.specs.Drawn.{IsDrawnAs};
     ghost use Rattle.snippet_model.specs.Trusted.{trusted_texts};
 
     /// A renderer that writes no style codes.
@@ -224,6 +228,24 @@ impl Renderer {
         self
     }
 
+    /// Whether a report is drawn on one line, for editors and logs: the title of its first group, behind the place of its first
+    /// annotated snippet and before the labels of that. Such a report needs a group, and its first group a title.
+    pub fn short_message(mut self, short_message: bool) -> Renderer
+        ensures changed { result ≡ record self { short_message = short_message } }
+    {
+        self.short_message = short_message;
+        self
+    }
+
+    /// Whether a report is written without graphics, for speech and Braille; where this is set, `short_message` isn't looked
+    /// at.
+    pub fn no_graphics(mut self, no_graphics: bool) -> Renderer
+        ensures changed { result ≡ record self { no_graphics = no_graphics } }
+    {
+        self.no_graphics = no_graphics;
+        self
+    }
+
     /// The text of a report, under the renderer's own sheet.
     ///
     /// # Errors
@@ -232,28 +254,23 @@ impl Renderer {
     pub fn render(&self, alloc: Global, groups: Report<'_>) -> Result<String, RenderError>
         requires fits { ReportFits groups.now }
 
-        // A faulty report is refused for its first fault.
-        ensures refused { IfSome (first_fault groups.now) (λ fault. result ≡ Err fault) }
+        // A report is refused for the first reason in order: that the short form misses a title, or a fault of what it holds.
+        ensures refused { IfSome (spec.first_refusal self.now groups.now) (λ refusal. result ≡ Err refusal) }
 
-        // One within bounds gives a text where memory is found, if it is one that is drawn so far.
-        ensures covered { IsWithinBounds groups.now → is_covered self.now ≡ true
-            → IsOkUnless result (RenderError.Memory alloc_error) }
-        ensures not_yet { IsWithinBounds groups.now → is_covered self.now ≡ false
-            → result ≡ Err RenderError.NotYet }
+        // One within bounds gives a text where memory is found.
+        ensures renders { IsWithinBounds self.now groups.now → IsOkUnless result (RenderError.Memory alloc_error) }
 
-        // The text prints a page that shows the report: its titles, each line on which a span begins or ends, once and in
-        // order, and the marks below them; and the lines of the patched source that suggestions offer, each that a patch
-        // touches among them. Each listed character of the page is one of a trusted text.
+        // The text shows the report, in the form that the renderer is set to.
         ensures shows { IfOk result (λ text.
             ShowsReport self.now groups.now self.now.stylesheet (string_bytes text)) }
 
         // Without the codes of the sheet and of the report's links, each listed character of the text is one of a trusted text.
         // It follows from `shows`, in fewer words.
-        ensures free { IfOk result (λ text.
-            IsFreeUnder (trusted_texts groups.now) (report_links self.now groups.now) self.now.stylesheet (string_bytes text)) }
+        ensures free { IfOk result (λ text. AreFree (trusted_texts groups.now)
+            (links_in (spec.form_of self.now) self.now groups.now) (self.now.stylesheet ∷ []) (string_bytes text ∷ [])) }
     {
-        let grids = self.grids(alloc, groups)?;
-        graphic::printed(alloc, &grids, &self.stylesheet).map_err(RenderError::Memory)
+        let drawn = self.drawn(alloc, groups)?;
+        text_under(alloc, &drawn, &self.stylesheet).map_err(RenderError::Memory)
     }
 
     /// The texts of a report, one under each of these sheets, in order; the renderer's own sheet isn't looked at. The
@@ -270,49 +287,36 @@ impl Renderer {
     ) -> Result<Vec<String>, RenderError>
         requires fits { ReportFits groups.now }
 
-        // A faulty report is refused for its first fault.
-        ensures refused { IfSome (first_fault groups.now) (λ fault. result ≡ Err fault) }
+        // A report is refused for the first reason in order: that the short form misses a title, or a fault of what it holds.
+        ensures refused { IfSome (spec.first_refusal self.now groups.now) (λ refusal. result ≡ Err refusal) }
 
-        // One within bounds gives its texts where memory is found, if it is one that is drawn so far.
-        ensures covered { IsWithinBounds groups.now → is_covered self.now ≡ true
-            → IsOkUnless result (RenderError.Memory alloc_error) }
-        ensures not_yet { IsWithinBounds groups.now → is_covered self.now ≡ false
-            → result ≡ Err RenderError.NotYet }
+        // One within bounds gives its texts where memory is found.
+        ensures renders { IsWithinBounds self.now groups.now → IsOkUnless result (RenderError.Memory alloc_error) }
 
-        // All texts print one page, each under its sheet: a page that shows the report, and each listed character of which
-        // is one of a trusted text.
+        // The texts show the report, in the form that the renderer is set to, each under its sheet.
         ensures shows { IfOk result (λ texts.
-            SheetsShown self.now groups.now sheets.now (map string_bytes texts.items)) }
+            TextsShown self.now groups.now sheets.now (map string_bytes texts.items)) }
 
-        // Without the codes of its sheet and of the report's links, each listed character of a text is one of a trusted text. It
-        // follows from `shows`, in fewer words.
-        ensures free { IfOk result (λ texts. AllZip (λ sheet text.
-            IsFreeUnder (trusted_texts groups.now) (report_links self.now groups.now) sheet text) sheets.now (map string_bytes texts.items)) }
+        // They differ in their codes alone: there is one plain text and one list of links, and each listed character of the plain
+        // text is one of a trusted text. It follows from `shows`, in fewer words.
+        ensures free { IfOk result (λ texts. AreFree (trusted_texts groups.now)
+            (links_in (spec.form_of self.now) self.now groups.now) sheets.now (map string_bytes texts.items)) }
     {
-        let grids = self.grids(alloc, groups)?;
-        graphic::printed_sheets(alloc, &grids, sheets).map_err(RenderError::Memory)
+        let drawn = self.drawn(alloc, groups)?;
+        texts_under(alloc, &drawn, sheets).map_err(RenderError::Memory)
     }
 
-    /// The grids of a report that has no fault and is drawn so far.
-    fn grids<'a>(
-        &self,
-        alloc: Global,
-        groups: Report<'a>,
-    ) -> Result<Vec<GroupGrid<'a>>, RenderError>
+    /// A report that isn't refused, drawn in the form that the renderer is set to.
+    fn drawn<'a>(&self, alloc: Global, groups: Report<'a>) -> Result<Drawn<'a>, RenderError>
         requires fits { ReportFits groups.now }
-        ensures refused { IfSome (first_fault groups.now) (λ fault. result ≡ Err fault) }
-        ensures covered { IsWithinBounds groups.now → is_covered self.now ≡ true
-            → IsOkUnless result (RenderError.Memory alloc_error) }
-        ensures not_yet { IsWithinBounds groups.now → is_covered self.now ≡ false
-            → result ≡ Err RenderError.NotYet }
-        ensures drawn { IfOk result (λ grids. AreGridsOf self.now groups.now grids.items) }
+        ensures refused { IfSome (spec.first_refusal self.now groups.now) (λ refusal. result ≡ Err refusal) }
+        ensures renders { IsWithinBounds self.now groups.now → IsOkUnless result (RenderError.Memory alloc_error) }
+        ensures drawn { IfOk result (λ drawn. IsDrawnAs (spec.form_of self.now) self.now groups.now drawn) }
     {
-        if let Some(fault) = first_fault(groups) {
-            return Err(fault);
+        let form = form_of(self);
+        if let Some(refusal) = first_refusal(form, groups) {
+            return Err(refusal);
         }
-        if self.short_message || self.no_graphics {
-            return Err(RenderError::NotYet);
-        }
-        graphic::grids(alloc, self, groups).map_err(RenderError::Memory)
+        draw(alloc, self, form, groups).map_err(RenderError::Memory)
     }
 }

@@ -1,5 +1,4 @@
-//! How a case becomes the library's renderer and groups, by the library's calls. Where the library has no call yet for what
-//! the case says, there is none: it is refused as `NotYet`.
+//! How a case becomes the library's renderer and groups, by the library's calls.
 
 ghost use Rattle.std.specs.Prelude.{◌≡◌, [], ◌∷◌, ◌++◌, IfOk, IfSome, OnOk, All};
 ghost use Rattle.std.specs.Cow.{cow_str_bytes};
@@ -17,23 +16,20 @@ use annotate_snippets::{
 use std::alloc::{AllocError, Global};
 
 /// The renderer of these settings.
-pub fn renderer_of(settings: Settings) -> Result<Renderer, RenderError> {
-    if settings.no_graphics || settings.short_message {
-        return Err(RenderError::NotYet);
-    }
+pub fn renderer_of(settings: Settings) -> Renderer {
     let decor = if settings.unicode {
         DecorStyle::Unicode
     } else {
         DecorStyle::Ascii
     };
-    Ok(
-        Renderer::plain()
-            .term_width(settings.term_width)
-            .decor_style(decor)
-            .hyperlink(settings.hyperlink)
-            .anonymized_snippet_line_numbers(settings.anonymized_snippet)
-            .anonymized_origin_line_numbers(settings.anonymized_origin),
-    )
+    Renderer::plain()
+        .no_graphics(settings.no_graphics)
+        .short_message(settings.short_message)
+        .term_width(settings.term_width)
+        .decor_style(decor)
+        .hyperlink(settings.hyperlink)
+        .anonymized_snippet_line_numbers(settings.anonymized_snippet)
+        .anonymized_origin_line_numbers(settings.anonymized_origin)
 }
 
 /// The groups of a report.

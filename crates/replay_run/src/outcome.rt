@@ -26,7 +26,7 @@ pub fn outcome_of(alloc: Global, case: &Case<'_>) -> Result<Outcome, AllocError>
 
 /// The texts of a case, one under each sheet.
 fn texts_of(alloc: Global, case: &Case<'_>) -> Result<Vec<String>, RenderError> {
-    let renderer = renderer_of(case.settings)?;
+    let renderer = renderer_of(case.settings);
     let groups = groups_of(alloc, &case.groups)?;
     renderer.render_sheets(alloc, &groups, &case.sheets)
 }
@@ -42,7 +42,6 @@ fn name_of(refusal: &RenderError) -> &'static str {
         RenderError::PatchesOverlap { .. } => "PatchesOverlap",
         RenderError::LineNumberTooLarge { .. } => "LineNumberTooLarge",
         RenderError::Memory(_) => "Memory",
-        RenderError::NotYet => "NotYet",
     }
 }
 

@@ -63,7 +63,7 @@ fn draw_often(
     times: u64,
     tally: Tally,
 ) -> Result<Tally, RenderError> {
-    let renderer = renderer_of(case.settings)?;
+    let renderer = renderer_of(case.settings);
     let groups = groups_of(alloc, &case.groups)?;
     let mut drawn = tally;
     for _ in 0..times {

@@ -13,15 +13,17 @@ use Rattle.annotate_snippets.specs.declared.snippet.Snippet.{Snippet}
 use Rattle.annotate_snippets.specs.declared.snippet.Title.{Title}
 use Rattle.annotate_snippets.specs.Levels.{error_level}
 use Rattle.annotate_snippets.specs.Settings.{plain_settings, styled_settings}
-use Rattle.annotate_snippets.specs.Shown.{ShowsReport}
+use Rattle.annotate_snippets.specs.Forms.{ShowsReport}
 use Rattle.snip_run.specs.Words.{Word, IsCommandOf}
 use Rattle.snip_run.specs.declared.words.Command.{Command}
 use Rattle.snip_run.specs.declared.words.Options.{Options}
 
--- the settings that options ask for: those of `styled` or of `plain`, but for the strokes and the width
+-- the settings that options ask for: those of `styled` or of `plain`, but for the form, the strokes and the width
 abbrev pub settings_of : Options → Renderer
 settings_of options =
     record (if options.styled then styled_settings else plain_settings) {
+      no_graphics = options.text;
+      short_message = options.short;
       decor_style = if options.unicode then Unicode else Ascii;
       term_width = unwrap_or options.width 140;
     }

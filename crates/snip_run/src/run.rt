@@ -33,8 +33,6 @@ const MISUSED: u8 = 2;
 /// Why a command gives no report.
 #[derive(Debug, Drop)]
 enum Failure {
-    /// It asks for something that isn't done yet.
-    NotYet,
     /// The file, by its name as it may be shown, holds no text that can be drawn, or the words are too long.
     Unreadable(String),
     /// The report is refused.
@@ -46,7 +44,6 @@ enum Failure {
 impl fmt::Display for Failure {
     fn fmt<W: fmt::Write>(&self, f: &mut fmt::Formatter<W>) -> fmt::Result {
         match self {
-            Failure::NotYet => write!(f, "not yet"),
             Failure::Unreadable(file) => write!(f, "cannot read {file}"),
             Failure::Refused(error) => write!(f, "{error}"),
             Failure::Memory => write!(f, "out of memory"),
@@ -93,6 +90,8 @@ fn renderer_of(options: Options) -> Renderer
         DecorStyle::Ascii
     };
     renderer
+        .no_graphics(options.text)
+        .short_message(options.short)
         .decor_style(strokes)
         .term_width(options.width.unwrap_or(DEFAULT_TERM_WIDTH))
 }
@@ -134,9 +133,6 @@ fn report_text<'a>(
     ensures shows { IfOk result (λ text. IfSome (option_copied file.entry)
         (λ source. ShowsCommand command.now source (string_bytes text))) }
 {
-    if command.is_unfinished() {
-        return Err(Failure::NotYet);
-    }
     let Some(source) = source_of(file) else {
         return Err(unreadable(alloc, command.file));
     };

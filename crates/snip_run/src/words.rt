@@ -1,6 +1,6 @@
 //! The words of the command line, without the program's name.
 
-ghost use Rattle.std.specs.Prelude.{◌≡◌, ◌↔◌, ◌||◌, ◌++◌, IsTrue, IsSome, IsNone, IfSome, IsSomeAnd, SomeIff, Contains, List, is_some};
+ghost use Rattle.std.specs.Prelude.{◌≡◌, ◌↔◌, ◌++◌, IsTrue, IsSome, IsNone, IfSome, IsSomeAnd, SomeIff, Contains, List, is_some};
 ghost use Rattle.snip_run.specs.Words.{Word, words_at, IsNumber, number_in, Setting, words_of, option_names, IsSound, no_options, Line, operands_of, line_of, HasOperands, AreLine, IsCommandLine, IsCommandOf, TakesOption, Says};
 
 /// The options that stand before FILE.
@@ -43,15 +43,6 @@ struct Operands<'a> {
     end: &'a str,
     title: &'a str,
     label: Option<&'a str>,
-}
-
-impl Command<'_> {
-    /// Whether the command asks for something that isn't done yet.
-    pub fn is_unfinished(&self) -> bool
-        ensures value { result ≡ (self.now.options.text || self.now.options.short) }
-    {
-        self.options.text || self.options.short
-    }
 }
 
 /// Whether a word is the name of an option.

@@ -106,7 +106,7 @@ const ANSWERED: [(&str, &str, &str); 11] = [
     ),
     (
         "{\"id\": \"a\", \"settings\": {\"short_message\": true}, \"groups\": []}",
-        "{\"id\":\"a\",\"refused\":\"NotYet\",\"text\":\"not yet\"}\n",
+        "{\"id\":\"a\",\"refused\":\"NoGroup\",\"text\":\"a short message needs a group\"}\n",
         "",
     ),
     ("[]", "", "line 1: the line: expected an object"),
@@ -212,9 +212,9 @@ const COMPARED: [(&str, (u64, u64), &str); 4] = [
         "\"b\" differs\nexpected of \"c\":\nerror: e\nanswered:\nerror: e\n\n",
     ),
     (
-        "{\"id\": \"b\", \"refused\": \"NotYet\", \"text\": \"not yet\"}",
+        "{\"id\": \"b\", \"refused\": \"Memory\", \"text\": \"out of memory\"}",
         (1, 1),
-        "\"b\" differs\nexpected of \"b\":\nnot yet\nanswered:\nerror: e\n\n",
+        "\"b\" differs\nexpected of \"b\":\nout of memory\nanswered:\nerror: e\n\n",
     ),
 ];
 
@@ -235,5 +235,55 @@ fn tells_the_cases_that_differ(rt: HostRuntime) -> Result<(), Fail> {
         assert_eq!(rt; found, *counts);
         assert_eq!(rt; out.as_slice(), told.as_bytes());
     }
+    Ok(())
+}
+
+/// Worked rows of each subject and each form.
+const ROWS: &str =
+    r#"{"id": "unused-variable", "groups": [{"title": {"level": {"kind": "error"}, "text": "unused", "primary": true}, "elements": [{"cause": {"source": "let x = 1;", "annotations": [{"kind": "primary", "start": 4, "end": 5, "label": "here"}]}}]}]}
+{"id": "wide-characters", "groups": [{"title": {"level": {"kind": "error"}, "text": "e", "primary": true}, "elements": [{"cause": {"source": "\u65e5\u672c", "annotations": [{"kind": "primary", "start": 3, "end": 6}]}}]}]}
+{"id": "label-below-and-beside", "groups": [{"title": {"level": {"kind": "error"}, "text": "e", "primary": true}, "elements": [{"cause": {"source": "ab cd", "annotations": [{"kind": "context", "start": 0, "end": 2, "label": "a"}, {"kind": "primary", "start": 3, "end": 5, "label": "c"}]}}]}]}
+{"id": "block-of-three-lines", "groups": [{"title": {"level": {"kind": "error"}, "text": "e", "primary": true}, "elements": [{"cause": {"source": "a {\n b\n}", "annotations": [{"kind": "primary", "start": 0, "end": 8}]}}]}]}
+{"id": "elided-lines", "groups": [{"title": {"level": {"kind": "error"}, "text": "e", "primary": true}, "elements": [{"cause": {"source": "a\nb\nc\nd", "annotations": [{"kind": "primary", "start": 0, "end": 1}, {"kind": "context", "start": 6, "end": 7}]}}]}]}
+{"id": "replacement", "groups": [{"title": {"level": {"kind": "help"}, "text": "use this", "primary": false}, "elements": [{"suggestion": {"source": "foo", "patches": [{"start": 0, "end": 3, "text": "bar"}]}}]}]}
+{"id": "note-below-a-snippet", "groups": [{"title": {"level": {"kind": "error"}, "text": "e", "primary": true}, "elements": [{"cause": {"source": "ab", "annotations": [{"kind": "primary", "start": 0, "end": 1}]}}, {"message": {"level": {"kind": "note"}, "text": "m"}}]}]}
+{"id": "two-paths", "groups": [{"title": {"level": {"kind": "error"}, "text": "e", "primary": true}, "elements": [{"cause": {"source": "ab", "annotations": [{"kind": "primary", "start": 0, "end": 1}], "path": "a.rs"}}, {"cause": {"source": "cd", "annotations": [{"kind": "context", "start": 0, "end": 1}], "path": "b.rs"}}]}]}
+{"id": "linked-id", "groups": [{"title": {"level": {"kind": "error"}, "text": "e", "primary": true, "id": "E1", "url": "u"}, "elements": []}], "settings": {"hyperlink": true}}
+{"id": "path-short-form", "groups": [{"title": {"level": {"kind": "error"}, "text": "unused", "primary": true}, "elements": [{"cause": {"source": "let x = 1;", "annotations": [{"kind": "primary", "start": 4, "end": 5, "label": "here"}], "path": "a.rs"}}]}], "settings": {"short_message": true}}
+{"id": "short-form-with-labels", "groups": [{"title": {"level": {"kind": "error"}, "text": "e", "primary": true}, "elements": [{"cause": {"source": "abcdef", "annotations": [{"kind": "primary", "start": 0, "end": 1, "label": "p"}, {"kind": "primary", "start": 2, "end": 3, "label": "q"}, {"kind": "context", "start": 4, "end": 5, "label": "r"}], "path": "a.rs"}}]}], "settings": {"short_message": true}}
+{"id": "path-text-form", "groups": [{"title": {"level": {"kind": "error"}, "text": "unused", "primary": true}, "elements": [{"cause": {"source": "let x = 1;", "annotations": [{"kind": "primary", "start": 4, "end": 5, "label": "here"}], "path": "a.rs"}}]}], "settings": {"no_graphics": true}}
+{"id": "two-offers-text-form", "groups": [{"title": {"level": {"kind": "help"}, "text": "t", "primary": false}, "elements": [{"suggestion": {"source": "foo()", "patches": [{"start": 4, "end": 4, "text": "x"}]}}, {"suggestion": {"source": "foo()", "patches": [{"start": 4, "end": 4, "text": "y"}]}}]}], "settings": {"no_graphics": true}}
+{"id": "text-form-of-two-lines", "groups": [{"title": {"level": {"kind": "error"}, "text": "e", "primary": true}, "elements": [{"cause": {"source": "f(a,\n b)", "annotations": [{"kind": "primary", "start": 1, "end": 8, "label": "x"}]}}]}], "settings": {"no_graphics": true}}
+{"id": "empty-report", "groups": []}
+"#;
+
+/// The texts that they have to give.
+const ROW_TEXTS: &str =
+    r#"{"id": "unused-variable", "ok": ["error: unused\n  |\n1 | let x = 1;\n  |     ^ here"]}
+{"id": "wide-characters", "ok": ["error: e\n  |\n1 | \u65e5\u672c\n  |   ^^"]}
+{"id": "label-below-and-beside", "ok": ["error: e\n  |\n1 | ab cd\n  | -- ^^ c\n  | |\n  | a"]}
+{"id": "block-of-three-lines", "ok": ["error: e\n  |\n1 | / a {\n2 | |  b\n3 | | }\n  | |_^"]}
+{"id": "elided-lines", "ok": ["error: e\n  |\n1 | a\n  | ^\n...\n4 | d\n  | -"]}
+{"id": "replacement", "ok": ["help: use this\n  |\n1 - foo\n1 + bar\n  |"]}
+{"id": "note-below-a-snippet", "ok": ["error: e\n  |\n1 | ab\n  | ^\n  |\n  = note: m"]}
+{"id": "two-paths", "ok": ["error: e\n --> a.rs:1:1\n  |\n1 | ab\n  | ^\n  |\n ::: b.rs:1:1\n  |\n1 | cd\n  | -"]}
+{"id": "linked-id", "ok": ["error[\u001b]8;;u\u001b\\E1\u001b]8;;\u001b\\]: e"]}
+{"id": "path-short-form", "ok": ["a.rs:1:5: error: unused: here"]}
+{"id": "short-form-with-labels", "ok": ["a.rs:1:1: error: e: p, q"]}
+{"id": "path-text-form", "ok": ["error: unused\n at a.rs:1:5: here"]}
+{"id": "two-offers-text-form", "ok": ["help: t\n option 1\n  on line 1, column 5 add: x\n option 2\n  on line 1, column 5 add: y"]}
+{"id": "text-form-of-two-lines", "ok": ["error: e\n on line 1, column 2 to line 2: x"]}
+{"id": "empty-report", "ok": [""]}
+"#;
+
+// Each row gives its text where memory is ample: a library that always answers want of memory fails here.
+#[test]
+fn every_row_renders(rt: HostRuntime) -> Result<(), Fail> {
+    let mut told = Vec::new(rt.alloc());
+    match check_lines(rt.alloc(), ROW_TEXTS.as_bytes(), ROWS.as_bytes(), &mut told) {
+        Ok(counts) => assert_eq!(rt; (counts.passed, counts.failed), (15, 0)),
+        Err(_) => return Err(Fail::new("stopped")),
+    }
+    assert!(rt; told.is_empty());
     Ok(())
 }

@@ -91,6 +91,45 @@ fn hides_line_numbers_by_either_switch(rt: HostRuntime) -> Result<(), Fail> {
     Ok(())
 }
 
+/// What is wrong with a variable that isn't used, where it stands in a file.
+fn first_program(alloc: Global) -> Result<String, RenderError> {
+    let mark = AnnotationKind::Primary
+        .span(4..5)
+        .label(OptionCow::from("never read"));
+    let snippet = Snippet::source(alloc, "let x = 1;\n")
+        .path(OptionCow::from("src/main.rs"))
+        .annotation(mark)
+        .map_err(RenderError::Memory)?;
+    let group: Group<'static> = ERROR
+        .primary_title("unused variable")
+        .element(alloc, Element::from(snippet))
+        .map_err(RenderError::Memory)?;
+    Renderer::plain().render(alloc, &[group])
+}
+
+#[test]
+fn runs_the_first_program(rt: HostRuntime) -> Result<(), Fail> {
+    let shown =
+        "error: unused variable\n --> src/main.rs:1:5\n  |\n1 | let x = 1;\n  |     ^ never read";
+    assert_eq!(rt; first_program(rt.alloc())?.as_str(), shown);
+    Ok(())
+}
+
+#[test]
+fn draws_in_the_form_that_is_set(rt: HostRuntime) -> Result<(), Fail> {
+    let alloc = rt.alloc();
+    let short = Renderer::plain().short_message(true);
+    let line = text(alloc, &short, unused_variable(alloc)?)?;
+    assert_eq!(rt; line.as_str(), "error: unused: here");
+    let spoken = Renderer::plain().no_graphics(true);
+    let lines = text(alloc, &spoken, unused_variable(alloc)?)?;
+    assert_eq!(rt; lines.as_str(), "error: unused\n on line 1, column 5: here");
+    let both = short.no_graphics(true);
+    let lines = text(alloc, &both, unused_variable(alloc)?)?;
+    assert_eq!(rt; lines.as_str(), "error: unused\n on line 1, column 5: here");
+    Ok(())
+}
+
 #[test]
 fn keeps_the_codes_of_a_trusted_title(rt: HostRuntime) -> Result<(), Fail> {
     let alloc = rt.alloc();
@@ -141,7 +180,7 @@ fn refused_markers() -> [(RenderError, &'static str); 4] {
 }
 
 /// The other refusals, and what they say.
-fn other_refusals() -> [(RenderError, &'static str); 5] {
+fn other_refusals() -> [(RenderError, &'static str); 4] {
     [
         (RenderError::NoGroup, "a short message needs a group"),
         (RenderError::NoTitle, "a short message needs a title"),
@@ -153,7 +192,6 @@ fn other_refusals() -> [(RenderError, &'static str); 5] {
             "group 0, element 1: line numbers are too large",
         ),
         (RenderError::Memory(AllocError), "out of memory"),
-        (RenderError::NotYet, "not yet"),
     ]
 }
 

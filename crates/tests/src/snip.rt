@@ -67,19 +67,8 @@ fn refuses_wrong_words(rt: HostRuntime) {
 
 #[test]
 fn tells_what_is_in_the_way(rt: HostRuntime) {
-    let not_yet = "snip: not yet\n";
     let no_file = "snip: cannot read a.rs\n";
     let runs = [
-        telling(
-            &["--short", "a.rs", "0", "1", "t", "l"],
-            Some(SOURCE),
-            not_yet,
-        ),
-        telling(
-            &["--unicode", "--text", "--styled", "a.rs", "0", "1", "t"],
-            None,
-            not_yet,
-        ),
         telling(&["a.rs", "0", "1", "t"], None, no_file),
         telling(&["a.rs", "0", "1", "t"], Some(b"\xff"), no_file),
         telling(
@@ -112,6 +101,27 @@ fn prints_the_report(rt: HostRuntime) {
         printing(
             &["--width", "20", "--width", "80", "a.rs", "4", "5", "unused"],
             REPORT,
+        ),
+    ];
+    for wanted in runs {
+        assert!(rt; does(rt.alloc(), wanted), "{wanted:?}");
+    }
+}
+
+#[test]
+fn prints_on_one_line_and_without_graphics(rt: HostRuntime) {
+    let runs = [
+        printing(
+            &["--short", "a.rs", "4", "5", "unused", "here"],
+            "error: unused: here\n",
+        ),
+        printing(
+            &["--text", "a.rs", "4", "5", "unused", "here"],
+            "error: unused\n on line 1, column 5: here\n",
+        ),
+        printing(
+            &["--short", "--text", "a.rs", "4", "5", "unused"],
+            "error: unused\n on line 1, column 5\n",
         ),
     ];
     for wanted in runs {

@@ -54,7 +54,4 @@ pub enum RenderError {
     /// A growth of memory was refused.
     #[error("out of memory")]
     Memory(AllocError),
-    /// The report uses a part of the library that isn't done yet.
-    #[error("not yet")]
-    NotYet,
 }

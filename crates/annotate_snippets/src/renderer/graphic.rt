@@ -116,23 +116,3 @@ pub fn printed(
     }
     Ok(text)
 }
-
-/// The texts that print grids under some sheets: one under each, in order.
-///
-/// # Errors
-///
-/// There is no memory for the texts.
-pub fn printed_sheets(
-    alloc: Global,
-    grids: &[GroupGrid<'_>],
-    sheets: &[Stylesheet],
-) -> Result<Vec<String>, AllocError>
-    ensures printed { IfOk result (λ texts.
-        AllZip (λ sheet text. PrintsGrids sheet grids.now text) sheets.now (map string_bytes texts.items)) }
-{
-    let mut texts = Vec::new(alloc);
-    for sheet in sheets {
-        texts.push(printed(alloc, grids, sheet)?)?;
-    }
-    Ok(texts)
-}

@@ -6,13 +6,39 @@ ghost use Rattle.annotate_snippets.specs.Fault.{refusal_of, span_faults, number_
 ghost use Rattle.annotate_snippets.specs.Fault as spec;
 
 use crate::renderer::error::RenderError;
+use crate::renderer::form::Form;
 use snippet_model::snippet::{Annotation, Element, Group, Marker, Patch, Snippet};
 use snippet_parts::{SpanFault, check_span, line_feed_count, newline_count};
 use snippet_splice::check_patches;
 
+/// The refusal of a report in a form, if it is refused: for want of a title where the form needs one, then for its first fault,
+/// which is the same in each form.
+pub fn first_refusal(form: Form, groups: &[Group]) -> Option<RenderError>
+    ensures value { result ≡ spec.refusal_in form groups.now }
+{
+    match missing_title(form, groups) {
+        Some(refusal) => Some(refusal),
+        None => first_fault(groups),
+    }
+}
+
+/// The refusal of a report that has no title for its short form: it is empty, or its first group has none.
+fn missing_title(form: Form, groups: &[Group]) -> Option<RenderError>
+    ensures value { result ≡ spec.missing_title form groups.now }
+{
+    if form != Form::Short {
+        return None;
+    }
+    match groups.first() {
+        None => Some(RenderError::NoGroup),
+        Some(group) if group.title.is_none() => Some(RenderError::NoTitle),
+        Some(_) => None,
+    }
+}
+
 /// The fault that a report is refused for, if it has one: the first in the order of groups, elements and markers.
 #[tactic(auto, unfolding(crate::specs::Fault::first_fault))]
-pub fn first_fault(groups: &[Group]) -> Option<RenderError>
+fn first_fault(groups: &[Group]) -> Option<RenderError>
     ensures value { result ≡ spec.first_fault groups.now }
 {
     for (number, group) in groups.iter().enumerate() {

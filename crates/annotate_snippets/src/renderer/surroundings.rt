@@ -151,7 +151,7 @@ pub fn surroundings_of(
 }
 
 /// Whether the first two of some elements are suggestions for one file.
-fn first_two_share(elements: &[PreparedElement<'_>]) -> bool
+pub fn first_two_share(elements: &[PreparedElement<'_>]) -> bool
     ensures value { result ≡ spec.first_two_share (map element_of elements.now) }
 {
     match elements {

@@ -8,7 +8,7 @@ use Rattle.annotate_snippets.specs.declared.snippet.Element.{Element}
 use Rattle.annotate_snippets.specs.declared.snippet.Group.{Group}
 use Rattle.annotate_snippets.specs.declared.snippet.Snippet.{Snippet}
 use Rattle.annotate_snippets.specs.declared.snippet.Title.{Title}
-use Rattle.annotate_snippets.specs.Shown.{ShowsReport}
+use Rattle.annotate_snippets.specs.Forms.{ShowsReport}
 use Rattle.annotate_snippets.proofs.ReportLemmas.{IfOk-map_err}
 use Rattle.snip_run.specs.declared.words.Command.{Command}
 use Rattle.snip_run.specs.Report.{IsMarkFor, IsReportFor, IsSnippetFor, IsTitleFor, ShowsCommand}

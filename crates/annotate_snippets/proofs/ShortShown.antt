@@ -1,0 +1,231 @@
+-- The texts that print a report's short form show it.
+use Rattle.std.proofs.Common.{◌≡◌, ◌∙◌, ℕ, ◌<◌, ◌==◌, Bool, true, false, None, Option, Some, IfSome, List, [], ◌∷◌, ◌++◌, All, arith, chars, codes, encode_utf8_all, filter, length, not, refl, sym, ap, subst}
+use Rattle.std.specs.Char.{is_whitespace}
+use Rattle.std.specs.Cow.{cow_str_bytes}
+use Rattle.std.specs.List.{AllZip, Contains, cons_option, filter_map, flat_map, join_with_byte, list_all, list_any, slice_get, slice_index_or}
+use Rattle.std.specs.Option.{option_map, option_to_list}
+use Rattle.std.specs.declared.alloc.Global.{Global}
+use Rattle.std.specs.declared.borrow.CowStr.{CowStr}
+use Rattle.std.proofs.lemmas.Bool.Decides.{nat_tests}
+use Rattle.std.proofs.lemmas.List.{append-nil, append_assoc}
+use Rattle.std.proofs.lemmas.List.Elements.{All-append, All-cons, All-filter, All-get_or, All-head, All-nil, All-tail, All-weaker, Contains-append_left}
+use Rattle.std.proofs.lemmas.List.Splits.{length-slice_split}
+use Rattle.std.proofs.lemmas.Option.{get_or_from_slice_get, slice_get_within}
+use Rattle.snippet_model.specs.Heading.{Heading, heading_of_title}
+use Rattle.snippet_model.specs.Trusted.{trusted_of_element, trusted_texts}
+use Rattle.snippet_model.specs.declared.snippet.Annotation.{Annotation}
+use Rattle.snippet_model.specs.declared.snippet.Group.{Group}
+use Rattle.snippet_model.specs.declared.snippet.Id.{Id}
+use Rattle.snippet_model.specs.declared.snippet.Snippet.{Snippet}
+use Rattle.snippet_model.specs.declared.snippet.Title.{Title}
+use Rattle.snippet_parts.specs.Annotated.{KeptLine, annotated_lines, is_long}
+use Rattle.snippet_parts.specs.Mark.{is_marking}
+use Rattle.snippet_parts.specs.NamedPlace.{IsNamedPlace, primary_place}
+use Rattle.snippet_parts.proofs.NamedPlaceLaws.{place-named}
+use Rattle.snippet_style.specs.Grid.{Cell, row_at}
+use Rattle.snippet_style.specs.Print.{plain_text, row_text}
+use Rattle.snippet_style.specs.Stylesheet.{is_plain_sheet}
+use Rattle.snippet_style.specs.Woven.{Prints, links_of}
+use Rattle.snippet_style.specs.declared.role.LevelInner.{LevelInner}
+use Rattle.snippet_style.specs.declared.stylesheet.Stylesheet.{Stylesheet}
+use Rattle.snippet_style.proofs.WovenLemmas.{IsWoven-from_prints, plain_woven}
+use Rattle.snippet_text.specs.Normalized.{is_listed, norm}
+use Rattle.snippet_text.proofs.NormLemmas.{list_any-norm}
+use Rattle.snippet_titles.proofs.ShortLaws.{short-free, short-links, short-texts}
+use Rattle.snippet_titles.specs.Heading.{drawn_text, heading_lines, indent_cells, label_text, label_width}
+use Rattle.snippet_titles.specs.Origin.{origin_text, place_text}
+use Rattle.snippet_titles.specs.Short.{with_end}
+use Rattle.snippet_titles.specs.Shown.{IsFreeButText, texts_below}
+use Rattle.snippet_titles.specs.Title.{id_links, text_links}
+use Rattle.snippet_titles.specs.declared.style.TitleStyle.TheVariants as style
+use Rattle.snippet_titles.specs.declared.origin.OriginPlace.{OriginPlace}
+use Rattle.snippet_titles.proofs.DigitLemmas.{IsDigit}
+use Rattle.snippet_titles.proofs.OriginText.{place_text-each}
+use Rattle.snippet_titles.proofs.OriginFree.{each-fails}
+use Rattle.annotate_snippets.specs.Around.{path_bytes}
+use Rattle.annotate_snippets.specs.Drawn.{IsShortPage}
+use Rattle.annotate_snippets.specs.Forms.{BeginsWithPlace, ShortShown, ShowsShort, short_links}
+use Rattle.annotate_snippets.specs.Gutter.{numbered_source}
+use Rattle.annotate_snippets.specs.Page.{PrintsGrids}
+use Rattle.annotate_snippets.specs.Prepared.{IsDrawable, IsGroupDrawable}
+use Rattle.annotate_snippets.specs.Rows.{place_found, place_named}
+use Rattle.annotate_snippets.specs.Short.{before_title, behind_title, first_cause, is_primary, joined_labels, label_of, labels_of_cause, place_of_cause, place_of_path, primary_labels, short_form}
+use Rattle.annotate_snippets.specs.declared.renderer.Renderer.{Renderer}
+use Rattle.annotate_snippets.specs.declared.renderer.graphic.GroupGrid.{GroupGrid}
+use Rattle.annotate_snippets.proofs.CauseShown.{place_known}
+use Rattle.annotate_snippets.proofs.PrintLemmas.{AllZip-weaker}
+use Rattle.annotate_snippets.proofs.ShortLemmas.{first_cause-drawable}
+use Rattle.annotate_snippets.proofs.TrustedLemmas.{IsFreeRow, free_text, own_row}
+
+-- ---- no character before the title or behind it is listed
+
+abbrev IsUnlisted : ℕ → Type 0
+IsUnlisted c = is_listed c ≡ false
+
+norm-free : (cs : List ℕ) → All IsUnlisted (norm cs)
+norm-free cs = each-fails is_listed (norm cs) (list_any-norm cs)
+
+-- what leads to a label, or stands behind a path
+sep-free : (c : ℕ) → is_listed c ≡ false → All IsUnlisted (c ∷ 32 ∷ [])
+sep-free c free = All-cons IsUnlisted c (32 ∷ []) free (All-cons IsUnlisted 32 [] refl (All-nil IsUnlisted))
+
+label-free : (a : Annotation) (rest : List (List ℕ)) → All (All IsUnlisted) rest → All (All IsUnlisted) (cons_option (label_of a) rest)
+label-free a rest others = by a.label
+  where
+    by : (label : Option (CowStr Global)) → All (All IsUnlisted) (cons_option (option_map (λ t. norm (chars (cow_str_bytes t))) label) rest)
+    by None = others
+    by (Some t) = All-cons (All IsUnlisted) (norm (chars (cow_str_bytes t))) rest (norm-free (chars (cow_str_bytes t))) others
+
+labels-free : (marks : List Annotation) → All (All IsUnlisted) (filter_map label_of marks)
+labels-free [] = All-nil (All IsUnlisted)
+labels-free (a ∷ marks) = label-free a (filter_map label_of marks) (labels-free marks)
+
+primary-free : (marks : List Annotation) → All (All IsUnlisted) (primary_labels marks)
+primary-free marks =
+    All-filter (λ label. not (list_all is_whitespace label)) (All IsUnlisted) (filter_map label_of (filter (λ (a : Annotation). is_primary a.kind) marks)) (labels-free (filter (λ (a : Annotation). is_primary a.kind) marks))
+
+further-free : (labels : List (List ℕ)) → All (All IsUnlisted) labels → All IsUnlisted (flat_map (λ l. codes ", " ++ l) labels)
+further-free [] free = All-nil IsUnlisted
+further-free (label ∷ labels) free =
+    All-append IsUnlisted (codes ", " ++ label) (flat_map (λ l. codes ", " ++ l) labels) (All-append IsUnlisted (codes ", ") label (sep-free 44 refl) (All-head (All IsUnlisted) label labels free)) (further-free labels (All-tail (All IsUnlisted) label labels free))
+
+joined-free : (labels : List (List ℕ)) → All (All IsUnlisted) labels → All IsUnlisted (joined_labels labels)
+joined-free [] free = All-nil IsUnlisted
+joined-free (label ∷ labels) free =
+    All-append IsUnlisted (codes ": ") (label ++ flat_map (λ l. codes ", " ++ l) labels) (sep-free 58 refl) (All-append IsUnlisted label (flat_map (λ l. codes ", " ++ l) labels) (All-head (All IsUnlisted) label labels free) (further-free labels (All-tail (All IsUnlisted) label labels free)))
+
+behind-free : (cause : Option (Snippet Annotation)) → All IsUnlisted (labels_of_cause cause)
+behind-free None = All-nil IsUnlisted
+behind-free (Some s) = joined-free (primary_labels s.markers.items) (primary-free s.markers.items)
+
+digit-free : (c : ℕ) → IsDigit c → is_listed c ≡ false
+digit-free c is = grind (arith, nat_tests)
+
+origin-free : (anonymized : Bool) (path : List ℕ) (place : OriginPlace) → All IsUnlisted (origin_text anonymized path place)
+unfolding origin_text
+origin-free anonymized path place =
+    All-append IsUnlisted (norm (chars path)) (place_text anonymized place) (norm-free (chars path)) (place_text-each IsUnlisted digit-free refl refl anonymized place)
+
+path-free : (r : Renderer) (s : Snippet Annotation) (path : Option (List ℕ)) → All IsUnlisted (place_of_path r s path)
+path-free r s None = All-nil IsUnlisted
+path-free r s (Some path) =
+    let place = place_named true (annotated_lines s.fold (numbered_source s) s.markers.items) in
+    All-append IsUnlisted (origin_text r.anonymized_origin_line_numbers path place) (codes ": ") (origin-free r.anonymized_origin_line_numbers path place) (sep-free 58 refl)
+
+before-free : (r : Renderer) (cause : Option (Snippet Annotation)) → All IsUnlisted (place_of_cause r cause)
+before-free r None = All-nil IsUnlisted
+before-free r (Some s) = path-free r s (path_bytes s.path)
+
+-- ---- the first text begins with the text before the title
+
+first-text : (before label further behind : List ℕ) (lines : List (List ℕ)) → 0 < length lines → (rest : List ℕ) × (slice_index_or (with_end behind (texts_below (before ++ label) further lines)) 0 [] ≡ before ++ rest)
+first-text before label further behind [] some = absurd (omega (arith, some))
+first-text before label further behind (line ∷ lines) some =
+    (label ++ (line ++ behind), ap (λ t. t ++ behind) (append_assoc before label line) ∙ append_assoc before (label ++ line) behind ∙ ap (λ t. before ++ t) (append_assoc label line behind))
+
+-- ---- what a title links to
+
+unlinked : (id : Option Id) → id_links false id ≡ []
+unlinked None = refl
+unlinked (Some id) = of_text (flat_map (λ t. norm (chars (cow_str_bytes t))) (option_to_list id.id))
+  where
+    of_text : (shown : List ℕ) → text_links None shown ≡ []
+    of_text [] = refl
+    of_text (c ∷ cs) = refl
+
+first-links : (r : Renderer) (groups : List Group) (g : Group) (title : Title) → slice_get groups 0 ≡ Some g → g.title ≡ Some title → id_links r.hyperlink title.id ≡ short_links r groups
+first-links r [] g title first titled = cc
+first-links r (h ∷ groups) g title first titled = by r.hyperlink refl
+  where
+    same : h ≡ g
+    same = cc
+
+    own : h.title ≡ Some title
+    own = ap (λ (k : Group). k.title) same ∙ titled
+
+    by : (hyperlink : Bool) → r.hyperlink ≡ hyperlink → id_links r.hyperlink title.id ≡ short_links r (h ∷ groups)
+    by true is = rw (is, own) (sym (append-nil (id_links true title.id ++ []) ∙ append-nil (id_links true title.id)))
+    by false is = rw is (unlinked title.id)
+
+-- a trusted title's text is one of the report's trusted texts
+title-trusted : (groups : List Group) (g : Group) (title : Title) → slice_get groups 0 ≡ Some g → g.title ≡ Some title → title.allows_styling ≡ true → (c : ℕ) → Contains (chars (cow_str_bytes title.text)) c → Contains (flat_map chars (trusted_texts groups)) c
+title-trusted [] g title first titled styled c is = cc
+title-trusted (h ∷ groups) g title first titled styled c is =
+    subst (λ (ts : List (List ℕ)). Contains (flat_map chars ts) c) (sym all) (Contains-append_left (chars text) (flat_map chars more) c is)
+  where
+    text : List ℕ
+    text = cow_str_bytes title.text
+
+    more : List (List ℕ)
+    more = flat_map trusted_of_element h.elements.items ++ trusted_texts groups
+
+    same : h ≡ g
+    same = cc
+
+    own : h.title ≡ Some title
+    own = ap (λ (k : Group). k.title) same ∙ titled
+
+    all : trusted_texts (h ∷ groups) ≡ text ∷ more
+    all = rw (own, styled) refl
+
+-- the first row begins with the first place of the snippet's spans
+begins : (r : Renderer) (g : Group) (title : Title) (rows : List (List Cell)) → rows ≡ short_form r g title → IsGroupDrawable g → (s : Snippet Annotation) → first_cause g.elements.items ≡ Some s → (path : List ℕ) → path_bytes s.path ≡ Some path → list_any (λ a. is_marking a.kind) s.markers.items ≡ true → All (λ a. is_long (cow_str_bytes s.source) a ≡ false) s.markers.items → BeginsWithPlace r s path (row_at rows 0)
+begins r g title rows are drawable s first path has some none =
+    let lines : List KeptLine = annotated_lines s.fold (numbered_source s) s.markers.items in
+    let can : IsDrawable s = subst (λ cause. IfSome cause IsDrawable) first (first_cause-drawable g drawable) in
+    let found = place_known (primary_place lines) (IsNamedPlace (numbered_source s) s.markers.items) (place-named s.fold (numbered_source s) s.markers.items lines can.spans refl some none) in
+    let heading : Heading = heading_of_title title in
+    let before : List ℕ = before_title r g in
+    let text = first-text before (label_text heading) (row_text (indent_cells style.Short (label_width heading))) (behind_title g) (heading_lines heading) (omega (arith, length-slice_split (λ c. c == 10) (drawn_text heading))) in
+    let named : before ≡ origin_text r.anonymized_origin_line_numbers path (place_found (Some found.0)) ++ codes ": " = ap (place_of_cause r) first ∙ ap (place_of_path r s) has ∙ ap (λ o. origin_text r.anonymized_origin_line_numbers path (place_found o) ++ codes ": ") found.1 in
+    record {
+      place = found.0;
+      is = found.2;
+      rest = text.0;
+      text = ap (λ (rs : List (List Cell)). row_text (row_at rs 0)) are ∙ short-texts r.hyperlink before (behind_title g) heading 0 ∙ text.1 ∙ ap (λ cs. cs ++ text.0) named ∙ append_assoc (origin_text r.anonymized_origin_line_numbers path (place_found (Some found.0))) (codes ": ") text.0;
+    }
+
+-- the rows show the first group
+rows-shown : (r : Renderer) (g : Group) (title : Title) (rows : List (List Cell)) → rows ≡ short_form r g title → IsGroupDrawable g → ShowsShort r g title rows
+rows-shown r g title rows are drawable =
+    let heading : Heading = heading_of_title title in
+    record {
+      rows_are = are;
+      texts = λ i. ap (λ (rs : List (List Cell)). row_text (row_at rs i)) are ∙ short-texts r.hyperlink (before_title r g) (behind_title g) heading i;
+      origin = begins r g title rows are drawable;
+      free = subst (All (IsFreeButText heading)) (sym are) (short-free r.hyperlink (before_title r g) (behind_title g) heading (before-free r (first_cause g.elements.items)) (behind-free (first_cause g.elements.items)));
+    }
+
+-- a text that prints the one grid
+prints-first : (sheet : Stylesheet) (grid : GroupGrid) (level : LevelInner) (text : List ℕ) → grid.level ≡ level → PrintsGrids sheet (grid ∷ []) text → Prints sheet level grid.buffer text
+prints-first sheet grid level text leveled prints = of_parts prints.parts prints.printed prints.joined
+  where
+    of_parts : (parts : List (List ℕ)) → AllZip (λ (d : GroupGrid) part. Prints sheet d.level d.buffer part) (grid ∷ []) parts → text ≡ join_with_byte 10 parts → Prints sheet level grid.buffer text
+    of_parts [] printed joined = absurd printed
+    of_parts (part ∷ []) printed joined =
+        subst (λ l. Prints sheet l grid.buffer text) leveled (subst (Prints sheet grid.level grid.buffer) (sym joined) printed.0)
+    of_parts (part ∷ next ∷ parts) printed joined = absurd printed.1
+
+-- the texts that print the one grid of a report's short form show it
+pub short-shown : (r : Renderer) (groups : List Group) (grids : List GroupGrid) (sheets : List Stylesheet) (texts : List (List ℕ)) → All IsGroupDrawable groups → IsShortPage r groups grids → AllZip (λ sheet text. PrintsGrids sheet grids text) sheets texts → ShortShown r groups sheets texts
+short-shown r groups grids sheets texts drawable page prints =
+    let g : Group = page.group in
+    let title : Title = page.title in
+    let heading : Heading = heading_of_title title in
+    let rows : List (List Cell) = page.grid.buffer in
+    let can : IsGroupDrawable g = subst IsGroupDrawable (get_or_from_slice_get groups 0 g g page.first) (All-get_or IsGroupDrawable groups 0 g (slice_get_within groups 0 g page.first) drawable) in
+    let shows : ShowsShort r g title rows = rows-shown r g title rows page.rows can in
+    let links : links_of rows ≡ short_links r groups = ap links_of page.rows ∙ short-links r.hyperlink (before_title r g) (behind_title g) heading ∙ first-links r groups g title page.first page.titled in
+    let each : (sheet : Stylesheet) (text : List ℕ) → PrintsGrids sheet grids text → Prints sheet g.level rows text = λ sheet text given. prints-first sheet page.grid g.level text page.level (subst (λ gs. PrintsGrids sheet gs text) page.grids_are given) in
+    record {
+      group = g;
+      title = title;
+      first = page.first;
+      titled = page.titled;
+      rows = rows;
+      shows = shows;
+      printed = AllZip-weaker (λ sheet text. PrintsGrids sheet grids text) (λ sheet text. Prints sheet g.level rows text) each sheets texts prints;
+      free = free_text (trusted_texts groups) rows (All-weaker (IsFreeButText heading) (IsFreeRow (trusted_texts groups)) (own_row (trusted_texts groups) heading (title-trusted groups g title page.first page.titled)) rows shows.free);
+      links = links;
+      plain = λ none. AllZip-weaker (λ sheet text. PrintsGrids sheet grids text) (λ sheet text. is_plain_sheet sheet ≡ true → text ≡ encode_utf8_all (plain_text rows)) (λ sheet text given plain. plain_woven sheet text (plain_text rows) (links_of rows) plain (links ∙ none) (IsWoven-from_prints sheet g.level rows text (each sheet text given))) sheets texts prints;
+    }

@@ -1,0 +1,78 @@
+-- The short form of a report: what stands before the title of its first group, and behind that title's first row.
+use Rattle.std.specs.Prelude.{ℕ, not, Bool, true, false, List, [], ◌∷◌, ◌++◌, Option, None, Some, chars, codes, filter}
+use Rattle.std.specs.Char.{is_whitespace}
+use Rattle.std.specs.Cow.{cow_str_bytes}
+use Rattle.std.specs.List.{filter_map, flat_map, list_all}
+use Rattle.std.specs.Option.{option_map}
+use Rattle.snippet_model.specs.Heading.{heading_of_title}
+use Rattle.snippet_model.specs.declared.snippet.Annotation.{Annotation}
+use Rattle.snippet_model.specs.declared.snippet.AnnotationKind.{AnnotationKind}
+use Rattle.snippet_model.specs.declared.snippet.AnnotationKind.TheVariants.{Primary, Context, Visible}
+use Rattle.snippet_model.specs.declared.snippet.Element.{Element}
+use Rattle.snippet_model.specs.declared.snippet.Element.TheVariants as element
+use Rattle.snippet_model.specs.declared.snippet.Group.{Group}
+use Rattle.snippet_model.specs.declared.snippet.Snippet.{Snippet}
+use Rattle.snippet_model.specs.declared.snippet.Title.{Title}
+use Rattle.snippet_parts.specs.Annotated.{annotated_lines}
+use Rattle.snippet_style.specs.Grid.{Cell}
+use Rattle.snippet_text.specs.Normalized.{norm}
+use Rattle.snippet_titles.specs.Origin.{origin_text}
+use Rattle.snippet_titles.specs.Short.{short_rows}
+use Rattle.annotate_snippets.specs.Around.{path_bytes}
+use Rattle.annotate_snippets.specs.Gutter.{numbered_source}
+use Rattle.annotate_snippets.specs.Rows.{place_named}
+use Rattle.annotate_snippets.specs.declared.renderer.Renderer.{Renderer}
+
+-- the first annotated snippet of some elements
+abbrev pub first_cause : List Element → Option (Snippet Annotation)
+first_cause [] = None
+first_cause (element.Cause snippet ∷ es) = Some snippet
+first_cause (element.Message message ∷ es) = first_cause es
+first_cause (element.Suggestion snippet ∷ es) = first_cause es
+first_cause (element.Origin origin ∷ es) = first_cause es
+first_cause (element.Padding padding ∷ es) = first_cause es
+
+-- the place of a snippet's spans in its file, behind its path: that which the head of the group's primary snippet names
+abbrev pub place_of_path : Renderer → Snippet Annotation → Option (List ℕ) → List ℕ
+place_of_path r s None = []
+place_of_path r s (Some path) =
+    origin_text r.anonymized_origin_line_numbers path (place_named true (annotated_lines s.fold (numbered_source s) s.markers.items)) ++ codes ": "
+
+abbrev pub place_of_cause : Renderer → Option (Snippet Annotation) → List ℕ
+place_of_cause r None = []
+place_of_cause r (Some s) = place_of_path r s (path_bytes s.path)
+
+-- whether a span is primary
+abbrev pub is_primary : AnnotationKind → Bool
+is_primary Primary = true
+is_primary Context = false
+is_primary Visible = false
+
+-- a label, normalised
+abbrev pub label_of : Annotation → Option (List ℕ)
+label_of a = option_map (λ t. norm (chars (cow_str_bytes t))) a.label
+
+-- the labels of primary spans, normalised, as given, without those that are blank
+abbrev pub primary_labels : List Annotation → List (List ℕ)
+primary_labels marks =
+    filter (λ label. not (list_all is_whitespace label)) (filter_map label_of (filter (λ a. is_primary a.kind) marks))
+
+-- these labels in a row, behind a colon: `: a, b`; nothing where there are none
+abbrev pub joined_labels : List (List ℕ) → List ℕ
+joined_labels [] = []
+joined_labels (label ∷ labels) = codes ": " ++ label ++ flat_map (λ l. codes ", " ++ l) labels
+
+abbrev pub labels_of_cause : Option (Snippet Annotation) → List ℕ
+labels_of_cause None = []
+labels_of_cause (Some s) = joined_labels (primary_labels s.markers.items)
+
+-- what stands before the title of a group's short form, and behind its first row
+abbrev pub before_title : Renderer → Group → List ℕ
+before_title r g = place_of_cause r (first_cause g.elements.items)
+
+abbrev pub behind_title : Group → List ℕ
+behind_title g = labels_of_cause (first_cause g.elements.items)
+
+-- the rows of a group's short form
+abbrev pub short_form : Renderer → Group → Title → List (List Cell)
+short_form r g title = short_rows r.hyperlink (before_title r g) (behind_title g) (heading_of_title title)

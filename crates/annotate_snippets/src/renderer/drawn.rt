@@ -1,0 +1,104 @@
+//! A report before any sheet is known, in each form, and the texts that it gives under sheets.
+ghost use Rattle.std.specs.Prelude.{◌≡◌, All, None, IfOk, map, string_bytes};
+ghost use Rattle.std.specs.List.{AllZip};
+ghost use Rattle.annotate_snippets.specs.Drawn.{IsDrawnAs, IsPrintedAs, IsShortPage};
+ghost use Rattle.annotate_snippets.specs.Fault as fault;
+ghost use Rattle.annotate_snippets.specs.Prepared.{IsGroupDrawable};
+ghost use Rattle.annotate_snippets.specs.declared.renderer.form.Form.TheVariants as form;
+
+use crate::renderer::Renderer;
+use crate::renderer::form::Form;
+use crate::renderer::graphic::{GroupGrid, grids, printed};
+use crate::renderer::short::short_grid;
+use crate::renderer::text_form::text_form;
+use snippet_model::snippet::Group;
+use snippet_style::Stylesheet;
+use snippet_text_form::TextForm;
+use std::alloc::{AllocError, Global};
+
+/// A report before any sheet is known.
+#[derive(Drop)]
+pub enum Drawn<'a> {
+    /// The grids of its groups, or in the short form of its first title.
+    Page(Vec<GroupGrid<'a>>),
+    /// Its text form.
+    Text(TextForm<'a>),
+}
+
+/// Draws a report in a form.
+///
+/// # Errors
+///
+/// There is no memory for it.
+pub fn draw<'a>(
+    alloc: Global,
+    renderer: &Renderer,
+    form: Form,
+    groups: &'a [Group<'a>],
+) -> Result<Drawn<'a>, AllocError>
+    requires drawable { All IsGroupDrawable groups.now }
+    requires titled { fault.missing_title form groups.now ≡ None }
+    ensures drawn { IfOk result (λ drawn. IsDrawnAs form renderer.now groups.now drawn) }
+{
+    match form {
+        Form::Graphic => Ok(Drawn::Page(grids(alloc, renderer, groups)?)),
+        Form::Short => Ok(Drawn::Page(short_page(alloc, renderer, groups)?)),
+        Form::Text => Ok(Drawn::Text(text_form(alloc, renderer, groups)?)),
+    }
+}
+
+/// The one grid of the short form.
+fn short_page<'a>(
+    alloc: Global,
+    renderer: &Renderer,
+    groups: &'a [Group<'a>],
+) -> Result<Vec<GroupGrid<'a>>, AllocError>
+    requires drawable { All IsGroupDrawable groups.now }
+    requires titled { fault.missing_title form.Short groups.now ≡ None }
+    ensures drawn { IfOk result (λ grids. IsShortPage renderer.now groups.now grids.items) }
+{
+    let mut grids = Vec::new(alloc);
+    if let Some(group) = groups.first()
+        && let Some(title) = &group.title
+    {
+        grids.push(short_grid(alloc, renderer, group, title)?)?;
+    }
+    Ok(grids)
+}
+
+/// The text of a report under a sheet.
+///
+/// # Errors
+///
+/// There is no memory for the text.
+pub fn text_under(
+    alloc: Global,
+    drawn: &Drawn<'_>,
+    sheet: &Stylesheet,
+) -> Result<String, AllocError>
+    ensures printed { IfOk result (λ text. IsPrintedAs drawn.now sheet.now (string_bytes text)) }
+{
+    match drawn {
+        Drawn::Page(grids) => printed(alloc, grids, sheet),
+        Drawn::Text(form) => form.render(alloc, sheet),
+    }
+}
+
+/// The texts of a report under some sheets: one under each, in order.
+///
+/// # Errors
+///
+/// There is no memory for the texts.
+pub fn texts_under(
+    alloc: Global,
+    drawn: &Drawn<'_>,
+    sheets: &[Stylesheet],
+) -> Result<Vec<String>, AllocError>
+    ensures printed { IfOk result (λ texts. AllZip (IsPrintedAs drawn.now) sheets.now (map string_bytes texts.items)) }
+{
+    let mut texts = Vec::new(alloc);
+    for sheet in sheets {
+        texts.push(text_under(alloc, drawn, sheet)?)?;
+    }
+    Ok(texts)
+}
