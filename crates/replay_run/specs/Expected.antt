@@ -1,5 +1,6 @@
 -- When a case became what is expected of it.
 use Rattle.std.specs.Prelude.{◌≡◌, ℕ, List, map, string_bytes}
+use Rattle.std.specs.Cow.{cow_str_bytes}
 use Rattle.replay_run.specs.declared.expected.Expected.{Expected}
 use Rattle.replay_run.specs.declared.expected.Wanted.{Wanted}
 use Rattle.replay_run.specs.declared.expected.Wanted.TheVariants as wanted
@@ -9,11 +10,11 @@ use Rattle.replay_run.specs.declared.outcome.Outcome.TheVariants as outcome
 -- the outcome is the wanted one: the same texts in the same order, or a refusal of the same name and words
 abbrev pub IsWanted : Wanted → Outcome → Type 0
 IsWanted (wanted.Texts texts) (outcome.Texts drawn) =
-    map (λ t. t.text.now) texts.items ≡ map string_bytes drawn.items
+    map cow_str_bytes texts.items ≡ map string_bytes drawn.items
 IsWanted (wanted.Texts texts) (outcome.Refused name words) = ⊥
 IsWanted (wanted.Refused name words) (outcome.Texts drawn) = ⊥
 IsWanted (wanted.Refused name words) (outcome.Refused drawn_name drawn_words) =
-    (name.text.now ≡ drawn_name.now) × (words.text.now ≡ string_bytes drawn_words)
+    (cow_str_bytes name ≡ drawn_name.now) × (cow_str_bytes words ≡ string_bytes drawn_words)
 
 -- the case of this name became what is expected: of this very case, and the wanted outcome
 abbrev pub IsMet : Expected → List ℕ → Outcome → Type 0

@@ -1,13 +1,14 @@
 //! What is expected of a case, as a line of JSON says it.
 
 ghost use Rattle.std.specs.Prelude.{◌≡◌, ◌↔◌, IsTrue, map, string_bytes};
+ghost use Rattle.std.specs.Cow.{cow_str_bytes};
 ghost use Rattle.replay_run.specs.Expected.{IsMet, IsWanted};
 
-use crate::case::Text;
 use crate::fault::{Fault, Place};
 use crate::node::{Node, Read};
 use crate::outcome::Outcome;
 use crate::shape::Shape;
+use annotate_snippets::text::CowStr;
 use serde_json::Value;
 use std::alloc::Global;
 use std::io;
@@ -25,9 +26,9 @@ pub struct Expected<'v> {
 #[derive(Drop)]
 pub enum Wanted<'v> {
     /// These texts, in order.
-    Texts(Vec<Text<'v>>),
+    Texts(Vec<CowStr<'v>>),
     /// A refusal of this name, which prints this.
-    Refused(Text<'v>, Text<'v>),
+    Refused(CowStr<'v>, CowStr<'v>),
 }
 
 /// The answer that a line expects.
@@ -38,9 +39,8 @@ pub fn expected_of<'v>(alloc: Global, line: &'v Value) -> Result<Expected<'v>, F
         value: line,
         place: &place,
     };
-    let id: Text<'v> = answer.needed("id")?;
     Ok(Expected {
-        id: id.text,
+        id: answer.needed("id")?,
         wanted: wanted_of(answer)?,
     })
 }
@@ -76,15 +76,15 @@ fn is_wanted(wanted: &Wanted<'_>, outcome: &Outcome) -> bool
         Outcome::Refused(name, text) => match wanted {
             Wanted::Texts(_) => false,
             Wanted::Refused(wanted, words) => {
-                wanted.text == *name && words.text == text.as_str()
+                wanted.as_str() == *name && words.as_str() == text.as_str()
             }
         },
     }
 }
 
 /// Whether the texts are equal, one by one.
-fn are_equal(wanted: &[Text<'_>], texts: &[String]) -> bool
-    ensures equal { IsTrue result ↔ (map (λ t. t.text.now) wanted.now ≡ map string_bytes texts.now) }
+fn are_equal(wanted: &[CowStr<'_>], texts: &[String]) -> bool
+    ensures equal { IsTrue result ↔ (map cow_str_bytes wanted.now ≡ map string_bytes texts.now) }
 {
     if wanted.len() != texts.len() {
         return false;
@@ -98,10 +98,10 @@ fn are_equal(wanted: &[Text<'_>], texts: &[String]) -> bool
 }
 
 /// Whether a text is the wanted one.
-fn is_text(wanted: &Text<'_>, text: &String) -> bool
-    ensures value { IsTrue result ↔ (wanted.now.text.now ≡ string_bytes text.now) }
+fn is_text(wanted: &CowStr<'_>, text: &String) -> bool
+    ensures value { IsTrue result ↔ (cow_str_bytes wanted.now ≡ string_bytes text.now) }
 {
-    wanted.text == text.as_str()
+    wanted.as_str() == text.as_str()
 }
 
 /// Writes each text, or what the refusal prints.
@@ -109,10 +109,10 @@ pub fn write_wanted<W: Write>(wanted: &Wanted<'_>, out: &mut W) -> io::Result<()
     match wanted {
         Wanted::Texts(texts) => {
             for text in texts {
-                out.writeln(text.text)?;
+                out.writeln(text.as_str())?;
             }
             Ok(())
         }
-        Wanted::Refused(_, text) => out.writeln(text.text),
+        Wanted::Refused(_, text) => out.writeln(text.as_str()),
     }
 }

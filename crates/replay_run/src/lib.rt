@@ -1,7 +1,6 @@
 //! What the program `replay` does, over words, files and writers: reports as JSON lines, drawn, compared and timed.
 #![tactic(auto)]
 
-pub mod build;
 pub mod case;
 pub mod check;
 pub mod command;

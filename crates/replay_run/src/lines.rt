@@ -1,7 +1,8 @@
 //! Lines of cases, answered one after another. Nothing of a line is kept behind it.
 
-ghost use Rattle.std.specs.Prelude.{[], ◌∷◌, ◌++◌, OnOk};
+ghost use Rattle.std.specs.Prelude.{[], ◌∷◌, ◌++◌, OnOk, IfOk};
 ghost use Rattle.std.specs.Io.KnownBytes.{Appends};
+ghost use Rattle.annotate_snippets.specs.Fits.{ReportFits};
 ghost use Rattle.replay_run.specs.Growth.{Grows};
 
 use crate::case::Case;
@@ -65,11 +66,9 @@ pub fn case_value(alloc: Global, line: io::Result<String>, number: u64) -> Resul
 }
 
 /// The case that the line of this number describes.
-pub fn numbered_case<'v>(
-    alloc: Global,
-    value: &'v Value,
-    number: u64,
-) -> Result<Case<'v>, Trouble> {
+pub fn numbered_case<'v>(alloc: Global, value: &'v Value, number: u64) -> Result<Case<'v>, Trouble>
+    ensures fits { IfOk result (λ case. ReportFits case.groups.items) }
+{
     case_of(alloc, value).map_err(|fault| Trouble::Case(number, fault))
 }
 
@@ -97,6 +96,7 @@ fn write_answer<W: Write>(
     is_first: bool,
     out: &mut W,
 ) -> Result<(), Trouble>
+    requires fits { ReportFits case.now.groups.items }
     ensures added { OnOk result (Grows (W.contents out.old) (W.contents out.new)) }
 {
     let outcome = outcome_of(alloc, case)?;

@@ -1,6 +1,6 @@
 //! Values of JSON, where they stand, and what they are read as.
 
-ghost use Rattle.std.specs.Prelude.{◌≡◌, IfOk, MatchOption, Some, None};
+ghost use Rattle.std.specs.Prelude.{◌≡◌, ◌⊎◌, IfOk, IfSome, MatchOption, Some, None};
 ghost use Rattle.serde_json.specs.Data.{Data};
 ghost use Rattle.serde_json.specs.Find.{get};
 ghost use Rattle.serde_json.specs.View.{view};
@@ -20,14 +20,19 @@ pub struct Node<'v, 'p> {
 
 /// What a value of JSON may be read as.
 pub trait Read<'v> {
+    /// What the value has to do with what it is read as.
     ghost reads: { Data → Self → Type 0 } = { λ _ _. Unit {0} };
+
+    /// What holds of whatever is read: that its texts fit.
+    ghost fits: { Self → Type 0 } = { λ _. Unit {0} };
 
     /// What has to stand there.
     const EXPECTED: Expectation;
 
     /// What the value is read as; a fault where it isn't what is expected.
     fn read(node: Node<'v, '_>) -> Result<Self, Fault>
-        ensures value { IfOk result (λ x. reads (view node.entry.value.now) x) };
+        ensures value { IfOk result (λ x. reads (view node.entry.value.now) x) }
+        ensures fits { IfOk result fits };
 }
 
 impl<'v> Node<'v, '_> {
@@ -54,6 +59,7 @@ impl<'v> Node<'v, '_> {
     pub fn optional<T: Read<'v>>(self, name: &str) -> Result<Option<T>, Fault>
         ensures value { IfOk result (λ o. MatchOption o (get name.now (view self.entry.value.now) ≡ None)
             (λ x. (d : Data) × (get name.now (view self.entry.value.now) ≡ Some d) × T.reads d x)) }
+        ensures fits { IfOk result (λ o. IfSome o T.fits) }
     {
         let Some(value) = self.value.get(name) else {
             return Ok(None);
@@ -71,6 +77,7 @@ impl<'v> Node<'v, '_> {
     pub fn needed<T: Read<'v>>(self, name: &str) -> Result<T, Fault>
         ensures value { IfOk result (λ x.
             (d : Data) × (get name.now (view self.entry.value.now) ≡ Some d) × T.reads d x) }
+        ensures fits { IfOk result T.fits }
     {
         match self.optional(name)? {
             Some(read) => Ok(read),
@@ -78,6 +85,20 @@ impl<'v> Node<'v, '_> {
                 let place = Place::Field(self.place, name);
                 Err(Fault::missing(self.alloc, &place, T::EXPECTED))
             }
+        }
+    }
+
+    /// What the field of this name is read as, and this value where there is none.
+    pub fn or<T: Read<'v> + Drop>(self, name: &str, missing: T) -> Result<T, Fault>
+        requires fits { T.fits missing }
+        ensures value { IfOk result (λ x.
+            ((get name.now (view self.entry.value.now) ≡ None) × (x ≡ missing))
+            ⊎ ((d : Data) × (get name.now (view self.entry.value.now) ≡ Some d) × T.reads d x)) }
+        ensures fits { IfOk result T.fits }
+    {
+        match self.optional(name)? {
+            Some(read) => Ok(read),
+            None => Ok(missing),
         }
     }
 }

@@ -1,6 +1,7 @@
 //! What becomes of a case: texts or a refusal.
 
-use crate::build::{groups_of, renderer_of};
+ghost use Rattle.annotate_snippets.specs.Fits.{ReportFits};
+
 use crate::case::Case;
 use annotate_snippets::renderer::RenderError;
 use serde_json::{Value, json};
@@ -16,19 +17,17 @@ pub enum Outcome {
 }
 
 /// What becomes of a case.
-pub fn outcome_of(alloc: Global, case: &Case<'_>) -> Result<Outcome, AllocError> {
-    match texts_of(alloc, case) {
+pub fn outcome_of(alloc: Global, case: &Case<'_>) -> Result<Outcome, AllocError>
+    requires fits { ReportFits case.now.groups.items }
+{
+    match case
+        .renderer
+        .render_sheets(alloc, &case.groups, &case.sheets)
+    {
         Ok(texts) => Ok(Outcome::Texts(texts)),
         Err(RenderError::Memory(refused)) => Err(refused),
         Err(refusal) => Ok(Outcome::Refused(name_of(&refusal), format!(in alloc; "{refusal}")?)),
     }
-}
-
-/// The texts of a case, one under each sheet.
-fn texts_of(alloc: Global, case: &Case<'_>) -> Result<Vec<String>, RenderError> {
-    let renderer = renderer_of(case.settings);
-    let groups = groups_of(alloc, &case.groups)?;
-    renderer.render_sheets(alloc, &groups, &case.sheets)
 }
 
 /// The name of a refusal.

@@ -1,20 +1,28 @@
 //! How a case is read from the JSON of its line: which fields there are, which of them may be missing, and what they then
 //! are.
 
-use crate::case::{
-    Case, Element, Group, Head, Level, LevelKind, LevelName, Mark, Message, Origin, Patch,
-    Settings, Source, Text, Title,
-};
+ghost use Rattle.std.specs.Prelude.{IfOk};
+ghost use Rattle.annotate_snippets.specs.Fits.{ReportFits, GroupFits, TitleFits, LevelFits, MessageFits, ElementFits, AnnotationFits, PatchFits, SnippetFits, TextFits};
+ghost use Rattle.std.specs.Cow.{cow_str_bytes};
+
+use crate::case::Case;
 use crate::fault::{Fault, Place};
 use crate::node::{Node, Read};
 use crate::shape::{Expectation, Shape};
-use annotate_snippets::AnnotationKind;
-use annotate_snippets::renderer::{DEFAULT_TERM_WIDTH, Stylesheet};
+use annotate_snippets::level::LevelName;
+use annotate_snippets::renderer::parts::LevelInner;
+use annotate_snippets::renderer::{DEFAULT_TERM_WIDTH, DecorStyle, Stylesheet};
+use annotate_snippets::{
+    Annotation, AnnotationKind, Element, Group, Level, Message, Origin, Padding, Patch, Renderer,
+    Snippet, Title,
+};
 use serde_json::Value;
 use std::alloc::Global;
 
 /// The case that a line describes.
-pub fn case_of<'v>(alloc: Global, line: &'v Value) -> Result<Case<'v>, Fault> {
+pub fn case_of<'v>(alloc: Global, line: &'v Value) -> Result<Case<'v>, Fault>
+    ensures fits { IfOk result (λ case. ReportFits case.groups.items) }
+{
     let place = Place::Line;
     let case = Node {
         alloc,
@@ -22,162 +30,172 @@ pub fn case_of<'v>(alloc: Global, line: &'v Value) -> Result<Case<'v>, Fault> {
         place: &place,
     };
     case.has_only(Shape::Case)?;
-    let id: Text<'v> = case.needed("id")?;
-    let settings = case.optional("settings")?;
-    let sheets = match case.optional("sheets")? {
-        Some(sheets) => sheets,
-        None => vec![in alloc; Stylesheet::plain()]?,
-    };
     Ok(Case {
-        id: id.text,
-        settings: settings.unwrap_or(Settings::PLAIN),
-        sheets,
+        id: case.needed("id")?,
+        renderer: case.or("settings", Renderer::plain())?,
+        sheets: sheets_of(case)?,
         groups: case.needed("groups")?,
     })
 }
 
-impl Settings {
-    /// Those of the plain renderer.
-    pub const PLAIN: Settings = Settings {
-        no_graphics: false,
-        short_message: false,
-        term_width: DEFAULT_TERM_WIDTH,
-        unicode: false,
-        anonymized_snippet: false,
-        anonymized_origin: false,
-        hyperlink: false,
-    };
+/// The sheets of a case: the plain one where the field is missing.
+fn sheets_of(case: Node<'_, '_>) -> Result<Vec<Stylesheet>, Fault> {
+    match case.optional("sheets")? {
+        Some(sheets) => Ok(sheets),
+        None => Ok(vec![in case.alloc; Stylesheet::plain()]?),
+    }
 }
 
-impl<'v> Read<'v> for Settings {
+/// The settings, which are those of the plain renderer where fields are missing.
+impl<'v> Read<'v> for Renderer {
     const EXPECTED: Expectation = Expectation::Object;
 
     fn read(node: Node<'v, '_>) -> Result<Self, Fault> {
         node.has_only(Shape::Settings)?;
-        let term_width = node.optional("term_width")?;
-        Ok(Settings {
-            no_graphics: is_on(node, "no_graphics")?,
-            short_message: is_on(node, "short_message")?,
-            term_width: term_width.unwrap_or(DEFAULT_TERM_WIDTH),
-            unicode: is_on(node, "unicode")?,
-            anonymized_snippet: is_on(node, "anonymized_snippet")?,
-            anonymized_origin: is_on(node, "anonymized_origin")?,
-            hyperlink: is_on(node, "hyperlink")?,
+        Ok(Renderer {
+            no_graphics: node.or("no_graphics", false)?,
+            short_message: node.or("short_message", false)?,
+            term_width: node.or("term_width", DEFAULT_TERM_WIDTH)?,
+            decor_style: decor_of(node)?,
+            anonymized_snippet_line_numbers: node.or("anonymized_snippet", false)?,
+            anonymized_origin_line_numbers: node.or("anonymized_origin", false)?,
+            hyperlink: node.or("hyperlink", false)?,
+            stylesheet: Stylesheet::plain(),
         })
     }
 }
 
-/// Whether a switch is on, which is off where the field is missing.
-fn is_on(node: Node<'_, '_>, name: &str) -> Result<bool, Fault> {
-    Ok(node.optional(name)?.unwrap_or(false))
+/// The strokes that the settings ask for.
+fn decor_of(settings: Node<'_, '_>) -> Result<DecorStyle, Fault> {
+    if settings.or("unicode", false)? {
+        Ok(DecorStyle::Unicode)
+    } else {
+        Ok(DecorStyle::Ascii)
+    }
 }
 
 impl<'v> Read<'v> for Group<'v> {
+    ghost fits = { GroupFits };
+
     const EXPECTED: Expectation = Expectation::Object;
 
     fn read(node: Node<'v, '_>) -> Result<Self, Fault> {
         node.has_only(Shape::Group)?;
-        let Some(title) = node.needed("title")? else {
-            let level: Level<'v> = node.needed("level")?;
-            return Ok(Group {
-                head: Head::Untitled(level),
-                elements: node.needed("elements")?,
-            });
+        let title: Option<Title<'v>> = node.needed("title")?;
+        let level = match &title {
+            Some(title) => title.level.kind,
+            None => level_of(node)?,
         };
         Ok(Group {
-            head: Head::Titled(title),
+            level,
+            title,
             elements: node.needed("elements")?,
         })
     }
 }
 
-/// `null`, or what stands there.
-impl<'v, T: Read<'v>> Read<'v> for Option<T> {
-    const EXPECTED: Expectation = Expectation::ObjectOrNull;
-
-    fn read(node: Node<'v, '_>) -> Result<Self, Fault> {
-        if node.value.is_null() {
-            return Ok(None);
-        }
-        Ok(Some(T::read(node)?))
-    }
+/// The level of a group without title.
+fn level_of(group: Node<'_, '_>) -> Result<LevelInner, Fault> {
+    let level: Level<'_> = group.needed("level")?;
+    Ok(level.kind)
 }
 
 impl<'v> Read<'v> for Title<'v> {
+    ghost fits = { TitleFits };
+
     const EXPECTED: Expectation = Expectation::Object;
 
     fn read(node: Node<'v, '_>) -> Result<Self, Fault> {
         node.has_only(Shape::Title)?;
-        Ok(Title {
-            level: node.needed("level")?,
-            text: node.needed("text")?,
-            is_primary: node.needed("primary")?,
-            id: node.optional("id")?,
-            url: node.optional("url")?,
-        })
+        let level: Level<'v> = node.needed("level")?;
+        let text = node.needed("text")?;
+        let title = if node.needed("primary")? {
+            level.primary_title_cow(text)
+        } else {
+            level.secondary_title_cow(text)
+        };
+        with_id(node, title)
+    }
+}
+
+/// The title with its id and its address, where they are there.
+fn with_id<'v>(node: Node<'v, '_>, title: Title<'v>) -> Result<Title<'v>, Fault>
+    requires fits { TitleFits title }
+    ensures fits { IfOk result TitleFits }
+{
+    let title = match node.optional("id")? {
+        Some(id) => title.id_cow(id),
+        None => title,
+    };
+    match node.optional("url")? {
+        Some(url) => Ok(title.id_url_cow(url)),
+        None => Ok(title),
     }
 }
 
 impl<'v> Read<'v> for Level<'v> {
+    ghost fits = { LevelFits };
+
     const EXPECTED: Expectation = Expectation::Object;
 
     fn read(node: Node<'v, '_>) -> Result<Self, Fault> {
         node.has_only(Shape::Level)?;
-        let name: Option<Option<Text<'v>>> = node.optional("name")?;
-        let name = match name {
+        let kind = node.needed("kind")?;
+        let name = match node.optional("name")? {
             None => LevelName::Standard,
             Some(None) => LevelName::Hidden,
             Some(Some(own)) => LevelName::Own(own),
         };
-        Ok(Level {
-            kind: node.needed("kind")?,
-            name,
-        })
+        Ok(Level { name, kind })
     }
 }
 
-impl<'v> Read<'v> for LevelKind {
+impl<'v> Read<'v> for LevelInner {
     const EXPECTED: Expectation = Expectation::LevelKind;
 
     fn read(node: Node<'v, '_>) -> Result<Self, Fault> {
         match node.value.as_str() {
-            Some("error") => Ok(LevelKind::Error),
-            Some("warning") => Ok(LevelKind::Warning),
-            Some("info") => Ok(LevelKind::Info),
-            Some("note") => Ok(LevelKind::Note),
-            Some("help") => Ok(LevelKind::Help),
+            Some("error") => Ok(LevelInner::Error),
+            Some("warning") => Ok(LevelInner::Warning),
+            Some("info") => Ok(LevelInner::Info),
+            Some("note") => Ok(LevelInner::Note),
+            Some("help") => Ok(LevelInner::Help),
             _ => Err(node.unexpected(Self::EXPECTED)),
         }
     }
 }
 
 impl<'v> Read<'v> for Element<'v> {
+    ghost fits = { ElementFits };
+
     const EXPECTED: Expectation = Expectation::Element;
 
     fn read(node: Node<'v, '_>) -> Result<Self, Fault> {
         node.has_only(Shape::Element)?;
-        match node.value.as_object() {
-            Some(fields) if fields.len() == 1 => {}
-            _ => return Err(node.unexpected(Self::EXPECTED)),
+        match only_field(node) {
+            Some("message") => Ok(Element::Message(node.needed("message")?)),
+            Some("cause") => Ok(Element::Cause(node.needed("cause")?)),
+            Some("suggestion") => Ok(Element::Suggestion(node.needed("suggestion")?)),
+            Some("origin") => Ok(Element::Origin(node.needed("origin")?)),
+            Some("padding") => Ok(Element::Padding(node.needed("padding")?)),
+            _ => Err(node.unexpected(Self::EXPECTED)),
         }
-        if let Some(message) = node.optional("message")? {
-            return Ok(Element::Message(message));
-        }
-        if let Some(Cause(source, marks)) = node.optional("cause")? {
-            return Ok(Element::Cause(source, marks));
-        }
-        if let Some(Suggestion(source, patches)) = node.optional("suggestion")? {
-            return Ok(Element::Suggestion(source, patches));
-        }
-        if let Some(origin) = node.optional("origin")? {
-            return Ok(Element::Origin(origin));
-        }
-        let _: Padding = node.needed("padding")?;
-        Ok(Element::Padding)
     }
 }
 
+/// The name of an object's field; `None` where it hasn't just one.
+fn only_field<'v>(node: Node<'v, '_>) -> Option<&'v str> {
+    let fields = node.value.as_object()?;
+    if fields.len() != 1 {
+        return None;
+    }
+    let name = fields.keys().next()?;
+    Some(name.as_str())
+}
+
 impl<'v> Read<'v> for Message<'v> {
+    ghost fits = { MessageFits };
+
     const EXPECTED: Expectation = Expectation::Object;
 
     fn read(node: Node<'v, '_>) -> Result<Self, Fault> {
@@ -189,57 +207,60 @@ impl<'v> Read<'v> for Message<'v> {
     }
 }
 
-/// What the field `cause` holds.
-#[derive(Drop)]
-struct Cause<'v>(Source<'v>, Vec<Mark<'v>>);
+/// What a source is marked with.
+pub trait Mark<'v>: Read<'v> {
+    /// The object of a source that is marked so.
+    const SNIPPET: Shape;
 
-impl<'v> Read<'v> for Cause<'v> {
+    /// The field that lists the marks.
+    const LIST: &'static str;
+}
+
+impl<'v> Mark<'v> for Annotation<'v> {
+    const SNIPPET: Shape = Shape::Cause;
+
+    const LIST: &'static str = "annotations";
+}
+
+impl<'v> Mark<'v> for Patch<'v> {
+    const SNIPPET: Shape = Shape::Suggestion;
+
+    const LIST: &'static str = "patches";
+}
+
+impl<'v, T: Mark<'v> + Drop> Read<'v> for Snippet<'v, T> {
+    ghost fits = { SnippetFits T.fits };
+
     const EXPECTED: Expectation = Expectation::Object;
 
     fn read(node: Node<'v, '_>) -> Result<Self, Fault> {
-        node.has_only(Shape::Cause)?;
-        Ok(Cause(source_of(node)?, node.needed("annotations")?))
+        node.has_only(T::SNIPPET)?;
+        Ok(Snippet {
+            source: node.needed("source")?,
+            path: node.optional("path")?,
+            line_start: node.or("line_start", 1)?,
+            line_numbering: node.or("line_numbering", true)?,
+            fold: node.or("fold", true)?,
+            markers: node.needed(T::LIST)?,
+        })
     }
 }
 
-/// What the field `suggestion` holds.
-#[derive(Drop)]
-struct Suggestion<'v>(Source<'v>, Vec<Patch<'v>>);
+impl<'v> Read<'v> for Annotation<'v> {
+    ghost fits = { AnnotationFits };
 
-impl<'v> Read<'v> for Suggestion<'v> {
-    const EXPECTED: Expectation = Expectation::Object;
-
-    fn read(node: Node<'v, '_>) -> Result<Self, Fault> {
-        node.has_only(Shape::Suggestion)?;
-        Ok(Suggestion(source_of(node)?, node.needed("patches")?))
-    }
-}
-
-/// The source that the fields of a snippet describe.
-fn source_of<'v>(node: Node<'v, '_>) -> Result<Source<'v>, Fault> {
-    let line_start = node.optional("line_start")?;
-    let line_numbering = node.optional("line_numbering")?;
-    let fold = node.optional("fold")?;
-    Ok(Source {
-        source: node.needed("source")?,
-        path: node.optional("path")?,
-        line_start: line_start.unwrap_or(1),
-        line_numbering: line_numbering.unwrap_or(true),
-        fold: fold.unwrap_or(true),
-    })
-}
-
-impl<'v> Read<'v> for Mark<'v> {
     const EXPECTED: Expectation = Expectation::Object;
 
     fn read(node: Node<'v, '_>) -> Result<Self, Fault> {
         node.has_only(Shape::Annotation)?;
-        Ok(Mark {
-            kind: node.needed("kind")?,
-            start: node.needed("start")?,
-            end: node.needed("end")?,
+        let kind = node.needed("kind")?;
+        let start = node.needed("start")?;
+        let end = node.needed("end")?;
+        Ok(Annotation {
+            span: start..end,
             label: node.optional("label")?,
-            highlight_source: is_on(node, "highlight_source")?,
+            kind,
+            highlight_source: node.or("highlight_source", false)?,
         })
     }
 }
@@ -258,19 +279,24 @@ impl<'v> Read<'v> for AnnotationKind {
 }
 
 impl<'v> Read<'v> for Patch<'v> {
+    ghost fits = { PatchFits };
+
     const EXPECTED: Expectation = Expectation::Object;
 
     fn read(node: Node<'v, '_>) -> Result<Self, Fault> {
         node.has_only(Shape::Patch)?;
+        let start = node.needed("start")?;
+        let end = node.needed("end")?;
         Ok(Patch {
-            start: node.needed("start")?,
-            end: node.needed("end")?,
-            text: node.needed("text")?,
+            span: start..end,
+            replacement: node.needed("text")?,
         })
     }
 }
 
 impl<'v> Read<'v> for Origin<'v> {
+    ghost fits = { λ origin. TextFits (cow_str_bytes origin.path) };
+
     const EXPECTED: Expectation = Expectation::Object;
 
     fn read(node: Node<'v, '_>) -> Result<Self, Fault> {
@@ -278,15 +304,12 @@ impl<'v> Read<'v> for Origin<'v> {
         Ok(Origin {
             path: node.needed("path")?,
             line: node.optional("line")?,
-            column: node.optional("column")?,
+            char_column: node.optional("column")?,
         })
     }
 }
 
-/// What the field `padding` holds: no fields.
-#[derive(Clone, Copy)]
-struct Padding;
-
+/// An object without fields.
 impl<'v> Read<'v> for Padding {
     const EXPECTED: Expectation = Expectation::Object;
 

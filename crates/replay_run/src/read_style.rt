@@ -18,30 +18,26 @@ impl<'v> Read<'v> for Stylesheet {
     }
 }
 
-/// The sheet of these fields.
+/// The sheet of these fields, plain where one is missing.
 fn own_sheet(node: Node<'_, '_>) -> Result<Stylesheet, Fault> {
     if !node.value.is_object() {
         return Err(node.unexpected(Stylesheet::EXPECTED));
     }
     node.has_only(Shape::Sheet)?;
+    let plain = Style::new();
     Ok(Stylesheet {
-        error: style(node, "error")?,
-        warning: style(node, "warning")?,
-        info: style(node, "info")?,
-        note: style(node, "note")?,
-        help: style(node, "help")?,
-        line_num: style(node, "line_num")?,
-        emphasis: style(node, "emphasis")?,
-        none: style(node, "none")?,
-        context: style(node, "context")?,
-        addition: style(node, "addition")?,
-        removal: style(node, "removal")?,
+        error: node.or("error", plain)?,
+        warning: node.or("warning", plain)?,
+        info: node.or("info", plain)?,
+        note: node.or("note", plain)?,
+        help: node.or("help", plain)?,
+        line_num: node.or("line_num", plain)?,
+        emphasis: node.or("emphasis", plain)?,
+        none: node.or("none", plain)?,
+        context: node.or("context", plain)?,
+        addition: node.or("addition", plain)?,
+        removal: node.or("removal", plain)?,
     })
-}
-
-/// The style of this name, plain where the field is missing.
-fn style(node: Node<'_, '_>, name: &str) -> Result<Style, Fault> {
-    Ok(node.optional(name)?.unwrap_or(Style::new()))
 }
 
 impl<'v> Read<'v> for Style {

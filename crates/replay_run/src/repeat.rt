@@ -1,6 +1,7 @@
 //! How long drawing takes.
 
-use crate::build::{groups_of, renderer_of};
+ghost use Rattle.annotate_snippets.specs.Fits.{ReportFits};
+
 use crate::case::Case;
 use crate::lines::{case_value, numbered_case};
 use crate::trouble::Trouble;
@@ -44,7 +45,9 @@ fn repeat_case<K: Clock>(
     case: &Case<'_>,
     times: u64,
     tally: Tally,
-) -> Result<Tally, Trouble> {
+) -> Result<Tally, Trouble>
+    requires fits { ReportFits case.now.groups.items }
+{
     let start = Instant::now(clock).map_err(Trouble::Clock)?;
     let mut drawn = match draw_often(alloc, case, times, tally) {
         Ok(drawn) => drawn,
@@ -56,18 +59,20 @@ fn repeat_case<K: Clock>(
     Ok(drawn)
 }
 
-/// The tally with the texts of one case, built once and drawn this many times.
+/// The tally with the texts of one case, drawn this many times.
 fn draw_often(
     alloc: Global,
     case: &Case<'_>,
     times: u64,
     tally: Tally,
-) -> Result<Tally, RenderError> {
-    let renderer = renderer_of(case.settings);
-    let groups = groups_of(alloc, &case.groups)?;
+) -> Result<Tally, RenderError>
+    requires fits { ReportFits case.now.groups.items }
+{
     let mut drawn = tally;
     for _ in 0..times {
-        let texts = renderer.render_sheets(alloc, &groups, &case.sheets)?;
+        let texts = case
+            .renderer
+            .render_sheets(alloc, &case.groups, &case.sheets)?;
         drawn = with_texts(drawn, &texts);
     }
     Ok(drawn)
