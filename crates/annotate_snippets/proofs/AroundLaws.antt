@@ -5,7 +5,7 @@ use Rattle.std.specs.Option.{is_some}
 use Rattle.std.proofs.lemmas.Bool.Decides.{nat_tests}
 use Rattle.snippet_model.specs.declared.snippet.Element.{Element}
 use Rattle.snippet_model.specs.declared.snippet.Element.TheVariants.{Cause, Message, Origin, Padding, Suggestion}
-use Rattle.snippet_suggest.specs.declared.layout.SuggestionStart.TheVariants.{Next, Opening, Path}
+use Rattle.snippet_suggest.specs.declared.SuggestionStart.TheVariants.{Next, Opening, Path}
 use Rattle.annotate_snippets.specs.Around.{CanStandIn, begins_in_row_above, first_two_share, is_next_start, is_other_file, path_bytes, share_file, surroundings_at}
 use Rattle.annotate_snippets.specs.declared.renderer.surroundings.GroupPlace.{GroupPlace}
 

@@ -16,7 +16,7 @@ use Rattle.snippet_parts.specs.Kept.{shown_lines}
 use Rattle.snippet_parts.specs.Mark.{is_marking}
 use Rattle.snippet_parts.specs.Marked.{first_line, last_line}
 use Rattle.snippet_parts.specs.NamedPlace.{IsNamedPlace, primary_place}
-use Rattle.snippet_parts.specs.Rows.{IsFree}
+use Rattle.snippet_model.specs.Rows.{IsFree}
 use Rattle.snippet_parts.specs.declared.entries.AnnotatedLineInfo.{AnnotatedLineInfo}
 use Rattle.snippet_parts.specs.declared.named_place.NamedPlace.{NamedPlace}
 use Rattle.snippet_parts.proofs.NamedPlaceLaws.{place-named}

@@ -19,7 +19,7 @@ use Rattle.snippet_model.specs.declared.snippet.Element.TheVariants.{Message, Ca
 use Rattle.snippet_model.specs.declared.snippet.Group.{Group}
 use Rattle.snippet_model.specs.declared.snippet.Patch.{Patch}
 use Rattle.snippet_model.specs.declared.snippet.Title.{Title}
-use Rattle.snippet_parts.specs.Rows.{IsFree, IsFreeCell}
+use Rattle.snippet_model.specs.Rows.{IsFree, IsFreeCell}
 use Rattle.snippet_titles.specs.Title.{id_links, title_rows}
 use Rattle.snippet_titles.proofs.HeadFacts.{message_rows-unlinked}
 use Rattle.snippet_titles.proofs.LinkLemmas.{title_rows-links}

@@ -11,7 +11,7 @@ use Rattle.snippet_model.specs.declared.snippet.Message as the_message
 use Rattle.snippet_model.specs.declared.snippet.Origin as the_origin
 use Rattle.snippet_model.specs.declared.snippet.Padding as the_padding
 use Rattle.snippet_model.specs.declared.snippet.Title.{Title}
-use Rattle.snippet_parts.specs.Rows.{IsFree}
+use Rattle.snippet_model.specs.Rows.{IsFree}
 use Rattle.snippet_parts.proofs.PartLemmas.{All-unmapped}
 use Rattle.snippet_titles.specs.Heading.{heading_rows}
 use Rattle.snippet_titles.specs.Origin.{origin_row, padding_row}

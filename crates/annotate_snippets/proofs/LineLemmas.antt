@@ -34,7 +34,7 @@ use Rattle.snippet_lines.specs.Span.{IsSpan}
 use Rattle.snippet_parts.specs.Window.{AreReplaced, chars_at, dropped_part, stands_whole, window}
 use Rattle.snippet_strokes.specs.Entries.{IsEntryMark, IsMarkCell, IsRailCell, are_plain, has_column, has_mark_role, is_single, label_role, label_text, shifted, wide_entries}
 use Rattle.snippet_lines.specs.Number.{shown_number}
-use Rattle.snippet_parts.specs.Rows.{HasNoNumber}
+use Rattle.snippet_model.specs.Rows.{HasNoNumber}
 use Rattle.snippet_strokes.specs.Rows.{bare_row, IsSourceRow, IsStrokeRow, ShowsMarks}
 use Rattle.snippet_strokes.specs.Snippet as strokes
 use Rattle.snippet_strokes.specs.declared.layout.Layout.{Layout}

@@ -16,7 +16,8 @@ use Rattle.std.specs.Borrow.{Bor}
 use Rattle.std.specs.Option.{option_copied}
 use Rattle.snippet_strokes.specs.Entries as entry
 use Rattle.annotate_snippets.specs.Shown.{shown_label, normalized_chars}
-use Rattle.snippet_strokes.specs.Entries.{EntryCovers, is_primary, IsEntryMark, shifted}
+use Rattle.snippet_strokes.specs.Entries.{EntryCovers, IsEntryMark, shifted}
+use Rattle.snippet_model.specs.AnnotationKind.{is_primary}
 use Rattle.snippet_strokes.specs.Painting.{StandsFrom}
 use Rattle.snippet_strokes.proofs.MarkLemmas.{from_map}
 use Rattle.annotate_snippets.proofs.ListLemmas.{Contains-filter, Contains-map, Contains-head, from_any}

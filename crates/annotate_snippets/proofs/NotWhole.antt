@@ -27,9 +27,10 @@ use Rattle.snippet_parts.specs.Marked.{first_line}
 use Rattle.snippet_parts.specs.Kept.{shown_lines}
 use Rattle.snippet_parts.proofs.PartLemmas.{All-unmapped}
 use Rattle.snippet_parts.specs.NamedPlace.{IsNamedPlace, start_at}
-use Rattle.snippet_parts.specs.Rows.{HasNoNumber}
+use Rattle.snippet_model.specs.Rows.{HasNoNumber}
 use Rattle.snippet_parts.specs.declared.named_place.NamedPlace.{NamedPlace}
-use Rattle.snippet_titles.specs.Origin.{closing_row, origin_text, separator_row}
+use Rattle.snippet_titles.specs.Origin.{origin_text}
+use Rattle.snippet_style.specs.Separators.{closing_row, separator_row}
 use Rattle.snippet_style.specs.declared.glyphs.DecorStyle.{DecorStyle}
 use Rattle.snippet_style.specs.declared.glyphs.DecorStyle.TheVariants.{Ascii}
 use Rattle.snippet_titles.specs.Shown.{heading_texts}

@@ -21,14 +21,14 @@ use Rattle.snippet_lines.specs.declared.number.LineNumbers.TheVariants.{Shown, A
 use Rattle.snippet_model.specs.declared.snippet.Element.TheVariants.{Suggestion}
 use Rattle.snippet_model.specs.declared.snippet.Patch.{Patch}
 use Rattle.snippet_model.specs.declared.snippet.Snippet.{Snippet}
-use Rattle.snippet_suggest.specs.declared.layout.SuggestionLayout.{SuggestionLayout}
-use Rattle.snippet_suggest.specs.declared.layout.SuggestionStart.{SuggestionStart}
-use Rattle.snippet_suggest.specs.declared.layout.SuggestionStart.TheVariants.{Opening, Next, Path}
+use Rattle.snippet_suggest.specs.declared.SuggestionLayout.{SuggestionLayout}
+use Rattle.snippet_suggest.specs.declared.SuggestionStart.{SuggestionStart}
+use Rattle.snippet_suggest.specs.declared.SuggestionStart.TheVariants.{Opening, Next, Path}
 use Rattle.snippet_suggest.specs.Given.{counted_line, first_given, given_lines}
 use Rattle.snippet_suggest.specs.Rows.{AddsSuggestion, Bare, HasGutter, IsBareRow, IsStart, IsTail, Shows, is_stroke, number_offered, text_removed}
 use Rattle.snippet_suggest.proofs.BareLemmas.{bare_led}
 use Rattle.snippet_suggest.proofs.DrawnLemmas.{zip_push}
-use Rattle.snippet_titles.specs.Origin.{separator_row}
+use Rattle.snippet_style.specs.Separators.{separator_row}
 use Rattle.std.proofs.lemmas.List.Elements.{filter_map-append}
 use Rattle.annotate_snippets.specs.Around.{HasPathFor, begins_in_row_above, is_next_start, path_bytes}
 use Rattle.annotate_snippets.specs.Drawn.{AddsElement, HasRoomFor, suggestion_layout}

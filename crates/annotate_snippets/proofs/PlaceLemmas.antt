@@ -10,7 +10,7 @@ use Rattle.snippet_lines.specs.declared.place.Loc.{Loc}
 use Rattle.snippet_splice.specs.declared.patches.TrimmedPatch.{TrimmedPatch}
 use Rattle.snippet_splice.specs.Edits.{edit_of, trimmed_edit_of}
 use Rattle.snippet_splice.specs.Shown.{first_start}
-use Rattle.snippet_suggest.specs.declared.prepared.PreparedSuggestion.{PreparedSuggestion}
+use Rattle.snippet_suggest.specs.declared.PreparedSuggestion.{PreparedSuggestion}
 use Rattle.snippet_suggest.specs.Given.{edits_of, source_of, trimmed_of}
 use Rattle.snippet_suggest.specs.Prepared.{IsPrepared}
 use Rattle.snippet_suggest.proofs.PreparedLemmas.{some-left}

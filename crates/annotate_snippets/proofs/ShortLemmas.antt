@@ -33,7 +33,8 @@ use Rattle.annotate_snippets.specs.Around.{path_bytes}
 use Rattle.annotate_snippets.specs.Gutter.{numbered_source}
 use Rattle.annotate_snippets.specs.Prepared.{IsDrawable, IsElementDrawable, IsGroupDrawable}
 use Rattle.annotate_snippets.specs.Rows.{place_named}
-use Rattle.annotate_snippets.specs.Short.{first_cause, is_primary, joined_labels, label_of, place_of_cause, place_of_path, primary_labels}
+use Rattle.annotate_snippets.specs.Short.{first_cause, joined_labels, label_of, place_of_cause, place_of_path, primary_labels}
+use Rattle.snippet_model.specs.AnnotationKind.{is_primary}
 use Rattle.annotate_snippets.specs.declared.renderer.Renderer.{Renderer}
 
 -- ---- labels

@@ -49,7 +49,8 @@ use Rattle.annotate_snippets.specs.Gutter.{numbered_source}
 use Rattle.annotate_snippets.specs.Page.{PrintsGrids}
 use Rattle.annotate_snippets.specs.Prepared.{IsDrawable, IsGroupDrawable}
 use Rattle.annotate_snippets.specs.Rows.{place_found, place_named}
-use Rattle.annotate_snippets.specs.Short.{before_title, behind_title, first_cause, is_primary, joined_labels, label_of, labels_of_cause, place_of_cause, place_of_path, primary_labels, short_form}
+use Rattle.annotate_snippets.specs.Short.{before_title, behind_title, first_cause, joined_labels, label_of, labels_of_cause, place_of_cause, place_of_path, primary_labels, short_form}
+use Rattle.snippet_model.specs.AnnotationKind.{is_primary}
 use Rattle.annotate_snippets.specs.declared.renderer.Renderer.{Renderer}
 use Rattle.annotate_snippets.specs.declared.renderer.graphic.GroupGrid.{GroupGrid}
 use Rattle.annotate_snippets.proofs.CauseShown.{place_known}

@@ -10,7 +10,7 @@ use Rattle.snippet_style.specs.Print.{row_text}
 use Rattle.snippet_text.specs.Normalized.{norm}
 use Rattle.snippet_lines.specs.Lines.{source_lines, text_at}
 use Rattle.snippet_lines.specs.Number.{shown_number}
-use Rattle.snippet_parts.specs.Rows.{IsFree}
+use Rattle.snippet_model.specs.Rows.{IsFree}
 use Rattle.snippet_suggest.specs.Given.{first_given, given_lines}
 use Rattle.snippet_suggest.specs.Prepared.{IsSuggestible}
 use Rattle.snippet_suggest.specs.Rows.{Bare, IsRemovedRow, Offers, Removes, Shows, SuggestionRow, number_after, numbers_offered, texts_removed}

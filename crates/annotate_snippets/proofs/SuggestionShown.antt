@@ -7,14 +7,14 @@ use Rattle.snippet_model.specs.declared.snippet.Element.TheVariants.{Suggestion}
 use Rattle.snippet_model.specs.declared.snippet.Patch.{Patch}
 use Rattle.snippet_model.specs.declared.snippet.Snippet.{Snippet}
 use Rattle.snippet_style.specs.Grid.{Cell}
-use Rattle.snippet_parts.specs.Rows.{IsFree}
+use Rattle.snippet_model.specs.Rows.{IsFree}
 use Rattle.snippet_parts.proofs.PartLemmas.{All-unmapped}
 use Rattle.snippet_suggest.specs.Given.{first_given, given_lines, offered_lines, removed_lines}
 use Rattle.snippet_suggest.specs.Prepared.{IsSuggestible}
 use Rattle.snippet_suggest.specs.Rows.{Shows, SuggestionRow, numbers_offered}
 use Rattle.snippet_suggest.specs.Shown.{AreRising}
-use Rattle.snippet_suggest.specs.declared.layout.SuggestionStart.{SuggestionStart}
-use Rattle.snippet_suggest.specs.declared.layout.SuggestionStart.TheVariants as start
+use Rattle.snippet_suggest.specs.declared.SuggestionStart.{SuggestionStart}
+use Rattle.snippet_suggest.specs.declared.SuggestionStart.TheVariants as start
 use Rattle.snippet_suggest.proofs.OfferLaws.{offered-ascends}
 use Rattle.snippet_suggest.proofs.TouchLaws.{touched-offered}
 use Rattle.snippet_titles.specs.Origin.{primary_start}

@@ -11,8 +11,8 @@ use Rattle.snippet_model.specs.declared.snippet.Element.{Element}
 use Rattle.snippet_model.specs.declared.snippet.Element.TheVariants.{Message, Cause, Suggestion, Origin, Padding}
 use Rattle.snippet_model.specs.declared.snippet.Patch.{Patch}
 use Rattle.snippet_model.specs.declared.snippet.Snippet.{Snippet}
-use Rattle.snippet_suggest.specs.declared.layout.SuggestionStart.{SuggestionStart}
-use Rattle.snippet_suggest.specs.declared.layout.SuggestionStart.TheVariants as start
+use Rattle.snippet_suggest.specs.declared.SuggestionStart.{SuggestionStart}
+use Rattle.snippet_suggest.specs.declared.SuggestionStart.TheVariants as start
 use Rattle.annotate_snippets.specs.declared.renderer.surroundings.GroupPlace.{GroupPlace}
 use Rattle.annotate_snippets.specs.declared.renderer.surroundings.GroupPlace.TheVariants as place
 use Rattle.annotate_snippets.specs.declared.renderer.surroundings.Next.{Next}

@@ -17,7 +17,7 @@ use Rattle.snippet_parts.specs.Margin.{bounds_of}
 use Rattle.snippet_parts.specs.Measures.{margin_of}
 use Rattle.snippet_strokes.specs.declared.layout.Layout.{Layout}
 use Rattle.snippet_strokes.specs.Snippet.{AreLinesShown}
-use Rattle.snippet_suggest.specs.declared.layout.SuggestionLayout.{SuggestionLayout}
+use Rattle.snippet_suggest.specs.declared.SuggestionLayout.{SuggestionLayout}
 use Rattle.snippet_suggest.specs.Given.{first_given, given_lines, numbers_given, removed_texts}
 use Rattle.snippet_suggest.specs.Rows.{IsTail, Shows, SuggestionRow, numbers_offered, texts_removed}
 use Rattle.snippet_titles.specs.Origin.{padding_row}

@@ -17,10 +17,11 @@ use Rattle.snippet_parts.specs.NamedPlace.{primary_place, secondary_place}
 use Rattle.snippet_parts.specs.declared.named_place.NamedPlace.{NamedPlace}
 use Rattle.snippet_splice.specs.Shown.{first_start}
 use Rattle.snippet_suggest.specs.Given.{source_of, trimmed_of}
-use Rattle.snippet_suggest.specs.declared.layout.SuggestionStart.{SuggestionStart}
-use Rattle.snippet_suggest.specs.declared.layout.SuggestionStart.TheVariants as start
+use Rattle.snippet_suggest.specs.declared.SuggestionStart.{SuggestionStart}
+use Rattle.snippet_suggest.specs.declared.SuggestionStart.TheVariants as start
 use Rattle.snippet_titles.specs.Heading.{heading_rows}
-use Rattle.snippet_titles.specs.Origin.{closing_row, origin_row, primary_start, separator_row, snippet_head}
+use Rattle.snippet_titles.specs.Origin.{origin_row, primary_start, snippet_head}
+use Rattle.snippet_style.specs.Separators.{closing_row, separator_row}
 use Rattle.snippet_titles.specs.Title.{title_rows}
 use Rattle.snippet_titles.specs.declared.origin.FileStart.{FileStart}
 use Rattle.snippet_titles.specs.declared.origin.FileStart.TheVariants.{Alone, Secondary}

@@ -4,6 +4,7 @@ use Rattle.std.specs.Char.{is_whitespace}
 use Rattle.std.specs.Cow.{cow_str_bytes}
 use Rattle.std.specs.List.{filter_map, flat_map, list_all}
 use Rattle.std.specs.Option.{option_map}
+use Rattle.snippet_model.specs.AnnotationKind.{is_primary}
 use Rattle.snippet_model.specs.Heading.{heading_of_title}
 use Rattle.snippet_model.specs.declared.snippet.Annotation.{Annotation}
 use Rattle.snippet_model.specs.declared.snippet.AnnotationKind.{AnnotationKind}
@@ -41,12 +42,6 @@ place_of_path r s (Some path) =
 abbrev pub place_of_cause : Renderer → Option (Snippet Annotation) → List ℕ
 place_of_cause r None = []
 place_of_cause r (Some s) = place_of_path r s (path_bytes s.path)
-
--- whether a span is primary
-abbrev pub is_primary : AnnotationKind → Bool
-is_primary Primary = true
-is_primary Context = false
-is_primary Visible = false
 
 -- a label, normalised
 abbrev pub label_of : Annotation → Option (List ℕ)

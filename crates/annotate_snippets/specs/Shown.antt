@@ -38,7 +38,7 @@ use Rattle.snippet_parts.specs.Mark.{is_marked_on, is_marking, is_wide, qualifie
 use Rattle.snippet_parts.specs.NamedPlace.{IsNamedPlace}
 use Rattle.snippet_parts.specs.declared.named_place.NamedPlace.{NamedPlace}
 use Rattle.snippet_parts.specs.Window.{chars_at, stands_whole, IsWindowOf}
-use Rattle.snippet_parts.specs.Rows.{HasNoNumber, IsFree}
+use Rattle.snippet_model.specs.Rows.{HasNoNumber, IsFree}
 use Rattle.snippet_style.specs.Glyphs.{separator_of, closing_of, placeholder_of}
 use Rattle.snippet_strokes.specs.Entries.{IsMarkCell, IsRailCell, has_mark_role}
 use Rattle.snippet_strokes.specs.Rows.{IsElisionRow}

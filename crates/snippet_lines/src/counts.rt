@@ -22,7 +22,7 @@ pub fn newline_count_before(text: &str, end: usize) -> usize
 }
 
 /// Whether a line feed ends some bytes.
-fn ends_with_line_feed(bytes: &[u8]) -> bool
+pub fn ends_with_line_feed(bytes: &[u8]) -> bool
     ensures value { result ≡ (last_byte bytes.now == 10) }
 {
     matches!(bytes, [.., b'\n'])

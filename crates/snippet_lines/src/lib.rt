@@ -8,7 +8,7 @@ pub mod number;
 pub mod place;
 pub mod span;
 
-pub use counts::{line_feed_count, newline_count_before};
+pub use counts::{ends_with_line_feed, line_feed_count, newline_count_before};
 pub use lines::{CursorLines, EndLine, newline_count};
 pub use number::{LineNumbers, number_text};
 pub use place::Loc;

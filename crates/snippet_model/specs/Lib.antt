@@ -1,7 +1,9 @@
+pub mod AnnotationKind
 pub mod Fits
 pub mod Heading
 pub mod Level
 pub mod OptionCow
+pub mod Rows
 pub mod Same
 pub mod StandardName
 pub mod Trusted

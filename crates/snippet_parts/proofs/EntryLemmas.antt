@@ -6,7 +6,8 @@ use Rattle.std.proofs.lemmas.List.{append_assoc, append-nil, map-append}
 use Rattle.std.proofs.lemmas.List.{map_push, map_more, drop-map, take-map, drop_more, length-map, get_or-map}
 use Rattle.std.proofs.lemmas.List.FromFn.{map-range_with_len_more}
 use Rattle.snippet_parts.specs.declared.entries.LineAnnotation.{LineAnnotation}
-use Rattle.snippet_parts.specs.Annotated.{PartEntry, seen_part, bar_lines, span_parts, long_parts, long_place, stands_among, drawn, is_primary, is_drawn_primary}
+use Rattle.snippet_parts.specs.Annotated.{PartEntry, seen_part, bar_lines, span_parts, long_parts, long_place, stands_among, drawn, is_drawn_primary}
+use Rattle.snippet_model.specs.AnnotationKind.{is_primary}
 use Rattle.snippet_parts.specs.Depths.{same_place, depth_among}
 use Rattle.snippet_parts.specs.declared.depths.LongPlace.{LongPlace}
 use Rattle.snippet_parts.specs.Marked.{Entry}

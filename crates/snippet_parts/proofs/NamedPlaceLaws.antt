@@ -12,7 +12,8 @@ use Rattle.snippet_lines.specs.Lines.{Source}
 use Rattle.snippet_lines.specs.Place.{locations_of}
 use Rattle.snippet_lines.specs.Span.{IsSpan}
 use Rattle.snippet_parts.specs.declared.named_place.NamedPlace.{NamedPlace}
-use Rattle.snippet_parts.specs.Annotated.{PartEntry, KeptLine, annotated_lines, is_long, is_primary, kept_line, parts_on, single_part}
+use Rattle.snippet_parts.specs.Annotated.{PartEntry, KeptLine, annotated_lines, is_long, kept_line, parts_on, single_part}
+use Rattle.snippet_model.specs.AnnotationKind.{is_primary}
 use Rattle.snippet_parts.specs.Entries.{Ascends, is_untouched}
 use Rattle.snippet_parts.specs.Kept.{kept_lines}
 use Rattle.snippet_parts.specs.Mark.{is_marking, is_marked_on, is_single_line, touches}

@@ -7,7 +7,8 @@ use Rattle.std.proofs.lemmas.List.Elements.{filter-append}
 use Rattle.snippet_parts.specs.declared.entries.AnnotatedLineInfo.{AnnotatedLineInfo}
 use Rattle.snippet_parts.specs.declared.entries.LineAnnotation.{LineAnnotation}
 use Rattle.snippet_parts.specs.declared.named_place.NamedPlace.{NamedPlace}
-use Rattle.snippet_parts.specs.Annotated.{PartEntry, KeptLine, seen_part, seen_kept, is_primary}
+use Rattle.snippet_parts.specs.Annotated.{PartEntry, KeptLine, seen_part, seen_kept}
+use Rattle.snippet_model.specs.AnnotationKind.{is_primary}
 use Rattle.snippet_parts.specs.Measures.{least}
 use Rattle.snippet_parts.specs.NamedPlace.{start_columns, primary_parts, first_place}
 use Rattle.snippet_parts.proofs.ExtentLemmas.{least-push}

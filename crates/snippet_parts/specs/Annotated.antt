@@ -3,6 +3,7 @@ use Rattle.std.specs.Prelude.{ℕ, ◌+◌, ◌-◌, ◌==◌, ◌&&◌, ◌||�
 use Rattle.std.specs.List.{list_any, range_with_len}
 use Rattle.std.specs.Option.{option_map}
 use Rattle.std.specs.Cow.{cow_str_bytes}
+use Rattle.snippet_model.specs.AnnotationKind.{is_primary}
 use Rattle.snippet_model.specs.declared.snippet.Annotation.{Annotation}
 use Rattle.snippet_model.specs.declared.snippet.AnnotationKind.{AnnotationKind}
 use Rattle.snippet_model.specs.declared.snippet.AnnotationKind.TheVariants.{Primary, Context, Visible}
@@ -99,11 +100,6 @@ span_parts s depth again e =
 -- whether a span has the place of one of some others
 abbrev pub stands_among : Entry → List Entry → Bool
 stands_among e ds = list_any (λ d. same_place (long_place e) (long_place d)) ds
-
-abbrev pub is_primary : AnnotationKind → Bool
-is_primary Primary = true
-is_primary Context = false
-is_primary Visible = false
 
 -- a span as it is drawn: primary where it is, or one before it that has its place
 abbrev pub is_drawn_primary : List Entry → Entry → Bool

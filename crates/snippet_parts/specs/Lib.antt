@@ -14,7 +14,6 @@ pub mod NamedPlace
 pub mod NearPart
 pub mod OnLine
 pub mod Prepare
-pub mod Rows
 pub mod Stretches
 pub mod Weak
 pub mod Window

@@ -8,7 +8,8 @@ use Rattle.snippet_model.specs.declared.snippet.AnnotationKind.TheVariants.{Prim
 use Rattle.snippet_parts.specs.declared.named_place.NamedPlace.{NamedPlace}
 use Rattle.snippet_lines.specs.Lines.{Source}
 use Rattle.snippet_lines.specs.Place.{start_location}
-use Rattle.snippet_parts.specs.Annotated.{PartEntry, KeptLine, is_primary}
+use Rattle.snippet_parts.specs.Annotated.{PartEntry, KeptLine}
+use Rattle.snippet_model.specs.AnnotationKind.{is_primary}
 use Rattle.snippet_parts.specs.Marked.{first_line}
 use Rattle.snippet_parts.specs.Measures.{least}
 

@@ -2,6 +2,7 @@
 ghost use Rattle.std.specs.Prelude.{◌≡◌, ◌+◌, ◌<◌, ◌≤◌, ◌&&◌, ◌||◌, ◌++◌, ◌∷◌, [], All, length, map, take, drop, IfOk, OnOk};
 ghost use Rattle.std.specs.List.{list_any};
 ghost use Rattle.std.specs.List.Sorted.{IsNonDecreasingBy};
+ghost use Rattle.snippet_model.specs.AnnotationKind as kinds;
 ghost use Rattle.snippet_parts.specs.Annotated as spec;
 ghost use Rattle.snippet_parts.specs.Annotated.{seen_part};
 ghost use Rattle.snippet_parts.specs.Depths.{depth_among, same_place};
@@ -97,7 +98,7 @@ fn drawn<'a>(before: &[LongSpan<'a>], span: LongSpan<'a>) -> LongSpan<'a>
 /// Whether a span is primary, or one of those before it that has its place, which are ordered by their first lines.
 fn is_primary(before: &[LongSpan<'_>], span: LongSpan<'_>) -> bool
     requires ordered { IsNonDecreasingBy (λ l. l.start.line) before.now }
-    ensures value { result ≡ (spec.is_primary span.entry.kind || list_any (λ other. spec.is_primary other.kind && same_place (spec.long_place (seen_long span.entry)) (spec.long_place (seen_long other))) before.now) }
+    ensures value { result ≡ (kinds.is_primary span.entry.kind || list_any (λ other. kinds.is_primary other.kind && same_place (spec.long_place (seen_long span.entry)) (spec.long_place (seen_long other))) before.now) }
 {
     span.kind == AnnotationKind::Primary
         || is_place_of_primary(span, starting_on(before, span.start.line))
@@ -105,7 +106,7 @@ fn is_primary(before: &[LongSpan<'_>], span: LongSpan<'_>) -> bool
 
 /// Whether a span has the place of a primary one of some others.
 fn is_place_of_primary(span: LongSpan<'_>, others: &[LongSpan<'_>]) -> bool
-    ensures value { result ≡ list_any (λ other. spec.is_primary other.kind && same_place (spec.long_place (seen_long span.entry)) (spec.long_place (seen_long other))) others.now }
+    ensures value { result ≡ list_any (λ other. kinds.is_primary other.kind && same_place (spec.long_place (seen_long span.entry)) (spec.long_place (seen_long other))) others.now }
 {
     for other in others {
         if other.kind == AnnotationKind::Primary && span.place() == other.place() {

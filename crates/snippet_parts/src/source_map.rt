@@ -16,11 +16,9 @@ ghost use Rattle.snippet_parts.specs.Marked.{first_line, last_line};
 ghost use Rattle.snippet_parts.specs.OnLine.{numbers_of, AreEntriesOn};
 ghost use Rattle.snippet_parts.specs.Stretches.{is_seen};
 ghost use Rattle.snippet_model.specs.declared.snippet.Annotation.{Annotation};
-ghost use Rattle.snippet_splice.specs.Edits.{edit_of, in_order, bounds_of, original_bounds_of, edited_from, patched, trimmed_edit_of, trimmed_edits};
+ghost use Rattle.snippet_splice.specs.Edits.{edit_of};
 ghost use Rattle.snippet_splice.specs.Overlap.{AreDisjoint};
-ghost use Rattle.snippet_splice.specs.Spliced.{HasNoCr, IsBeforeFinalLf, IsTouched, texts_of, AreFrom, spliced_text, line_ranges, ranges_from};
-ghost use Rattle.snippet_splice.specs.Copied.{written_ranges};
-ghost use Rattle.snippet_splice.specs.Shown.{first_start, shown_line, shown_start, shown_text, without_final_line_feeds};
+ghost use Rattle.snippet_splice.specs.Splice.{IsSplice};
 
 use crate::annotated_lines::annotated_lines;
 use crate::entries::AnnotatedLineInfo;
@@ -217,46 +215,7 @@ impl<'a> SourceMap<'a> {
         requires spans { All (λ p. IsSpan self.now.text p.span.start p.span.end) patches.now }
         requires disjoint { AreDisjoint (map edit_of patches.now) }
         ensures none { IfOk result (λ t. IsNone t ↔ (patches.now ≡ [])) }
-        ensures edits { IfOk result (λ t. IfSome t (λ s.
-            map trimmed_edit_of s.patches.items ≡ trimmed_edits self.now.text (map edit_of patches.now))) }
-        ensures originals { IfOk result (λ t. IfSome t (λ s.
-            map original_bounds_of s.patches.items ≡ map bounds_of (in_order (map edit_of patches.now)))) }
-        ensures spans { IfOk result (λ t. IfSome t
-            (λ s. All (λ p. IsSpan self.now.text p.span.start p.span.end) s.patches.items)) }
-        ensures original_spans { IfOk result (λ t. IfSome t
-            (λ s. All (λ p. IsSpan self.now.text p.original_span.start p.original_span.end) s.patches.items)) }
-        // The trimmed patches, applied as they stand, give the patched source.
-        ensures law { let es = map edit_of patches.now in IfOk result (λ t. IfSome t (λ s.
-            edited_from self.now.text 0 (map trimmed_edit_of s.patches.items) ≡ patched self.now.text es)) }
-        // The text, also of sources with carriage returns.
-        ensures value { IfOk result (λ t. IfSome t
-            (λ s. string_bytes s.complete ≡ shown_text fold self.now.text (map edit_of patches.now))) }
-        ensures ended { IfOk result (λ t. IfSome t
-            (λ s. without_final_line_feeds (string_bytes s.complete) ≡ string_bytes s.complete)) }
-        // The lines of the text on which the replacements stand, also of sources with carriage returns.
-        ensures written { let es = map edit_of patches.now in IfOk result (λ t. IfSome t (λ s. s.ranges.items
-            ≡ written_ranges self.now.text 0 (shown_start fold self.now.text (first_start (in_order es))) (trimmed_edits self.now.text es))) }
-        // Without carriage returns in the source, and where no trimmed patch starts behind a final line feed.
-        ensures text { let es = map edit_of patches.now in
-            HasNoCr self.now.text → All (λ e. IsBeforeFinalLf self.now.text e.start) (trimmed_edits self.now.text es)
-            → IfOk result (λ t. IfSome t (λ s. string_bytes s.complete ≡ spliced_text fold self.now.text es)) }
-        ensures ranges { let es = map edit_of patches.now in
-            HasNoCr self.now.text → All (λ e. IsBeforeFinalLf self.now.text e.start) (trimmed_edits self.now.text es)
-            → IfOk result (λ t. IfSome t (λ s.
-            ranges_from (shown_line fold self.now.text es) s.ranges.items ≡ line_ranges self.now.text es)) }
-        // Its lines are lines of the patched source, one behind the other from the first that is shown on.
-        ensures lines { let es = map edit_of patches.now in
-            HasNoCr self.now.text → All (λ e. HasNoCr e.text) es
-            → All (λ e. IsBeforeFinalLf self.now.text e.start) (trimmed_edits self.now.text es)
-            → IfOk result (λ t. IfSome t (λ s. AreFrom (shown_line fold self.now.text es)
-            (texts_of (lines_of (string_bytes s.complete))) (texts_of (source_lines (patched self.now.text es))))) }
-        // Each line of the patched source that an edit touches is among them, if it isn't empty.
-        ensures touched { let es = map edit_of patches.now in
-            HasNoCr self.now.text → All (λ e. IsBeforeFinalLf self.now.text e.start) (trimmed_edits self.now.text es)
-            → IfOk result (λ t. IfSome t (λ s. (j : ℕ) → IsTouched self.now.text es j
-            → text_at (source_lines (patched self.now.text es)) j ≢ []
-            → (shown_line fold self.now.text es ≤ j)
-            × (j < shown_line fold self.now.text es + length (lines_of (string_bytes s.complete))))) }
+        ensures splice { IfOk result (λ t. IfSome t (IsSplice self.now.text (map edit_of patches.now) fold)) }
     {
         spliced_lines(*self.lines.allocator(), self.source(), patches, fold)
     }

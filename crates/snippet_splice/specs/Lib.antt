@@ -2,5 +2,6 @@ pub mod Copied
 pub mod Edits
 pub mod Overlap
 pub mod Shown
+pub mod Splice
 pub mod Spliced
 pub mod Trim

@@ -1,11 +1,12 @@
 //! The part of a source that is shown with patches applied.
 ghost use Rattle.std.specs.Prelude.{◌≡◌, ◌≢◌, ◌↔◌, ◌==◌, ℕ, ◌+◌, ◌<◌, ◌≤◌, [], ◌++◌, map, All, IfOk, IfSome, IsNone, length, take};
 ghost use Rattle.std.specs.String.{string_bytes};
-ghost use Rattle.snippet_lines.specs.Lines.{lines_of, source_lines, text_at, last_byte};
+ghost use Rattle.snippet_lines.specs.Lines.{lines_of, source_lines, text_at};
 ghost use Rattle.snippet_lines.specs.Span.{IsSpan, IsSpanBorder};
 ghost use Rattle.snippet_splice.specs.Edits.{edit_of, in_order, bounds_of, original_bounds_of, edited_from, patched, trimmed_edit_of, trimmed_edits, AreApart};
 ghost use Rattle.snippet_splice.specs.Overlap.{AreDisjoint};
 ghost use Rattle.snippet_splice.specs.Copied.{written, written_ranges, end_from};
+ghost use Rattle.snippet_splice.specs.Splice.{IsSplice};
 ghost use Rattle.snippet_splice.specs.Spliced.{HasNoCr, IsBeforeFinalLf, IsTouched, texts_of, AreFrom, spliced_text, line_ranges, ranges_from};
 ghost use Rattle.snippet_splice.specs.Shown.{closes_line, first_start, shown_line, shown_start, shown_rest, without_final_line_feeds, shown_text};
 
@@ -13,7 +14,7 @@ use crate::copy::{push_copied, text_place};
 use crate::patches::{TrimmedPatch, trimmed_patches};
 use crate::stretches::{SubstitutionHighlight, new_stretches, patch_places, replaced_stretches};
 use snippet_lines::line_bounds::line_bounds;
-use snippet_lines::{CursorLines, line_feed_count, newline_count};
+use snippet_lines::{CursorLines, ends_with_line_feed, line_feed_count, newline_count};
 use snippet_model::Patch;
 use std::alloc::{AllocError, Global};
 
@@ -55,46 +56,7 @@ pub fn spliced_lines<'a>(
     requires spans { All (λ p. IsSpan source.now p.span.start p.span.end) patches.now }
     requires disjoint { AreDisjoint (map edit_of patches.now) }
     ensures none { IfOk result (λ t. IsNone t ↔ (patches.now ≡ [])) }
-    ensures edits { IfOk result (λ t. IfSome t
-        (λ s. map trimmed_edit_of s.patches.items ≡ trimmed_edits source.now (map edit_of patches.now))) }
-    ensures originals { IfOk result (λ t. IfSome t (λ s.
-        map original_bounds_of s.patches.items ≡ map bounds_of (in_order (map edit_of patches.now)))) }
-    ensures spans { IfOk result (λ t. IfSome t
-        (λ s. All (λ p. IsSpan source.now p.span.start p.span.end) s.patches.items)) }
-    ensures original_spans { IfOk result (λ t. IfSome t
-        (λ s. All (λ p. IsSpan source.now p.original_span.start p.original_span.end) s.patches.items)) }
-    // The trimmed patches, applied as they stand, give the patched source.
-    ensures law { let es = map edit_of patches.now in IfOk result (λ t. IfSome t (λ s.
-        edited_from source.now 0 (map trimmed_edit_of s.patches.items) ≡ patched source.now es)) }
-    // The text, also of sources with carriage returns.
-    ensures value { IfOk result (λ t. IfSome t
-        (λ s. string_bytes s.complete ≡ shown_text fold source.now (map edit_of patches.now))) }
-    ensures ended { IfOk result (λ t. IfSome t
-        (λ s. without_final_line_feeds (string_bytes s.complete) ≡ string_bytes s.complete)) }
-    // The lines of the text on which the replacements stand, also of sources with carriage returns.
-    ensures written { let es = map edit_of patches.now in IfOk result (λ t. IfSome t (λ s.
-        s.ranges.items ≡ written_ranges source.now 0 (shown_start fold source.now (first_start (in_order es))) (trimmed_edits source.now es))) }
-    // Without carriage returns in the source, and where no trimmed patch starts behind a final line feed.
-    ensures text { let es = map edit_of patches.now in
-        HasNoCr source.now → All (λ e. IsBeforeFinalLf source.now e.start) (trimmed_edits source.now es)
-        → IfOk result (λ t. IfSome t (λ s. string_bytes s.complete ≡ spliced_text fold source.now es)) }
-    ensures ranges { let es = map edit_of patches.now in
-        HasNoCr source.now → All (λ e. IsBeforeFinalLf source.now e.start) (trimmed_edits source.now es)
-        → IfOk result (λ t. IfSome t (λ s.
-        ranges_from (shown_line fold source.now es) s.ranges.items ≡ line_ranges source.now es)) }
-    // Its lines are lines of the patched source, one behind the other from the first that is shown on.
-    ensures lines { let es = map edit_of patches.now in
-        HasNoCr source.now → All (λ e. HasNoCr e.text) es
-        → All (λ e. IsBeforeFinalLf source.now e.start) (trimmed_edits source.now es)
-        → IfOk result (λ t. IfSome t (λ s. AreFrom (shown_line fold source.now es)
-        (texts_of (lines_of (string_bytes s.complete))) (texts_of (source_lines (patched source.now es))))) }
-    // Each line of the patched source that an edit touches is among them, if it isn't empty.
-    ensures touched { let es = map edit_of patches.now in
-        HasNoCr source.now → All (λ e. IsBeforeFinalLf source.now e.start) (trimmed_edits source.now es)
-        → IfOk result (λ t. IfSome t (λ s. (j : ℕ) → IsTouched source.now es j
-        → text_at (source_lines (patched source.now es)) j ≢ []
-        → (shown_line fold source.now es ≤ j)
-        × (j < shown_line fold source.now es + length (lines_of (string_bytes s.complete))))) }
+    ensures splice { IfOk result (λ t. IfSome t (IsSplice source.now (map edit_of patches.now) fold)) }
 {
     let patches = trimmed_patches(alloc, source, patches)?;
     let Some(first) = patches.first() else {
@@ -154,16 +116,9 @@ fn closes_line(patches: &[TrimmedPatch<'_>]) -> bool
     ensures value { result ≡ closes_line (map trimmed_edit_of patches.now) }
 {
     match patches {
-        [.., last] => ends_with_line_feed(last.replacement),
+        [.., last] => ends_with_line_feed(last.replacement.as_bytes()),
         [] => false,
     }
-}
-
-/// Whether a line feed ends a text.
-fn ends_with_line_feed(text: &str) -> bool
-    ensures value { result ≡ (last_byte text.now == 10) }
-{
-    text.ends_with('\n')
 }
 
 /// What is shown of the source behind the last patch.

@@ -18,11 +18,12 @@ use Rattle.snippet_style.proofs.GridLemmas.{take-written_past, drop-written}
 use Rattle.snippet_strokes.specs.declared.layout.Layout.{Layout}
 use Rattle.snippet_strokes.specs.declared.positions.PlacedEntry.{PlacedEntry}
 use Rattle.snippet_strokes.specs.Entries.{IsRailCell, are_plain, has_column, is_single, wide_entries}
-use Rattle.snippet_parts.specs.Rows.{IsFreeCell}
+use Rattle.snippet_model.specs.Rows.{IsFreeCell}
 use Rattle.snippet_strokes.specs.Painting.{HasRows}
 use Rattle.snippet_strokes.specs.Positions.{row_count}
-use Rattle.snippet_parts.specs.Rows.{IsFree}
-use Rattle.snippet_strokes.specs.Rows.{separator_row, bare_row, IsCut, IsStrokeRow}
+use Rattle.snippet_model.specs.Rows.{IsFree}
+use Rattle.snippet_strokes.specs.Rows.{bare_row, IsCut, IsStrokeRow}
+use Rattle.snippet_style.specs.Separators.{separator_row}
 use Rattle.snippet_strokes.proofs.PaintLemmas.{IsPlainEntry}
 use Rattle.snippet_strokes.proofs.PositionLemmas.{HasRows-row_count, row_count_some}
 

@@ -18,7 +18,7 @@ use Rattle.snippet_style.specs.Grid.{Cell, SPACE, drawn, written, cells_written}
 use Rattle.snippet_style.specs.Print.{row_text}
 use Rattle.snippet_style.proofs.GridLemmas.{length-drawn, length-written, cells_written_last}
 use Rattle.snippet_text.specs.Normalized.{is_listed}
-use Rattle.snippet_parts.specs.Rows.{IsFree}
+use Rattle.snippet_model.specs.Rows.{IsFree}
 use Rattle.snippet_strokes.specs.Rows.{begun_cells, ended_cells, shown_cells, window_cells, with_cells}
 use Rattle.snippet_strokes.proofs.DrawLemmas.{free_drawn}
 use Rattle.snippet_strokes.proofs.RowLemmas.{free_written}

@@ -14,7 +14,7 @@ use Rattle.snippet_style.specs.Print.{row_text}
 use Rattle.snippet_style.proofs.ChangeLemmas.{changed_within_one}
 use Rattle.snippet_style.proofs.ReplaceLemmas.{replaced_there, replaced_empty, replaced_past}
 use Rattle.snippet_strokes.specs.declared.layout.Layout.{Layout}
-use Rattle.snippet_parts.specs.Rows.{IsFreeCell}
+use Rattle.snippet_model.specs.Rows.{IsFreeCell}
 use Rattle.snippet_strokes.specs.Rows.{IsCut, CutsRows}
 use Rattle.snippet_strokes.proofs.CellLemmas.{free_placeholder, row_text-drawn}
 

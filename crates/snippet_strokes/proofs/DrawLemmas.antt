@@ -14,7 +14,7 @@ use Rattle.std.proofs.lemmas.List.Elements.{All-weaker, All-head, All-tail, All-
 use Rattle.snippet_text.specs.Normalized.{is_listed}
 use Rattle.snippet_strokes.specs.declared.layout.Layout.{Layout}
 use Rattle.snippet_strokes.specs.Entries.{has_mark_role, IsRailCell}
-use Rattle.snippet_parts.specs.Rows.{IsFreeCell}
+use Rattle.snippet_model.specs.Rows.{IsFreeCell}
 use Rattle.snippet_strokes.specs.Painting.{DrawsFrom, KeepsRails, DrawsRails}
 use Rattle.snippet_strokes.proofs.TextLemmas.{All-from_none}
 

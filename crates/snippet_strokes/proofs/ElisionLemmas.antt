@@ -11,7 +11,7 @@ use Rattle.snippet_style.specs.Grid.{Cell, SPACE, drawn, row_at}
 use Rattle.snippet_text.specs.Normalized.{is_listed}
 use Rattle.snippet_strokes.specs.declared.layout.Layout.{Layout}
 use Rattle.snippet_strokes.specs.Rails.{AddsElision, BarsDrawn, DrawsBars}
-use Rattle.snippet_parts.specs.Rows.{IsFree}
+use Rattle.snippet_model.specs.Rows.{IsFree}
 use Rattle.snippet_strokes.specs.Rows.{bare_elision_row}
 use Rattle.snippet_strokes.proofs.RailLemmas.{rail_space}
 use Rattle.snippet_strokes.proofs.RowLemmas.{free_led, length-led}

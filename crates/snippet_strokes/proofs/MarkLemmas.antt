@@ -13,7 +13,8 @@ use Rattle.snippet_style.specs.Grid.{Cell, cell_at}
 use Rattle.snippet_style.specs.declared.glyphs.DecorStyle.{DecorStyle}
 use Rattle.snippet_strokes.specs.declared.layout.Layout.{Layout}
 use Rattle.snippet_strokes.specs.declared.positions.PlacedEntry.{PlacedEntry}
-use Rattle.snippet_strokes.specs.Entries.{EntryCovers, entry_width, is_primary, IsEntryMark, IsMarkCell}
+use Rattle.snippet_strokes.specs.Entries.{EntryCovers, entry_width, IsEntryMark, IsMarkCell}
+use Rattle.snippet_model.specs.AnnotationKind.{is_primary}
 use Rattle.snippet_strokes.specs.Painting.{CoversOver, AreMarked}
 use Rattle.snippet_strokes.proofs.PaintLemmas.{IsMarkCell-mark_cell, IsPlainEntry, covered_painted, painted_covered, spaceless}
 

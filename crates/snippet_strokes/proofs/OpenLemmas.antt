@@ -10,7 +10,8 @@ use Rattle.snippet_parts.specs.declared.entries.LineAnnotationType.{LineAnnotati
 use Rattle.snippet_parts.specs.declared.entries.LineAnnotationType.TheVariants.{Singleline, MultilineStart, MultilineEnd, MultilineLine}
 use Rattle.snippet_strokes.specs.declared.layout.Layout.{Layout}
 use Rattle.snippet_strokes.specs.declared.rails.OpenBar.{OpenBar}
-use Rattle.snippet_strokes.specs.Entries.{HasRail, HasRailAt, is_primary}
+use Rattle.snippet_strokes.specs.Entries.{HasRail, HasRailAt}
+use Rattle.snippet_model.specs.AnnotationKind.{is_primary}
 use Rattle.snippet_strokes.specs.Rails.{HasRoom, bar_at, bar_of, bars_apart, ends_of_bars, has_depth, open_below}
 
 -- the bars of one entry

@@ -7,7 +7,8 @@ use Rattle.std.proofs.lemmas.Bool.Decides.{nat_tests}
 use Rattle.std.proofs.lemmas.List.{get_or-map, length-map}
 use Rattle.snippet_parts.specs.declared.entries.LineAnnotation.{LineAnnotation}
 use Rattle.snippet_strokes.specs.declared.positions.PlacedEntry.{PlacedEntry}
-use Rattle.snippet_strokes.specs.Entries.{entry_width, is_primary}
+use Rattle.snippet_strokes.specs.Entries.{entry_width}
+use Rattle.snippet_model.specs.AnnotationKind.{is_primary}
 use Rattle.snippet_strokes.specs.Painting.{CoversOver, IsPaintingOrder}
 use Rattle.snippet_strokes.specs.Positions.{StandsLeft, IsFromRight}
 

@@ -18,8 +18,9 @@ use Rattle.snippet_style.specs.Glyphs.{glyph_of, underline_role}
 use Rattle.snippet_style.specs.Grid.{Cell, cell_at, row_at, unlinked_cell, WritesCells}
 use Rattle.snippet_text.specs.Normalized.{is_listed}
 use Rattle.snippet_strokes.specs.declared.layout.Layout.{Layout}
-use Rattle.snippet_strokes.specs.Entries.{EntryCovers, is_end_part, is_primary, is_single, IsMarkCell}
-use Rattle.snippet_parts.specs.Rows.{IsFreeCell}
+use Rattle.snippet_strokes.specs.Entries.{EntryCovers, is_end_part, is_single, IsMarkCell}
+use Rattle.snippet_model.specs.AnnotationKind.{is_primary}
+use Rattle.snippet_model.specs.Rows.{IsFreeCell}
 use Rattle.snippet_strokes.specs.Painting.{IsPaintedAt, Paints, Painted, ShowsFrom, first_glyph, mark_cell, mark_end}
 
 -- no cell is painted yet

@@ -16,7 +16,7 @@ use Rattle.snippet_strokes.specs.declared.layout.Layout.{Layout}
 use Rattle.snippet_strokes.specs.declared.rails.RailStroke.{RailStroke}
 use Rattle.snippet_strokes.specs.declared.rails.RailStroke.TheVariants.{Top, Solid, Dotted}
 use Rattle.snippet_strokes.specs.Entries.{IsRailCell, IsMarkCell, are_plain, has_mark_role, wide_entries}
-use Rattle.snippet_parts.specs.Rows.{IsFreeCell}
+use Rattle.snippet_model.specs.Rows.{IsFreeCell}
 use Rattle.snippet_strokes.specs.Rails.{BarsDrawn, DrawsBars, rail_glyph}
 use Rattle.snippet_strokes.specs.Rows.{AddsStrokes, AreStrokes, IsBeside, IsStrokeRow, ShowsMarks}
 

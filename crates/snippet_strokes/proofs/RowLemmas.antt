@@ -13,11 +13,12 @@ use Rattle.snippet_style.specs.Glyphs.{separator_of, closing_of, file_start_of}
 use Rattle.snippet_style.specs.Grid.{Cell, SPACE, drawn, unlinked_cell, written, cells_written}
 use Rattle.snippet_style.proofs.GridLemmas.{length-chars_le, length-drawn, length-written, drop-written, take-written_past, cells_written_below, cells_written_last, slice_index_or-written_before, slice_index_or-written_behind}
 use Rattle.snippet_text.specs.Normalized.{is_listed}
-use Rattle.snippet_parts.specs.Rows.{IsFreeCell}
+use Rattle.snippet_model.specs.Rows.{IsFreeCell}
 use Rattle.snippet_strokes.proofs.DrawLemmas.{free_drawn}
 use Rattle.snippet_strokes.specs.declared.layout.Layout.{Layout}
-use Rattle.snippet_parts.specs.Rows.{HasNoNumber, IsFree}
-use Rattle.snippet_strokes.specs.Rows.{separator_row, closing_row, bare_row, IsSourceRow, AddsSourceRow, with_cells}
+use Rattle.snippet_model.specs.Rows.{HasNoNumber, IsFree}
+use Rattle.snippet_strokes.specs.Rows.{bare_row, IsSourceRow, AddsSourceRow, with_cells}
+use Rattle.snippet_style.specs.Separators.{separator_row, closing_row}
 
 -- writing into an empty row
 written-nil : (at : ℕ) (cells : List Cell) → written SPACE [] at cells ≡ replicate at SPACE ++ cells

@@ -15,7 +15,7 @@ use Rattle.snippet_style.specs.declared.role.ElementStyle.TheVariants.{LineNumbe
 use Rattle.snippet_style.specs.Grid.{Cell, SPACE, gives_way, row_at, unlinked_cell}
 use Rattle.snippet_style.specs.Print.{row_text}
 use Rattle.snippet_text.specs.Normalized.{norm}
-use Rattle.snippet_parts.specs.Rows.{IsFreeCell}
+use Rattle.snippet_model.specs.Rows.{IsFreeCell}
 use Rattle.snippet_strokes.specs.declared.layout.Layout.{Layout}
 use Rattle.snippet_parts.specs.declared.margin.Margin.{Margin}
 use Rattle.snippet_parts.specs.Margin.{bounds_of}
@@ -29,7 +29,7 @@ use Rattle.snippet_strokes.proofs.RailLemmas.{AddsStrokes-drawn, rail_space}
 use Rattle.snippet_strokes.proofs.CellLemmas.{row_text-window_cells}
 use Rattle.snippet_strokes.proofs.WholeLemmas.{window_cells-whole}
 use Rattle.snippet_lines.specs.Number.{shown_number}
-use Rattle.snippet_parts.specs.Rows.{HasNoNumber, IsFree}
+use Rattle.snippet_model.specs.Rows.{HasNoNumber, IsFree}
 use Rattle.snippet_strokes.specs.Rows.{window_cells, IsSourceRow, IsStrokeRow, HasNoBars, IsHighlighted, AddsSourceRow, AddsStrokes}
 use Rattle.snippet_strokes.proofs.RowLemmas.{bare_row_left}
 use Rattle.snippet_strokes.specs.Snippet.{ShowsLine, AreLinesShown, AddsLine, AddsSnippet, IsGap}

@@ -16,11 +16,12 @@ use Rattle.snippet_style.proofs.GridLemmas.{length-written, row_at-cells_written
 use Rattle.snippet_strokes.specs.declared.layout.Layout.{Layout}
 use Rattle.snippet_strokes.specs.declared.positions.PlacedEntry.{PlacedEntry}
 use Rattle.snippet_strokes.specs.Entries.{EntryCovers, IsRailCell, are_plain, is_single, label_text, label_role, has_mark_role, wide_entries}
-use Rattle.snippet_parts.specs.Rows.{IsFreeCell}
+use Rattle.snippet_model.specs.Rows.{IsFreeCell}
 use Rattle.snippet_strokes.specs.Painting.{IsPaintedAt, DrawsFrom, DrawsRails, KeepsRails, MarksStarts, StandsFrom, AreMarked, mark_end}
 use Rattle.snippet_strokes.specs.Positions.{HasItsLabel, has_label, has_stem, takes_space, positions, line_positions, row_count, ArePlaced}
-use Rattle.snippet_parts.specs.Rows.{IsFree}
-use Rattle.snippet_strokes.specs.Rows.{separator_row, closing_row, bare_row, CutsRows, IsBeside, IsCut, HasNoBars, IsStrokeRow, AddsStrokes, ShowsMarks}
+use Rattle.snippet_model.specs.Rows.{IsFree}
+use Rattle.snippet_strokes.specs.Rows.{bare_row, CutsRows, IsBeside, IsCut, HasNoBars, IsStrokeRow, AddsStrokes, ShowsMarks}
+use Rattle.snippet_style.specs.Separators.{separator_row, closing_row}
 use Rattle.snippet_strokes.proofs.DrawLemmas.{DrawsFrom-more, rail_space}
 use Rattle.snippet_strokes.proofs.MarkLemmas.{mark_shown}
 use Rattle.snippet_strokes.proofs.PaintLemmas.{IsPlainEntry, covered_painted, mark_end_plain, spaceless}

@@ -2,6 +2,7 @@
 use Rattle.std.specs.Prelude.{◌≡◌, ℕ, ◌+◌, ◌-◌, ◌^◌, ◌<◌, ◌≤◌, ◌==◌, ◌&&◌, nat_lt, Bool, true, false, List, [], Contains, Option, Some, None, chars, length, count_by}
 use Rattle.std.specs.List.{list_all, list_any}
 use Rattle.std.specs.Borrow.{Bor}
+use Rattle.snippet_model.specs.AnnotationKind.{is_primary}
 use Rattle.snippet_model.specs.declared.snippet.AnnotationKind.{AnnotationKind}
 use Rattle.snippet_model.specs.declared.snippet.AnnotationKind.TheVariants.{Primary, Context, Visible}
 use Rattle.snippet_parts.specs.declared.entries.LineAnnotation.{LineAnnotation}
@@ -73,12 +74,6 @@ pub record IsRailCell (decor : DecorStyle) (cell : Cell) : Type 0 where
 -- how many columns an entry covers
 abbrev pub entry_width : LineAnnotation → ℕ
 entry_width e = e.end.display - e.start.display
-
--- whether marks of this kind are drawn as primary ones
-abbrev pub is_primary : AnnotationKind → Bool
-is_primary Primary = true
-is_primary Context = false
-is_primary Visible = false
 
 -- the mark of column p has this kind: that of an entry which is among the narrowest that cover the column; where it
 -- isn't primary, each primary entry there is wider, so that a primary one wins where both kinds have the least width

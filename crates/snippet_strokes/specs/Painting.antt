@@ -7,9 +7,10 @@ use Rattle.snippet_style.specs.declared.glyphs.DecorStyle.{DecorStyle}
 use Rattle.snippet_style.specs.Glyphs.{glyph_of, underline_role}
 use Rattle.snippet_style.specs.Grid.{Cell, cell_at, row_at, unlinked_cell}
 use Rattle.snippet_strokes.specs.declared.layout.Layout.{Layout}
-use Rattle.snippet_parts.specs.Rows.{IsFreeCell}
+use Rattle.snippet_model.specs.Rows.{IsFreeCell}
 use Rattle.snippet_strokes.specs.declared.positions.PlacedEntry.{PlacedEntry}
-use Rattle.snippet_strokes.specs.Entries.{IsRailCell, entry_width, is_primary, has_mark_role}
+use Rattle.snippet_strokes.specs.Entries.{IsRailCell, entry_width, has_mark_role}
+use Rattle.snippet_model.specs.AnnotationKind.{is_primary}
 use Rattle.snippet_strokes.specs.Positions.{has_label, has_stem, takes_space}
 
 -- something was drawn: only in rows from `row` on, in cells from `from` on, and no listed character and no link came into a row

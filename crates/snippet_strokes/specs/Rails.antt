@@ -13,8 +13,9 @@ use Rattle.snippet_strokes.specs.declared.layout.Layout.{Layout}
 use Rattle.snippet_strokes.specs.declared.rails.OpenBar.{OpenBar}
 use Rattle.snippet_strokes.specs.declared.rails.RailStroke.{RailStroke}
 use Rattle.snippet_strokes.specs.declared.rails.RailStroke.TheVariants.{Top, Solid, Dotted}
-use Rattle.snippet_strokes.specs.Entries.{IsRailCell, is_primary}
-use Rattle.snippet_parts.specs.Rows.{IsFree}
+use Rattle.snippet_strokes.specs.Entries.{IsRailCell}
+use Rattle.snippet_model.specs.AnnotationKind.{is_primary}
+use Rattle.snippet_model.specs.Rows.{IsFree}
 use Rattle.snippet_strokes.specs.Rows.{IsElisionRow}
 use Rattle.snippet_strokes.specs.Snippet.{IsGap}
 use Rattle.snippet_parts.specs.declared.entries.AnnotatedLineInfo.{AnnotatedLineInfo}

@@ -12,19 +12,13 @@ use Rattle.snippet_style.specs.declared.role.ElementStyle.{ElementStyle}
 use Rattle.snippet_style.specs.declared.role.ElementStyle.TheVariants.{LineNumber, Quotation, UnderlinePrimary, UnderlineSecondary}
 use Rattle.snippet_style.specs.Glyphs.{separator_of, closing_of, placeholder_of, elision_of, underline_role}
 use Rattle.snippet_style.specs.Print.{row_text}
+use Rattle.snippet_style.specs.Separators.{closing_row, separator_row}
 use Rattle.snippet_style.specs.Grid.{Cell, SPACE, drawn, written, unlinked_cell, row_at, cell_at, gives_way, restyled}
 use Rattle.snippet_strokes.specs.declared.layout.Layout.{Layout}
-use Rattle.snippet_strokes.specs.Entries.{EntryCovers, is_primary, IsEntryMark, IsMarkCell, IsRailCell, are_plain, has_mark_role, label_text, label_role, wide_entries}
-use Rattle.snippet_parts.specs.Rows.{IsFree}
+use Rattle.snippet_strokes.specs.Entries.{EntryCovers, IsEntryMark, IsMarkCell, IsRailCell, are_plain, has_mark_role, label_text, label_role, wide_entries}
+use Rattle.snippet_model.specs.AnnotationKind.{is_primary}
+use Rattle.snippet_model.specs.Rows.{IsFree}
 use Rattle.snippet_strokes.specs.Painting.{StandsFrom}
-
--- the row that sets a snippet off: the separator at cell gutter + 1, and nothing else
-abbrev pub separator_row : DecorStyle → ℕ → List Cell
-separator_row decor gutter = replicate (gutter + 1) SPACE ++ drawn LineNumber (separator_of decor ∷ [])
-
--- the row that closes a group's window: in place of the separator, the closing glyph, and nothing else
-abbrev pub closing_row : DecorStyle → ℕ → List Cell
-closing_row decor gutter = replicate (gutter + 1) SPACE ++ drawn LineNumber (closing_of decor)
 
 -- a row of strokes before any stroke is drawn: the closing row where the window closes with it, else the separator row
 abbrev pub bare_row : DecorStyle → ℕ → Bool → List Cell

@@ -15,7 +15,7 @@ use Rattle.snippet_text.specs.Width.{width_of}
 use Rattle.snippet_strokes.specs.Entries.{is_end_part, shifted, wide_entries}
 use Rattle.snippet_lines.specs.declared.number.LineNumbers.{LineNumbers}
 use Rattle.snippet_lines.specs.Number.{shown_number}
-use Rattle.snippet_parts.specs.Rows.{HasNoNumber, IsFree}
+use Rattle.snippet_model.specs.Rows.{HasNoNumber, IsFree}
 use Rattle.snippet_strokes.specs.Rows.{IsSourceRow, IsBeside, IsElisionRow, IsHighlighted, AreStrokes, window_cells}
 
 -- the rows show this line: the first its number and the window of its source, normalised, with what its entries highlight

@@ -1,5 +1,6 @@
 //! The roles of the strokes and labels of a kind.
 ghost use Rattle.std.specs.Prelude.{◌≡◌};
+ghost use Rattle.snippet_model.specs.AnnotationKind as kinds;
 ghost use Rattle.snippet_strokes.specs.Entries as spec;
 
 use snippet_model::AnnotationKind;
@@ -7,7 +8,7 @@ use snippet_style::ElementStyle;
 
 /// Whether marks of this kind are drawn as primary ones.
 pub(crate) fn is_primary(kind: AnnotationKind) -> bool
-    ensures value { result ≡ spec.is_primary kind }
+    ensures value { result ≡ kinds.is_primary kind }
 {
     matches!(kind, AnnotationKind::Primary)
 }

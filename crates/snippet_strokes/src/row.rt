@@ -1,6 +1,7 @@
 //! Rows that are begun below all that stands in the grid.
 ghost use Rattle.std.specs.Prelude.{◌+◌, ◌≡◌, ◌-◌, ◌^◌, ◌<◌, ◌≤◌, ◌++◌, ◌∷◌, [], OnOk, IfOk, length, replicate};
-ghost use Rattle.snippet_strokes.specs.Rows.{bare_row, closing_row, separator_row};
+ghost use Rattle.snippet_strokes.specs.Rows.{bare_row};
+ghost use Rattle.snippet_style.specs.Separators.{closing_row, separator_row};
 
 use crate::layout::Layout;
 use snippet_style::{ElementStyle, StyledBuffer};

@@ -4,7 +4,8 @@ ghost use Rattle.snippet_strokes.specs.Entries.{HasPlace, HasRail, shifted};
 ghost use Rattle.snippet_parts.specs.Measures.{is_bar};
 ghost use Rattle.snippet_style.specs.Grid.{Cell};
 ghost use Rattle.snippet_strokes.specs.Positions as spec;
-ghost use Rattle.snippet_strokes.specs.Rows.{AddsStrokes, HasNoBars, closing_row};
+ghost use Rattle.snippet_strokes.specs.Rows.{AddsStrokes, HasNoBars};
+ghost use Rattle.snippet_style.specs.Separators.{closing_row};
 
 use crate::connectors::draw_connectors;
 use crate::corners::draw_corners;

@@ -3,6 +3,7 @@ pub mod Glyphs
 pub mod Grid
 pub mod GridView
 pub mod Print
+pub mod Separators
 pub mod Style
 pub mod Stylesheet
 pub mod Woven

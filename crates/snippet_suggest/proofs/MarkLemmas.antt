@@ -9,7 +9,7 @@ use Rattle.snippet_style.specs.declared.role.ElementStyle.{ElementStyle}
 use Rattle.snippet_style.specs.Grid.{Cell, SPACE, drawn, unlinked_cell, written, cells_written}
 use Rattle.snippet_style.proofs.GridLemmas.{cells_written_last, slice_index_or-written_before, slice_index_or-written_behind, slice_index_or-written_inside}
 use Rattle.snippet_text.specs.Normalized.{is_listed}
-use Rattle.snippet_parts.specs.Rows.{IsFreeCell, IsFree}
+use Rattle.snippet_model.specs.Rows.{IsFreeCell, IsFree}
 use Rattle.snippet_suggest.specs.Glyphs.{changed_mark_of}
 use Rattle.snippet_suggest.specs.Rows.{AddsRow, IsBareRow, IsMarkOrSpace, is_stroke}
 use Rattle.snippet_suggest.proofs.RowLemmas.{free_written}

@@ -9,7 +9,7 @@ use Rattle.snippet_style.specs.declared.role.ElementStyle.{ElementStyle}
 use Rattle.snippet_style.specs.declared.glyphs.DecorStyle.{DecorStyle}
 use Rattle.snippet_style.specs.Grid.{Cell, SPACE, changed_within, cells_restyled, restyled}
 use Rattle.snippet_style.specs.Print.{row_text}
-use Rattle.snippet_parts.specs.Rows.{IsFree}
+use Rattle.snippet_model.specs.Rows.{IsFree}
 use Rattle.snippet_suggest.specs.Rows.{without_role, IsRepainted, IsLineRow, IsSign, AddsRow}
 use Rattle.snippet_suggest.proofs.RowLemmas.{ch_at}
 

@@ -7,7 +7,7 @@ use Rattle.snippet_style.specs.declared.glyphs.DecorStyle.{DecorStyle}
 use Rattle.std.specs.Char.{is_ascii_alphanumeric}
 use Rattle.snippet_style.specs.Grid.{Cell, SPACE}
 use Rattle.snippet_style.specs.Print.{row_text}
-use Rattle.snippet_parts.specs.Rows.{IsFree}
+use Rattle.snippet_model.specs.Rows.{IsFree}
 use Rattle.snippet_lines.specs.Number.{shown_number}
 use Rattle.snippet_lines.specs.declared.number.LineNumbers.{LineNumbers}
 use Rattle.snippet_suggest.specs.declared.layout.SuggestionLayout.{SuggestionLayout}

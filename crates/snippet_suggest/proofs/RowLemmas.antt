@@ -10,7 +10,7 @@ use Rattle.snippet_style.specs.Grid.{Cell, SPACE, drawn, unlinked_cell, written,
 use Rattle.snippet_style.specs.Print.{row_text}
 use Rattle.snippet_style.proofs.GridLemmas.{All-drawn, length-drawn, length-written, drop-written, cells_written_below, cells_written_last, slice_index_or-written_before, slice_index_or-written_behind, slice_index_or-written_inside}
 use Rattle.snippet_text.specs.Normalized.{is_listed}
-use Rattle.snippet_parts.specs.Rows.{IsFreeCell, IsFree}
+use Rattle.snippet_model.specs.Rows.{IsFreeCell, IsFree}
 use Rattle.snippet_suggest.specs.Rows.{HoldsText}
 
 -- writing into an empty row

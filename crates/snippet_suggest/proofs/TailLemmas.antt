@@ -10,7 +10,7 @@ use Rattle.snippet_style.specs.Grid.{Cell, SPACE, drawn, unlinked_cell, written,
 use Rattle.snippet_style.proofs.GridLemmas.{cells_written_below, cells_written_last, length-drawn, slice_index_or-written_before, slice_index_or-written_behind, slice_index_or-written_inside}
 use Rattle.snippet_text.specs.Normalized.{is_listed}
 use Rattle.snippet_lines.specs.declared.number.LineNumbers.{LineNumbers}
-use Rattle.snippet_parts.specs.Rows.{IsFreeCell, IsFree}
+use Rattle.snippet_model.specs.Rows.{IsFreeCell, IsFree}
 use Rattle.snippet_suggest.specs.declared.glyphs.SuggestionGlyph.{SuggestionGlyph}
 use Rattle.snippet_suggest.specs.declared.layout.SuggestionLayout.{SuggestionLayout}
 use Rattle.snippet_suggest.specs.Glyphs.{glyph_of, is_sign}

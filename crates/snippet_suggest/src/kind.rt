@@ -9,7 +9,7 @@ ghost use Rattle.snippet_splice.specs.Edits.{trimmed_edit_of};
 ghost use Rattle.snippet_suggest.specs.Kind.{adds_lines, adds_text, is_replacement, is_under_text, kind_of, loses_text, text_under};
 ghost use Rattle.snippet_suggest.specs.Kind as spec;
 
-use snippet_lines::newline_count;
+use snippet_lines::{ends_with_line_feed, newline_count};
 use snippet_splice::{SplicedLines, TrimmedPatch, as_substr};
 
 /// How a suggestion is shown.
@@ -37,7 +37,8 @@ impl DisplaySuggestion {
             return DisplaySuggestion::Diff;
         }
         match only_replacement(&splice.patches, text) {
-            Some(replacement) if ends_with_line_feed(replacement) => DisplaySuggestion::Add,
+            Some(replacement) if ends_with_line_feed(replacement.as_bytes()) =>
+                DisplaySuggestion::Add,
             Some(_) => DisplaySuggestion::Plain,
             None if single => DisplaySuggestion::Underline,
             None => DisplaySuggestion::Plain,
@@ -50,13 +51,6 @@ fn has_one_line(text: &str) -> bool
     ensures value { result ≡ nat_le (length (lines_of text.now)) 1 }
 {
     newline_count(text) == 0
-}
-
-/// Whether a line feed ends a text.
-fn ends_with_line_feed(text: &str) -> bool
-    ensures value { result ≡ (last_byte text.now == 10) }
-{
-    text.ends_with('\n')
 }
 
 /// The replacement of the one patch, if there is just one and it gives the whole text, whitespace around them apart.

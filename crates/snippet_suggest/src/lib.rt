@@ -1,19 +1,19 @@
 //! The rows of suggested edits: the lines as they will be, what is removed of them, and marks below insertions.
 #![tactic(auto)]
 
-pub mod diff;
-pub mod ends;
-pub mod glyphs;
-pub mod kind;
-pub mod layout;
-pub mod lines;
-pub mod marks;
-pub mod prepared;
-pub mod removed;
-pub mod roles;
-pub mod row;
-pub mod shown;
-pub mod suggestion;
+mod diff;
+mod ends;
+mod glyphs;
+mod kind;
+mod layout;
+mod lines;
+mod marks;
+mod prepared;
+mod removed;
+mod roles;
+mod row;
+mod shown;
+mod suggestion;
 
 pub use kind::{DisplaySuggestion, is_blank, overwrites};
 pub use layout::{SuggestionLayout, SuggestionStart};

@@ -12,7 +12,8 @@ use Rattle.snippet_titles.specs.declared.origin.FileStart.{FileStart}
 use Rattle.snippet_titles.specs.declared.origin.FileStart.TheVariants.{Alone, First, Later, Secondary}
 use Rattle.snippet_titles.specs.declared.origin.OriginPlace.{OriginPlace}
 use Rattle.snippet_titles.specs.declared.origin.OriginLayout.{OriginLayout}
-use Rattle.snippet_titles.specs.Origin.{file_glyph, file_row, origin_row, origin_text, separator_row, closing_row}
+use Rattle.snippet_titles.specs.Origin.{file_glyph, file_row, origin_row, origin_text}
+use Rattle.snippet_style.specs.Separators.{separator_row, closing_row}
 use Rattle.snippet_titles.proofs.ExtendLemmas.{extended, extended_from, length-begun}
 
 -- the glyphs that only the rows of paths have, as characters

@@ -22,12 +22,14 @@ use Rattle.snippet_titles.specs.declared.style.MessagePlace.{MessagePlace}
 use Rattle.snippet_titles.specs.declared.style.TitleStyle.{TitleStyle}
 use Rattle.snippet_titles.specs.declared.style.TitleStyle.TheVariants.{Message}
 use Rattle.snippet_titles.specs.Heading.{colon_of, heading_lines, heading_rows, id_cells, indent_cells, label_cells, label_width, lines_below, note_bar_of, note_sign_of, roles_of, sign_cells}
-use Rattle.snippet_titles.specs.Origin.{file_glyph, file_row, opening_head, opening_rows, origin_row, origin_text, separator_row, snippet_head}
+use Rattle.snippet_titles.specs.Origin.{file_glyph, file_row, opening_head, opening_rows, origin_row, origin_text, snippet_head}
+use Rattle.snippet_style.specs.Separators.{separator_row}
 use Rattle.snippet_titles.proofs.FreeLemmas.{All-trimmed}
 use Rattle.snippet_titles.proofs.HeadLemmas.{nameless_head-each, primary_head-each, secondary_head-each}
 use Rattle.snippet_titles.proofs.LinkLemmas.{IsUnlinked, drawn_unlinked, indent_unlinked, sign_unlinked}
-use Rattle.snippet_titles.proofs.OriginFree.{IsFree, file_row-free, origin_row-free, separator_row-free}
-use Rattle.snippet_titles.proofs.OriginNumbers.{HasNoNumber, IsPlain, file_row-unnumbered, origin_row-unnumbered, separator_row-unnumbered}
+use Rattle.snippet_model.specs.Rows.{HasNoNumber, IsFree}
+use Rattle.snippet_titles.proofs.OriginFree.{file_row-free, origin_row-free, separator_row-free}
+use Rattle.snippet_titles.proofs.OriginNumbers.{IsPlain, file_row-unnumbered, origin_row-unnumbered, separator_row-unnumbered}
 use Rattle.snippet_titles.proofs.OriginRowText.{origin_row-behind}
 use Rattle.snippet_titles.proofs.TextLemmas.{row_text-drawn}
 

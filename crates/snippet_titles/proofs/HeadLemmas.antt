@@ -6,7 +6,8 @@ use Rattle.snippet_titles.specs.declared.origin.FileStart.{FileStart}
 use Rattle.snippet_titles.specs.declared.origin.FileStart.TheVariants.{First, Later, Secondary}
 use Rattle.snippet_titles.specs.declared.origin.OriginPlace.{OriginPlace}
 use Rattle.snippet_titles.specs.declared.origin.OriginLayout.{OriginLayout}
-use Rattle.snippet_titles.specs.Origin.{file_row, origin_row, separator_row, primary_head, secondary_head, nameless_head}
+use Rattle.snippet_titles.specs.Origin.{file_row, origin_row, primary_head, secondary_head, nameless_head}
+use Rattle.snippet_style.specs.Separators.{separator_row}
 
 module _ (P : List Cell → Type 0) (layout : OriginLayout) (separator : P (separator_row layout.decor layout.gutter)) where
   -- a separator row behind others

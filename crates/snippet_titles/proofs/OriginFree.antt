@@ -12,21 +12,16 @@ use Rattle.snippet_style.specs.Grid.{Cell, SPACE, drawn, unlinked_cell}
 use Rattle.snippet_style.proofs.GridLemmas.{All-drawn}
 use Rattle.snippet_text.specs.Normalized.{norm, is_listed}
 use Rattle.snippet_text.proofs.NormLemmas.{list_any-norm}
+use Rattle.snippet_model.specs.Rows.{IsFree, IsFreeCell}
 use Rattle.snippet_titles.specs.declared.origin.FileStart.{FileStart}
 use Rattle.snippet_titles.specs.declared.origin.FileStart.TheVariants.{Alone, First, Later, Secondary}
 use Rattle.snippet_titles.specs.declared.origin.OriginPlace.{OriginPlace}
 use Rattle.snippet_titles.specs.declared.origin.OriginLayout.{OriginLayout}
-use Rattle.snippet_titles.specs.Origin.{file_glyph, file_row, origin_row, origin_text, place_text, separator_row, closing_row, padding_row, primary_head, secondary_head, nameless_head}
+use Rattle.snippet_titles.specs.Origin.{file_glyph, file_row, origin_row, origin_text, place_text, padding_row, primary_head, secondary_head, nameless_head}
+use Rattle.snippet_style.specs.Separators.{separator_row, closing_row}
 use Rattle.snippet_titles.proofs.DigitLemmas.{IsDigit}
 use Rattle.snippet_titles.proofs.OriginText.{place_text-each}
 use Rattle.snippet_titles.proofs.HeadLemmas.{primary_head-each, secondary_head-each, nameless_head-each}
-
--- a cell that holds no listed character and belongs to no link, and a row of such cells
-abbrev pub IsFreeCell : Cell → Type 0
-IsFreeCell cell = (is_listed cell.ch ≡ false) × (cell.link ≡ None)
-
-abbrev pub IsFree : List Cell → Type 0
-IsFree row = All IsFreeCell row
 
 -- where no element passes a test, each fails it
 pub each-fails : (p : ℕ → Bool) (xs : List ℕ) → list_any p xs ≡ false → All (λ x. p x ≡ false) xs

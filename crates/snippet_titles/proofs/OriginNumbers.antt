@@ -10,19 +10,16 @@ use Rattle.snippet_style.specs.declared.role.ElementStyle.TheVariants.{LineAndCo
 use Rattle.snippet_style.specs.Glyphs.{closing_of, separator_of}
 use Rattle.snippet_style.specs.Grid.{Cell, SPACE, drawn}
 use Rattle.snippet_style.proofs.GridLemmas.{All-drawn, length-drawn}
+use Rattle.snippet_model.specs.Rows.{HasNoNumber}
 use Rattle.snippet_titles.specs.declared.origin.FileStart.{FileStart}
 use Rattle.snippet_titles.specs.declared.origin.FileStart.TheVariants.{Alone, First, Later, Secondary}
 use Rattle.snippet_titles.specs.declared.origin.OriginPlace.{OriginPlace}
 use Rattle.snippet_titles.specs.declared.origin.OriginLayout.{OriginLayout}
-use Rattle.snippet_titles.specs.Origin.{file_glyph, file_row, origin_row, origin_text, separator_row, closing_row, padding_row, primary_head, secondary_head, nameless_head}
+use Rattle.snippet_titles.specs.Origin.{file_glyph, file_row, origin_row, origin_text, padding_row, primary_head, secondary_head, nameless_head}
+use Rattle.snippet_style.specs.Separators.{separator_row, closing_row}
 use Rattle.snippet_titles.proofs.HeadLemmas.{primary_head-each, secondary_head-each, nameless_head-each}
 use Rattle.snippet_titles.proofs.FileRowLemmas.{file_glyph-some}
 use Rattle.snippet_titles.proofs.OriginFree.{each-fails}
-
--- a row none of whose cells up to the one before the separator holds an ASCII letter or digit
-abbrev pub HasNoNumber : ℕ → List Cell → Type 0
-HasNoNumber gutter row =
-    (c : ℕ) → c ≤ gutter → is_ascii_alphanumeric (slice_index_or row c SPACE).ch ≡ false
 
 -- no glyph is a letter or a digit
 glyphs-unnumbered : (start : FileStart) (decor : DecorStyle) → list_any is_ascii_alphanumeric (file_glyph start decor) ≡ false

@@ -5,6 +5,7 @@ use Rattle.snippet_style.specs.declared.glyphs.DecorStyle.{DecorStyle}
 use Rattle.snippet_style.specs.declared.glyphs.DecorStyle.TheVariants.{Ascii, Unicode}
 use Rattle.snippet_style.specs.declared.role.ElementStyle.TheVariants.{LineAndColumn, LineNumber}
 use Rattle.snippet_style.specs.Glyphs.{closing_of, file_start_of, separator_of}
+use Rattle.snippet_style.specs.Separators.{closing_row, separator_row}
 use Rattle.snippet_style.specs.Grid.{Cell, SPACE, drawn}
 use Rattle.snippet_text.specs.Normalized.{norm}
 use Rattle.snippet_titles.specs.declared.origin.FileStart.{FileStart}
@@ -54,14 +55,6 @@ file_row layout start =
 unfoldable pub origin_row : OriginLayout → FileStart → List ℕ → OriginPlace → List Cell
 origin_row layout start path place =
     file_row layout start ++ drawn LineAndColumn (origin_text layout.anonymized path place)
-
--- the row that sets others off: the separator at cell gutter + 1, and nothing else
-abbrev pub separator_row : DecorStyle → ℕ → List Cell
-separator_row decor gutter = replicate (gutter + 1) SPACE ++ drawn LineNumber (separator_of decor ∷ [])
-
--- the row that closes a group's window: in place of the separator, the closing glyph, and nothing else
-abbrev pub closing_row : DecorStyle → ℕ → List Cell
-closing_row decor gutter = replicate (gutter + 1) SPACE ++ drawn LineNumber (closing_of decor)
 
 -- the row of a padding: the separator row, or the closing row where nothing follows
 abbrev pub padding_row : DecorStyle → ℕ → Bool → List Cell

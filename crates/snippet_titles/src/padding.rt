@@ -1,6 +1,7 @@
 //! The rows that set others off.
 ghost use Rattle.std.specs.Prelude.{◌≡◌, ◌+◌, ◌^◌, ◌<◌, ◌∷◌, ◌++◌, [], OnOk};
-ghost use Rattle.snippet_titles.specs.Origin.{closing_row, padding_row, separator_row};
+ghost use Rattle.snippet_titles.specs.Origin.{padding_row};
+ghost use Rattle.snippet_style.specs.Separators.{closing_row, separator_row};
 
 use snippet_style::{DecorStyle, ElementStyle, StyledBuffer};
 use std::alloc::AllocError;

@@ -3,7 +3,7 @@ use denote.Enum.Bare.{sameb}
 use Rattle.snippet_model.specs.contracts.snippet.AnnotationKind.{the_type}
 use Rattle.snippet_model.specs.declared.snippet.AnnotationKind.{AnnotationKind}
 use Rattle.snippet_model.specs.declared.snippet.AnnotationKind.TheVariants.{Primary, Context, Visible}
-use Rattle.snippet_parts.specs.Annotated.{is_primary}
+use Rattle.snippet_model.specs.AnnotationKind.{is_primary}
 use Rattle.snippet_parts.proofs.NamedPlaceLemmas.{primary_column-more, primary_column-same}
 use Rattle.snippet_parts.proofs.named_place.least_primary_column.Goals as goal
 use Rattle.snippet_parts.proofs.named_place.least_primary_column.Goals.{then-eq, else-eq}

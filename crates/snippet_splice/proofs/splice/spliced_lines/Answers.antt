@@ -5,8 +5,9 @@ use Rattle.std.specs.String.{string_bytes}
 use Rattle.snippet_lines.specs.Lines.{lines_of, source_lines}
 use Rattle.snippet_splice.specs.Edits.{Edit, edit_of, trimmed_edit_of, trimmed_edits, in_order, patched, AreApart}
 use Rattle.snippet_splice.specs.Copied.{written_ranges}
+use Rattle.snippet_splice.specs.Splice.{IsPlain}
 use Rattle.snippet_splice.specs.Spliced.{ranges_from, texts_of, AreFrom}
-use Rattle.snippet_splice.specs.Shown.{first_start, shown_line, shown_start, shown_rest, closes_line, without_final_line_feeds}
+use Rattle.snippet_splice.specs.Shown.{first_start, shown_line, shown_start, shown_rest, shown_text, closes_line, without_final_line_feeds}
 use Rattle.snippet_splice.proofs.OverlapLemmas.{apart-in_order, ordered-spans}
 use Rattle.snippet_splice.proofs.ShownLemmas.{none-given, first-given, shown_start-border, shown-apart, shown-value, some-trimmed}
 use Rattle.snippet_splice.proofs.SpliceLemmas.{IsShownPart, shown-part}
@@ -37,8 +38,8 @@ write_patches-requires-clause-apart c =
     let edits : map trimmed_edit_of c.deref-2.result.now ≡ trimmed_edits source es = ap (map trimmed_edit_of) c.deref-2.ensures.value ∙ c.in_ok-patches.ensures.edits in
     subst (λ n. AreApart n (map trimmed_edit_of c.deref-2.result.now)) (sym begin) (subst (AreApart (shown_start c.args.fold source (first_start (in_order es)))) (sym edits) apart)
 
-pub returns-clause-value : goal.returns-clause-value
-returns-clause-value c =
+pub returns-clause-splice : goal.returns-clause-splice
+returns-clause-splice c =
     let source : List ℕ = c.args.source.now in
     let es : List Edit = map edit_of c.args.patches.now in
     let edits : map trimmed_edit_of c.deref-2.result.now ≡ trimmed_edits source es = ap (map trimmed_edit_of) c.deref-2.ensures.value ∙ c.in_ok-patches.ensures.edits in
@@ -46,53 +47,24 @@ returns-clause-value c =
     let same : map trimmed_edit_of c.deref-3.result.now ≡ map trimmed_edit_of c.deref-2.result.now = ap (map trimmed_edit_of) (c.deref-3.ensures.value ∙ sym c.deref-2.ensures.value) in
     let closed : c.closes_line.result ≡ closes_line (map trimmed_edit_of c.deref-2.result.now) = c.closes_line.ensures.value ∙ ap closes_line same in
     let rest : c.shown_rest-rest.result.now ≡ shown_rest c.args.fold c.closes_line.result (drop (min c.in_ok-written.written.end (length source)) source) = c.shown_rest-rest.ensures.value ∙ ap (shown_rest c.args.fold c.closes_line.result) (c.range_from-behind.ensures.value ∙ ap (λ n. drop n source) c.min.ensures) in
-    c.in_ok-complete.ensures.value ∙ shown-value c.args.fold source es (map trimmed_edit_of c.deref-2.result.now) c.in-Some.first.now.original_span.start c.shown_start-start.result c.in_ok-written.written.end c.closes_line.result (string_bytes c.in_ok-written.written.text) c.shown_rest-rest.result.now edits first c.shown_start-start.ensures.value c.in_ok-written.ensures.text c.in_ok-written.ensures.end closed rest
-
-pub returns-clause-text : goal.returns-clause-text
-returns-clause-text c = λ none before.
-    let source : List ℕ = c.args.source.now in
-    let es : List Edit = map edit_of c.args.patches.now in
-    let some : trimmed_edits source es ≢ [] = some-trimmed c.in_ok-patches.patches.items (trimmed_edits source es) c.in-Some.first.now c.in_ok-patches.ensures.edits (sym (c.in-Some.ensures.value ∙ ap (λ l. slice_get l 0) c.deref.ensures.value)) in
-    let part : IsShownPart c.args.fold source es = shown-part c.args.fold source es none before (apart-in_order es (ordered-spans source c.args.patches.now c.requires.spans) c.requires.disjoint) some in
-    returns-clause-value c ∙ part.text ∙ sym part.spliced
-
-pub returns-clause-ended : goal.returns-clause-ended
-returns-clause-ended c =
-    let is : string_bytes c.in_ok-complete.complete ≡ without_final_line_feeds (string_bytes c.in_ok-written.written.text ++ c.shown_rest-rest.result.now) = c.in_ok-complete.ensures.value in
-    ap without_final_line_feeds is ∙ without_final-twice (string_bytes c.in_ok-written.written.text ++ c.shown_rest-rest.result.now) ∙ sym is
-
-pub returns-clause-written : goal.returns-clause-written
-returns-clause-written c =
-    let source : List ℕ = c.args.source.now in
-    let es : List Edit = map edit_of c.args.patches.now in
-    let edits : map trimmed_edit_of c.deref-2.result.now ≡ trimmed_edits source es = ap (map trimmed_edit_of) c.deref-2.ensures.value ∙ c.in_ok-patches.ensures.edits in
-    let first : c.in-Some.first.now.original_span.start ≡ first_start (in_order es) = first-given c.in_ok-patches.patches.items (in_order es) c.in-Some.first.now c.in_ok-patches.ensures.originals (sym (c.in-Some.ensures.value ∙ ap (λ l. slice_get l 0) c.deref.ensures.value)) in
+    let value : string_bytes c.in_ok-complete.complete ≡ shown_text c.args.fold source es = c.in_ok-complete.ensures.value ∙ shown-value c.args.fold source es (map trimmed_edit_of c.deref-2.result.now) c.in-Some.first.now.original_span.start c.shown_start-start.result c.in_ok-written.written.end c.closes_line.result (string_bytes c.in_ok-written.written.text) c.shown_rest-rest.result.now edits first c.shown_start-start.ensures.value c.in_ok-written.ensures.text c.in_ok-written.ensures.end closed rest in
+    let whole : string_bytes c.in_ok-complete.complete ≡ without_final_line_feeds (string_bytes c.in_ok-written.written.text ++ c.shown_rest-rest.result.now) = c.in_ok-complete.ensures.value in
     let begin : c.shown_start-start.result ≡ shown_start c.args.fold source (first_start (in_order es)) = c.shown_start-start.ensures.value ∙ ap (shown_start c.args.fold source) first in
-    c.in_ok-written.ensures.ranges ∙ ap (λ n. written_ranges source 0 n (map trimmed_edit_of c.deref-2.result.now)) begin ∙ ap (written_ranges source 0 (shown_start c.args.fold source (first_start (in_order es)))) edits
-
-pub returns-clause-ranges : goal.returns-clause-ranges
-returns-clause-ranges c = λ none before.
-    let source : List ℕ = c.args.source.now in
-    let es : List Edit = map edit_of c.args.patches.now in
-    ap (ranges_from (shown_line c.args.fold source es)) (returns-clause-written c) ∙ written-ranges c.args.fold source es none before (apart-in_order es (ordered-spans source c.args.patches.now c.requires.spans) c.requires.disjoint)
-
-pub returns-clause-lines : goal.returns-clause-lines
-returns-clause-lines c = λ none texts_none before.
-    let source : List ℕ = c.args.source.now in
-    let es : List Edit = map edit_of c.args.patches.now in
-    let some : trimmed_edits source es ≢ [] = some-trimmed c.in_ok-patches.patches.items (trimmed_edits source es) c.in-Some.first.now c.in_ok-patches.ensures.edits (sym (c.in-Some.ensures.value ∙ ap (λ l. slice_get l 0) c.deref.ensures.value)) in
-    let part : IsShownPart c.args.fold source es = shown-part c.args.fold source es none before (apart-in_order es (ordered-spans source c.args.patches.now c.requires.spans) c.requires.disjoint) some in
-    subst (λ t. AreFrom (shown_line c.args.fold source es) (texts_of (lines_of t)) (texts_of (source_lines (patched source es)))) (sym (returns-clause-value c ∙ part.text)) (shown-lines c.args.fold source es none texts_none part)
-
-pub returns-clause-touched : goal.returns-clause-touched
-returns-clause-touched c = λ none before j touched filled.
-    let source : List ℕ = c.args.source.now in
-    let es : List Edit = map edit_of c.args.patches.now in
+    let written : c.in_ok-written.written.ranges.items ≡ written_ranges source 0 (shown_start c.args.fold source (first_start (in_order es))) (trimmed_edits source es) = c.in_ok-written.ensures.ranges ∙ ap (λ n. written_ranges source 0 n (map trimmed_edit_of c.deref-2.result.now)) begin ∙ ap (written_ranges source 0 (shown_start c.args.fold source (first_start (in_order es)))) edits in
     let apart : AreApart 0 (in_order es) = apart-in_order es (ordered-spans source c.args.patches.now c.requires.spans) c.requires.disjoint in
     let some : trimmed_edits source es ≢ [] = some-trimmed c.in_ok-patches.patches.items (trimmed_edits source es) c.in-Some.first.now c.in_ok-patches.ensures.edits (sym (c.in-Some.ensures.value ∙ ap (λ l. slice_get l 0) c.deref.ensures.value)) in
-    let part : IsShownPart c.args.fold source es = shown-part c.args.fold source es none before apart some in
-    subst (λ t. (shown_line c.args.fold source es ≤ j) × (j < shown_line c.args.fold source es + length (lines_of t))) (sym (returns-clause-value c ∙ part.text)) (shown-touched c.args.fold source es none before apart part j touched filled)
-
-pub returns-clause-law : goal.returns-clause-law
-returns-clause-law c =
-    c.in_ok-patches.ensures.law (apart-in_order (map edit_of c.args.patches.now) (ordered-spans c.args.source.now c.args.patches.now c.requires.spans) c.requires.disjoint)
+    let part : IsPlain source es → IsShownPart c.args.fold source es = λ plain. shown-part c.args.fold source es plain.no_cr plain.before apart some in
+    record {
+      edits = c.in_ok-patches.ensures.edits;
+      originals = c.in_ok-patches.ensures.originals;
+      spans = c.in_ok-patches.ensures.spans;
+      original_spans = c.in_ok-patches.ensures.original_spans;
+      law = c.in_ok-patches.ensures.law apart;
+      value = value;
+      ended = ap without_final_line_feeds whole ∙ without_final-twice (string_bytes c.in_ok-written.written.text ++ c.shown_rest-rest.result.now) ∙ sym whole;
+      written = written;
+      text = λ plain. value ∙ (part plain).text ∙ sym (part plain).spliced;
+      ranges = λ plain. ap (ranges_from (shown_line c.args.fold source es)) written ∙ written-ranges c.args.fold source es plain.no_cr plain.before apart;
+      lines = λ plain texts_none. subst (λ t. AreFrom (shown_line c.args.fold source es) (texts_of (lines_of t)) (texts_of (source_lines (patched source es)))) (sym (value ∙ (part plain).text)) (shown-lines c.args.fold source es plain.no_cr texts_none (part plain));
+      touched = λ plain j touched filled. subst (λ t. (shown_line c.args.fold source es ≤ j) × (j < shown_line c.args.fold source es + length (lines_of t))) (sym (value ∙ (part plain).text)) (shown-touched c.args.fold source es plain.no_cr plain.before apart (part plain) j touched filled);
+    }

@@ -2,7 +2,7 @@ use Rattle.std.proofs.Common.{◌+◌, ◌<◌, [], ◌∷◌, arith, length}
 use Rattle.std.proofs.lemmas.List.Elements.{All-cons, All-nil}
 use Rattle.snippet_style.specs.Grid.{Cell, unlinked_cell}
 use Rattle.snippet_strokes.specs.Entries.{IsRailCell}
-use Rattle.snippet_parts.specs.Rows.{IsFreeCell}
+use Rattle.snippet_model.specs.Rows.{IsFreeCell}
 use Rattle.snippet_strokes.proofs.DrawLemmas.{DrawsFrom-none, DrawsFrom-more, DrawsFrom-writes, KeepsRails-none, KeepsRails-more, KeepsRails-writes, free_rail, rail_horizontal}
 use Rattle.snippet_strokes.proofs.connectors.draw_line_to.Goals as goal
 

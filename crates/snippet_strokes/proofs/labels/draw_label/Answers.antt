@@ -8,7 +8,7 @@ use Rattle.snippet_model.specs.declared.snippet.AnnotationKind.{AnnotationKind}
 use Rattle.snippet_model.specs.declared.snippet.AnnotationKind.TheVariants.{Primary, Context, Visible}
 use Rattle.snippet_text.specs.Normalized.{is_listed}
 use Rattle.snippet_strokes.specs.Entries.{label_text, label_role, has_mark_role}
-use Rattle.snippet_parts.specs.Rows.{IsFreeCell}
+use Rattle.snippet_model.specs.Rows.{IsFreeCell}
 use Rattle.snippet_strokes.specs.Painting.{DrawsFrom}
 use Rattle.snippet_strokes.specs.Positions.{has_label, label_place}
 use Rattle.snippet_strokes.proofs.DrawLemmas.{DrawsFrom-none, DrawsFrom-writes, free_drawn, unmarked_drawn, unmarked_writes}

@@ -1,5 +1,5 @@
 use Rattle.std.proofs.Common.{◌≡◌, ◌-◌, ◌^◌, ◌≤◌, ◌++◌, length, replicate}
-use Rattle.snippet_strokes.specs.Rows.{separator_row}
+use Rattle.snippet_style.specs.Separators.{separator_row}
 use Rattle.snippet_strokes.proofs.row.begin_rows.Given as goal
 
 -- so many rows are begun

@@ -2,8 +2,8 @@ use Rattle.std.proofs.Common.{refl, ◌≡◌, ◌==◌, cond, ◌+◌, ◌<◌,
 use Rattle.std.proofs.lemmas.List.Elements.{All-cons, All-nil}
 use Rattle.snippet_style.specs.Grid.{Cell}
 use Rattle.snippet_text.specs.Normalized.{is_listed}
-use Rattle.snippet_parts.specs.Rows.{IsFreeCell}
-use Rattle.snippet_strokes.specs.Entries.{is_primary}
+use Rattle.snippet_model.specs.Rows.{IsFreeCell}
+use Rattle.snippet_model.specs.AnnotationKind.{is_primary}
 use Rattle.snippet_strokes.specs.Positions.{has_label}
 use Rattle.snippet_strokes.proofs.DrawLemmas.{DrawsFrom-more, DrawsFrom-writes, unmarked_beside}
 use Rattle.snippet_strokes.proofs.TextLemmas.{free_foot, free_stem}

@@ -9,7 +9,8 @@ use Rattle.snippet_strokes.specs.Positions.{HasItsLabel, has_label, has_stem, ro
 use Rattle.snippet_style.specs.Grid.{cells_written, drawn}
 use Rattle.snippet_strokes.specs.Entries.{HasPlace, HasRail, is_single, label_role, label_text, shifted, wide_entries}
 use Rattle.snippet_strokes.proofs.ShiftLemmas.{shifted_places, shifted_rails}
-use Rattle.snippet_strokes.specs.Rows.{separator_row, bare_row}
+use Rattle.snippet_strokes.specs.Rows.{bare_row}
+use Rattle.snippet_style.specs.Separators.{separator_row}
 use Rattle.snippet_strokes.proofs.PositionLemmas.{entries_all, row_count_some, positions_of_placed}
 use Rattle.snippet_strokes.proofs.BegunLemmas.{rows_begun, rows_ready, wide_entries-permutation}
 use Rattle.snippet_strokes.proofs.StrokeLemmas.{strokes_drawn, strokes_none}

@@ -8,6 +8,7 @@ use Rattle.snippet_lines.proofs.LinesLemmas.{length-source_lines}
 use Rattle.snippet_splice.specs.declared.patches.TrimmedPatch.{TrimmedPatch}
 use Rattle.snippet_splice.specs.Copied.{written_ranges}
 use Rattle.snippet_splice.specs.Edits.{Edit, bounds_of, edit_of, in_order, original_bounds_of, trimmed_edit_of, trimmed_edits}
+use Rattle.snippet_splice.specs.Splice.{IsSplice}
 use Rattle.snippet_splice.specs.Shown.{first_start, shown_start, shown_text}
 use Rattle.snippet_suggest.specs.Given.{edits_of, given_ranges, given_text, shown_kind, source_of, trimmed_of}
 use Rattle.snippet_suggest.specs.Kind.{kind_of}
@@ -21,9 +22,9 @@ new-requires-clause-numbers c =
 pub counted_line-counted-requires-clause-some : goal.counted_line-counted-requires-clause-some
 counted_line-counted-requires-clause-some c =
     let none = rw c.in-Some.is at c.in_ok-splice.ensures.none in
-    let edits = rw c.in-Some.is at c.in_ok-splice.ensures.edits in
+    let splice : IsSplice c.in_ok-map.map.text (map edit_of c.deref.result.now) c.args.snippet.now.fold c.in-Some.splice = rw c.in-Some.is at c.in_ok-splice.ensures.splice in
     let given : c.deref.result.now ≢ [] = λ e. let other = none.1 e in cc in
-    some-left c.in_ok-map.map.text c.deref.result.now c.in-Some.splice.patches.items given edits
+    some-left c.in_ok-map.map.text c.deref.result.now c.in-Some.splice.patches.items given splice.edits
 
 pub returns-clause-prepared : goal.returns-clause-prepared
 returns-clause-prepared c =
@@ -34,14 +35,11 @@ returns-clause-prepared c =
     let of : c.in_ok-map.map.text ≡ source = ap (λ (m : Source). m.text) lines in
     let given : c.deref.result.now ≡ s.markers.items = c.deref.ensures.value in
     let none = rw c.in-Some.is at c.in_ok-splice.ensures.none in
-    let value = rw c.in-Some.is at c.in_ok-splice.ensures.value in
-    let edits_is = rw c.in-Some.is at c.in_ok-splice.ensures.edits in
-    let originals_is = rw c.in-Some.is at c.in_ok-splice.ensures.originals in
-    let written = rw c.in-Some.is at c.in_ok-splice.ensures.written in
-    let text : string_bytes c.in-Some.splice.complete ≡ given_text s = value ∙ ap (λ (t : List ℕ). shown_text s.fold t (map edit_of c.deref.result.now)) of ∙ ap (λ (ms : List Patch). shown_text s.fold source (map edit_of ms)) given in
-    let edits : map trimmed_edit_of ps ≡ trimmed_of s = edits_is ∙ ap (λ (t : List ℕ). trimmed_edits t (map edit_of c.deref.result.now)) of ∙ ap (λ (ms : List Patch). trimmed_edits source (map edit_of ms)) given in
-    let originals : map original_bounds_of ps ≡ map bounds_of (in_order (edits_of s)) = originals_is ∙ ap (λ (ms : List Patch). map bounds_of (in_order (map edit_of ms))) given in
-    let ranges : c.in-Some.splice.ranges.items ≡ given_ranges s = written ∙ ap (λ (t : List ℕ). written_ranges t 0 (shown_start s.fold t (first_start (in_order (map edit_of c.deref.result.now)))) (trimmed_edits t (map edit_of c.deref.result.now))) of ∙ ap (λ (ms : List Patch). written_ranges source 0 (shown_start s.fold source (first_start (in_order (map edit_of ms)))) (trimmed_edits source (map edit_of ms))) given in
+    let splice : IsSplice c.in_ok-map.map.text (map edit_of c.deref.result.now) s.fold c.in-Some.splice = rw c.in-Some.is at c.in_ok-splice.ensures.splice in
+    let text : string_bytes c.in-Some.splice.complete ≡ given_text s = splice.value ∙ ap (λ (t : List ℕ). shown_text s.fold t (map edit_of c.deref.result.now)) of ∙ ap (λ (ms : List Patch). shown_text s.fold source (map edit_of ms)) given in
+    let edits : map trimmed_edit_of ps ≡ trimmed_of s = splice.edits ∙ ap (λ (t : List ℕ). trimmed_edits t (map edit_of c.deref.result.now)) of ∙ ap (λ (ms : List Patch). trimmed_edits source (map edit_of ms)) given in
+    let originals : map original_bounds_of ps ≡ map bounds_of (in_order (edits_of s)) = splice.originals ∙ ap (λ (ms : List Patch). map bounds_of (in_order (map edit_of ms))) given in
+    let ranges : c.in-Some.splice.ranges.items ≡ given_ranges s = splice.written ∙ ap (λ (t : List ℕ). written_ranges t 0 (shown_start s.fold t (first_start (in_order (map edit_of c.deref.result.now)))) (trimmed_edits t (map edit_of c.deref.result.now))) of ∙ ap (λ (ms : List Patch). written_ranges source 0 (shown_start s.fold source (first_start (in_order (map edit_of ms)))) (trimmed_edits source (map edit_of ms))) given in
     let kind : c.new-kind.result ≡ shown_kind s = c.new-kind.ensures.value ∙ ap (λ (t : List ℕ). kind_of t (map trimmed_edit_of ps) (string_bytes c.in-Some.splice.complete)) (c.source.ensures.value ∙ of) ∙ ap (λ (ts : List Edit). kind_of source ts (string_bytes c.in-Some.splice.complete)) edits ∙ ap (kind_of source (trimmed_of s)) text in
     record {
       suggestible = c.requires.suggestible;

@@ -1,12 +1,8 @@
-use Rattle.std.proofs.Common.{ℕ, List, All, IfOk, IfSome, subst}
-use Rattle.snippet_lines.specs.Span.{IsSpan}
-use Rattle.snippet_splice.specs.declared.patches.TrimmedPatch.{TrimmedPatch}
+use Rattle.std.proofs.Common.{ℕ, List, IfOk, IfSome, map, subst}
+use Rattle.snippet_splice.specs.Edits.{edit_of}
+use Rattle.snippet_splice.specs.Splice.{IsSplice}
 use Rattle.snippet_parts.proofs.source_map.SourceMap.splice_lines.Goals as goal
 
-pub returns-clause-spans : goal.returns-clause-spans
-returns-clause-spans c =
-    subst (λ (source : List ℕ). IfOk c.spliced_lines.result (λ t. IfSome t (λ s. All (λ (p : TrimmedPatch). IsSpan source p.span.start p.span.end) s.patches.items))) c.source.ensures.value c.spliced_lines.ensures.spans
-
-pub returns-clause-original_spans : goal.returns-clause-original_spans
-returns-clause-original_spans c =
-    subst (λ (source : List ℕ). IfOk c.spliced_lines.result (λ t. IfSome t (λ s. All (λ (p : TrimmedPatch). IsSpan source p.original_span.start p.original_span.end) s.patches.items))) c.source.ensures.value c.spliced_lines.ensures.original_spans
+pub returns-clause-splice : goal.returns-clause-splice
+returns-clause-splice c =
+    subst (λ (source : List ℕ). IfOk c.spliced_lines.result (λ t. IfSome t (IsSplice source (map edit_of c.args.patches.now) c.args.fold))) c.source.ensures.value c.spliced_lines.ensures.splice

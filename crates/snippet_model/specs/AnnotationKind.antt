@@ -1,0 +1,10 @@
+-- Kinds of annotations.
+use Rattle.std.specs.Prelude.{Bool, true, false}
+use Rattle.snippet_model.specs.declared.snippet.AnnotationKind.{AnnotationKind}
+use Rattle.snippet_model.specs.declared.snippet.AnnotationKind.TheVariants.{Primary, Context, Visible}
+
+-- whether a span of this kind is marked as a primary one
+abbrev pub is_primary : AnnotationKind → Bool
+is_primary Primary = true
+is_primary Context = false
+is_primary Visible = false
