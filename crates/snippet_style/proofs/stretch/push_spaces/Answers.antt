@@ -1,0 +1,14 @@
+use Rattle.std.proofs.Common.{◌≡◌, ◌∙◌, ◌-◌, ◌++◌, ap, arith, ℕ, List, replicate, string_bytes}
+use Rattle.snippet_style.proofs.StretchPrinted.{more_spaces}
+use Rattle.snippet_style.proofs.stretch.push_spaces.Goals as goal
+
+pub loop-left-preserved : goal.loop-left-preserved
+loop-left-preserved c =
+    record {
+      low = omega arith;
+      text = more_spaces (string_bytes c.args.out.now) (string_bytes c.loop-left.out) (string_bytes c.push_part.new.out) (c.args.count - c.loop-left.left) 64 (c.args.count - (c.loop-left.left - 64)) (omega (arith, c.loop-left.invariant.low)) c.loop-left.invariant.text c.in_ok-push_part.ensures.text;
+    }
+
+pub returns : goal.returns
+returns c =
+    record { text = more_spaces (string_bytes c.args.out.now) (string_bytes c.loop-left.out) (string_bytes c.push_part-2.new.out) (c.args.count - c.loop-left.left) c.loop-left.left c.args.count (omega (arith, c.loop-left.invariant.low)) c.loop-left.invariant.text c.in_ok-push_part-2.ensures.text }
