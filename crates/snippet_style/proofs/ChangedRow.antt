@@ -75,17 +75,17 @@ change_next old now new out_old out_now out_new runs run row from to change n co
             subst (λ (x : Run). holds x row c ≡ false) (sym item) (holds_behind run row c (omega arith))
       ];
       ahead = λ i d after inside.
-        let next : Run = get_or runs i d in
-        let precedes : Precedes (get_or runs n d) next = are.ordered n i d (omega arith) inside in
-        let item : get_or runs n d ≡ run = get_or_default runs n d run within ∙ sym read in
-        let beyond : run.cell + run.count ≤ next.cell = subst (λ (x : Run). x.cell + x.count ≤ next.cell) item (precedes.cells (are.in_row n d within ∙ sym (are.in_row i d inside))) in
-        omega arith;
+          let next : Run = get_or runs i d in
+          let precedes : Precedes (get_or runs n d) next = are.ordered n i d (omega arith) inside in
+          let item : get_or runs n d ≡ run = get_or_default runs n d run within ∙ sym read in
+          let beyond : run.cell + run.count ≤ next.cell = subst (λ (x : Run). x.cell + x.count ≤ next.cell) item (precedes.cells (are.in_row n d within ∙ sym (are.in_row i d inside))) in
+          omega arith;
       shows = span_joined old now new out_old out_now out_new row from col end k h k low (omega arith) (λ c above below. refl) (λ c above below. elim (cases_lt c start) [
         | inl before ↦
             let free : shown old runs row c ≡ SPACE = gap_is_free old now out_old out_now runs row from to change n col c are so_far above (omega arith) (λ i d after inside.
-              let first : (get_or runs n run).cell ≤ (get_or runs i d).cell = first_ahead old row runs n run are within i d after inside in
-              let same : run.cell ≡ (get_or runs n run).cell = ap (λ (x : Run). x.cell) read in
-              omega arith) in
+            let first : (get_or runs n run).cell ≤ (get_or runs i d).cell = first_ahead old row runs n run are within i d after inside in
+            let same : run.cell ≡ (get_or runs n run).cell = ap (λ (x : Run). x.cell) read in
+            omega arith) in
             ap (λ (d : Cell). changed_by change d) (pick SPACE (run_cell now run c) (lt-ltb c start before) ∙ sym free)
         | inr after ↦
             let held : shown old runs row c ≡ run_cell old run c = subst (λ (x : Run). x.cell ≤ c → c < x.cell + x.count → shown old runs row c ≡ run_cell old x c) (sym read) (shown_in old row c n runs run are within) (omega arith) (omega arith) in
@@ -134,9 +134,9 @@ span_copied old new out now runs row from to some shows =
     shows row c ∙ elim (cases_lt c from) [
       | inl left ↦ pick there before (copied_before from to from c left) ∙ sym (pick here before (within_before from to c left))
       | inr low ↦ elim (cases_lt c to) [
-          | inl high ↦ pick there before (copied_yes from to from c low (omega arith)) ∙ ap (λ i. shown old runs row i) (omega arith) ∙ sym (pick here before (within_yes from to c low high))
-          | inr behind ↦ pick there before (copied_behind from to from c (omega arith)) ∙ sym (pick here before (within_behind from to c behind))
-        ]
+        | inl high ↦ pick there before (copied_yes from to from c low (omega arith)) ∙ ap (λ i. shown old runs row i) (omega arith) ∙ sym (pick here before (within_yes from to c low high))
+        | inr behind ↦ pick there before (copied_behind from to from c (omega arith)) ∙ sym (pick here before (within_behind from to c behind))
+      ]
     ]
 
 -- a row that was copied with a span changed
@@ -186,16 +186,16 @@ met_outer text row a b top (run ∷ runs) low is =
     elim (cases_lt (max run.cell b) (min (run.cell + run.count) top)) [
       | inl right ↦
           let beyond : All (λ z. a ≤ z.cell) runs = λ k d within.
-            let precedes : Precedes run (get_or runs k d) = is.ordered 0 (suc k) d (omega arith) (omega arith) in
-            let reaches : run.cell + run.count ≤ (get_or runs k d).cell = precedes.cells (is.in_row 0 d (omega arith) ∙ sym (rest.in_row k d within)) in
-            omega arith in
+          let precedes : Precedes run (get_or runs k d) = is.ordered 0 (suc k) d (omega arith) (omega arith) in
+          let reaches : run.cell + run.count ≤ (get_or runs k d).cell = precedes.cells (is.in_row 0 d (omega arith) ∙ sym (rest.in_row k d within)) in
+          omega arith in
           let none : num_met 0 a runs ≡ 0 = none_met 0 a runs beyond in
           elim (cases_lt (max run.cell 0) (min (run.cell + run.count) a)) [
             | inl left ↦ omega (arith, none, num_met-le b top runs, pick {X = ℕ} 1 0 (lt-ltb (max run.cell 0) (min (run.cell + run.count) a) left), pick {X = ℕ} 1 0 (lt-ltb (max run.cell b) (min (run.cell + run.count) top) right))
             | inr free ↦ omega (arith, none, num_met-le b top runs, pick {X = ℕ} 1 0 (le-ltb (max run.cell 0) (min (run.cell + run.count) a) free), pick {X = ℕ} 1 0 (lt-ltb (max run.cell b) (min (run.cell + run.count) top) right))
           ]
       | inr free ↦ elim (cases_lt (max run.cell 0) (min (run.cell + run.count) a)) [
-          | inl left ↦ omega (arith, met_outer text row a b top runs low rest, pick {X = ℕ} 1 0 (lt-ltb (max run.cell 0) (min (run.cell + run.count) a) left), pick {X = ℕ} 1 0 (le-ltb (max run.cell b) (min (run.cell + run.count) top) free))
-          | inr none ↦ omega (arith, met_outer text row a b top runs low rest, pick {X = ℕ} 1 0 (le-ltb (max run.cell 0) (min (run.cell + run.count) a) none), pick {X = ℕ} 1 0 (le-ltb (max run.cell b) (min (run.cell + run.count) top) free))
-        ]
+        | inl left ↦ omega (arith, met_outer text row a b top runs low rest, pick {X = ℕ} 1 0 (lt-ltb (max run.cell 0) (min (run.cell + run.count) a) left), pick {X = ℕ} 1 0 (le-ltb (max run.cell b) (min (run.cell + run.count) top) free))
+        | inr none ↦ omega (arith, met_outer text row a b top runs low rest, pick {X = ℕ} 1 0 (le-ltb (max run.cell 0) (min (run.cell + run.count) a) none), pick {X = ℕ} 1 0 (le-ltb (max run.cell b) (min (run.cell + run.count) top) free))
+      ]
     ]

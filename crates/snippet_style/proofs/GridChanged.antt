@@ -19,15 +19,15 @@ use Rattle.snippet_style.specs.declared.runs.Run.{Run}
 pub same_rows : (old a b : List (List Cell)) (row : ℕ) → length a ≡ length b → length (row_at a row) ≡ length (row_at b row) → ((c : ℕ) → c < length (row_at a row) → cell_at a row c ≡ cell_at b row c) → ((r : ℕ) → r ≢ row → row_at a r ≡ row_at b r) → a ≡ b
 same_rows old a b row count width cells others =
     let row_is : row_at a row ≡ row_at b row = same_lists (row_at a row) (row_at b row) width (λ k d within.
-      let inside : k < length (row_at b row) = omega arith in
-      get_or_default (row_at a row) k d SPACE within ∙ cells k within ∙ sym (get_or_default (row_at b row) k d SPACE inside)) in
+    let inside : k < length (row_at b row) = omega arith in
+    get_or_default (row_at a row) k d SPACE within ∙ cells k within ∙ sym (get_or_default (row_at b row) k d SPACE inside)) in
     let each : (r : ℕ) → row_at a r ≡ row_at b r = λ r. elim (cases_eq r row) [
       | inl here ↦ subst (λ k. row_at a k ≡ row_at b k) (sym here) row_is
       | inr other ↦ others r other
     ] in
     same_lists a b count (λ r d within.
-      let inside : r < length b = omega arith in
-      get_or_default a r d [] within ∙ each r ∙ sym (get_or_default b r d [] inside))
+    let inside : r < length b = omega arith in
+    get_or_default a r d [] within ∙ each r ∙ sym (get_or_default b r d [] inside))
 
 -- two grids that a change left are one
 ChangesCells-unique : (f : Cell → Cell) (old a b : List (List Cell)) (row start end : ℕ) → ChangesCells f old a row start end → ChangesCells f old b row start end → a ≡ b
@@ -35,9 +35,9 @@ ChangesCells-unique f old a b row start end one two =
     same_rows old a b row (one.count ∙ sym two.count) (one.width ∙ sym two.width) (λ c within. elim (cases_lt c start) [
       | inl before ↦ one.before c before ∙ sym (two.before c before)
       | inr low ↦ elim (cases_lt c end) [
-          | inl high ↦ one.inside c low high (omega (arith, one.width)) ∙ sym (two.inside c low high (omega (arith, one.width)))
-          | inr behind ↦ one.behind c behind ∙ sym (two.behind c behind)
-        ]
+        | inl high ↦ one.inside c low high (omega (arith, one.width)) ∙ sym (two.inside c low high (omega (arith, one.width)))
+        | inr behind ↦ one.behind c behind ∙ sym (two.behind c behind)
+      ]
     ]) (λ r other. one.others r other ∙ sym (two.others r other))
 
 -- runs that show cells of a row changed, read cell by cell
@@ -47,10 +47,10 @@ ChangesCells-shown f old new runs now w row start end last is_last fit_old fit_n
     let after = grid_shown new now w in
     let g = λ (c : ℕ). f (shown old runs row c) in
     let stays : (c : ℕ) → is_within start last c ≡ false → cell_at after row c ≡ cell_at before row c = λ c no.
-      cell_shown new now w row c fit_new ∙ shows c ∙ pick (g c) (shown old runs row c) no ∙ sym (cell_shown old runs w row c fit_old) in
+    cell_shown new now w row c fit_new ∙ shows c ∙ pick (g c) (shown old runs row c) no ∙ sym (cell_shown old runs w row c fit_old) in
     record {
       inside = λ c low high within.
-        cell_shown new now w row c fit_new ∙ shows c ∙ pick (g c) (shown old runs row c) (within_yes start last c low (omega (arith, width_shown old runs w row))) ∙ ap f (sym (cell_shown old runs w row c fit_old));
+          cell_shown new now w row c fit_new ∙ shows c ∙ pick (g c) (shown old runs row c) (within_yes start last c low (omega (arith, width_shown old runs w row))) ∙ ap f (sym (cell_shown old runs w row c fit_old));
       before = λ c low. stays c (within_before start last c low);
       behind = λ c high. stays c (within_behind start last c (omega arith));
       others = λ r other. same_row old new runs now w w r refl (λ c. others r c other);

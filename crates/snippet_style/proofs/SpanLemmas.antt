@@ -30,13 +30,13 @@ pub span_same : (was old new : List ℕ) (out now : List Run) (r row a b from to
 span_same was old new out now r row a b from to g h same_row same_from same_to same stays shows =
     λ c.
     let here : shown new now row c ≡ (if is_within from to c then g c else shown old out row c) =
-        subst (λ k. shown new now k c ≡ (if is_within from to c then g c else shown old out k c)) same_row (subst (λ k. shown new now r c ≡ (if is_within from k c then g c else shown old out r c)) same_to (subst (λ k. shown new now r c ≡ (if is_within k b c then g c else shown old out r c)) same_from (shows c))) in
+    subst (λ k. shown new now k c ≡ (if is_within from to c then g c else shown old out k c)) same_row (subst (λ k. shown new now r c ≡ (if is_within from k c then g c else shown old out r c)) same_to (subst (λ k. shown new now r c ≡ (if is_within k b c then g c else shown old out r c)) same_from (shows c))) in
     here ∙ ap (λ (d : Cell). if is_within from to c then g c else d) (stays c) ∙ elim (cases_lt c from) [
       | inl before ↦ pick (g c) (shown was out row c) (within_before from to c before) ∙ sym (pick (h c) (shown was out row c) (within_before from to c before))
       | inr low ↦ elim (cases_lt c to) [
-          | inl high ↦ pick (g c) (shown was out row c) (within_yes from to c low high) ∙ same c low high ∙ sym (pick (h c) (shown was out row c) (within_yes from to c low high))
-          | inr behind ↦ pick (g c) (shown was out row c) (within_behind from to c behind) ∙ sym (pick (h c) (shown was out row c) (within_behind from to c behind))
-        ]
+        | inl high ↦ pick (g c) (shown was out row c) (within_yes from to c low high) ∙ same c low high ∙ sym (pick (h c) (shown was out row c) (within_yes from to c low high))
+        | inr behind ↦ pick (g c) (shown was out row c) (within_behind from to c behind) ∙ sym (pick (h c) (shown was out row c) (within_behind from to c behind))
+      ]
     ]
 
 -- a span and the next one
@@ -48,12 +48,12 @@ span_joined t0 t1 t2 o0 o1 o2 row from mid to g h k first_le second_le first_is 
     elim (cases_lt c from) [
       | inl before ↦ second c ∙ pick (h c) s1 (within_before mid to c (omega arith)) ∙ first c ∙ pick (g c) s0 (within_before from mid c before) ∙ sym (pick (k c) s0 (within_before from to c before))
       | inr low ↦ elim (cases_lt c mid) [
-          | inl left ↦ second c ∙ pick (h c) s1 (within_before mid to c left) ∙ first c ∙ pick (g c) s0 (within_yes from mid c low left) ∙ first_is c low left ∙ sym (pick (k c) s0 (within_yes from to c low (omega arith)))
-          | inr right ↦ elim (cases_lt c to) [
-              | inl high ↦ second c ∙ pick (h c) s1 (within_yes mid to c right high) ∙ second_is c right high ∙ sym (pick (k c) s0 (within_yes from to c low high))
-              | inr behind ↦ second c ∙ pick (h c) s1 (within_behind mid to c behind) ∙ first c ∙ pick (g c) s0 (within_behind from mid c right) ∙ sym (pick (k c) s0 (within_behind from to c behind))
-            ]
+        | inl left ↦ second c ∙ pick (h c) s1 (within_before mid to c left) ∙ first c ∙ pick (g c) s0 (within_yes from mid c low left) ∙ first_is c low left ∙ sym (pick (k c) s0 (within_yes from to c low (omega arith)))
+        | inr right ↦ elim (cases_lt c to) [
+          | inl high ↦ second c ∙ pick (h c) s1 (within_yes mid to c right high) ∙ second_is c right high ∙ sym (pick (k c) s0 (within_yes from to c low high))
+          | inr behind ↦ second c ∙ pick (h c) s1 (within_behind mid to c behind) ∙ first c ∙ pick (g c) s0 (within_behind from mid c right) ∙ sym (pick (k c) s0 (within_behind from to c behind))
         ]
+      ]
     ]
 
 -- a list of spaces has a space everywhere
@@ -94,6 +94,6 @@ part_span t0 t1 t2 o0 o1 o2 run part col start end change gap low some grows is 
     let k = λ (c : ℕ). changed_by change (if nat_lt c start then SPACE else run_cell t0 run c) in
     let next : ShowsSpan t1 t2 o1 o2 run.row start end f = span_same t1 t1 t2 o1 o2 part.row run.row part.cell (part.cell + part.count) start end f f cut.row cut.cell (omega (arith, cut.cell, cut.count)) (λ c above below. refl) (λ c. refl) second in
     span_joined t0 t1 t2 o0 o1 o2 run.row col start end (λ c. changed_by change SPACE) f k gap (omega arith) (λ c above below. ap (λ (d : Cell). changed_by change d) (sym (pick SPACE (run_cell t0 run c) (lt-ltb c start below)))) (λ c above below.
-      let place : start + (c - start) ≡ c = omega arith in
-      let same : run_cell t1 part c ≡ run_cell t0 run c = piece_cell t0 t1 run part part start start start end c grows is cut low (omega arith) (omega (arith, cut.cell)) refl refl refl refl (omega (arith, cut.cell)) (omega (arith, cut.cell)) ∙ ap (λ i. run_cell t0 run i) place in
-      ap (λ (d : Cell). changed_by change d) (same ∙ sym (pick SPACE (run_cell t0 run c) (le-ltb c start above)))) first next
+    let place : start + (c - start) ≡ c = omega arith in
+    let same : run_cell t1 part c ≡ run_cell t0 run c = piece_cell t0 t1 run part part start start start end c grows is cut low (omega arith) (omega (arith, cut.cell)) refl refl refl refl (omega (arith, cut.cell)) (omega (arith, cut.cell)) ∙ ap (λ i. run_cell t0 run i) place in
+    ap (λ (d : Cell). changed_by change d) (same ∙ sym (pick SPACE (run_cell t0 run c) (le-ltb c start above)))) first next
