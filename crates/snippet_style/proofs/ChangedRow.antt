@@ -182,6 +182,7 @@ met_outer text row a b top (run ∷ runs) low is =
       are_runs = All-tail (λ x. IsRun text x) run runs is.are_runs;
       in_row = All-tail (λ x. x.row ≡ row) run runs is.in_row;
       ordered = λ i j d below within. is.ordered (suc i) (suc j) d (omega arith) (omega arith);
+      apart = λ i j d below within. is.apart (suc i) (suc j) d (omega arith) (omega arith);
     } in
     elim (cases_lt (max run.cell b) (min (run.cell + run.count) top)) [
       | inl right ↦

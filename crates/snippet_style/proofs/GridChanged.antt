@@ -5,7 +5,7 @@ use Rattle.std.proofs.lemmas.Bool.{cases_lt, cases_eq}
 use Rattle.std.specs.Bool.{if◌then◌else◌}
 use Rattle.snippet_style.proofs.ChangeLemmas.{ChangesCells-cells_changed}
 use Rattle.snippet_style.proofs.GridShown.{count_shown, width_shown, cell_shown, same_row}
-use Rattle.snippet_style.proofs.PutLemmas.{are_runs-put, ordered-put, inside-put, AreOrdered}
+use Rattle.snippet_style.proofs.PutLemmas.{are_runs-put, ordered-put, apart-put, inside-put, AreOrdered, AreApart}
 use Rattle.snippet_style.proofs.RowPut.{row_shows, put_shows, put_others, put_length, length-stretch}
 use Rattle.snippet_style.proofs.ShownLemmas.{pick, painted-grown}
 use Rattle.snippet_style.proofs.SpanLemmas.{within_yes, within_before, within_behind, span_same}
@@ -64,6 +64,7 @@ pub record IsPut (old new : List ℕ) (runs now fresh : List Run) (row start end
   pub grows : BeginsWith old new
   pub are_runs : All (λ x. IsRun old x) runs
   pub ordered : AreOrdered runs
+  pub apart : AreApart runs
   pub is_row : IsRow new row fresh
   pub is : now ≡ take start runs ++ fresh ++ drop end runs
 
@@ -76,6 +77,7 @@ IsGrid-put old new runs now fresh w v row start end put fit =
     record {
       are_runs = are_runs-put old new runs now fresh row start end put.grows put.are_runs put.is_row put.is;
       ordered = ordered-put new runs now fresh row start end put.at.ordered put.at.within put.at.above put.at.below put.ordered put.is_row put.is;
+      apart = apart-put new runs now fresh row start end put.at.ordered put.at.within put.at.above put.at.below put.apart put.is_row put.is;
       inside = fit;
     }
 

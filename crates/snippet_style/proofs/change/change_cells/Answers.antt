@@ -2,7 +2,7 @@ use Rattle.std.proofs.Common.{◌≡◌, ◌∙◌, ◌+◌, ◌≤◌, ap, arit
 use Rattle.snippet_style.proofs.ChangeLemmas.{cells_changed_none}
 use Rattle.snippet_style.proofs.GridChanged.{IsPut, IsGrid-put, FitIn-put, grid_changed}
 use Rattle.snippet_style.proofs.GridShown.{on_err_from, IsGrid-grown, grid_grown, width_shown}
-use Rattle.snippet_style.proofs.PutLemmas.{AreOrdered, IsRow-stretch}
+use Rattle.snippet_style.proofs.PutLemmas.{AreOrdered, AreApart, IsRow-stretch}
 use Rattle.snippet_style.proofs.RowPut.{RowAt-read}
 use Rattle.snippet_style.proofs.StretchLemmas.{stretch}
 use Rattle.snippet_style.specs.Changes.{changed_by, ShowsSpan, RowAt}
@@ -23,7 +23,7 @@ pub changed_row-requires-clause-runs : goal.changed_row-requires-clause-runs
 changed_row-requires-clause-runs c =
     let is = c.as_slice-old.ensures.value in
     let text = string_bytes c.args.text.now in
-    IsRow-stretch text c.args.row c.as_slice-old.result.now c.row_bounds-from.result.0 c.row_bounds-from.result.1 c.row_bounds-from.ensures.bounds.0 c.row_bounds-from.ensures.bounds.1 (subst (λ (l : List Run). All (λ x. IsRun text x) l) (sym is) c.requires.grid.are_runs) (subst (λ (l : List Run). AreOrdered l) (sym is) c.requires.grid.ordered) c.row_bounds-from.ensures.inside
+    IsRow-stretch text c.args.row c.as_slice-old.result.now c.row_bounds-from.result.0 c.row_bounds-from.result.1 c.row_bounds-from.ensures.bounds.0 c.row_bounds-from.ensures.bounds.1 (subst (λ (l : List Run). All (λ x. IsRun text x) l) (sym is) c.requires.grid.are_runs) (subst (λ (l : List Run). AreOrdered l) (sym is) c.requires.grid.ordered) (subst (λ (l : List Run). AreApart l) (sym is) c.requires.grid.apart) c.row_bounds-from.ensures.inside
 
 pub returns-in_err-fresh-clause-grid : goal.returns-in_err-fresh-clause-grid
 returns-in_err-fresh-clause-grid c =
@@ -48,6 +48,7 @@ put_there c =
       grows = c.in_ok-fresh.ensures.text;
       are_runs = c.requires.grid.are_runs;
       ordered = c.requires.grid.ordered;
+      apart = c.requires.grid.apart;
       is_row = c.in_ok-fresh.ensures.row;
       is = c.in_ok-put_row.ensures.ok;
     }
