@@ -1,9 +1,10 @@
 -- The rows of cells that runs show, after cells of a row were changed.
-use Rattle.std.proofs.Common.{◌≡◌, ◌≢◌, ℕ, ◌+◌, ◌-◌, ◌<◌, ◌≤◌, List, [], ◌∷◌, ◌++◌, length, map, take, drop, get_or, refl, sym, ap, ◌∙◌, arith, false, inl, inr, subst, All, min}
+use Rattle.std.proofs.Common.{◌≡◌, ◌≢◌, ℕ, ◌+◌, ◌-◌, ◌<◌, ◌≤◌, List, [], ◌∷◌, ◌++◌, length, map, take, drop, get_or, refl, sym, ap, ◌∙◌, arith, false, inl, inr, subst, All, min, Result, OnOk}
 use Rattle.std.proofs.lemmas.List.{same_lists, get_or_default}
 use Rattle.std.proofs.lemmas.Bool.{cases_lt, cases_eq}
+use Rattle.std.proofs.lemmas.Result.{on_ok_weaker}
 use Rattle.std.specs.Bool.{if◌then◌else◌}
-use Rattle.snippet_style.proofs.ChangeLemmas.{ChangesCells-cells_changed}
+use Rattle.snippet_style.proofs.ChangeLemmas.{ChangesCells-cells_changed, ChangesCells-from_equal}
 use Rattle.snippet_style.proofs.GridShown.{count_shown, width_shown, cell_shown, same_row}
 use Rattle.snippet_style.proofs.PutLemmas.{are_runs-put, ordered-put, apart-put, inside-put, AreOrdered, AreApart}
 use Rattle.snippet_style.proofs.RowPut.{row_shows, put_shows, put_others, put_length, length-stretch}
@@ -94,3 +95,8 @@ grid_changed f old new runs now fresh w row start end last from to put is_last f
     let here : ShowsSpan old new runs fresh row start last h = λ c. shows c ∙ ap (λ (d : Cell). (let cell : Cell = if is_within start last c then f d else d in cell)) (was c) in
     let there : ShowsSpan old new runs now row start last h = λ c. put_shows new runs now fresh row from to c put.at put.is ∙ here c in
     ChangesCells-unique f before (grid_shown new now w) (cells_changed f before row start end) row start end (ChangesCells-shown f old new runs now w row start end last is_last fit_old fit_new there (λ r c other. put_elsewhere old new runs now fresh row from to r c put other)) (ChangesCells-cells_changed f before row start end)
+
+-- the change of a grid whose lengths were lent, read cell by cell
+pub reads_changed : {T E : Type 0} (r : Result T E) (f : Cell → Cell) (grid : List (List Cell)) (old new : List ℕ) (runs now : List Run) (w lent : List ℕ) (row start end : ℕ) → lent ≡ w → grid_shown old runs w ≡ grid → OnOk r (grid_shown new now lent ≡ cells_changed f (grid_shown old runs lent) row start end) → OnOk r (ChangesCells f grid (grid_shown new now w) row start end)
+reads_changed r f grid old new runs now w lent row start end same was is =
+    on_ok_weaker r (λ equal. ChangesCells-from_equal f grid (grid_shown new now w) row start end (subst (λ (v : List ℕ). grid_shown new now v ≡ cells_changed f (grid_shown old runs v) row start end) same equal ∙ ap (λ (rows : List (List Cell)). cells_changed f rows row start end) was)) is

@@ -5,7 +5,7 @@ use Rattle.snippet_style.proofs.PutLemmas.{painted_middle, painted_outer, split_
 use Rattle.snippet_style.proofs.StretchLemmas.{stretch}
 use Rattle.snippet_style.specs.Changes.{RowAt}
 use Rattle.snippet_style.specs.Grid.{Cell, SPACE}
-use Rattle.snippet_style.specs.Runs.{IsRun, IsRow, BeginsWith, shown, painted}
+use Rattle.snippet_style.specs.Runs.{IsRun, IsRow, BeginsWith, EndsBy, FitIn, shown, painted}
 use Rattle.snippet_style.specs.declared.runs.Run.{Run}
 
 -- the runs above a row hold none of its cells, nor do those below it
@@ -54,3 +54,15 @@ RowAt-read runs was row start end same at =
 pub length-stretch : (runs : List Run) (row start end : ℕ) → RowAt runs row start end → length (stretch runs start end) ≡ end - start
 length-stretch runs row start end at =
     omega (arith, at.ordered, at.within, length-take (end - start) (drop start runs), length-drop start runs)
+
+-- no run of a row reaches past the row's end
+pub row_ends : (w : List ℕ) (runs : List Run) (row start end : ℕ) → RowAt runs row start end → FitIn w runs → EndsBy (get_or w row 0) (stretch runs start end)
+row_ends w runs row start end at fit =
+    λ k d within.
+    let short : k < end - start = grind (arith, places) in
+    let read : get_or (stretch runs start end) k d ≡ get_or runs (start + k) d = get_or-take (end - start) (drop start runs) k d short ∙ get_or-drop start runs k d in
+    let there : start + k < end = omega arith in
+    let x = get_or runs (start + k) d in
+    let row_is : x.row ≡ row = at.inside (start + k) d (omega arith) there in
+    let here : x.cell + x.count ≤ get_or w row 0 = omega (arith, fit (start + k) d (omega (arith, at.within)), ap (λ r. get_or w r 0) row_is) in
+    subst (λ (z : Run). z.cell + z.count ≤ get_or w row 0) (sym read) here

@@ -50,3 +50,9 @@ pub record RowAt (runs : List Run) (row start end : ℕ) : Type 0 where
   pub above : (k : ℕ) (d : Run) → k < start → (slice_index_or runs k d).row < row
   pub inside : (k : ℕ) (d : Run) → start ≤ k → k < end → (slice_index_or runs k d).row ≡ row
   pub below : (k : ℕ) (d : Run) → end ≤ k → k < length runs → row < (slice_index_or runs k d).row
+
+-- in this row the runs show what others show, with these cells in place of those from `start` to before `end`
+pub record ShowsReplaced (old new : List ℕ) (runs_old runs_new : List Run) (row start end : ℕ) (cells : List Cell) : Type 0 where
+  pub before : (c : ℕ) → c < start → shown new runs_new row c ≡ shown old runs_old row c
+  pub inside : (k : ℕ) → k < length cells → shown new runs_new row (start + k) ≡ slice_index_or cells k SPACE
+  pub behind : (k : ℕ) → shown new runs_new row (start + length cells + k) ≡ shown old runs_old row (end + k)

@@ -228,3 +228,25 @@ pub(crate) fn change_cells<'a>(
     put_row(runs, from, to, fresh)?;
     Ok(())
 }
+
+/// Changes one cell of a row, if it is there.
+pub(crate) fn change_cell<'a>(
+    alloc: Global,
+    text: &mut String,
+    runs: &mut Vec<Run<'a>>,
+    widths: &[usize],
+    row: usize,
+    cell: usize,
+    change: Change<'a>,
+) -> Result<(), AllocError>
+    requires grid { IsGrid (string_bytes text.old) runs.old.items widths.now }
+    ensures ok { OnOk result (grid_shown (string_bytes text.new) runs.new.items widths.now ≡ cells_changed (changed_by change.entry) (grid_shown (string_bytes text.old) runs.old.items widths.now) row cell (cell + 1)) }
+    ensures grid { IsGrid (string_bytes text.new) runs.new.items widths.now }
+    ensures count { OnOk result (length runs.new.items ≤ length runs.old.items + 2) }
+    ensures err { OnErr result (grid_shown (string_bytes text.new) runs.new.items widths.now ≡ grid_shown (string_bytes text.old) runs.old.items widths.now) }
+{
+    if cell < width_of(widths, row) {
+        change_cells(alloc, text, runs, widths, row, cell, cell + 1, change)?;
+    }
+    Ok(())
+}
