@@ -1,12 +1,12 @@
 -- A row that is copied with some of its cells changed.
-use Rattle.std.proofs.Common.{◌≡◌, ℕ, suc, ◌+◌, ◌-◌, ◌<◌, ◌≤◌, ◌^◌, List, [], ◌∷◌, length, take, get_or, refl, sym, ap, ◌∙◌, arith, Bool, true, false, inl, inr, subst, All, nat_lt, nat_le, min, max}
+use Rattle.std.proofs.Common.{◌≡◌, ℕ, suc, ◌+◌, ◌-◌, ◌<◌, ◌≤◌, ◌^◌, List, [], ◌∷◌, length, get_or, refl, sym, ap, ◌∙◌, arith, false, inl, inr, subst, All, nat_lt, min, max}
 use Rattle.std.proofs.lemmas.List.{get_or_default}
-use Rattle.std.proofs.lemmas.Bool.{cases_lt, cases_eq, lt-ltb, le-ltb}
+use Rattle.std.proofs.lemmas.Bool.{cases_lt, lt-ltb, le-ltb}
 use Rattle.std.specs.Bool.{if◌then◌else◌}
 use Rattle.snippet_style.proofs.CopyLemmas.{copied_yes, copied_before, copied_behind, shown_past}
 use Rattle.snippet_style.proofs.RowWoven.{painted_unheld, shown_in, first_ahead}
 use Rattle.snippet_style.proofs.ShownLemmas.{All-tail, pick, painted-grown, run_cell-grown, holds_before, holds_behind}
-use Rattle.snippet_style.proofs.SpanLemmas.{within_yes, within_before, within_behind, span_joined, span_same}
+use Rattle.snippet_style.proofs.SpanLemmas.{within_yes, within_before, within_behind, span_joined}
 use Rattle.snippet_style.proofs.StretchLemmas.{BeginsWith-same, BeginsWith-trans}
 use Rattle.snippet_style.specs.Changes.{changed_by, is_within, ShowsSpan, num_met}
 use Rattle.snippet_style.specs.Grid.{Cell, SPACE}
@@ -118,7 +118,7 @@ change_past old now out_old out_now runs run row from to change n col start end 
       count = so_far.count;
     }
 
--- the cells behind the last run
+-- the cells after the last run
 pub change_end : (old now new : List ℕ) (out_old out_now out_new runs : List Run) (row from to : ℕ) (change : Change) (n col : ℕ) → length runs ≤ n → IsRow old row runs → ChangeSoFar old now out_old out_now runs row from to change n col → ShowsSpan now new out_now out_new row col to (λ c. changed_by change SPACE) → ShowsSpan old new out_old out_new row from to (λ c. changed_by change (shown old runs row c))
 change_end old now new out_old out_now out_new runs row from to change n col all are so_far shows =
     let k = λ (c : ℕ). changed_by change (shown old runs row c) in
@@ -167,14 +167,14 @@ num_met-le from to (run ∷ runs) =
       | inr none ↦ omega (arith, num_met-le from to runs, pick {X = ℕ} 1 0 (le-ltb (max run.cell from) (min (run.cell + run.count) to) none))
     ]
 
--- no run is met that begins behind the span
+-- no run is met that begins after the span
 none_met : (from to : ℕ) (runs : List Run) → All (λ x. to ≤ x.cell) runs → num_met from to runs ≡ 0
 none_met from to [] all = refl
 none_met from to (run ∷ runs) all =
     let past : to ≤ run.cell = all 0 run (omega arith) in
     omega (arith, none_met from to runs (All-tail (λ x. to ≤ x.cell) run runs all), pick {X = ℕ} 1 0 (le-ltb (max run.cell from) (min (run.cell + run.count) to) (omega arith)))
 
--- of the runs of a row, one at most is met before a cell and behind a later one
+-- of the runs of a row, one at most is met before a cell and after a later one
 pub met_outer : (text : List ℕ) (row a b top : ℕ) (runs : List Run) → a ≤ b → IsRow text row runs → num_met 0 a runs + num_met b top runs ≤ length runs + 1
 met_outer text row a b top [] low is = omega arith
 met_outer text row a b top (run ∷ runs) low is =

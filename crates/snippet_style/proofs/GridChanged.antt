@@ -1,5 +1,5 @@
 -- The rows of cells that runs show, after cells of a row were changed.
-use Rattle.std.proofs.Common.{◌≡◌, ◌≢◌, ℕ, ◌+◌, ◌-◌, ◌<◌, ◌≤◌, List, [], ◌∷◌, ◌++◌, length, map, take, drop, get_or, refl, sym, ap, ◌∙◌, arith, false, inl, inr, subst, All, min, Result, OnOk}
+use Rattle.std.proofs.Common.{◌≡◌, ◌≢◌, ℕ, ◌<◌, List, [], ◌++◌, length, take, drop, get_or, refl, sym, ap, ◌∙◌, arith, false, inl, inr, subst, All, min, Result, OnOk}
 use Rattle.std.proofs.lemmas.List.{same_lists, get_or_default}
 use Rattle.std.proofs.lemmas.Bool.{cases_lt, cases_eq}
 use Rattle.std.proofs.lemmas.Result.{on_ok_weaker}
@@ -7,9 +7,9 @@ use Rattle.std.specs.Bool.{if◌then◌else◌}
 use Rattle.snippet_style.proofs.ChangeLemmas.{ChangesCells-cells_changed, ChangesCells-from_equal}
 use Rattle.snippet_style.proofs.GridShown.{count_shown, width_shown, cell_shown, same_row}
 use Rattle.snippet_style.proofs.PutLemmas.{are_runs-put, ordered-put, apart-put, inside-put, AreOrdered, AreApart}
-use Rattle.snippet_style.proofs.RowPut.{row_shows, put_shows, put_others, put_length, length-stretch}
+use Rattle.snippet_style.proofs.RowPut.{row_shows, put_shows, put_others}
 use Rattle.snippet_style.proofs.ShownLemmas.{pick, painted-grown}
-use Rattle.snippet_style.proofs.SpanLemmas.{within_yes, within_before, within_behind, span_same}
+use Rattle.snippet_style.proofs.SpanLemmas.{within_yes, within_before, within_behind}
 use Rattle.snippet_style.proofs.StretchLemmas.{stretch}
 use Rattle.snippet_style.specs.Changes.{RowAt, ShowsSpan, is_within}
 use Rattle.snippet_style.specs.Grid.{Cell, SPACE, row_at, cell_at, cells_changed, ChangesCells}

@@ -1,15 +1,13 @@
--- What becomes of the runs that a run touches: what the first holds before it, the run, and what the last holds behind.
-use Rattle.std.proofs.Common.{◌≡◌, ℕ, suc, ◌+◌, ◌-◌, ◌<◌, ◌≤◌, List, [], ◌∷◌, ◌++◌, length, take, drop, get_or, refl, sym, ap, ◌∙◌, arith, Bool, true, false, inl, inr, subst, All, if◌then◌else◌}
+-- What becomes of the runs that a run touches: what the first holds before it, the run, and what the last holds after.
+use Rattle.std.proofs.Common.{◌≡◌, ℕ, suc, ◌+◌, ◌-◌, ◌<◌, ◌≤◌, List, [], ◌∷◌, ◌++◌, length, take, drop, get_or, refl, sym, ap, ◌∙◌, arith, false, inl, inr, subst, All, if◌then◌else◌}
 use Rattle.std.proofs.lemmas.List.{places, take_all, take_more, get_or_default, get_or-take, get_or-drop}
 use Rattle.std.proofs.lemmas.List.Elements.{All-cons, All-nil}
 use Rattle.std.proofs.lemmas.Bool.{cases_lt, cases_eq, true≢false}
-use Rattle.snippet_style.proofs.RunLemmas.{IsRun-grown}
 use Rattle.snippet_style.proofs.ShownLemmas.{painted-append, run_cell-grown, pick, cell_same, holds_inside, holds_elsewhere, holds_before, holds_behind}
-use Rattle.snippet_style.proofs.StretchLemmas.{BeginsWith-trans}
 use Rattle.snippet_style.proofs.CopyLemmas.{shown_past}
 use Rattle.snippet_style.proofs.PutLemmas.{IsRow-added, painted_elsewhere}
 use Rattle.snippet_style.proofs.RowWoven.{painted_unheld}
-use Rattle.snippet_style.proofs.TouchLemmas.{Held, cases_held}
+use Rattle.snippet_style.proofs.TouchLemmas.{cases_held}
 use Rattle.snippet_style.specs.Grid.{Cell, SPACE}
 use Rattle.snippet_style.specs.Runs.{IsRun, IsRow, IsPart, BeginsWith, ShowsMore, AddsRun, EndsBy, Precedes, Differ, IsClear, IsTouched, IsFront, IsBack, ArePieces, run_chars, run_cell, holds, painted, shown}
 use Rattle.snippet_style.specs.declared.runs.Run.{Run}
@@ -78,7 +76,7 @@ IsFront-none text runs run all =
       one = omega arith;
     }
 
--- where the first run begins behind a cell, each does
+-- where the first run begins after a cell, each does
 pub begin_behind : (text : List ℕ) (run : Run) (runs : List Run) (n : ℕ) (d : Run) → IsTouched text run runs → n ≤ (get_or runs 0 d).cell → All (λ x. n ≤ x.cell) runs
 begin_behind text run runs n d is first =
     λ k e within.
@@ -128,7 +126,7 @@ IsFront-some text [] run first left is some read before cut = absurd (omega arit
 IsFront-some text (x ∷ runs) run first left is some read before cut =
     front_first text x runs run left is (subst (λ (y : Run). y.cell < run.cell) read before) (subst (λ (y : Run). IsPart text y y.cell run.cell left) read cut)
 
--- nothing stands behind the run
+-- nothing stands after the run
 pub IsBack-none : (text : List ℕ) (runs : List Run) (run : Run) → All (λ x. x.cell + x.count ≤ run.cell + run.count) runs → IsBack text runs run []
 IsBack-none text runs run all =
     record {
@@ -142,7 +140,7 @@ IsBack-none text runs run all =
       one = omega arith;
     }
 
--- the last run ends behind the run
+-- the last run ends after the run
 pub IsBack-some : (text : List ℕ) (runs : List Run) (run last right : Run) (i from to : ℕ) → IsTouched text run runs → i + 1 ≡ length runs → last ≡ get_or runs i last → from ≡ run.cell + run.count → to ≡ last.cell + last.count → from < to → IsPart text last from to right → IsBack text runs run (right ∷ [])
 IsBack-some text runs run last right i from to is is_last read is_from is_to past cut =
     let within : i < length runs = omega arith in
@@ -237,7 +235,7 @@ pieces_show t0 t1 t2 runs front begun pieces back run touched is_front is_back s
           ]
     ]
 
--- with nothing behind the run
+-- with nothing after the run
 pub ArePieces-two : (old new : List ℕ) (runs front pieces : List Run) (run : Run) → IsTouched old run runs → IsRun old run → IsFront old runs run front → IsBack old runs run [] → ShowsMore old new front pieces run → All (λ x. IsRun new x) pieces → AddsRun front pieces run → ArePieces old new runs pieces run
 ArePieces-two old new runs front pieces run touched is is_front is_back shows are adds =
     let begun = begun_by old new runs front pieces run is is_front shows are adds in
@@ -252,7 +250,7 @@ ArePieces-two old new runs front pieces run touched is is_front is_back shows ar
       few = omega (arith, begun.few, is_front.few);
     }
 
--- with what the last run holds behind it
+-- with what the last run holds after it
 pub ArePieces-three : (t0 t1 t2 : List ℕ) (runs front begun pieces : List Run) (run right : Run) → IsTouched t0 run runs → IsRun t0 run → IsFront t0 runs run front → IsBack t0 runs run (right ∷ []) → ShowsMore t0 t1 front begun run → All (λ x. IsRun t1 x) begun → AddsRun front begun run → BeginsWith t0 t1 → ShowsMore t1 t2 begun pieces right → All (λ x. IsRun t2 x) pieces → AddsRun begun pieces right → ArePieces t0 t2 runs pieces run
 ArePieces-three t0 t1 t2 runs front begun pieces run right touched is is_front is_back shows are adds grows shows_more are_more adds_more =
     let begins = begun_by t0 t1 runs front begun run is is_front shows are adds in

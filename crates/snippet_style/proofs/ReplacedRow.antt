@@ -1,23 +1,22 @@
 -- A row in which a text took the place of some cells.
-use Rattle.std.proofs.Common.{◌≡◌, ◌≢◌, ℕ, ◌+◌, ◌-◌, ◌<◌, ◌≤◌, ◌^◌, List, [], ◌∷◌, ◌++◌, length, take, drop, set, get_or, refl, sym, ap, ◌∙◌, arith, false, inl, inr, subst, All, None}
-use Rattle.std.proofs.lemmas.List.{places, get_or_default, get_or-take, get_or-drop, get_or-set_same, get_or-set_other, length-set, length-drop}
+use Rattle.std.proofs.Common.{◌≡◌, ◌≢◌, ℕ, ◌+◌, ◌-◌, ◌<◌, ◌≤◌, ◌^◌, List, [], ◌∷◌, ◌++◌, length, take, drop, get_or, refl, sym, ap, ◌∙◌, arith, inl, inr, subst, All, None}
+use Rattle.std.proofs.lemmas.List.{places, get_or_default, get_or-take, get_or-drop, length-drop}
 use Rattle.std.proofs.lemmas.List.Elements.{All-append}
-use Rattle.std.proofs.lemmas.Bool.{cases_lt, cases_eq}
+use Rattle.std.proofs.lemmas.Bool.{cases_lt}
 use Rattle.std.proofs.lemmas.Str.{chars-nil}
-use Rattle.std.specs.Bool.{if◌then◌else◌}
 use Rattle.std.specs.Str.{chars}
 use Rattle.snippet_style.proofs.CopyLemmas.{copied_yes, copied_before, copied_behind, shown_past}
 use Rattle.snippet_style.proofs.GridChanged.{same_rows, IsPut, put_elsewhere}
-use Rattle.snippet_style.proofs.GridLemmas.{length-drawn, slice_index_or-drawn}
+use Rattle.snippet_style.proofs.GridLemmas.{slice_index_or-drawn}
 use Rattle.snippet_style.proofs.GridShown.{count_shown, width_shown, cell_shown, same_row}
 use Rattle.snippet_style.proofs.ReplaceLemmas.{ReplacesCells-cells_replaced}
 use Rattle.snippet_style.proofs.RowPut.{row_shows, put_shows}
 use Rattle.snippet_style.proofs.ShownLemmas.{pick, cell_same, painted-grown, holds_inside, holds_before, holds_behind}
 use Rattle.snippet_style.proofs.SpanLemmas.{within_yes, within_before, within_behind}
 use Rattle.snippet_style.proofs.StretchLemmas.{stretch, BeginsWith-trans}
-use Rattle.snippet_style.specs.Changes.{RowAt, ShowsSpan, ShowsReplaced, is_within}
+use Rattle.snippet_style.specs.Changes.{ShowsSpan, ShowsReplaced}
 use Rattle.snippet_style.specs.Grid.{Cell, SPACE, drawn, row_at, cell_at, cells_replaced, ReplacesCells}
-use Rattle.snippet_style.specs.Runs.{IsRun, IsRow, IsWord, BeginsWith, EndsBy, FitIn, ShowsCopy, ShowsMore, run_cell, run_chars, holds, shown, grid_shown}
+use Rattle.snippet_style.specs.Runs.{IsRun, IsRow, IsWord, BeginsWith, EndsBy, FitIn, ShowsCopy, ShowsMore, run_cell, run_chars, shown, grid_shown}
 use Rattle.snippet_style.specs.declared.role.ElementStyle.{ElementStyle}
 use Rattle.snippet_style.specs.declared.runs.Run.{Run}
 
@@ -35,7 +34,7 @@ span_empty text out row at word g none =
       | inr low ↦ pick (g c) (shown text out row c) (within_behind at (at + length (chars word)) c (omega arith))
     ])
 
--- a word that was added behind some runs
+-- a word that was added after some runs
 pub word_span : (t0 t1 t2 : List ℕ) (out now : List Run) (run : Run) (row at : ℕ) (role : ElementStyle) (word : List ℕ) → BeginsWith t0 t1 → All (λ x. IsRun t0 x) out → IsWord t1 row at role word run → ShowsMore t1 t2 out now run → ShowsSpan t0 t2 out now row at (at + length (chars word)) (λ c. get_or (drawn role (chars word)) (c - at) SPACE)
 word_span t0 t1 t2 out now run row at role word grows are is shows =
     λ c.
@@ -57,7 +56,7 @@ word_span t0 t1 t2 out now run row at role word grows are is shows =
       ]
     ]
 
--- a row that was copied up to a text and behind it
+-- a row that was copied up to a text and after it
 pub row_replaced : (t0 t1 t2 t3 : List ℕ) (runs f0 f1 f2 f3 : List Run) (row start end at top : ℕ) (cells : List Cell) → start ≤ end → at ≡ start + length cells → 2 ^ 64 ≤ top + 1 → IsRow t0 row runs → BeginsWith t0 t1 → BeginsWith t1 t2 → ShowsCopy t0 t1 f0 f1 runs 0 start 0 → ShowsSpan t1 t2 f1 f2 row start at (λ c. get_or cells (c - start) SPACE) → EndsBy at f2 → ShowsCopy t2 t3 f2 f3 runs end top at → ShowsReplaced t0 t3 runs f3 row start end cells
 row_replaced t0 t1 t2 t3 runs f0 f1 f2 f3 row start end at top cells some is_at wide are grows more first second ends third =
     let g = λ (c : ℕ). get_or cells (c - start) SPACE in

@@ -1,11 +1,10 @@
 -- The runs of a row that others took the place of.
-use Rattle.std.proofs.Common.{◌≡◌, ◌≢◌, ℕ, ◌+◌, ◌-◌, ◌<◌, ◌≤◌, List, [], ◌∷◌, ◌++◌, length, take, drop, get_or, refl, sym, ap, ◌∙◌, arith, inl, inr, subst, All}
+use Rattle.std.proofs.Common.{◌≡◌, ◌≢◌, ℕ, ◌+◌, ◌-◌, ◌<◌, ◌≤◌, List, ◌++◌, length, take, drop, get_or, sym, ap, ◌∙◌, arith, subst, All}
 use Rattle.std.proofs.lemmas.List.{places, get_or-take, get_or-drop, length-append, length-take, length-drop}
-use Rattle.snippet_style.proofs.PutLemmas.{painted_middle, painted_outer, split_three, IsRow-stretch, are_runs-put, ordered-put, inside-put, AreOrdered}
+use Rattle.snippet_style.proofs.PutLemmas.{painted_middle, painted_outer, split_three}
 use Rattle.snippet_style.proofs.StretchLemmas.{stretch}
 use Rattle.snippet_style.specs.Changes.{RowAt}
-use Rattle.snippet_style.specs.Grid.{Cell, SPACE}
-use Rattle.snippet_style.specs.Runs.{IsRun, IsRow, BeginsWith, EndsBy, FitIn, shown, painted}
+use Rattle.snippet_style.specs.Runs.{EndsBy, FitIn, shown}
 use Rattle.snippet_style.specs.declared.runs.Run.{Run}
 
 -- the runs above a row hold none of its cells, nor do those below it

@@ -1,5 +1,5 @@
 -- Spans of a row that runs show.
-use Rattle.std.proofs.Common.{◌≡◌, ℕ, ◌+◌, ◌-◌, ◌<◌, ◌≤◌, ◌^◌, List, [], ◌∷◌, ◌++◌, length, take, drop, get_or, replicate, refl, sym, ap, ◌∙◌, arith, Bool, true, false, inl, inr, subst, All, None, nat_lt}
+use Rattle.std.proofs.Common.{◌≡◌, ℕ, ◌+◌, ◌-◌, ◌<◌, ◌≤◌, ◌^◌, List, ◌++◌, length, get_or, replicate, refl, sym, ap, ◌∙◌, arith, true, false, inl, inr, subst, All, None, nat_lt}
 use Rattle.std.proofs.lemmas.List.{length-replicate, get_or-replicate, get_or_past}
 use Rattle.std.proofs.lemmas.Str.{chars-IsAscii}
 use Rattle.std.proofs.lemmas.Bool.{cases_lt, and_from, and_left, and_right, le-leb, lt-leb, lt-ltb, le-ltb}
@@ -11,7 +11,7 @@ use Rattle.snippet_style.proofs.GridShown.{IsWord-pushed}
 use Rattle.snippet_style.proofs.ShownLemmas.{pick, cell_same, painted-grown}
 use Rattle.snippet_style.specs.Changes.{changed_by, IsGap, is_within, ShowsSpan}
 use Rattle.snippet_style.specs.Grid.{Cell, SPACE}
-use Rattle.snippet_style.specs.Runs.{IsRun, IsPart, BeginsWith, run_cell, run_chars, shown}
+use Rattle.snippet_style.specs.Runs.{IsRun, IsPart, BeginsWith, run_cell, shown}
 use Rattle.snippet_style.specs.declared.change.Change.{Change}
 use Rattle.snippet_style.specs.declared.role.ElementStyle.TheVariants.{NoStyle}
 use Rattle.snippet_style.specs.declared.runs.Run.{Run}

@@ -1,6 +1,6 @@
 //! Runs that are put over others.
 //!
-//! A put takes only the runs that the new one touches: what the first of them holds before it, and the last behind it,
+//! A put takes only the runs that the new one touches: what the first of them holds before it, and the last after it,
 //! stays. All other runs keep their places.
 ghost use Rattle.std.specs.Prelude.{◌≡◌, ◌+◌, ◌<◌, ◌≤◌, ◌^◌, ◌++◌, ℕ, List, [], true, false, length, take, drop, All, OnOk, OnErr, string_bytes, option_to_list};
 ghost use Rattle.snippet_style.specs.Runs.{IsRun, BeginsWith, Precedes, Differ, IsClear, ReachesTo, Touches, IsTouched, IsFront, IsBack, ArePieces, IsPut};
@@ -81,7 +81,7 @@ fn front_of<'a>(text: &str, touched: &[Run<'a>], run: &Run<'a>) -> Option<Run<'a
     Some(clipped(text, first, first.cell, run.cell))
 }
 
-/// What the last of the runs that a run touches holds behind it.
+/// What the last of the runs that a run touches holds after it.
 fn back_of<'a>(text: &str, touched: &[Run<'a>], run: &Run<'a>) -> Option<Run<'a>>
     requires touched { IsTouched text.now run.now touched.now }
     requires run { IsRun text.now run.now }
@@ -124,7 +124,7 @@ fn add_pieces<'a>(
     Ok(())
 }
 
-/// Puts runs in place of those from `start` to before `end`. They are found behind these when it is done.
+/// Puts runs in place of those from `start` to before `end`. They are found after these when it is done.
 pub(crate) fn exchange<'a>(
     runs: &mut Vec<Run<'a>>,
     start: usize,

@@ -1,4 +1,4 @@
-use Rattle.std.proofs.Common.{◌+◌, arith, string_bytes}
+use Rattle.std.proofs.Common.{arith, string_bytes}
 use Rattle.snippet_style.proofs.PutLemmas.{IsRow-added}
 use Rattle.snippet_style.proofs.change.add_changed.Goals as goal
 

@@ -1,11 +1,11 @@
-use Rattle.std.proofs.Common.{◌≡◌, ◌∙◌, ◌+◌, ◌≤◌, ap, arith, refl, sym, subst, min, string_bytes, get_or, slice_index_or, List, ℕ, All, length}
+use Rattle.std.proofs.Common.{◌∙◌, ◌≤◌, ap, arith, refl, sym, subst, min, string_bytes, get_or, List, ℕ, All}
 use Rattle.snippet_style.proofs.ChangeLemmas.{cells_changed_none}
 use Rattle.snippet_style.proofs.GridChanged.{IsPut, IsGrid-put, FitIn-put, grid_changed}
 use Rattle.snippet_style.proofs.GridShown.{on_err_from, IsGrid-grown, grid_grown, width_shown}
 use Rattle.snippet_style.proofs.PutLemmas.{AreOrdered, AreApart, IsRow-stretch}
 use Rattle.snippet_style.proofs.RowPut.{RowAt-read}
 use Rattle.snippet_style.proofs.StretchLemmas.{stretch}
-use Rattle.snippet_style.specs.Changes.{changed_by, ShowsSpan, RowAt}
+use Rattle.snippet_style.specs.Changes.{changed_by, ShowsSpan}
 use Rattle.snippet_style.specs.Runs.{IsRun, EndsBy, FitIn, grid_shown, shown}
 use Rattle.snippet_style.specs.declared.runs.Run.{Run}
 use Rattle.snippet_style.proofs.change.change_cells.Goals as goal

@@ -1,4 +1,4 @@
-use Rattle.std.proofs.Common.{◌≡◌, ◌∙◌, ◌+◌, ◌≤◌, arith, refl, string_bytes}
+use Rattle.std.proofs.Common.{arith, string_bytes}
 use Rattle.snippet_style.proofs.ChangedRow.{row_changed, met_outer}
 use Rattle.snippet_style.proofs.PutLemmas.{IsRow-grown}
 use Rattle.snippet_style.proofs.StretchLemmas.{BeginsWith-trans}

@@ -1,4 +1,4 @@
-use Rattle.std.proofs.Common.{◌≡◌, ◌∙◌, ◌<◌, length, ap, refl, sym, subst, get_or, arith, string_bytes, List, ℕ, None}
+use Rattle.std.proofs.Common.{◌≡◌, sym, subst, get_or, arith, string_bytes, None}
 use Rattle.std.proofs.lemmas.List.{get_or_default}
 use Rattle.snippet_style.proofs.ChangedRow.{change_start, change_next, change_past, change_end}
 use Rattle.snippet_style.proofs.RunLemmas.{IsRun-grown}

@@ -1,5 +1,5 @@
 -- What stands between the two places touches the run.
-use Rattle.std.proofs.Common.{◌≡◌, ◌<◌, ◌≤◌, ℕ, length, slice_index_or}
+use Rattle.std.proofs.Common.{◌<◌, ◌≤◌, ℕ, slice_index_or}
 use Rattle.snippet_style.specs.Runs.{Touches}
 use Rattle.snippet_style.specs.declared.runs.Run.{Run}
 use Rattle.snippet_style.proofs.put.first_touched.Given as goal

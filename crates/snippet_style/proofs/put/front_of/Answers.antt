@@ -1,4 +1,4 @@
-use Rattle.std.proofs.Common.{arith, length, get_or}
+use Rattle.std.proofs.Common.{arith, get_or}
 use Rattle.std.proofs.lemmas.List.{get_or_default}
 use Rattle.snippet_style.proofs.RunLemmas.{none}
 use Rattle.snippet_style.proofs.PieceLemmas.{IsFront-none, IsFront-some, begin_behind}

@@ -1,8 +1,8 @@
-use Rattle.std.proofs.Common.{◌≡◌, ◌∙◌, ◌+◌, ◌-◌, ◌<◌, ◌≤◌, ap, sym, subst, arith, string_bytes, length, get_or, List, ℕ, All}
-use Rattle.snippet_style.proofs.PutLemmas.{AreOrdered, AreApart, IsRow-stretch}
+use Rattle.std.proofs.Common.{◌<◌, ◌≤◌, sym, subst, string_bytes, length, get_or, List, ℕ, All}
+use Rattle.snippet_style.proofs.PutLemmas.{AreOrdered, AreApart}
 use Rattle.snippet_style.proofs.StretchLemmas.{stretch}
 use Rattle.snippet_style.proofs.TouchLemmas.{IsPut-added, IsPut-touched, touched_stretch}
-use Rattle.snippet_style.specs.Runs.{IsRun, IsClear, Touches, IsTouched, ArePieces, Precedes}
+use Rattle.snippet_style.specs.Runs.{IsRun, IsClear, Touches, ArePieces, Precedes}
 use Rattle.snippet_style.specs.declared.runs.Run.{Run}
 use Rattle.snippet_style.proofs.put.put_run.Goals as goal
 

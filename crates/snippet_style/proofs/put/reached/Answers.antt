@@ -1,4 +1,3 @@
-use Rattle.std.proofs.Common.{arith}
 use Rattle.snippet_style.proofs.TouchLemmas.{reaches_all}
 use Rattle.snippet_style.proofs.put.reached.Goals as goal
 

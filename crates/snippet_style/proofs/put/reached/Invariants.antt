@@ -1,5 +1,5 @@
--- What stands behind the place is clear of the run.
-use Rattle.std.proofs.Common.{◌≡◌, ◌<◌, ◌≤◌, ℕ, length, slice_index_or}
+-- What stands after the place is clear of the run.
+use Rattle.std.proofs.Common.{◌<◌, ◌≤◌, ℕ, length, slice_index_or}
 use Rattle.snippet_style.specs.Runs.{IsClear}
 use Rattle.snippet_style.specs.declared.runs.Run.{Run}
 use Rattle.snippet_style.proofs.put.reached.Given as goal

@@ -1,5 +1,4 @@
-use Rattle.std.proofs.Common.{◌+◌, arith, rules, string_bytes, length}
-use Rattle.std.specs.Str.{chars}
+use Rattle.std.proofs.Common.{arith, rules, string_bytes}
 use Rattle.snippet_style.proofs.GridShown.{chars_some}
 use Rattle.snippet_style.proofs.PutLemmas.{IsRow-grown, IsRow-added}
 use Rattle.snippet_style.proofs.ReplacedRow.{span_empty, word_span}

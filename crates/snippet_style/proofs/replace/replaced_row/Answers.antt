@@ -1,4 +1,4 @@
-use Rattle.std.proofs.Common.{◌≡◌, ◌∙◌, ◌+◌, ◌-◌, ◌≤◌, arith, ap, refl, sym, subst, slice_index_or, length, string_bytes}
+use Rattle.std.proofs.Common.{◌+◌, ◌-◌, arith, ap, sym, subst, slice_index_or, length, string_bytes}
 use Rattle.std.specs.Str.{chars}
 use Rattle.snippet_style.proofs.ChangedRow.{met_outer}
 use Rattle.snippet_style.proofs.GridLemmas.{length-drawn}

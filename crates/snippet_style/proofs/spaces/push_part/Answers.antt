@@ -1,4 +1,4 @@
-use Rattle.std.proofs.Common.{◌≡◌, ◌∙◌, ◌<◌, ◌≤◌, ◌-◌, ◌++◌, ap, sym, subst, arith, ℕ, List, length, take, drop, get_or, replicate, string_bytes}
+use Rattle.std.proofs.Common.{◌≡◌, ◌∙◌, ◌<◌, ◌-◌, ◌++◌, ap, sym, subst, arith, ℕ, List, length, take, replicate, string_bytes}
 use Rattle.std.proofs.lemmas.List.{take-replicate, get_or-replicate, length-replicate}
 use Rattle.std.specs.List.{slice_range}
 use Rattle.std.specs.Str.{IsCharBoundary}

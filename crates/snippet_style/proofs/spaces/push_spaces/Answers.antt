@@ -1,4 +1,4 @@
-use Rattle.std.proofs.Common.{◌≡◌, ◌∙◌, ◌-◌, ◌++◌, ap, arith, ℕ, List, replicate, string_bytes}
+use Rattle.std.proofs.Common.{◌-◌, arith, string_bytes}
 use Rattle.snippet_style.proofs.StretchPrinted.{more_spaces}
 use Rattle.snippet_style.proofs.StretchLemmas.{BeginsWith-added, BeginsWith-trans}
 use Rattle.snippet_style.proofs.spaces.push_spaces.Goals as goal

@@ -1,6 +1,5 @@
 -- The spaces so far are added.
 use Rattle.std.proofs.Common.{◌≡◌, ◌≤◌, ◌-◌, ◌++◌, replicate, string_bytes}
-use Rattle.snippet_style.specs.Runs.{BeginsWith}
 use Rattle.snippet_style.proofs.spaces.push_spaces.Given as goal
 
 abbrev pub invariant-loop-left : goal.invariant-loop-left

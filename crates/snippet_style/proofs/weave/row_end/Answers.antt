@@ -1,4 +1,4 @@
-use Rattle.std.proofs.Common.{None, arith}
+use Rattle.std.proofs.Common.{None}
 use Rattle.snippet_style.proofs.RowsWoven.{later_rows}
 use Rattle.snippet_style.specs.declared.runs.Run.{Run}
 use Rattle.snippet_style.specs.declared.role.ElementStyle.TheVariants.{MainHeaderMsg}

@@ -1,6 +1,5 @@
 use Rattle.std.proofs.Common.{◌∙◌, ◌++◌, ap, sym, string_bytes, List, ℕ}
 use Rattle.std.proofs.lemmas.Str.{encodes-chars}
-use Rattle.snippet_style.proofs.StretchPrinted.{stretch_printed}
 use Rattle.snippet_style.proofs.weave.weave_stretch.Goals as goal
 
 pub returns : goal.returns

@@ -1,6 +1,6 @@
-use Rattle.std.proofs.Common.{◌≡◌, ◌+◌, refl, ap, arith, string_bytes, length, ◌≤◌, List, ℕ, slice_index_or}
+use Rattle.std.proofs.Common.{◌≡◌, ◌+◌, refl, arith, string_bytes, length, ◌≤◌, slice_index_or}
 use Rattle.std.specs.Str.{chars}
-use Rattle.snippet_style.specs.Runs.{IsWidened, IsWord, FitIn, run_bytes, run_chars}
+use Rattle.snippet_style.specs.Runs.{IsWidened, IsWord, FitIn, run_bytes}
 use Rattle.snippet_style.proofs.StretchLemmas.{BeginsWith-same}
 use Rattle.snippet_style.proofs.GridShown.{on_err_from, IsGrid-grown, grid_grown, grid_written, FitIn-widened, IsWidened-to, word_end}
 use Rattle.snippet_style.proofs.words.place_run.Goals as goal
