@@ -210,7 +210,7 @@ pub(crate) fn change_cells<'a>(
     requires grid { IsGrid (string_bytes text.old) runs.old.items widths.now }
     ensures ok { OnOk result (grid_shown (string_bytes text.new) runs.new.items widths.now ≡ cells_changed (changed_by change.entry) (grid_shown (string_bytes text.old) runs.old.items widths.now) row start end) }
     ensures grid { IsGrid (string_bytes text.new) runs.new.items widths.now }
-    ensures count { OnOk result (length runs.new.items ≤ length runs.old.items + (end - start) + 1) }
+    ensures runs_added { length runs.new.items ≤ length runs.old.items + (end - start) + 1 }
     ensures err { OnErr result (grid_shown (string_bytes text.new) runs.new.items widths.now ≡ grid_shown (string_bytes text.old) runs.old.items widths.now) }
 {
     let last = end.min(width_of(widths, row));
@@ -237,7 +237,7 @@ pub(crate) fn change_cell<'a>(
     requires grid { IsGrid (string_bytes text.old) runs.old.items widths.now }
     ensures ok { OnOk result (grid_shown (string_bytes text.new) runs.new.items widths.now ≡ cells_changed (changed_by change.entry) (grid_shown (string_bytes text.old) runs.old.items widths.now) row cell (cell + 1)) }
     ensures grid { IsGrid (string_bytes text.new) runs.new.items widths.now }
-    ensures count { OnOk result (length runs.new.items ≤ length runs.old.items + 2) }
+    ensures runs_added { length runs.new.items ≤ length runs.old.items + 2 }
     ensures err { OnErr result (grid_shown (string_bytes text.new) runs.new.items widths.now ≡ grid_shown (string_bytes text.old) runs.old.items widths.now) }
 {
     if cell < width_of(widths, row) {
