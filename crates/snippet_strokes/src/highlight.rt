@@ -15,7 +15,7 @@ use std::alloc::AllocError;
 ///
 /// # Errors
 ///
-/// None: it takes no memory. The result is there for the form that the grid's calls share.
+/// There is no memory for the row's runs.
 pub(crate) fn highlight_source(
     buffer: &mut StyledBuffer,
     layout: Layout,
@@ -75,5 +75,6 @@ fn highlight_entry(
             .saturating_sub(dropped),
         layout.decor.underline(primary).style,
         primary,
-    )
+    )?;
+    Ok(())
 }

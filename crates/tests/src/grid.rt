@@ -142,3 +142,42 @@ fn restyles_the_cells_that_are_there(rt: HostRuntime) -> Result<(), Fail> {
     assert_eq!(rt; buffer.num_lines(), 1);
     Ok(())
 }
+
+#[test]
+fn counts_the_runs_of_cells(rt: HostRuntime) -> Result<(), Fail> {
+    let mut buffer = StyledBuffer::new(rt.alloc());
+    buffer.puts(0, 0, "abc", ElementStyle::Quotation)?;
+    buffer.putc(0, 1, 'x', ElementStyle::LineNumber)?;
+    assert_eq!(rt; buffer.num_runs(), 3);
+    buffer.replace(0, 0, 3, "...")?;
+    assert_eq!(rt; buffer.num_runs(), 1);
+
+    // A line's number does not give way.
+    buffer.set_style(0, 1, ElementStyle::Removal, false)?;
+    assert_eq!(rt; buffer.num_runs(), 1);
+    buffer.set_style(0, 1, ElementStyle::Removal, true)?;
+    assert_eq!(rt; buffer.num_runs(), 3);
+    let text = buffer.render(LevelInner::Error, &Stylesheet::plain())?;
+    assert_eq!(rt; text.as_str(), "...");
+    Ok(())
+}
+
+#[test]
+fn changes_cells_that_no_run_holds(rt: HostRuntime) -> Result<(), Fail> {
+    let sheet = sheet(
+        Style::new(),
+        AnsiColor::Blue.on_default(),
+        AnsiColor::Green.on_default(),
+        AnsiColor::Red.on_default(),
+    );
+    let mut buffer = StyledBuffer::new(rt.alloc());
+    buffer.putc(0, 70, 'a', ElementStyle::Removal)?;
+    buffer.set_style_range(0, 0, 69, ElementStyle::Addition, false)?;
+    buffer.link(0, 69..70, "u")?;
+    assert_eq!(rt; buffer.num_runs(), 3);
+    buffer.replace(0, 1, 70, "")?;
+    assert_eq!(rt; buffer.num_runs(), 2);
+    let text = buffer.render(LevelInner::Error, &sheet)?;
+    assert_eq!(rt; text.as_str(), "\u{1b}[32m \u{1b}[0m\u{1b}[31ma\u{1b}[0m");
+    Ok(())
+}

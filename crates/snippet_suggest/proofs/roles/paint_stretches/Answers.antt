@@ -13,6 +13,6 @@ loop-stretch-preserved c = λ above last here is.
     let before = c.loop-stretch.invariant above last here is in
     elim c.if-stretch.branch [
       | then-stretch+in_ok-set_style_range w ↦
-          subst (λ (rows : List (List Cell)). IsRepainted above last rows) (sym w.buffer-is) (repaint_more above last c.loop-stretch.buffer w.set_style_range.new.self c.args.row w.stretch_cell-start.result w.stretch_cell-end.result c.args.role here before w.set_style_range.ensures.ok)
+          subst (λ (rows : List (List Cell)). IsRepainted above last rows) (sym w.buffer-is) (repaint_more above last c.loop-stretch.buffer w.set_style_range.new.self c.args.row w.stretch_cell-start.result w.stretch_cell-end.result c.args.role here before w.in_ok-set_style_range.ensures.ok)
       | else-stretch w ↦ subst (λ (rows : List (List Cell)). IsRepainted above last rows) (sym w.buffer-is) before
     ]
