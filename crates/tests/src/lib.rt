@@ -30,5 +30,3 @@ mod splice;
 mod strokes;
 #[cfg(test)]
 mod text;
-#[cfg(test)]
-mod widths;
