@@ -26,15 +26,132 @@ const USAGE: &str =
 /// A run: its words, what FILE holds, and what is wanted: the status and what stands on each output.
 type Run<'a> = (&'a [&'a str], Option<&'a [u8]>, u8, &'a str, &'a str);
 
-/// A run over the source that prints this and nothing else.
-fn printing<'a>(words: &'a [&'a str], printed: &'a str) -> Run<'a> {
-    (words, Some(SOURCE), 0, printed, "")
-}
+const NO_FILE: &str = "snip: cannot read a.rs\n";
 
-/// A run over this file that prints nothing and tells this.
-fn telling<'a>(words: &'a [&'a str], file: Option<&'a [u8]>, told: &'a str) -> Run<'a> {
-    (words, file, 1, "", told)
-}
+/// Runs over words of the form.
+const RUNS: [Run<'static>; 15] = [
+    // What is in the way.
+    (&["a.rs", "0", "1", "t"], None, 1, "", NO_FILE),
+    (&["a.rs", "0", "1", "t"], Some(b"\xff"), 1, "", NO_FILE),
+    (
+        &["a\t\x1b", "0", "1", "t"],
+        None,
+        1,
+        "",
+        "snip: cannot read a    \u{241b}\n",
+    ),
+    (
+        &["a.rs", "5", "4", "t"],
+        Some(SOURCE),
+        1,
+        "",
+        "snip: group 0, element 0, marker 0: span is reversed\n",
+    ),
+    (
+        &["a.rs", "0", "13", "t"],
+        Some(SOURCE),
+        1,
+        "",
+        "snip: group 0, element 0, marker 0: span ends past the source\n",
+    ),
+    // The report, without a label and with one.
+    (&["a.rs", "4", "5", "unused"], Some(SOURCE), 0, REPORT, ""),
+    (
+        &["a.rs", "4", "5", "unused", "here"],
+        Some(SOURCE),
+        0,
+        "error: unused\n  |\n1 | let x = 1;\n  |     ^ here\n",
+        "",
+    ),
+    (
+        &["--width", "20", "--width", "80", "a.rs", "4", "5", "unused"],
+        Some(SOURCE),
+        0,
+        REPORT,
+        "",
+    ),
+    // On one line, and without graphics.
+    (
+        &["--short", "a.rs", "4", "5", "unused", "here"],
+        Some(SOURCE),
+        0,
+        "error: unused: here\n",
+        "",
+    ),
+    (
+        &["--text", "a.rs", "4", "5", "unused", "here"],
+        Some(SOURCE),
+        0,
+        "error: unused\n on line 1, column 5: here\n",
+        "",
+    ),
+    (
+        &["--short", "--text", "a.rs", "4", "5", "unused"],
+        Some(SOURCE),
+        0,
+        "error: unused\n on line 1, column 5\n",
+        "",
+    ),
+    // In Unicode and in colours.
+    (
+        &["--unicode", "a.rs", "4", "5", "unused", "here"],
+        Some(SOURCE),
+        0,
+        UNICODE,
+        "",
+    ),
+    (
+        &["--styled", "a.rs", "4", "5", "unused", "here"],
+        Some(SOURCE),
+        0,
+        STYLED,
+        "",
+    ),
+    (
+        &[
+            "--unicode",
+            "--width",
+            "80",
+            "a.rs",
+            "4",
+            "5",
+            "unused",
+            "here",
+        ],
+        Some(SOURCE),
+        0,
+        UNICODE,
+        "",
+    ),
+    (
+        &[
+            "--styled",
+            "--width",
+            "80",
+            "--unicode",
+            "a.rs",
+            "4",
+            "5",
+            "unused",
+            "here",
+        ],
+        Some(SOURCE),
+        0,
+        STYLED_UNICODE,
+        "",
+    ),
+];
+
+/// Words that aren't of the form.
+const WRONG: [&[&str]; 7] = [
+    &[],
+    &["a.rs", "4"],
+    &["a.rs", "+1", "5", "t"],
+    &["a.rs", "1", "", "t"],
+    &["a.rs", "1", "18446744073709551616", "t"],
+    &["--width", "a.rs", "4", "5", "t"],
+    &["--text", "a.rs", "4", "5"],
+];
 
 /// Whether the run does what is wanted.
 fn does(alloc: Global, wanted: Run<'_>) -> bool {
@@ -47,123 +164,13 @@ fn does(alloc: Global, wanted: Run<'_>) -> bool {
 }
 
 #[test]
-fn refuses_wrong_words(rt: HostRuntime) {
-    let wrong: [&[&str]; 7] = [
-        &[],
-        &["a.rs", "4"],
-        &["a.rs", "+1", "5", "t"],
-        &["a.rs", "1", "", "t"],
-        &["a.rs", "1", "18446744073709551616", "t"],
-        &["--width", "a.rs", "4", "5", "t"],
-        &["--text", "a.rs", "4", "5"],
-    ];
-    for words in wrong {
-        assert!(rt;
-            does(rt.alloc(), (words, Some(SOURCE), 2, "", USAGE)),
-            "{words:?}"
-        );
-    }
-}
-
-#[test]
-fn tells_what_is_in_the_way(rt: HostRuntime) {
-    let no_file = "snip: cannot read a.rs\n";
-    let runs = [
-        telling(&["a.rs", "0", "1", "t"], None, no_file),
-        telling(&["a.rs", "0", "1", "t"], Some(b"\xff"), no_file),
-        telling(
-            &["a\t\x1b", "0", "1", "t"],
-            None,
-            "snip: cannot read a    \u{241b}\n",
-        ),
-        telling(
-            &["a.rs", "5", "4", "t"],
-            Some(SOURCE),
-            "snip: group 0, element 0, marker 0: span is reversed\n",
-        ),
-        telling(
-            &["a.rs", "0", "13", "t"],
-            Some(SOURCE),
-            "snip: group 0, element 0, marker 0: span ends past the source\n",
-        ),
-    ];
-    for wanted in runs {
+fn does_what_its_words_ask_for(rt: HostRuntime) {
+    for wanted in RUNS {
         assert!(rt; does(rt.alloc(), wanted), "{wanted:?}");
     }
-}
-
-#[test]
-fn prints_the_report(rt: HostRuntime) {
-    let labelled = "error: unused\n  |\n1 | let x = 1;\n  |     ^ here\n";
-    let runs = [
-        printing(&["a.rs", "4", "5", "unused"], REPORT),
-        printing(&["a.rs", "4", "5", "unused", "here"], labelled),
-        printing(
-            &["--width", "20", "--width", "80", "a.rs", "4", "5", "unused"],
-            REPORT,
-        ),
-    ];
-    for wanted in runs {
-        assert!(rt; does(rt.alloc(), wanted), "{wanted:?}");
-    }
-}
-
-#[test]
-fn prints_on_one_line_and_without_graphics(rt: HostRuntime) {
-    let runs = [
-        printing(
-            &["--short", "a.rs", "4", "5", "unused", "here"],
-            "error: unused: here\n",
-        ),
-        printing(
-            &["--text", "a.rs", "4", "5", "unused", "here"],
-            "error: unused\n on line 1, column 5: here\n",
-        ),
-        printing(
-            &["--short", "--text", "a.rs", "4", "5", "unused"],
-            "error: unused\n on line 1, column 5\n",
-        ),
-    ];
-    for wanted in runs {
-        assert!(rt; does(rt.alloc(), wanted), "{wanted:?}");
-    }
-}
-
-#[test]
-fn draws_in_unicode_and_in_colours(rt: HostRuntime) {
-    let runs = [
-        printing(&["--unicode", "a.rs", "4", "5", "unused", "here"], UNICODE),
-        printing(&["--styled", "a.rs", "4", "5", "unused", "here"], STYLED),
-        printing(
-            &[
-                "--unicode",
-                "--width",
-                "80",
-                "a.rs",
-                "4",
-                "5",
-                "unused",
-                "here",
-            ],
-            UNICODE,
-        ),
-        printing(
-            &[
-                "--styled",
-                "--width",
-                "80",
-                "--unicode",
-                "a.rs",
-                "4",
-                "5",
-                "unused",
-                "here",
-            ],
-            STYLED_UNICODE,
-        ),
-    ];
-    for wanted in runs {
-        assert!(rt; does(rt.alloc(), wanted), "{wanted:?}");
+    for words in WRONG {
+        let wanted = (words, Some(SOURCE), 2, "", USAGE);
+        assert!(rt; does(rt.alloc(), wanted), "{words:?}");
     }
 }
 

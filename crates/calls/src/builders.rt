@@ -1,0 +1,134 @@
+//! What builders make: lists filled at once and one by one, texts given as they come, and copies.
+
+use annotate_snippets::level::{ERROR, HELP, NOTE};
+use annotate_snippets::text::CowStr;
+use annotate_snippets::{
+    Annotation, AnnotationKind, Element, Group, OptionCow, Origin, Padding, Patch, Snippet,
+};
+use std::alloc::{AllocError, Global};
+use std::io;
+
+/// An annotation with a label.
+fn labelled() -> Annotation<'static> {
+    AnnotationKind::Primary
+        .span(4..5)
+        .label(OptionCow::from("here"))
+        .highlight_source(true)
+}
+
+/// An annotation without one.
+fn unlabelled() -> Annotation<'static> {
+    AnnotationKind::Context.span(8..9)
+}
+
+/// The source of the snippets.
+const LINE: &str = "let x = 1;";
+
+/// A line of source with a path.
+fn line(alloc: Global) -> Snippet<'static, Annotation<'static>> {
+    Snippet::source(alloc, LINE)
+        .path(OptionCow::from("a.rs"))
+        .line_start(7)
+}
+
+/// A line of owned source, unnumbered and not folded.
+fn owned_line(alloc: Global, source: String) -> Snippet<'static, Patch<'static>> {
+    Snippet::source_cow(alloc, CowStr::Owned(source))
+        .line_numbering(false)
+        .fold(false)
+}
+
+/// The line with both annotations, given at once.
+fn cause(alloc: Global) -> Result<Snippet<'static, Annotation<'static>>, AllocError> {
+    line(alloc).annotations([labelled(), unlabelled()])
+}
+
+/// A replacement and an insertion.
+fn patches() -> [Patch<'static>; 2] {
+    let insertion = Patch::new_cow(9..9, CowStr::Borrowed("0"));
+    [Patch::new(4..5, "y"), insertion]
+}
+
+/// The owned line with both, given at once.
+fn suggestion(
+    alloc: Global,
+    source: String,
+) -> Result<Snippet<'static, Patch<'static>>, AllocError> {
+    owned_line(alloc, source).patches(patches())
+}
+
+/// An element of each kind.
+fn elements(
+    cause: Snippet<'static, Annotation<'static>>,
+    suggestion: Snippet<'static, Patch<'static>>,
+) -> [Element<'static>; 5] {
+    let remark = NOTE.with_name(OptionCow::from("remark"));
+    [
+        Element::from(remark.message("m")),
+        Element::from(cause),
+        Element::from(suggestion),
+        Element::from(Origin::path("b.rs").line(3).char_column(2)),
+        Element::from(Padding),
+    ]
+}
+
+/// A group of these elements, with an identifier and an address.
+fn whole_group(
+    alloc: Global,
+    elements: [Element<'static>; 5],
+    url: String,
+) -> Result<Group<'static>, AllocError> {
+    ERROR
+        .primary_title("e")
+        .id("E1")
+        .id_url_cow(CowStr::Owned(url))
+        .elements(alloc, elements)
+}
+
+/// A group with two elements, given at once.
+fn pair(alloc: Global) -> Result<Group<'static>, AllocError> {
+    let both = [Element::from(Padding), Element::from(Origin::path("b.rs"))];
+    Group::with_title(alloc, HELP.secondary_title("t")).elements(both)
+}
+
+/// The same, given one by one below a copy of the title.
+fn pair_one_by_one(alloc: Global) -> Result<Group<'static>, AllocError> {
+    let title = HELP.secondary_title("t").clone()?;
+    title
+        .element(alloc, Element::from(Padding))?
+        .element(Element::from(Origin::path("b.rs")))
+}
+
+/// Prints what the builders make.
+pub fn print(rt: &(impl Print + AllocGlobal)) -> io::Result<()> {
+    println!(rt; "== snippets and groups, filled at once and one by one")?;
+    print_snippets(rt, rt.alloc())?;
+    print_groups(rt, rt.alloc())
+}
+
+/// Prints snippets, filled at once and one by one.
+fn print_snippets(rt: &impl Print, alloc: Global) -> io::Result<()> {
+    println!(rt; "{:?}", cause(alloc)?)?;
+    let marked = line(alloc)
+        .annotation(labelled())?
+        .annotation(unlabelled())?;
+    println!(rt; "{marked:?}")?;
+    println!(rt; "{:?}", suggestion(alloc, String::from_str(alloc, LINE)?)?)?;
+    let patched = owned_line(alloc, String::from_str(alloc, LINE)?)
+        .patch(Patch::new(4..5, "y"))?
+        .patch(Patch::new(9..9, "0"))?;
+    println!(rt; "{patched:?}")
+}
+
+/// Prints groups, filled at once and one by one, and the copy of one with an element of each kind.
+fn print_groups(rt: &impl Print, alloc: Global) -> io::Result<()> {
+    println!(rt; "{:?}", pair(alloc)?)?;
+    println!(rt; "{:?}", pair_one_by_one(alloc)?)?;
+    let untitled = Group::with_level(alloc, NOTE);
+    println!(rt; "{untitled:?} {}", untitled.is_empty())?;
+    let patched = suggestion(alloc, String::from_str(alloc, LINE)?)?;
+    let url = String::from_str(alloc, "https://a.example/E1")?;
+    let whole = whole_group(alloc, elements(cause(alloc)?, patched), url)?;
+    println!(rt; "{:?}", whole.clone()?)?;
+    println!(rt; "{whole:?}")
+}

@@ -1,0 +1,45 @@
+//! Levels: their names and their order.
+
+use annotate_snippets::OptionCow;
+use annotate_snippets::level::{ERROR, HELP, INFO, Level, NOTE, WARNING};
+use std::cmp::Ordering;
+use std::io;
+
+/// Levels in ascending order.
+fn levels() -> [Level<'static>; 9] {
+    [
+        ERROR,
+        WARNING,
+        INFO,
+        NOTE,
+        HELP,
+        ERROR.no_name(),
+        HELP.no_name(),
+        ERROR.with_name(OptionCow::from("a")),
+        ERROR.with_name(OptionCow::from("b")),
+    ]
+}
+
+/// How two levels compare: `=` only where they are equal, and `?` where order and equality disagree.
+fn sign(left: &Level<'_>, right: &Level<'_>) -> char {
+    match (left.cmp(right), left == right) {
+        (Ordering::Less, false) => '<',
+        (Ordering::Equal, true) => '=',
+        (Ordering::Greater, false) => '>',
+        _ => '?',
+    }
+}
+
+/// Prints how each level compares with each, and its name.
+pub fn print(rt: &(impl Print + AllocGlobal)) -> io::Result<()> {
+    println!(rt; "== how each level compares with each, and its name")?;
+    let levels = levels();
+    for level in &levels {
+        let mut signs = String::new(rt.alloc());
+        for other in &levels {
+            signs.push(sign(level, other))?;
+        }
+        println!(rt; "{signs} {:?}", level.as_str())?;
+    }
+    Ok(())
+}
