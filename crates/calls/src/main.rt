@@ -8,7 +8,9 @@ mod levels;
 mod lines;
 mod margin;
 mod marked;
+mod plain;
 mod refusals;
+mod sequences;
 mod source;
 mod splice;
 mod strokes;
@@ -27,6 +29,7 @@ fn print_all(rt: &(impl Print + AllocGlobal)) -> io::Result<()> {
     splice::print(rt)?;
     margin::print(rt)?;
     grid::print(rt)?;
+    sequences::print(rt)?;
     strokes::print(rt)?;
     builders::print(rt)?;
     refusals::print(rt)

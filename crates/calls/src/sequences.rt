@@ -1,0 +1,167 @@
+//! Lists of calls from a fixed sequence, made of a grid and of plain rows of cells, whose texts are then compared.
+
+use crate::grid::{Call, make};
+use crate::plain::PlainGrid;
+use annotate_snippets::renderer::parts::{ElementStyle, LevelInner, StyledBuffer};
+use annotate_snippets::renderer::{AnsiColor, Stylesheet};
+use std::alloc::{AllocError, Global};
+use std::io;
+
+/// How many lists there are.
+const LISTS: u64 = 1000;
+
+/// How many calls a list has.
+const CALLS: u64 = 12;
+
+/// What is written.
+const TEXTS: [&str; 8] = ["", "a", "bc", "tèx", "日本", "   ", "....", "a longer text"];
+
+/// The roles of what is written, of different styles.
+const ROLES: [ElementStyle; 8] = [
+    ElementStyle::NoStyle,
+    ElementStyle::Quotation,
+    ElementStyle::LineNumber,
+    ElementStyle::Addition,
+    ElementStyle::Removal,
+    ElementStyle::UnderlinePrimary,
+    ElementStyle::UnderlineSecondary,
+    ElementStyle::MainHeaderMsg,
+];
+
+/// What is linked to.
+const LINKS: [&str; 2] = ["u", "v"];
+
+/// A fixed sequence of numbers.
+#[derive(Drop)]
+struct Numbers {
+    state: u64,
+}
+
+impl Numbers {
+    /// The next number below a limit.
+    fn below(&mut self, limit: u8) -> u8 {
+        self.state = self
+            .state
+            .wrapping_mul(6_364_136_223_846_793_005)
+            .wrapping_add(1_442_695_040_888_963_407);
+        let high = self.state >> 56;
+        if limit == 0 {
+            0
+        } else {
+            (high % u64::from(limit)) as u8
+        }
+    }
+
+    /// The next text.
+    fn text(&mut self) -> &'static str {
+        TEXTS[usize::from(self.below(8) % 8)]
+    }
+
+    /// The next role.
+    fn role(&mut self) -> ElementStyle {
+        ROLES[usize::from(self.below(8) % 8)]
+    }
+
+    /// The next of yes and no.
+    fn is_on(&mut self) -> bool {
+        self.below(2) == 1
+    }
+
+    /// The next call.
+    fn call(&mut self) -> Call {
+        let (row, cell, end) = (self.below(4), self.below(16), self.below(20));
+        match self.below(8) {
+            0 => Call::Putc(row, u32::from(cell), 'c', self.role()),
+            1 => Call::Append(row, self.text(), self.role()),
+            2 => Call::Replace(row, cell, end, self.text()),
+            3 => Call::SetStyle(
+                usize::from(row),
+                usize::from(cell),
+                self.role(),
+                self.is_on(),
+            ),
+            4 => Call::SetStyleRange(row, cell, end, self.role(), self.is_on()),
+            5 => Call::Link(row, cell, end, LINKS[usize::from(self.below(2) % 2)]),
+            _ => Call::Puts(row, cell, self.text(), self.role()),
+        }
+    }
+}
+
+/// How many runs a call may add.
+fn most_new_runs(call: Call) -> usize {
+    match call {
+        Call::SetStyleRange(..) | Call::Link(..) => usize::MAX,
+        _ => 2,
+    }
+}
+
+/// A sheet in which roles differ, and a row begins in a style.
+fn sheet() -> Stylesheet {
+    Stylesheet {
+        error: AnsiColor::Red.on_default(),
+        line_num: AnsiColor::Blue.on_default(),
+        emphasis: AnsiColor::White.on_default(),
+        none: AnsiColor::Black.on_default(),
+        context: AnsiColor::Cyan.on_default(),
+        addition: AnsiColor::Green.on_default(),
+        removal: AnsiColor::Magenta.on_default(),
+        ..Stylesheet::plain()
+    }
+}
+
+/// What was seen of the lists.
+#[derive(Clone, Copy, Default)]
+struct Seen {
+    lists: u64,
+    other_texts: u64,
+    too_many_runs: u64,
+}
+
+/// Whether each of some calls adds no more runs than it may, and whether the grid then holds what plain rows of cells hold.
+fn list(alloc: Global, numbers: &mut Numbers) -> Result<(bool, bool), AllocError> {
+    let mut buffer = StyledBuffer::new(alloc);
+    let mut plain = PlainGrid::new(alloc);
+    let mut few = true;
+    for _ in 0..CALLS {
+        let call = numbers.call();
+        let before = buffer.num_runs();
+        make(&mut buffer, call)?;
+        plain.make(alloc, call)?;
+        few = few && buffer.num_runs() <= before.saturating_add(most_new_runs(call));
+    }
+    Ok((few, is_same(alloc, &buffer, &plain)?))
+}
+
+/// Whether a grid has the rows and the texts of plain rows of cells, without codes and with them.
+fn is_same(
+    alloc: Global,
+    buffer: &StyledBuffer<'static>,
+    plain: &PlainGrid,
+) -> Result<bool, AllocError> {
+    let level = LevelInner::Error;
+    let mut same = buffer.num_lines() == plain.num_rows();
+    for sheet in [Stylesheet::plain(), sheet()] {
+        let text = buffer.render(level, &sheet)?;
+        same = same && text == plain.text(alloc, level, &sheet)?;
+    }
+    Ok(same)
+}
+
+/// Prints in how many lists of calls a grid differs from plain rows of cells.
+pub fn print(rt: &(impl Print + AllocGlobal)) -> io::Result<()> {
+    println!(rt; "== a thousand lists of calls, beside plain rows of cells")?;
+    let mut numbers = Numbers { state: 1 };
+    let mut seen = Seen::default();
+    for _ in 0..LISTS {
+        let (few, same) = list(rt.alloc(), &mut numbers)?;
+        seen.lists = seen.lists.saturating_add(1);
+        seen.other_texts = seen.other_texts.saturating_add(u64::from(!same));
+        seen.too_many_runs = seen.too_many_runs.saturating_add(u64::from(!few));
+    }
+    let Seen {
+        lists,
+        other_texts,
+        too_many_runs,
+    } = seen;
+    println!(rt; "lists: {lists}, other texts: {other_texts}, too many runs: {too_many_runs}")
+}
