@@ -11,15 +11,15 @@ use Rattle.snippet_style.specs.Grid.{Cell, row_at}
 use Rattle.snippet_style.specs.Print.{row_text}
 use Rattle.snippet_lines.specs.Number.{shown_number}
 use Rattle.snippet_lines.specs.Span.{IsSpan}
-use Rattle.snippet_parts.specs.Annotated.{KeptLine, annotated_lines, is_long}
-use Rattle.snippet_parts.specs.Kept.{shown_lines}
-use Rattle.snippet_parts.specs.Mark.{is_marking}
-use Rattle.snippet_parts.specs.Marked.{first_line, last_line}
-use Rattle.snippet_parts.specs.NamedPlace.{IsNamedPlace, primary_place}
+use Rattle.snippet_view.specs.Annotated.{KeptLine, annotated_lines, is_long}
+use Rattle.snippet_view.specs.Kept.{shown_lines}
+use Rattle.snippet_view.specs.Mark.{is_marking}
+use Rattle.snippet_view.specs.Marked.{first_line, last_line}
+use Rattle.snippet_view.specs.NamedPlace.{IsNamedPlace, primary_place}
 use Rattle.snippet_model.specs.Rows.{IsFree}
-use Rattle.snippet_parts.specs.declared.entries.AnnotatedLineInfo.{AnnotatedLineInfo}
-use Rattle.snippet_parts.specs.declared.named_place.NamedPlace.{NamedPlace}
-use Rattle.snippet_parts.proofs.NamedPlaceLaws.{place-named}
+use Rattle.snippet_view.specs.declared.entries.AnnotatedLineInfo.{AnnotatedLineInfo}
+use Rattle.snippet_view.specs.declared.named_place.NamedPlace.{NamedPlace}
+use Rattle.snippet_view.proofs.NamedPlaceLaws.{place-named}
 use Rattle.snippet_strokes.proofs.SnippetLemmas.{free_from_AreLinesShown}
 use Rattle.snippet_titles.specs.Origin.{origin_row, origin_text, primary_start, snippet_head}
 use Rattle.snippet_titles.specs.declared.origin.OriginLayout.{OriginLayout}

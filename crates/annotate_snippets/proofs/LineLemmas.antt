@@ -19,19 +19,19 @@ use Rattle.snippet_style.specs.declared.role.ElementStyle.TheVariants.{LineNumbe
 use Rattle.snippet_text.specs.Normalized.{norm}
 use Rattle.snippet_text.specs.Width.{width_of}
 use Rattle.snippet_text.proofs.NormLemmas.{width_of-norm}
-use Rattle.snippet_parts.specs.declared.entries.AnnotatedLineInfo.{AnnotatedLineInfo}
-use Rattle.snippet_parts.specs.declared.entries.LineAnnotation.{LineAnnotation}
-use Rattle.snippet_parts.specs.declared.entries.LineAnnotationType.{LineAnnotationType}
-use Rattle.snippet_parts.specs.declared.entries.LineAnnotationType.TheVariants.{Singleline, MultilineStart, MultilineEnd, MultilineLine}
-use Rattle.snippet_parts.specs.declared.margin.Margin.{Margin}
-use Rattle.snippet_parts.specs.Annotated.{KeptLine, PartEntry, kept_line, seen_kept, seen_part, single_part}
+use Rattle.snippet_view.specs.declared.entries.AnnotatedLineInfo.{AnnotatedLineInfo}
+use Rattle.snippet_view.specs.declared.entries.LineAnnotation.{LineAnnotation}
+use Rattle.snippet_view.specs.declared.entries.LineAnnotationType.{LineAnnotationType}
+use Rattle.snippet_view.specs.declared.entries.LineAnnotationType.TheVariants.{Singleline, MultilineStart, MultilineEnd, MultilineLine}
+use Rattle.snippet_view.specs.declared.margin.Margin.{Margin}
+use Rattle.snippet_view.specs.Annotated.{KeptLine, PartEntry, kept_line, seen_kept, seen_part, single_part}
 use Rattle.snippet_lines.specs.Lines.{source_lines}
-use Rattle.snippet_parts.specs.Margin.{Bounds, bounds_of}
-use Rattle.snippet_parts.specs.Mark.{end_column, is_marked_on, is_marking, is_single_line, is_wide, qualifies_for_marks, touches}
-use Rattle.snippet_parts.specs.Marked.{seen_entry, entry_of}
-use Rattle.snippet_parts.specs.Measures.{is_bar, is_single_part, is_wide_entry}
+use Rattle.snippet_view.specs.Margin.{Bounds, bounds_of}
+use Rattle.snippet_view.specs.Mark.{end_column, is_marked_on, is_marking, is_single_line, is_wide, qualifies_for_marks, touches}
+use Rattle.snippet_view.specs.Marked.{seen_entry, entry_of}
+use Rattle.snippet_view.specs.Measures.{is_bar, is_single_part, is_wide_entry}
 use Rattle.snippet_lines.specs.Span.{IsSpan}
-use Rattle.snippet_parts.specs.Window.{AreReplaced, chars_at, dropped_part, stands_whole, window}
+use Rattle.snippet_view.specs.Window.{AreReplaced, chars_at, dropped_part, stands_whole, window}
 use Rattle.snippet_strokes.specs.Entries.{IsEntryMark, IsMarkCell, IsRailCell, are_plain, has_column, has_mark_role, is_single, label_role, label_text, shifted, wide_entries}
 use Rattle.snippet_lines.specs.Number.{shown_number}
 use Rattle.snippet_model.specs.Rows.{HasNoNumber}

@@ -14,11 +14,11 @@ use Rattle.snippet_style.specs.Glyphs.{elision_of}
 use Rattle.snippet_style.specs.declared.role.ElementStyle.TheVariants.{LineNumber}
 use Rattle.snippet_style.specs.declared.glyphs.DecorStyle.{DecorStyle}
 use Rattle.snippet_style.specs.declared.glyphs.DecorStyle.TheVariants.{Ascii, Unicode}
-use Rattle.snippet_parts.specs.declared.entries.AnnotatedLineInfo.{AnnotatedLineInfo}
-use Rattle.snippet_parts.specs.declared.margin.Margin.{Margin}
-use Rattle.snippet_parts.specs.Annotated.{KeptLine, kept_line, seen_kept}
+use Rattle.snippet_view.specs.declared.entries.AnnotatedLineInfo.{AnnotatedLineInfo}
+use Rattle.snippet_view.specs.declared.margin.Margin.{Margin}
+use Rattle.snippet_view.specs.Annotated.{KeptLine, kept_line, seen_kept}
 use Rattle.snippet_lines.specs.Lines.{source_lines}
-use Rattle.snippet_parts.specs.Margin.{bounds_of}
+use Rattle.snippet_view.specs.Margin.{bounds_of}
 use Rattle.snippet_lines.specs.Span.{IsSpan}
 use Rattle.snippet_lines.specs.Number.{shown_number}
 use Rattle.snippet_strokes.specs.Rows.{bare_elision_row}

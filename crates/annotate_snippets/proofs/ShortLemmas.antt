@@ -22,7 +22,7 @@ use Rattle.snippet_model.specs.declared.snippet.Element.{Element}
 use Rattle.snippet_model.specs.declared.snippet.Element.TheVariants.{Message, Cause, Suggestion, Origin, Padding}
 use Rattle.snippet_model.specs.declared.snippet.Group.{Group}
 use Rattle.snippet_model.specs.declared.snippet.Snippet.{Snippet}
-use Rattle.snippet_parts.specs.Annotated.{annotated_lines}
+use Rattle.snippet_view.specs.Annotated.{annotated_lines}
 use Rattle.snippet_strokes.proofs.TextLemmas.{is_empty-chars}
 use Rattle.snippet_style.proofs.GridLemmas.{length-chars_le}
 use Rattle.snippet_text.specs.Normalized.{norm}

@@ -18,10 +18,10 @@ use Rattle.snippet_model.specs.declared.snippet.Group.{Group}
 use Rattle.snippet_model.specs.declared.snippet.Id.{Id}
 use Rattle.snippet_model.specs.declared.snippet.Snippet.{Snippet}
 use Rattle.snippet_model.specs.declared.snippet.Title.{Title}
-use Rattle.snippet_parts.specs.Annotated.{KeptLine, annotated_lines, is_long}
-use Rattle.snippet_parts.specs.Mark.{is_marking}
-use Rattle.snippet_parts.specs.NamedPlace.{IsNamedPlace, primary_place}
-use Rattle.snippet_parts.proofs.NamedPlaceLaws.{place-named}
+use Rattle.snippet_view.specs.Annotated.{KeptLine, annotated_lines, is_long}
+use Rattle.snippet_view.specs.Mark.{is_marking}
+use Rattle.snippet_view.specs.NamedPlace.{IsNamedPlace, primary_place}
+use Rattle.snippet_view.proofs.NamedPlaceLaws.{place-named}
 use Rattle.snippet_style.specs.Grid.{Cell, row_at}
 use Rattle.snippet_style.specs.Print.{plain_text, row_text}
 use Rattle.snippet_style.specs.Stylesheet.{is_plain_sheet}

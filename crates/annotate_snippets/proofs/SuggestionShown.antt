@@ -8,7 +8,7 @@ use Rattle.snippet_model.specs.declared.snippet.Patch.{Patch}
 use Rattle.snippet_model.specs.declared.snippet.Snippet.{Snippet}
 use Rattle.snippet_style.specs.Grid.{Cell}
 use Rattle.snippet_model.specs.Rows.{IsFree}
-use Rattle.snippet_parts.proofs.PartLemmas.{All-unmapped}
+use Rattle.snippet_view.proofs.PartLemmas.{All-unmapped}
 use Rattle.snippet_suggest.specs.Given.{first_given, given_lines, offered_lines, removed_lines}
 use Rattle.snippet_suggest.specs.Prepared.{IsSuggestible}
 use Rattle.snippet_suggest.specs.Rows.{Shows, SuggestionRow, numbers_offered}

@@ -1,7 +1,7 @@
 -- Where lines aren't cut on the left, nothing is dropped.
 use Rattle.std.proofs.Common.{◌≡◌, ℕ, List, [], ◌∷◌, refl, arith}
 use Rattle.snippet_text.specs.Width.{width_of}
-use Rattle.snippet_parts.specs.Window.{reaching, window_left, dropped_part}
+use Rattle.snippet_view.specs.Window.{reaching, window_left, dropped_part}
 
 reaching-none : (text : List ℕ) → reaching 0 text ≡ 0
 reaching-none [] = refl

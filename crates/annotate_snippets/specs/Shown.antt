@@ -23,21 +23,21 @@ use Rattle.snippet_model.specs.declared.snippet.Patch.{Patch}
 use Rattle.snippet_model.specs.declared.snippet.AnnotationKind.{AnnotationKind}
 use Rattle.snippet_model.specs.declared.snippet.Element.{Element}
 use Rattle.snippet_model.specs.declared.snippet.Element.TheVariants as element
-use Rattle.snippet_parts.specs.Annotated.{is_long}
-use Rattle.snippet_parts.specs.Kept.{shown_lines}
+use Rattle.snippet_view.specs.Annotated.{is_long}
+use Rattle.snippet_view.specs.Kept.{shown_lines}
 use Rattle.snippet_lines.specs.Lines.{source_lines, text_at}
 use Rattle.snippet_splice.specs.Edits.{patched}
 use Rattle.snippet_splice.specs.Spliced.{IsTouched}
 use Rattle.snippet_suggest.specs.Given.{IsAsItWas, IsOfferable, edits_of, first_given, given_lines, offered_lines, removed_lines}
 use Rattle.snippet_suggest.specs.Kind.{is_blank}
 use Rattle.snippet_suggest.specs.Rows.{IsBareRow, IsRemovedRow, IsSign}
-use Rattle.snippet_parts.specs.Margin.{Bounds}
-use Rattle.snippet_parts.specs.Measures.{margin_of}
-use Rattle.snippet_parts.specs.Marked.{first_line, last_line}
-use Rattle.snippet_parts.specs.Mark.{is_marked_on, is_marking, is_wide, qualifies_for_marks, start_column, end_column, IsMarkedAt, IsMarkOf}
-use Rattle.snippet_parts.specs.NamedPlace.{IsNamedPlace}
-use Rattle.snippet_parts.specs.declared.named_place.NamedPlace.{NamedPlace}
-use Rattle.snippet_parts.specs.Window.{chars_at, stands_whole, IsWindowOf}
+use Rattle.snippet_view.specs.Margin.{Bounds}
+use Rattle.snippet_view.specs.Measures.{margin_of}
+use Rattle.snippet_view.specs.Marked.{first_line, last_line}
+use Rattle.snippet_view.specs.Mark.{is_marked_on, is_marking, is_wide, qualifies_for_marks, start_column, end_column, IsMarkedAt, IsMarkOf}
+use Rattle.snippet_view.specs.NamedPlace.{IsNamedPlace}
+use Rattle.snippet_view.specs.declared.named_place.NamedPlace.{NamedPlace}
+use Rattle.snippet_view.specs.Window.{chars_at, stands_whole, IsWindowOf}
 use Rattle.snippet_model.specs.Rows.{HasNoNumber, IsFree}
 use Rattle.snippet_style.specs.Glyphs.{separator_of, closing_of, placeholder_of}
 use Rattle.snippet_strokes.specs.Entries.{IsMarkCell, IsRailCell, has_mark_role}

@@ -3,19 +3,19 @@ ghost use Rattle.std.specs.Prelude.{◌≡◌, ◌+◌, ◌<◌, ◌≤◌, ◌&
 ghost use Rattle.std.specs.List.{list_any};
 ghost use Rattle.std.specs.List.Sorted.{IsNonDecreasingBy};
 ghost use Rattle.snippet_model.specs.AnnotationKind as kinds;
-ghost use Rattle.snippet_parts.specs.Annotated as spec;
-ghost use Rattle.snippet_parts.specs.Annotated.{seen_part};
-ghost use Rattle.snippet_parts.specs.Depths.{depth_among, same_place};
+ghost use Rattle.snippet_view.specs.Annotated as spec;
+ghost use Rattle.snippet_view.specs.Annotated.{seen_part};
+ghost use Rattle.snippet_view.specs.Depths.{depth_among, same_place};
 ghost use Rattle.snippet_lines.specs.Lines.{source_lines};
 ghost use Rattle.snippet_parts.specs.LongSpans.{seen_long, HasFit};
 ghost use Rattle.snippet_lines.specs.Span.{IsSpan};
 
-use crate::depths::depths;
-use crate::entries::LineAnnotation;
 use crate::long_spans::{LongSpan, long_spans, places, starting_on};
 use crate::made_entries::{push_span_entries, single_entries};
 use crate::source_map::SourceMap;
 use snippet_model::snippet::{Annotation, AnnotationKind};
+use snippet_view::LineAnnotation;
+use snippet_view::depths::depths;
 use std::alloc::{AllocError, Global};
 
 /// The greatest depth of spans of several lines, and the entries of all spans: those of spans on one line as given, then

@@ -1,16 +1,16 @@
 //! The lines of a snippet that are kept, each with its entries.
 ghost use Rattle.std.specs.Prelude.{◌≡◌, ℕ, ◌+◌, ◌-◌, ◌<◌, ◌≤◌, ◌==◌, take, drop, ◌||◌, not, false, slice_index_or, All, length, map, filter, IfOk};
 ghost use Rattle.std.specs.List.Sorted.{IsNonDecreasingBy};
-ghost use Rattle.snippet_parts.specs.Annotated as spec;
-ghost use Rattle.snippet_parts.specs.Annotated.{seen_part, seen_kept};
+ghost use Rattle.snippet_view.specs.Annotated as spec;
+ghost use Rattle.snippet_view.specs.Annotated.{seen_part, seen_kept};
 ghost use Rattle.snippet_lines.specs.Lines.{source_lines, text_at};
 ghost use Rattle.snippet_lines.specs.Span.{IsSpan};
 
 use crate::all_entries::made_entries;
-use crate::entries::{AnnotatedLineInfo, LineAnnotation};
 use crate::kept::{kept, seen};
 use crate::source_map::SourceMap;
 use snippet_model::snippet::Annotation;
+use snippet_view::{AnnotatedLineInfo, LineAnnotation};
 use std::alloc::{AllocError, Global};
 
 /// The greatest depth of spans of several lines, and the lines that are kept, each with its entries.

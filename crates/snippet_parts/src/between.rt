@@ -2,13 +2,13 @@
 ghost use Rattle.std.specs.Prelude.{◌≡◌, Bool, List, ◌++◌, All, map, IfOk, OnOk};
 ghost use Rattle.std.specs.Option.{option_map};
 ghost use Rattle.snippet_model.specs.declared.snippet.Annotation.{Annotation};
-ghost use Rattle.snippet_parts.specs.Annotated.{annotated_lines, kept_line, seen_kept};
-ghost use Rattle.snippet_parts.specs.Between as spec;
-ghost use Rattle.snippet_parts.specs.Kept.{shown_lines};
+ghost use Rattle.snippet_view.specs.Annotated.{annotated_lines, kept_line, seen_kept};
+ghost use Rattle.snippet_view.specs.Between as spec;
+ghost use Rattle.snippet_view.specs.Kept.{shown_lines};
 ghost use Rattle.snippet_lines.specs.Span.{IsSpan};
 
-use crate::entries::AnnotatedLineInfo;
 use crate::source_map::SourceMap;
+use snippet_view::AnnotatedLineInfo;
 use std::alloc::{AllocError, Global};
 
 /// The lines that are shown: those that are kept, which are given in their order, and each single line between two of

@@ -2,15 +2,15 @@
 
 ghost use Rattle.std.specs.Prelude.{◌≡◌, ◌==◌, ◌-◌, ◌≤◌, true, All, map, filter, take, drop, length, IfOk};
 ghost use Rattle.std.specs.List.Sorted.{IsNonDecreasingBy};
-ghost use Rattle.snippet_parts.specs.Annotated as spec;
+ghost use Rattle.snippet_view.specs.Annotated as spec;
 ghost use Rattle.snippet_parts.specs.LongSpans.{seen_long, HasFit};
 ghost use Rattle.snippet_lines.specs.Span.{IsSpan};
 
-use crate::depths::LongPlace;
 use crate::mark::is_marking;
 use crate::source_map::SourceMap;
 use snippet_lines::place::Loc;
 use snippet_model::snippet::{Annotation, AnnotationKind};
+use snippet_view::depths::LongPlace;
 use std::alloc::{AllocError, Global};
 
 /// A span of several lines.

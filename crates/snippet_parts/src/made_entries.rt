@@ -1,19 +1,19 @@
 //! The entries of annotations, in the order in which they are made.
 ghost use Rattle.std.specs.Prelude.{◌≡◌, ◌+◌, ◌-◌, ◌<◌, ◌≤◌, ◌^◌, ◌++◌, ◌∷◌, [], true, All, length, map, filter, take, drop, slice_index, IfOk, OnOk};
-ghost use Rattle.snippet_parts.specs.Annotated as spec;
-ghost use Rattle.snippet_parts.specs.Annotated.{seen_part};
-ghost use Rattle.snippet_parts.specs.Depths.{depth_among};
+ghost use Rattle.snippet_view.specs.Annotated as spec;
+ghost use Rattle.snippet_view.specs.Annotated.{seen_part};
+ghost use Rattle.snippet_view.specs.Depths.{depth_among};
 ghost use Rattle.snippet_lines.specs.Lines.{source_lines};
 ghost use Rattle.snippet_parts.specs.LongSpans.{seen_long, HasFit};
 ghost use Rattle.snippet_lines.specs.Span.{IsSpan};
 
 use crate::bars::{bars_end, has_closing_bar};
-use crate::entries::{LineAnnotation, LineAnnotationType};
 use crate::long_spans::LongSpan;
 use crate::mark::is_marking;
 use crate::source_map::SourceMap;
 use snippet_lines::place::Loc;
 use snippet_model::snippet::{Annotation, AnnotationKind};
+use snippet_view::{LineAnnotation, LineAnnotationType};
 use std::alloc::{AllocError, Global};
 
 /// The entries of the spans that are marked on one line, as given.

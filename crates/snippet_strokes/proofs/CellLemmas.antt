@@ -3,12 +3,12 @@ use Rattle.std.proofs.Common.{◌≡◌, ℕ, ◌+◌, ◌-◌, ◌<◌, ◌≤�
 use Rattle.std.proofs.lemmas.List.{places, same_lists, map-append, take-map, drop-map, length-map}
 use Rattle.std.proofs.lemmas.List.Elements.{All-take, All-drop, All-cons, All-nil}
 use Rattle.std.proofs.lemmas.Str.{chars-nil}
-use Rattle.snippet_parts.proofs.LineWindowLemmas.{uncovered_short, part_short}
-use Rattle.snippet_parts.specs.declared.margin.Margin.{Margin}
-use Rattle.snippet_parts.specs.Margin.{bounds_of}
+use Rattle.snippet_view.proofs.LineWindowLemmas.{uncovered_short, part_short}
+use Rattle.snippet_view.specs.declared.margin.Margin.{Margin}
+use Rattle.snippet_view.specs.Margin.{bounds_of}
 use Rattle.std.proofs.lemmas.Bool.Decides.{nat_tests}
 use Rattle.snippet_text.specs.Width.{width_of}
-use Rattle.snippet_parts.specs.Window.{reaching, fitting, window_left, window_right, inner_part, covered_columns, uncovered_part, covered_end, begun_with, ended_with, window}
+use Rattle.snippet_view.specs.Window.{reaching, fitting, window_left, window_right, inner_part, covered_columns, uncovered_part, covered_end, begun_with, ended_with, window}
 use Rattle.snippet_style.specs.declared.glyphs.DecorStyle.{DecorStyle}
 use Rattle.snippet_style.specs.declared.glyphs.DecorStyle.TheVariants.{Ascii, Unicode}
 use Rattle.snippet_style.specs.declared.role.ElementStyle.{ElementStyle}

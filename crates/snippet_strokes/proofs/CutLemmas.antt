@@ -6,7 +6,7 @@ use Rattle.std.proofs.lemmas.List.Sums.{sum_by-append}
 use Rattle.std.proofs.lemmas.List.Elements.{All-append, All-take, All-drop}
 use Rattle.std.proofs.Math.Seq.{set-append_seam}
 use Rattle.std.specs.List.{count_by, slice_index_or}
-use Rattle.snippet_parts.specs.Window.{AreReplaced, IsReplaced}
+use Rattle.snippet_view.specs.Window.{AreReplaced, IsReplaced}
 use Rattle.snippet_style.specs.declared.role.ElementStyle.TheVariants.{LineNumber}
 use Rattle.snippet_style.specs.Glyphs.{placeholder_of}
 use Rattle.snippet_style.specs.Grid.{Cell, drawn, replaced_within, cells_replaced}

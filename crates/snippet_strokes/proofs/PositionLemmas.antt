@@ -10,11 +10,11 @@ use Rattle.std.proofs.lemmas.List.Folds.{list_all-map, list_any_none}
 use Rattle.std.proofs.lemmas.List.Sums.{AllPass-from_list_all}
 use Rattle.std.specs.List.Sorted.{IsPermutation}
 use Rattle.std.proofs.lemmas.List.Sorted.{All-permutation, IsPermutation-map}
-use Rattle.snippet_parts.specs.declared.entries.LineAnnotation.{LineAnnotation}
+use Rattle.snippet_view.specs.declared.entries.LineAnnotation.{LineAnnotation}
 use Rattle.snippet_strokes.specs.declared.positions.PlacedEntry.{PlacedEntry}
 use Rattle.snippet_strokes.specs.Positions.{ArePlaced, IsFromRight, HasItsLabel, has_label, takes_space, has_stem, is_start, is_start_part, are_starts, crosses, crowds, position_at, position_behind, positions, turned, line_positions, lowest_position, row_count, label_place, unplaced}
 use Rattle.snippet_strokes.specs.Painting.{HasRows}
-use Rattle.snippet_parts.specs.Measures.{greatest}
+use Rattle.snippet_view.specs.Measures.{greatest}
 use Rattle.snippet_strokes.specs.Entries.{HasPlace}
 
 -- a test of changed elements

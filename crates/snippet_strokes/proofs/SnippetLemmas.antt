@@ -8,8 +8,8 @@ use Rattle.std.proofs.lemmas.Bool.Decides.{nat_tests}
 use Rattle.std.proofs.lemmas.List.{append_assoc, append-nil, drop_all, drop_more, get_or_past, length_push, length-drop, get_or_push, get_or_append_left, get_or-map, length-map, ext_get_or}
 use Rattle.std.proofs.lemmas.List.Elements.{All-get_or, All-from_get_or, All-append, All-cons, All-nil, All-same}
 use Rattle.snippet_lines.specs.declared.number.LineNumbers.{LineNumbers}
-use Rattle.snippet_parts.specs.declared.entries.AnnotatedLineInfo.{AnnotatedLineInfo}
-use Rattle.snippet_parts.specs.declared.entries.LineAnnotation.{LineAnnotation}
+use Rattle.snippet_view.specs.declared.entries.AnnotatedLineInfo.{AnnotatedLineInfo}
+use Rattle.snippet_view.specs.declared.entries.LineAnnotation.{LineAnnotation}
 use Rattle.snippet_style.specs.declared.role.ElementStyle.{ElementStyle}
 use Rattle.snippet_style.specs.declared.role.ElementStyle.TheVariants.{LineNumber}
 use Rattle.snippet_style.specs.Grid.{Cell, SPACE, gives_way, row_at, unlinked_cell}
@@ -17,12 +17,12 @@ use Rattle.snippet_style.specs.Print.{row_text}
 use Rattle.snippet_text.specs.Normalized.{norm}
 use Rattle.snippet_model.specs.Rows.{IsFreeCell}
 use Rattle.snippet_strokes.specs.declared.layout.Layout.{Layout}
-use Rattle.snippet_parts.specs.declared.margin.Margin.{Margin}
-use Rattle.snippet_parts.specs.Margin.{bounds_of}
-use Rattle.snippet_parts.specs.Window.{dropped_part}
+use Rattle.snippet_view.specs.declared.margin.Margin.{Margin}
+use Rattle.snippet_view.specs.Margin.{bounds_of}
+use Rattle.snippet_view.specs.Window.{dropped_part}
 use Rattle.snippet_style.specs.Glyphs.{separator_of}
 use Rattle.snippet_text.specs.Width.{width_of}
-use Rattle.snippet_parts.specs.Measures.{StandsClear, is_bar}
+use Rattle.snippet_view.specs.Measures.{StandsClear, is_bar}
 use Rattle.snippet_strokes.specs.Entries.{are_plain, is_end_part, shifted}
 use Rattle.snippet_strokes.specs.Rails.{AddsGap, DrawsBars}
 use Rattle.snippet_strokes.proofs.RailLemmas.{AddsStrokes-drawn, rail_space}

@@ -3,9 +3,9 @@ use Rattle.std.proofs.Common.{◌≡◌, ℕ, ◌+◌, ◌-◌, ◌≤◌, min, 
 use Rattle.std.proofs.lemmas.Bool.{le-leb}
 use Rattle.std.proofs.lemmas.List.{take_all}
 use Rattle.std.proofs.lemmas.List.Sums.{sum_by-cons}
-use Rattle.snippet_parts.specs.declared.margin.Margin.{Margin}
-use Rattle.snippet_parts.specs.Margin.{bounds_of}
-use Rattle.snippet_parts.specs.Window.{reaching, fitting, reaching_last, window_left, window_right, inner_part, covered_columns, uncovered_part, covered_end}
+use Rattle.snippet_view.specs.declared.margin.Margin.{Margin}
+use Rattle.snippet_view.specs.Margin.{bounds_of}
+use Rattle.snippet_view.specs.Window.{reaching, fitting, reaching_last, window_left, window_right, inner_part, covered_columns, uncovered_part, covered_end}
 use Rattle.snippet_style.specs.declared.glyphs.DecorStyle.{DecorStyle}
 use Rattle.snippet_style.specs.declared.role.ElementStyle.TheVariants.{Quotation}
 use Rattle.snippet_style.specs.Glyphs.{placeholder_of}

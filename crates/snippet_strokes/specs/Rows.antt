@@ -2,10 +2,10 @@
 use Rattle.std.specs.Prelude.{◌≡◌, ℕ, ◌≢◌, ◌+◌, ◌-◌, ◌<◌, ◌≤◌, ◌==◌, ◌&&◌, nat_le, nat_lt, Bool, true, false, Option, None, Some, List, [], ◌∷◌, ◌++◌, All, length, take, drop, replicate, if◌then◌else◌}
 use Rattle.std.specs.List.{slice_index_or, list_any}
 use Rattle.snippet_model.specs.declared.snippet.AnnotationKind.{AnnotationKind}
-use Rattle.snippet_parts.specs.declared.entries.LineAnnotation.{LineAnnotation}
-use Rattle.snippet_parts.specs.declared.margin.Margin.{Margin}
-use Rattle.snippet_parts.specs.Margin.{bounds_of}
-use Rattle.snippet_parts.specs.Window.{inner_part, covered_columns, uncovered_part, covered_end, AreReplaced}
+use Rattle.snippet_view.specs.declared.entries.LineAnnotation.{LineAnnotation}
+use Rattle.snippet_view.specs.declared.margin.Margin.{Margin}
+use Rattle.snippet_view.specs.Margin.{bounds_of}
+use Rattle.snippet_view.specs.Window.{inner_part, covered_columns, uncovered_part, covered_end, AreReplaced}
 use Rattle.snippet_style.specs.declared.glyphs.DecorStyle.{DecorStyle}
 use Rattle.snippet_style.specs.declared.glyphs.DecorStyle.TheVariants.{Ascii, Unicode}
 use Rattle.snippet_style.specs.declared.role.ElementStyle.{ElementStyle}

@@ -1,10 +1,10 @@
 -- The rows of a snippet.
 use Rattle.std.specs.Prelude.{◌≡◌, ◌⊎◌, ℕ, ◌+◌, ◌<◌, ◌≤◌, ◌==◌, ◌&&◌, Bool, false, not, List, [], ◌∷◌, ◌++◌, All, drop, filter, length, map, chars}
-use Rattle.snippet_parts.specs.declared.entries.AnnotatedLineInfo.{AnnotatedLineInfo}
-use Rattle.snippet_parts.specs.declared.margin.Margin.{Margin}
-use Rattle.snippet_parts.specs.Margin.{bounds_of}
-use Rattle.snippet_parts.specs.Measures.{is_bar}
-use Rattle.snippet_parts.specs.Window.{dropped_part, window}
+use Rattle.snippet_view.specs.declared.entries.AnnotatedLineInfo.{AnnotatedLineInfo}
+use Rattle.snippet_view.specs.declared.margin.Margin.{Margin}
+use Rattle.snippet_view.specs.Margin.{bounds_of}
+use Rattle.snippet_view.specs.Measures.{is_bar}
+use Rattle.snippet_view.specs.Window.{dropped_part, window}
 use Rattle.snippet_strokes.specs.declared.layout.Layout.{Layout}
 use Rattle.snippet_style.specs.Glyphs.{placeholder_of}
 use Rattle.snippet_style.specs.Grid.{Cell, drawn}

@@ -6,8 +6,8 @@ ghost use Rattle.snippet_strokes.specs.Painting.{DrawsFrom, HasRows, KeepsRails}
 use crate::layout::Layout;
 use crate::positions::PlacedEntry;
 use crate::roles::is_primary;
-use snippet_parts::LineAnnotationType;
 use snippet_style::StyledBuffer;
+use snippet_view::LineAnnotationType;
 use std::alloc::AllocError;
 
 /// Draws the lines that lead from starts and ends of spans of several lines to their bars, each in the row of its position,

@@ -6,8 +6,8 @@ ghost use Rattle.snippet_strokes.specs.Painting.{DrawsRails, HasRows};
 use crate::layout::Layout;
 use crate::positions::PlacedEntry;
 use crate::roles::is_primary;
-use snippet_parts::LineAnnotationType;
 use snippet_style::StyledBuffer;
+use snippet_view::LineAnnotationType;
 use std::alloc::AllocError;
 
 /// Draws the bars of the spans that begin or end on a line whose source row has this number, with the corners where their

@@ -1,6 +1,6 @@
 //! Wide spans, of which the middle gives its place to the placeholder, in the source row and in the row of the marks.
 ghost use Rattle.std.specs.Prelude.{◌≡◌, ◌+◌, ◌-◌, ◌^◌, ◌<◌, ◌≤◌, ◌++◌, ◌∷◌, [], List, All, IfOk, OnOk, length, map};
-ghost use Rattle.snippet_parts.specs.Measures.{is_wide_entry};
+ghost use Rattle.snippet_view.specs.Measures.{is_wide_entry};
 ghost use Rattle.snippet_style.specs.Glyphs.{placeholder_of};
 ghost use Rattle.snippet_style.specs.Grid.{Cell, cells_replaced, drawn};
 ghost use Rattle.snippet_style.specs.declared.role.ElementStyle.TheVariants.{LineNumber};
@@ -9,8 +9,8 @@ ghost use Rattle.snippet_strokes.specs.Rows.{CutsRows};
 
 use crate::layout::Layout;
 use crate::positions::{PlacedEntry, crosses, overlap, position_at, position_behind};
-use snippet_parts::{LineAnnotation, LineAnnotationType};
 use snippet_style::{DecorStyle, StyledBuffer, char_count};
+use snippet_view::{LineAnnotation, LineAnnotationType};
 use std::alloc::{AllocError, Global};
 
 /// The fewest columns that stay at each end of a span that is cut.

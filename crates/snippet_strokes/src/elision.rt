@@ -5,8 +5,8 @@ ghost use Rattle.snippet_strokes.specs.Rows.{bare_elision_row};
 
 use crate::layout::Layout;
 use crate::rails::{OpenBar, RailStroke, draw_bars};
-use snippet_parts::AnnotatedLineInfo;
 use snippet_style::{DecorStyle, ElementStyle, StyledBuffer};
+use snippet_view::AnnotatedLineInfo;
 use std::alloc::AllocError;
 
 /// Draws the row that stands for the lines between one of this number and the first of the lines behind it, if there are any.

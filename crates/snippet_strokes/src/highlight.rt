@@ -6,8 +6,8 @@ ghost use Rattle.snippet_strokes.specs.Rows.{IsHighlighted, Restyled};
 
 use crate::layout::Layout;
 use crate::roles::is_primary;
-use snippet_parts::{LineAnnotation, LineAnnotationType};
 use snippet_style::StyledBuffer;
+use snippet_view::{LineAnnotation, LineAnnotationType};
 use std::alloc::AllocError;
 
 /// Gives the characters of a source row, of which so many columns are dropped on the left, that entries ask to highlight the

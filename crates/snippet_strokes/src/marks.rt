@@ -6,8 +6,8 @@ ghost use Rattle.snippet_strokes.specs.Painting.{AreMarked, IsPaintingOrder, Pai
 use crate::layout::Layout;
 use crate::positions::PlacedEntry;
 use crate::roles::is_primary;
-use snippet_parts::{LineAnnotation, LineAnnotationType};
 use snippet_style::{DecorStyle, StyledBuffer};
+use snippet_view::{LineAnnotation, LineAnnotationType};
 use std::alloc::AllocError;
 use std::cmp::Reverse;
 

@@ -5,10 +5,11 @@ ghost use Rattle.std.specs.Cow.{cow_str_bytes};
 ghost use Rattle.snippet_strokes.specs.Positions as spec;
 ghost use Rattle.snippet_strokes.specs.Positions.{ArePlaced, HasItsLabel};
 ghost use Rattle.snippet_strokes.specs.Entries.{label_text, shifted};
-ghost use Rattle.snippet_parts.specs.Measures.{greatest};
+ghost use Rattle.snippet_view.specs.Measures.{greatest};
 
-use snippet_parts::{LineAnnotation, LineAnnotationType, Loc};
+use snippet_lines::Loc;
 use snippet_text::normalized;
+use snippet_view::{LineAnnotation, LineAnnotationType};
 use std::alloc::{AllocError, Global};
 use std::borrow::CowStr;
 use std::cmp::Reverse;

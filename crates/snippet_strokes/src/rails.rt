@@ -5,8 +5,8 @@ ghost use Rattle.snippet_strokes.specs.Rails.{DrawsBars, HasRoom, ends_of_bars};
 
 use crate::layout::Layout;
 use crate::roles::is_primary;
-use snippet_parts::{LineAnnotation, LineAnnotationType};
 use snippet_style::{DecorStyle, StyledBuffer};
+use snippet_view::{LineAnnotation, LineAnnotationType};
 use std::alloc::{AllocError, Global};
 
 /// A bar that an entry of a line opens or closes.

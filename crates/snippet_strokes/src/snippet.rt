@@ -1,6 +1,6 @@
 //! The rows of a snippet: those of each line that is shown.
 ghost use Rattle.std.specs.Prelude.{◌≡◌, ◌+◌, ◌^◌, ◌<◌, ◌≤◌, ◌++◌, ◌∷◌, [], false, List, All, IfOk, IfSome, OnOk, length, map};
-ghost use Rattle.snippet_parts.specs.Measures.{StandsClear, is_bar};
+ghost use Rattle.snippet_view.specs.Measures.{StandsClear, is_bar};
 ghost use Rattle.snippet_strokes.specs.Entries.{HasPlace, HasRail, shifted};
 ghost use Rattle.snippet_strokes.specs.Rails.{HasRoom, ends_of_bars, open_below};
 ghost use Rattle.snippet_lines.specs.Number.{shown_number};
@@ -16,8 +16,8 @@ use crate::source_row::draw_source_row;
 use crate::strokes::draw_strokes;
 use crate::whole_line::is_whole_line;
 use snippet_lines::LineNumbers;
-use snippet_parts::{AnnotatedLineInfo, Margin};
 use snippet_style::StyledBuffer;
+use snippet_view::{AnnotatedLineInfo, Margin};
 use std::alloc::{AllocError, Global};
 
 /// Draws the lines of a snippet below all that stands in the grid: for each line its source row and its strokes. Where the

@@ -2,8 +2,8 @@
 ghost use Rattle.std.specs.Prelude.{◌≡◌, ◌+◌, ◌^◌, ◌<◌, ◌≤◌, ◌++◌, ◌∷◌, [], IfOk, IfSome, List, OnOk, chars, false, length};
 ghost use Rattle.snippet_style.specs.Grid.{Cell};
 ghost use Rattle.std.specs.List.{list_any};
-ghost use Rattle.snippet_parts.specs.Margin.{bounds_of};
-ghost use Rattle.snippet_parts.specs.Window.{dropped_part};
+ghost use Rattle.snippet_view.specs.Margin.{bounds_of};
+ghost use Rattle.snippet_view.specs.Window.{dropped_part};
 ghost use Rattle.snippet_style.specs.Glyphs.{placeholder_of};
 ghost use Rattle.snippet_lines.specs.Number.{shown_number};
 ghost use Rattle.snippet_strokes.specs.Rows.{AddsSourceRow, begun_cells, ended_cells, shown_cells, window_cells, with_cells};
@@ -13,9 +13,9 @@ ghost use Rattle.snippet_text.specs.Width.{width_of};
 use crate::layout::Layout;
 use crate::row::begin_row;
 use snippet_lines::{LineNumbers, number_text};
-use snippet_parts::{AnnotatedLineInfo, LineWindow, Margin, near_part, window_of};
 use snippet_style::{ElementStyle, StyledBuffer};
 use snippet_text::{normalized, str_width};
+use snippet_view::{AnnotatedLineInfo, LineWindow, Margin, near_part, window_of};
 use std::alloc::{AllocError, Global};
 
 /// Draws the source row of a line below all that stands in the grid: the part of the line between the bounds of a margin.

@@ -7,8 +7,8 @@ ghost use Rattle.snippet_strokes.specs.Positions as spec;
 use crate::layout::Layout;
 use crate::positions::PlacedEntry;
 use crate::roles::is_primary;
-use snippet_parts::LineAnnotationType;
 use snippet_style::{DecorStyle, StyledBuffer};
+use snippet_view::LineAnnotationType;
 use std::alloc::AllocError;
 
 /// Draws the stems of the entries that have one, from the row of the marks on.

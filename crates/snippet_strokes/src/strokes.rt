@@ -1,7 +1,7 @@
 //! All that stands below the source row of a line, and the bars beside it of spans that begin or end there.
 ghost use Rattle.std.specs.Prelude.{◌≡◌, ◌+◌, ◌^◌, ◌<◌, ◌≤◌, ◌++◌, ◌∷◌, [], if◌then◌else◌, All, IfSome, List, OnOk, false, length, map};
 ghost use Rattle.snippet_strokes.specs.Entries.{HasPlace, HasRail, shifted};
-ghost use Rattle.snippet_parts.specs.Measures.{is_bar};
+ghost use Rattle.snippet_view.specs.Measures.{is_bar};
 ghost use Rattle.snippet_style.specs.Grid.{Cell};
 ghost use Rattle.snippet_strokes.specs.Positions as spec;
 ghost use Rattle.snippet_strokes.specs.Rows.{AddsStrokes, HasNoBars};
@@ -16,8 +16,8 @@ use crate::marks::draw_marks;
 use crate::positions::{PlacedEntry, are_starts, placed_entries};
 use crate::row::{begin_closing_row, begin_rows};
 use crate::stems::draw_stems;
-use snippet_parts::LineAnnotation;
 use snippet_style::StyledBuffer;
+use snippet_view::LineAnnotation;
 use std::alloc::{AllocError, Global};
 
 /// Draws the strokes of a line, of which so many columns are dropped on the left, below its source row, which has this number

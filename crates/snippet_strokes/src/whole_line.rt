@@ -5,8 +5,8 @@ ghost use Rattle.std.specs.List.{list_all, position};
 ghost use Rattle.snippet_strokes.specs.Rails as spec;
 ghost use Rattle.snippet_text.specs.Normalized.{norm};
 
-use snippet_parts::{LineAnnotation, LineAnnotationType};
 use snippet_text::normalized;
+use snippet_view::{LineAnnotation, LineAnnotationType};
 use std::alloc::{AllocError, Global};
 
 /// Whether a line is marked as a whole: it has entries, and each is a bar, or a start with nothing but whitespace before it.

@@ -19,7 +19,7 @@ use Rattle.snippet_lines.specs.declared.place.Loc.{Loc}
 use Rattle.snippet_lines.proofs.OrderLemmas.{All-put_in, sorted-only, map-ordered_by}
 use Rattle.snippet_model.specs.declared.snippet.Annotation.{Annotation}
 use Rattle.snippet_model.specs.declared.snippet.Snippet.{Snippet}
-use Rattle.snippet_parts.specs.Mark.{is_marking}
+use Rattle.snippet_view.specs.Mark.{is_marking}
 use Rattle.snippet_text_form.specs.Cause.{behind_place, cause_form, comes_before, further_indent, has_label, kind_rank, label_of, named_spans, source_of, span_form, span_place, spans_form}
 use Rattle.snippet_text_form.specs.Form.{FormPiece, Break, bare}
 use Rattle.snippet_text_form.specs.Position.{place}

@@ -9,8 +9,8 @@
 //! ```
 ghost use Rattle.std.specs.Prelude.{◌≡◌, ◌+◌, ◌≤◌, ◌<◌, ◌^◌, ◌++◌, OnOk, map};
 ghost use Rattle.snippet_model.specs.declared.snippet.Element.TheVariants.{Cause};
-ghost use Rattle.snippet_parts.specs.Annotated.{seen_kept};
-ghost use Rattle.snippet_parts.specs.Entries.{AllEntries, HasCharacterRoom};
+ghost use Rattle.snippet_view.specs.Annotated.{seen_kept};
+ghost use Rattle.snippet_view.specs.Entries.{AllEntries, HasCharacterRoom};
 ghost use Rattle.annotate_snippets.specs.Drawn.{AddsCause, AddsCauseLines, HasRoomFor};
 ghost use Rattle.annotate_snippets.specs.Prepared.{IsCausePrepared};
 ghost use Rattle.annotate_snippets.specs.Rows as spec;

@@ -1,7 +1,7 @@
 use Rattle.std.proofs.Common.{◌≡◌, false, take}
 use Rattle.std.specs.List.{list_any}
-use Rattle.snippet_parts.specs.Annotated.{long_place}
-use Rattle.snippet_parts.specs.Depths.{same_place}
+use Rattle.snippet_view.specs.Annotated.{long_place}
+use Rattle.snippet_view.specs.Depths.{same_place}
 use Rattle.snippet_parts.specs.LongSpans.{seen_long}
 use Rattle.snippet_parts.proofs.all_entries.is_place_of_any.Given as goal
 

@@ -1,7 +1,7 @@
 use Rattle.std.proofs.Common.{map, ap, sym, ◌∙◌}
 use Rattle.snippet_parts.specs.declared.long_spans.LongSpan.{LongSpan}
-use Rattle.snippet_parts.specs.Annotated.{long_place}
-use Rattle.snippet_parts.specs.Depths.{greatest_depth}
+use Rattle.snippet_view.specs.Annotated.{long_place}
+use Rattle.snippet_view.specs.Depths.{greatest_depth}
 use Rattle.snippet_parts.specs.LongSpans.{seen_long}
 use Rattle.snippet_parts.proofs.EntryLemmas.{places-ordered, places-lines, places-are, depths-of, no_span}
 use Rattle.snippet_parts.proofs.all_entries.made_entries.Goals as goal

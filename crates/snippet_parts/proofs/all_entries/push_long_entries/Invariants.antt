@@ -1,5 +1,5 @@
 use Rattle.std.proofs.Common.{◌≡◌, ◌++◌, [], map, take, drop}
-use Rattle.snippet_parts.specs.Annotated.{seen_part, long_parts, long_place}
+use Rattle.snippet_view.specs.Annotated.{seen_part, long_parts, long_place}
 use Rattle.snippet_parts.specs.LongSpans.{seen_long}
 use Rattle.snippet_parts.proofs.all_entries.push_long_entries.Given as goal
 

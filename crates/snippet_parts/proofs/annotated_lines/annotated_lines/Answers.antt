@@ -1,11 +1,11 @@
 use Rattle.std.proofs.Common.{◌≡◌, ◌+◌, ◌<◌, ◌≤◌, ◌||◌, ℕ, false, not, eqb, map, length, get_or, refl, ap, sym, ◌∙◌, arith}
 use Rattle.std.specs.List.{filter, list_any, range_with_len}
 use Rattle.std.proofs.lemmas.List.FromFn.{length-map-range_with_len, get_or-map-range_with_len}
-use Rattle.snippet_parts.specs.Annotated.{PartEntry, seen_part, kept_line}
-use Rattle.snippet_parts.specs.Kept.{keeps}
+use Rattle.snippet_view.specs.Annotated.{PartEntry, seen_part, kept_line}
+use Rattle.snippet_view.specs.Kept.{keeps}
 use Rattle.snippet_lines.specs.Lines.{source_lines}
 use Rattle.snippet_parts.specs.Stretches.{is_seen}
-use Rattle.snippet_parts.proofs.ShownLemmas.{lines-shown, lines-left, same-kept}
+use Rattle.snippet_view.proofs.ShownLemmas.{lines-shown, lines-left, same-kept}
 use Rattle.snippet_parts.proofs.annotated_lines.annotated_lines.Goals as goal
 use Rattle.snippet_parts.proofs.annotated_lines.annotated_lines.Goals.{then-is_shown+in_ok-annotated_line+in_ok-push, else-is_shown}
 

@@ -1,7 +1,7 @@
 use Rattle.std.proofs.Common.{◌≡◌, ◌||◌, not, map}
 use Rattle.std.specs.List.{filter, list_any, range_with_len}
-use Rattle.snippet_parts.specs.Annotated.{seen_kept, kept_line}
-use Rattle.snippet_parts.specs.Kept.{keeps}
+use Rattle.snippet_view.specs.Annotated.{seen_kept, kept_line}
+use Rattle.snippet_view.specs.Kept.{keeps}
 use Rattle.snippet_parts.proofs.annotated_lines.annotated_lines.Given as goal
 
 -- the lines so far

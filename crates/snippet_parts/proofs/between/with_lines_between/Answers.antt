@@ -1,9 +1,9 @@
 use Rattle.std.proofs.Common.{◌≡◌, None, Some, List, [], ◌∷◌, ◌++◌, map, length, refl, sym, ap, ◌∙◌, append_assoc, append-nil, arith}
 use Rattle.std.specs.Vec.Iter.{into_iter_items}
 use Rattle.std.proofs.lemmas.List.{map_push}
-use Rattle.snippet_parts.specs.Annotated.{KeptLine, seen_kept}
-use Rattle.snippet_parts.specs.Between.{lines_between}
-use Rattle.snippet_parts.proofs.BetweenLemmas.{filled, filled-shown}
+use Rattle.snippet_view.specs.Annotated.{KeptLine, seen_kept}
+use Rattle.snippet_view.specs.Between.{lines_between}
+use Rattle.snippet_view.proofs.BetweenLemmas.{filled, filled-shown}
 use Rattle.snippet_parts.proofs.between.with_lines_between.Goals as goal
 
 nothing_left : {X : Type 0} (l : List X) → length l ≡ 0 → l ≡ []

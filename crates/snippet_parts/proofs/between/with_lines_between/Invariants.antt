@@ -1,7 +1,7 @@
 use Rattle.std.proofs.Common.{◌≡◌, ◌++◌, None, map, length}
 use Rattle.std.specs.Vec.Iter.{into_iter_items, into_iter_len}
-use Rattle.snippet_parts.specs.Annotated.{seen_kept}
-use Rattle.snippet_parts.proofs.BetweenLemmas.{filled}
+use Rattle.snippet_view.specs.Annotated.{seen_kept}
+use Rattle.snippet_view.proofs.BetweenLemmas.{filled}
 use Rattle.snippet_parts.proofs.between.with_lines_between.Given as goal
 
 -- the lines so far, and behind them those of the lines that are left

@@ -2,7 +2,7 @@ use Rattle.std.proofs.Common.{◌≡◌, ◌++◌, ◌||◌, take, drop, ap, ◌
 use Rattle.std.proofs.lemmas.Result.{IfOk-weaker}
 use Rattle.snippet_lines.specs.Lines.{source_lines}
 use Rattle.std.proofs.lemmas.List.{take_at}
-use Rattle.snippet_parts.specs.Kept.{keeps}
+use Rattle.snippet_view.specs.Kept.{keeps}
 use Rattle.snippet_parts.specs.Stretches.{is_covered}
 use Rattle.snippet_parts.proofs.KeptLemmas.{covered-more, covered-none, covered-all}
 use Rattle.snippet_parts.proofs.kept.kept.Goals as goal

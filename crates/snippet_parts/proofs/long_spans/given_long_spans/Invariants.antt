@@ -1,6 +1,6 @@
 use Rattle.std.proofs.Common.{◌≡◌, map, take}
 use Rattle.std.specs.List.{All, filter}
-use Rattle.snippet_parts.specs.Annotated.{long_entry, is_long}
+use Rattle.snippet_view.specs.Annotated.{long_entry, is_long}
 use Rattle.snippet_parts.specs.LongSpans.{seen_long, HasFit}
 use Rattle.snippet_parts.proofs.long_spans.given_long_spans.Given as goal
 

@@ -1,5 +1,5 @@
 use Rattle.std.proofs.Common.{◌+◌, ◌-◌, ℕ, map, ap, ◌∙◌, arith}
-use Rattle.snippet_parts.specs.Annotated.{seen_part, bar_part}
+use Rattle.snippet_view.specs.Annotated.{seen_part, bar_part}
 use Rattle.snippet_parts.specs.LongSpans.{seen_long}
 use Rattle.snippet_parts.proofs.EntryLemmas.{bars-more, bars-closed, bars-open, same-bars}
 use Rattle.snippet_parts.proofs.made_entries.push_bars.Goals as goal

@@ -1,6 +1,6 @@
 use Rattle.std.proofs.Common.{◌≡◌, ◌+◌, ◌-◌, ◌++◌, map}
 use Rattle.std.specs.List.{range_with_len}
-use Rattle.snippet_parts.specs.Annotated.{seen_part, bar_part}
+use Rattle.snippet_view.specs.Annotated.{seen_part, bar_part}
 use Rattle.snippet_parts.specs.LongSpans.{seen_long}
 use Rattle.snippet_parts.proofs.made_entries.push_bars.Given as goal
 

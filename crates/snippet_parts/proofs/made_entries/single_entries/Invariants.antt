@@ -1,6 +1,6 @@
 use Rattle.std.proofs.Common.{◌≡◌, map, take}
 use Rattle.std.specs.List.{filter}
-use Rattle.snippet_parts.specs.Annotated.{seen_part, single_part, is_short}
+use Rattle.snippet_view.specs.Annotated.{seen_part, single_part, is_short}
 use Rattle.snippet_parts.proofs.made_entries.single_entries.Given as goal
 
 -- the entries so far

@@ -1,6 +1,6 @@
 use Rattle.std.proofs.Common.{◌≡◌, ℕ, ◌+◌, ◌≤◌, take}
 use Rattle.std.specs.Option.{IfSome}
-use Rattle.snippet_parts.proofs.MarkLemmas.{BestOf}
+use Rattle.snippet_parts.proofs.BestLemmas.{BestOf}
 use Rattle.snippet_parts.proofs.mark.mark_of.Given as goal
 
 -- the best of the spans so far

@@ -1,6 +1,6 @@
 use Rattle.std.proofs.Common.{◌≡◌, ◌∙◌, ◌+◌, ◌-◌, true, cond, ap, sym, subst, arith, length}
 use Rattle.std.proofs.lemmas.Result.{on_ok_weaker}
-use Rattle.snippet_parts.specs.Measures.{is_wide_entry}
+use Rattle.snippet_view.specs.Measures.{is_wide_entry}
 use Rattle.snippet_style.specs.Glyphs.{placeholder_of}
 use Rattle.snippet_strokes.specs.Rows.{CutsRows}
 use Rattle.snippet_strokes.proofs.CutLemmas.{CutsRows-replaced}

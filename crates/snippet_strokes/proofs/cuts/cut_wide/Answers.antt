@@ -1,7 +1,7 @@
 use Rattle.std.proofs.Common.{◌≡◌, ◌<◌, [], ◌∷◌, sym, subst, arith, length, map, take, get_or}
 use Rattle.std.proofs.lemmas.List.{get_or-map, length-map}
-use Rattle.snippet_parts.specs.declared.entries.LineAnnotation.{LineAnnotation}
-use Rattle.snippet_parts.specs.Measures.{is_wide_entry}
+use Rattle.snippet_view.specs.declared.entries.LineAnnotation.{LineAnnotation}
+use Rattle.snippet_view.specs.Measures.{is_wide_entry}
 use Rattle.snippet_style.specs.Glyphs.{placeholder_of}
 use Rattle.snippet_strokes.specs.declared.positions.PlacedEntry.{PlacedEntry}
 use Rattle.snippet_strokes.specs.Entries.{wide_entries}

@@ -1,7 +1,7 @@
 use Rattle.std.proofs.Common.{◌≡◌, ◌∙◌, ◌+◌, ◌-◌, take, ◌==◌, ◌&&◌, [], All, sym, ap, subst, arith, length, drop}
 use Rattle.std.proofs.lemmas.List.{take_rest}
 use Rattle.std.proofs.lemmas.List.Elements.{All-nil, All-same}
-use Rattle.snippet_parts.specs.declared.entries.AnnotatedLineInfo.{AnnotatedLineInfo}
+use Rattle.snippet_view.specs.declared.entries.AnnotatedLineInfo.{AnnotatedLineInfo}
 use Rattle.snippet_strokes.specs.Entries.{HasRail}
 use Rattle.snippet_strokes.specs.Rails.{AddsGap, HasRoom}
 use Rattle.snippet_strokes.specs.Snippet.{AddsLine}

@@ -1,9 +1,9 @@
 use Rattle.std.proofs.Common.{refl, ap, ◌∙◌, arith, length, chars}
 use Rattle.std.specs.List.{list_any}
 use Rattle.std.proofs.lemmas.List.Folds.{list_any_none}
-use Rattle.snippet_parts.specs.Margin.{bounds_of}
-use Rattle.snippet_parts.specs.Window.{inner_part, uncovered_part}
-use Rattle.snippet_parts.proofs.NearLemmas.{part_of_norm}
+use Rattle.snippet_view.specs.Margin.{bounds_of}
+use Rattle.snippet_view.specs.Window.{inner_part, uncovered_part}
+use Rattle.snippet_view.proofs.NearLemmas.{part_of_norm}
 use Rattle.snippet_text.specs.Normalized.{is_listed, norm}
 use Rattle.snippet_text.proofs.NormLemmas.{list_any-norm}
 use Rattle.snippet_lines.specs.Number.{shown_number}

@@ -7,11 +7,11 @@ use Rattle.snippet_lines.specs.Lines.{Source}
 use Rattle.snippet_lines.specs.Number.{shown_number}
 use Rattle.snippet_lines.specs.Span.{IsSpan}
 use Rattle.snippet_lines.specs.declared.number.LineNumbers.{LineNumbers}
-use Rattle.snippet_parts.specs.declared.entries.AnnotatedLineInfo.{AnnotatedLineInfo}
-use Rattle.snippet_parts.specs.Annotated.{annotated_lines, deepest, kept_line, seen_kept}
-use Rattle.snippet_parts.specs.Kept.{kept_lines, shown_lines}
-use Rattle.snippet_parts.specs.Margin.{bounds_of}
-use Rattle.snippet_parts.specs.Measures.{margin_of}
+use Rattle.snippet_view.specs.declared.entries.AnnotatedLineInfo.{AnnotatedLineInfo}
+use Rattle.snippet_view.specs.Annotated.{annotated_lines, deepest, kept_line, seen_kept}
+use Rattle.snippet_view.specs.Kept.{kept_lines, shown_lines}
+use Rattle.snippet_view.specs.Margin.{bounds_of}
+use Rattle.snippet_view.specs.Measures.{margin_of}
 use Rattle.snippet_strokes.specs.Snippet.{AreLinesShown}
 use Rattle.annotate_snippets.specs.Drawn.{layout_in}
 use Rattle.annotate_snippets.specs.Gutter.{code_behind, numbered_source}

@@ -4,9 +4,9 @@ use Rattle.std.proofs.lemmas.Str.{IsUtf8-string_bytes, chars-nil}
 use Rattle.snippet_model.specs.Fits.{TextFits}
 use Rattle.snippet_model.specs.declared.snippet.Annotation.{Annotation}
 use Rattle.snippet_model.specs.declared.snippet.Snippet.{Snippet}
-use Rattle.snippet_parts.specs.Annotated.{annotated_lines, seen_kept}
-use Rattle.snippet_parts.specs.Kept.{kept_lines}
-use Rattle.snippet_parts.proofs.EntryFacts.{characters-fit}
+use Rattle.snippet_view.specs.Annotated.{annotated_lines, seen_kept}
+use Rattle.snippet_view.specs.Kept.{kept_lines}
+use Rattle.snippet_view.proofs.EntryFacts.{characters-fit}
 use Rattle.snippet_titles.specs.Origin.{origin_text}
 use Rattle.snippet_titles.specs.declared.origin.OriginPlace.{OriginPlace}
 use Rattle.annotate_snippets.specs.Around.{path_bytes}

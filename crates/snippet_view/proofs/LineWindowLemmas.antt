@@ -1,0 +1,227 @@
+-- How the window of a line is found, character by character.
+use Rattle.std.proofs.Common.{◌≡◌, ◌^◌, Option, Some, None, IfSome, unwrap_or, ℕ, ◌+◌, ◌-◌, ◌<◌, ◌≤◌, cond, eqb, leb, true, false, List, [], ◌∷◌, ◌++◌, length, take, drop, get_or, refl, sym, ap, ◌∙◌, subst, le_refl, arith, chars, encode_utf8, encode_utf8_all, IsUtf8}
+use Rattle.std.proofs.Math.Utf8.{scalars}
+use Rattle.std.specs.Str.{IsCharBoundary}
+use Rattle.std.proofs.lemmas.Str.{encodes-chars, encodes-append, scalars-chars, chars-encodes, IsCharBoundary-at_seam}
+use Rattle.std.proofs.lemmas.List.{at_drop_more, drop_all, take-append-drop, take_at, drop_at, length-append, length-drop, length-take, take_more, append-nil}
+use Rattle.std.proofs.lemmas.List.Sums.{sum_by-cons, fold_push}
+use Rattle.std.proofs.lemmas.Bool.{le-leb}
+use Rattle.std.proofs.lemmas.Bool.Decides.{nat_tests}
+use Rattle.snippet_text.specs.Width.{char_width, width_of}
+use Rattle.snippet_view.specs.Window.{reaching, fitting, reaching_last, bytes_of, uncovered_part}
+
+-- the scalars of a list's two parts
+scalars_back : (xs ys : List ℕ) → scalars (xs ++ ys) ≡ true → scalars ys ≡ true
+scalars_back [] ys all = all
+scalars_back (x ∷ xs) ys all = scalars_back xs ys (grind arith)
+
+scalars_front : (xs ys : List ℕ) → scalars (xs ++ ys) ≡ true → scalars xs ≡ true
+scalars_front [] ys all = refl
+scalars_front (x ∷ xs) ys all =
+    let rest = scalars_front xs ys (grind arith) in
+    grind arith
+
+-- a text, cut behind its first n characters
+pub text_parts : (text : List ℕ) (n : ℕ) → IsUtf8 text → text ≡ encode_utf8_all (take n (chars text)) ++ encode_utf8_all (drop n (chars text))
+text_parts text n utf8 =
+    sym (encodes-chars text utf8) ∙ ap encode_utf8_all (sym (take-append-drop n (chars text))) ∙ encodes-append (take n (chars text)) (drop n (chars text))
+
+all_scalars : (text : List ℕ) (n : ℕ) → IsUtf8 text → scalars (take n (chars text) ++ drop n (chars text)) ≡ true
+all_scalars text n utf8 = ap scalars (take-append-drop n (chars text)) ∙ scalars-chars text utf8
+
+pub cut_boundary : (text : List ℕ) (n at : ℕ) → IsUtf8 text → at ≡ bytes_of (take n (chars text)) → IsCharBoundary text at
+cut_boundary text n at utf8 is =
+    let back = drop n (chars text) in
+    subst (IsCharBoundary text) (sym is) (IsCharBoundary-at_seam text (encode_utf8_all (take n (chars text))) (encode_utf8_all back) (text_parts text n utf8) (back, (scalars_back (take n (chars text)) back (all_scalars text n utf8), refl)))
+
+pub cut_front : (text : List ℕ) (n at : ℕ) → IsUtf8 text → at ≡ bytes_of (take n (chars text)) → chars (take at text) ≡ take n (chars text)
+cut_front text n at utf8 is =
+    let front = take n (chars text) in
+    let back = drop n (chars text) in
+    let bytes : take at text ≡ encode_utf8_all front = ap (take at) (text_parts text n utf8) ∙ take_at (encode_utf8_all front) (encode_utf8_all back) at (sym is) in
+    ap chars bytes ∙ chars-encodes front (scalars_front front back (all_scalars text n utf8))
+
+pub cut_back : (text : List ℕ) (n at : ℕ) → IsUtf8 text → at ≡ bytes_of (take n (chars text)) → chars (drop at text) ≡ drop n (chars text)
+cut_back text n at utf8 is =
+    let front = take n (chars text) in
+    let back = drop n (chars text) in
+    let bytes : drop at text ≡ encode_utf8_all back = ap (drop at) (text_parts text n utf8) ∙ drop_at (encode_utf8_all front) (encode_utf8_all back) at (sym is) in
+    ap chars bytes ∙ chars-encodes back (scalars_back front back (all_scalars text n utf8))
+
+-- one more character
+pub width-cons : (c : ℕ) (cs : List ℕ) → width_of (c ∷ cs) ≡ char_width c + width_of cs
+width-cons c cs = sum_by-cons char_width c cs
+
+width-push : (cs : List ℕ) (c : ℕ) → width_of (cs ++ c ∷ []) ≡ width_of cs + char_width c
+width-push cs c = fold_push (λ a x. a + char_width x) 0 cs c
+
+bytes-push : (cs : List ℕ) (c : ℕ) → bytes_of (cs ++ c ∷ []) ≡ bytes_of cs + length (encode_utf8 c)
+bytes-push cs c =
+    ap length (encodes-append cs (c ∷ []) ∙ ap (λ bs. encode_utf8_all cs ++ bs) (append-nil (encode_utf8 c))) ∙ length-append (encode_utf8_all cs) (encode_utf8 c)
+
+-- the character that stands next
+abbrev pub IsNext : List ℕ → ℕ → ℕ → Type 0
+IsNext cs n c = (n < length cs) × (c ≡ get_or cs n c)
+
+take-next : (cs : List ℕ) (n c : ℕ) → IsNext cs n c → take (n + 1) cs ≡ take n cs ++ c ∷ []
+take-next cs n c next = take_more cs n c next.0 ∙ ap (λ x. take n cs ++ x ∷ []) (sym next.1)
+
+drop-next : (cs : List ℕ) (n c : ℕ) → IsNext cs n c → drop n cs ≡ c ∷ drop (n + 1) cs
+drop-next cs n c next = at_drop_more (λ xs. xs) cs n c next.0 ∙ ap (λ x. x ∷ drop (n + 1) cs) (sym next.1)
+
+-- no more bytes stand before a character than the text has
+pub bytes_within : (text : List ℕ) (n : ℕ) → IsUtf8 text → bytes_of (take n (chars text)) ≤ length text
+bytes_within text n utf8 =
+    omega (arith, ap length (text_parts text n utf8), length-append (encode_utf8_all (take n (chars text))) (encode_utf8_all (drop n (chars text))))
+
+pub bytes_next : (text : List ℕ) (n at c : ℕ) → IsUtf8 text → IsNext (chars text) n c → at ≡ bytes_of (take n (chars text)) → at + length (encode_utf8 c) ≤ length text
+bytes_next text n at c utf8 next is =
+    omega (arith, is, bytes_within text (n + 1) utf8, ap bytes_of (take-next (chars text) n c next), bytes-push (take n (chars text)) c)
+
+-- the characters so far don't reach so many columns: what is left is reached behind them
+pub record ReachesSoFar (columns : ℕ) (cs : List ℕ) (n at width : ℕ) : Type 0 where
+  pub bytes : at ≡ bytes_of (take n cs)
+  pub width_is : width ≡ width_of (take n cs)
+  pub rest : reaching columns cs ≡ n + reaching (columns - width) (drop n cs)
+
+pub reaching-cons : (k c : ℕ) (cs : List ℕ) → 0 < k → reaching k (c ∷ cs) ≡ reaching (k - char_width c) cs + 1
+reaching-cons k c cs some = grind (arith, nat_tests, some)
+
+pub reaching-none : (cs : List ℕ) → reaching 0 cs ≡ 0
+reaching-none [] = refl
+reaching-none (c ∷ cs) = refl
+
+pub reaches_start : (columns : ℕ) (cs : List ℕ) → ReachesSoFar columns cs 0 0 0
+reaches_start columns cs =
+    let same : reaching (columns - 0) (drop 0 cs) ≡ reaching columns cs = ap (λ k. reaching k cs) (omega arith) in
+    record { bytes = refl; width_is = refl; rest = omega arith }
+
+pub reaches_next : (columns : ℕ) (cs : List ℕ) (n m at width c len w : ℕ) → IsNext cs n c → m ≡ n + 1 → width < columns → len ≡ length (encode_utf8 c) → w ≡ char_width c → ReachesSoFar columns cs n at width → ReachesSoFar columns cs m (at + len) (width + w)
+reaches_next columns cs n m at width c len w next one less is_len is_width so_far =
+    let front = ap (λ k. take k cs) one ∙ take-next cs n c next in
+    let left : (columns - width) - char_width c ≡ columns - (width + w) = omega arith in
+    let goes : reaching (columns - width) (drop n cs) ≡ reaching (columns - (width + w)) (drop (n + 1) cs) + 1 = ap (reaching (columns - width)) (drop-next cs n c next) ∙ reaching-cons (columns - width) c (drop (n + 1) cs) (omega arith) ∙ ap (λ k. reaching k (drop (n + 1) cs) + 1) left in
+    let same : reaching (columns - (width + w)) (drop m cs) ≡ reaching (columns - (width + w)) (drop (n + 1) cs) = ap (λ k. reaching (columns - (width + w)) (drop k cs)) one in
+    record {
+      bytes = omega (arith, so_far.bytes, ap bytes_of front, bytes-push (take n cs) c, is_len);
+      width_is = omega (arith, so_far.width_is, ap width_of front, width-push (take n cs) c, is_width);
+      rest = omega (arith, so_far.rest, goes, same, one);
+    }
+
+-- they are enough, or there are no more
+pub reaches_enough : (columns : ℕ) (cs : List ℕ) (n at width : ℕ) → columns ≤ width → ReachesSoFar columns cs n at width → reaching columns cs ≡ n
+reaches_enough columns cs n at width enough so_far =
+    let none : columns - width ≡ 0 = omega arith in
+    let stop : reaching (columns - width) (drop n cs) ≡ 0 = ap (λ k. reaching k (drop n cs)) none ∙ reaching-none (drop n cs) in
+    omega (arith, so_far.rest, stop)
+
+pub reaches_all : (columns : ℕ) (cs : List ℕ) (n at width : ℕ) → n ≡ length cs → ReachesSoFar columns cs n at width → reaching columns cs ≡ n
+reaches_all columns cs n at width all so_far =
+    let stop : reaching (columns - width) (drop n cs) ≡ 0 = ap (reaching (columns - width)) (drop_all n cs (omega arith)) in
+    omega (arith, so_far.rest, stop)
+
+-- the characters so far fit, and so much is left behind them
+pub record FitsSoFar (columns : ℕ) (cs : List ℕ) (n at left : ℕ) : Type 0 where
+  pub bytes : at ≡ bytes_of (take n cs)
+  pub width_is : left + width_of (take n cs) ≡ columns
+  pub rest : fitting columns cs ≡ n + fitting left (drop n cs)
+
+pub fitting-cons : (k c : ℕ) (cs : List ℕ) → char_width c ≤ k → fitting k (c ∷ cs) ≡ fitting (k - char_width c) cs + 1
+fitting-cons k c cs fits = grind (arith, nat_tests, fits)
+
+pub fitting-stop : (k c : ℕ) (cs : List ℕ) → k < char_width c → fitting k (c ∷ cs) ≡ 0
+fitting-stop k c cs wide = grind (arith, nat_tests, wide)
+
+pub fits_start : (columns : ℕ) (cs : List ℕ) → FitsSoFar columns cs 0 0 columns
+fits_start columns cs = record { bytes = refl; width_is = omega arith; rest = omega arith }
+
+pub fits_next : (columns : ℕ) (cs : List ℕ) (n m at left c len w : ℕ) → IsNext cs n c → m ≡ n + 1 → w ≤ left → len ≡ length (encode_utf8 c) → w ≡ char_width c → FitsSoFar columns cs n at left → FitsSoFar columns cs m (at + len) (left - w)
+fits_next columns cs n m at left c len w next one less is_len is_width so_far =
+    let front = ap (λ k. take k cs) one ∙ take-next cs n c next in
+    let same_left : left - char_width c ≡ left - w = omega arith in
+    let goes : fitting left (drop n cs) ≡ fitting (left - w) (drop (n + 1) cs) + 1 = ap (fitting left) (drop-next cs n c next) ∙ fitting-cons left c (drop (n + 1) cs) (omega arith) ∙ ap (λ k. fitting k (drop (n + 1) cs) + 1) same_left in
+    let same : fitting (left - w) (drop m cs) ≡ fitting (left - w) (drop (n + 1) cs) = ap (λ k. fitting (left - w) (drop k cs)) one in
+    record {
+      bytes = omega (arith, so_far.bytes, ap bytes_of front, bytes-push (take n cs) c, is_len);
+      width_is = omega (arith, so_far.width_is, ap width_of front, width-push (take n cs) c, is_width, less);
+      rest = omega (arith, so_far.rest, goes, same, one);
+    }
+
+pub fits_enough : (columns : ℕ) (cs : List ℕ) (n at left c w : ℕ) → IsNext cs n c → w ≡ char_width c → left < w → FitsSoFar columns cs n at left → fitting columns cs ≡ n
+fits_enough columns cs n at left c w next is_width wide so_far =
+    let stop : fitting left (drop n cs) ≡ 0 = ap (fitting left) (drop-next cs n c next) ∙ fitting-stop left c (drop (n + 1) cs) (omega arith) in
+    omega (arith, so_far.rest, stop)
+
+pub fits_all : (columns : ℕ) (cs : List ℕ) (n at left : ℕ) → n ≡ length cs → FitsSoFar columns cs n at left → fitting columns cs ≡ n
+fits_all columns cs n at left all so_far =
+    let stop : fitting left (drop n cs) ≡ 0 = ap (fitting left) (drop_all n cs (omega arith)) in
+    omega (arith, so_far.rest, stop)
+
+-- the last characters, from this one on, reach so many columns: so do those behind it, or it is the first that is needed
+pub record LastSoFar (columns : ℕ) (cs : List ℕ) (n width count : ℕ) : Type 0 where
+  pub width_is : width ≡ width_of (drop n cs)
+  pub count_is : count + n ≡ length cs
+  pub rest : reaching_last columns cs ≡ reaching_last columns (drop n cs)
+
+reaching_last-more : (k c : ℕ) (cs : List ℕ) → k ≤ width_of cs → reaching_last k (c ∷ cs) ≡ reaching_last k cs
+reaching_last-more k c cs more = ap (λ b. cond b (reaching_last k cs) (length cs + 1)) (le-leb k (width_of cs) more)
+
+leb-false : (a b : ℕ) → b < a → leb a b ≡ false
+leb-false a b above = grind (arith, nat_tests, above)
+
+reaching_last-here : (k c : ℕ) (cs : List ℕ) → width_of cs < k → reaching_last k (c ∷ cs) ≡ length cs + 1
+reaching_last-here k c cs few = ap (λ b. cond b (reaching_last k cs) (length cs + 1)) (leb-false k (width_of cs) few)
+
+pub last_start : (columns : ℕ) (cs : List ℕ) (width count : ℕ) → width ≡ width_of cs → count ≡ length cs → LastSoFar columns cs 0 width count
+last_start columns cs width count is_width is_count = record { width_is = is_width; count_is = omega arith; rest = refl }
+
+-- the width behind a character
+pub width_behind : (cs : List ℕ) (n c width w : ℕ) → IsNext cs n c → w ≡ char_width c → width ≡ width_of (drop n cs) → width ≡ w + width_of (drop (n + 1) cs)
+width_behind cs n c width w next is_width is =
+    is ∙ ap width_of (drop-next cs n c next) ∙ width-cons c (drop (n + 1) cs) ∙ ap (λ k. k + width_of (drop (n + 1) cs)) (sym is_width)
+
+pub last_next : (columns : ℕ) (cs : List ℕ) (n m width count c w : ℕ) → IsNext cs n c → m ≡ n + 1 → w ≡ char_width c → columns ≤ width - w → LastSoFar columns cs n width count → LastSoFar columns cs m (width - w) (count - 1)
+last_next columns cs n m width count c w next one is_width more so_far =
+    let behind = width_behind cs n c width w next is_width so_far.width_is in
+    let same : drop m cs ≡ drop (n + 1) cs = ap (λ k. drop k cs) one in
+    record {
+      width_is = omega (arith, behind, ap width_of same);
+      count_is = omega (arith, so_far.count_is, next.0, one);
+      rest = so_far.rest ∙ ap (reaching_last columns) (drop-next cs n c next) ∙ reaching_last-more columns c (drop (n + 1) cs) (omega (arith, behind, more)) ∙ ap (reaching_last columns) (sym same);
+    }
+
+pub last_here : (columns : ℕ) (cs : List ℕ) (n width count c w : ℕ) → IsNext cs n c → w ≡ char_width c → width - w < columns → LastSoFar columns cs n width count → count ≡ reaching_last columns cs
+last_here columns cs n width count c w next is_width few so_far =
+    let behind = width_behind cs n c width w next is_width so_far.width_is in
+    let here = so_far.rest ∙ ap (reaching_last columns) (drop-next cs n c next) ∙ reaching_last-here columns c (drop (n + 1) cs) (omega (arith, behind, few)) in
+    omega (arith, here, so_far.count_is, length-drop (n + 1) cs, next.0)
+
+pub last_all : (columns : ℕ) (cs : List ℕ) (n width count : ℕ) → n ≡ length cs → LastSoFar columns cs n width count → count ≡ reaching_last columns cs
+last_all columns cs n width count all so_far =
+    let none : reaching_last columns (drop n cs) ≡ 0 = ap (reaching_last columns) (drop_all n cs (omega arith)) in
+    omega (arith, so_far.rest, none, so_far.count_is)
+
+-- what stands in a window is no longer than the line
+pub uncovered_short : (left : ℕ) (placeholder inner : List ℕ) → length (uncovered_part left placeholder inner) ≤ length inner
+uncovered_short left placeholder inner =
+    elim (eqb left 0) as (λ b. length (cond b inner (drop (reaching (width_of placeholder) inner) inner)) ≤ length inner) [
+      | true ↦ le_refl (length inner)
+      | false ↦ omega (arith, length-drop (reaching (width_of placeholder) inner) inner)
+    ]
+
+pub part_short : (n k : ℕ) (cs rest inner : List ℕ) → rest ≡ drop n cs → inner ≡ take k rest → length inner ≤ length cs
+part_short n k cs rest inner rest_is inner_is =
+    omega (arith, ap length rest_is, ap length inner_is, length-take k rest, length-drop n cs)
+
+-- what a line's window begins with and what stands behind it are few cells
+pub start_few : (start : Option ℕ) (columns : ℕ) → columns < 2 ^ 58 + 1 → IfSome start (λ s. s < columns + 4) → unwrap_or start 0 < 2 ^ 59
+start_few None columns narrow few = omega arith
+start_few (Some s) columns narrow few = omega (arith, narrow, few)
+
+pub start_is_few : (start : Option ℕ) (columns : ℕ) → columns < 2 ^ 58 + 1 → IfSome start (λ s. s < columns + 4) → IfSome start (λ s. s < 2 ^ 59)
+start_is_few None columns narrow few = few
+start_is_few (Some s) columns narrow few = omega (arith, narrow, few)
+
+pub cells_few : (start : Option ℕ) (columns left : ℕ) (placeholder inner shown : List ℕ) (n count : ℕ) → columns < 2 ^ 58 + 1 → IfSome start (λ s. s < columns + 4) → shown ≡ uncovered_part left placeholder inner → length inner < 2 ^ 60 → n ≡ unwrap_or start 0 → count ≡ length shown → n + count < 2 ^ 61
+cells_few start columns left placeholder inner shown n count narrow few is short n_is count_is =
+    omega (arith, start_few start columns narrow few, ap length is, uncovered_short left placeholder inner)

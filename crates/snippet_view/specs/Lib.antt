@@ -1,0 +1,16 @@
+pub mod Annotated
+pub mod Between
+pub mod Depths
+pub mod Entries
+pub mod Extent
+pub mod Kept
+pub mod Margin
+pub mod Mark
+pub mod Marked
+pub mod Measures
+pub mod NamedPlace
+pub mod NearPart
+pub mod OnLine
+pub mod Prepare
+pub mod Weak
+pub mod Window

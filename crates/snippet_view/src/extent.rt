@@ -1,0 +1,131 @@
+//! How far the lines of a snippet reach, with their spans and labels, and the margin for them.
+ghost use Rattle.std.specs.Prelude.{◌≡◌, ◌+◌, ◌-◌, ◌^◌, ◌<◌, ◌≤◌, ◌++◌, ◌∷◌, [], All, List, IfSome, Some, min, max, length, chars};
+ghost use Rattle.std.specs.Option.{option_copied, option_map_or};
+ghost use Rattle.snippet_view.specs.declared.entries.AnnotatedLineInfo.{AnnotatedLineInfo};
+ghost use Rattle.snippet_view.specs.declared.entries.LineAnnotation.{LineAnnotation};
+ghost use Rattle.snippet_view.specs.Margin.{bounds_of};
+ghost use Rattle.snippet_view.specs.Measures as spec;
+ghost use Rattle.snippet_view.specs.Measures.{StandsClear, bounds_of_lines, end_with};
+ghost use Rattle.snippet_view.specs.Extent.{ReachesEntries, ReachesLines};
+
+use crate::entries::{AnnotatedLineInfo, LineAnnotation, LineAnnotationType};
+use crate::margin::Margin;
+use crate::window::leading_whitespace;
+use snippet_text::str_width;
+
+/// The margin for the lines of a snippet, in a room of so many columns. Bars take no part.
+pub fn margin_for(lines: &[AnnotatedLineInfo], room: usize) -> Margin
+    requires texts { All (λ info. length info.line.now < 2 ^ 56) lines.now }
+    requires labels { All (λ info. All (λ e. IfSome e.label (λ t. length t.now < 2 ^ 56)) info.annotations.items)
+        lines.now }
+    ensures bounds { bounds_of result ≡ bounds_of_lines room lines.now }
+    ensures room { result.term_width ≡ room }
+    ensures ordered { (bounds_of result).left ≤ (bounds_of result).right }
+    ensures clear { All (λ info. All (StandsClear result) info.annotations.items) lines.now }
+{
+    let mut extent = Extent::NONE;
+    for info in lines {
+        extent.add_line(info);
+    }
+    Margin::new(
+        extent.whitespace.unwrap_or(0),
+        extent.first.unwrap_or(0),
+        extent.last,
+        extent.label_end,
+        room,
+        extent.widest,
+    )
+}
+
+/// How far some lines reach, in columns.
+#[derive(Clone, Copy)]
+struct Extent {
+    /// The least width of whitespace that a line begins with, blank ones left out.
+    whitespace: Option<usize>,
+    /// The least column at which an entry starts or ends.
+    first: Option<usize>,
+    /// The greatest such column, or 0.
+    last: usize,
+    /// The greatest column behind a label, or behind a mark that has none, or 0.
+    label_end: usize,
+    /// The width of the widest line.
+    widest: usize,
+}
+
+impl Extent {
+    /// That of no lines.
+    const NONE: Extent = Extent {
+        whitespace: None,
+        first: None,
+        last: 0,
+        label_end: 0,
+        widest: 0,
+    };
+
+    /// Takes in a line, with its entries.
+    fn add_line(&mut self, info: &AnnotatedLineInfo)
+        requires text { length info.now.line.now < 2 ^ 56 }
+        requires labels { All (λ e. IfSome e.label (λ t. length t.now < 2 ^ 56)) info.now.annotations.items }
+        ensures adds { (before : List AnnotatedLineInfo) → ReachesLines before self.old
+            → ReachesLines (before ++ info.now ∷ []) self.new }
+    {
+        self.whitespace = lesser_of(self.whitespace, leading_whitespace(info.line));
+        self.widest = self.widest.max(str_width(info.line));
+        for entry in &info.annotations {
+            self.add_entry(entry);
+        }
+    }
+
+    /// Takes in an entry.
+    fn add_entry(&mut self, entry: &LineAnnotation)
+        requires label { IfSome entry.now.label (λ t. length t.now < 2 ^ 56) }
+        ensures adds { (before : List LineAnnotation) → ReachesEntries before self.old
+            → ReachesEntries (before ++ entry.now ∷ []) self.new }
+        ensures lines { self.new ≡ record self.old { first = self.new.first; last = self.new.last; label_end = self.new.label_end } }
+    {
+        if is_bar(entry.annotation_type) {
+            return;
+        }
+        self.first = lesser(lesser(self.first, entry.start.display), entry.end.display);
+        self.last = self.last.max(entry.start.display).max(entry.end.display);
+        self.label_end = self.label_end.max(label_end(entry));
+    }
+}
+
+/// The lesser of a number, if there is one, and another.
+pub(crate) fn lesser(before: Option<usize>, number: usize) -> Option<usize>
+    ensures value { result ≡ Some (option_map_or (λ n. min n number) before number) }
+{
+    match before {
+        Some(least) => Some(least.min(number)),
+        None => Some(number),
+    }
+}
+
+/// The lesser of two numbers, as far as they are there.
+fn lesser_of(before: Option<usize>, number: Option<usize>) -> Option<usize>
+    ensures value { result ≡ option_map_or (λ n. Some (option_map_or (λ m. min m n) before n)) number before }
+{
+    match number {
+        Some(number) => lesser(before, number),
+        None => before,
+    }
+}
+
+/// Whether an entry stands for a bar.
+fn is_bar(part: LineAnnotationType) -> bool
+    ensures value { result ≡ spec.is_bar part }
+{
+    matches!(part, LineAnnotationType::MultilineLine(_))
+}
+
+/// The column behind an entry's label, or behind its mark where it has none.
+fn label_end(entry: &LineAnnotation) -> usize
+    requires label { IfSome entry.now.label (λ t. length t.now < 2 ^ 56) }
+    ensures value { result ≡ end_with entry.now.end.display (option_copied entry.now.label) }
+{
+    match entry.label {
+        Some(label) => entry.end.display.saturating_add(str_width(label) + 1),
+        None => entry.end.display,
+    }
+}
