@@ -1,12 +1,11 @@
 //! All entries of annotations, and the greatest depth of those that stand on several lines.
-ghost use Rattle.std.specs.Prelude.{◌≡◌, ◌+◌, ◌<◌, ◌≤◌, ◌&&◌, ◌||◌, ◌++◌, ◌∷◌, [], All, length, map, take, drop, IfOk, OnOk};
+ghost use Rattle.std.specs.Prelude.{◌≡◌, ◌+◌, ◌<◌, ◌&&◌, ◌||◌, ◌++◌, [], All, map, IfOk, OnOk};
 ghost use Rattle.std.specs.List.{list_any};
 ghost use Rattle.std.specs.List.Sorted.{IsNonDecreasingBy};
 ghost use Rattle.snippet_model.specs.AnnotationKind as kinds;
 ghost use Rattle.snippet_view.specs.Annotated as spec;
 ghost use Rattle.snippet_view.specs.Annotated.{seen_part};
 ghost use Rattle.snippet_view.specs.Depths.{depth_among, same_place};
-ghost use Rattle.snippet_lines.specs.Lines.{source_lines};
 ghost use Rattle.snippet_parts.specs.LongSpans.{seen_long, HasFit};
 ghost use Rattle.snippet_lines.specs.Span.{IsSpan};
 

@@ -1,11 +1,11 @@
 //! Which lines of a snippet are kept. Lines count from 0.
-ghost use Rattle.std.specs.Prelude.{◌≡◌, ℕ, ◌+◌, ◌<◌, ◌≤◌, ◌^◌, ◌||◌, All, length, map, max, slice_set, slice_index, vec_len, IfOk};
+ghost use Rattle.std.specs.Prelude.{◌≡◌, ℕ, ◌+◌, ◌<◌, ◌≤◌, ◌||◌, All, length, map, max, IfOk};
 ghost use Rattle.std.specs.List.{list_any, range_with_len};
 ghost use Rattle.snippet_view.specs.Kept.{keeps};
 ghost use Rattle.snippet_lines.specs.Lines.{source_lines};
 ghost use Rattle.snippet_view.specs.Marked.{first_line, last_line};
 ghost use Rattle.snippet_lines.specs.Span.{IsSpan};
-ghost use Rattle.snippet_parts.specs.Stretches.{holds, furthest, is_covered, is_seen};
+ghost use Rattle.snippet_parts.specs.Stretches.{holds, is_covered, is_seen};
 
 use crate::bars::{bars_end, has_closing_bar};
 use crate::mark::is_marking;

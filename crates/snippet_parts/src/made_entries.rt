@@ -1,9 +1,7 @@
 //! The entries of annotations, in the order in which they are made.
-ghost use Rattle.std.specs.Prelude.{◌≡◌, ◌+◌, ◌-◌, ◌<◌, ◌≤◌, ◌^◌, ◌++◌, ◌∷◌, [], true, All, length, map, filter, take, drop, slice_index, IfOk, OnOk};
+ghost use Rattle.std.specs.Prelude.{◌≡◌, ◌+◌, ◌-◌, ◌<◌, ◌^◌, ◌++◌, All, map, filter, IfOk, OnOk};
 ghost use Rattle.snippet_view.specs.Annotated as spec;
 ghost use Rattle.snippet_view.specs.Annotated.{seen_part};
-ghost use Rattle.snippet_view.specs.Depths.{depth_among};
-ghost use Rattle.snippet_lines.specs.Lines.{source_lines};
 ghost use Rattle.snippet_parts.specs.LongSpans.{seen_long, HasFit};
 ghost use Rattle.snippet_lines.specs.Span.{IsSpan};
 
@@ -12,7 +10,7 @@ use crate::long_spans::LongSpan;
 use crate::mark::is_marking;
 use crate::source_map::SourceMap;
 use snippet_lines::place::Loc;
-use snippet_model::snippet::{Annotation, AnnotationKind};
+use snippet_model::snippet::Annotation;
 use snippet_view::{LineAnnotation, LineAnnotationType};
 use std::alloc::{AllocError, Global};
 

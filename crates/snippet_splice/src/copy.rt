@@ -1,5 +1,5 @@
 //! How source is copied beside patches: by the text of its lines, with a line feed for each line end.
-ghost use Rattle.std.specs.Prelude.{◌≡◌, ◌<◌, ◌≤◌, ◌++◌, IfOk, length, count_by, true};
+ghost use Rattle.std.specs.Prelude.{◌≡◌, ◌<◌, ◌≤◌, ◌++◌, IfOk, count_by, true};
 ghost use Rattle.std.specs.String.{string_bytes};
 ghost use Rattle.std.specs.Str.{IsCharBoundary};
 ghost use Rattle.snippet_lines.specs.Lines.{is_lf};

@@ -1,7 +1,7 @@
 //! Patches that overlap.
-ghost use Rattle.std.specs.Prelude.{◌≡◌, ◌↔◌, ℕ, ◌<◌, ◌+◌, ◌≤◌, true, false, List, map, All, IfSome, IfNone, IsNone, length, drop, slice_index_or};
+ghost use Rattle.std.specs.Prelude.{◌≡◌, ◌↔◌, ℕ, ◌<◌, ◌+◌, ◌≤◌, true, false, map, All, IfSome, IfNone, IsNone, length, slice_index_or};
 ghost use Rattle.snippet_lines.specs.Span.{IsSpan};
-ghost use Rattle.snippet_splice.specs.Edits.{Edit, edit_of, precedes, AreApart};
+ghost use Rattle.snippet_splice.specs.Edits.{edit_of};
 ghost use Rattle.snippet_splice.specs.Overlap.{overlap, overlap_at, IsFirstOverlap, AreDisjoint, no_edit};
 ghost use Rattle.snippet_splice.specs.Overlap as spec;
 

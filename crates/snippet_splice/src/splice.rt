@@ -1,14 +1,13 @@
 //! The part of a source that is shown with patches applied.
-ghost use Rattle.std.specs.Prelude.{◌≡◌, ◌≢◌, ◌↔◌, ◌==◌, ℕ, ◌+◌, ◌<◌, ◌≤◌, [], ◌++◌, map, All, IfOk, IfSome, IsNone, length, take};
+ghost use Rattle.std.specs.Prelude.{◌≡◌, ◌↔◌, ◌+◌, ◌<◌, [], ◌++◌, map, All, IfOk, IfSome, IsNone, length, take};
 ghost use Rattle.std.specs.String.{string_bytes};
-ghost use Rattle.snippet_lines.specs.Lines.{lines_of, source_lines, text_at};
+ghost use Rattle.snippet_lines.specs.Lines.{source_lines, text_at};
 ghost use Rattle.snippet_lines.specs.Span.{IsSpan, IsSpanBorder};
-ghost use Rattle.snippet_splice.specs.Edits.{edit_of, in_order, bounds_of, original_bounds_of, edited_from, patched, trimmed_edit_of, trimmed_edits, AreApart};
+ghost use Rattle.snippet_splice.specs.Edits.{edit_of, trimmed_edit_of, AreApart};
 ghost use Rattle.snippet_splice.specs.Overlap.{AreDisjoint};
 ghost use Rattle.snippet_splice.specs.Copied.{written, written_ranges, end_from};
 ghost use Rattle.snippet_splice.specs.Splice.{IsSplice};
-ghost use Rattle.snippet_splice.specs.Spliced.{HasNoCr, IsBeforeFinalLf, IsTouched, texts_of, AreFrom, spliced_text, line_ranges, ranges_from};
-ghost use Rattle.snippet_splice.specs.Shown.{closes_line, first_start, shown_line, shown_start, shown_rest, without_final_line_feeds, shown_text};
+ghost use Rattle.snippet_splice.specs.Shown.{closes_line, shown_start, shown_rest, without_final_line_feeds, shown_text};
 
 use crate::copy::{push_copied, text_place};
 use crate::patches::{TrimmedPatch, trimmed_patches};

@@ -1,5 +1,5 @@
 //! The window of a line: the part of it that is shown.
-ghost use Rattle.std.specs.Prelude.{◌≡◌, ◌+◌, ◌-◌, ◌*◌, ◌^◌, ◌<◌, ◌≤◌, IfSome, List, ℕ, length, take, drop, chars, min};
+ghost use Rattle.std.specs.Prelude.{◌≡◌, ◌+◌, ◌-◌, ◌^◌, ◌<◌, ◌≤◌, IfSome, List, ℕ, length, take, drop, chars, min};
 ghost use Rattle.snippet_text.specs.Width.{width_of};
 ghost use Rattle.snippet_view.specs.Margin.{bounds_of};
 ghost use Rattle.snippet_view.specs.NearPart.{IsPartOf};

@@ -1,5 +1,5 @@
 //! The part of a line that is sure to hold its window.
-ghost use Rattle.std.specs.Prelude.{◌≡◌, ◌+◌, ◌-◌, ◌<◌, ◌≤◌, ◌^◌, List, ℕ, length, take, drop, chars, min};
+ghost use Rattle.std.specs.Prelude.{◌≡◌, ◌+◌, ◌-◌, ◌<◌, ◌≤◌, ◌^◌, length, take, drop, chars, min};
 ghost use Rattle.snippet_text.specs.Width.{width_of};
 ghost use Rattle.snippet_view.specs.Margin.{bounds_of};
 ghost use Rattle.snippet_view.specs.NearPart.{HoldsWindow, falling_short, window_columns};
