@@ -10,7 +10,7 @@ use Rattle.snippet_style.specs.declared.glyphs.DecorStyle.{DecorStyle}
 use Rattle.snippet_style.specs.declared.glyphs.DecorStyle.TheVariants.{Ascii, Unicode}
 use Rattle.snippet_style.specs.declared.role.ElementStyle.{ElementStyle}
 use Rattle.snippet_style.specs.declared.role.ElementStyle.TheVariants.{LineNumber, Quotation, UnderlinePrimary, UnderlineSecondary}
-use Rattle.snippet_style.specs.Glyphs.{separator_of, closing_of, placeholder_of, elision_of, underline_role}
+use Rattle.snippet_style.specs.Glyphs.{separator_of, placeholder_of, elision_of, underline_role}
 use Rattle.snippet_style.specs.Print.{row_text}
 use Rattle.snippet_style.specs.Separators.{closing_row, separator_row}
 use Rattle.snippet_style.specs.Grid.{Cell, SPACE, drawn, written, unlinked_cell, row_at, cell_at, gives_way, restyled}

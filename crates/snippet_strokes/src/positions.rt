@@ -1,6 +1,6 @@
 //! Where the labels of a line stand: how far below the row of its marks each hangs.
 ghost use Rattle.std.specs.Prelude.{◌≡◌, ◌+◌, ◌^◌, ◌<◌, ◌&&◌, All, IfOk, chars, length, map};
-ghost use Rattle.std.specs.List.{list_all, list_any};
+ghost use Rattle.std.specs.List.{list_any};
 ghost use Rattle.std.specs.Cow.{cow_str_bytes};
 ghost use Rattle.snippet_strokes.specs.Positions as spec;
 ghost use Rattle.snippet_strokes.specs.Positions.{ArePlaced, HasItsLabel};
