@@ -4,7 +4,7 @@
 //! error E0308: mismatched types      the name, the id, `: ` and the text, each in its own style
 //!  at src/main.rs:3:5: here          text without codes, behind a break
 //! ```
-ghost use Rattle.std.specs.Prelude.{◌≡◌, ◌||◌, false, [], ◌∷◌, ◌++◌, chars, codes, length, replicate, IfOk, OnOk, string_bytes};
+ghost use Rattle.std.specs.Prelude.{◌≡◌, ◌||◌, false, [], ◌∷◌, ◌++◌, chars, replicate, IfOk, OnOk, string_bytes};
 ghost use Rattle.std.specs.Cow.{cow_str_bytes};
 ghost use Rattle.std.specs.Fmt.{decimal};
 ghost use Rattle.std.specs.List.{flat_map};
