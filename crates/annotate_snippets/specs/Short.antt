@@ -1,5 +1,5 @@
 -- The short form of a report: what stands before the title of its first group, and behind that title's first row.
-use Rattle.std.specs.Prelude.{ℕ, not, Bool, true, false, List, [], ◌∷◌, ◌++◌, Option, None, Some, chars, codes, filter}
+use Rattle.std.specs.Prelude.{ℕ, not, true, List, [], ◌∷◌, ◌++◌, Option, None, Some, chars, codes, filter}
 use Rattle.std.specs.Char.{is_whitespace}
 use Rattle.std.specs.Cow.{cow_str_bytes}
 use Rattle.std.specs.List.{filter_map, flat_map, list_all}
@@ -7,8 +7,6 @@ use Rattle.std.specs.Option.{option_map}
 use Rattle.snippet_model.specs.AnnotationKind.{is_primary}
 use Rattle.snippet_model.specs.Heading.{heading_of_title}
 use Rattle.snippet_model.specs.declared.snippet.Annotation.{Annotation}
-use Rattle.snippet_model.specs.declared.snippet.AnnotationKind.{AnnotationKind}
-use Rattle.snippet_model.specs.declared.snippet.AnnotationKind.TheVariants.{Primary, Context, Visible}
 use Rattle.snippet_model.specs.declared.snippet.Element.{Element}
 use Rattle.snippet_model.specs.declared.snippet.Element.TheVariants as element
 use Rattle.snippet_model.specs.declared.snippet.Group.{Group}

@@ -1,5 +1,5 @@
 //! Where the parts of a group's rows stand.
-ghost use Rattle.std.specs.Prelude.{◌≡◌, ◌+◌, ◌<◌, ◌≤◌, ◌^◌};
+ghost use Rattle.std.specs.Prelude.{◌≡◌, ◌+◌, ◌<◌, ◌^◌};
 ghost use Rattle.annotate_snippets.specs.Gutter.{code_behind};
 
 /// Where the parts of a group's rows stand, in cells from 0.

@@ -9,7 +9,7 @@ ghost use Rattle.std.specs.Option.{option_copied};
 ghost use Rattle.snippet_model.specs.Fits.{AnnotationFits, SnippetFits};
 ghost use Rattle.annotate_snippets.specs.Prepared.{IsDrawable, IsGroupDrawable};
 ghost use Rattle.annotate_snippets.specs.Short as spec;
-ghost use Rattle.annotate_snippets.specs.Short.{before_title, behind_title, joined_labels, place_of_cause, primary_labels, short_form};
+ghost use Rattle.annotate_snippets.specs.Short.{joined_labels, place_of_cause, primary_labels, short_form};
 
 use crate::renderer::Renderer;
 use crate::renderer::cause::named_place;
