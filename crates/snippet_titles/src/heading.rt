@@ -3,7 +3,7 @@ ghost use Rattle.std.specs.Prelude.{◌≡◌, ℕ, ◌+◌, ◌^◌, ◌<◌, �
 ghost use Rattle.std.specs.List.{slice_index_or, slice_split};
 ghost use Rattle.std.specs.Cow.{cow_str_bytes};
 ghost use Rattle.std.specs.Option.{option_copied};
-ghost use Rattle.snippet_model.specs.Fits.{LevelFits, IdFits};
+ghost use Rattle.snippet_model.specs.Fits.{IdFits};
 ghost use Rattle.snippet_model.specs.Heading.{HeadingFits};
 ghost use Rattle.snippet_model.specs.Heading as model;
 ghost use Rattle.snippet_titles.specs.Appended.{IsAtEnd, appended};

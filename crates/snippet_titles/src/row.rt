@@ -1,5 +1,5 @@
 //! The rows that a heading is drawn into: what is added behind their cells.
-ghost use Rattle.std.specs.Prelude.{◌≡◌, ◌+◌, ◌^◌, ◌<◌, [], ◌∷◌, ◌++◌, chars, length, replicate, OnOk};
+ghost use Rattle.std.specs.Prelude.{◌≡◌, ◌+◌, ◌^◌, ◌<◌, [], chars, length, replicate, OnOk};
 ghost use Rattle.std.specs.Option.{option_copied};
 ghost use Rattle.snippet_titles.specs.Appended.{appended, linked_from};
 ghost use Rattle.snippet_titles.specs.Heading.{gutter_of, indent_cells, sign_cells};
