@@ -13,7 +13,7 @@ use Rattle.snippet_style.proofs.ReplaceLemmas.{ReplacesCells-cells_replaced}
 use Rattle.snippet_style.proofs.RowPut.{row_shows, put_shows}
 use Rattle.snippet_style.proofs.ShownLemmas.{pick, cell_same, painted-grown, holds_inside, holds_before, holds_behind}
 use Rattle.snippet_style.proofs.SpanLemmas.{within_yes, within_before, within_behind}
-use Rattle.snippet_style.proofs.StretchLemmas.{stretch, BeginsWith-trans}
+use Rattle.snippet_style.proofs.StretchLemmas.{stretch, below_take, BeginsWith-trans}
 use Rattle.snippet_style.specs.Changes.{ShowsSpan, ShowsReplaced}
 use Rattle.snippet_style.specs.Grid.{Cell, SPACE, drawn, row_at, cell_at, cells_replaced, ReplacesCells}
 use Rattle.snippet_style.specs.Runs.{IsRun, IsRow, IsWord, BeginsWith, EndsBy, FitIn, ShowsCopy, ShowsMore, run_cell, run_chars, shown, grid_shown}
@@ -124,7 +124,7 @@ FitIn-replaced old new runs now fresh w v row start end put fit ends others =
     let xs = take start runs in
     let zs = drop end runs in
     let left : All P xs = λ k d within.
-    let short : k < start = grind (arith, places) in
+    let short : k < start = below_take runs start k within in
     let x = get_or runs k d in
     let here : P x = omega (arith, fit k d (omega (arith, put.at.ordered, put.at.within)), others x.row (λ same. omega (arith, put.at.above k d short, same))) in
     subst P (sym (get_or-take start runs k d short)) here in
