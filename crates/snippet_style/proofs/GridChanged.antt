@@ -60,7 +60,7 @@ ChangesCells-shown f old new runs now w row start end last is_last fit_old fit_n
     }
 
 -- what holds after the runs of a row gave their place to others
-pub record IsPut (old new : List ℕ) (runs now fresh : List Run) (row start end : ℕ) : Type 0 where
+pub record IsExchanged (old new : List ℕ) (runs now fresh : List Run) (row start end : ℕ) : Type 0 where
   pub at : RowAt runs row start end
   pub grows : BeginsWith old new
   pub are_runs : All (λ x. IsRun old x) runs
@@ -69,11 +69,11 @@ pub record IsPut (old new : List ℕ) (runs now fresh : List Run) (row start end
   pub is_row : IsRow new row fresh
   pub is : now ≡ take start runs ++ fresh ++ drop end runs
 
-pub put_elsewhere : (old new : List ℕ) (runs now fresh : List Run) (row start end r c : ℕ) → IsPut old new runs now fresh row start end → r ≢ row → shown new now r c ≡ shown old runs r c
+pub put_elsewhere : (old new : List ℕ) (runs now fresh : List Run) (row start end r c : ℕ) → IsExchanged old new runs now fresh row start end → r ≢ row → shown new now r c ≡ shown old runs r c
 put_elsewhere old new runs now fresh row start end r c put other =
     put_others new runs now fresh row start end r c put.at put.is_row.in_row put.is other ∙ painted-grown old new r c SPACE runs put.grows put.are_runs
 
-pub IsGrid-put : (old new : List ℕ) (runs now fresh : List Run) (w v : List ℕ) (row start end : ℕ) → IsPut old new runs now fresh row start end → FitIn v now → IsGrid new now v
+pub IsGrid-put : (old new : List ℕ) (runs now fresh : List Run) (w v : List ℕ) (row start end : ℕ) → IsExchanged old new runs now fresh row start end → FitIn v now → IsGrid new now v
 IsGrid-put old new runs now fresh w v row start end put fit =
     record {
       are_runs = are_runs-put old new runs now fresh row start end put.grows put.are_runs put.is_row put.is;
@@ -82,11 +82,11 @@ IsGrid-put old new runs now fresh w v row start end put fit =
       inside = fit;
     }
 
-pub FitIn-put : (old new : List ℕ) (runs now fresh : List Run) (w : List ℕ) (row start end : ℕ) → IsPut old new runs now fresh row start end → FitIn w runs → (EndsBy (get_or w row 0) (stretch runs start end) → EndsBy (get_or w row 0) fresh) → FitIn w now
+pub FitIn-put : (old new : List ℕ) (runs now fresh : List Run) (w : List ℕ) (row start end : ℕ) → IsExchanged old new runs now fresh row start end → FitIn w runs → (EndsBy (get_or w row 0) (stretch runs start end) → EndsBy (get_or w row 0) fresh) → FitIn w now
 FitIn-put old new runs now fresh w row start end put fit ends =
     inside-put w new runs now fresh row start end put.at.ordered put.at.within put.at.inside fit put.is_row ends put.is
 
-pub grid_changed : (f : Cell → Cell) (old new : List ℕ) (runs now fresh : List Run) (w : List ℕ) (row start end last from to : ℕ) → IsPut old new runs now fresh row from to → last ≡ min end (get_or w row 0) → FitIn w runs → FitIn w now → ShowsSpan old new (stretch runs from to) fresh row start last (λ c. f (shown old (stretch runs from to) row c)) → grid_shown new now w ≡ cells_changed f (grid_shown old runs w) row start end
+pub grid_changed : (f : Cell → Cell) (old new : List ℕ) (runs now fresh : List Run) (w : List ℕ) (row start end last from to : ℕ) → IsExchanged old new runs now fresh row from to → last ≡ min end (get_or w row 0) → FitIn w runs → FitIn w now → ShowsSpan old new (stretch runs from to) fresh row start last (λ c. f (shown old (stretch runs from to) row c)) → grid_shown new now w ≡ cells_changed f (grid_shown old runs w) row start end
 grid_changed f old new runs now fresh w row start end last from to put is_last fit_old fit_new shows =
     let before = grid_shown old runs w in
     let was : (c : ℕ) → shown old (stretch runs from to) row c ≡ shown old runs row c = λ c. row_shows old runs row from to c put.at in

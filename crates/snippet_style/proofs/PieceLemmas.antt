@@ -1,6 +1,6 @@
 -- What becomes of the runs that a run touches: what the first holds before it, the run, and what the last holds after.
 use Rattle.std.proofs.Common.{◌≡◌, ℕ, suc, ◌+◌, ◌-◌, ◌<◌, ◌≤◌, List, [], ◌∷◌, ◌++◌, length, take, drop, get_or, refl, sym, ap, ◌∙◌, arith, false, inl, inr, subst, All, if◌then◌else◌}
-use Rattle.std.proofs.lemmas.List.{places, take_all, take_more, get_or_default, get_or-take, get_or-drop}
+use Rattle.std.proofs.lemmas.List.{take_all, take_more, get_or_default, get_or-take, get_or-drop}
 use Rattle.std.proofs.lemmas.List.Elements.{All-cons, All-nil}
 use Rattle.std.proofs.lemmas.Bool.{cases_lt, cases_eq, true≢false}
 use Rattle.snippet_style.proofs.ShownLemmas.{painted-append, run_cell-grown, pick, cell_same, holds_inside, holds_elsewhere, holds_before, holds_behind}

@@ -1,6 +1,6 @@
 -- The runs of a row that others took the place of.
 use Rattle.std.proofs.Common.{◌≡◌, ◌≢◌, ℕ, ◌+◌, ◌-◌, ◌<◌, ◌≤◌, List, ◌++◌, length, take, drop, get_or, sym, ap, ◌∙◌, arith, subst, All}
-use Rattle.std.proofs.lemmas.List.{places, get_or-take, get_or-drop, length-append, length-take, length-drop}
+use Rattle.std.proofs.lemmas.List.{get_or-take, get_or-drop, length-append, length-take, length-drop}
 use Rattle.snippet_style.proofs.PutLemmas.{painted_middle, painted_outer, split_three}
 use Rattle.snippet_style.proofs.StretchLemmas.{stretch, below_take, get_or-stretch}
 use Rattle.snippet_style.specs.Changes.{RowAt}

@@ -2,7 +2,7 @@ use Rattle.std.proofs.Common.{rules, ◌≡◌, ◌≢◌, ◌∙◌, ◌+◌, �
 use Rattle.std.proofs.lemmas.Bool.{cases_lt}
 use Rattle.std.proofs.lemmas.List.{length-set, get_or-set_same, get_or-set_other, get_or_past}
 use Rattle.std.specs.Str.{chars}
-use Rattle.snippet_style.proofs.GridChanged.{IsPut, IsGrid-put}
+use Rattle.snippet_style.proofs.GridChanged.{IsExchanged, IsGrid-put}
 use Rattle.snippet_style.proofs.GridLemmas.{length-drawn}
 use Rattle.snippet_style.proofs.GridShown.{on_err_from, IsGrid-grown, grid_grown, width_shown}
 use Rattle.snippet_style.proofs.PutLemmas.{AreOrdered, AreApart, IsRow-stretch}
@@ -63,7 +63,7 @@ returns c =
     let row = c.args.row in
     let runs = c.args.runs.now.items in
     let now = c.exchange.new.runs.items in
-    let fresh = c.replaced_row.new.fresh.items in
+    let fresh = c.replaced_row.new.spare.runs.items in
     let w = c.args.widths.now.items in
     let v = set w row c.in-Some.wide in
     let cells = drawn c.args.role (chars c.args.word.now) in
@@ -79,7 +79,7 @@ returns c =
     let here : get_or v row 0 ≡ c.in-Some.wide = get_or-set_same w row c.in-Some.wide 0 there in
     let others : (r : ℕ) → r ≢ row → get_or v r 0 ≡ get_or w r 0 = λ r other. get_or-set_other w row r c.in-Some.wide 0 other in
     let at = RowAt-read runs c.as_slice-old.result.now row from to is record { ordered = c.row_bounds-from.ensures.bounds.0; within = c.row_bounds-from.ensures.bounds.1; above = c.row_bounds-from.ensures.above; inside = c.row_bounds-from.ensures.inside; below = c.row_bounds-from.ensures.below } in
-    let put : IsPut old new runs now fresh row from to = record {
+    let put : IsExchanged old new runs now fresh row from to = record {
       at = at;
       grows = c.in_ok-replaced_row.ensures.text;
       are_runs = c.requires.grid.are_runs;

@@ -1,7 +1,5 @@
-use Rattle.std.proofs.Common.{◌≡◌, ◌∙◌, ap, sym, arith, length, take, chars, List, ℕ}
-use Rattle.snippet_style.proofs.CutLemmas.{run_single, run_long}
+use Rattle.snippet_style.proofs.CutLemmas.{run_single}
 use Rattle.snippet_style.proofs.RunLemmas.{starts_at_boundary, ends_at_boundary}
-use Rattle.snippet_style.specs.Runs.{bytes_of, run_bytes}
 use Rattle.snippet_style.proofs.runs.byte_in.Goals as goal
 
 pub range-requires-clause-start_boundary : goal.range-requires-clause-start_boundary
