@@ -1,14 +1,14 @@
 -- A row whose cells are changed part by part.
-use Rattle.std.proofs.Common.{◌≡◌, ℕ, ◌*◌, ◌+◌, ◌-◌, ◌<◌, ◌≤◌, List, length, get_or, refl, sym, ap, ◌∙◌, arith, inl, inr}
+use Rattle.std.proofs.Common.{◌≡◌, ◌≢◌, ℕ, ◌*◌, ◌+◌, ◌-◌, ◌<◌, ◌≤◌, List, length, get_or, refl, sym, ap, ◌∙◌, arith, inl, inr, All}
 use Rattle.std.proofs.lemmas.Bool.{cases_lt, cases_eq}
 use Rattle.snippet_style.proofs.CopyLemmas.{piece_cell}
 use Rattle.snippet_style.proofs.RowWoven.{painted_unheld, shown_in}
-use Rattle.snippet_style.proofs.ShownLemmas.{pick, painted-grown, holds_inside, holds_before, holds_behind}
+use Rattle.snippet_style.proofs.ShownLemmas.{pick, painted-grown, holds_inside, holds_elsewhere, holds_before, holds_behind}
 use Rattle.snippet_style.proofs.SpanLemmas.{within_yes, within_before, within_behind, span_joined}
 use Rattle.snippet_style.proofs.StretchLemmas.{BeginsWith-same, BeginsWith-trans}
 use Rattle.snippet_style.specs.Changes.{changed_by, IsChanged, IsGap, IsPartOfRow, ShowsSpan}
 use Rattle.snippet_style.specs.Grid.{Cell, SPACE}
-use Rattle.snippet_style.specs.Runs.{IsRow, IsPart, IsPut, BeginsWith, EndsBy, Precedes, run_cell, shown}
+use Rattle.snippet_style.specs.Runs.{IsRun, IsRow, IsPart, IsPut, BeginsWith, EndsBy, Precedes, run_cell, shown}
 use Rattle.snippet_style.specs.declared.change.Change.{Change}
 use Rattle.snippet_style.specs.declared.runs.Run.{Run}
 
@@ -82,16 +82,16 @@ change_start old runs row from to change is some =
       count = omega arith;
     }
 
-pub change_next : (old now mid new : List ℕ) (runs_old runs_now runs_new : List Run) (part changed : Run) (row from to : ℕ) (change : Change) (col : ℕ) → ChangeSoFar old now runs_old runs_now row from to change col → BeginsWith now mid → BeginsWith mid new → IsPartOfRow mid row col to (λ c. shown now runs_now row c) part → IsChanged change part changed → IsPut mid new runs_now runs_new changed → ChangeSoFar old new runs_old runs_new row from to change (col + part.count)
-change_next old now mid new runs_old runs_now runs_new part changed row from to change col so_far grows more is same put =
-    let f = λ (c : ℕ). changed_by change (shown old runs_old row c) in
+-- a part that was put changed
+pub put_span : (now mid new : List ℕ) (runs_now runs_new : List Run) (part changed : Run) (row col to : ℕ) (change : Change) → BeginsWith now mid → All (λ x. IsRun now x) runs_now → IsPartOfRow mid row col to (λ c. shown now runs_now row c) part → IsChanged change part changed → IsPut mid new runs_now runs_new changed → ShowsSpan now new runs_now runs_new row col (col + part.count) (λ c. changed_by change (shown now runs_now row c))
+put_span now mid new runs_now runs_new part changed row col to change grows are is same put =
     let g = λ (c : ℕ). changed_by change (shown now runs_now row c) in
     let end : ℕ = col + part.count in
     let row_is : changed.row ≡ row = same.row ∙ is.row_is in
     let cell : changed.cell ≡ col = same.cell ∙ is.cell_is in
-    let here : ShowsSpan now new runs_now runs_new row col end g = λ c.
+    λ c.
     let was : Cell = shown now runs_now row c in
-    let kept : shown mid runs_now row c ≡ was = painted-grown now mid row c SPACE runs_now grows so_far.is_row.are_runs in
+    let kept : shown mid runs_now row c ≡ was = painted-grown now mid row c SPACE runs_now grows are in
     let x : Cell = run_cell mid changed c in
     let y : Cell = shown mid runs_now row c in
     put.shows row c ∙ elim (cases_lt c col) [
@@ -100,18 +100,35 @@ change_next old now mid new runs_old runs_now runs_new part changed row from to 
         | inl high ↦ pick x y (holds_inside changed row c row_is (omega (arith, cell)) (omega (arith, cell, same.count))) ∙ same.cells mid c ∙ ap (λ (d : Cell). changed_by change d) (is.cells c low high) ∙ sym (pick (g c) was (within_yes col end c low high))
         | inr after ↦ pick x y (holds_behind changed row c (omega (arith, cell, same.count))) ∙ kept ∙ sym (pick (g c) was (within_behind col end c after))
       ]
-    ] in
+    ]
+
+pub change_next : (old now mid new : List ℕ) (runs_old runs_now runs_new : List Run) (part changed : Run) (row from to : ℕ) (change : Change) (col : ℕ) → ChangeSoFar old now runs_old runs_now row from to change col → BeginsWith now mid → BeginsWith mid new → IsPartOfRow mid row col to (λ c. shown now runs_now row c) part → IsChanged change part changed → IsPut mid new runs_now runs_new changed → ChangeSoFar old new runs_old runs_new row from to change (col + part.count)
+change_next old now mid new runs_old runs_now runs_new part changed row from to change col so_far grows more is same put =
+    let f = λ (c : ℕ). changed_by change (shown old runs_old row c) in
+    let g = λ (c : ℕ). changed_by change (shown now runs_now row c) in
+    let here = put_span now mid new runs_now runs_new part changed row col to change grows so_far.is_row.are_runs is same put in
+    let ends : changed.cell + changed.count ≤ to = omega (arith, same.cell, is.cell_is, same.count, is.within) in
     record {
       grows = BeginsWith-trans old now new so_far.grows (BeginsWith-trans now mid new grows more);
       is_row = record {
         are_runs = put.are_runs;
-        in_row = put.in_row row so_far.is_row.in_row row_is;
+        in_row = put.in_row row so_far.is_row.in_row (same.row ∙ is.row_is);
         ordered = put.ordered;
         apart = put.apart;
       };
       low = omega (arith, so_far.low);
       high = is.within;
-      ends = λ n all within. put.ends n (so_far.ends n all within) (omega (arith, cell, same.count, is.within));
-      shows = span_joined old now new runs_old runs_now runs_new row from col end f g f so_far.low (omega arith) (λ c above below. refl) (λ c above below. ap (λ (d : Cell). changed_by change d) (so_far.shows c ∙ pick (f c) (shown old runs_old row c) (within_behind from col c above))) so_far.shows here;
+      ends = λ n all within. put.ends n (so_far.ends n all within) (omega (arith, ends));
+      shows = span_joined old now new runs_old runs_now runs_new row from col (col + part.count) f g f so_far.low (omega arith) (λ c above below. refl) (λ c above below. ap (λ (d : Cell). changed_by change d) (so_far.shows c ∙ pick (f c) (shown old runs_old row c) (within_behind from col c above))) so_far.shows here;
       count = omega (arith, so_far.count, put.few, is.is_run.some, so_far.low);
     }
+
+-- the other rows stay
+pub put_stays : (now mid new : List ℕ) (runs_now runs_new : List Run) (changed : Run) (r c : ℕ) → BeginsWith now mid → All (λ x. IsRun now x) runs_now → IsPut mid new runs_now runs_new changed → r ≢ changed.row → shown new runs_new r c ≡ shown now runs_now r c
+put_stays now mid new runs_now runs_new changed r c grows are put other =
+    put.shows r c ∙ pick (run_cell mid changed c) (shown mid runs_now r c) (holds_elsewhere changed r c (λ same. other (sym same))) ∙ painted-grown now mid r c SPACE runs_now grows are
+
+-- a part of a row, in a grid that shows the same row
+pub part_same : (text : List ℕ) (row from to : ℕ) (g h : ℕ → Cell) (part : Run) → ((c : ℕ) → g c ≡ h c) → IsPartOfRow text row from to g part → IsPartOfRow text row from to h part
+part_same text row from to g h part same is =
+    record { is_run = is.is_run; row_is = is.row_is; cell_is = is.cell_is; within = is.within; cells = λ c low high. is.cells c low high ∙ same c }

@@ -1,10 +1,10 @@
 -- The runs of a row that others took the place of.
-use Rattle.std.proofs.Common.{◌≡◌, ◌≢◌, ℕ, ◌+◌, ◌-◌, ◌<◌, ◌≤◌, List, ◌++◌, length, take, drop, get_or, sym, ap, ◌∙◌, arith, subst, All}
+use Rattle.std.proofs.Common.{◌≡◌, ◌≢◌, ℕ, ◌+◌, ◌-◌, ◌<◌, ◌≤◌, ◌^◌, List, ◌++◌, length, take, drop, get_or, sym, ap, ◌∙◌, arith, subst, All}
 use Rattle.std.proofs.lemmas.List.{get_or-take, get_or-drop, length-append, length-take, length-drop}
 use Rattle.snippet_style.proofs.PutLemmas.{painted_middle, painted_outer, split_three}
 use Rattle.snippet_style.proofs.StretchLemmas.{stretch, below_take, get_or-stretch}
 use Rattle.snippet_style.specs.Changes.{RowAt}
-use Rattle.snippet_style.specs.Runs.{EndsBy, FitIn, shown}
+use Rattle.snippet_style.specs.Runs.{IsRun, EndsBy, FitIn, shown}
 use Rattle.snippet_style.specs.declared.runs.Run.{Run}
 
 -- the runs above a row hold none of its cells, nor do those below it
@@ -53,6 +53,10 @@ RowAt-read runs was row start end same at =
 pub length-stretch : (runs : List Run) (row start end : ℕ) → RowAt runs row start end → length (stretch runs start end) ≡ end - start
 length-stretch runs row start end at =
     omega (arith, at.ordered, at.within, length-take (end - start) (drop start runs), length-drop start runs)
+
+-- a run begins at a cell that has a number
+pub begins_fit : (text : List ℕ) (runs : List Run) → All (λ x. IsRun text x) runs → All (λ x. x.cell < 2 ^ 64) runs
+begins_fit text runs are = λ k d within. omega (arith, (are k d within).fits)
 
 -- no run of a row reaches past the row's end
 pub row_ends : (w : List ℕ) (runs : List Run) (row start end : ℕ) → RowAt runs row start end → FitIn w runs → EndsBy (get_or w row 0) (stretch runs start end)

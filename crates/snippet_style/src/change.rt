@@ -130,9 +130,9 @@ fn change_row<'a>(
     Ok(())
 }
 
-/// Changes the cells of a row from `start` to before `end`, as far as they are there. `fresh` is there for its room: the runs
-/// of the row are changed in it, and then all put in their place at once.
-pub(crate) fn change_cells<'a>(
+/// Changes the cells of a row from `start` to before `end`, as far as they are there, whatever runs they are part of: the row
+/// is changed in a copy, for which `fresh` has room, and then put in its place at once.
+fn change_copied<'a>(
     text: &mut String,
     spare: &mut Spare<'a>,
     fresh: &mut Vec<Run<'a>>,
@@ -159,6 +159,39 @@ pub(crate) fn change_cells<'a>(
     fresh.extend_from_slice(&old[from..to])?;
     change_row(text, spare, fresh, row, start, last, change)?;
     exchange(runs, from, to, fresh)?;
+    Ok(())
+}
+
+/// Changes the cells of a row from `start` to before `end`, as far as they are there.
+pub(crate) fn change_cells<'a>(
+    text: &mut String,
+    spare: &mut Spare<'a>,
+    fresh: &mut Vec<Run<'a>>,
+    runs: &mut Vec<Run<'a>>,
+    widths: &[usize],
+    row: usize,
+    start: usize,
+    end: usize,
+    change: Change<'a>,
+) -> Result<(), AllocError>
+    requires grid { IsGrid (string_bytes text.old) runs.old.items widths.now }
+    ensures ok { OnOk result (grid_shown (string_bytes text.new) runs.new.items widths.now ≡ cells_changed (changed_by change.entry) (grid_shown (string_bytes text.old) runs.old.items widths.now) row start end) }
+    ensures grid { IsGrid (string_bytes text.new) runs.new.items widths.now }
+    ensures runs_added { length runs.new.items ≤ length runs.old.items + 2 * (end - start) }
+    ensures err { OnErr result (grid_shown (string_bytes text.new) runs.new.items widths.now ≡ grid_shown (string_bytes text.old) runs.old.items widths.now) }
+{
+    let last = end.min(width_of(widths, row));
+    if last <= start {
+        return Ok(());
+    }
+    let old = runs.as_slice();
+    let (from, to) = row_bounds(old, row);
+    let part = part_at(text, &old[from..to], row, start, last)?;
+    if part.count == last - start {
+        put_run(text, spare, runs, changed(change, part))?;
+        return Ok(());
+    }
+    change_copied(text, spare, fresh, runs, widths, row, start, end, change)?;
     Ok(())
 }
 

@@ -1,4 +1,4 @@
-use Rattle.std.proofs.Common.{rules, ◌≡◌, ◌≢◌, ◌∙◌, ◌+◌, ◌-◌, ◌<◌, ◌≤◌, ap, arith, refl, sym, subst, inl, inr, string_bytes, get_or, List, ℕ, All, length, set}
+use Rattle.std.proofs.Common.{rules, ◌≡◌, ◌≢◌, ◌∙◌, ◌+◌, ◌-◌, ◌<◌, ◌≤◌, ◌^◌, ap, arith, refl, sym, subst, inl, inr, string_bytes, get_or, List, ℕ, All, length, set}
 use Rattle.std.proofs.lemmas.Bool.{cases_lt}
 use Rattle.std.proofs.lemmas.List.{length-set, get_or-set_same, get_or-set_other, get_or_past}
 use Rattle.std.specs.Str.{chars}
@@ -8,7 +8,7 @@ use Rattle.snippet_style.proofs.GridShown.{on_err_from, IsGrid-grown, grid_grown
 use Rattle.snippet_style.proofs.PutLemmas.{AreOrdered, AreApart, IsRow-stretch}
 use Rattle.snippet_style.proofs.ReplaceLemmas.{cells_replaced_empty, cells_replaced_past}
 use Rattle.snippet_style.proofs.ReplacedRow.{grid_replaced, FitIn-replaced}
-use Rattle.snippet_style.proofs.RowPut.{RowAt-read, row_ends, put_length, length-stretch}
+use Rattle.snippet_style.proofs.RowPut.{RowAt-read, begins_fit, row_ends, put_length, length-stretch}
 use Rattle.snippet_style.proofs.StretchLemmas.{stretch}
 use Rattle.snippet_style.specs.Changes.{ShowsReplaced}
 use Rattle.snippet_style.specs.Grid.{drawn}
@@ -29,7 +29,11 @@ returns-then-end-start-clause-ok c =
 
 pub row_bounds-from-requires : goal.row_bounds-from-requires
 row_bounds-from-requires c =
-    record { ordered = subst (λ (l : List Run). AreOrdered l) (sym c.as_slice-old.ensures.value) c.requires.grid.ordered }
+    let is = sym c.as_slice-old.ensures.value in
+    record {
+      ordered = subst (λ (l : List Run). AreOrdered l) is c.requires.grid.ordered;
+      fits = subst (λ (l : List Run). All (λ x. x.cell < 2 ^ 64) l) is (begins_fit (string_bytes c.args.text.now) c.args.runs.now.items c.requires.grid.are_runs);
+    }
 
 pub replaced_row-requires-clause-runs : goal.replaced_row-requires-clause-runs
 replaced_row-requires-clause-runs c =
