@@ -59,8 +59,14 @@ ChangesCells-shown f old new runs now w row start end last is_last fit_old fit_n
       count = count_shown new now w ∙ sym (count_shown old runs w);
     }
 
+-- and so what they show is the change
+pub grid_span : (f : Cell → Cell) (old new : List ℕ) (runs now : List Run) (w : List ℕ) (row start end last : ℕ) → last ≡ min end (get_or w row 0) → FitIn w runs → FitIn w now → ShowsSpan old new runs now row start last (λ c. f (shown old runs row c)) → ((r c : ℕ) → r ≢ row → shown new now r c ≡ shown old runs r c) → grid_shown new now w ≡ cells_changed f (grid_shown old runs w) row start end
+grid_span f old new runs now w row start end last is_last fit_old fit_new shows others =
+    let before = grid_shown old runs w in
+    ChangesCells-unique f before (grid_shown new now w) (cells_changed f before row start end) row start end (ChangesCells-shown f old new runs now w row start end last is_last fit_old fit_new shows others) (ChangesCells-cells_changed f before row start end)
+
 -- what holds after the runs of a row gave their place to others
-pub record IsPut (old new : List ℕ) (runs now fresh : List Run) (row start end : ℕ) : Type 0 where
+pub record IsExchanged (old new : List ℕ) (runs now fresh : List Run) (row start end : ℕ) : Type 0 where
   pub at : RowAt runs row start end
   pub grows : BeginsWith old new
   pub are_runs : All (λ x. IsRun old x) runs
@@ -69,11 +75,11 @@ pub record IsPut (old new : List ℕ) (runs now fresh : List Run) (row start end
   pub is_row : IsRow new row fresh
   pub is : now ≡ take start runs ++ fresh ++ drop end runs
 
-pub put_elsewhere : (old new : List ℕ) (runs now fresh : List Run) (row start end r c : ℕ) → IsPut old new runs now fresh row start end → r ≢ row → shown new now r c ≡ shown old runs r c
+pub put_elsewhere : (old new : List ℕ) (runs now fresh : List Run) (row start end r c : ℕ) → IsExchanged old new runs now fresh row start end → r ≢ row → shown new now r c ≡ shown old runs r c
 put_elsewhere old new runs now fresh row start end r c put other =
     put_others new runs now fresh row start end r c put.at put.is_row.in_row put.is other ∙ painted-grown old new r c SPACE runs put.grows put.are_runs
 
-pub IsGrid-put : (old new : List ℕ) (runs now fresh : List Run) (w v : List ℕ) (row start end : ℕ) → IsPut old new runs now fresh row start end → FitIn v now → IsGrid new now v
+pub IsGrid-put : (old new : List ℕ) (runs now fresh : List Run) (w v : List ℕ) (row start end : ℕ) → IsExchanged old new runs now fresh row start end → FitIn v now → IsGrid new now v
 IsGrid-put old new runs now fresh w v row start end put fit =
     record {
       are_runs = are_runs-put old new runs now fresh row start end put.grows put.are_runs put.is_row put.is;
@@ -82,19 +88,18 @@ IsGrid-put old new runs now fresh w v row start end put fit =
       inside = fit;
     }
 
-pub FitIn-put : (old new : List ℕ) (runs now fresh : List Run) (w : List ℕ) (row start end : ℕ) → IsPut old new runs now fresh row start end → FitIn w runs → (EndsBy (get_or w row 0) (stretch runs start end) → EndsBy (get_or w row 0) fresh) → FitIn w now
+pub FitIn-put : (old new : List ℕ) (runs now fresh : List Run) (w : List ℕ) (row start end : ℕ) → IsExchanged old new runs now fresh row start end → FitIn w runs → (EndsBy (get_or w row 0) (stretch runs start end) → EndsBy (get_or w row 0) fresh) → FitIn w now
 FitIn-put old new runs now fresh w row start end put fit ends =
     inside-put w new runs now fresh row start end put.at.ordered put.at.within put.at.inside fit put.is_row ends put.is
 
-pub grid_changed : (f : Cell → Cell) (old new : List ℕ) (runs now fresh : List Run) (w : List ℕ) (row start end last from to : ℕ) → IsPut old new runs now fresh row from to → last ≡ min end (get_or w row 0) → FitIn w runs → FitIn w now → ShowsSpan old new (stretch runs from to) fresh row start last (λ c. f (shown old (stretch runs from to) row c)) → grid_shown new now w ≡ cells_changed f (grid_shown old runs w) row start end
+pub grid_changed : (f : Cell → Cell) (old new : List ℕ) (runs now fresh : List Run) (w : List ℕ) (row start end last from to : ℕ) → IsExchanged old new runs now fresh row from to → last ≡ min end (get_or w row 0) → FitIn w runs → FitIn w now → ShowsSpan old new (stretch runs from to) fresh row start last (λ c. f (shown old (stretch runs from to) row c)) → grid_shown new now w ≡ cells_changed f (grid_shown old runs w) row start end
 grid_changed f old new runs now fresh w row start end last from to put is_last fit_old fit_new shows =
-    let before = grid_shown old runs w in
     let was : (c : ℕ) → shown old (stretch runs from to) row c ≡ shown old runs row c = λ c. row_shows old runs row from to c put.at in
     let g = λ (c : ℕ). f (shown old (stretch runs from to) row c) in
     let h = λ (c : ℕ). f (shown old runs row c) in
     let here : ShowsSpan old new runs fresh row start last h = λ c. shows c ∙ ap (λ (d : Cell). (let cell : Cell = if is_within start last c then f d else d in cell)) (was c) in
     let there : ShowsSpan old new runs now row start last h = λ c. put_shows new runs now fresh row from to c put.at put.is ∙ here c in
-    ChangesCells-unique f before (grid_shown new now w) (cells_changed f before row start end) row start end (ChangesCells-shown f old new runs now w row start end last is_last fit_old fit_new there (λ r c other. put_elsewhere old new runs now fresh row from to r c put other)) (ChangesCells-cells_changed f before row start end)
+    grid_span f old new runs now w row start end last is_last fit_old fit_new there (λ r c other. put_elsewhere old new runs now fresh row from to r c put other)
 
 -- the change of a grid whose lengths were lent, read cell by cell
 pub reads_changed : {T E : Type 0} (r : Result T E) (f : Cell → Cell) (grid : List (List Cell)) (old new : List ℕ) (runs now : List Run) (w lent : List ℕ) (row start end : ℕ) → lent ≡ w → grid_shown old runs w ≡ grid → OnOk r (grid_shown new now lent ≡ cells_changed f (grid_shown old runs lent) row start end) → OnOk r (ChangesCells f grid (grid_shown new now w) row start end)

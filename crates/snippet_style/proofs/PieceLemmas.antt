@@ -1,12 +1,13 @@
 -- What becomes of the runs that a run touches: what the first holds before it, the run, and what the last holds after.
 use Rattle.std.proofs.Common.{◌≡◌, ℕ, suc, ◌+◌, ◌-◌, ◌<◌, ◌≤◌, List, [], ◌∷◌, ◌++◌, length, take, drop, get_or, refl, sym, ap, ◌∙◌, arith, false, inl, inr, subst, All, if◌then◌else◌}
-use Rattle.std.proofs.lemmas.List.{places, take_all, take_more, get_or_default, get_or-take, get_or-drop}
+use Rattle.std.proofs.lemmas.List.{take_all, take_more, get_or_default, get_or-take, get_or-drop}
 use Rattle.std.proofs.lemmas.List.Elements.{All-cons, All-nil}
 use Rattle.std.proofs.lemmas.Bool.{cases_lt, cases_eq, true≢false}
 use Rattle.snippet_style.proofs.ShownLemmas.{painted-append, run_cell-grown, pick, cell_same, holds_inside, holds_elsewhere, holds_before, holds_behind}
 use Rattle.snippet_style.proofs.CopyLemmas.{shown_past}
 use Rattle.snippet_style.proofs.PutLemmas.{IsRow-added, painted_elsewhere}
 use Rattle.snippet_style.proofs.RowWoven.{painted_unheld}
+use Rattle.snippet_style.proofs.StretchLemmas.{below_take}
 use Rattle.snippet_style.proofs.TouchLemmas.{cases_held}
 use Rattle.snippet_style.specs.Grid.{Cell, SPACE}
 use Rattle.snippet_style.specs.Runs.{IsRun, IsRow, IsPart, BeginsWith, ShowsMore, AddsRun, EndsBy, Precedes, Differ, IsClear, IsTouched, IsFront, IsBack, ArePieces, run_chars, run_cell, holds, painted, shown}
@@ -152,7 +153,7 @@ IsBack-some text runs run last right i from to is is_last read is_from is_to pas
       is_row = IsRow-one text run.row right cut.is_run (cut.row ∙ row);
       shows = λ r c behind.
           let front : All (λ x. holds x r c ≡ false) (take i runs) = unheld_behind r c (take i runs) (λ k d inside here.
-          let short : k < i = grind (arith, places) in
+          let short : k < i = below_take runs i k inside in
           let seen : get_or (take i runs) k d ≡ get_or runs k d = get_or-take i runs k d short in
           let one : (get_or runs k d).row ≡ (get_or runs i d).row = is.is_row.in_row k d (omega arith) ∙ sym (is.is_row.in_row i d within) in
           let last_d : get_or runs i d ≡ last = get_or_default runs i d last within ∙ sym read in

@@ -1,19 +1,19 @@
 -- A row in which a text took the place of some cells.
 use Rattle.std.proofs.Common.{◌≡◌, ◌≢◌, ℕ, ◌+◌, ◌-◌, ◌<◌, ◌≤◌, ◌^◌, List, [], ◌∷◌, ◌++◌, length, take, drop, get_or, refl, sym, ap, ◌∙◌, arith, inl, inr, subst, All, None}
-use Rattle.std.proofs.lemmas.List.{places, get_or_default, get_or-take, get_or-drop, length-drop}
+use Rattle.std.proofs.lemmas.List.{get_or_default, get_or-take, get_or-drop, length-drop}
 use Rattle.std.proofs.lemmas.List.Elements.{All-append}
 use Rattle.std.proofs.lemmas.Bool.{cases_lt}
 use Rattle.std.proofs.lemmas.Str.{chars-nil}
 use Rattle.std.specs.Str.{chars}
 use Rattle.snippet_style.proofs.CopyLemmas.{copied_yes, copied_before, copied_behind, shown_past}
-use Rattle.snippet_style.proofs.GridChanged.{same_rows, IsPut, put_elsewhere}
+use Rattle.snippet_style.proofs.GridChanged.{same_rows, IsExchanged, put_elsewhere}
 use Rattle.snippet_style.proofs.GridLemmas.{slice_index_or-drawn}
 use Rattle.snippet_style.proofs.GridShown.{count_shown, width_shown, cell_shown, same_row}
 use Rattle.snippet_style.proofs.ReplaceLemmas.{ReplacesCells-cells_replaced}
 use Rattle.snippet_style.proofs.RowPut.{row_shows, put_shows}
 use Rattle.snippet_style.proofs.ShownLemmas.{pick, cell_same, painted-grown, holds_inside, holds_before, holds_behind}
 use Rattle.snippet_style.proofs.SpanLemmas.{within_yes, within_before, within_behind}
-use Rattle.snippet_style.proofs.StretchLemmas.{stretch, BeginsWith-trans}
+use Rattle.snippet_style.proofs.StretchLemmas.{stretch, below_take, BeginsWith-trans}
 use Rattle.snippet_style.specs.Changes.{ShowsSpan, ShowsReplaced}
 use Rattle.snippet_style.specs.Grid.{Cell, SPACE, drawn, row_at, cell_at, cells_replaced, ReplacesCells}
 use Rattle.snippet_style.specs.Runs.{IsRun, IsRow, IsWord, BeginsWith, EndsBy, FitIn, ShowsCopy, ShowsMore, run_cell, run_chars, shown, grid_shown}
@@ -98,7 +98,7 @@ ReplacesCells-unique old a b row start end cells some within one two =
       ]
     ]) (λ r other. one.others r other ∙ sym (two.others r other))
 
-pub grid_replaced : (old new : List ℕ) (runs now fresh : List Run) (w v : List ℕ) (row start end from to : ℕ) (cells : List Cell) → IsPut old new runs now fresh row from to → start < end → end ≤ get_or w row 0 → FitIn w runs → FitIn v now → length v ≡ length w → get_or v row 0 + (end - start) ≡ get_or w row 0 + length cells → ((r : ℕ) → r ≢ row → get_or v r 0 ≡ get_or w r 0) → ShowsReplaced old new (stretch runs from to) fresh row start end cells → grid_shown new now v ≡ cells_replaced (grid_shown old runs w) row start end cells
+pub grid_replaced : (old new : List ℕ) (runs now fresh : List Run) (w v : List ℕ) (row start end from to : ℕ) (cells : List Cell) → IsExchanged old new runs now fresh row from to → start < end → end ≤ get_or w row 0 → FitIn w runs → FitIn v now → length v ≡ length w → get_or v row 0 + (end - start) ≡ get_or w row 0 + length cells → ((r : ℕ) → r ≢ row → get_or v r 0 ≡ get_or w r 0) → ShowsReplaced old new (stretch runs from to) fresh row start end cells → grid_shown new now v ≡ cells_replaced (grid_shown old runs w) row start end cells
 grid_replaced old new runs now fresh w v row start end from to cells put some within fit_old fit_new count wide others shows =
     let before = grid_shown old runs w in
     let after = grid_shown new now v in
@@ -118,13 +118,13 @@ grid_replaced old new runs now fresh w v row start end from to cells put some wi
     ReplacesCells-unique before after (cells_replaced before row start end cells) row start end cells some (omega arith) reads (ReplacesCells-cells_replaced before row start end cells)
 
 -- the runs of the other rows fit as before, those of the row in its new length
-pub FitIn-replaced : (old new : List ℕ) (runs now fresh : List Run) (w v : List ℕ) (row start end : ℕ) → IsPut old new runs now fresh row start end → FitIn w runs → EndsBy (get_or v row 0) fresh → ((r : ℕ) → r ≢ row → get_or v r 0 ≡ get_or w r 0) → FitIn v now
+pub FitIn-replaced : (old new : List ℕ) (runs now fresh : List Run) (w v : List ℕ) (row start end : ℕ) → IsExchanged old new runs now fresh row start end → FitIn w runs → EndsBy (get_or v row 0) fresh → ((r : ℕ) → r ≢ row → get_or v r 0 ≡ get_or w r 0) → FitIn v now
 FitIn-replaced old new runs now fresh w v row start end put fit ends others =
     let P = λ (x : Run). x.cell + x.count ≤ get_or v x.row 0 in
     let xs = take start runs in
     let zs = drop end runs in
     let left : All P xs = λ k d within.
-    let short : k < start = grind (arith, places) in
+    let short : k < start = below_take runs start k within in
     let x = get_or runs k d in
     let here : P x = omega (arith, fit k d (omega (arith, put.at.ordered, put.at.within)), others x.row (λ same. omega (arith, put.at.above k d short, same))) in
     subst P (sym (get_or-take start runs k d short)) here in

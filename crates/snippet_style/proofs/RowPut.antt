@@ -1,17 +1,17 @@
 -- The runs of a row that others took the place of.
-use Rattle.std.proofs.Common.{◌≡◌, ◌≢◌, ℕ, ◌+◌, ◌-◌, ◌<◌, ◌≤◌, List, ◌++◌, length, take, drop, get_or, sym, ap, ◌∙◌, arith, subst, All}
-use Rattle.std.proofs.lemmas.List.{places, get_or-take, get_or-drop, length-append, length-take, length-drop}
+use Rattle.std.proofs.Common.{◌≡◌, ◌≢◌, ℕ, ◌+◌, ◌-◌, ◌<◌, ◌≤◌, ◌^◌, List, ◌++◌, length, take, drop, get_or, sym, ap, ◌∙◌, arith, subst, All}
+use Rattle.std.proofs.lemmas.List.{get_or-take, get_or-drop, length-append, length-take, length-drop}
 use Rattle.snippet_style.proofs.PutLemmas.{painted_middle, painted_outer, split_three}
-use Rattle.snippet_style.proofs.StretchLemmas.{stretch}
+use Rattle.snippet_style.proofs.StretchLemmas.{stretch, below_take, get_or-stretch}
 use Rattle.snippet_style.specs.Changes.{RowAt}
-use Rattle.snippet_style.specs.Runs.{EndsBy, FitIn, shown}
+use Rattle.snippet_style.specs.Runs.{IsRun, EndsBy, FitIn, shown}
 use Rattle.snippet_style.specs.declared.runs.Run.{Run}
 
 -- the runs above a row hold none of its cells, nor do those below it
 no_left : (runs : List Run) (row start end : ℕ) → RowAt runs row start end → All (λ x. x.row ≡ row → ⊥) (take start runs)
 no_left runs row start end at =
     λ k d within same.
-    let short : k < start = grind (arith, places) in
+    let short : k < start = below_take runs start k within in
     omega (arith, at.above k d short, ap (λ (x : Run). x.row) (get_or-take start runs k d short))
 
 no_right : (runs : List Run) (row start end : ℕ) → RowAt runs row start end → All (λ x. x.row ≡ row → ⊥) (drop end runs)
@@ -22,8 +22,8 @@ no_right runs row start end at =
 no_middle : (runs : List Run) (row start end r : ℕ) → RowAt runs row start end → r ≢ row → All (λ x. x.row ≡ r → ⊥) (stretch runs start end)
 no_middle runs row start end r at other =
     λ k d within same.
-    let short : k < end - start = grind (arith, places) in
-    let read : get_or (stretch runs start end) k d ≡ get_or runs (start + k) d = get_or-take (end - start) (drop start runs) k d short ∙ get_or-drop start runs k d in
+    let short : k < end - start = below_take (drop start runs) (end - start) k within in
+    let read : get_or (stretch runs start end) k d ≡ get_or runs (start + k) d = get_or-stretch runs start end k d within in
     other (sym same ∙ ap (λ (x : Run). x.row) read ∙ at.inside (start + k) d (omega arith) (omega arith))
 
 -- a row shows what its own runs show
@@ -54,12 +54,16 @@ pub length-stretch : (runs : List Run) (row start end : ℕ) → RowAt runs row 
 length-stretch runs row start end at =
     omega (arith, at.ordered, at.within, length-take (end - start) (drop start runs), length-drop start runs)
 
+-- a run begins at a cell that has a number
+pub begins_fit : (text : List ℕ) (runs : List Run) → All (λ x. IsRun text x) runs → All (λ x. x.cell < 2 ^ 64) runs
+begins_fit text runs are = λ k d within. omega (arith, (are k d within).fits)
+
 -- no run of a row reaches past the row's end
 pub row_ends : (w : List ℕ) (runs : List Run) (row start end : ℕ) → RowAt runs row start end → FitIn w runs → EndsBy (get_or w row 0) (stretch runs start end)
 row_ends w runs row start end at fit =
     λ k d within.
-    let short : k < end - start = grind (arith, places) in
-    let read : get_or (stretch runs start end) k d ≡ get_or runs (start + k) d = get_or-take (end - start) (drop start runs) k d short ∙ get_or-drop start runs k d in
+    let short : k < end - start = below_take (drop start runs) (end - start) k within in
+    let read : get_or (stretch runs start end) k d ≡ get_or runs (start + k) d = get_or-stretch runs start end k d within in
     let there : start + k < end = omega arith in
     let x = get_or runs (start + k) d in
     let row_is : x.row ≡ row = at.inside (start + k) d (omega arith) there in

@@ -29,6 +29,14 @@ pub record IsGap (text : List ℕ) (row from to : ℕ) (run : Run) : Type 0 wher
   pub count_is : from + run.count ≡ to
   pub cells : (c : ℕ) → run_cell text run c ≡ SPACE
 
+-- a run that holds the first cells of a stretch of a row
+pub record IsPartOfRow (text : List ℕ) (row from to : ℕ) (g : ℕ → Cell) (part : Run) : Type 0 where
+  pub is_run : IsRun text part
+  pub row_is : part.row ≡ row
+  pub cell_is : part.cell ≡ from
+  pub within : from + part.count ≤ to
+  pub cells : (c : ℕ) → from ≤ c → c < from + part.count → run_cell text part c ≡ g c
+
 -- whether a cell is one of those from `from` to before `to`
 abbrev pub is_within : ℕ → ℕ → ℕ → Bool
 is_within from to c = nat_le from c && nat_lt c to

@@ -7,7 +7,7 @@ ghost use Rattle.snippet_style.specs.Runs.{IsRun, BeginsWith, Precedes, Differ, 
 ghost use Rattle.snippet_style.specs.declared.runs.Run.{Run};
 ghost use Rattle.std.specs.List.{AllPairs, slice_index_or};
 
-use crate::runs::{Run, add_run, clipped};
+use crate::runs::{Run, add_run, begun_by, clipped};
 use std::alloc::AllocError;
 
 /// Whether all runs stand before this one.
@@ -31,21 +31,6 @@ fn is_clear(first: &Run<'_>, second: &Run<'_>) -> bool
     ensures no { result ≡ false → ReachesTo first.now second.now }
 {
     first.row < second.row || first.row == second.row && first.cell + first.count < second.cell
-}
-
-/// How many runs stand before this one, or touch it.
-fn reached(runs: &[Run<'_>], run: &Run<'_>) -> usize
-    requires ordered { AllPairs (λ a b. Precedes a b) runs.now }
-    requires fits { run.now.cell + run.now.count < 2 ^ 64 }
-    ensures within { result ≤ length runs.now }
-    ensures reaches { (k : ℕ) (d : Run) → k < result → ReachesTo run.now (slice_index_or runs.now k d) }
-    ensures behind { (k : ℕ) (d : Run) → result ≤ k → k < length runs.now → IsClear run.now (slice_index_or runs.now k d) }
-{
-    let mut end = runs.len();
-    while end > 0 && is_clear(run, &runs[end - 1]) {
-        end -= 1;
-    }
-    end
 }
 
 /// The first of the runs before `end` that touches this one, or `end`.
@@ -102,6 +87,7 @@ fn back_of<'a>(text: &str, touched: &[Run<'a>], run: &Run<'a>) -> Option<Run<'a>
 /// What becomes of the runs that a run touches when it is put over them: at most three.
 fn add_pieces<'a>(
     text: &mut String,
+    copy: &mut String,
     pieces: &mut Vec<Run<'a>>,
     touched: &[Run<'a>],
     run: Run<'a>,
@@ -117,9 +103,9 @@ fn add_pieces<'a>(
     if let Some(left) = front {
         pieces.push(left)?;
     }
-    add_run(text, pieces, run)?;
+    add_run(text, copy, pieces, run)?;
     if let Some(right) = back {
-        add_run(text, pieces, right)?;
+        add_run(text, copy, pieces, right)?;
     }
     Ok(())
 }
@@ -136,6 +122,10 @@ pub(crate) fn exchange<'a>(
     ensures ok { OnOk result (runs.new.items ≡ take start runs.old.items ++ fresh.old.items ++ drop end runs.old.items) }
     ensures err { OnErr result (runs.new.items ≡ runs.old.items) }
 {
+    if fresh.len() == end - start {
+        runs[start..end].copy_from_slice(fresh);
+        return Ok(());
+    }
     fresh.extend_from_slice(&runs[end..])?;
     runs.reserve(fresh.len())?;
     runs.truncate(start);
@@ -143,10 +133,17 @@ pub(crate) fn exchange<'a>(
     Ok(())
 }
 
-/// Puts a run over what others hold. `pieces` is there for its room alone.
+/// Room for a change that is made: what is left in it means nothing.
+#[derive(Drop)]
+pub(crate) struct Spare<'a> {
+    pub(crate) text: String,
+    pub(crate) runs: Vec<Run<'a>>,
+}
+
+/// Puts a run over what others hold.
 pub(crate) fn put_run<'a>(
     text: &mut String,
-    pieces: &mut Vec<Run<'a>>,
+    spare: &mut Spare<'a>,
     runs: &mut Vec<Run<'a>>,
     run: Run<'a>,
 ) -> Result<(), AllocError>
@@ -160,13 +157,19 @@ pub(crate) fn put_run<'a>(
 {
     let old = runs.as_slice();
     if are_before(old, &run) {
-        add_run(text, runs, run)?;
+        add_run(text, &mut spare.text, runs, run)?;
         return Ok(());
     }
-    let end = reached(old, &run);
+    let end = begun_by(old, run.row, run.cell + run.count);
     let start = first_touched(old, end, &run);
-    pieces.clear();
-    add_pieces(text, pieces, &old[start..end], run)?;
-    exchange(runs, start, end, pieces)?;
+    spare.runs.clear();
+    add_pieces(
+        text,
+        &mut spare.text,
+        &mut spare.runs,
+        &old[start..end],
+        run,
+    )?;
+    exchange(runs, start, end, &mut spare.runs)?;
     Ok(())
 }

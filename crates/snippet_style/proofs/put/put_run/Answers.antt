@@ -16,7 +16,7 @@ add_pieces-requires-clause-touched c =
     let text = string_bytes c.args.text.now in
     let is = sym c.as_slice-old.ensures.value in
     let old = c.as_slice-old.result.now in
-    touched_stretch text old c.args.run c.first_touched-start.result c.reached-end.result c.first_touched-start.ensures.ordered c.reached-end.ensures.within (subst (λ (l : List Run). All (λ x. IsRun text x) l) is c.requires.runs) (subst AreOrdered is c.requires.ordered) (subst AreApart is c.requires.apart) c.first_touched-start.ensures.touch
+    touched_stretch text old c.args.run c.first_touched-start.result c.begun_by-end.result c.first_touched-start.ensures.ordered c.begun_by-end.ensures.within (subst (λ (l : List Run). All (λ x. IsRun text x) l) is c.requires.runs) (subst AreOrdered is c.requires.ordered) (subst AreApart is c.requires.apart) c.first_touched-start.ensures.touch
 
 pub returns-clause-ok : goal.returns-clause-ok
 returns-clause-ok c =
@@ -24,13 +24,13 @@ returns-clause-ok c =
     let items = c.args.runs.now.items in
     let run = c.args.run in
     let start = c.first_touched-start.result in
-    let end = c.reached-end.result in
+    let end = c.begun_by-end.result in
     let old = string_bytes c.args.text.now in
     let new = string_bytes c.add_pieces.new.text in
     let pieces = c.add_pieces.new.pieces.items in
-    let high : end ≤ length items = subst (λ (l : List Run). end ≤ length l) is c.reached-end.ensures.within in
+    let high : end ≤ length items = subst (λ (l : List Run). end ≤ length l) is c.begun_by-end.ensures.within in
     let above : (k : ℕ) (d : Run) → k < start → IsClear (get_or items k d) run = subst (λ (l : List Run). (k : ℕ) (d : Run) → k < start → IsClear (get_or l k d) run) is c.first_touched-start.ensures.before in
     let touch : (k : ℕ) (d : Run) → start ≤ k → k < end → Touches (get_or items k d) run = subst (λ (l : List Run). (k : ℕ) (d : Run) → start ≤ k → k < end → Touches (get_or l k d) run) is c.first_touched-start.ensures.touch in
-    let below : (k : ℕ) (d : Run) → end ≤ k → k < length items → IsClear run (get_or items k d) = subst (λ (l : List Run). (k : ℕ) (d : Run) → end ≤ k → k < length l → IsClear run (get_or l k d)) is c.reached-end.ensures.behind in
+    let below : (k : ℕ) (d : Run) → end ≤ k → k < length items → IsClear run (get_or items k d) = subst (λ (l : List Run). (k : ℕ) (d : Run) → end ≤ k → k < length l → IsClear run (get_or l k d)) is c.begun_by-end.ensures.later in
     let are = subst (λ (l : List Run). ArePieces old new (stretch l start end) pieces run) is c.in_ok-add_pieces.ensures.pieces in
     IsPut-touched old new items c.exchange.new.runs.items pieces run start end c.first_touched-start.ensures.ordered high above touch below c.requires.runs c.requires.ordered c.requires.apart c.in_ok-add_pieces.ensures.text are c.in_ok-exchange.ensures.ok

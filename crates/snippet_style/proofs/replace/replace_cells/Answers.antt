@@ -1,14 +1,14 @@
-use Rattle.std.proofs.Common.{rules, ◌≡◌, ◌≢◌, ◌∙◌, ◌+◌, ◌-◌, ◌<◌, ◌≤◌, ap, arith, refl, sym, subst, inl, inr, string_bytes, get_or, List, ℕ, All, length, set}
+use Rattle.std.proofs.Common.{rules, ◌≡◌, ◌≢◌, ◌∙◌, ◌+◌, ◌-◌, ◌<◌, ◌≤◌, ◌^◌, ap, arith, refl, sym, subst, inl, inr, string_bytes, get_or, List, ℕ, All, length, set}
 use Rattle.std.proofs.lemmas.Bool.{cases_lt}
 use Rattle.std.proofs.lemmas.List.{length-set, get_or-set_same, get_or-set_other, get_or_past}
 use Rattle.std.specs.Str.{chars}
-use Rattle.snippet_style.proofs.GridChanged.{IsPut, IsGrid-put}
+use Rattle.snippet_style.proofs.GridChanged.{IsExchanged, IsGrid-put}
 use Rattle.snippet_style.proofs.GridLemmas.{length-drawn}
 use Rattle.snippet_style.proofs.GridShown.{on_err_from, IsGrid-grown, grid_grown, width_shown}
 use Rattle.snippet_style.proofs.PutLemmas.{AreOrdered, AreApart, IsRow-stretch}
 use Rattle.snippet_style.proofs.ReplaceLemmas.{cells_replaced_empty, cells_replaced_past}
 use Rattle.snippet_style.proofs.ReplacedRow.{grid_replaced, FitIn-replaced}
-use Rattle.snippet_style.proofs.RowPut.{RowAt-read, row_ends, put_length, length-stretch}
+use Rattle.snippet_style.proofs.RowPut.{RowAt-read, begins_fit, row_ends, put_length, length-stretch}
 use Rattle.snippet_style.proofs.StretchLemmas.{stretch}
 use Rattle.snippet_style.specs.Changes.{ShowsReplaced}
 use Rattle.snippet_style.specs.Grid.{drawn}
@@ -29,7 +29,11 @@ returns-then-end-start-clause-ok c =
 
 pub row_bounds-from-requires : goal.row_bounds-from-requires
 row_bounds-from-requires c =
-    record { ordered = subst (λ (l : List Run). AreOrdered l) (sym c.as_slice-old.ensures.value) c.requires.grid.ordered }
+    let is = sym c.as_slice-old.ensures.value in
+    record {
+      ordered = subst (λ (l : List Run). AreOrdered l) is c.requires.grid.ordered;
+      fits = subst (λ (l : List Run). All (λ x. x.cell < 2 ^ 64) l) is (begins_fit (string_bytes c.args.text.now) c.args.runs.now.items c.requires.grid.are_runs);
+    }
 
 pub replaced_row-requires-clause-runs : goal.replaced_row-requires-clause-runs
 replaced_row-requires-clause-runs c =
@@ -63,7 +67,7 @@ returns c =
     let row = c.args.row in
     let runs = c.args.runs.now.items in
     let now = c.exchange.new.runs.items in
-    let fresh = c.replaced_row.new.fresh.items in
+    let fresh = c.replaced_row.new.spare.runs.items in
     let w = c.args.widths.now.items in
     let v = set w row c.in-Some.wide in
     let cells = drawn c.args.role (chars c.args.word.now) in
@@ -79,7 +83,7 @@ returns c =
     let here : get_or v row 0 ≡ c.in-Some.wide = get_or-set_same w row c.in-Some.wide 0 there in
     let others : (r : ℕ) → r ≢ row → get_or v r 0 ≡ get_or w r 0 = λ r other. get_or-set_other w row r c.in-Some.wide 0 other in
     let at = RowAt-read runs c.as_slice-old.result.now row from to is record { ordered = c.row_bounds-from.ensures.bounds.0; within = c.row_bounds-from.ensures.bounds.1; above = c.row_bounds-from.ensures.above; inside = c.row_bounds-from.ensures.inside; below = c.row_bounds-from.ensures.below } in
-    let put : IsPut old new runs now fresh row from to = record {
+    let put : IsExchanged old new runs now fresh row from to = record {
       at = at;
       grows = c.in_ok-replaced_row.ensures.text;
       are_runs = c.requires.grid.are_runs;

@@ -1,6 +1,6 @@
 use Rattle.std.proofs.Common.{◌+◌, ◌-◌, arith, ap, sym, subst, slice_index_or, length, string_bytes}
 use Rattle.std.specs.Str.{chars}
-use Rattle.snippet_style.proofs.ChangedRow.{met_outer}
+use Rattle.snippet_style.proofs.MetRuns.{met_outer}
 use Rattle.snippet_style.proofs.GridLemmas.{length-drawn}
 use Rattle.snippet_style.proofs.PutLemmas.{IsRow-grown}
 use Rattle.snippet_style.proofs.ReplacedRow.{row_replaced}
