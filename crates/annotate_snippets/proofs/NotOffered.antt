@@ -107,6 +107,31 @@ row_named s [] row behind named =
 row_named s (first ∷ before) row behind named =
     row_named s before row behind (All-tail (λ r. IsSuggestionRow plain_settings 1 s r.name r.cells) first (before ++ (row ∷ behind)) named)
 
+-- the row `1 + ab` is none of a suggestion that gives `ac`, whatever it is named
+old_row_named : (s : Snippet Patch) → IsSnippetOf s (codes "ab") one_edit → (name : RowName) (cells : List Cell) → cells ≡ offering_row (codes "ab") → IsSuggestionRow plain_settings 1 s name cells → ⊥
+old_row_named s is (SourceRow k) cells same shows = shows
+old_row_named s is Elision cells same shows = shows
+old_row_named s is (OfferedLine j) cells same shows =
+    old_line_offered s is j (subst (IsOfferedRow plain_settings 1 s j) same shows)
+old_row_named s is (RemovedLine i) cells same shows =
+    let P : List Cell → Type 0 = λ row. (get_or row 2 SPACE).ch ≡ 45 in
+    let minus : ◌≡◌ {A = ℕ} 43 45 = subst P same shows.minus in
+    absurd (omega (arith, minus))
+old_row_named s is Other cells same shows =
+    let digit : false ≡ true = (subst (IsBareRow Ascii 1) same shows).strokes 0 (omega arith) in
+    cc
+
+-- so no rows in which it stands show the suggestion, wherever that is:
+--
+--     1 - ab
+--     1 + ab
+old_lines_repeated : (s : Snippet Patch) → IsSnippetOf s (codes "ab") one_edit → (frame : Frame) → frame.gutter ≡ 1 → (around : Surroundings) (row : NamedRow) (before behind : List NamedRow) → row.cells ≡ offering_row (codes "ab") → ShowsSuggestion plain_settings frame around s (others (suggestion_head plain_settings frame around s) ++ (before ++ (row ∷ behind))) → ⊥
+old_lines_repeated s is frame narrow around row before behind row_is shown =
+    let rows : List NamedRow = before ++ (row ∷ behind) in
+    let same : shown.behind ≡ rows = append_cancel_left (others (suggestion_head plain_settings frame around s)) shown.behind rows (sym shown.rows_are) in
+    let named : All (λ r. IsSuggestionRow plain_settings 1 s r.name r.cells) rows = subst (λ gutter. All (λ r. IsSuggestionRow plain_settings gutter s r.name r.cells) rows) narrow (subst (All (λ r. IsSuggestionRow plain_settings frame.gutter s r.name r.cells)) same shown.named) in
+    old_row_named s is row.name row.cells row_is (row_named s before row behind named).0
+
 -- so no rows that offer it twice show the suggestion, behind the row of its path, where that is named:
 --
 --     1 + ac
@@ -190,3 +215,82 @@ touched_left_out s is frame around rows out shown =
     changed same =
         let both : codes "x" ∷ codes "y" ∷ [] ≡ last_reached s ∷ [] = sym (two_spliced s.fold) ∙ ap (λ es. texts_of (lines_of (spliced_text s.fold two_lines es))) (sym is.edits_are) ∙ ap (λ text. texts_of (lines_of (spliced_text s.fold text (edits_of s)))) (sym is.source_is) ∙ same in
         cc
+
+-- ---- a line that is lost
+
+-- `a` and `bc` on two lines, with `x` put in at the start and `b` deleted, give `xa` and `c`
+abbrev lines_of_three : List ℕ
+lines_of_three = codes "a" ++ 10 ∷ codes "bc"
+
+abbrev put_in_and_deleted : List Edit
+put_in_and_deleted = replaced 0 0 (codes "x") ∷ replaced 2 3 [] ∷ []
+
+deleted_offerable : (s : Snippet Patch) → IsSnippetOf s lines_of_three put_in_and_deleted → IsOfferable s
+deleted_offerable s is =
+    record {
+      no_cr = subst HasNoCr (sym is.source_is) (no_cr lines_of_three refl);
+      no_cr_in = subst (All (λ (e : Edit). HasNoCr e.text)) (sym is.edits_are) (All-cons (λ (e : Edit). HasNoCr e.text) (replaced 0 0 (codes "x")) (replaced 2 3 [] ∷ []) (no_cr (codes "x") refl) (All-cons (λ (e : Edit). HasNoCr e.text) (replaced 2 3 []) [] (no_cr [] refl) (All-nil (λ (e : Edit). HasNoCr e.text))));
+      before = λ k d inside final. let other : ◌≡◌ {A = ℕ} 99 10 = subst (λ text. last_byte text ≡ 10) is.source_is final in absurd (omega (arith, other));
+    }
+
+-- the second line is touched: the place of what is deleted lies in it
+rest_touched : IsTouched lines_of_three put_in_and_deleted 1
+unfolding trimmed_edit sandwich kept_before start_of
+rest_touched =
+    record {
+      stand = record { from = 3; to = 3 };
+      among = (1, omega arith, refl);
+      by = record {
+        place = 3;
+        in_line = record { within = omega arith; from = omega arith; to = inl (omega arith) };
+        from = omega arith;
+        to = inr (refl, refl);
+      };
+    }
+
+rest_visible : is_blank (text_at (source_lines (patched lines_of_three put_in_and_deleted)) 1) ≡ false
+unfolding chars
+rest_visible = refl
+
+rest_spliced : (fold : Bool) → texts_of (lines_of (spliced_text fold lines_of_three put_in_and_deleted)) ≡ codes "xa" ∷ codes "c" ∷ []
+unfolding spliced_text trimmed_edit sandwich kept_before start_of line_of
+rest_spliced true = refl
+rest_spliced false = refl
+
+-- so no rows show it that don't offer its second line, as where the text is cut off behind the line feed with which it ends so far:
+--
+--     1 ~ xa
+line_lost : (s : Snippet Patch) → IsSnippetOf s lines_of_three put_in_and_deleted → (frame : Frame) (around : Surroundings) (rows : List NamedRow) → (Contains (lines_offered rows) 1 → ⊥) → ShowsSuggestion plain_settings frame around s (others (suggestion_head plain_settings frame around s) ++ rows) → ⊥
+line_lost s is frame around rows out shown =
+    let same : shown.behind ≡ rows = append_cancel_left (others (suggestion_head plain_settings frame around s)) shown.behind rows (sym shown.rows_are) in
+    let touched : IsTouched (cow_str_bytes s.source) (edits_of s) 1 = subst (λ text. IsTouched text (edits_of s) 1) (sym is.source_is) (subst (λ es. IsTouched lines_of_three es 1) (sym is.edits_are) rest_touched) in
+    let visible : is_blank (text_at (source_lines (patched (cow_str_bytes s.source) (edits_of s))) 1) ≡ false = ap (λ text. is_blank (text_at (source_lines (patched text (edits_of s))) 1)) is.source_is ∙ ap (λ es. is_blank (text_at (source_lines (patched lines_of_three es)) 1)) is.edits_are ∙ rest_visible in
+    elim (shown.offered (deleted_offerable s is) 1 touched visible) [ inl as_it_was ↦ changed as_it_was | inr among ↦ out (subst (λ all. Contains (lines_offered all) 1) same among) ]
+  where
+    changed : IsAsItWas s → ⊥
+    changed same =
+        let both : codes "xa" ∷ codes "c" ∷ [] ≡ last_reached s ∷ [] = sym (rest_spliced s.fold) ∙ ap (λ es. texts_of (lines_of (spliced_text s.fold lines_of_three es))) (sym is.edits_are) ∙ ap (λ text. texts_of (lines_of (spliced_text s.fold text (edits_of s)))) (sym is.source_is) ∙ same in
+        cc
+
+-- ---- edits in another order
+
+-- `a`, with `b` in its place given before `x` put in at the same start, gives `xb`
+abbrev replaced_and_put_in : List Edit
+replaced_and_put_in = replaced 0 1 (codes "b") ∷ replaced 0 0 (codes "x") ∷ []
+
+gives_xb : (fold : Bool) → texts_of (lines_of (shown_text fold (codes "a") replaced_and_put_in)) ≡ codes "xb" ∷ []
+unfolding shown_text trimmed_edit sandwich kept_before start_of line_of
+gives_xb true = refl
+gives_xb false = refl
+
+-- so no row offers a line in which the replacement stands first, and what it replaced again behind what is put in:
+--
+--     1 + bxa
+replacement_first : (s : Snippet Patch) → IsSnippetOf s (codes "a") replaced_and_put_in → (j : ℕ) → IsOfferedRow plain_settings 1 s j (offering_row (codes "bxa")) → ⊥
+unfolding char_width unicode_width norm chars
+replacement_first s is j offers =
+    let given : given_lines s ≡ codes "xb" ∷ [] = given_by s (codes "a") replaced_and_put_in (codes "xb" ∷ []) is gives_xb in
+    let first : j - first_given s ≡ 0 = omega (arith, offers.from, offers.within, ap length given) in
+    let text : codes "bxa" ≡ norm (chars (codes "xb")) = offers.line ∙ ap (λ k. norm (chars (get_or (given_lines s) k []))) first ∙ ap (λ lines. norm (chars (get_or lines 0 []))) given in
+    let letter : ◌≡◌ {A = ℕ} 98 120 = ap (λ (cs : List ℕ). get_or cs 0 0) text in
+    absurd (omega (arith, letter))

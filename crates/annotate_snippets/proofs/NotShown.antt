@@ -1,5 +1,5 @@
 -- What is not shown: rows that are wrong, each on a small report, contradict the definitions of what rows show.
-use Rattle.std.proofs.Common.{Option, Some, None, ◌≡◌, ℕ, ◌<◌, ◌≤◌, ◌==◌, ◌⊎◌, Bool, true, false, List, [], ◌∷◌, ◌++◌, codes, encode_utf8_all, length, drop, replicate, refl, sym, ap, subst, arith, inl, inr}
+use Rattle.std.proofs.Common.{Option, Some, None, ◌≡◌, ℕ, zero, suc, ◌<◌, ◌≤◌, ◌==◌, ◌⊎◌, Bool, true, false, List, [], ◌∷◌, ◌++◌, codes, encode_utf8_all, length, drop, replicate, refl, sym, ap, subst, ◌∙◌, arith, inl, inr}
 use Rattle.std.specs.Char.{is_ascii_alphanumeric}
 use Rattle.std.specs.Cow.{cow_str_bytes}
 use Rattle.std.specs.List.{All, Contains, filter, slice_index_or}
@@ -8,12 +8,12 @@ use Rattle.std.specs.Str.{chars}
 use Rattle.std.specs.declared.borrow.CowStr.{CowStr}
 use Rattle.std.specs.declared.alloc.Global.{Global}
 use Rattle.std.proofs.lemmas.Bool.{eq-eqb}
-use Rattle.std.proofs.lemmas.List.{append_cancel_left, append_cancel_right}
+use Rattle.std.proofs.lemmas.List.{append_cancel_left, append_cancel_right, length-append}
 use Rattle.std.proofs.lemmas.List.Elements.{All-nil, All-cons, filter_map-append}
 use Rattle.snippet_style.specs.Grid.{Cell, SPACE, drawn}
 use Rattle.snippet_style.specs.Print.{row_text}
 use Rattle.snippet_style.specs.declared.glyphs.DecorStyle.TheVariants.{Ascii}
-use Rattle.snippet_style.specs.declared.role.ElementStyle.TheVariants.{LineNumber, Quotation, UnderlinePrimary, UnderlineSecondary}
+use Rattle.snippet_style.specs.declared.role.ElementStyle.TheVariants.{LabelPrimary, LineNumber, Quotation, UnderlinePrimary, UnderlineSecondary}
 use Rattle.snippet_text.specs.Normalized.{norm}
 use Rattle.snippet_text.specs.Width.{char_width}
 use Rattle.snippet_text.proofs.WidthLemmas.{unicode_width}
@@ -23,8 +23,14 @@ use Rattle.snippet_model.specs.declared.snippet.AnnotationKind.{AnnotationKind}
 use Rattle.snippet_model.specs.declared.snippet.AnnotationKind.TheVariants.{Primary, Context}
 use Rattle.snippet_lines.specs.Lines.{source_lines, start_of}
 use Rattle.snippet_lines.specs.Place.{line_of, place_of}
+<<<<<<< HEAD
 use Rattle.snippet_view.specs.Mark.{is_marked_on, qualifies_for_marks, start_column, end_column, span_width, IsMarkedAt, IsMarkOf}
 use Rattle.snippet_view.specs.Window.{chars_at, stands_whole}
+=======
+use Rattle.snippet_parts.specs.Kept.{shown_lines}
+use Rattle.snippet_parts.specs.Mark.{is_marked_on, qualifies_for_marks, start_column, end_column, span_width, IsMarkedAt, IsMarkOf}
+use Rattle.snippet_parts.specs.Window.{chars_at, stands_whole}
+>>>>>>> h2
 use Rattle.snippet_strokes.specs.Entries.{IsMarkCell, has_mark_role}
 use Rattle.snippet_style.specs.Separators.{separator_row}
 use Rattle.annotate_snippets.specs.Page.{Elision, RowName, OfferedLine, RemovedLine, SourceRow, Other, NamedRow, lines_named, others, IsAscending}
@@ -332,3 +338,108 @@ label_left_out label label_is =
     let text : shown_label span ≡ codes "x" = ap normalized_chars label_is in
     let some : 0 < length (shown_label span) = omega (arith, ap length text) in
     other_marks (codes "ab") (span ∷ []) (drawn UnderlinePrimary (codes "^")) (record { folded = refl; unfolded = refl; qualified = refl }) (λ s is shown. let behind : [] ≡ 32 ∷ shown_label span = label_behind is shown span refl some in cc)
+
+-- the label of the one span on a line elsewhere than one cell behind its mark, here two cells:
+--
+--     1 | ab
+--       | ^  x
+label_elsewhere : (label : Option (CowStr Global)) → option_map cow_str_bytes label ≡ Some (codes "x") → AreOtherMarks (codes "ab") (labelled_span label Primary 0 1 ∷ []) (drawn UnderlinePrimary (codes "^") ++ SPACE ∷ SPACE ∷ drawn LabelPrimary (codes "x"))
+unfolding place_of line_of start_of chars char_width unicode_width norm
+label_elsewhere label label_is =
+    let span : Annotation = labelled_span label Primary 0 1 in
+    let text : shown_label span ≡ codes "x" = ap normalized_chars label_is in
+    let some : 0 < length (shown_label span) = omega (arith, ap length text) in
+    other_marks (codes "ab") (span ∷ []) (drawn UnderlinePrimary (codes "^") ++ SPACE ∷ SPACE ∷ drawn LabelPrimary (codes "x")) (record { folded = refl; unfolded = refl; qualified = refl }) (λ s is shown. let behind : 32 ∷ 32 ∷ codes "x" ≡ 32 ∷ shown_label span = label_behind is shown span refl some in absurd (omega (arith, ap length behind, ap length text)))
+
+-- a label that is drawn as it is given, here U+001B, which is shown as U+241B:
+--
+--     1 | ab
+--       | ^ <U+001B>
+label_raw : (label : Option (CowStr Global)) → option_map cow_str_bytes label ≡ Some (27 ∷ []) → AreOtherMarks (codes "ab") (labelled_span label Primary 0 1 ∷ []) (drawn UnderlinePrimary (codes "^") ++ SPACE ∷ drawn LabelPrimary (27 ∷ []))
+unfolding place_of line_of start_of chars char_width unicode_width norm
+label_raw label label_is =
+    let span : Annotation = labelled_span label Primary 0 1 in
+    let text : shown_label span ≡ 0x241B ∷ [] = ap normalized_chars label_is in
+    let some : 0 < length (shown_label span) = omega (arith, ap length text) in
+    other_marks (codes "ab") (span ∷ []) (drawn UnderlinePrimary (codes "^") ++ SPACE ∷ drawn LabelPrimary (27 ∷ [])) (record { folded = refl; unfolded = refl; qualified = refl }) (λ s is shown. let behind : 32 ∷ 27 ∷ [] ≡ 32 ∷ shown_label span = label_behind is shown span refl some in let letter : ◌≡◌ {A = ℕ} 27 0x241B = ap (λ (cs : List ℕ). slice_index_or cs 1 0) behind ∙ ap (λ (cs : List ℕ). slice_index_or cs 0 0) text in absurd (omega (arith, letter)))
+
+-- a mark that stays where it would stand in the whole line, here of the third column of `abcd`, where two columns of the line are
+-- dropped:
+--
+--     1 | ...
+--       |   ^
+marks_not_shifted : (s : Snippet Annotation) → IsSnippetOf s (codes "abcd") (span_of Primary 2 3 ∷ []) → ShowsMarksOf Ascii frame s 0 2 (row_below (SPACE ∷ SPACE ∷ drawn UnderlinePrimary (codes "^"))) → ⊥
+unfolding place_of line_of start_of chars char_width unicode_width
+marks_not_shifted s is shown =
+    let source : List ℕ = codes "abcd" in
+    let span : Annotation = span_of Primary 2 3 in
+    let at : IsMarkedAt source 0 2 span = is_marked_at source span 2 3 (record { marked = refl; start_is = refl; end_is = refl }) 2 (omega arith) (omega arith) in
+    let mark : IsMarkOf source (span ∷ []) 0 2 Primary = mark_of_one source 0 2 span at in
+    let cell : IsMarkCell Ascii Primary SPACE = shown.marks 2 Primary (subst (λ text. IsMarkOf text s.markers.items 0 2 Primary) (sym is.source_is) (subst (λ spans. IsMarkOf source spans 0 2 Primary) (sym is.marks_are) mark)) in
+    let same : ◌≡◌ {A = ℕ} 32 94 = cell.0 in
+    absurd (omega (arith, same))
+
+-- ---- a line that isn't kept
+
+-- `a` and `b` on two lines, of which a span marks the first, and the row `2 | b`
+abbrev two_lines : List ℕ
+two_lines = codes "a" ++ 10 ∷ codes "b"
+
+abbrev row_of_second : List Cell
+row_of_second = drawn LineNumber (codes "2") ++ SPACE ∷ drawn LineNumber (codes "|") ++ SPACE ∷ drawn Quotation (codes "b")
+
+-- the first line stands whole
+first_whole : (fold : Bool) → is_whole fold two_lines (span_of Primary 0 1 ∷ []) ≡ true
+unfolding place_of line_of start_of chars char_width unicode_width norm
+first_whole true = refl
+first_whole false = refl
+
+-- so that row can only be named as that of the second line
+named_second : (closes : Bool) (s : Snippet Annotation) → IsSnippetOf s two_lines (span_of Primary 0 1 ∷ []) → (name : RowName) (cells : List Cell) (rows : List NamedRow) → cells ≡ row_of_second → IsRowOf plain_settings frame closes s name cells rows → name ≡ SourceRow 1
+unfolding chars norm
+named_second closes s is (SourceRow zero) cells rows same shows =
+    let whole : is_whole s.fold (cow_str_bytes s.source) s.markers.items ≡ true = subst (λ text. is_whole s.fold text s.markers.items ≡ true) (sym is.source_is) (subst (λ spans. is_whole s.fold two_lines spans ≡ true) (sym is.marks_are) (first_whole s.fold)) in
+    let text : codes "b" ≡ norm (chars_at (cow_str_bytes s.source) 0) = subst (λ row. row_text (drop 4 row) ≡ norm (chars_at (cow_str_bytes s.source) 0)) same (shows.line.whole whole).1 in
+    let letter : ◌≡◌ {A = ℕ} 98 97 = ap (λ (cs : List ℕ). slice_index_or cs 0 0) (text ∙ ap (λ source. norm (chars_at source 0)) is.source_is) in
+    absurd (omega (arith, letter))
+named_second closes s is (SourceRow (suc k)) cells rows same shows =
+    let within : suc k < 2 = subst (λ source. suc k < length (source_lines source)) is.source_is shows.line.within in
+    let second : suc k ≡ 1 = omega arith in
+    ap SourceRow second
+named_second closes s is (OfferedLine j) cells rows same shows = absurd shows
+named_second closes s is (RemovedLine i) cells rows same shows = absurd shows
+named_second closes s is Elision cells rows same shows =
+    let digit : true ≡ false = subst (λ row. is_ascii_alphanumeric (slice_index_or row 0 SPACE).ch ≡ false) same (shows.unnumbered 0 (omega arith)) in
+    cc
+named_second closes s is Other cells rows same shows =
+    let digit : true ≡ false = subst (λ row. is_ascii_alphanumeric (slice_index_or row 0 SPACE).ch ≡ false) same (shows.unnumbered 0 (omega arith)) in
+    cc
+
+-- a list of one number holds no other
+other_number : (before behind : List ℕ) → before ++ (1 ∷ behind) ≡ 0 ∷ [] → ⊥
+other_number [] behind same =
+    let one : ◌≡◌ {A = ℕ} 1 0 = ap (λ (ks : List ℕ). slice_index_or ks 0 0) same in
+    absurd (omega (arith, one))
+other_number (k ∷ before) behind same =
+    absurd (omega (arith, ap length same, length-append before (1 ∷ behind)))
+
+-- the lines that are shown where lines are folded
+first_alone : shown_lines true two_lines (span_of Primary 0 1 ∷ []) ≡ 0 ∷ []
+unfolding place_of line_of start_of chars
+first_alone = refl
+
+-- so where lines are folded no rows show the snippet in which the second line has a row, wherever that stands:
+--
+--     1 | a
+--       | ^
+--     2 | b
+fold_ignored : (s : Snippet Annotation) → IsSnippetOf s two_lines (span_of Primary 0 1 ∷ []) → s.fold ≡ true → (around : Surroundings) (row : NamedRow) (before behind : List NamedRow) → row.cells ≡ row_of_second → ShowsSnippet plain_settings frame around s (others (cause_head plain_settings frame around s) ++ ((before ++ (row ∷ behind)) ++ others (rows_behind_cause plain_settings frame around))) → ⊥
+fold_ignored s is folds around row before behind row_is shown =
+    let rows : List NamedRow = before ++ (row ∷ behind) in
+    let tail : List NamedRow = others (rows_behind_cause plain_settings frame around) in
+    let closes : Bool = closes_with around in
+    let same : shown.behind ≡ rows = append_cancel_right shown.behind rows tail (sym (append_cancel_left (others (cause_head plain_settings frame around s)) (rows ++ tail) (shown.behind ++ tail) shown.rows_are)) in
+    let from_row : AreRowsOf plain_settings frame closes s (row ∷ behind) = rows_behind closes s before (row ∷ behind) (subst (AreRowsOf plain_settings frame closes s) same shown.named) in
+    let named : row.name ≡ SourceRow 1 = named_second closes s is row.name row.cells behind row_is from_row.0 in
+    let kept : lines_named rows ≡ 0 ∷ [] = ap lines_named (sym same) ∙ shown.lines ∙ ap (λ fold. shown_lines fold (cow_str_bytes s.source) s.markers.items) folds ∙ ap (λ text. shown_lines true text s.markers.items) is.source_is ∙ ap (shown_lines true two_lines) is.marks_are ∙ first_alone in
+    other_number (lines_named before) (lines_named behind) (simp (filter_map-append, named) at kept)

@@ -20,11 +20,13 @@ mod surroundings;
 mod text_form;
 mod title;
 
+pub use crate::snippet::Id;
 use crate::snippet::Report;
 use drawn::{Drawn, draw, text_under, texts_under};
 pub use error::RenderError;
 use form::form_of;
 use judge::first_refusal;
+pub use snippet_model::MessageOrTitle;
 pub use snippet_style::{
     DEFAULT_ADDITION_STYLE, DEFAULT_CONTEXT_STYLE, DEFAULT_EMPHASIS_STYLE, DEFAULT_ERROR_STYLE,
     DEFAULT_HELP_STYLE, DEFAULT_INFO_STYLE, DEFAULT_LINE_NUM_STYLE, DEFAULT_NONE_STYLE,

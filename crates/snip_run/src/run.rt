@@ -1,5 +1,5 @@
 //! A run of the program, over the bytes of a file and two writers.
-ghost use Rattle.std.specs.Prelude.{◌≡◌, ℕ, ◌≤◌, ◌↔◌, List, [], ◌∷◌, ◌++◌, IsTrue, IsOk, IsNone, IfOk, IfSome, IsSomeAnd, MatchOption, SomeIff, All, string_bytes};
+ghost use Rattle.std.specs.Prelude.{◌≡◌, ℕ, ◌≤◌, ◌↔◌, ◌⊎◌, List, [], ◌∷◌, ◌++◌, IsTrue, IsOk, IsNone, IfOk, IfSome, IsSomeAnd, MatchOption, SomeIff, All, string_bytes};
 ghost use Rattle.std.specs.Bool.{OnTrue};
 ghost use Rattle.std.specs.Io.KnownBytes.{Appends};
 ghost use Rattle.std.specs.Option.{option_copied};
@@ -155,6 +155,13 @@ fn print_line<W: Write, D: fmt::Display + Drop>(out: &mut W, line: D) -> bool
 /// `file` is what FILE holds, or `None` where it can't be read. The status is 0 where the report was printed, 2 for words
 /// that aren't of the form, and else 1. The report goes to `out`, and what is in its way to `err`; a report that couldn't be
 /// written is told by the status alone.
+///
+/// | Status | `out` | `err` |
+/// |---|---|---|
+/// | 0 | the report and a line feed more | as it was |
+/// | 1, what was in the report's way | as it was | a message more, if it can be written |
+/// | 1, the report couldn't be written | a part of it more | as it was |
+/// | 2 | as it was | how the words are to be written, if that can be written |
 pub fn run<W: Write, V: Write>(
     alloc: Global,
     words: &[&str],
@@ -169,6 +176,10 @@ pub fn run<W: Write, V: Write>(
         × Appends (W.contents out.old) (W.contents out.new) (text ++ LINE_FEED ∷ [])
         × ShowsWords (words_at words.now) source text) }
     ensures no_fault { result ≡ 0 → err.new ≡ err.old }
+    // Either what was in the report's way went to `err`, and `out` is as it was; or there was a report that couldn't be written
+    // to `out`, and `err` is as it was.
+    ensures failed { result ≡ 1 → (out.new ≡ out.old)
+        ⊎ ((err.new ≡ err.old) × IsSomeAnd (option_copied file.entry) IsShownText) }
     ensures no_report { result ≡ 2 → out.new ≡ out.old }
 {
     let Some(command) = command_of(words) else {

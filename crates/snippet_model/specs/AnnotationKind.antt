@@ -1,5 +1,5 @@
 -- Kinds of annotations.
-use Rattle.std.specs.Prelude.{Bool, true, false}
+use Rattle.std.specs.Prelude.{ℕ, Bool, true, false}
 use Rattle.snippet_model.specs.declared.snippet.AnnotationKind.{AnnotationKind}
 use Rattle.snippet_model.specs.declared.snippet.AnnotationKind.TheVariants.{Primary, Context, Visible}
 
@@ -8,3 +8,9 @@ abbrev pub is_primary : AnnotationKind → Bool
 is_primary Primary = true
 is_primary Context = false
 is_primary Visible = false
+
+-- the order of kinds: primary ones first, then those for context, then those that aren't marked
+abbrev pub rank_of : AnnotationKind → ℕ
+rank_of Primary = 0
+rank_of Context = 1
+rank_of Visible = 2

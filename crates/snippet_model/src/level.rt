@@ -76,6 +76,46 @@ fn standard_name(kind: LevelInner) -> &'static str
     }
 }
 
+/// Proves, and does nothing else, that each constant of this module is shown by the name of its kind. A clause can't name
+/// constants of a type that may own text, so this stands in place of one.
+fn prove_constants() {
+    prove!(matches!(
+        &ERROR,
+        Level {
+            name: LevelName::Standard,
+            kind: LevelInner::Error
+        }
+    ));
+    prove!(matches!(
+        &WARNING,
+        Level {
+            name: LevelName::Standard,
+            kind: LevelInner::Warning
+        }
+    ));
+    prove!(matches!(
+        &INFO,
+        Level {
+            name: LevelName::Standard,
+            kind: LevelInner::Info
+        }
+    ));
+    prove!(matches!(
+        &NOTE,
+        Level {
+            name: LevelName::Standard,
+            kind: LevelInner::Note
+        }
+    ));
+    prove!(matches!(
+        &HELP,
+        Level {
+            name: LevelName::Standard,
+            kind: LevelInner::Help
+        }
+    ));
+}
+
 impl<'a> Level<'a> {
     ghost use Rattle.snippet_model.specs.Level.{name_of};
     ghost use Rattle.snippet_model.specs.declared.level.LevelName.TheVariants.{Standard, Hidden, Own};
@@ -95,6 +135,7 @@ impl<'a> Level<'a> {
     pub fn standard(kind: LevelInner) -> Level<'static>
         ensures level { result ≡ record { name = Standard; kind = kind } }
     {
+        prove_constants();
         match kind {
             LevelInner::Error => Level::ERROR,
             LevelInner::Warning => Level::WARNING,

@@ -1,7 +1,12 @@
 //! The parts of a report: groups of a title and elements, and what an element may be.
 ghost use Rattle.std.specs.Prelude.{◌≡◌, ℕ, [], None, true, false};
+ghost use Rattle.std.proofs.Common.{rules};
+ghost use Rattle.std.specs.Cmp.{partial_order_from_own_ties};
+ghost use Rattle.std.specs.Cmp.Rules.{comparing};
+ghost use Rattle.std.specs.Ordering.{nat_cmp, on, as_partial_cmp};
 ghost use Rattle.std.specs.declared.ops.Range.{Range};
 ghost use Rattle.std.specs.declared.borrow.CowStr.TheVariants.{Borrowed};
+ghost use Rattle.snippet_model.specs.AnnotationKind.{rank_of};
 
 mod clones;
 mod elements;
@@ -15,6 +20,7 @@ use crate::option_cow::OptionCow;
 use snippet_style::LevelInner;
 use snippet_text::CowStr;
 use std::alloc::Global;
+use std::cmp::Ordering;
 use std::ops::Range;
 
 /// The identifier of a title, as `E0308`, and the address that explains it.
@@ -234,8 +240,8 @@ impl<'a> Marker for Annotation<'a> {
     }
 }
 
-/// How a span is marked.
-#[derive(Clone, Copy, Debug, PartialEq, Eq, PartialOrd, Ord)]
+/// How a span is marked. Kinds are ordered as they are listed here.
+#[derive(Clone, Copy, Debug, PartialEq, Eq)]
 pub enum AnnotationKind {
     /// The point of the report, marked with `^`.
     Primary,
@@ -246,6 +252,17 @@ pub enum AnnotationKind {
 }
 
 impl AnnotationKind {
+    /// The place of the kind in their order.
+    const fn rank(self) -> u8
+        ensures value { result ≡ rank_of self }
+    {
+        match self {
+            AnnotationKind::Primary => 0,
+            AnnotationKind::Context => 1,
+            AnnotationKind::Visible => 2,
+        }
+    }
+
     /// An annotation of this kind, without label, of the bytes of this span.
     pub fn span<'a>(self, span: Range<usize>) -> Annotation<'a>
         ensures span { result.span ≡ span }
@@ -259,6 +276,30 @@ impl AnnotationKind {
             kind: self,
             highlight_source: false,
         }
+    }
+}
+
+impl Ord for AnnotationKind {
+    ghost cmp = { on rank_of nat_cmp };
+
+    ghost total = { Prim.search (comparing, rules) };
+
+    ghost matches_partial_cmp = { Prim.search (comparing, rules) };
+
+    ghost matches_eq = { Prim.search (comparing, rules) };
+
+    fn cmp(&self, other: &AnnotationKind) -> Ordering {
+        self.rank().cmp(&other.rank())
+    }
+}
+
+impl PartialOrd for AnnotationKind {
+    ghost partial_cmp = { as_partial_cmp (on rank_of nat_cmp) };
+
+    ghost laws = { partial_order_from_own_ties (Prim.search (comparing, rules)) (Prim.search (comparing, rules)) };
+
+    fn partial_cmp(&self, other: &AnnotationKind) -> Option<Ordering> {
+        Some(self.cmp(other))
     }
 }
 

@@ -121,11 +121,13 @@ impl<'a> SourceMap<'a> {
     /// The greatest depth of spans of several lines, and the lines that are kept, each with its entries.
     ///
     /// The one error is want of memory.
-    pub fn annotated_lines(
+    pub fn annotated_lines<'b>(
         &self,
-        annotations: &'a [Annotation<'a>],
+        annotations: &'b [Annotation<'_>],
         fold: bool,
-    ) -> Result<(usize, Vec<AnnotatedLineInfo<'a>>), AllocError>
+    ) -> Result<(usize, Vec<AnnotatedLineInfo<'b>>), AllocError>
+    where
+        'a: 'b,
         requires spans { All (λ a. IsSpan self.now.text a.span.start a.span.end) annotations.now }
         // The lines that are kept, ascending, each with its number, its text, its entries in the order made, and whether
         // a span keeps it without marking it.

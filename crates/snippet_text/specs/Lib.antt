@@ -1,2 +1,3 @@
 pub mod Normalized
+pub mod OneLine
 pub mod Width

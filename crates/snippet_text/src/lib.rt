@@ -4,9 +4,11 @@
 
 mod limit;
 mod normalize;
+mod one_line;
 mod width;
 
 pub use limit::text_fits;
 pub use normalize::{normalize_untrusted_str, normalized};
+pub use one_line::is_one_line;
 pub use std::borrow::CowStr;
 pub use width::{char_width, str_width};

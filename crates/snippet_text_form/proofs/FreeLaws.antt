@@ -1,5 +1,5 @@
 -- No text form holds a listed character but those of a trusted heading's text.
-use Rattle.std.proofs.Common.{◌≡◌, ℕ, ◌==◌, ◌+◌, nat_lt, Bool, true, false, Option, None, Some, List, [], ◌∷◌, ◌++◌, All, chars, codes, filter, length, replicate, if◌then◌else◌, refl, sym, subst, arith}
+use Rattle.std.proofs.Common.{◌≡◌, ℕ, ◌==◌, ◌+◌, ◌&&◌, not, nat_lt, Bool, true, false, Option, None, Some, List, [], ◌∷◌, ◌++◌, All, chars, codes, filter, length, replicate, if◌then◌else◌, refl, sym, subst, arith}
 use Rattle.std.specs.Cow.{cow_str_bytes}
 use Rattle.std.specs.Fmt.{decimal}
 use Rattle.std.specs.List.{flat_map, Contains}
@@ -25,7 +25,7 @@ use Rattle.snippet_suggest.specs.Given as given
 use Rattle.snippet_suggest.specs.Kind.{is_blank}
 use Rattle.snippet_text.specs.Normalized.{norm, is_listed}
 use Rattle.snippet_text.specs.Width.{width_of}
-use Rattle.snippet_titles.specs.Heading.{address_of, drawn_text, heading_lines}
+use Rattle.snippet_titles.specs.Heading.{address_of, drawn_text, heading_lines, is_set}
 use Rattle.snippet_titles.specs.Origin.{column_text, line_name}
 use Rattle.snippet_titles.specs.declared.style.HeadingRoles.{HeadingRoles}
 use Rattle.snippet_titles.proofs.DigitLemmas.{IsDigit, decimal-all}
@@ -324,10 +324,12 @@ module _ (P : ℕ → Type 0) (free : (c : ℕ) → IsFree c → P c) where
   id-all hyperlink hidden role (Some id) =
       id_text-all hidden role (address_of hyperlink id) (option_map cow_str_bytes id.id)
 
+  colon-if : (role : ElementStyle) (bare : Bool) → EachPlain P (if bare then [] else styled role (codes ": "))
+  colon-if role true = each-nil P (free 10 refl)
+  colon-if role false = styled-all role None (codes ": ") (each-fails is_listed (codes ": ") refl)
+
   colon-all : (role : ElementStyle) (hidden : Bool) (id : Option Id) → EachPlain P (colon_form role hidden id)
-  colon-all role true None = each-nil P (free 10 refl)
-  colon-all role true (Some id) = styled-all role None (codes ": ") (each-fails is_listed (codes ": ") refl)
-  colon-all role false id = styled-all role None (codes ": ") (each-fails is_listed (codes ": ") refl)
+  colon-all role hidden id = colon-if role (hidden && not (is_set id))
 
   label-all : (hyperlink : Bool) (kind : HeadingKind) (roles : HeadingRoles) (heading : Heading) → EachPlain P (label_form hyperlink kind roles heading)
   label-all hyperlink kind roles heading =

@@ -1,8 +1,7 @@
 -- What stands before a heading's text, and the whole heading.
 use Rattle.std.proofs.Common.{◌≡◌, ℕ, ◌+◌, ◌==◌, Bool, true, false, nat_lt, List, [], ◌∷◌, ◌++◌, Option, None, Some, Result, chars, length, if◌then◌else◌, refl, sym, ap, ◌∙◌, subst, arith}
-use Rattle.std.specs.Borrow.{Bor}
 use Rattle.std.specs.Cow.{cow_str_bytes}
-use Rattle.std.specs.Option.{is_some, option_copied, option_map}
+use Rattle.std.specs.Option.{option_map}
 use Rattle.std.specs.Result.{OnOk}
 use Rattle.std.specs.Str.{IsUtf8}
 use Rattle.std.proofs.lemmas.List.Sums.{sum_by-append}
@@ -15,7 +14,7 @@ use Rattle.snippet_style.specs.declared.role.ElementStyle.{ElementStyle}
 use Rattle.snippet_text.specs.Normalized.{norm}
 use Rattle.snippet_text.specs.Width.{char_width, width_of}
 use Rattle.snippet_text.proofs.NormLemmas.{width_of-norm}
-use Rattle.snippet_titles.specs.Heading.{address_of, colon_of, heading_lines}
+use Rattle.snippet_titles.specs.Heading.{address_of, colon_of, heading_lines, is_set}
 use Rattle.snippet_titles.specs.declared.style.HeadingRoles.{HeadingRoles}
 use Rattle.snippet_titles.proofs.SignLemmas.{chars-colon}
 use Rattle.snippet_text_form.specs.Form.{FormPiece, Break, Styled, bare, styled}
@@ -26,13 +25,12 @@ use Rattle.snippet_text_form.proofs.FormSteps.{begun-chars}
 
 -- ---- the colon
 
-pub colon-named : (role : ElementStyle) (hidden : Bool) (id : Option (Bor Id)) → hidden ≡ false → styled role (chars (58 ∷ 32 ∷ [])) ≡ colon_form role hidden (option_copied id)
+pub colon-named : (role : ElementStyle) (hidden : Bool) (id : Option Id) → hidden ≡ false → styled role (chars (58 ∷ 32 ∷ [])) ≡ colon_form role hidden id
 colon-named role hidden id is = rw is (ap (styled role) chars-colon)
 
-pub colon-set : (role : ElementStyle) (hidden : Bool) (id : Option (Bor Id)) → is_some id ≡ true → styled role (chars (58 ∷ 32 ∷ [])) ≡ colon_form role hidden (option_copied id)
-colon-set role hidden None some = cc
-colon-set role true (Some id) some = ap (styled role) chars-colon
-colon-set role false (Some id) some = ap (styled role) chars-colon
+pub colon-set : (role : ElementStyle) (hidden : Bool) (id : Option Id) → is_set id ≡ true → styled role (chars (58 ∷ 32 ∷ [])) ≡ colon_form role hidden id
+colon-set role true id set = rw set (ap (styled role) chars-colon)
+colon-set role false id set = ap (styled role) chars-colon
 
 -- ---- the id
 

@@ -1,5 +1,5 @@
 -- What a text form links to.
-use Rattle.std.proofs.Common.{◌≡◌, ℕ, Bool, true, false, Option, None, Some, List, [], ◌∷◌, ◌++◌, Global, chars, codes, filter, replicate, if◌then◌else◌, refl, ap, ◌∙◌, arith}
+use Rattle.std.proofs.Common.{◌≡◌, ℕ, ◌&&◌, not, Bool, true, false, Option, None, Some, List, [], ◌∷◌, ◌++◌, Global, chars, codes, filter, replicate, if◌then◌else◌, refl, ap, ◌∙◌, arith}
 use Rattle.std.specs.Cow.{cow_str_bytes}
 use Rattle.std.specs.Fmt.{decimal}
 use Rattle.std.specs.List.{flat_map}
@@ -26,7 +26,7 @@ use Rattle.snippet_suggest.specs.Given as given
 use Rattle.snippet_suggest.specs.Kind.{is_blank}
 use Rattle.snippet_text.specs.Normalized.{norm}
 use Rattle.snippet_text.specs.Width.{width_of}
-use Rattle.snippet_titles.specs.Heading.{address_of, heading_lines}
+use Rattle.snippet_titles.specs.Heading.{address_of, heading_lines, is_set}
 use Rattle.snippet_titles.specs.Title.{id_links, text_links}
 use Rattle.snippet_titles.specs.declared.style.HeadingRoles.{HeadingRoles}
 use Rattle.snippet_text_form.specs.Cause.{cause_form, has_label, named_spans, further_indent, source_of, span_form, span_text, spans_form}
@@ -92,9 +92,11 @@ name-links kind role level = of_hidden (is_hidden level.name) refl
         rw is (links-before (bare (before_name kind)) (styled role (norm (chars (name_of level)))) refl ∙ bare-links (before_name kind))
 
 colon-links : (role : ElementStyle) (hidden : Bool) (id : Option Id) → form_links (colon_form role hidden id) ≡ []
-colon-links role true None = refl
-colon-links role true (Some id) = refl
-colon-links role false id = refl
+colon-links role hidden id = by_case (hidden && not (is_set id))
+  where
+    by_case : (bare : Bool) → form_links (if bare then [] else styled role (codes ": ")) ≡ []
+    by_case true = refl
+    by_case false = refl
 
 label-links : (hyperlink : Bool) (kind : HeadingKind) (roles : HeadingRoles) (heading : Heading) → form_links (label_form hyperlink kind roles heading) ≡ id_links hyperlink heading.id
 label-links hyperlink kind roles heading =

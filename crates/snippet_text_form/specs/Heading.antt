@@ -1,5 +1,5 @@
 -- What a title or a message is in the text form.
-use Rattle.std.specs.Prelude.{ℕ, zero, suc, nat_lt, Bool, ◌&&◌, List, [], ◌∷◌, ◌++◌, Option, None, Some, is_none, chars, codes, length, replicate, if◌then◌else◌}
+use Rattle.std.specs.Prelude.{ℕ, zero, suc, nat_lt, Bool, ◌&&◌, List, [], ◌∷◌, ◌++◌, Option, None, Some, not, chars, codes, length, replicate, if◌then◌else◌}
 use Rattle.std.specs.Cow.{cow_str_bytes}
 use Rattle.std.specs.List.{flat_map}
 use Rattle.std.specs.Option.{option_map}
@@ -59,9 +59,9 @@ id_form hyperlink hidden role None = []
 id_form hyperlink hidden role (Some id) =
     id_text_form hidden role (address_of hyperlink id) (option_map cow_str_bytes id.id)
 
--- the colon before the text: none where the name is hidden and there is no id and no address
+-- the colon before the text: none where the name is hidden and no id is set
 abbrev pub colon_form : ElementStyle → Bool → Option Id → List FormPiece
-colon_form role hidden id = if hidden && is_none id then [] else styled role (codes ": ")
+colon_form role hidden id = if hidden && not (titles.is_set id) then [] else styled role (codes ": ")
 
 -- what stands before the text
 abbrev pub label_form : Bool → HeadingKind → HeadingRoles → Heading → List FormPiece

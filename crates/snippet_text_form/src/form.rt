@@ -45,8 +45,6 @@ pub(crate) struct StyledText<'a> {
 }
 
 /// The text form of a report, before any sheet is known. It is empty at first.
-///
-/// A call that fails for want of memory leaves it as it was.
 #[derive(Drop)]
 pub struct TextForm<'a> {
     parts: Vec<TextPart<'a>>,

@@ -8,7 +8,7 @@ ghost use Rattle.snippet_model.specs.Heading as model;
 ghost use Rattle.snippet_model.specs.Level.{name_of};
 ghost use Rattle.snippet_text.specs.Normalized.{norm};
 ghost use Rattle.snippet_text.specs.Width.{width_of};
-ghost use Rattle.snippet_titles.specs.Heading.{colon_of, heading_lines};
+ghost use Rattle.snippet_titles.specs.Heading.{heading_lines};
 ghost use Rattle.snippet_text_form.specs.Form.{bare};
 ghost use Rattle.snippet_text_form.specs.Heading.{before_line, before_name, colon_form, heading_form, id_form, label_form, label_of_id, label_text, lines_form, name_form};
 ghost use Rattle.snippet_text_form.specs.Heading as spec;
@@ -19,7 +19,7 @@ use snippet_model::level::Level;
 use snippet_model::snippet::Id;
 use snippet_style::{ElementStyle, LevelInner};
 use snippet_text::{CowStr, normalized, str_width};
-use snippet_titles::{HeadingRoles, TitleStyle, address_of, is_hidden};
+use snippet_titles::{HeadingRoles, TitleStyle, address_of, colon, is_hidden, is_set};
 use std::alloc::{AllocError, Global};
 
 /// Whether a heading is a title or a message.
@@ -165,18 +165,10 @@ fn add_colon(
 ) -> Result<(), AllocError>
     ensures added { OnOk result (form.new ≡ form.old ++ colon_form role hidden (option_copied id.entry)) }
 {
-    if hidden && id.is_none() {
+    if hidden && !is_set(id) {
         return Ok(());
     }
     form.add_styled(role, None, CowStr::Borrowed(": "))
-}
-
-/// What stands between the label and the text: nothing where the name is hidden and there is no id.
-fn colon(hidden: bool, id: Option<&Id<'_>>) -> &'static str
-    ensures value { chars result.now ≡ colon_of hidden (option_copied id.entry) }
-    ensures short { length result.now ≤ 2 }
-{
-    if hidden && id.is_none() { "" } else { ": " }
 }
 
 /// The columns of what stands before a heading's text.

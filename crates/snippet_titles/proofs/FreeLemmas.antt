@@ -1,5 +1,5 @@
 -- A heading's rows hold no listed character but those of a trusted text.
-use Rattle.std.proofs.Common.{◌≡◌, ℕ, ◌==◌, ◌+◌, Bool, true, false, List, [], ◌∷◌, ◌++◌, map, replicate, chars, All, Option, None, Some, refl, sym, subst, arith}
+use Rattle.std.proofs.Common.{◌≡◌, ℕ, ◌==◌, ◌+◌, ◌&&◌, if◌then◌else◌, not, codes, Bool, true, false, List, [], ◌∷◌, ◌++◌, map, replicate, chars, All, Option, None, Some, refl, sym, subst, arith}
 use Rattle.std.specs.List.{slice_split, onto_first, list_any, Contains}
 use Rattle.std.proofs.lemmas.List.{get_or_default}
 use Rattle.std.proofs.lemmas.List.Elements.{All-nil, All-cons, All-head, All-tail, All-append, All-from_get_or, All-map, All-replicate, All-weaker}
@@ -20,7 +20,7 @@ use Rattle.snippet_model.specs.Level.{name_of}
 use Rattle.snippet_titles.specs.declared.style.HeadingRoles.{HeadingRoles}
 use Rattle.snippet_titles.specs.declared.style.TitleStyle.{TitleStyle}
 use Rattle.snippet_titles.specs.declared.style.TitleStyle.TheVariants.{Title, Short, Message}
-use Rattle.snippet_titles.specs.Heading.{bracketed_text, closing_of, colon_of, drawn_text, heading_lines, heading_rows, id_text, indent_cells, label_cells, label_text, label_width, lines_below, note_bar_of, note_sign_of, on_top, opening_of, roles_of, sign_cells, trimmed}
+use Rattle.snippet_titles.specs.Heading.{bracketed_text, closing_of, colon_of, drawn_text, heading_lines, heading_rows, id_text, indent_cells, is_set, label_cells, label_text, label_width, lines_below, note_bar_of, note_sign_of, on_top, opening_of, roles_of, sign_cells, trimmed}
 use Rattle.snippet_titles.specs.Shown.{IsFreeButText}
 use Rattle.snippet_titles.proofs.TextLemmas.{row_text-append, row_text-behind, row_text-drawn, row_text-label, row_text-spaces}
 
@@ -84,10 +84,12 @@ module _ (P : ℕ → Type 0) (free : (c : ℕ) → IsFree c → P c) where
   closing-all true = All-nil P
   closing-all false = All-cons P 93 [] (free 93 refl) (All-nil P)
 
+  colon-if : (bare : Bool) → All P (if bare then [] else codes ": ")
+  colon-if true = All-nil P
+  colon-if false = All-cons P 58 (32 ∷ []) (free 58 refl) (All-cons P 32 [] (free 32 refl) (All-nil P))
+
   colon-all : (hidden : Bool) (id : Option Id) → All P (colon_of hidden id)
-  colon-all true None = All-nil P
-  colon-all true (Some id) = All-cons P 58 (32 ∷ []) (free 58 refl) (All-cons P 32 [] (free 32 refl) (All-nil P))
-  colon-all false id = All-cons P 58 (32 ∷ []) (free 58 refl) (All-cons P 32 [] (free 32 refl) (All-nil P))
+  colon-all hidden id = colon-if (hidden && not (is_set id))
 
   text-all : (hidden : Bool) (text : Option (List ℕ)) → All P (bracketed_text hidden text)
   text-all hidden None = All-nil P

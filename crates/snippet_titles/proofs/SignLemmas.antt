@@ -1,10 +1,8 @@
 -- The characters of what stands in a heading's rows beside its texts.
-use Rattle.std.proofs.Common.{◌≡◌, ◌∷◌, [], Bool, true, false, Option, None, Some, codes, chars, refl}
-use Rattle.std.specs.Borrow.{Bor}
-use Rattle.std.specs.Option.{option_copied, is_some}
+use Rattle.std.proofs.Common.{◌≡◌, ◌∷◌, [], Bool, true, false, Option, codes, chars, refl}
 use Rattle.std.proofs.lemmas.Str.{chars-encodes, chars-nil}
 use Rattle.snippet_model.specs.declared.snippet.Id.{Id}
-use Rattle.snippet_titles.specs.Heading.{colon_of}
+use Rattle.snippet_titles.specs.Heading.{colon_of, is_set}
 
 -- what leads to a message
 pub chars-equals : chars (61 ∷ 32 ∷ []) ≡ codes "= "
@@ -33,14 +31,12 @@ unfolding lib.Utf8.encode
 chars-closing = chars-encodes (codes "]") refl
 
 -- what stands between the label and the text, by cases
-pub colon_none : (hidden : Bool) (id : Option (Bor Id)) → hidden ≡ true → is_some id ≡ false → chars [] ≡ colon_of hidden (option_copied id)
-colon_none hidden None is none = rw is chars-nil
-colon_none hidden (Some id) is none = cc
+pub colon_none : (hidden : Bool) (id : Option Id) → hidden ≡ true → is_set id ≡ false → chars [] ≡ colon_of hidden id
+colon_none hidden id is unset = rw (is, unset) chars-nil
 
-pub colon_named : (hidden : Bool) (id : Option (Bor Id)) → hidden ≡ false → chars (58 ∷ 32 ∷ []) ≡ colon_of hidden (option_copied id)
+pub colon_named : (hidden : Bool) (id : Option Id) → hidden ≡ false → chars (58 ∷ 32 ∷ []) ≡ colon_of hidden id
 colon_named hidden id is = rw is chars-colon
 
-pub colon_set : (hidden : Bool) (id : Option (Bor Id)) → is_some id ≡ true → chars (58 ∷ 32 ∷ []) ≡ colon_of hidden (option_copied id)
-colon_set hidden None some = cc
-colon_set true (Some id) some = chars-colon
-colon_set false (Some id) some = chars-colon
+pub colon_set : (hidden : Bool) (id : Option Id) → is_set id ≡ true → chars (58 ∷ 32 ∷ []) ≡ colon_of hidden id
+colon_set true id set = rw set chars-colon
+colon_set false id set = chars-colon

@@ -1,5 +1,5 @@
 -- The rows of a title or message.
-use Rattle.std.specs.Prelude.{ℕ, ◌+◌, ◌==◌, Bool, true, false, ◌&&◌, List, [], ◌∷◌, ◌++◌, Option, None, Some, is_none, chars, map, replicate, codes, if◌then◌else◌}
+use Rattle.std.specs.Prelude.{ℕ, ◌+◌, ◌==◌, Bool, true, false, ◌&&◌, ◌||◌, List, [], ◌∷◌, ◌++◌, Option, None, Some, is_some, not, chars, map, replicate, codes, if◌then◌else◌}
 use Rattle.std.specs.List.{slice_split}
 use Rattle.std.specs.Option.{option_map}
 use Rattle.std.specs.Cow.{cow_str_bytes}
@@ -50,9 +50,14 @@ id_cells hyperlink hidden role None = []
 id_cells hyperlink hidden role (Some id) =
     bracketed_cells hidden role (address_of hyperlink id) (option_map cow_str_bytes id.id)
 
--- what stands between the label and the text: nothing where the level's name is hidden and there is no id
+-- whether an id is set: it has a text or an address
+abbrev pub is_set : Option Id → Bool
+is_set None = false
+is_set (Some id) = is_some id.id || is_some id.url
+
+-- what stands between the label and the text: nothing where the level's name is hidden and no id is set
 abbrev pub colon_of : Bool → Option Id → List ℕ
-colon_of hidden id = if hidden && is_none id then [] else codes ": "
+colon_of hidden id = if hidden && not (is_set id) then [] else codes ": "
 
 -- what stands before a heading's text: the level's name and the id, a colon and a space
 unfoldable pub label_cells : Bool → HeadingRoles → Heading → List Cell

@@ -16,7 +16,7 @@ ghost use Rattle.snippet_text.specs.Normalized.{norm};
 ghost use Rattle.snippet_text.specs.Width.{width_of};
 ghost use Rattle.snippet_model.specs.Level.{name_of};
 
-use crate::id::draw_id;
+use crate::id::{draw_id, is_set};
 use crate::row::{draw_indent, draw_sign, extend_row};
 use crate::style::{HeadingRoles, TitleStyle, roles_of};
 use snippet_model::MessageOrTitle;
@@ -105,12 +105,12 @@ pub fn is_hidden(level: &Level) -> bool
     matches!(level.name, LevelName::Hidden)
 }
 
-/// What stands between the label and the text: nothing where the name is hidden and there is no id.
-fn colon(hidden: bool, id: Option<&Id>) -> &'static str
+/// What stands between the label and the text: nothing where the name is hidden and no id is set.
+pub fn colon(hidden: bool, id: Option<&Id>) -> &'static str
     ensures value { chars result.now ≡ spec.colon_of hidden (option_copied id.entry) }
     ensures short { length result.now ≤ 2 }
 {
-    if hidden && id.is_none() { "" } else { ": " }
+    if hidden && !is_set(id) { "" } else { ": " }
 }
 
 /// The columns of what stands before a heading's text.

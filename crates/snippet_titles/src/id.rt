@@ -81,6 +81,16 @@ pub(crate) fn closing_bracket(hidden: bool) -> &'static str
     if hidden { "" } else { "]" }
 }
 
+/// Whether an id is set: it has a text or an address.
+pub fn is_set(id: Option<&Id>) -> bool
+    ensures value { result ≡ spec.is_set (option_copied id.entry) }
+{
+    match id {
+        Some(id) => id.id.is_some() || id.url.is_some(),
+        None => false,
+    }
+}
+
 /// The address that an id's text links to, where links are on and it has one.
 pub fn address_of<'a>(hyperlink: bool, id: &'a Id<'a>) -> Option<&'a str>
     ensures value { option_copied result ≡ spec.address_of hyperlink id.now }

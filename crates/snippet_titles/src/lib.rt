@@ -12,8 +12,8 @@ pub mod style;
 pub mod title;
 
 pub use head::{draw_nameless_head, draw_opening_head, draw_primary_head, draw_secondary_head};
-pub use heading::{draw_heading, is_hidden};
-pub use id::address_of;
+pub use heading::{colon, draw_heading, is_hidden};
+pub use id::{address_of, is_set};
 pub use origin::{FileStart, OriginLayout, OriginPlace, draw_origin, origin_text};
 pub use padding::{draw_closing, draw_padding, draw_separator};
 pub use short::draw_short;

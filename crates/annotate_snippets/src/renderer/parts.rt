@@ -5,6 +5,6 @@ pub use snippet_parts::{
     Margin, SourceMap, SpanFault, check_span, newline_count,
 };
 pub use snippet_splice::{
-    SplicedLines, SubstitutionHighlight, TrimmedPatch, as_substr, check_patches,
+    LineRange, SplicedLines, SubstitutionHighlight, TrimmedPatch, as_substr, check_patches,
 };
 pub use snippet_style::{ElementStyle, LevelInner, StyledBuffer};

@@ -1,0 +1,61 @@
+//! The constants of levels, the order of kinds, and the spans of markers.
+
+use annotate_snippets::level::{ERROR, HELP, INFO, Level, NOTE, WARNING};
+use annotate_snippets::renderer::parts::LevelInner;
+use annotate_snippets::snippet::Marker;
+use annotate_snippets::{AnnotationKind, Patch};
+use std::cmp::Ordering;
+use std::io;
+
+/// The kinds of levels, with the constants that are of them.
+fn constants() -> [(LevelInner, Level<'static>, Level<'static>); 5] {
+    [
+        (LevelInner::Error, ERROR, Level::ERROR),
+        (LevelInner::Warning, WARNING, Level::WARNING),
+        (LevelInner::Info, INFO, Level::INFO),
+        (LevelInner::Note, NOTE, Level::NOTE),
+        (LevelInner::Help, HELP, Level::HELP),
+    ]
+}
+
+/// The kinds of annotations, in their order.
+const KINDS: [AnnotationKind; 3] = [
+    AnnotationKind::Primary,
+    AnnotationKind::Context,
+    AnnotationKind::Visible,
+];
+
+/// Prints what the constants of levels are, how kinds of annotations compare, and the bytes of markers.
+pub fn print(rt: &(impl Print + AllocGlobal)) -> io::Result<()> {
+    println!(rt; "== the name of each kind's level, and whether the constants are that level")?;
+    for (kind, constant, own) in &constants() {
+        let level = Level::standard(*kind);
+        let (one, two) = (level == *constant, level == *own);
+        println!(rt; "{} {one} {two}", level.as_str())?;
+    }
+    println!(rt; "== how each kind of annotation compares with each")?;
+    for kind in KINDS {
+        let mut signs = String::new(rt.alloc());
+        for other in KINDS {
+            signs.push(sign(kind, other))?;
+        }
+        println!(rt; "{signs} {kind:?}")?;
+    }
+    println!(rt; "== the bytes that markers mark")?;
+    print_span(rt, &AnnotationKind::Primary.span(4..5))?;
+    print_span(rt, &Patch::new(1..2, "x"))
+}
+
+/// How two kinds compare.
+fn sign(left: AnnotationKind, right: AnnotationKind) -> char {
+    match left.cmp(&right) {
+        Ordering::Less => '<',
+        Ordering::Equal => '=',
+        Ordering::Greater => '>',
+    }
+}
+
+/// Prints the bytes that a marker marks.
+fn print_span<M: Marker>(rt: &impl Print, marker: &M) -> io::Result<()> {
+    println!(rt; "{:?}", marker.span())
+}
