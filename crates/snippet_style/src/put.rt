@@ -2,7 +2,7 @@
 //!
 //! A put takes only the runs that the new one touches: what the first of them holds before it, and the last after it,
 //! stays. All other runs keep their places.
-ghost use Rattle.std.specs.Prelude.{◌≡◌, ◌+◌, ◌<◌, ◌≤◌, ◌^◌, ◌++◌, ℕ, List, [], true, false, length, take, drop, All, OnOk, OnErr, string_bytes, option_to_list};
+ghost use Rattle.std.specs.Prelude.{◌≡◌, ◌+◌, ◌-◌, ◌<◌, ◌≤◌, ◌^◌, ◌++◌, ℕ, List, [], true, false, length, take, drop, All, OnOk, OnErr, string_bytes, option_to_list};
 ghost use Rattle.snippet_style.specs.Runs.{IsRun, BeginsWith, Precedes, Differ, IsClear, ReachesTo, Touches, IsTouched, IsFront, IsBack, ArePieces, IsPut};
 ghost use Rattle.snippet_style.specs.declared.runs.Run.{Run};
 ghost use Rattle.std.specs.List.{AllPairs, slice_index_or};
@@ -110,7 +110,26 @@ fn add_pieces<'a>(
     Ok(())
 }
 
-/// Puts runs in place of those from `start` to before `end`. They are found after these when it is done.
+/// Puts one more run than there are in place of those from `start` to before `end`. Those after them move once.
+fn insert_one<'a>(
+    runs: &mut Vec<Run<'a>>,
+    start: usize,
+    end: usize,
+    fresh: &[Run<'a>],
+) -> Result<(), AllocError>
+    requires ordered { start ≤ end }
+    requires within { end ≤ length runs.old.items }
+    requires one_more { length fresh.now ≡ end - start + 1 }
+    ensures ok { OnOk result (runs.new.items ≡ take start runs.old.items ++ fresh.now ++ drop end runs.old.items) }
+    ensures err { OnErr result (runs.new.items ≡ runs.old.items) }
+{
+    let count = end - start;
+    runs.insert(end, fresh[count])?;
+    runs[start..end].copy_from_slice(&fresh[..count]);
+    Ok(())
+}
+
+/// Puts runs in place of those from `start` to before `end`. What is left in `fresh` means nothing.
 pub(crate) fn exchange<'a>(
     runs: &mut Vec<Run<'a>>,
     start: usize,
@@ -122,8 +141,13 @@ pub(crate) fn exchange<'a>(
     ensures ok { OnOk result (runs.new.items ≡ take start runs.old.items ++ fresh.old.items ++ drop end runs.old.items) }
     ensures err { OnErr result (runs.new.items ≡ runs.old.items) }
 {
-    if fresh.len() == end - start {
+    let (old, new) = (end - start, fresh.len());
+    if new == old {
         runs[start..end].copy_from_slice(fresh);
+        return Ok(());
+    }
+    if new == old + 1 {
+        insert_one(runs, start, end, fresh)?;
         return Ok(());
     }
     fresh.extend_from_slice(&runs[end..])?;
