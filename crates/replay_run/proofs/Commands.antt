@@ -1,12 +1,13 @@
 -- Words ask for one command at most.
-use Rattle.std.proofs.Common.{◌≡◌, true, false, List, ◌∷◌, ◌++◌, refl, sym, ap, ◌∙◌, subst}
+use Rattle.std.proofs.lemmas.List.{length-map}
+use Rattle.std.proofs.Common.{ℕ, length, Bor, ◌≡◌, true, false, List, ◌∷◌, ◌++◌, refl, sym, ap, ◌∙◌, subst}
 use Rattle.std.specs.Prelude.{codes, bytes_eq}
 use Rattle.std.proofs.lemmas.Bool.{false≢true}
 use Rattle.std.proofs.lemmas.List.Elements.{All-head}
 use Rattle.replay_run.specs.declared.command.Command.{Command}
 use Rattle.replay_run.specs.declared.command.Command.TheVariants.{Answer, Check, Repeat}
 use Rattle.replay_run.specs.declared.lines.Form.TheVariants.{Json, Texts}
-use Rattle.replay_run.specs.Words.{Word, words_at, IsOption, AreFiles, ArePairs, IsNumber, Asks}
+use Rattle.replay_run.specs.Words.{Word, words_at, IsOption, AreFiles, ArePairs, IsNumber, Asks, IfComparison}
 
 -- lists that begin with two words that a test tells apart
 apart : (a b : Word) (xs ys : List Word) → bytes_eq a b ≡ false → bytes_eq b b ≡ true → a ∷ xs ≡ b ∷ ys → ⊥
@@ -46,3 +47,14 @@ asks_repeat ws (Check files) h =
     absurd (apart (codes "--repeat") (codes "--check") ws (words_at files.now) refl refl h.0)
 asks_repeat ws (Repeat times files) h =
     (h.0, words_at files.now, cc h.1, h.3, h.2)
+
+-- what is known of the number of files that are compared, by the words
+pub files_compared : (ws : List Word) (c : Command) (P : ℕ → Type 0) → Asks (codes "--check" ∷ ws) c → IfComparison c P → P (length ws)
+files_compared ws (Answer Json files) P h known = absurd (no_file (codes "check") ws h.1)
+files_compared ws (Answer Texts files) P h known =
+    absurd (apart (codes "--check") (codes "--text") ws (words_at files.now) refl refl h.0)
+files_compared ws (Check files) P h known =
+    let rest : ws ≡ words_at files.now = cc h.0 in
+    subst P (sym (ap length rest ∙ length-map files.now (λ (w : Bor Word). w.now))) known
+files_compared ws (Repeat times files) P h known =
+    absurd (apart (codes "--check") (codes "--repeat") ws (h.0 ∷ words_at files.now) refl refl h.1)

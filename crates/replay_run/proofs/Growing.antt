@@ -1,6 +1,7 @@
 -- A writer that grows twice has grown.
 use Rattle.std.proofs.Common.{ℕ, List, [], ◌++◌, Option, Some, None, ap, sym, ◌∙◌, append_assoc}
-use Rattle.std.specs.Io.KnownBytes.{Keeps}
+use Rattle.std.specs.Prelude.{IsOkAnd, Result, Ok, Err}
+use Rattle.std.specs.Io.KnownBytes.{Appends, Keeps}
 use Rattle.std.proofs.lemmas.List.{append-nil}
 use Rattle.replay_run.specs.Growth.{Grows}
 
@@ -16,3 +17,30 @@ pub grows_kept : (a b : Option (List ℕ)) → Keeps a b → Grows a b
 grows_kept None b kept = ([], tt)
 grows_kept (Some x) None kept = absurd kept
 grows_kept (Some x) (Some y) kept = ([], kept ∙ sym (append-nil x))
+
+-- a text that is added makes it grow
+pub grows_appended : (a b : Option (List ℕ)) (text : List ℕ) → Appends a b text → Grows a b
+grows_appended a b text appends = (text, appends)
+
+-- nothing added, and one text behind another
+pub appends_none : (a : Option (List ℕ)) → Appends a a []
+appends_none None = tt
+appends_none (Some x) = sym (append-nil x)
+
+pub appends_twice : (a b c : Option (List ℕ)) (first then : List ℕ) → Appends a b first → Appends b c then → Appends a c (first ++ then)
+appends_twice None b c first then one two = tt
+appends_twice (Some x) None c first then one two = absurd one
+appends_twice (Some x) (Some y) None first then one two = absurd two
+appends_twice (Some x) (Some y) (Some z) first then one two =
+    two ∙ ap (λ (l : List ℕ). l ++ then) one ∙ append_assoc x first then
+
+pub appends_kept : (a b c : Option (List ℕ)) (text : List ℕ) → Appends a b text → Keeps b c → Appends a c text
+appends_kept None b c text one kept = tt
+appends_kept (Some x) None c text one kept = absurd one
+appends_kept (Some x) (Some y) None text one kept = absurd kept
+appends_kept (Some x) (Some y) (Some z) text one kept = kept ∙ one
+
+-- so does a text that is added for a line
+pub grows_ok : {T E : Type 0} (r : Result T E) (P : T → List ℕ → Type 0) (a b : Option (List ℕ)) → IsOkAnd r (λ line. (text : List ℕ) × P line text × Appends a b text) → Grows a b
+grows_ok (Ok line) P a b h = (h.0, h.2)
+grows_ok (Err e) P a b h = absurd h

@@ -1,2 +1,6 @@
+pub mod Answering
 pub mod Commands
+pub mod Ending
 pub mod Growing
+pub mod Judging
+pub mod Listing

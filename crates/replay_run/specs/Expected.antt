@@ -1,6 +1,9 @@
 -- When a case became what is expected of it.
-use Rattle.std.specs.Prelude.{◌≡◌, ℕ, List, map, string_bytes}
+use Rattle.std.specs.Prelude.{◌≡◌, ℕ, List, Some, codes, map, string_bytes}
 use Rattle.std.specs.Cow.{cow_str_bytes}
+use Rattle.serde_json.specs.Data.{Data}
+use Rattle.serde_json.specs.Find.{as_str}
+use Rattle.replay_run.specs.Field.{ListSays, SaysAt, text_at}
 use Rattle.replay_run.specs.declared.expected.Expected.{Expected}
 use Rattle.replay_run.specs.declared.expected.Wanted.{Wanted}
 use Rattle.replay_run.specs.declared.expected.Wanted.TheVariants as wanted
@@ -19,3 +22,15 @@ IsWanted (wanted.Refused name words) (outcome.Refused drawn_name drawn_words) =
 -- the case of this name became what is expected: of this very case, and the wanted outcome
 abbrev pub IsMet : Expected → List ℕ → Outcome → Type 0
 IsMet expected id became = (expected.id.now ≡ id) × IsWanted expected.wanted became
+
+-- what a line of JSON expects: texts, or a refusal by its name and words
+abbrev pub IsWantedOf : Data → Wanted → Type 0
+IsWantedOf d (wanted.Texts texts) =
+    SaysAt (ListSays (λ e text. as_str e ≡ Some (cow_str_bytes text))) (codes "ok") d texts.items
+IsWantedOf d (wanted.Refused name words) =
+    (text_at (codes "refused") d ≡ Some (cow_str_bytes name)) × (text_at (codes "text") d ≡ Some (cow_str_bytes words))
+
+-- what a line of JSON expects, and of which case
+pub record IsExpectedOf (d : Data) (expected : Expected) : Type 0 where
+  pub id : text_at (codes "id") d ≡ Some expected.id.now
+  pub wanted : IsWantedOf d expected.wanted

@@ -50,6 +50,12 @@ IsComparison (Answer form files) = ⊥
 IsComparison (Check files) = Unit {0}
 IsComparison (Repeat times files) = ⊥
 
+-- P holds of the number of the files that the command compares, if it does
+abbrev pub IfComparison : Command → (ℕ → Type 0) → Type 0
+IfComparison (Answer form files) P = Unit {0}
+IfComparison (Check files) P = P (length files.now)
+IfComparison (Repeat times files) P = Unit {0}
+
 -- the words ask for a comparison
 abbrev pub Compares : List Word → Type 0
 Compares words = (command : Command) × Asks words command × IsComparison command

@@ -1,24 +1,35 @@
 //! Cases and what is expected of them, side by side.
 
-ghost use Rattle.std.specs.Prelude.{◌≡◌, ◌+◌, ◌^◌, ◌<◌, ◌↔◌, if◌then◌else◌, true, IsTrue, IfOk};
-ghost use Rattle.replay_run.specs.Expected.{IsMet};
+ghost use Rattle.std.specs.Prelude.{◌≡◌, ◌+◌, ◌^◌, ◌<◌, ◌↔◌, if◌then◌else◌, min, true, Some, IsTrue, IfOk, IsOkAnd, OnOk, string_bytes};
+ghost use Rattle.serde_json.specs.Read.{read};
+ghost use Rattle.serde_json.specs.View.{view};
+ghost use Rattle.replay_run.specs.Expected.{IsExpectedOf, IsMet};
+ghost use Rattle.replay_run.specs.Growth.{Grows};
+ghost use Rattle.replay_run.specs.Judged.{CountsLines, JudgesCase, JudgesLine, most};
 
 use crate::expected::{Expected, expected_of, write_wanted};
-use crate::lines::{case_value, numbered_case, value_of, write_outcome};
+use crate::lines::{case_value, numbered_case, value_of, write_line, write_outcome};
 use crate::outcome::{Outcome, outcome_of};
 use crate::trouble::Trouble;
+use serde_json::Value;
 use std::alloc::Global;
 use std::io;
 use std::io::{BufRead, Write};
 
 /// How many cases became what is expected, and how many didn't.
-#[derive(Clone, Copy, Default)]
+#[derive(Clone, Copy)]
 pub struct Counts {
     pub passed: u64,
     pub failed: u64,
 }
 
 impl Counts {
+    /// No case.
+    pub const NONE: Counts = Counts {
+        passed: 0,
+        failed: 0,
+    };
+
     /// The counts with one case more.
     pub fn with(self, passes: bool) -> Counts
         requires room { self.passed + self.failed + 1 < 2 ^ 64 }
@@ -40,9 +51,8 @@ impl Counts {
 
     /// The counts of both together, as far as they can be told.
     pub fn plus(self, more: Counts) -> Counts
-        ensures passed { self.passed + more.passed < 2 ^ 64 → result.passed ≡ self.passed + more.passed }
-        ensures failed { self.failed + more.failed < 2 ^ 64 → result.failed ≡ self.failed + more.failed }
-        ensures fault_stays { result.failed ≡ 0 → (self.failed ≡ 0) × (more.failed ≡ 0) }
+        ensures passed { result.passed ≡ min (self.passed + more.passed) most }
+        ensures failed { result.failed ≡ min (self.failed + more.failed) most }
     {
         Counts {
             passed: self.passed.saturating_add(more.passed),
@@ -58,13 +68,17 @@ pub fn check_lines<B: BufRead + Drop, C: BufRead + Drop, W: Write>(
     expected: B,
     cases: C,
     out: &mut W,
-) -> Result<Counts, Trouble> {
+) -> Result<Counts, Trouble>
+    ensures counts { IfOk result (CountsLines (B.remaining expected) (C.remaining cases)) }
+    ensures added { OnOk result (Grows (W.contents out.old) (W.contents out.new)) }
+    ensures silent { IfOk result (λ counts. counts.failed ≡ 0 → out.new ≡ out.old) }
+{
     let mut answers = expected.lines(alloc);
     let mut lines = cases.lines(alloc);
-    let mut counts = Counts::default();
+    let mut counts = Counts::NONE;
     for number in 1..u64::MAX {
         match (answers.next(), lines.next()) {
-            (None, None) => break,
+            (None, None) => return Ok(counts),
             (Some(answer), Some(line)) => {
                 let passes = check_line(alloc, number, answer, line, out)?;
                 counts = counts.with(passes);
@@ -72,7 +86,7 @@ pub fn check_lines<B: BufRead + Drop, C: BufRead + Drop, W: Write>(
             _ => return Err(Trouble::Unpaired(number)),
         }
     }
-    Ok(counts)
+    Err(Trouble::TooManyLines)
 }
 
 /// Whether a case became what is expected; if not, it is written.
@@ -82,10 +96,34 @@ fn check_line<W: Write>(
     answer: io::Result<String>,
     line: io::Result<String>,
     out: &mut W,
-) -> Result<bool, Trouble> {
-    let answer = value_of(alloc, answer).map_err(|unread| unread.of_answer(number))?;
-    let expected = expected_of(alloc, &answer).map_err(|fault| Trouble::Expected(number, fault))?;
-    judge_line(alloc, number, &expected, line, out)
+) -> Result<bool, Trouble>
+    ensures judges { IfOk result (λ passes. IsOkAnd answer (λ answer. IsOkAnd line (λ line.
+        JudgesLine (string_bytes answer) (string_bytes line) passes))) }
+    ensures added { OnOk result (Grows (W.contents out.old) (W.contents out.new)) }
+    ensures silent { IfOk result (λ passes. passes ≡ true → out.new ≡ out.old) }
+{
+    let value = answer_value(alloc, answer, number)?;
+    let expected = numbered_answer(alloc, &value, number)?;
+    let passes = judge_line(alloc, number, &expected, line, out)?;
+    Ok(passes)
+}
+
+/// What the line of this number holds, which is to say what is expected.
+fn answer_value(alloc: Global, line: io::Result<String>, number: u64) -> Result<Value, Trouble>
+    ensures value { IfOk result (λ value. IsOkAnd line (λ line. read (string_bytes line) ≡ Some (view value))) }
+{
+    value_of(alloc, line).map_err(|unread| unread.of_answer(number))
+}
+
+/// What the line of this number says is expected.
+fn numbered_answer<'v>(
+    alloc: Global,
+    value: &'v Value,
+    number: u64,
+) -> Result<Expected<'v>, Trouble>
+    ensures value { IfOk result (IsExpectedOf (view value.now)) }
+{
+    expected_of(alloc, value).map_err(|fault| Trouble::Expected(number, fault))
 }
 
 /// Whether the case of a line became what is expected; if not, it is written.
@@ -95,41 +133,52 @@ fn judge_line<W: Write>(
     expected: &Expected<'_>,
     line: io::Result<String>,
     out: &mut W,
-) -> Result<bool, Trouble> {
+) -> Result<bool, Trouble>
+    ensures judges { IfOk result (λ passes. IsOkAnd line (λ line. JudgesCase expected.now (string_bytes line) passes)) }
+    ensures added { OnOk result (Grows (W.contents out.old) (W.contents out.new)) }
+    ensures silent { IfOk result (λ passes. passes ≡ true → out.new ≡ out.old) }
+{
     let value = case_value(alloc, line, number)?;
     let case = numbered_case(alloc, &value, number)?;
     let outcome = outcome_of(alloc, &case)?;
-    judge_case(expected, case.id, &outcome, out)
+    let passes = judge_case(alloc, expected, case.id, &outcome, out)?;
+    Ok(passes)
 }
 
 /// Whether the case of this name became what is expected; if not, it is written.
 pub fn judge_case<W: Write>(
+    alloc: Global,
     expected: &Expected<'_>,
     id: &str,
     outcome: &Outcome,
     out: &mut W,
 ) -> Result<bool, Trouble>
     ensures passes { IfOk result (λ passes. IsTrue passes ↔ IsMet expected.now id.now outcome.now) }
+    ensures added { OnOk result (Grows (W.contents out.old) (W.contents out.new)) }
     ensures silent { IfOk result (λ passes. passes ≡ true → out.new ≡ out.old) }
 {
     if expected.is_met_by(id, outcome) {
         return Ok(true);
     }
-    write_difference(id, expected, outcome, out).map_err(|error| Trouble::Write(error))?;
+    let name = expected.id;
+    let head = format!(in alloc; "{id:?} differs\nexpected of {name:?}:")?;
+    write_difference(head.as_str(), expected, outcome, out).map_err(Trouble::Write)?;
     Ok(false)
 }
 
-/// Writes what was expected and what became of the case.
+/// Writes this head, what was expected, and what became of the case.
 fn write_difference<W: Write>(
-    id: &str,
+    head: &str,
     expected: &Expected<'_>,
     outcome: &Outcome,
     out: &mut W,
-) -> io::Result<()> {
-    let name = expected.id;
-    out.writeln(format_args!("{id:?} differs\nexpected of {name:?}:"))?;
+) -> io::Result<()>
+    ensures added { OnOk result (Grows (W.contents out.old) (W.contents out.new)) }
+{
+    write_line(head, out)?;
     write_wanted(&expected.wanted, out)?;
-    out.writeln("answered:")?;
+    write_line("answered:", out)?;
     write_outcome(outcome, out)?;
-    out.writeln("")
+    write_line("", out)?;
+    Ok(())
 }

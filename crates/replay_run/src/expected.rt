@@ -1,13 +1,16 @@
 //! What is expected of a case, as a line of JSON says it.
 
-ghost use Rattle.std.specs.Prelude.{◌≡◌, ◌↔◌, IsTrue, map, string_bytes};
+ghost use Rattle.std.specs.Prelude.{◌≡◌, ◌↔◌, IsTrue, IfOk, OnOk, map, string_bytes};
 ghost use Rattle.std.specs.Cow.{cow_str_bytes};
-ghost use Rattle.replay_run.specs.Expected.{IsMet, IsWanted};
+ghost use Rattle.serde_json.specs.View.{view};
+ghost use Rattle.replay_run.specs.Expected.{IsExpectedOf, IsMet, IsWanted, IsWantedOf};
+ghost use Rattle.replay_run.specs.Growth.{Grows};
 
 use crate::fault::{Fault, Place};
-use crate::node::{Node, Read};
+use crate::lines::write_line;
+use crate::node::Node;
 use crate::outcome::Outcome;
-use crate::shape::Shape;
+use crate::shape::{Expectation, Shape};
 use annotate_snippets::text::CowStr;
 use serde_json::Value;
 use std::alloc::Global;
@@ -32,27 +35,30 @@ pub enum Wanted<'v> {
 }
 
 /// The answer that a line expects.
-pub fn expected_of<'v>(alloc: Global, line: &'v Value) -> Result<Expected<'v>, Fault> {
-    let place = Place::Line;
+pub fn expected_of<'v>(alloc: Global, line: &'v Value) -> Result<Expected<'v>, Fault>
+    ensures value { IfOk result (IsExpectedOf (view line.now)) }
+{
     let answer = Node {
         alloc,
         value: line,
-        place: &place,
+        place: Place::Line,
     };
     Ok(Expected {
-        id: answer.needed("id")?,
-        wanted: wanted_of(answer)?,
+        id: answer.needed("id", Expectation::Text)?.as_text()?,
+        wanted: wanted_of(&answer)?,
     })
 }
 
 /// What the answer's other fields want.
-fn wanted_of<'v>(answer: Node<'v, '_>) -> Result<Wanted<'v>, Fault> {
-    if let Some(name) = answer.optional("refused")? {
+fn wanted_of<'v>(answer: &Node<'v, '_>) -> Result<Wanted<'v>, Fault>
+    ensures value { IfOk result (IsWantedOf (view answer.now.value.now)) }
+{
+    if let Some(name) = answer.optional_text("refused")? {
         answer.has_only(Shape::Refusal)?;
-        return Ok(Wanted::Refused(name, answer.needed("text")?));
+        return Ok(Wanted::Refused(name, answer.text("text")?));
     }
     answer.has_only(Shape::Texts)?;
-    Ok(Wanted::Texts(answer.needed("ok")?))
+    Ok(Wanted::Texts(answer.list("ok")?))
 }
 
 impl Expected<'_> {
@@ -105,14 +111,16 @@ fn is_text(wanted: &CowStr<'_>, text: &String) -> bool
 }
 
 /// Writes each text, or what the refusal prints.
-pub fn write_wanted<W: Write>(wanted: &Wanted<'_>, out: &mut W) -> io::Result<()> {
+pub fn write_wanted<W: Write>(wanted: &Wanted<'_>, out: &mut W) -> io::Result<()>
+    ensures added { OnOk result (Grows (W.contents out.old) (W.contents out.new)) }
+{
     match wanted {
         Wanted::Texts(texts) => {
             for text in texts {
-                out.writeln(text.as_str())?;
+                write_line(text.as_str(), out)?;
             }
-            Ok(())
         }
-        Wanted::Refused(_, text) => out.writeln(text.as_str()),
+        Wanted::Refused(_, text) => write_line(text.as_str(), out)?,
     }
+    Ok(())
 }

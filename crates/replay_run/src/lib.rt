@@ -4,6 +4,7 @@
 pub mod case;
 pub mod check;
 pub mod command;
+pub mod effect;
 pub mod expected;
 pub mod fault;
 pub mod lines;

@@ -1,9 +1,17 @@
 //! Lines of cases, answered one after another. Nothing of a line is kept behind it.
 
-ghost use Rattle.std.specs.Prelude.{[], ◌∷◌, ◌++◌, OnOk, IfOk};
+ghost use Rattle.std.specs.Prelude.{◌≡◌, ℕ, List, [], ◌++◌, Some, OnOk, IfOk, IsOkAnd, if◌then◌else◌, string_bytes};
 ghost use Rattle.std.specs.Io.KnownBytes.{Appends};
 ghost use Rattle.annotate_snippets.specs.Fits.{ReportFits};
+ghost use Rattle.serde_json.specs.Read.{read};
+ghost use Rattle.serde_json.specs.View.{view};
+ghost use Rattle.serde_json.specs.Written.{compact_text};
+ghost use Rattle.replay_run.specs.Answer as spec;
+ghost use Rattle.replay_run.specs.Answer.{AnswersLine, answer_text, line_of, outcome_text};
 ghost use Rattle.replay_run.specs.Growth.{Grows};
+ghost use Rattle.replay_run.specs.Outcome.{IsOutcomeOf};
+ghost use Rattle.replay_run.specs.Report.{IsCaseOf};
+ghost use Rattle.replay_run.specs.declared.outcome.Outcome.{Outcome};
 
 use crate::case::Case;
 use crate::fault::Fault;
@@ -11,7 +19,7 @@ use crate::outcome::{Outcome, answer_of, outcome_of};
 use crate::read::case_of;
 use crate::trouble::{Trouble, Unread};
 use serde_json::Value;
-use std::alloc::Global;
+use std::alloc::{AllocError, Global};
 use std::io;
 use std::io::{BufRead, Write};
 
@@ -53,27 +61,35 @@ fn answer_line<W: Write>(
     is_first: bool,
     out: &mut W,
 ) -> Result<(), Trouble>
-    ensures added { OnOk result (Grows (W.contents out.old) (W.contents out.new)) }
+    ensures answers { OnOk result (IsOkAnd line (λ line. (text : List ℕ)
+        × AnswersLine form is_first (string_bytes line) text
+        × Appends (W.contents out.old) (W.contents out.new) text)) }
 {
     let value = case_value(alloc, line, number)?;
     let case = numbered_case(alloc, &value, number)?;
-    write_answer(alloc, &case, form, is_first, out)
+    write_answer(alloc, &case, form, is_first, out)?;
+    Ok(())
 }
 
 /// What the line of this number holds, which is to describe a case.
-pub fn case_value(alloc: Global, line: io::Result<String>, number: u64) -> Result<Value, Trouble> {
+pub fn case_value(alloc: Global, line: io::Result<String>, number: u64) -> Result<Value, Trouble>
+    ensures value { IfOk result (λ value. IsOkAnd line (λ line. read (string_bytes line) ≡ Some (view value))) }
+{
     value_of(alloc, line).map_err(|unread| unread.of_case(number))
 }
 
 /// The case that the line of this number describes.
 pub fn numbered_case<'v>(alloc: Global, value: &'v Value, number: u64) -> Result<Case<'v>, Trouble>
+    ensures value { IfOk result (IsCaseOf (view value.now)) }
     ensures fits { IfOk result (λ case. ReportFits case.groups.items) }
 {
     case_of(alloc, value).map_err(|fault| Trouble::Case(number, fault))
 }
 
 /// What a line holds.
-pub fn value_of(alloc: Global, line: io::Result<String>) -> Result<Value, Unread> {
+pub fn value_of(alloc: Global, line: io::Result<String>) -> Result<Value, Unread>
+    ensures value { IfOk result (λ value. IsOkAnd line (λ line. read (string_bytes line) ≡ Some (view value))) }
+{
     match line {
         Ok(line) => json_of(alloc, line.as_str()).map_err(Unread::Fault),
         Err(error) if error.kind() == io::ErrorKind::InvalidData => {
@@ -84,7 +100,9 @@ pub fn value_of(alloc: Global, line: io::Result<String>) -> Result<Value, Unread
 }
 
 /// The value that a line writes.
-fn json_of(alloc: Global, line: &str) -> Result<Value, Fault> {
+fn json_of(alloc: Global, line: &str) -> Result<Value, Fault>
+    ensures value { IfOk result (λ value. read line.now ≡ Some (view value)) }
+{
     Value::from_str(alloc, line).map_err(Fault::NoJson)
 }
 
@@ -97,22 +115,53 @@ fn write_answer<W: Write>(
     out: &mut W,
 ) -> Result<(), Trouble>
     requires fits { ReportFits case.now.groups.items }
-    ensures added { OnOk result (Grows (W.contents out.old) (W.contents out.new)) }
+    ensures answer { OnOk result ((outcome : Outcome) × IsOutcomeOf case.now outcome
+        × Appends (W.contents out.old) (W.contents out.new) (answer_text form is_first case.now.id.now outcome)) }
 {
     let outcome = outcome_of(alloc, case)?;
-    let written = match form {
-        Form::Json => {
-            let line = answer_of(alloc, case.id, outcome)?.to_string(alloc)?;
-            write_line(line.as_str(), out)
-        }
-        Form::Texts => write_report(&outcome, is_first, out),
-    };
-    written.map_err(Trouble::Write)
+    if let Form::Texts = form {
+        write_report(outcome, is_first, out)?;
+        return Ok(());
+    }
+    write_json(alloc, case.id, outcome, out)?;
+    Ok(())
+}
+
+/// Writes the answer to the case of this name as a line of JSON.
+fn write_json<W: Write>(
+    alloc: Global,
+    id: &str,
+    outcome: Outcome,
+    out: &mut W,
+) -> Result<(), Trouble>
+    ensures line { OnOk result (Appends (W.contents out.old) (W.contents out.new)
+        (line_of (compact_text (spec.answer_of id.now outcome)))) }
+{
+    let line = json_line(alloc, id, outcome)?;
+    write_line(line.as_str(), out).map_err(Trouble::Write)
+}
+
+/// The answer to the case of this name, as JSON without a line feed.
+fn json_line(alloc: Global, id: &str, outcome: Outcome) -> Result<String, AllocError>
+    ensures line { IfOk result (λ line. string_bytes line ≡ compact_text (spec.answer_of id.now outcome)) }
+{
+    let answer = answer_of(alloc, id, outcome)?;
+    let line = answer.to_string(alloc)?;
+    Ok(line)
 }
 
 /// Writes the texts of a report, behind a blank line if they aren't the first.
-fn write_report<W: Write>(outcome: &Outcome, is_first: bool, out: &mut W) -> io::Result<()>
-    ensures added { OnOk result (Grows (W.contents out.old) (W.contents out.new)) }
+fn write_report<W: Write>(outcome: Outcome, is_first: bool, out: &mut W) -> Result<(), Trouble>
+    ensures text { OnOk result (Appends (W.contents out.old) (W.contents out.new)
+        ((if is_first then [] else line_of []) ++ outcome_text outcome)) }
+{
+    write_texts(&outcome, is_first, out).map_err(Trouble::Write)
+}
+
+/// The same, of texts that stay.
+fn write_texts<W: Write>(outcome: &Outcome, is_first: bool, out: &mut W) -> io::Result<()>
+    ensures text { OnOk result (Appends (W.contents out.old) (W.contents out.new)
+        ((if is_first then [] else line_of []) ++ outcome_text outcome.now)) }
 {
     write_gap(is_first, out)?;
     write_outcome(outcome, out)?;
@@ -121,7 +170,7 @@ fn write_report<W: Write>(outcome: &Outcome, is_first: bool, out: &mut W) -> io:
 
 /// Writes a blank line, but not before the first report.
 fn write_gap<W: Write>(is_first: bool, out: &mut W) -> io::Result<()>
-    ensures added { OnOk result (Grows (W.contents out.old) (W.contents out.new)) }
+    ensures gap { OnOk result (Appends (W.contents out.old) (W.contents out.new) (if is_first then [] else line_of [])) }
 {
     if is_first {
         Ok(())
@@ -131,16 +180,15 @@ fn write_gap<W: Write>(is_first: bool, out: &mut W) -> io::Result<()>
 }
 
 /// Writes a line.
-fn write_line<W: Write>(line: &str, out: &mut W) -> io::Result<()>
-    ensures added { OnOk result (Grows (W.contents out.old) (W.contents out.new)) }
-    ensures line { OnOk result (Appends (W.contents out.old) (W.contents out.new) (line.now ++ 10 ∷ [])) }
+pub fn write_line<W: Write>(line: &str, out: &mut W) -> io::Result<()>
+    ensures line { OnOk result (Appends (W.contents out.old) (W.contents out.new) (line_of line.now)) }
 {
     out.writeln(line)
 }
 
 /// Writes each text, or what the refusal prints.
 pub fn write_outcome<W: Write>(outcome: &Outcome, out: &mut W) -> io::Result<()>
-    ensures added { OnOk result (Grows (W.contents out.old) (W.contents out.new)) }
+    ensures text { OnOk result (Appends (W.contents out.old) (W.contents out.new) (outcome_text outcome.now)) }
 {
     match outcome {
         Outcome::Texts(texts) => {

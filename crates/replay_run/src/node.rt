@@ -1,12 +1,16 @@
-//! Values of JSON, where they stand, and what they are read as.
+//! Values of JSON, where they stand, and what is read of them.
 
-ghost use Rattle.std.specs.Prelude.{◌≡◌, ◌⊎◌, IfOk, IfSome, MatchOption, Some, None};
+ghost use Rattle.std.specs.Prelude.{◌≡◌, Some, IfOk, IfSome, All, option_map, unwrap_or};
+ghost use Rattle.std.specs.Cow.{cow_str_bytes};
+ghost use Rattle.annotate_snippets.specs.Fits.{TextFits};
 ghost use Rattle.serde_json.specs.Data.{Data};
-ghost use Rattle.serde_json.specs.Find.{get};
+ghost use Rattle.serde_json.specs.Find.{as_bool, as_str, get};
 ghost use Rattle.serde_json.specs.View.{view};
+ghost use Rattle.replay_run.specs.Field.{SaysAt, ListSays, as_whole, flag_at, number_at, text_at};
 
 use crate::fault::{Fault, Place};
 use crate::shape::{Expectation, Shape};
+use annotate_snippets::text::{CowStr, text_fits};
 use serde_json::Value;
 use std::alloc::Global;
 
@@ -15,90 +19,99 @@ use std::alloc::Global;
 pub struct Node<'v, 'p> {
     pub alloc: Global,
     pub value: &'v Value,
-    pub place: &'p Place<'p>,
+    pub place: Place<'p>,
 }
 
-/// What a value of JSON may be read as.
+/// What an item of a list may be read as.
 pub trait Read<'v> {
-    /// What the value has to do with what it is read as.
-    ghost reads: { Data → Self → Type 0 } = { λ _ _. Unit {0} };
+    /// What an item says, where it is read as this.
+    ghost says: { Data → Self → Type 0 };
 
     /// What holds of whatever is read: that its texts fit.
-    ghost fits: { Self → Type 0 } = { λ _. Unit {0} };
+    ghost fits: { Self → Type 0 };
 
-    /// What has to stand there.
-    const EXPECTED: Expectation;
-
-    /// What the value is read as; a fault where it isn't what is expected.
-    fn read(node: Node<'v, '_>) -> Result<Self, Fault>
-        ensures value { IfOk result (λ x. reads (view node.entry.value.now) x) }
+    /// What the item is read as; a fault where it isn't what is expected.
+    fn read(node: &Node<'v, '_>) -> Result<Self, Fault>
+        ensures value { IfOk result (says (view node.now.value.now)) }
         ensures fits { IfOk result fits };
 }
 
 impl<'v> Node<'v, '_> {
     /// The fault that something else was expected.
-    pub fn unexpected(self, expected: Expectation) -> Fault {
-        Fault::unexpected(self.alloc, self.place, expected)
+    pub fn unexpected(&self, expected: Expectation) -> Fault {
+        Fault::unexpected(self.alloc, &self.place, expected)
     }
 
     /// Nothing, if the value is an object and has only fields of this shape.
-    pub fn has_only(self, shape: Shape) -> Result<(), Fault> {
+    pub fn has_only(&self, shape: Shape) -> Result<(), Fault> {
         let Some(fields) = self.value.as_object() else {
             return Err(self.unexpected(Expectation::Object));
         };
         for name in fields.keys() {
             if !shape.has(name.as_str()) {
-                let place = Place::Field(self.place, name.as_str());
+                let place = Place::Field(&self.place, name.as_str());
                 return Err(Fault::unknown(self.alloc, &place, shape));
             }
         }
         Ok(())
     }
 
-    /// What the field of this name is read as; `None` where there is none.
-    pub fn optional<T: Read<'v>>(self, name: &str) -> Result<Option<T>, Fault>
-        ensures value { IfOk result (λ o. MatchOption o (get name.now (view self.entry.value.now) ≡ None)
-            (λ x. (d : Data) × (get name.now (view self.entry.value.now) ≡ Some d) × T.reads d x)) }
-        ensures fits { IfOk result (λ o. IfSome o T.fits) }
+    /// The field of this name; `None` where there is none.
+    pub fn optional<'n>(&'n self, name: &'n str) -> Option<Node<'v, 'n>>
+        ensures value { option_map (λ field. view field.value.now) result ≡ get name.now (view self.now.value.now) }
     {
-        let Some(value) = self.value.get(name) else {
-            return Ok(None);
-        };
-        let place = Place::Field(self.place, name);
-        let field = Node {
+        let value = self.value.get(name)?;
+        Some(Node {
             alloc: self.alloc,
             value,
-            place: &place,
-        };
-        Ok(Some(T::read(field)?))
+            place: Place::Field(&self.place, name),
+        })
     }
 
-    /// What the field of this name is read as, which has to be there.
-    pub fn needed<T: Read<'v>>(self, name: &str) -> Result<T, Fault>
-        ensures value { IfOk result (λ x.
-            (d : Data) × (get name.now (view self.entry.value.now) ≡ Some d) × T.reads d x) }
-        ensures fits { IfOk result T.fits }
+    /// The field of this name, which has to be there and hold this.
+    pub fn needed<'n>(&'n self, name: &'n str, expected: Expectation) -> Result<Node<'v, 'n>, Fault>
+        ensures value { IfOk result (λ field. get name.now (view self.now.value.now) ≡ Some (view field.value.now)) }
     {
-        match self.optional(name)? {
-            Some(read) => Ok(read),
+        match self.optional(name) {
+            Some(field) => Ok(field),
             None => {
-                let place = Place::Field(self.place, name);
-                Err(Fault::missing(self.alloc, &place, T::EXPECTED))
+                let place = Place::Field(&self.place, name);
+                Err(Fault::missing(self.alloc, &place, expected))
             }
         }
     }
 
-    /// What the field of this name is read as, and this value where there is none.
-    pub fn or<T: Read<'v> + Drop>(self, name: &str, missing: T) -> Result<T, Fault>
-        requires fits { T.fits missing }
-        ensures value { IfOk result (λ x.
-            ((get name.now (view self.entry.value.now) ≡ None) × (x ≡ missing))
-            ⊎ ((d : Data) × (get name.now (view self.entry.value.now) ≡ Some d) × T.reads d x)) }
-        ensures fits { IfOk result T.fits }
+    /// The item of a list with this number.
+    pub fn item<'n>(&'n self, index: usize, value: &'v Value) -> Node<'v, 'n>
+        ensures value { result.value.now ≡ value.now }
     {
-        match self.optional(name)? {
-            Some(read) => Ok(read),
-            None => Ok(missing),
+        Node {
+            alloc: self.alloc,
+            value,
+            place: Place::Item(&self.place, index),
         }
+    }
+
+    /// What the items of the list are read as, in order.
+    pub fn items<T: Read<'v> + Drop>(&self) -> Result<Vec<T>, Fault>
+        ensures value { IfOk result (λ xs. ListSays T.says (view self.now.value.now) xs.items) }
+        ensures fits { IfOk result (λ xs. All T.fits xs.items) }
+    {
+        let Some(values) = self.value.as_array() else {
+            return Err(self.unexpected(Expectation::List));
+        };
+        let mut items = Vec::new(self.alloc);
+        for (index, value) in values.iter().enumerate() {
+            items.push(T::read(&self.item(index, value))?)?;
+        }
+        Ok(items)
+    }
+
+    /// What the items of the list in the field of this name are read as, in order.
+    pub fn list<T: Read<'v> + Drop>(&self, name: &str) -> Result<Vec<T>, Fault>
+        ensures value { IfOk result (λ xs. SaysAt (ListSays T.says) name.now (view self.now.value.now) xs.items) }
+        ensures fits { IfOk result (λ xs. All T.fits xs.items) }
+    {
+        self.needed(name, Expectation::List)?.items()
     }
 }

@@ -1,6 +1,10 @@
 //! What becomes of a case: texts or a refusal.
 
+ghost use Rattle.std.specs.Prelude.{◌≡◌, IfOk, map, string_bytes};
 ghost use Rattle.annotate_snippets.specs.Fits.{ReportFits};
+ghost use Rattle.serde_json.specs.View.{view, items_view};
+ghost use Rattle.replay_run.specs.Answer as spec;
+ghost use Rattle.replay_run.specs.Outcome.{refusal_name, IsOutcomeOf};
 
 use crate::case::Case;
 use annotate_snippets::renderer::RenderError;
@@ -19,6 +23,7 @@ pub enum Outcome {
 /// What becomes of a case.
 pub fn outcome_of(alloc: Global, case: &Case<'_>) -> Result<Outcome, AllocError>
     requires fits { ReportFits case.now.groups.items }
+    ensures outcome { IfOk result (IsOutcomeOf case.now) }
 {
     match case
         .renderer
@@ -31,7 +36,9 @@ pub fn outcome_of(alloc: Global, case: &Case<'_>) -> Result<Outcome, AllocError>
 }
 
 /// The name of a refusal.
-fn name_of(refusal: &RenderError) -> &'static str {
+fn name_of(refusal: &RenderError) -> &'static str
+    ensures name { result.now ≡ refusal_name refusal.now }
+{
     match refusal {
         RenderError::NoGroup => "NoGroup",
         RenderError::NoTitle => "NoTitle",
@@ -45,7 +52,9 @@ fn name_of(refusal: &RenderError) -> &'static str {
 }
 
 /// The answer to a case, as JSON.
-pub fn answer_of(alloc: Global, id: &str, outcome: Outcome) -> Result<Value, AllocError> {
+pub fn answer_of(alloc: Global, id: &str, outcome: Outcome) -> Result<Value, AllocError>
+    ensures answer { IfOk result (λ value. view value ≡ spec.answer_of id.now outcome) }
+{
     match outcome {
         Outcome::Texts(texts) => {
             let texts = values_of(alloc, texts)?;
@@ -58,7 +67,9 @@ pub fn answer_of(alloc: Global, id: &str, outcome: Outcome) -> Result<Value, All
 }
 
 /// The texts as values of JSON, in order.
-fn values_of(alloc: Global, texts: Vec<String>) -> Result<Vec<Value>, AllocError> {
+fn values_of(alloc: Global, texts: Vec<String>) -> Result<Vec<Value>, AllocError>
+    ensures items { IfOk result (λ values. items_view values.items ≡ spec.text_items (map string_bytes texts.items)) }
+{
     let mut values = Vec::new(alloc);
     for text in texts {
         values.push(Value::String(text))?;

@@ -1,17 +1,25 @@
 //! How a case is read from the JSON of its line: which fields there are, which of them may be missing, and what they then
 //! are.
 
-ghost use Rattle.std.specs.Prelude.{IfOk};
-ghost use Rattle.annotate_snippets.specs.Fits.{ReportFits, GroupFits, TitleFits, LevelFits, MessageFits, ElementFits, AnnotationFits, PatchFits, SnippetFits, TextFits};
+ghost use Rattle.std.specs.Prelude.{◌≡◌, Some, IfOk, IfSome, codes};
 ghost use Rattle.std.specs.Cow.{cow_str_bytes};
+ghost use Rattle.annotate_snippets.specs.Fits.{ReportFits, GroupFits, TitleFits, LevelFits, MessageFits, ElementFits, AnnotationFits, PatchFits, SnippetFits, TextFits};
+ghost use Rattle.serde_json.specs.Find.{as_str, get};
+ghost use Rattle.serde_json.specs.View.{view};
+ghost use Rattle.replay_run.specs.Field.{OrNull};
+ghost use Rattle.replay_run.specs.Report.{IsAnnotationOf, IsCaseOf, IsElementOf, IsGivenName, IsGroupOf, IsLevelOf, IsMessageOf, IsOriginOf, IsPatchOf, IsSnippetOf, IsTitleOf};
+ghost use Rattle.replay_run.specs.Kinds.{NameFits, kind_name, mark_name};
+ghost use Rattle.replay_run.specs.Report as spec;
 
 use crate::case::Case;
 use crate::fault::{Fault, Place};
 use crate::node::{Node, Read};
+use crate::read_style::sheets_of;
 use crate::shape::{Expectation, Shape};
 use annotate_snippets::level::LevelName;
 use annotate_snippets::renderer::parts::LevelInner;
 use annotate_snippets::renderer::{DEFAULT_TERM_WIDTH, DecorStyle, Stylesheet};
+use annotate_snippets::text::CowStr;
 use annotate_snippets::{
     Annotation, AnnotationKind, Element, Group, Level, Message, Origin, Padding, Patch, Renderer,
     Snippet, Title,
@@ -21,300 +29,280 @@ use std::alloc::Global;
 
 /// The case that a line describes.
 pub fn case_of<'v>(alloc: Global, line: &'v Value) -> Result<Case<'v>, Fault>
+    ensures value { IfOk result (IsCaseOf (view line.now)) }
     ensures fits { IfOk result (λ case. ReportFits case.groups.items) }
 {
-    let place = Place::Line;
     let case = Node {
         alloc,
         value: line,
-        place: &place,
+        place: Place::Line,
     };
     case.has_only(Shape::Case)?;
     Ok(Case {
-        id: case.needed("id")?,
-        renderer: case.or("settings", Renderer::plain())?,
-        sheets: sheets_of(case)?,
-        groups: case.needed("groups")?,
+        id: case.needed("id", Expectation::Text)?.as_text()?,
+        renderer: renderer_of(&case)?,
+        sheets: sheets_of(&case)?,
+        groups: case.list("groups")?,
     })
 }
 
-/// The sheets of a case: the plain one where the field is missing.
-fn sheets_of(case: Node<'_, '_>) -> Result<Vec<Stylesheet>, Fault> {
-    match case.optional("sheets")? {
-        Some(sheets) => Ok(sheets),
-        None => Ok(vec![in case.alloc; Stylesheet::plain()]?),
+/// The settings of a case, which are those of the plain renderer where the field is missing.
+fn renderer_of(case: &Node<'_, '_>) -> Result<Renderer, Fault>
+    ensures value { IfOk result (λ renderer. renderer ≡ spec.renderer_of (get (codes "settings") (view case.now.value.now))) }
+{
+    match case.optional("settings") {
+        Some(settings) => settings_of(&settings),
+        None => Ok(Renderer::plain()),
     }
 }
 
-/// The settings, which are those of the plain renderer where fields are missing.
-impl<'v> Read<'v> for Renderer {
-    const EXPECTED: Expectation = Expectation::Object;
-
-    fn read(node: Node<'v, '_>) -> Result<Self, Fault> {
-        node.has_only(Shape::Settings)?;
-        Ok(Renderer {
-            no_graphics: node.or("no_graphics", false)?,
-            short_message: node.or("short_message", false)?,
-            term_width: node.or("term_width", DEFAULT_TERM_WIDTH)?,
-            decor_style: decor_of(node)?,
-            anonymized_snippet_line_numbers: node.or("anonymized_snippet", false)?,
-            anonymized_origin_line_numbers: node.or("anonymized_origin", false)?,
-            hyperlink: node.or("hyperlink", false)?,
-            stylesheet: Stylesheet::plain(),
-        })
-    }
+/// The renderer of these settings, which are those of the plain one where fields are missing.
+fn settings_of(node: &Node<'_, '_>) -> Result<Renderer, Fault>
+    ensures value { IfOk result (λ renderer. renderer ≡ spec.settings_of (view node.now.value.now)) }
+{
+    node.has_only(Shape::Settings)?;
+    Ok(Renderer {
+        no_graphics: node.flag_or("no_graphics", false)?,
+        short_message: node.flag_or("short_message", false)?,
+        term_width: node.number_or("term_width", DEFAULT_TERM_WIDTH)?,
+        decor_style: decor_of(node.flag_or("unicode", false)?),
+        anonymized_snippet_line_numbers: node.flag_or("anonymized_snippet", false)?,
+        anonymized_origin_line_numbers: node.flag_or("anonymized_origin", false)?,
+        hyperlink: node.flag_or("hyperlink", false)?,
+        stylesheet: Stylesheet::plain(),
+    })
 }
 
-/// The strokes that the settings ask for.
-fn decor_of(settings: Node<'_, '_>) -> Result<DecorStyle, Fault> {
-    if settings.or("unicode", false)? {
-        Ok(DecorStyle::Unicode)
+/// The strokes that are asked for.
+fn decor_of(unicode: bool) -> DecorStyle
+    ensures value { result ≡ spec.decor_of unicode }
+{
+    if unicode {
+        DecorStyle::Unicode
     } else {
-        Ok(DecorStyle::Ascii)
+        DecorStyle::Ascii
     }
 }
 
 impl<'v> Read<'v> for Group<'v> {
+    ghost says = { IsGroupOf };
+
     ghost fits = { GroupFits };
 
-    const EXPECTED: Expectation = Expectation::Object;
-
-    fn read(node: Node<'v, '_>) -> Result<Self, Fault> {
+    fn read(node: &Node<'v, '_>) -> Result<Self, Fault> {
         node.has_only(Shape::Group)?;
-        let title: Option<Title<'v>> = node.needed("title")?;
+        let title = title_or_null(&node.needed("title", Expectation::ObjectOrNull)?)?;
         let level = match &title {
             Some(title) => title.level.kind,
-            None => level_of(node)?,
+            None => level_of(&node.needed("level", Expectation::Object)?)?.kind,
         };
         Ok(Group {
             level,
             title,
-            elements: node.needed("elements")?,
+            elements: node.list("elements")?,
         })
     }
 }
 
-/// The level of a group without title.
-fn level_of(group: Node<'_, '_>) -> Result<LevelInner, Fault> {
-    let level: Level<'_> = group.needed("level")?;
-    Ok(level.kind)
-}
-
-impl<'v> Read<'v> for Title<'v> {
-    ghost fits = { TitleFits };
-
-    const EXPECTED: Expectation = Expectation::Object;
-
-    fn read(node: Node<'v, '_>) -> Result<Self, Fault> {
-        node.has_only(Shape::Title)?;
-        let level: Level<'v> = node.needed("level")?;
-        let text = node.needed("text")?;
-        let title = if node.needed("primary")? {
-            level.primary_title_cow(text)
-        } else {
-            level.secondary_title_cow(text)
-        };
-        with_id(node, title)
+/// The title; none where `null` stands there.
+fn title_or_null<'v>(node: &Node<'v, '_>) -> Result<Option<Title<'v>>, Fault>
+    ensures value { IfOk result (OrNull IsTitleOf (view node.now.value.now)) }
+    ensures fits { IfOk result (λ title. IfSome title TitleFits) }
+{
+    if node.value.is_null() {
+        return Ok(None);
     }
+    Ok(Some(title_of(node)?))
 }
 
-/// The title with its id and its address, where they are there.
-fn with_id<'v>(node: Node<'v, '_>, title: Title<'v>) -> Result<Title<'v>, Fault>
-    requires fits { TitleFits title }
+/// The title that is described.
+fn title_of<'v>(node: &Node<'v, '_>) -> Result<Title<'v>, Fault>
+    ensures value { IfOk result (IsTitleOf (view node.now.value.now)) }
     ensures fits { IfOk result TitleFits }
 {
-    let title = match node.optional("id")? {
+    node.has_only(Shape::Title)?;
+    let level = level_of(&node.needed("level", Expectation::Object)?)?;
+    let text = node.text("text")?;
+    let title = if node.flag("primary")? {
+        level.primary_title_cow(text)
+    } else {
+        level.secondary_title_cow(text)
+    };
+    let title = match node.optional_text("id")? {
         Some(id) => title.id_cow(id),
         None => title,
     };
-    match node.optional("url")? {
+    match node.optional_text("url")? {
         Some(url) => Ok(title.id_url_cow(url)),
         None => Ok(title),
     }
 }
 
-impl<'v> Read<'v> for Level<'v> {
-    ghost fits = { LevelFits };
-
-    const EXPECTED: Expectation = Expectation::Object;
-
-    fn read(node: Node<'v, '_>) -> Result<Self, Fault> {
-        node.has_only(Shape::Level)?;
-        let kind = node.needed("kind")?;
-        let name = match node.optional("name")? {
-            None => LevelName::Standard,
-            Some(None) => LevelName::Hidden,
-            Some(Some(own)) => LevelName::Own(own),
-        };
-        Ok(Level { name, kind })
-    }
+/// The level that is described.
+fn level_of<'v>(node: &Node<'v, '_>) -> Result<Level<'v>, Fault>
+    ensures value { IfOk result (IsLevelOf (view node.now.value.now)) }
+    ensures fits { IfOk result LevelFits }
+{
+    node.has_only(Shape::Level)?;
+    let kind = kind_of(&node.needed("kind", Expectation::LevelKind)?)?;
+    let name = match node.optional("name") {
+        None => LevelName::Standard,
+        Some(name) => name_of(&name)?,
+    };
+    Ok(Level { name, kind })
 }
 
-impl<'v> Read<'v> for LevelInner {
-    const EXPECTED: Expectation = Expectation::LevelKind;
+/// The name of a level that is given; hidden where `null` stands there.
+fn name_of<'v>(node: &Node<'v, '_>) -> Result<LevelName<'v>, Fault>
+    ensures value { IfOk result (IsGivenName (view node.now.value.now)) }
+    ensures fits { IfOk result NameFits }
+{
+    if node.value.is_null() {
+        return Ok(LevelName::Hidden);
+    }
+    Ok(LevelName::Own(CowStr::Borrowed(node.as_text()?)))
+}
 
-    fn read(node: Node<'v, '_>) -> Result<Self, Fault> {
-        match node.value.as_str() {
-            Some("error") => Ok(LevelInner::Error),
-            Some("warning") => Ok(LevelInner::Warning),
-            Some("info") => Ok(LevelInner::Info),
-            Some("note") => Ok(LevelInner::Note),
-            Some("help") => Ok(LevelInner::Help),
-            _ => Err(node.unexpected(Self::EXPECTED)),
-        }
+/// The kind of level of this name.
+fn kind_of(node: &Node<'_, '_>) -> Result<LevelInner, Fault>
+    ensures value { IfOk result (λ kind. as_str (view node.now.value.now) ≡ Some (kind_name kind)) }
+{
+    match node.value.as_str() {
+        Some("error") => Ok(LevelInner::Error),
+        Some("warning") => Ok(LevelInner::Warning),
+        Some("info") => Ok(LevelInner::Info),
+        Some("note") => Ok(LevelInner::Note),
+        Some("help") => Ok(LevelInner::Help),
+        _ => Err(node.unexpected(Expectation::LevelKind)),
     }
 }
 
 impl<'v> Read<'v> for Element<'v> {
+    ghost says = { IsElementOf };
+
     ghost fits = { ElementFits };
 
-    const EXPECTED: Expectation = Expectation::Element;
-
-    fn read(node: Node<'v, '_>) -> Result<Self, Fault> {
+    fn read(node: &Node<'v, '_>) -> Result<Self, Fault> {
         node.has_only(Shape::Element)?;
-        match only_field(node) {
-            Some("message") => Ok(Element::Message(node.needed("message")?)),
-            Some("cause") => Ok(Element::Cause(node.needed("cause")?)),
-            Some("suggestion") => Ok(Element::Suggestion(node.needed("suggestion")?)),
-            Some("origin") => Ok(Element::Origin(node.needed("origin")?)),
-            Some("padding") => Ok(Element::Padding(node.needed("padding")?)),
-            _ => Err(node.unexpected(Self::EXPECTED)),
+        if !has_one_field(node) {
+            return Err(node.unexpected(Expectation::Element));
         }
+        if let Some(message) = node.optional("message") {
+            return Ok(Element::Message(message_of(&message)?));
+        }
+        if let Some(cause) = node.optional("cause") {
+            let snippet = snippet_of(&cause, Shape::Cause, "annotations")?;
+            return Ok(Element::Cause(snippet));
+        }
+        if let Some(suggestion) = node.optional("suggestion") {
+            let snippet = snippet_of(&suggestion, Shape::Suggestion, "patches")?;
+            return Ok(Element::Suggestion(snippet));
+        }
+        if let Some(origin) = node.optional("origin") {
+            return Ok(Element::Origin(origin_of(&origin)?));
+        }
+        node.needed("padding", Expectation::Object)?
+            .has_only(Shape::Padding)?;
+        Ok(Element::Padding(Padding))
     }
 }
 
-/// The name of an object's field; `None` where it hasn't just one.
-fn only_field<'v>(node: Node<'v, '_>) -> Option<&'v str> {
-    let fields = node.value.as_object()?;
-    if fields.len() != 1 {
-        return None;
-    }
-    let name = fields.keys().next()?;
-    Some(name.as_str())
-}
-
-impl<'v> Read<'v> for Message<'v> {
-    ghost fits = { MessageFits };
-
-    const EXPECTED: Expectation = Expectation::Object;
-
-    fn read(node: Node<'v, '_>) -> Result<Self, Fault> {
-        node.has_only(Shape::Message)?;
-        Ok(Message {
-            level: node.needed("level")?,
-            text: node.needed("text")?,
-        })
+/// Whether the value is an object with one field.
+fn has_one_field(node: &Node<'_, '_>) -> bool {
+    match node.value.as_object() {
+        Some(fields) => fields.len() == 1,
+        None => false,
     }
 }
 
-/// What a source is marked with.
-pub trait Mark<'v>: Read<'v> {
-    /// The object of a source that is marked so.
-    const SNIPPET: Shape;
-
-    /// The field that lists the marks.
-    const LIST: &'static str;
+/// The message that is described.
+fn message_of<'v>(node: &Node<'v, '_>) -> Result<Message<'v>, Fault>
+    ensures value { IfOk result (IsMessageOf (view node.now.value.now)) }
+    ensures fits { IfOk result MessageFits }
+{
+    node.has_only(Shape::Message)?;
+    Ok(Message {
+        level: level_of(&node.needed("level", Expectation::Object)?)?,
+        text: node.text("text")?,
+    })
 }
 
-impl<'v> Mark<'v> for Annotation<'v> {
-    const SNIPPET: Shape = Shape::Cause;
-
-    const LIST: &'static str = "annotations";
-}
-
-impl<'v> Mark<'v> for Patch<'v> {
-    const SNIPPET: Shape = Shape::Suggestion;
-
-    const LIST: &'static str = "patches";
-}
-
-impl<'v, T: Mark<'v> + Drop> Read<'v> for Snippet<'v, T> {
-    ghost fits = { SnippetFits T.fits };
-
-    const EXPECTED: Expectation = Expectation::Object;
-
-    fn read(node: Node<'v, '_>) -> Result<Self, Fault> {
-        node.has_only(T::SNIPPET)?;
-        Ok(Snippet {
-            source: node.needed("source")?,
-            path: node.optional("path")?,
-            line_start: node.or("line_start", 1)?,
-            line_numbering: node.or("line_numbering", true)?,
-            fold: node.or("fold", true)?,
-            markers: node.needed(T::LIST)?,
-        })
-    }
+/// The snippet of this shape that is described, with the markers in the field of this name.
+fn snippet_of<'v, T: Read<'v> + Drop>(
+    node: &Node<'v, '_>,
+    shape: Shape,
+    markers: &str,
+) -> Result<Snippet<'v, T>, Fault>
+    ensures value { IfOk result (IsSnippetOf T.says markers.now (view node.now.value.now)) }
+    ensures fits { IfOk result (SnippetFits T.fits) }
+{
+    node.has_only(shape)?;
+    Ok(Snippet {
+        source: node.text("source")?,
+        path: node.optional_text("path")?,
+        line_start: node.number_or("line_start", 1)?,
+        line_numbering: node.flag_or("line_numbering", true)?,
+        fold: node.flag_or("fold", true)?,
+        markers: node.list(markers)?,
+    })
 }
 
 impl<'v> Read<'v> for Annotation<'v> {
+    ghost says = { IsAnnotationOf };
+
     ghost fits = { AnnotationFits };
 
-    const EXPECTED: Expectation = Expectation::Object;
-
-    fn read(node: Node<'v, '_>) -> Result<Self, Fault> {
+    fn read(node: &Node<'v, '_>) -> Result<Self, Fault> {
         node.has_only(Shape::Annotation)?;
-        let kind = node.needed("kind")?;
-        let start = node.needed("start")?;
-        let end = node.needed("end")?;
+        let kind = mark_of(&node.needed("kind", Expectation::AnnotationKind)?)?;
+        let start = node.number("start")?;
+        let end = node.number("end")?;
         Ok(Annotation {
             span: start..end,
-            label: node.optional("label")?,
+            label: node.optional_text("label")?,
             kind,
-            highlight_source: node.or("highlight_source", false)?,
+            highlight_source: node.flag_or("highlight_source", false)?,
         })
     }
 }
 
-impl<'v> Read<'v> for AnnotationKind {
-    const EXPECTED: Expectation = Expectation::AnnotationKind;
-
-    fn read(node: Node<'v, '_>) -> Result<Self, Fault> {
-        match node.value.as_str() {
-            Some("primary") => Ok(AnnotationKind::Primary),
-            Some("context") => Ok(AnnotationKind::Context),
-            Some("visible") => Ok(AnnotationKind::Visible),
-            _ => Err(node.unexpected(Self::EXPECTED)),
-        }
+/// The kind of annotation of this name.
+fn mark_of(node: &Node<'_, '_>) -> Result<AnnotationKind, Fault>
+    ensures value { IfOk result (λ kind. as_str (view node.now.value.now) ≡ Some (mark_name kind)) }
+{
+    match node.value.as_str() {
+        Some("primary") => Ok(AnnotationKind::Primary),
+        Some("context") => Ok(AnnotationKind::Context),
+        Some("visible") => Ok(AnnotationKind::Visible),
+        _ => Err(node.unexpected(Expectation::AnnotationKind)),
     }
 }
 
 impl<'v> Read<'v> for Patch<'v> {
+    ghost says = { IsPatchOf };
+
     ghost fits = { PatchFits };
 
-    const EXPECTED: Expectation = Expectation::Object;
-
-    fn read(node: Node<'v, '_>) -> Result<Self, Fault> {
+    fn read(node: &Node<'v, '_>) -> Result<Self, Fault> {
         node.has_only(Shape::Patch)?;
-        let start = node.needed("start")?;
-        let end = node.needed("end")?;
+        let start = node.number("start")?;
+        let end = node.number("end")?;
         Ok(Patch {
             span: start..end,
-            replacement: node.needed("text")?,
+            replacement: node.text("text")?,
         })
     }
 }
 
-impl<'v> Read<'v> for Origin<'v> {
-    ghost fits = { λ origin. TextFits (cow_str_bytes origin.path) };
-
-    const EXPECTED: Expectation = Expectation::Object;
-
-    fn read(node: Node<'v, '_>) -> Result<Self, Fault> {
-        node.has_only(Shape::Origin)?;
-        Ok(Origin {
-            path: node.needed("path")?,
-            line: node.optional("line")?,
-            char_column: node.optional("column")?,
-        })
-    }
-}
-
-/// An object without fields.
-impl<'v> Read<'v> for Padding {
-    const EXPECTED: Expectation = Expectation::Object;
-
-    fn read(node: Node<'v, '_>) -> Result<Self, Fault> {
-        node.has_only(Shape::Padding)?;
-        Ok(Padding)
-    }
+/// The origin that is described.
+fn origin_of<'v>(node: &Node<'v, '_>) -> Result<Origin<'v>, Fault>
+    ensures value { IfOk result (IsOriginOf (view node.now.value.now)) }
+    ensures fits { IfOk result (λ origin. TextFits (cow_str_bytes origin.path)) }
+{
+    node.has_only(Shape::Origin)?;
+    Ok(Origin {
+        path: node.text("path")?,
+        line: node.optional_number("line")?,
+        char_column: node.optional_number("column")?,
+    })
 }

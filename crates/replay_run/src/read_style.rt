@@ -1,200 +1,229 @@
 //! How sheets and their styles are read.
 
+ghost use Rattle.std.specs.Prelude.{◌≡◌, [], ◌∷◌, Some, IfOk, codes};
+ghost use Rattle.serde_json.specs.Find.{as_str, get};
+ghost use Rattle.serde_json.specs.View.{view};
+ghost use Rattle.replay_run.specs.Field.{MaySayAt};
+ghost use Rattle.replay_run.specs.Sheet.{AreBytes, AreEffectsOf, AreSheetsOf, IsColorOf, IsOwnSheetOf, IsSheetOf, IsStyleOf, MayBeEffects, MayBeStyle};
+ghost use Rattle.replay_run.specs.Sheet as spec;
+
+use crate::effect::{EFFECTS, EffectName};
 use crate::fault::Fault;
 use crate::node::{Node, Read};
 use crate::shape::{Expectation, Shape};
 use annotate_snippets::renderer::{AnsiColor, Color, Effects, Style, Stylesheet};
 
-impl<'v> Read<'v> for Stylesheet {
-    const EXPECTED: Expectation = Expectation::Sheet;
+/// The sheets of a case: the plain one where the field is missing.
+pub fn sheets_of(case: &Node<'_, '_>) -> Result<Vec<Stylesheet>, Fault>
+    ensures value { IfOk result (λ sheets. AreSheetsOf (get (codes "sheets") (view case.now.value.now)) sheets.items) }
+{
+    match case.optional("sheets") {
+        Some(sheets) => sheets.items(),
+        None => Ok(vec![in case.alloc; Stylesheet::plain()]?),
+    }
+}
 
-    fn read(node: Node<'v, '_>) -> Result<Self, Fault> {
+impl<'v> Read<'v> for Stylesheet {
+    ghost says = { IsSheetOf };
+
+    ghost fits = { λ _. Unit {0} };
+
+    fn read(node: &Node<'v, '_>) -> Result<Self, Fault> {
         match node.value.as_str() {
             Some("plain") => Ok(Stylesheet::plain()),
             Some("default") => Ok(Stylesheet::styled()),
-            Some(_) => Err(node.unexpected(Self::EXPECTED)),
+            Some(_) => Err(node.unexpected(Expectation::Sheet)),
             None => own_sheet(node),
         }
     }
 }
 
 /// The sheet of these fields, plain where one is missing.
-fn own_sheet(node: Node<'_, '_>) -> Result<Stylesheet, Fault> {
+fn own_sheet(node: &Node<'_, '_>) -> Result<Stylesheet, Fault>
+    ensures value { IfOk result (IsOwnSheetOf (view node.now.value.now)) }
+{
     if !node.value.is_object() {
-        return Err(node.unexpected(Stylesheet::EXPECTED));
+        return Err(node.unexpected(Expectation::Sheet));
     }
     node.has_only(Shape::Sheet)?;
-    let plain = Style::new();
     Ok(Stylesheet {
-        error: node.or("error", plain)?,
-        warning: node.or("warning", plain)?,
-        info: node.or("info", plain)?,
-        note: node.or("note", plain)?,
-        help: node.or("help", plain)?,
-        line_num: node.or("line_num", plain)?,
-        emphasis: node.or("emphasis", plain)?,
-        none: node.or("none", plain)?,
-        context: node.or("context", plain)?,
-        addition: node.or("addition", plain)?,
-        removal: node.or("removal", plain)?,
+        error: style_at(node, "error")?,
+        warning: style_at(node, "warning")?,
+        info: style_at(node, "info")?,
+        note: style_at(node, "note")?,
+        help: style_at(node, "help")?,
+        line_num: style_at(node, "line_num")?,
+        emphasis: style_at(node, "emphasis")?,
+        none: style_at(node, "none")?,
+        context: style_at(node, "context")?,
+        addition: style_at(node, "addition")?,
+        removal: style_at(node, "removal")?,
     })
 }
 
-impl<'v> Read<'v> for Style {
-    const EXPECTED: Expectation = Expectation::Object;
-
-    fn read(node: Node<'v, '_>) -> Result<Self, Fault> {
-        node.has_only(Shape::Style)?;
-        let fg = node.optional("fg")?;
-        let bg = node.optional("bg")?;
-        let effects = effects(node)?;
-        Ok(Style::new().fg_color(fg).bg_color(bg).effects(effects))
+/// The style in the field of this name, plain where there is no such field.
+fn style_at(sheet: &Node<'_, '_>, name: &str) -> Result<Style, Fault>
+    ensures value { IfOk result (MayBeStyle (get name.now (view sheet.now.value.now))) }
+{
+    match sheet.optional(name) {
+        Some(style) => style_of(&style),
+        None => Ok(Style::new()),
     }
 }
 
-/// The effects that are listed, none where the field is missing.
-fn effects(node: Node<'_, '_>) -> Result<Effects, Fault> {
-    let listed: Option<Vec<Effects>> = node.optional("effects")?;
+/// The style that is described.
+fn style_of(node: &Node<'_, '_>) -> Result<Style, Fault>
+    ensures value { IfOk result (IsStyleOf (view node.now.value.now)) }
+{
+    node.has_only(Shape::Style)?;
+    Ok(Style {
+        fg: color_at(node, "fg")?,
+        bg: color_at(node, "bg")?,
+        effects: effects_at(node)?,
+    })
+}
+
+/// The effects of a style, none where the field is missing.
+fn effects_at(style: &Node<'_, '_>) -> Result<Effects, Fault>
+    ensures value { IfOk result (MayBeEffects (get (codes "effects") (view style.now.value.now))) }
+{
+    match style.optional("effects") {
+        Some(effects) => effects_of(&effects),
+        None => Ok(Effects::new()),
+    }
+}
+
+/// The effects that are listed.
+fn effects_of(node: &Node<'_, '_>) -> Result<Effects, Fault>
+    ensures value { IfOk result (AreEffectsOf (view node.now.value.now)) }
+{
+    let Some(values) = node.value.as_array() else {
+        return Err(node.unexpected(Expectation::List));
+    };
     let mut effects = Effects::new();
-    if let Some(listed) = listed {
-        for effect in listed {
-            effects = effects.insert(effect);
-        }
+    for (index, value) in values.iter().enumerate() {
+        let name = effect_name(&node.item(index, value))?;
+        effects = effects.insert(name.alone());
     }
     Ok(effects)
 }
 
-/// Which effect is meant.
-#[derive(Clone, Copy)]
-enum EffectName {
-    Bold,
-    Dimmed,
-    Italic,
-    Underline,
-    Blink,
-    Invert,
-    Hidden,
-    Strikethrough,
+/// The effect of this name.
+fn effect_name(node: &Node<'_, '_>) -> Result<EffectName, Fault>
+    ensures value { IfOk result (λ effect. as_str (view node.now.value.now) ≡ Some (spec.effect_name effect)) }
+{
+    let name = node.value.as_str();
+    for effect in &EFFECTS {
+        if name == Some(effect.as_str()) {
+            return Ok(*effect);
+        }
+    }
+    Err(node.unexpected(Expectation::Effect))
 }
 
-/// The effects, by their names.
-const EFFECTS: [(&str, EffectName); 8] = [
-    ("BOLD", EffectName::Bold),
-    ("DIMMED", EffectName::Dimmed),
-    ("ITALIC", EffectName::Italic),
-    ("UNDERLINE", EffectName::Underline),
-    ("BLINK", EffectName::Blink),
-    ("INVERT", EffectName::Invert),
-    ("HIDDEN", EffectName::Hidden),
-    ("STRIKETHROUGH", EffectName::Strikethrough),
+/// The colour in the field of this name, if there is that field.
+fn color_at(style: &Node<'_, '_>, name: &str) -> Result<Option<Color>, Fault>
+    ensures value { IfOk result (MaySayAt IsColorOf name.now (view style.now.value.now)) }
+{
+    match style.optional(name) {
+        Some(color) => Ok(Some(color_of(&color)?)),
+        None => Ok(None),
+    }
+}
+
+/// The colour that is described.
+fn color_of(node: &Node<'_, '_>) -> Result<Color, Fault>
+    ensures value { IfOk result (IsColorOf (view node.now.value.now)) }
+{
+    if node.value.is_string() {
+        return Ok(Color::Ansi(named_color(node)?));
+    }
+    match node.value.as_object() {
+        Some(fields) if fields.len() == 1 => {}
+        _ => return Err(node.unexpected(Expectation::Color)),
+    }
+    node.has_only(Shape::Color)?;
+    if let Some(index) = node.optional("ansi256") {
+        return Ok(Color::Ansi256(index.as_byte()?));
+    }
+    let (red, green, blue) = rgb_of(&node.needed("rgb", Expectation::Rgb)?)?;
+    Ok(Color::Rgb(red, green, blue))
+}
+
+/// The colours that a terminal's theme has.
+const COLORS: [AnsiColor; 16] = [
+    AnsiColor::Black,
+    AnsiColor::Red,
+    AnsiColor::Green,
+    AnsiColor::Yellow,
+    AnsiColor::Blue,
+    AnsiColor::Magenta,
+    AnsiColor::Cyan,
+    AnsiColor::White,
+    AnsiColor::BrightBlack,
+    AnsiColor::BrightRed,
+    AnsiColor::BrightGreen,
+    AnsiColor::BrightYellow,
+    AnsiColor::BrightBlue,
+    AnsiColor::BrightMagenta,
+    AnsiColor::BrightCyan,
+    AnsiColor::BrightWhite,
 ];
 
-/// The effect that is meant, alone.
-fn effect_of(name: EffectName) -> Effects {
-    match name {
-        EffectName::Bold => Effects::BOLD,
-        EffectName::Dimmed => Effects::DIMMED,
-        EffectName::Italic => Effects::ITALIC,
-        EffectName::Underline => Effects::UNDERLINE,
-        EffectName::Blink => Effects::BLINK,
-        EffectName::Invert => Effects::INVERT,
-        EffectName::Hidden => Effects::HIDDEN,
-        EffectName::Strikethrough => Effects::STRIKETHROUGH,
+/// The colour of this name.
+fn named_color(node: &Node<'_, '_>) -> Result<AnsiColor, Fault>
+    ensures value { IfOk result (λ color. as_str (view node.now.value.now) ≡ Some (spec.color_name color)) }
+{
+    let name = node.value.as_str();
+    for color in &COLORS {
+        if name == Some(color_name(*color)) {
+            return Ok(*color);
+        }
+    }
+    Err(node.unexpected(Expectation::Color))
+}
+
+/// How a colour is written.
+fn color_name(color: AnsiColor) -> &'static str
+    ensures value { result.now ≡ spec.color_name color }
+{
+    match color {
+        AnsiColor::Black => "Black",
+        AnsiColor::Red => "Red",
+        AnsiColor::Green => "Green",
+        AnsiColor::Yellow => "Yellow",
+        AnsiColor::Blue => "Blue",
+        AnsiColor::Magenta => "Magenta",
+        AnsiColor::Cyan => "Cyan",
+        AnsiColor::White => "White",
+        AnsiColor::BrightBlack => "BrightBlack",
+        AnsiColor::BrightRed => "BrightRed",
+        AnsiColor::BrightGreen => "BrightGreen",
+        AnsiColor::BrightYellow => "BrightYellow",
+        AnsiColor::BrightBlue => "BrightBlue",
+        AnsiColor::BrightMagenta => "BrightMagenta",
+        AnsiColor::BrightCyan => "BrightCyan",
+        AnsiColor::BrightWhite => "BrightWhite",
     }
 }
 
-/// One effect, by its name.
-impl<'v> Read<'v> for Effects {
-    const EXPECTED: Expectation = Expectation::Effect;
-
-    fn read(node: Node<'v, '_>) -> Result<Self, Fault> {
-        let name = node.value.as_str();
-        for (known, effect) in &EFFECTS {
-            if name == Some(*known) {
-                return Ok(effect_of(*effect));
-            }
-        }
-        Err(node.unexpected(Self::EXPECTED))
+/// Red, green and blue. Each item has to be a byte before their number is looked at.
+fn rgb_of(node: &Node<'_, '_>) -> Result<(u8, u8, u8), Fault>
+    ensures value { IfOk result (λ rgb. AreBytes (view node.now.value.now) (rgb.0 ∷ rgb.1 ∷ rgb.2 ∷ [])) }
+{
+    let Some(values) = node.value.as_array() else {
+        return Err(node.unexpected(Expectation::List));
+    };
+    for (index, value) in values.iter().enumerate() {
+        node.item(index, value).as_byte()?;
     }
-}
-
-impl<'v> Read<'v> for Color {
-    const EXPECTED: Expectation = Expectation::Color;
-
-    fn read(node: Node<'v, '_>) -> Result<Self, Fault> {
-        if node.value.is_string() {
-            return Ok(Color::Ansi(AnsiColor::read(node)?));
+    match values.as_slice() {
+        [red, green, blue] => {
+            let red = node.item(0, red).as_byte()?;
+            let green = node.item(1, green).as_byte()?;
+            let blue = node.item(2, blue).as_byte()?;
+            Ok((red, green, blue))
         }
-        match node.value.as_object() {
-            Some(fields) if fields.len() == 1 => {}
-            _ => return Err(node.unexpected(Self::EXPECTED)),
-        }
-        node.has_only(Shape::Color)?;
-        if let Some(index) = node.optional("ansi256")? {
-            return Ok(Color::Ansi256(index));
-        }
-        let Rgb(red, green, blue) = node.needed("rgb")?;
-        Ok(Color::Rgb(red, green, blue))
-    }
-}
-
-/// The terminal's own colours, by their names.
-const COLORS: [(&str, AnsiColor); 16] = [
-    ("Black", AnsiColor::Black),
-    ("Red", AnsiColor::Red),
-    ("Green", AnsiColor::Green),
-    ("Yellow", AnsiColor::Yellow),
-    ("Blue", AnsiColor::Blue),
-    ("Magenta", AnsiColor::Magenta),
-    ("Cyan", AnsiColor::Cyan),
-    ("White", AnsiColor::White),
-    ("BrightBlack", AnsiColor::BrightBlack),
-    ("BrightRed", AnsiColor::BrightRed),
-    ("BrightGreen", AnsiColor::BrightGreen),
-    ("BrightYellow", AnsiColor::BrightYellow),
-    ("BrightBlue", AnsiColor::BrightBlue),
-    ("BrightMagenta", AnsiColor::BrightMagenta),
-    ("BrightCyan", AnsiColor::BrightCyan),
-    ("BrightWhite", AnsiColor::BrightWhite),
-];
-
-impl<'v> Read<'v> for AnsiColor {
-    const EXPECTED: Expectation = Expectation::Color;
-
-    fn read(node: Node<'v, '_>) -> Result<Self, Fault> {
-        let name = node.value.as_str();
-        for (known, color) in &COLORS {
-            if name == Some(*known) {
-                return Ok(*color);
-            }
-        }
-        Err(node.unexpected(Self::EXPECTED))
-    }
-}
-
-/// Red, green and blue.
-#[derive(Clone, Copy)]
-struct Rgb(u8, u8, u8);
-
-impl<'v> Read<'v> for Rgb {
-    const EXPECTED: Expectation = Expectation::Rgb;
-
-    fn read(node: Node<'v, '_>) -> Result<Self, Fault> {
-        let parts: Vec<u8> = Vec::read(node)?;
-        match parts.as_slice() {
-            [red, green, blue] => Ok(Rgb(*red, *green, *blue)),
-            _ => Err(node.unexpected(Self::EXPECTED)),
-        }
-    }
-}
-
-impl<'v> Read<'v> for u8 {
-    const EXPECTED: Expectation = Expectation::Byte;
-
-    fn read(node: Node<'v, '_>) -> Result<Self, Fault> {
-        match node.value.as_u64() {
-            Some(number) if number < 256 => Ok(number as u8),
-            _ => Err(node.unexpected(Self::EXPECTED)),
-        }
+        _ => Err(node.unexpected(Expectation::Rgb)),
     }
 }

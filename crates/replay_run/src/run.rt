@@ -1,7 +1,12 @@
 //! A run of the program: what its words ask for is done, and the status tells how it went.
 
-ghost use Rattle.std.specs.Prelude.{◌≡◌, ◌≤◌, IfOk};
-ghost use Rattle.replay_run.specs.Words.{words_at, IsCommandLine, IsComparison, Compares};
+ghost use Rattle.std.specs.Prelude.{◌≡◌, ◌≤◌, List, ◌∷◌, codes, length, IfOk, OnOk};
+ghost use Rattle.std.specs.Io.Buffered.{reader_inner, reader_remaining};
+ghost use Rattle.std.specs.Io.KnownBytes.{Appends};
+ghost use Rattle.replay_run.specs.Compared.{EndsComparison, count_line};
+ghost use Rattle.replay_run.specs.Growth.{Grows};
+ghost use Rattle.replay_run.specs.Judged.{CountsLines};
+ghost use Rattle.replay_run.specs.Words.{Word, words_at, IsCommandLine, IsComparison, IfComparison, Compares};
 ghost use Rattle.replay_run.specs.declared.command.Command.{Command};
 
 use crate::check::{Counts, check_lines};
@@ -13,7 +18,7 @@ use annotate_snippets::text::normalize_untrusted_str;
 use std::alloc::{AllocError, Global};
 use std::io::{BufReader, Write};
 use std::rt::{Clock, Files};
-use std::{fmt, fs};
+use std::{fmt, fs, io};
 
 /// How the words are to be written.
 const USAGE: &str = "usage: replay [--text] [FILE ..]
@@ -43,7 +48,9 @@ impl fmt::Display for Stop<'_> {
 }
 
 /// What was tried with this file; trouble with it stops the run.
-fn or_stop<'a, T>(file: &'a str, tried: Result<T, Trouble>) -> Result<T, Stop<'a>> {
+fn or_stop<'a, T>(file: &'a str, tried: Result<T, Trouble>) -> Result<T, Stop<'a>>
+    ensures done { IfOk result (λ done. tried ≡ Ok done) }
+{
     match tried {
         Ok(done) => Ok(done),
         Err(trouble) => Err(Stop { file, trouble }),
@@ -61,6 +68,8 @@ pub fn run<R: Files + Input + Clock + AllocGlobal, W: Write, V: Write>(
     ensures usage { (IsCommandLine (words_at words.now) → ⊥) → result ≡ 2 }
     ensures no_answer { (IsCommandLine (words_at words.now) → ⊥) → out.new ≡ out.old }
     ensures differs { result ≡ 1 → Compares (words_at words.now) }
+    ensures compares { result ≤ 1 → (files : List Word) → words_at words.now ≡ codes "--check" ∷ files
+        → EndsComparison R.File R.File.remaining (length files) (W.contents out.old) (W.contents out.new) result }
 {
     let Some(command) = command_of(words) else {
         let _ = err.writeln(USAGE);
@@ -109,6 +118,8 @@ fn do_command<'a, R: Files + Input + Clock + AllocGlobal, W: Write>(
 ) -> Result<u8, Stop<'a>>
     ensures status { IfOk result (λ status. status ≤ 1) }
     ensures differs { IfOk result (λ status. status ≡ 1 → IsComparison command.now) }
+    ensures compares { IfOk result (λ status. IfComparison command.now (λ files.
+        EndsComparison R.File R.File.remaining files (W.contents out.old) (W.contents out.new) status)) }
 {
     match *command {
         Command::Answer(form, files) => answer(rt, form, files, out),
@@ -140,7 +151,10 @@ fn answer<'a, R: Files + Input + AllocGlobal, W: Write>(
 }
 
 /// The bytes of a file.
-fn opened<R: Files + AllocGlobal>(rt: &R, file: &str) -> Result<BufReader<R::File>, Trouble> {
+fn opened<R: Files + AllocGlobal>(rt: &R, file: &str) -> Result<BufReader<R::File>, Trouble>
+    ensures bytes { IfOk result (λ reader.
+        reader_remaining R.File.remaining reader ≡ R.File.remaining (reader_inner reader)) }
+{
     let input = fs::open(rt, file).map_err(Trouble::Read)?;
     BufReader::new(rt.alloc(), input).map_err(Trouble::Read)
 }
@@ -175,16 +189,33 @@ fn check<'a, R: Files + AllocGlobal, W: Write>(
     out: &mut W,
 ) -> Result<u8, Stop<'a>>
     ensures status { IfOk result (λ status. status ≤ 1) }
+    ensures ends { IfOk result (λ status.
+        EndsComparison R.File R.File.remaining (length files.now) (W.contents out.old) (W.contents out.new) status) }
 {
-    let mut counts = Counts::default();
-    for pair in files.chunks_exact(2) {
-        let more = or_stop(pair[1], check_pair(rt, pair[0], pair[1], out))?;
-        counts = counts.plus(more);
+    let mut counts = Counts::NONE;
+    for pair in 0..files.len() / 2 {
+        let (expected, cases) = (files[2 * pair], files[2 * pair + 1]);
+        match check_pair(rt, expected, cases, out) {
+            Ok(more) => counts = counts.plus(more),
+            Err(trouble) => {
+                return Err(Stop {
+                    file: cases,
+                    trouble,
+                });
+            }
+        }
     }
-    let (passed, failed) = (counts.passed, counts.failed);
-    let written = out.writeln(format_args!("{passed} passed, {failed} failed"));
-    or_stop(OUTPUT, written.map_err(Trouble::Write))?;
-    Ok(if failed == 0 { DONE } else { DIFFERS })
+    or_stop(OUTPUT, write_counts(counts, out).map_err(Trouble::Write))?;
+    Ok(if counts.failed == 0 { DONE } else { DIFFERS })
+}
+
+/// Writes the line that tells the counts.
+fn write_counts<W: Write>(counts: Counts, out: &mut W) -> io::Result<()>
+    ensures line { OnOk result (Appends (W.contents out.old) (W.contents out.new) (count_line counts)) }
+{
+    let Counts { passed, failed } = counts;
+    out.writeln(format_args!("{passed} passed, {failed} failed"))?;
+    Ok(())
 }
 
 /// The name that is shown for standard output.
@@ -196,7 +227,12 @@ fn check_pair<R: Files + AllocGlobal, W: Write>(
     expected: &str,
     cases: &str,
     out: &mut W,
-) -> Result<Counts, Trouble> {
+) -> Result<Counts, Trouble>
+    ensures counts { IfOk result (λ counts. (answers : R.File) × (lines : R.File)
+        × CountsLines (R.File.remaining answers) (R.File.remaining lines) counts) }
+    ensures added { OnOk result (Grows (W.contents out.old) (W.contents out.new)) }
+    ensures silent { IfOk result (λ counts. counts.failed ≡ 0 → out.new ≡ out.old) }
+{
     let expected = opened(rt, expected)?;
     let cases = opened(rt, cases)?;
     check_lines(rt.alloc(), expected, cases, out)

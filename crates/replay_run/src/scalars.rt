@@ -1,103 +1,128 @@
-//! How texts, numbers, truth values and lists are read.
+//! How texts, numbers and truth values are read.
 
-ghost use Rattle.std.specs.Prelude.{◌≡◌, All, IfSome, Some, option_and_then};
+ghost use Rattle.std.specs.Prelude.{◌≡◌, ◌<◌, Some, IfOk, IfSome, option_map, unwrap_or};
 ghost use Rattle.std.specs.Cow.{cow_str_bytes};
 ghost use Rattle.annotate_snippets.specs.Fits.{TextFits};
-ghost use Rattle.serde_json.specs.Find.{as_bool, as_number, as_str, as_u64};
+ghost use Rattle.serde_json.specs.Find.{as_bool, as_str};
+ghost use Rattle.serde_json.specs.View.{view};
+ghost use Rattle.replay_run.specs.Field.{as_whole, flag_at, number_at, text_at};
 
-use crate::fault::{Fault, Place};
+use crate::fault::Fault;
 use crate::node::{Node, Read};
 use crate::shape::Expectation;
 use annotate_snippets::text::{CowStr, text_fits};
 
+impl<'v> Node<'v, '_> {
+    /// The text, which is within the library's limit.
+    pub fn as_text(&self) -> Result<&'v str, Fault>
+        ensures value { IfOk result (λ text. as_str (view self.now.value.now) ≡ Some text.now) }
+        ensures fits { IfOk result (λ text. TextFits text.now) }
+    {
+        match self.value.as_str() {
+            Some(text) if text_fits(text) => Ok(text),
+            _ => Err(self.unexpected(Expectation::Text)),
+        }
+    }
+
+    /// The text in the field of this name.
+    pub fn text(&self, name: &str) -> Result<CowStr<'v>, Fault>
+        ensures value { IfOk result (λ text. text_at name.now (view self.now.value.now) ≡ Some (cow_str_bytes text)) }
+        ensures fits { IfOk result (λ text. TextFits (cow_str_bytes text)) }
+    {
+        let text = self.needed(name, Expectation::Text)?.as_text()?;
+        Ok(CowStr::Borrowed(text))
+    }
+
+    /// The text in the field of this name, if there is that field.
+    pub fn optional_text(&self, name: &str) -> Result<Option<CowStr<'v>>, Fault>
+        ensures value { IfOk result (λ found. text_at name.now (view self.now.value.now) ≡ option_map cow_str_bytes found) }
+        ensures fits { IfOk result (λ found. IfSome found (λ text. TextFits (cow_str_bytes text))) }
+    {
+        match self.optional(name) {
+            Some(field) => Ok(Some(CowStr::Borrowed(field.as_text()?))),
+            None => Ok(None),
+        }
+    }
+
+    /// The whole number.
+    pub fn as_number(&self) -> Result<usize, Fault>
+        ensures value { IfOk result (λ number. as_whole (view self.now.value.now) ≡ Some number) }
+    {
+        match self.value.as_u64() {
+            Some(number) => Ok(number as usize),
+            None => Err(self.unexpected(Expectation::Number)),
+        }
+    }
+
+    /// The number in the field of this name.
+    pub fn number(&self, name: &str) -> Result<usize, Fault>
+        ensures value { IfOk result (λ number. number_at name.now (view self.now.value.now) ≡ Some number) }
+    {
+        self.needed(name, Expectation::Number)?.as_number()
+    }
+
+    /// The number in the field of this name, if there is that field.
+    pub fn optional_number(&self, name: &str) -> Result<Option<usize>, Fault>
+        ensures value { IfOk result (λ found. found ≡ number_at name.now (view self.now.value.now)) }
+    {
+        match self.optional(name) {
+            Some(field) => Ok(Some(field.as_number()?)),
+            None => Ok(None),
+        }
+    }
+
+    /// The number in the field of this name, and this one where there is no such field.
+    pub fn number_or(&self, name: &str, missing: usize) -> Result<usize, Fault>
+        ensures value { IfOk result (λ number. number ≡ unwrap_or (number_at name.now (view self.now.value.now)) missing) }
+    {
+        Ok(self.optional_number(name)?.unwrap_or(missing))
+    }
+
+    /// The number of a byte.
+    pub fn as_byte(&self) -> Result<u8, Fault>
+        ensures value { IfOk result (λ byte. as_whole (view self.now.value.now) ≡ Some byte) }
+    {
+        match self.value.as_u64() {
+            Some(number) if number < 256 => Ok(number as u8),
+            _ => Err(self.unexpected(Expectation::Byte)),
+        }
+    }
+
+    /// The truth value.
+    pub fn as_flag(&self) -> Result<bool, Fault>
+        ensures value { IfOk result (λ flag. as_bool (view self.now.value.now) ≡ Some flag) }
+    {
+        match self.value.as_bool() {
+            Some(flag) => Ok(flag),
+            None => Err(self.unexpected(Expectation::Flag)),
+        }
+    }
+
+    /// The truth value in the field of this name.
+    pub fn flag(&self, name: &str) -> Result<bool, Fault>
+        ensures value { IfOk result (λ flag. flag_at name.now (view self.now.value.now) ≡ Some flag) }
+    {
+        self.needed(name, Expectation::Flag)?.as_flag()
+    }
+
+    /// The truth value in the field of this name, and this one where there is no such field.
+    pub fn flag_or(&self, name: &str, missing: bool) -> Result<bool, Fault>
+        ensures value { IfOk result (λ flag. flag ≡ unwrap_or (flag_at name.now (view self.now.value.now)) missing) }
+    {
+        match self.optional(name) {
+            Some(field) => field.as_flag(),
+            None => Ok(missing),
+        }
+    }
+}
+
 /// A text that the library takes.
 impl<'v> Read<'v> for CowStr<'v> {
-    ghost reads = { λ d t. as_str d ≡ Some (cow_str_bytes t) };
+    ghost says = { λ d text. as_str d ≡ Some (cow_str_bytes text) };
 
-    ghost fits = { λ t. TextFits (cow_str_bytes t) };
+    ghost fits = { λ text. TextFits (cow_str_bytes text) };
 
-    const EXPECTED: Expectation = Expectation::Text;
-
-    fn read(node: Node<'v, '_>) -> Result<Self, Fault> {
-        Ok(CowStr::Borrowed(<&'v str>::read(node)?))
-    }
-}
-
-/// A text within the library's limit.
-impl<'v> Read<'v> for &'v str {
-    ghost reads = { λ d t. as_str d ≡ Some t.now };
-
-    ghost fits = { λ t. TextFits t.now };
-
-    const EXPECTED: Expectation = Expectation::Text;
-
-    fn read(node: Node<'v, '_>) -> Result<Self, Fault> {
-        match node.value.as_str() {
-            Some(text) if text_fits(text) => Ok(text),
-            _ => Err(node.unexpected(Self::EXPECTED)),
-        }
-    }
-}
-
-impl<'v> Read<'v> for usize {
-    ghost reads = { λ d n. option_and_then as_u64 (as_number d) ≡ Some n };
-
-    const EXPECTED: Expectation = Expectation::Number;
-
-    fn read(node: Node<'v, '_>) -> Result<Self, Fault> {
-        match node.value.as_u64() {
-            Some(number) => Ok(number as usize),
-            None => Err(node.unexpected(Self::EXPECTED)),
-        }
-    }
-}
-
-impl<'v> Read<'v> for bool {
-    ghost reads = { λ d b. as_bool d ≡ Some b };
-
-    const EXPECTED: Expectation = Expectation::Flag;
-
-    fn read(node: Node<'v, '_>) -> Result<Self, Fault> {
-        match node.value.as_bool() {
-            Some(flag) => Ok(flag),
-            None => Err(node.unexpected(Self::EXPECTED)),
-        }
-    }
-}
-
-/// `null`, or what stands there.
-impl<'v, T: Read<'v>> Read<'v> for Option<T> {
-    ghost fits = { λ o. IfSome o T.fits };
-
-    const EXPECTED: Expectation = Expectation::ObjectOrNull;
-
-    fn read(node: Node<'v, '_>) -> Result<Self, Fault> {
-        if node.value.is_null() {
-            return Ok(None);
-        }
-        Ok(Some(T::read(node)?))
-    }
-}
-
-impl<'v, T: Read<'v> + Drop> Read<'v> for Vec<T> {
-    ghost fits = { λ xs. All T.fits xs.items };
-
-    const EXPECTED: Expectation = Expectation::List;
-
-    fn read(node: Node<'v, '_>) -> Result<Self, Fault> {
-        let Some(values) = node.value.as_array() else {
-            return Err(node.unexpected(Self::EXPECTED));
-        };
-        let mut items = Vec::new(node.alloc);
-        for (index, value) in values.iter().enumerate() {
-            let place = Place::Item(node.place, index);
-            let item = Node {
-                alloc: node.alloc,
-                value,
-                place: &place,
-            };
-            items.push(T::read(item)?)?;
-        }
-        Ok(items)
+    fn read(node: &Node<'v, '_>) -> Result<Self, Fault> {
+        Ok(CowStr::Borrowed(node.as_text()?))
     }
 }

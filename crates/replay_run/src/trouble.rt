@@ -13,6 +13,8 @@ pub enum Trouble {
     Expected(u64, Fault),
     /// At this line, counted from 1, there is a case or an expected answer, and not both.
     Unpaired(u64),
+    /// There are more lines than can be counted.
+    TooManyLines,
     /// Input can't be read.
     Read(io::Error),
     /// The clock can't be read.
@@ -46,6 +48,7 @@ impl fmt::Display for Trouble {
                     "line {line}: a case without an expected answer, or an answer without a case"
                 )
             }
+            Trouble::TooManyLines => write!(f, "too many lines"),
             Trouble::Read(error) => write!(f, "cannot read: {error}"),
             Trouble::Clock(error) => write!(f, "cannot read the clock: {error}"),
             Trouble::Write(error) => write!(f, "cannot write: {error}"),

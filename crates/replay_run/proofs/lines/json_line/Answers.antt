@@ -1,0 +1,9 @@
+use Rattle.std.proofs.Common.{ap, ◌∙◌}
+use Rattle.serde_json.specs.Written.{compact_text, has_float}
+use Rattle.replay_run.proofs.Answering.{answer_of-whole}
+use Rattle.replay_run.proofs.lines.json_line.Goals as goal
+
+pub returns : goal.returns
+returns c =
+    let whole = ap has_float c.in_ok-answer.ensures.answer ∙ answer_of-whole c.args.id.now c.args.outcome in
+    record { line = c.in_ok-line.ensures.text whole ∙ ap compact_text c.in_ok-answer.ensures.answer }

@@ -1,0 +1,44 @@
+-- The answer to a case, as it is written.
+use Rattle.std.specs.Prelude.{◌≡◌, ℕ, Bool, List, [], ◌∷◌, ◌++◌, codes, map, if◌then◌else◌, string_bytes}
+use Rattle.std.specs.List.{flat_map}
+use Rattle.serde_json.specs.Data.{Data, string, array, object, Items, no_items, item, member, no_members}
+use Rattle.serde_json.specs.Written.{compact_text}
+use Rattle.replay_run.specs.Outcome.{Becomes}
+use Rattle.replay_run.specs.declared.case.Case.{Case}
+use Rattle.replay_run.specs.declared.lines.Form.{Form}
+use Rattle.replay_run.specs.declared.lines.Form.TheVariants as form
+use Rattle.replay_run.specs.declared.outcome.Outcome.{Outcome}
+use Rattle.replay_run.specs.declared.outcome.Outcome.TheVariants.{Texts, Refused}
+
+-- texts as items of JSON
+abbrev pub text_items : List (List ℕ) → Items
+text_items [] = no_items
+text_items (text ∷ texts) = item (string text) (text_items texts)
+
+-- the answer to the case of this name, as JSON: its texts, or its refusal by name and words
+abbrev pub answer_of : List ℕ → Outcome → Data
+answer_of id (Texts texts) =
+    object (member (codes "id") (string id) (member (codes "ok") (array (text_items (map string_bytes texts.items))) no_members))
+answer_of id (Refused name words) =
+    object (member (codes "id") (string id) (member (codes "refused") (string name.now) (member (codes "text") (string (string_bytes words)) no_members)))
+
+-- a text and the end of its line
+abbrev pub line_of : List ℕ → List ℕ
+line_of text = text ++ 10 ∷ []
+
+-- each text, or what the refusal prints
+abbrev pub outcome_text : Outcome → List ℕ
+outcome_text (Texts texts) = flat_map (λ text. line_of (string_bytes text)) texts.items
+outcome_text (Refused name words) = line_of (codes "refused: " ++ string_bytes words)
+
+-- the answer to the case of this name, in this form; texts stand behind an empty line, but for the first ones
+abbrev pub answer_text : Form → Bool → List ℕ → Outcome → List ℕ
+answer_text form.Json is_first id outcome = line_of (compact_text (answer_of id outcome))
+answer_text form.Texts is_first id outcome = (if is_first then [] else line_of []) ++ outcome_text outcome
+
+-- the text answers the line: it says what became of the case that the line describes
+pub record AnswersLine (form : Form) (is_first : Bool) (line text : List ℕ) : Type 0 where
+  pub case : Case
+  pub outcome : Outcome
+  pub became : Becomes line case outcome
+  pub text_is : text ≡ answer_text form is_first case.id.now outcome

@@ -1,0 +1,30 @@
+-- The names of kinds, as the format writes them.
+use Rattle.std.specs.Prelude.{ℕ, List, codes}
+use Rattle.std.specs.Cow.{cow_str_bytes}
+use Rattle.annotate_snippets.specs.Fits.{TextFits}
+use Rattle.annotate_snippets.specs.declared.level.LevelName.{LevelName}
+use Rattle.annotate_snippets.specs.declared.level.LevelName.TheVariants.{Standard, Hidden, Own}
+use Rattle.annotate_snippets.specs.declared.renderer.parts.LevelInner.{LevelInner}
+use Rattle.annotate_snippets.specs.declared.renderer.parts.LevelInner.TheVariants.{Error, Warning, Info, Note, Help}
+use Rattle.annotate_snippets.specs.declared.snippet.AnnotationKind.{AnnotationKind}
+use Rattle.annotate_snippets.specs.declared.snippet.AnnotationKind.TheVariants.{Primary, Context, Visible}
+
+-- the name of a kind of level
+abbrev pub kind_name : LevelInner → List ℕ
+kind_name Error = codes "error"
+kind_name Warning = codes "warning"
+kind_name Info = codes "info"
+kind_name Note = codes "note"
+kind_name Help = codes "help"
+
+-- the name of a kind of annotation
+abbrev pub mark_name : AnnotationKind → List ℕ
+mark_name Primary = codes "primary"
+mark_name Context = codes "context"
+mark_name Visible = codes "visible"
+
+-- an own name of a level fits
+abbrev pub NameFits : LevelName → Type 0
+NameFits Standard = Unit {0}
+NameFits Hidden = Unit {0}
+NameFits (Own name) = TextFits (cow_str_bytes name)

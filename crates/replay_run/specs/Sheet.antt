@@ -1,0 +1,154 @@
+-- The sheets that a value of JSON describes.
+use Rattle.std.specs.Prelude.{◌≡◌, ◌⊎◌, ℕ, ◌||◌, true, false, List, [], ◌∷◌, Option, Some, None, codes, fold}
+use Rattle.annotate_snippets.specs.declared.renderer.style.AnsiColor.{AnsiColor}
+use Rattle.annotate_snippets.specs.declared.renderer.style.AnsiColor.TheVariants.{Black, Red, Green, Yellow, Blue, Magenta, Cyan, White, BrightBlack, BrightRed, BrightGreen, BrightYellow, BrightBlue, BrightMagenta, BrightCyan, BrightWhite}
+use Rattle.annotate_snippets.specs.declared.renderer.style.Color.{Color}
+use Rattle.annotate_snippets.specs.declared.renderer.style.Color.TheVariants.{Ansi, Ansi256, Rgb}
+use Rattle.annotate_snippets.specs.declared.renderer.style.Effects.{Effects}
+use Rattle.annotate_snippets.specs.declared.renderer.style.Style.{Style}
+use Rattle.annotate_snippets.specs.declared.renderer.style.Stylesheet.{Stylesheet}
+use Rattle.annotate_snippets.specs.Settings.{plain_settings, styled_settings}
+use Rattle.serde_json.specs.Data.{Data}
+use Rattle.serde_json.specs.Find.{as_str, get}
+use Rattle.replay_run.specs.Field.{SaysAt, MaySayAt, ListSays, as_whole, number_at}
+use Rattle.replay_run.specs.declared.effect.EffectName.{EffectName}
+use Rattle.replay_run.specs.declared.effect.EffectName.TheVariants as effect
+
+-- the plain sheet and the default one
+abbrev pub plain_sheet : Stylesheet
+plain_sheet = plain_settings.stylesheet
+
+abbrev pub default_sheet : Stylesheet
+default_sheet = styled_settings.stylesheet
+
+-- no effect, and a style without colours or effects
+abbrev pub no_effects : Effects
+no_effects =
+    record {
+      bold = false;
+      dimmed = false;
+      italic = false;
+      underline = false;
+      blink = false;
+      invert = false;
+      hidden = false;
+      strikethrough = false;
+    }
+
+abbrev pub plain_style : Style
+plain_style = record { fg = None; bg = None; effects = no_effects }
+
+-- the effects of both
+abbrev pub joined_effects : Effects → Effects → Effects
+joined_effects some more =
+    record {
+      bold = some.bold || more.bold;
+      dimmed = some.dimmed || more.dimmed;
+      italic = some.italic || more.italic;
+      underline = some.underline || more.underline;
+      blink = some.blink || more.blink;
+      invert = some.invert || more.invert;
+      hidden = some.hidden || more.hidden;
+      strikethrough = some.strikethrough || more.strikethrough;
+    }
+
+-- the name of a colour of the terminal
+abbrev pub color_name : AnsiColor → List ℕ
+color_name Black = codes "Black"
+color_name Red = codes "Red"
+color_name Green = codes "Green"
+color_name Yellow = codes "Yellow"
+color_name Blue = codes "Blue"
+color_name Magenta = codes "Magenta"
+color_name Cyan = codes "Cyan"
+color_name White = codes "White"
+color_name BrightBlack = codes "BrightBlack"
+color_name BrightRed = codes "BrightRed"
+color_name BrightGreen = codes "BrightGreen"
+color_name BrightYellow = codes "BrightYellow"
+color_name BrightBlue = codes "BrightBlue"
+color_name BrightMagenta = codes "BrightMagenta"
+color_name BrightCyan = codes "BrightCyan"
+color_name BrightWhite = codes "BrightWhite"
+
+-- whole numbers, in order
+abbrev pub AreBytes : Data → List ℕ → Type 0
+AreBytes d bytes = ListSays (λ e byte. as_whole e ≡ Some byte) d bytes
+
+-- a colour: by its name, by its index, or by its red, green and blue
+abbrev pub IsColorOf : Data → Color → Type 0
+IsColorOf d (Ansi color) = as_str d ≡ Some (color_name color)
+IsColorOf d (Ansi256 index) = number_at (codes "ansi256") d ≡ Some index
+IsColorOf d (Rgb red green blue) = SaysAt AreBytes (codes "rgb") d (red ∷ green ∷ blue ∷ [])
+
+-- the name of an effect, and the effect alone
+abbrev pub effect_name : EffectName → List ℕ
+effect_name effect.Bold = codes "BOLD"
+effect_name effect.Dimmed = codes "DIMMED"
+effect_name effect.Italic = codes "ITALIC"
+effect_name effect.Underline = codes "UNDERLINE"
+effect_name effect.Blink = codes "BLINK"
+effect_name effect.Invert = codes "INVERT"
+effect_name effect.Hidden = codes "HIDDEN"
+effect_name effect.Strikethrough = codes "STRIKETHROUGH"
+
+abbrev pub effect_of : EffectName → Effects
+effect_of effect.Bold = record no_effects { bold = true }
+effect_of effect.Dimmed = record no_effects { dimmed = true }
+effect_of effect.Italic = record no_effects { italic = true }
+effect_of effect.Underline = record no_effects { underline = true }
+effect_of effect.Blink = record no_effects { blink = true }
+effect_of effect.Invert = record no_effects { invert = true }
+effect_of effect.Hidden = record no_effects { hidden = true }
+effect_of effect.Strikethrough = record no_effects { strikethrough = true }
+
+-- the effects that are listed, all of them
+abbrev pub AreEffectsOf : Data → Effects → Type 0
+AreEffectsOf d effects =
+    (names : List EffectName) × ListSays (λ e name. as_str e ≡ Some (effect_name name)) d names × (effects ≡ fold (λ (joined : Effects) name. joined_effects joined (effect_of name)) no_effects names)
+
+-- the same of a list that may be missing: then there are none
+abbrev pub MayBeEffects : Option Data → Effects → Type 0
+MayBeEffects None effects = effects ≡ no_effects
+MayBeEffects (Some d) effects = AreEffectsOf d effects
+
+pub record IsStyleOf (d : Data) (style : Style) : Type 0 where
+  pub fg : MaySayAt IsColorOf (codes "fg") d style.fg
+  pub bg : MaySayAt IsColorOf (codes "bg") d style.bg
+  pub effects : MayBeEffects (get (codes "effects") d) style.effects
+
+-- a style that is plain where it is missing
+abbrev pub MayBeStyle : Option Data → Style → Type 0
+MayBeStyle None style = style ≡ plain_style
+MayBeStyle (Some d) style = IsStyleOf d style
+
+-- a sheet that is written out
+pub record IsOwnSheetOf (d : Data) (sheet : Stylesheet) : Type 0 where
+  pub error : MayBeStyle (get (codes "error") d) sheet.error
+  pub warning : MayBeStyle (get (codes "warning") d) sheet.warning
+  pub info : MayBeStyle (get (codes "info") d) sheet.info
+  pub note : MayBeStyle (get (codes "note") d) sheet.note
+  pub help : MayBeStyle (get (codes "help") d) sheet.help
+  pub line_num : MayBeStyle (get (codes "line_num") d) sheet.line_num
+  pub emphasis : MayBeStyle (get (codes "emphasis") d) sheet.emphasis
+  pub none : MayBeStyle (get (codes "none") d) sheet.none
+  pub context : MayBeStyle (get (codes "context") d) sheet.context
+  pub addition : MayBeStyle (get (codes "addition") d) sheet.addition
+  pub removal : MayBeStyle (get (codes "removal") d) sheet.removal
+
+-- a sheet: `plain`, `default`, or one that is written out
+abbrev pub IsNamedSheet : List ℕ → Stylesheet → Type 0
+IsNamedSheet name sheet =
+    ((name ≡ codes "plain") × (sheet ≡ plain_sheet)) ⊎ ((name ≡ codes "default") × (sheet ≡ default_sheet))
+
+abbrev pub IsSheetBy : Option (List ℕ) → Data → Stylesheet → Type 0
+IsSheetBy None d sheet = IsOwnSheetOf d sheet
+IsSheetBy (Some name) d sheet = IsNamedSheet name sheet
+
+abbrev pub IsSheetOf : Data → Stylesheet → Type 0
+IsSheetOf d sheet = IsSheetBy (as_str d) d sheet
+
+-- the sheets of a case: the plain one where they are missing
+abbrev pub AreSheetsOf : Option Data → List Stylesheet → Type 0
+AreSheetsOf None sheets = sheets ≡ plain_sheet ∷ []
+AreSheetsOf (Some d) sheets = ListSays IsSheetOf d sheets
