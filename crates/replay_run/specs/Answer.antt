@@ -31,7 +31,7 @@ abbrev pub outcome_text : Outcome → List ℕ
 outcome_text (Texts texts) = flat_map (λ text. line_of (string_bytes text)) texts.items
 outcome_text (Refused name words) = line_of (codes "refused: " ++ string_bytes words)
 
--- the answer to the case of this name, in this form; texts stand behind an empty line, but for the first ones
+-- the answer to the case of this name, in this form; texts stand after an empty line, but for the first ones
 abbrev pub answer_text : Form → Bool → List ℕ → Outcome → List ℕ
 answer_text form.Json is_first id outcome = line_of (compact_text (answer_of id outcome))
 answer_text form.Texts is_first id outcome = (if is_first then [] else line_of []) ++ outcome_text outcome
