@@ -1,16 +1,16 @@
 -- What becomes of the runs that a run touches: what the first holds before it, the run, and what the last holds after.
-use Rattle.std.proofs.Common.{◌≡◌, ℕ, suc, ◌+◌, ◌-◌, ◌<◌, ◌≤◌, List, [], ◌∷◌, ◌++◌, length, take, drop, get_or, refl, sym, ap, ◌∙◌, arith, false, inl, inr, subst, All, if◌then◌else◌}
-use Rattle.std.proofs.lemmas.List.{take_all, take_more, get_or_default, get_or-take, get_or-drop}
+use Rattle.std.proofs.Common.{◌≡◌, ℕ, suc, ◌+◌, ◌-◌, ◌<◌, ◌≤◌, List, [], ◌∷◌, ◌++◌, length, take, drop, set, get_or, refl, sym, ap, ◌∙◌, arith, false, inl, inr, subst, All, if◌then◌else◌}
+use Rattle.std.proofs.lemmas.List.{places, same_lists, take_all, take_more, get_or_default, get_or-take, get_or-drop, get_or-set_same, get_or-set_other, length-set, length-drop}
 use Rattle.std.proofs.lemmas.List.Elements.{All-cons, All-nil}
 use Rattle.std.proofs.lemmas.Bool.{cases_lt, cases_eq, true≢false}
-use Rattle.snippet_style.proofs.ShownLemmas.{painted-append, run_cell-grown, pick, cell_same, holds_inside, holds_elsewhere, holds_before, holds_behind}
+use Rattle.snippet_style.proofs.ShownLemmas.{painted-append, run_cell-grown, ShowsMore-joined, AddsRun-joined, pick, cell_same, holds_inside, holds_elsewhere, holds_before, holds_behind}
 use Rattle.snippet_style.proofs.CopyLemmas.{shown_past}
-use Rattle.snippet_style.proofs.PutLemmas.{IsRow-added, painted_elsewhere}
+use Rattle.snippet_style.proofs.PutLemmas.{AreOrdered, AreApart, IsRow-added, painted_elsewhere}
 use Rattle.snippet_style.proofs.RowWoven.{painted_unheld}
-use Rattle.snippet_style.proofs.StretchLemmas.{below_take}
-use Rattle.snippet_style.proofs.TouchLemmas.{cases_held}
+use Rattle.snippet_style.proofs.StretchLemmas.{stretch, below_take}
+use Rattle.snippet_style.proofs.TouchLemmas.{cases_held, touched_stretch, IsPut-touched}
 use Rattle.snippet_style.specs.Grid.{Cell, SPACE}
-use Rattle.snippet_style.specs.Runs.{IsRun, IsRow, IsPart, BeginsWith, ShowsMore, AddsRun, EndsBy, Precedes, Differ, IsClear, IsTouched, IsFront, IsBack, ArePieces, run_chars, run_cell, holds, painted, shown}
+use Rattle.snippet_style.specs.Runs.{IsRun, IsRow, IsPart, BeginsWith, ShowsMore, AddsRun, EndsBy, Precedes, Differ, GoesOn, Touches, IsClear, IsJoined, IsTouched, IsFront, IsBack, ArePieces, IsPut, run_chars, run_cell, holds, painted, shown}
 use Rattle.snippet_style.specs.declared.runs.Run.{Run}
 
 -- a part of a run shows what the run shows where it holds the same
@@ -46,7 +46,7 @@ unheld_behind r c runs all =
       | inr other ↦ holds_elsewhere (get_or runs k d) r c other
     ]
 
-IsRow-none : (text : List ℕ) (row : ℕ) → IsRow text row []
+pub IsRow-none : (text : List ℕ) (row : ℕ) → IsRow text row []
 IsRow-none text row =
     record {
       are_runs = λ k d within. absurd (omega arith);
@@ -269,3 +269,39 @@ ArePieces-three t0 t1 t2 runs front begun pieces run right touched is is_front i
       apart_behind = λ y clear all. adds_more.apart_behind y (begins.apart_behind y clear) (is_back.apart_behind y all 0 right (omega arith));
       few = omega (arith, begins.few, is_front.one, is_back.few, adds_more.count);
     }
+
+-- all runs end before the run
+IsFront-all : (text : List ℕ) (runs : List Run) (run : Run) → IsRow text run.row runs → EndsBy run.cell runs → length runs ≤ 1 → IsFront text runs run runs
+IsFront-all text runs run is_row ends one =
+    record {
+      is_row = is_row;
+      shows = λ r c before. refl;
+      ends = ends;
+      after = λ x all. all;
+      apart_after = λ x all. all;
+      few = omega arith;
+      one = one;
+    }
+
+-- one run is touched, and the run goes on where it ends: it is made longer
+ArePieces-one : (old new : List ℕ) (first run whole : Run) → BeginsWith old new → IsTouched old run (first ∷ []) → IsRun old run → GoesOn first run → IsJoined old new first run whole → ArePieces old new (first ∷ []) (whole ∷ []) run
+ArePieces-one old new first run whole grows touched is goes joined =
+    let runs = first ∷ [] in
+    let before : EndsBy run.cell runs = All-cons (λ x. x.cell + x.count ≤ run.cell) first [] (omega (arith, goes.touches)) (All-nil _) in
+    let within : EndsBy (run.cell + run.count) runs = λ k d inside. omega (arith, before k d inside) in
+    let is_front = IsFront-all old runs run touched.is_row before (omega arith) in
+    let shows = ShowsMore-joined old new runs 0 first run whole refl refl grows touched.is_row.are_runs is goes joined in
+    ArePieces-two old new runs runs (whole ∷ []) run touched is is_front (IsBack-none old runs run within) shows (All-cons (λ x. IsRun new x) whole [] joined.is_run (All-nil _)) (AddsRun-joined old new runs 0 first run whole refl refl goes joined)
+
+set_split : {X : Type 0} (xs : List X) (start end : ℕ) (y : X) → end ≡ start + 1 → end ≤ length xs → set xs start y ≡ take start xs ++ (y ∷ []) ++ drop end xs
+set_split xs start end y one within =
+    same_lists _ _ (grind (arith, places, length-set xs start y)) (λ k d h. grind (arith, places, length-set xs start y, cases_lt k start, cases_eq k start, get_or-set_other xs start k y d, get_or-set_same xs start y d))
+
+-- what is put where it makes a single run longer
+pub IsPut-one : (old new : List ℕ) (runs : List Run) (run first whole : Run) (start end : ℕ) → end - start ≡ 1 → end ≤ length runs → first ≡ get_or runs start first → ((k : ℕ) (d : Run) → k < start → IsClear (get_or runs k d) run) → ((k : ℕ) (d : Run) → start ≤ k → k < end → Touches (get_or runs k d) run) → ((k : ℕ) (d : Run) → end ≤ k → k < length runs → IsClear run (get_or runs k d)) → All (λ x. IsRun old x) runs → AreOrdered runs → AreApart runs → BeginsWith old new → IsRun old run → GoesOn first run → IsJoined old new first run whole → IsPut old new runs (set runs start whole) run
+IsPut-one old new runs run first whole start end one within read above touch below are ordered apart grows is goes joined =
+    let low : start ≤ end = omega (arith, one) in
+    let only : stretch runs start end ≡ first ∷ [] = ap (λ n. take n (drop start runs)) one ∙ take_more (drop start runs) 0 first (omega (arith, length-drop start runs, one, within)) ∙ ap (λ x. x ∷ []) (get_or-drop start runs 0 first ∙ ap (λ k. get_or runs k first) (omega arith) ∙ sym read) in
+    let touched : IsTouched old run (first ∷ []) = subst (λ (l : List Run). IsTouched old run l) only (touched_stretch old runs run start end low within are ordered apart touch) in
+    let pieces = subst (λ (l : List Run). ArePieces old new l (whole ∷ []) run) (sym only) (ArePieces-one old new first run whole grows touched is goes joined) in
+    IsPut-touched old new runs (set runs start whole) (whole ∷ []) run start end low within above touch below are ordered apart grows pieces (set_split runs start end whole (omega (arith, one)) within)

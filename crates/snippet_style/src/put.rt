@@ -7,7 +7,7 @@ ghost use Rattle.snippet_style.specs.Runs.{IsRun, BeginsWith, Precedes, Differ, 
 ghost use Rattle.snippet_style.specs.declared.runs.Run.{Run};
 ghost use Rattle.std.specs.List.{AllPairs, slice_index_or};
 
-use crate::runs::{Run, add_run, begun_by, clipped};
+use crate::runs::{Run, add_run, begun_by, clipped, goes_on, joined};
 use std::alloc::AllocError;
 
 /// Whether all runs stand before this one.
@@ -186,6 +186,11 @@ pub(crate) fn put_run<'a>(
     }
     let end = begun_by(old, run.row, run.cell + run.count);
     let start = first_touched(old, end, &run);
+    if end - start == 1 && goes_on(&old[start], &run) {
+        let whole = joined(text, &mut spare.text, old[start], run)?;
+        runs[start] = whole;
+        return Ok(());
+    }
     spare.runs.clear();
     add_pieces(
         text,

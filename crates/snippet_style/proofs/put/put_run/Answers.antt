@@ -1,8 +1,11 @@
-use Rattle.std.proofs.Common.{◌<◌, ◌≤◌, sym, subst, string_bytes, length, get_or, List, ℕ, All}
+use Rattle.std.proofs.Common.{arith, ◌<◌, ◌≤◌, sym, subst, string_bytes, length, get_or, set, refl, List, ℕ, All}
+use Rattle.std.proofs.lemmas.List.{get_or_default}
+use Rattle.snippet_style.proofs.PieceLemmas.{IsPut-one}
+use Rattle.snippet_style.proofs.RunLemmas.{none}
 use Rattle.snippet_style.proofs.PutLemmas.{AreOrdered, AreApart}
 use Rattle.snippet_style.proofs.StretchLemmas.{stretch}
 use Rattle.snippet_style.proofs.TouchLemmas.{IsPut-added, IsPut-touched, touched_stretch}
-use Rattle.snippet_style.specs.Runs.{IsRun, IsClear, Touches, ArePieces, Precedes}
+use Rattle.snippet_style.specs.Runs.{IsRun, IsClear, Touches, ArePieces, Precedes, IsPut}
 use Rattle.snippet_style.specs.declared.runs.Run.{Run}
 use Rattle.snippet_style.proofs.put.put_run.Goals as goal
 
@@ -10,6 +13,20 @@ pub returns-then-are_before-clause-ok : goal.returns-then-are_before-clause-ok
 returns-then-are_before-clause-ok c =
     let before = subst (λ (l : List Run). All (λ x. Precedes x c.args.run) l) c.as_slice-old.ensures.value (c.are_before.ensures.yes c.if-are_before.true) in
     IsPut-added (string_bytes c.args.text.now) (string_bytes c.add_run.new.text) c.args.runs.now.items c.add_run.new.runs.items c.args.run c.in_ok-add_run.ensures.ok c.in_ok-add_run.ensures.are_runs c.requires.ordered c.requires.apart before c.in_ok-add_run.ensures.adds
+
+pub returns-then-goes_on-clause-ok : goal.returns-then-goes_on-clause-ok
+returns-then-goes_on-clause-ok c =
+    let text = string_bytes c.args.text.now in
+    let new = string_bytes c.joined.new.text in
+    let runs = c.as_slice-old.result.now in
+    let is = sym c.as_slice-old.ensures.value in
+    let start = c.first_touched-start.result in
+    let end = c.begun_by-end.result in
+    let run = c.args.run in
+    let whole = c.in_ok-whole.whole in
+    let first = get_or runs start none in
+    let put = IsPut-one text new runs run first whole start end (omega (arith, c.if-end-start-eq1.true)) c.begun_by-end.ensures.within (get_or_default runs start none first (omega (arith, c.if-end-start-eq1.true, c.begun_by-end.ensures.within))) c.first_touched-start.ensures.before c.first_touched-start.ensures.touch c.begun_by-end.ensures.later (subst (λ (l : List Run). All (λ x. IsRun text x) l) is c.requires.runs) (subst AreOrdered is c.requires.ordered) (subst AreApart is c.requires.apart) c.in_ok-whole.ensures.text c.requires.run (c.goes_on.ensures.yes c.if-goes_on.true) c.in_ok-whole.ensures.ok in
+    subst (λ (l : List Run). IsPut text new l (set l start whole) run) c.as_slice-old.ensures.value put
 
 pub add_pieces-requires-clause-touched : goal.add_pieces-requires-clause-touched
 add_pieces-requires-clause-touched c =
