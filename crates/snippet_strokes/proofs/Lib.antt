@@ -17,3 +17,4 @@ pub mod RailLemmas
 pub mod OpenLemmas
 pub mod ElisionLemmas
 pub mod WholeLineLemmas
+pub mod LineLemmas

@@ -1,8 +1,8 @@
 -- Painting marks into a row: one cell after another, and one entry over another.
-use Rattle.std.proofs.Common.{◌≡◌, ◌⊎◌, ℕ, ◌+◌, ◌<◌, ◌≤◌, ◌==◌, ◌&&◌, ◌||◌, cond, max, Bool, true, false, List, [], ◌∷◌, ◌++◌, length, take, get_or, refl, sym, ap, ◌∙◌, subst, arith, inl, inr, All}
+use Rattle.std.proofs.Common.{◌≡◌, ◌⊎◌, ℕ, ◌+◌, ◌-◌, ◌<◌, ◌≤◌, ◌==◌, ◌&&◌, ◌||◌, cond, max, Bool, true, false, List, [], ◌∷◌, ◌++◌, length, replicate, take, get_or, refl, sym, ap, ◌∙◌, subst, arith, inl, inr, All}
 use Rattle.std.proofs.lemmas.Bool.{cases_lt}
 use Rattle.std.proofs.lemmas.Bool.Decides.{nat_tests}
-use Rattle.std.proofs.lemmas.List.{length_push, get_or_append_left, get_or_push, take_more, take_all}
+use Rattle.std.proofs.lemmas.List.{length-replicate, get_or-replicate, length_push, get_or_append_left, get_or_push, take_more, take_all}
 use Rattle.snippet_model.specs.declared.snippet.AnnotationKind.{AnnotationKind}
 use Rattle.snippet_model.specs.declared.snippet.AnnotationKind.TheVariants.{Primary, Context, Visible}
 use Rattle.snippet_view.specs.declared.entries.LineAnnotation.{LineAnnotation}
@@ -15,7 +15,7 @@ use Rattle.snippet_style.specs.declared.glyphs.DecorStyle.{DecorStyle}
 use Rattle.snippet_style.specs.declared.glyphs.DecorStyle.TheVariants.{Ascii, Unicode}
 use Rattle.snippet_style.specs.declared.role.ElementStyle.{ElementStyle}
 use Rattle.snippet_style.specs.Glyphs.{glyph_of, underline_role}
-use Rattle.snippet_style.specs.Grid.{Cell, cell_at, row_at, unlinked_cell, WritesCells}
+use Rattle.snippet_style.specs.Grid.{Cell, SPACE, cell_at, row_at, unlinked_cell, WritesCells}
 use Rattle.snippet_text.specs.Normalized.{is_listed}
 use Rattle.snippet_strokes.specs.declared.layout.Layout.{Layout}
 use Rattle.snippet_strokes.specs.Entries.{EntryCovers, is_end_part, is_single, IsMarkCell}
@@ -58,36 +58,51 @@ Paints-more old mid new row from to next cell done writes ordered one =
       kept = λ none. absurd (omega arith);
     }
 
--- all cells are painted; a span that ends before it starts has none
-pub Paints-all : (old new : List (List Cell)) (row at start end next : ℕ) (cell : ℕ → Cell) → Paints old new row (at + start) (at + next) cell → end ≤ next → (start ≤ end → next ≤ end) → (end < start → next ≡ start) → Paints old new row (at + start) (at + end) cell
-Paints-all old new row at start end next cell done reached within empty =
-    elim (cases_lt end start) [
-      | inl none ↦
-          let still : next ≡ start = empty none in
-          record {
-            inside = λ c after before. absurd (omega arith);
-            before = done.before;
-            behind = λ c right. elim (cases_lt c (at + start)) [
-              | inl left ↦ done.before c left
-              | inr past ↦ done.behind c (omega arith)
-            ];
-            others = done.others;
-            count = done.count;
-            width = λ some. absurd (omega arith);
-            kept = λ _. done.kept (omega arith);
-          }
-      | inr some ↦
-          let ended : next ≡ end = omega (arith, within some) in
-          subst (λ n. Paints old new row (at + start) (at + n) cell) ended done
-    ]
+-- an entry that ends before it starts has no cells
+pub Paints-past : (rows : List (List Cell)) (row from to : ℕ) (cell : ℕ → Cell) → to ≤ from → Paints rows rows row from to cell
+Paints-past rows row from to cell past =
+    record {
+      inside = λ c after before. absurd (omega (arith, past));
+      before = λ c _. refl;
+      behind = λ c _. refl;
+      others = λ r _. refl;
+      count = λ _. refl;
+      width = λ some. absurd (omega (arith, past));
+      kept = λ _. refl;
+    }
 
--- the glyph of an entry's mark is that of its mark cell
-pub mark_cell_is : (layout : Layout) (e : PlacedEntry) (at mark glyph first : ℕ) (primary : Bool) (role : ElementStyle) → primary ≡ is_primary e.entry.kind → mark ≡ cond (at == e.entry.start.display) first glyph → first ≡ first_glyph layout.decor e → glyph ≡ glyph_of layout.decor primary 94 45 0x2501 0x2500 → role ≡ underline_role primary → unlinked_cell role mark ≡ mark_cell layout e (layout.code + at)
-mark_cell_is layout e at mark glyph first primary role is_kind is_mark is_first is_glyph is_role =
-    rw (is_role, is_mark, is_first, is_glyph, shifted layout.code at e.entry.start.display, is_kind) refl
-  where
-    shifted : (k m n : ℕ) → (k + m == k + n) ≡ (m == n)
-    shifted k m n = grind (arith, nat_tests)
+-- after the first cell come those that are all one
+pub Paints-rest : (old mid new : List (List Cell)) (row from to : ℕ) (line : Cell) (cell : ℕ → Cell) → Paints old mid row from (from + 1) cell → ((c : ℕ) → from < c → line ≡ cell c) → from + 1 < to → WritesCells mid new row (from + 1) (replicate (to - (from + 1)) line) → Paints old new row from to cell
+Paints-rest old mid new row from to line cell done is more writes =
+    let n = to - (from + 1) in
+    let long : length (replicate n line) ≡ n = length-replicate n line in
+    record {
+      inside = λ c after before. elim (cases_lt c (from + 1)) [
+        | inl first ↦ writes.before c first ∙ done.inside c after first
+        | inr late ↦
+            let k : ℕ = c - (from + 1) in
+            let here : from + 1 + k ≡ c = omega (arith, late) in
+            let within : k < n = omega (arith, late, before) in
+            ap (cell_at new row) (sym here) ∙ writes.inside k (omega (arith, within, long)) ∙ get_or-replicate n k line SPACE within ∙ is c (omega (arith, late))
+      ];
+      before = λ c left. writes.before c (omega (arith, left)) ∙ done.before c left;
+      behind = λ c right. writes.behind c (omega (arith, right, long, more)) ∙ done.behind c (omega (arith, right, more));
+      others = λ r other. writes.others r other ∙ done.others r other;
+      count = λ within. omega (arith, writes.count, done.count within, within);
+      width = λ some. omega (arith, writes.width, done.width (omega arith), long, more);
+      kept = λ none. absurd (omega (arith, none, more));
+    }
+
+-- the first cell of an entry's mark, and any later one
+pub first_cell_is : (layout : Layout) (e : PlacedEntry) (first : ℕ) (primary : Bool) (role : ElementStyle) → primary ≡ is_primary e.entry.kind → first ≡ first_glyph layout.decor e → role ≡ underline_role primary → unlinked_cell role first ≡ mark_cell layout e (layout.code + e.entry.start.display)
+first_cell_is layout e first primary role is_kind is_first is_role =
+    let here : (layout.code + e.entry.start.display == layout.code + e.entry.start.display) ≡ true = grind (arith, nat_tests) in
+    rw (is_role, is_first, is_kind, here) refl
+
+pub other_cell_is : (layout : Layout) (e : PlacedEntry) (glyph : ℕ) (primary : Bool) (role : ElementStyle) → primary ≡ is_primary e.entry.kind → glyph ≡ glyph_of layout.decor primary 94 45 0x2501 0x2500 → role ≡ underline_role primary → (c : ℕ) → layout.code + e.entry.start.display < c → unlinked_cell role glyph ≡ mark_cell layout e c
+other_cell_is layout e glyph primary role is_kind is_glyph is_role c past =
+    let other : (c == layout.code + e.entry.start.display) ≡ false = grind (arith, nat_tests) in
+    rw (is_role, is_glyph, is_kind, other) refl
 
 -- a mark cell of an entry that stands for a whole span is one of its kind
 stroke_is : (decor : DecorStyle) (kind : AnnotationKind) (start stem : Bool) → IsMarkCell decor kind (unlinked_cell (underline_role (is_primary kind)) (cond start (cond stem (glyph_of decor (is_primary kind) 94 45 0x252F 0x252C) (glyph_of decor (is_primary kind) 94 45 0x2501 0x2500)) (glyph_of decor (is_primary kind) 94 45 0x2501 0x2500)))

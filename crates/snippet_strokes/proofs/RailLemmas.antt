@@ -1,8 +1,8 @@
 -- What drawing bars keeps.
-use Rattle.std.proofs.Common.{◌≡◌, ℕ, ◌+◌, ◌-◌, ◌<◌, ◌≤◌, ◌==◌, ◌&&◌, max, true, false, Bool, None, List, [], ◌∷◌, ◌++◌, length, take, drop, get_or, refl, sym, ap, ◌∙◌, subst, arith, inl, inr}
+use Rattle.std.proofs.Common.{◌≡◌, ℕ, ◌+◌, ◌-◌, ◌<◌, ◌≤◌, ◌==◌, ◌&&◌, max, true, false, Bool, None, List, [], ◌∷◌, ◌++◌, length, take, drop, get_or, refl, sym, ap, ◌∙◌, subst, arith, inl, inr, All}
 use Rattle.std.specs.List.{list_any, slice_index_or}
 use Rattle.std.proofs.lemmas.Bool.{cases_lt, cases_eq}
-use Rattle.std.proofs.lemmas.List.{places, same_lists, get_or_at, get_or_append_left, get_or_past, get_or-drop, get_or-take, length-drop, length-take, length-append, length-take-le, ext_get_or, drop-drop, drop_more}
+use Rattle.std.proofs.lemmas.List.{places, same_lists, get_or_at, get_or_default, get_or_append_left, get_or_past, get_or-drop, get_or-take, length-drop, length-take, length-append, length-take-le, ext_get_or, drop-drop, drop_more}
 use Rattle.std.proofs.lemmas.List.Elements.{All-get_or, All-from_get_or}
 use Rattle.snippet_view.specs.declared.entries.LineAnnotation.{LineAnnotation}
 use Rattle.snippet_view.specs.Window.{AreReplaced}
@@ -17,7 +17,8 @@ use Rattle.snippet_strokes.specs.declared.rails.RailStroke.{RailStroke}
 use Rattle.snippet_strokes.specs.declared.rails.RailStroke.TheVariants.{Top, Solid, Dotted}
 use Rattle.snippet_strokes.specs.Entries.{IsRailCell, IsMarkCell, are_plain, has_mark_role, wide_entries}
 use Rattle.snippet_model.specs.Rows.{IsFreeCell}
-use Rattle.snippet_strokes.specs.Rails.{BarsDrawn, DrawsBars, rail_glyph}
+use Rattle.snippet_strokes.specs.Rails.{BarsDrawn, DrawsBars, StandsBeside, rail_glyph}
+use Rattle.snippet_strokes.specs.declared.rails.OpenBar.{OpenBar}
 use Rattle.snippet_strokes.specs.Rows.{AddsStrokes, AreStrokes, IsBeside, IsStrokeRow, ShowsMarks}
 
 -- each part of a bar is one of the glyphs that bars are drawn with, and not listed
@@ -101,47 +102,71 @@ DrawsBars-more layout row old mid new done more =
       count = more.count ∙ done.count;
     }
 
--- a fact of a cell of the row that one cell was written into
-one_written : (P : Cell → Type 0) (old new : List (List Cell)) (row at c : ℕ) (cell : Cell) → WritesCells old new row at (cell ∷ []) → P cell → P (cell_at old row c) → P (cell_at new row c)
-one_written P old new row at c cell writes here there =
+-- what stands where a list has no bar
+abbrev pub no_bar : OpenBar
+no_bar = record { depth = 0; primary = false }
+
+pub beside_itself : (bars : List OpenBar) (from k : ℕ) (d : OpenBar) → k ≡ from → StandsBeside (get_or bars from d) (k - from) (get_or bars k d)
+beside_itself bars from k d same =
+    record {
+      depth = ap (λ n. (get_or bars n d).depth) same ∙ omega (arith, same);
+      primary = ap (λ n. (get_or bars n d).primary) same;
+    }
+
+-- one more bar stands beside those before it
+pub beside_next : (bars : List OpenBar) (from to k : ℕ) (d e : OpenBar) → from < to → k ≡ to → to < length bars → StandsBeside (get_or bars from d) (to - 1 - from) (get_or bars (to - 1) d) → StandsBeside (get_or bars (to - 1) e) 1 (get_or bars to e) → StandsBeside (get_or bars from d) (k - from) (get_or bars k d)
+beside_next bars from to k d e ordered same within done next =
+    let here : get_or bars to e ≡ get_or bars to d = get_or_default bars to e d within in
+    let before : get_or bars (to - 1) e ≡ get_or bars (to - 1) d = get_or_default bars (to - 1) e d (omega (arith, within)) in
+    let more : StandsBeside (get_or bars (to - 1) d) 1 (get_or bars to d) = subst (λ (x : OpenBar). StandsBeside x 1 (get_or bars to d)) before (subst (λ (x : OpenBar). StandsBeside (get_or bars (to - 1) e) 1 x) here next) in
+    record {
+      depth = ap (λ n. (get_or bars n d).depth) same ∙ omega (arith, more.depth, done.depth, same, ordered);
+      primary = ap (λ n. (get_or bars n d).primary) same ∙ more.primary ∙ done.primary;
+    }
+
+-- a fact of a cell of the row that cells were written into
+some_written : (P : Cell → Type 0) (old new : List (List Cell)) (row at c : ℕ) (cells : List Cell) → WritesCells old new row at cells → All P cells → P (cell_at old row c) → P (cell_at new row c)
+some_written P old new row at c cells writes all there =
     elim (cases_lt c at) [
       | inl before ↦ subst P (sym (writes.before c before)) there
       | inr after ↦
-          elim (cases_lt c (at + 1)) [
+          elim (cases_lt c (at + length cells)) [
             | inl inside ↦
-                let same : at + 0 ≡ c = omega (arith, inside, after) in
-                subst (λ n. P (cell_at new row n)) same (subst P (sym (writes.inside 0 (omega arith))) here)
+                let k : ℕ = c - at in
+                let same : at + k ≡ c = omega (arith, after) in
+                let within : k < length cells = omega (arith, inside, after) in
+                subst (λ n. P (cell_at new row n)) same (subst P (sym (writes.inside k within)) (All-get_or P cells k SPACE within all))
             | inr behind ↦ subst P (sym (writes.behind c (omega (arith, behind)))) there
           ]
     ]
 
--- a part of a bar is written into its row
-BarsDrawn-write : (layout : Layout) (old new : List (List Cell)) (row at : ℕ) (cell : Cell) → WritesCells old new row at (cell ∷ []) → layout.gutter + 3 ≤ at → at < layout.code → IsRailCell layout.decor cell → IsFreeCell cell → BarsDrawn layout (row_at old row) (row_at new row)
-BarsDrawn-write layout old new row at cell writes right near rail clean =
+-- parts of bars are written into a row
+BarsDrawn-write : (layout : Layout) (old new : List (List Cell)) (row at : ℕ) (cells : List Cell) → WritesCells old new row at cells → layout.gutter + 3 ≤ at → at + length cells ≤ layout.code → All (IsRailCell layout.decor) cells → All IsFreeCell cells → BarsDrawn layout (row_at old row) (row_at new row)
+BarsDrawn-write layout old new row at cells writes right near rail clean =
     let before = row_at old row in
     let after = row_at new row in
-    let long : length after ≡ max (length before) (at + 1) = writes.width in
+    let long : length after ≡ max (length before) (at + length cells) = writes.width in
     let P : Cell → Type 0 = IsFreeCell in
     let Q : Cell → Type 0 = IsRailCell layout.decor in
     record {
       left = λ c left. writes.before c (omega (arith, left, right));
-      rails = λ c is. one_written Q old new row at c cell writes rail is;
+      rails = λ c is. some_written Q old new row at c cells writes rail is;
       code = ext_get_or SPACE (drop layout.code after) (drop layout.code before) (omega (arith, length-drop layout.code after, length-drop layout.code before, long, near)) (λ k within. get_or-drop layout.code after k SPACE ∙ writes.behind (layout.code + k) (omega (arith, near)) ∙ sym (get_or-drop layout.code before k SPACE));
       longer = omega (arith, long);
       short = omega (arith, long, near);
-      free = λ free. All-from_get_or P after SPACE (λ c within. one_written P old new row at c cell writes clean (elim (cases_lt c (length before)) [
+      free = λ free. All-from_get_or P after SPACE (λ c within. some_written P old new row at c cells writes clean (elim (cases_lt c (length before)) [
         | inl inside ↦ All-get_or P before c SPACE inside free
         | inr past ↦ subst P (sym (get_or_past before c SPACE past)) (refl, refl)
       ]));
     }
 
-pub DrawsBars-writes : (layout : Layout) (row r at : ℕ) (old new : List (List Cell)) (cell : Cell) → WritesCells old new r at (cell ∷ []) → row ≤ r → r < length old → layout.gutter + 3 ≤ at → at < layout.code → IsRailCell layout.decor cell → IsFreeCell cell → DrawsBars layout row old new
-DrawsBars-writes layout row r at old new cell writes lower within right near rail clean =
+pub DrawsBars-writes : (layout : Layout) (row r at : ℕ) (old new : List (List Cell)) (cells : List Cell) → WritesCells old new r at cells → row ≤ r → r < length old → layout.gutter + 3 ≤ at → at + length cells ≤ layout.code → All (IsRailCell layout.decor) cells → All IsFreeCell cells → DrawsBars layout row old new
+DrawsBars-writes layout row r at old new cells writes lower within right near rail clean =
     record {
       above = λ k high. writes.others k (λ same. omega (arith, same, high, lower));
       rows = λ k. elim (cases_eq k r) [
         | inl here ↦
-            subst (λ n. BarsDrawn layout (row_at old n) (row_at new n)) (sym here) (BarsDrawn-write layout old new r at cell writes right near rail clean)
+            subst (λ n. BarsDrawn layout (row_at old n) (row_at new n)) (sym here) (BarsDrawn-write layout old new r at cells writes right near rail clean)
         | inr other ↦
             subst (λ cells. BarsDrawn layout (row_at old k) cells) (sym (writes.others k other)) (BarsDrawn-none layout (row_at old k))
       ];

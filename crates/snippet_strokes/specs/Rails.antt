@@ -52,6 +52,11 @@ open_below open_bars es =
 abbrev pub HasRoom : Layout → OpenBar → Type 0
 HasRoom layout bar = (0 < bar.depth) × (layout.gutter + 3 + bar.depth < layout.code)
 
+-- a bar stands so many cells right of the first of some, and is drawn in its role
+pub record StandsBeside (first : OpenBar) (cells : ℕ) (bar : OpenBar) : Type 0 where
+  pub depth : bar.depth ≡ first.depth + cells
+  pub primary : bar.primary ≡ first.primary
+
 -- the glyph of a part of a bar: its top beside a whole line, a part of it beside a line, or beside lines that aren't shown
 abbrev pub rail_glyph : RailStroke → DecorStyle → Bool → ℕ
 rail_glyph Top decor primary = glyph_of decor primary 47 47 0x250F 0x250C

@@ -4,11 +4,12 @@ ghost use Rattle.snippet_strokes.specs.Entries.{HasPlace, HasRail, is_single};
 ghost use Rattle.snippet_strokes.specs.Painting.{DrawsFrom, HasRows, KeepsRails};
 
 use crate::layout::Layout;
+use crate::lines::draw_stretch;
 use crate::positions::PlacedEntry;
 use crate::roles::is_primary;
 use snippet_style::StyledBuffer;
 use snippet_view::LineAnnotationType;
-use std::alloc::AllocError;
+use std::alloc::{AllocError, Global};
 
 /// Draws the lines that lead from starts and ends of spans of several lines to their bars, each in the row of its position,
 /// the first of which is the row of the marks.
@@ -23,6 +24,7 @@ use std::alloc::AllocError;
 ///
 /// There is no memory for the cells.
 pub(crate) fn draw_connectors(
+    alloc: Global,
     buffer: &mut StyledBuffer,
     layout: Layout,
     row: usize,
@@ -38,13 +40,14 @@ pub(crate) fn draw_connectors(
     ensures none { OnOk result (All (λ e. is_single e.entry ≡ true) placed.now → buffer.new ≡ buffer.old) }
 {
     for entry in placed {
-        draw_connector(buffer, layout, row, entry)?;
+        draw_connector(alloc, buffer, layout, row, entry)?;
     }
     Ok(())
 }
 
 /// Draws the line from the bar of an entry to its start, if it is the start or the end of a span of several lines.
 fn draw_connector(
+    alloc: Global,
     buffer: &mut StyledBuffer,
     layout: Layout,
     row: usize,
@@ -61,7 +64,7 @@ fn draw_connector(
 {
     match placed.entry.annotation_type {
         LineAnnotationType::MultilineStart(depth) | LineAnnotationType::MultilineEnd(depth) => {
-            draw_line_to(buffer, layout, row, depth, placed)
+            draw_line_to(alloc, buffer, layout, row, depth, placed)
         }
         LineAnnotationType::Singleline | LineAnnotationType::MultilineLine(_) => Ok(()),
     }
@@ -69,6 +72,7 @@ fn draw_connector(
 
 /// Draws the line from the bar of this depth to before the start of an entry.
 fn draw_line_to(
+    alloc: Global,
     buffer: &mut StyledBuffer,
     layout: Layout,
     row: usize,
@@ -85,13 +89,13 @@ fn draw_line_to(
 {
     let strokes = layout.decor.underline(is_primary(placed.entry.kind));
     let start = layout.code + placed.entry.start.display;
-    for cell in layout.gutter + 3 + depth..start {
-        buffer.putc(
-            row + placed.position,
-            cell,
-            strokes.multiline_horizontal,
-            strokes.style,
-        )?;
-    }
-    Ok(())
+    draw_stretch(
+        alloc,
+        buffer,
+        row + placed.position,
+        layout.gutter + 3 + depth,
+        start,
+        strokes.multiline_horizontal,
+        strokes.style,
+    )
 }

@@ -7,7 +7,7 @@ use crate::layout::Layout;
 use crate::rails::{OpenBar, RailStroke, draw_bars};
 use snippet_style::{DecorStyle, ElementStyle, StyledBuffer};
 use snippet_view::AnnotatedLineInfo;
-use std::alloc::AllocError;
+use std::alloc::{AllocError, Global};
 
 /// Draws the row that stands for the lines between one of this number and the first of the lines behind it, if there are any.
 ///
@@ -15,6 +15,7 @@ use std::alloc::AllocError;
 ///
 /// There is no memory for the row.
 pub(crate) fn draw_gap(
+    alloc: Global,
     buffer: &mut StyledBuffer,
     layout: Layout,
     number: usize,
@@ -29,7 +30,7 @@ pub(crate) fn draw_gap(
     if rest.is_empty() || rest[0].line_index.saturating_sub(1) <= number {
         return Ok(());
     }
-    draw_elision(buffer, layout, open_bars)
+    draw_elision(alloc, buffer, layout, open_bars)
 }
 
 /// Draws the row that stands for lines that aren't shown, with the bars that run beside them, below all that stands in the
@@ -39,6 +40,7 @@ pub(crate) fn draw_gap(
 ///   ...  |  |            ┆ ┇  ┆
 /// ```
 fn draw_elision(
+    alloc: Global,
     buffer: &mut StyledBuffer,
     layout: Layout,
     open_bars: &[OpenBar],
@@ -50,7 +52,7 @@ fn draw_elision(
 {
     let row = buffer.num_lines();
     begin_elision_row(buffer, layout)?;
-    draw_bars(buffer, layout, row, open_bars, RailStroke::Dotted)
+    draw_bars(alloc, buffer, layout, row, open_bars, RailStroke::Dotted)
 }
 
 /// Begins that row, with its sign alone: from the first cell on, or in Unicode in the place of the separator.

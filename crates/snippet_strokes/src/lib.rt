@@ -8,6 +8,7 @@ mod elision;
 mod highlight;
 mod labels;
 pub mod layout;
+mod lines;
 mod marks;
 mod positions;
 mod rails;

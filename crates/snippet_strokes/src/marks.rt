@@ -1,14 +1,15 @@
 //! The marks below a line of the source.
-ghost use Rattle.std.specs.Prelude.{◌≡◌, ◌+◌, ◌^◌, ◌<◌, ◌==◌, ◌&&◌, if◌then◌else◌, All, OnOk, IsPermutation, map};
+ghost use Rattle.std.specs.Prelude.{◌≡◌, ◌+◌, ◌^◌, ◌<◌, ◌==◌, ◌&&◌, All, OnOk, IsPermutation, map};
 ghost use Rattle.snippet_strokes.specs.Entries as spec;
 ghost use Rattle.snippet_strokes.specs.Painting.{AreMarked, IsPaintingOrder, Painted, Paints, first_glyph, mark_cell, mark_end};
 
 use crate::layout::Layout;
+use crate::lines::draw_stretch;
 use crate::positions::PlacedEntry;
 use crate::roles::is_primary;
 use snippet_style::{DecorStyle, StyledBuffer};
 use snippet_view::{LineAnnotation, LineAnnotationType};
-use std::alloc::AllocError;
+use std::alloc::{AllocError, Global};
 use std::cmp::Reverse;
 
 /// Draws the marks of some entries into a row, over what stands there. The entries are put in another order.
@@ -21,6 +22,7 @@ use std::cmp::Reverse;
 ///
 /// There is no memory for the cells, or to sort the entries.
 pub(crate) fn draw_marks(
+    alloc: Global,
     buffer: &mut StyledBuffer,
     layout: Layout,
     row: usize,
@@ -33,7 +35,7 @@ pub(crate) fn draw_marks(
     ensures same { OnOk result (IsPermutation placed.old.items placed.new.items) }
 {
     sort_for_painting(placed)?;
-    paint_entries(buffer, layout, row, placed)
+    paint_entries(alloc, buffer, layout, row, placed)
 }
 
 /// Puts the entries in order from the widest to the narrowest, those of one width with the primary ones last, and else
@@ -58,6 +60,7 @@ fn entry_width(entry: &LineAnnotation) -> usize
 
 /// Paints the marks of entries into a row, each over those before it.
 fn paint_entries(
+    alloc: Global,
     buffer: &mut StyledBuffer,
     layout: Layout,
     row: usize,
@@ -69,7 +72,7 @@ fn paint_entries(
     ensures painted { OnOk result (Painted layout placed.now row buffer.old buffer.new) }
 {
     for entry in placed {
-        paint_entry(buffer, layout, row, entry)?;
+        paint_entry(alloc, buffer, layout, row, entry)?;
     }
     Ok(())
 }
@@ -80,6 +83,7 @@ fn paint_entries(
 ///       |       ^^^^^         ┯━━━━
 /// ```
 fn paint_entry(
+    alloc: Global,
     buffer: &mut StyledBuffer,
     layout: Layout,
     row: usize,
@@ -92,23 +96,21 @@ fn paint_entry(
         (layout.code + mark_end placed.now) (mark_cell layout placed.now)) }
 {
     let strokes = layout.decor.underline(is_primary(placed.entry.kind));
+    let (start, end) = (placed.entry.start.display, mark_end(placed));
+    if end <= start {
+        return Ok(());
+    }
     let first = first_glyph(layout.decor, placed);
-    for column in placed.entry.start.display..mark_end(placed) {
-        let mark = mark_glyph(placed, first, strokes.underline, column);
-        buffer.putc(row, layout.code + column, mark, strokes.style)?;
-    }
-    Ok(())
-}
-
-/// The glyph of an entry's mark at one of its columns: the first one's own, or else the underline.
-fn mark_glyph(placed: &PlacedEntry, first: char, underline: char, column: usize) -> char
-    ensures value { result ≡ (if column == placed.now.entry.start.display then first else underline) }
-{
-    if column == placed.entry.start.display {
-        first
-    } else {
-        underline
-    }
+    buffer.putc(row, layout.code + start, first, strokes.style)?;
+    draw_stretch(
+        alloc,
+        buffer,
+        row,
+        layout.code + start + 1,
+        layout.code + end,
+        strokes.underline,
+        strokes.style,
+    )
 }
 
 /// The column behind the last one at which an entry's mark is painted. Where an entry covers no column, but a glyph of its

@@ -1,9 +1,11 @@
 //! The bars of spans of several lines, which run beside the rows, left of the code.
-ghost use Rattle.std.specs.Prelude.{◌≡◌, ◌+◌, ◌^◌, ◌<◌, All, IfOk, OnOk};
+ghost use Rattle.std.specs.Prelude.{◌≡◌, ◌+◌, ◌-◌, ◌^◌, ◌<◌, ◌≤◌, ℕ, true, All, IfOk, OnOk, length, slice_index_or};
+ghost use Rattle.snippet_strokes.specs.declared.rails.OpenBar.{OpenBar};
 ghost use Rattle.snippet_strokes.specs.Rails as spec;
-ghost use Rattle.snippet_strokes.specs.Rails.{DrawsBars, HasRoom, ends_of_bars};
+ghost use Rattle.snippet_strokes.specs.Rails.{DrawsBars, HasRoom, StandsBeside, ends_of_bars};
 
 use crate::layout::Layout;
+use crate::lines::repeated;
 use crate::roles::is_primary;
 use snippet_style::{DecorStyle, StyledBuffer};
 use snippet_view::{LineAnnotation, LineAnnotationType};
@@ -102,7 +104,7 @@ fn has_depth(bars: &[OpenBar], depth: usize) -> bool
     bars.iter().any(|bar| bar.depth == depth)
 }
 
-/// Draws a part of some bars in each row from this one on.
+/// Draws a part of some bars in each row from this one on. Those that stand side by side in one role are drawn as one text.
 ///
 /// ```text
 ///     2 | | |  y             the bar of depth 1, and that of depth 2
@@ -113,6 +115,7 @@ fn has_depth(bars: &[OpenBar], depth: usize) -> bool
 ///
 /// There is no memory for the cells.
 pub(crate) fn draw_bars(
+    alloc: Global,
     buffer: &mut StyledBuffer,
     layout: Layout,
     row: usize,
@@ -123,28 +126,60 @@ pub(crate) fn draw_bars(
     requires room { All (HasRoom layout) bars.now }
     ensures draws { OnOk result (DrawsBars layout row buffer.old buffer.new) }
 {
-    for bar in bars {
-        draw_bar(buffer, layout, row, *bar, stroke)?;
+    let mut from = 0;
+    while from < bars.len() {
+        let to = side_end(bars, from);
+        draw_side(alloc, buffer, layout, row, bars[from], to - from, stroke)?;
+        from = to;
     }
     Ok(())
 }
 
-/// Draws a part of a bar in each row from this one on.
-fn draw_bar(
+/// Whether a bar stands beside another, right of it, and is drawn in its role.
+fn is_next(bar: OpenBar, next: OpenBar) -> bool
+    requires depth { bar.depth + 1 < 2 ^ 64 }
+    ensures yes { result ≡ true → StandsBeside bar 1 next }
+{
+    next.depth == bar.depth + 1 && next.primary == bar.primary
+}
+
+/// Where the bars end that stand side by side, from this one on, in one role.
+fn side_end(bars: &[OpenBar], from: usize) -> usize
+    requires some { from < length bars.now }
+    requires depths { All (λ bar. bar.depth + 1 < 2 ^ 64) bars.now }
+    ensures more { from < result }
+    ensures within { result ≤ length bars.now }
+    ensures beside { (k : ℕ) (d : OpenBar) → from ≤ k → k < result
+        → StandsBeside (slice_index_or bars.now from d) (k - from) (slice_index_or bars.now k d) }
+{
+    let mut to = from + 1;
+    while to < bars.len() && is_next(bars[to - 1], bars[to]) {
+        to += 1;
+    }
+    to
+}
+
+/// Draws a part of so many bars that stand side by side, in one role, in each row from this one on.
+fn draw_side(
+    alloc: Global,
     buffer: &mut StyledBuffer,
     layout: Layout,
     row: usize,
-    bar: OpenBar,
+    first: OpenBar,
+    count: usize,
     stroke: RailStroke,
 ) -> Result<(), AllocError>
     requires narrow { layout.code < 2 ^ 63 + 2 ^ 32 }
-    requires room { HasRoom layout bar }
+    requires left { 0 < first.depth }
+    requires room { layout.gutter + 2 + first.depth + count < layout.code }
+    requires some { 0 < count }
     ensures draws { OnOk result (DrawsBars layout row buffer.old buffer.new) }
 {
-    let glyph = stroke.glyph(layout.decor, bar.primary);
-    let role = layout.decor.underline(bar.primary).style;
+    let glyph = stroke.glyph(layout.decor, first.primary);
+    let role = layout.decor.underline(first.primary).style;
+    let part = repeated(alloc, glyph, count)?;
     for r in row..buffer.num_lines() {
-        buffer.putc(r, layout.gutter + 2 + bar.depth, glyph, role)?;
+        buffer.puts(r, layout.gutter + 2 + first.depth, part.as_str(), role)?;
     }
     Ok(())
 }

@@ -71,7 +71,7 @@ pub fn draw_snippet(
             alloc, buffer, layout, margin, numbers, closes, info, &open_bars,
         )?;
         let behind = &infos[i + 1..];
-        draw_gap(buffer, layout, info.line_index, behind, &open_bars)?;
+        draw_gap(alloc, buffer, layout, info.line_index, behind, &open_bars)?;
     }
     Ok(())
 }
@@ -120,7 +120,7 @@ fn draw_line(
         &ends,
     )?;
     let mut below = bars_apart(alloc, open_bars, &ends)?;
-    draw_bars(buffer, layout, row, &below, RailStroke::Solid)?;
+    draw_bars(alloc, buffer, layout, row, &below, RailStroke::Solid)?;
     below.extend_from_slice(&bars_apart(alloc, &ends, open_bars)?)?;
     Ok(below)
 }
@@ -151,7 +151,7 @@ fn draw_entries(
         → AddsStrokes layout room (map (shifted dropped) info.now.annotations.items) closes above plain buffer.new) }
 {
     if is_whole_line(alloc, info.line, &info.annotations)? {
-        return draw_bars(buffer, layout, row, ends, RailStroke::Top);
+        return draw_bars(alloc, buffer, layout, row, ends, RailStroke::Top);
     }
     draw_strokes(
         alloc,

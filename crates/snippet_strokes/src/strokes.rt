@@ -66,11 +66,11 @@ pub(crate) fn draw_strokes(
     let mut placed = placed_entries(alloc, dropped, entries)?;
     let met = overlapping(alloc, &placed)?;
     let below = begin_rows(buffer, layout, closes, row_count(&placed))?;
-    draw_connectors(buffer, layout, below, &placed)?;
+    draw_connectors(alloc, buffer, layout, below, &placed)?;
     draw_corners(buffer, layout, row, &placed)?;
     draw_stems(buffer, layout, below, &placed)?;
     draw_labels(buffer, layout, below, &placed)?;
-    draw_marks(buffer, layout, below, &mut placed)?;
+    draw_marks(alloc, buffer, layout, below, &mut placed)?;
     cut_wide(buffer, layout, row, room, &placed, &met)
 }
 

@@ -1,27 +1,42 @@
-use Rattle.std.proofs.Common.{◌≡◌, ◌∷◌, [], refl, subst, arith, ◌+◌}
-use Rattle.snippet_style.specs.Grid.{WritesCells}
-use Rattle.snippet_strokes.proofs.PaintLemmas.{Paints-none, Paints-more, Paints-all, mark_cell_is}
-use Rattle.snippet_strokes.specs.Painting.{mark_cell, mark_end}
+use Rattle.std.proofs.Common.{◌≡◌, ◌∙◌, ◌∷◌, [], refl, sym, subst, arith, ◌+◌, ◌-◌, ◌<◌, ◌≤◌, inl, inr, replicate}
+use Rattle.std.proofs.lemmas.Bool.{cases_lt}
+use Rattle.std.proofs.lemmas.Result.{on_ok_weaker}
+use Rattle.snippet_style.specs.Grid.{WritesCells, unlinked_cell}
+use Rattle.snippet_strokes.proofs.PaintLemmas.{Paints-none, Paints-past, Paints-more, Paints-rest, first_cell_is, other_cell_is}
+use Rattle.snippet_strokes.specs.Painting.{Paints, mark_cell, mark_end}
 use Rattle.snippet_strokes.proofs.marks.paint_entry.Goals as goal
 
-pub loop-column-init : goal.loop-column-init
-loop-column-init c =
-    (Paints-none c.args.buffer.now c.args.row (c.args.layout.code + c.args.placed.now.entry.start.display) (mark_cell c.args.layout c.args.placed.now), λ _. refl)
-
-pub loop-column-preserved : goal.loop-column-preserved
-loop-column-preserved c =
+pub returns-then-end-start : goal.returns-then-end-start
+returns-then-end-start c =
     let placed = c.args.placed.now in
-    let at = c.args.layout.code in
-    let strokes = c.underline-strokes in
-    let column = c.loop-column.column in
-    let cell = mark_cell_is c.args.layout placed column c.mark_glyph-mark.result strokes.result.underline c.first_glyph-first.result c.is_primary.result strokes.result.style c.is_primary.ensures.value c.mark_glyph-mark.ensures.value c.first_glyph-first.ensures.value strokes.ensures.underline strokes.ensures.style in
-    let writes = subst (λ x. WritesCells c.loop-column.buffer c.putc.new.self c.args.row (at + column) (x ∷ [])) cell c.in_ok-putc.ensures.reads in
-    (Paints-more c.args.buffer.now c.loop-column.buffer c.putc.new.self c.args.row (at + placed.entry.start.display) (at + column) (at + (column + 1)) (mark_cell c.args.layout placed) c.loop-column.invariant.0 writes (omega arith) (omega arith), λ none. absurd (omega (arith, none, c.loop-column-test.true, c.mark_end-column-end.ensures.value, c.loop-column.invariant.1 none)))
+    let is_end : c.mark_end-end.result ≡ mark_end placed = c.mark_end-end.ensures.value in
+    record {
+      painted = Paints-past c.args.buffer.now c.args.row (c.args.layout.code + placed.entry.start.display) (c.args.layout.code + mark_end placed) (mark_cell c.args.layout placed) (omega (arith, c.if-end-start.true, is_end));
+    }
 
 pub returns : goal.returns
 returns c =
     let placed = c.args.placed.now in
-    let is_end : c.mark_end-column-end.result ≡ mark_end placed = c.mark_end-column-end.ensures.value in
-    record {
-      painted = Paints-all c.args.buffer.now c.loop-column.buffer c.args.row c.args.layout.code placed.entry.start.display (mark_end placed) c.loop-column.column (mark_cell c.args.layout placed) c.loop-column.invariant.0 (omega (arith, c.loop-column-test.false, is_end)) (λ ordered. omega (arith, c.loop-column.auto.column-end (omega (arith, ordered, is_end)), is_end)) c.loop-column.invariant.1;
-    }
+    let layout = c.args.layout in
+    let strokes = c.underline-strokes in
+    let start = layout.code + placed.entry.start.display in
+    let end = layout.code + mark_end placed in
+    let is_end : c.mark_end-end.result ≡ mark_end placed = c.mark_end-end.ensures.value in
+    let marks = mark_cell layout placed in
+    let old = c.args.buffer.now in
+    let mid = c.putc.new.self in
+    let new = c.draw_stretch.new.buffer in
+    let first = first_cell_is layout placed c.first_glyph-first.result c.is_primary.result strokes.result.style c.is_primary.ensures.value c.first_glyph-first.ensures.value strokes.ensures.style in
+    let one = subst (λ x. WritesCells old mid c.args.row start (x ∷ [])) first c.in_ok-putc.ensures.reads in
+    let begun : Paints old mid c.args.row start (start + 1) marks = Paints-more old old mid c.args.row start start (start + 1) marks (Paints-none old c.args.row start marks) one (omega arith) refl in
+    let line = unlinked_cell strokes.result.style strokes.result.underline in
+    let is_line = other_cell_is layout placed strokes.result.underline c.is_primary.result strokes.result.style c.is_primary.ensures.value strokes.ensures.underline strokes.ensures.style in
+    let stretch : layout.code + c.mark_end-end.result ≡ end = omega (arith, is_end) in
+    elim (cases_lt (start + 1) end) [
+      | inl more ↦ record {
+        painted = on_ok_weaker c.draw_stretch.result (λ writes. Paints-rest old mid new c.args.row start end line marks begun (λ c past. is_line c past) more (subst (λ n. WritesCells mid new c.args.row (start + 1) (replicate (n - (start + 1)) line)) stretch (writes (omega (arith, more, is_end))))) c.draw_stretch.ensures.some;
+      }
+      | inr none ↦ record {
+        painted = on_ok_weaker c.draw_stretch.result (λ same. subst (λ b. Paints old b c.args.row start end marks) (sym (same (omega (arith, none, is_end)))) (subst (λ n. Paints old mid c.args.row start n marks) (omega (arith, none, is_end, c.if-end-start.false)) begun)) c.draw_stretch.ensures.none;
+      }
+    ]

@@ -1,0 +1,50 @@
+//! Glyphs that stand side by side in a row.
+ghost use Rattle.std.specs.Prelude.{◌≡◌, ◌+◌, ◌-◌, ◌^◌, ◌<◌, ◌≤◌, IfOk, OnOk, replicate, string_bytes};
+ghost use Rattle.std.specs.Str.{chars};
+ghost use Rattle.snippet_style.specs.Grid.{WritesCells, unlinked_cell};
+
+use snippet_style::{ElementStyle, StyledBuffer};
+use std::alloc::{AllocError, Global};
+
+/// A text that holds a glyph so many times.
+///
+/// # Errors
+///
+/// There is no memory for the text.
+pub(crate) fn repeated(alloc: Global, glyph: char, count: usize) -> Result<String, AllocError>
+    ensures value { IfOk result (λ text. chars (string_bytes text) ≡ replicate count glyph) }
+{
+    let mut bytes = [0; 4];
+    glyph.encode_utf8(&mut bytes).repeat(alloc, count)
+}
+
+/// Draws a glyph in each cell of a row from one to before another.
+///
+/// ```text
+///       |  ______
+///         ^from  ^to
+/// ```
+///
+/// # Errors
+///
+/// There is no memory for the cells.
+pub(crate) fn draw_stretch(
+    alloc: Global,
+    buffer: &mut StyledBuffer,
+    row: usize,
+    from: usize,
+    to: usize,
+    glyph: char,
+    role: ElementStyle,
+) -> Result<(), AllocError>
+    requires row { row + 1 < 2 ^ 64 }
+    ensures some { OnOk result (from < to
+        → WritesCells buffer.old buffer.new row from (replicate (to - from) (unlinked_cell role glyph))) }
+    ensures none { OnOk result (to ≤ from → buffer.new ≡ buffer.old) }
+{
+    if to <= from {
+        return Ok(());
+    }
+    let text = repeated(alloc, glyph, to - from)?;
+    buffer.puts(row, from, text.as_str(), role)
+}
