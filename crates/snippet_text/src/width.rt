@@ -5,17 +5,18 @@ use unicode_width::UnicodeWidthChar;
 
 /// The number of columns that a character takes: 4 for a tab, 1 for a character that is shown as one other, 0 for the
 /// zero width joiner, else what `unicode_width` says, or 1 where it says nothing.
-#[tactic(auto, unfolding(crate::specs::Width::char_width))]
+#[tactic(auto, unfolding(crate::specs::Width::char_width, unicode_width::specs::Width::char_width))]
 pub fn char_width(c: char) -> usize
     ensures value { result ≡ spec.char_width c }
     ensures bound { result ≤ 4 }
 {
     match c {
+        ' '..='~' => 1,
         '\t' => 4,
         '\u{200d}' => 0,
         '\0'..='\u{8}' | '\u{b}'..='\u{1f}' | '\u{7f}' => 1,
         '\u{202a}'..='\u{202e}' | '\u{2066}'..='\u{2069}' => 1,
-        ' ' | '\u{2400}'..='\u{241f}' | '\u{2421}' | '\u{fffd}' => 1,
+        '\u{2400}'..='\u{241f}' | '\u{2421}' | '\u{fffd}' => 1,
         _ => c.width().unwrap_or(1),
     }
 }

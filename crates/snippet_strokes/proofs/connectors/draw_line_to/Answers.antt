@@ -1,4 +1,4 @@
-use Rattle.std.proofs.Common.{◌≡◌, ◌+◌, ◌-◌, ◌<◌, ◌≤◌, List, arith, sym, subst, inl, inr, length, replicate}
+use Rattle.std.proofs.Common.{◌+◌, ◌-◌, ◌<◌, List, arith, sym, subst, inl, inr, length, replicate}
 use Rattle.std.proofs.lemmas.Bool.{cases_lt}
 use Rattle.std.proofs.lemmas.List.Elements.{All-replicate}
 use Rattle.std.proofs.lemmas.Result.{on_ok_weaker}

@@ -1,6 +1,4 @@
-use Rattle.std.proofs.Common.{◌-◌, ◌+◌, ◌<◌, ◌^◌, arith, get_or, length}
-use Rattle.std.proofs.lemmas.List.Elements.{All-get_or}
-use Rattle.snippet_strokes.specs.Rails.{HasRoom}
+use Rattle.std.proofs.Common.{◌-◌, arith}
 use Rattle.snippet_strokes.proofs.RailLemmas.{DrawsBars-none, DrawsBars-more, no_bar}
 use Rattle.snippet_strokes.proofs.rails.draw_bars.Goals as goal
 

@@ -1,7 +1,5 @@
-use Rattle.std.proofs.Common.{◌≡◌, ◌∙◌, ◌+◌, ◌-◌, ◌<◌, ap, arith, get_or, sym, subst, inl, inr, length}
+use Rattle.std.proofs.Common.{◌-◌, arith, inl, inr}
 use Rattle.std.proofs.lemmas.Bool.{cases_lt}
-use Rattle.std.proofs.lemmas.List.{get_or_default}
-use Rattle.snippet_strokes.specs.declared.rails.OpenBar.{OpenBar}
 use Rattle.snippet_strokes.proofs.RailLemmas.{beside_itself, beside_next}
 use Rattle.snippet_strokes.proofs.rails.side_end.Goals as goal
 
