@@ -1,10 +1,10 @@
-use Rattle.std.proofs.Common.{◌≡◌, ◌∙◌, ◌+◌, ap, arith, refl, sym, subst, min, string_bytes, get_or, List, ℕ, All}
+use Rattle.std.proofs.Common.{◌≡◌, ◌∙◌, ◌+◌, ◌<◌, ◌^◌, ap, arith, refl, sym, subst, min, string_bytes, get_or, List, ℕ, All}
 use Rattle.snippet_style.proofs.ChangeLemmas.{cells_changed_none}
 use Rattle.snippet_style.proofs.ChangedRow.{put_span, put_stays, part_same}
 use Rattle.snippet_style.proofs.GridChanged.{grid_span}
 use Rattle.snippet_style.proofs.GridShown.{on_err_from, IsGrid-grown, grid_grown, width_shown}
 use Rattle.snippet_style.proofs.PutLemmas.{AreOrdered, AreApart, IsRow-stretch}
-use Rattle.snippet_style.proofs.RowPut.{RowAt-read, row_shows}
+use Rattle.snippet_style.proofs.RowPut.{RowAt-read, row_shows, begins_fit}
 use Rattle.snippet_style.proofs.ShownLemmas.{All-IsRun-grown}
 use Rattle.snippet_style.proofs.StretchLemmas.{stretch, BeginsWith-trans}
 use Rattle.snippet_style.specs.Changes.{changed_by, ShowsSpan}
@@ -92,3 +92,13 @@ returns-in_err-change_copied-clause-err c =
 pub returns-clause-ok : goal.returns-clause-ok
 returns-clause-ok c =
     c.in_ok-change_copied.ensures.ok ∙ ap (λ (rows : List (List Cell)). cells_changed (changed_by c.args.change) rows c.args.row c.args.start c.args.end) (grid_grown (string_bytes c.args.text.now) (string_bytes c.part_at.new.text) c.args.runs.now.items c.args.runs.now.items c.args.widths.now c.args.widths.now c.in_ok-part.ensures.text refl refl c.requires.grid)
+
+pub row_bounds-from-requires-clause-fits : goal.row_bounds-from-requires-clause-fits
+row_bounds-from-requires-clause-fits c =
+    subst (λ (l : List Run). All (λ x. x.cell < 2 ^ 64) l) (sym c.as_slice-old.ensures.value) (begins_fit (string_bytes c.args.text.now) c.args.runs.now.items c.requires.grid.are_runs)
+
+pub put_run-requires-clause-ordered : goal.put_run-requires-clause-ordered
+put_run-requires-clause-ordered c = c.requires.grid.ordered
+
+pub put_run-requires-clause-apart : goal.put_run-requires-clause-apart
+put_run-requires-clause-apart c = c.requires.grid.apart

@@ -1,8 +1,8 @@
-use Rattle.std.proofs.Common.{arith, ◌<◌, ◌≤◌, sym, subst, string_bytes, length, get_or, set, refl, List, ℕ, All}
+use Rattle.std.proofs.Common.{arith, ◌<◌, ◌≤◌, sym, subst, string_bytes, length, get_or, set, List, ℕ, All}
 use Rattle.std.proofs.lemmas.List.{get_or_default}
 use Rattle.snippet_style.proofs.PieceLemmas.{IsPut-one}
 use Rattle.snippet_style.proofs.RunLemmas.{none}
-use Rattle.snippet_style.proofs.PutLemmas.{AreOrdered, AreApart}
+use Rattle.snippet_style.proofs.PutLemmas.{AllFit, AreOrdered, AreApart, fits_all}
 use Rattle.snippet_style.proofs.StretchLemmas.{stretch}
 use Rattle.snippet_style.proofs.TouchLemmas.{IsPut-added, IsPut-touched, touched_stretch}
 use Rattle.snippet_style.specs.Runs.{IsRun, IsClear, Touches, ArePieces, Precedes, IsPut}
@@ -51,3 +51,32 @@ returns-clause-ok c =
     let below : (k : ℕ) (d : Run) → end ≤ k → k < length items → IsClear run (get_or items k d) = subst (λ (l : List Run). (k : ℕ) (d : Run) → end ≤ k → k < length l → IsClear run (get_or l k d)) is c.begun_by-end.ensures.later in
     let are = subst (λ (l : List Run). ArePieces old new (stretch l start end) pieces run) is c.in_ok-add_pieces.ensures.pieces in
     IsPut-touched old new items c.exchange.new.runs.items pieces run start end c.first_touched-start.ensures.ordered high above touch below c.requires.runs c.requires.ordered c.requires.apart c.in_ok-add_pieces.ensures.text are c.in_ok-exchange.ensures.ok
+
+-- what is asked of the runs holds of the slice that they are read from
+pub are_before-requires-clause-ordered : goal.are_before-requires-clause-ordered
+are_before-requires-clause-ordered c = subst AreOrdered (sym c.as_slice-old.ensures.value) c.requires.ordered
+
+pub are_before-requires-clause-are_runs : goal.are_before-requires-clause-are_runs
+are_before-requires-clause-are_runs c =
+    subst AllFit (sym c.as_slice-old.ensures.value) (fits_all (string_bytes c.args.text.now) c.args.runs.now.items c.requires.runs)
+
+pub begun_by-end-requires : goal.begun_by-end-requires
+begun_by-end-requires c =
+    record { ordered = subst AreOrdered (sym c.as_slice-old.ensures.value) c.requires.ordered }
+
+pub first_touched-start-requires-clause-ordered : goal.first_touched-start-requires-clause-ordered
+first_touched-start-requires-clause-ordered c =
+    subst AreOrdered (sym c.as_slice-old.ensures.value) c.requires.ordered
+
+pub first_touched-start-requires-clause-are_runs :
+    goal.first_touched-start-requires-clause-are_runs
+first_touched-start-requires-clause-are_runs c =
+    subst AllFit (sym c.as_slice-old.ensures.value) (fits_all (string_bytes c.args.text.now) c.args.runs.now.items c.requires.runs)
+
+pub first_touched-start-requires-clause-reaches :
+    goal.first_touched-start-requires-clause-reaches
+first_touched-start-requires-clause-reaches c = c.begun_by-end.ensures.begun
+
+pub joined-requires-clause-first : goal.joined-requires-clause-first
+joined-requires-clause-first c =
+    subst (λ (l : List Run). All (λ x. IsRun (string_bytes c.args.text.now) x) l) (sym c.as_slice-old.ensures.value) c.requires.runs c.first_touched-start.result none (omega (arith, c.if-end-start-eq1.true, c.begun_by-end.ensures.within))

@@ -106,3 +106,16 @@ returns c =
       past_succeeds = search rules;
       err = search rules;
     }
+
+pub replaced_row-requires-clause-moved : goal.replaced_row-requires-clause-moved
+replaced_row-requires-clause-moved c =
+    let is = c.as_slice-old.ensures.value in
+    let runs = c.args.runs.now.items in
+    let w = c.args.widths.now.items in
+    let row = c.args.row in
+    let from = c.row_bounds-from.result.0 in
+    let to = c.row_bounds-from.result.1 in
+    let at = RowAt-read runs c.as_slice-old.result.now row from to is record { ordered = c.row_bounds-from.ensures.bounds.0; within = c.row_bounds-from.ensures.bounds.1; above = c.row_bounds-from.ensures.above; inside = c.row_bounds-from.ensures.inside; below = c.row_bounds-from.ensures.below } in
+    let ends : EndsBy (get_or w row 0) (stretch c.as_slice-old.result.now from to) = subst (λ (l : List Run). EndsBy (get_or w row 0) (stretch l from to)) (sym is) (row_ends w runs row from to at c.requires.grid.inside) in
+    let was : c.width_of-width.result ≡ get_or w row 0 = c.width_of-width.ensures.value ∙ ap (λ (u : List ℕ). get_or u row 0) c.deref.ensures.value in
+    λ k d within. omega (arith, ends k d within, was, c.in-Some.ensures, c.char_count.ensures.value, c.if-end-start.false, c.if-width-end.false)
