@@ -10,8 +10,11 @@ pub fn char_width(c: char) -> usize
     ensures value { result ≡ spec.char_width c }
     ensures bound { result ≤ 4 }
 {
+    // Most characters are printable ASCII, and known at the first test.
+    if matches!(c, ' '..='~') {
+        return 1;
+    }
     match c {
-        ' '..='~' => 1,
         '\t' => 4,
         '\u{200d}' => 0,
         '\0'..='\u{8}' | '\u{b}'..='\u{1f}' | '\u{7f}' => 1,
