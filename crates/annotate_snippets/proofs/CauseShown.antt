@@ -7,8 +7,9 @@ use Rattle.std.proofs.lemmas.List.Elements.{All-append, All-cons, All-head, All-
 use Rattle.snippet_model.specs.declared.snippet.Annotation.{Annotation}
 use Rattle.snippet_model.specs.declared.snippet.Snippet.{Snippet}
 use Rattle.snippet_model.specs.declared.snippet.Element.TheVariants.{Cause}
-use Rattle.snippet_style.specs.Grid.{Cell, row_at}
-use Rattle.snippet_style.specs.Print.{row_text}
+use Rattle.snippet_grid.specs.Grid.{row_at}
+use Rattle.snippet_style.specs.Cell.{Cell}
+use Rattle.snippet_grid.specs.Print.{row_text}
 use Rattle.snippet_lines.specs.Number.{shown_number}
 use Rattle.snippet_lines.specs.Span.{IsSpan}
 use Rattle.snippet_view.specs.Annotated.{KeptLine, annotated_lines, is_long}

@@ -1,6 +1,6 @@
 -- Rows that show an element.
 use Rattle.std.proofs.Common.{◌≡◌, List}
-use Rattle.snippet_style.specs.Grid.{Cell}
+use Rattle.snippet_style.specs.Cell.{Cell}
 use Rattle.snippet_model.specs.declared.snippet.Element.{Element}
 use Rattle.annotate_snippets.specs.Page.{NamedRow, cells_of}
 use Rattle.annotate_snippets.specs.Shown.{IsFreeElement, ShowsElement}

@@ -27,7 +27,7 @@ use Rattle.snippet_model.specs.Fits.{ReportFits, GroupFits, ElementFits}
 use Rattle.annotate_snippets.specs.declared.renderer.error.RenderError.TheVariants.{NoTitle, PatchesOverlap, LineNumberTooLarge}
 use Rattle.annotate_snippets.specs.declared.renderer.error.RenderError.{RenderError}
 use Rattle.annotate_snippets.specs.declared.renderer.form.Form.TheVariants.{Short}
-use Rattle.snippet_style.proofs.WeaveLemmas.{some_same}
+use Rattle.snippet_grid.proofs.WeaveLemmas.{some_same}
 
 -- no first fault, no fault
 pub none_first : (faults : List RenderError) → first_of faults ≡ None → faults ≡ []

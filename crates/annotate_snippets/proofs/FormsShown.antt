@@ -3,10 +3,10 @@ use Rattle.std.proofs.Common.{◌≡◌, ℕ, List, All, subst}
 use Rattle.std.specs.List.{AllZip}
 use Rattle.snippet_model.specs.Trusted.{trusted_texts}
 use Rattle.snippet_model.specs.declared.snippet.Group.{Group}
-use Rattle.snippet_style.specs.Print.{plain_text}
-use Rattle.snippet_style.specs.Woven.{IsWoven, Prints}
+use Rattle.snippet_grid.specs.Print.{plain_text}
+use Rattle.snippet_grid.specs.Woven.{IsWoven, Prints}
 use Rattle.snippet_style.specs.declared.stylesheet.Stylesheet.{Stylesheet}
-use Rattle.snippet_style.proofs.WovenLemmas.{IsWoven-from_prints}
+use Rattle.snippet_grid.proofs.WovenLemmas.{IsWoven-from_prints}
 use Rattle.snippet_text_form.specs.Form.{FormPiece, form_bytes, form_links, form_text}
 use Rattle.annotate_snippets.specs.declared.renderer.Renderer.{Renderer}
 use Rattle.annotate_snippets.specs.declared.renderer.drawn.Drawn.{Drawn}

@@ -8,10 +8,10 @@ use Rattle.std.proofs.lemmas.List.{append-nil, ext_get_or, get_or-map, get_or_pa
 use Rattle.std.proofs.lemmas.List.Elements.{All-nil, All-append, All-filter, All-get_or, All-map, All-weaker, filter_passes}
 use Rattle.std.proofs.lemmas.List.Folds.{flat_map-map}
 use Rattle.std.proofs.lemmas.Option.{get_or_from_slice_get, slice_get_cases, slice_get_within}
-use Rattle.snippet_style.specs.Grid.{Cell, SPACE}
-use Rattle.snippet_style.specs.Print.{plain_text}
-use Rattle.snippet_style.specs.Woven.{links_behind, links_of}
-use Rattle.snippet_style.proofs.WovenLemmas.{links_of-unlinked}
+use Rattle.snippet_style.specs.Cell.{Cell, SPACE}
+use Rattle.snippet_grid.specs.Print.{plain_text}
+use Rattle.snippet_grid.specs.Woven.{links_behind, links_of}
+use Rattle.snippet_grid.proofs.WovenLemmas.{links_of-unlinked}
 use Rattle.snippet_model.specs.Heading.{heading_of_message}
 use Rattle.snippet_model.specs.Trusted.{trusted_of_element, trusted_of_title}
 use Rattle.snippet_model.specs.declared.snippet.Element.{Element}

@@ -2,9 +2,9 @@
 use Rattle.std.proofs.Common.{◌≡◌, ℕ, List, [], ◌∷◌, Option}
 use Rattle.std.specs.List.{flat_map}
 use Rattle.std.specs.Option.{option_to_list}
-use Rattle.snippet_style.specs.Grid.{Cell}
-use Rattle.snippet_style.specs.Print.{plain_text}
-use Rattle.snippet_style.specs.Woven.{links_of}
+use Rattle.snippet_style.specs.Cell.{Cell}
+use Rattle.snippet_grid.specs.Print.{plain_text}
+use Rattle.snippet_grid.specs.Woven.{links_of}
 use Rattle.snippet_model.specs.declared.snippet.Group.{Group}
 use Rattle.snippet_model.specs.declared.snippet.Title.{Title}
 use Rattle.snippet_model.specs.Trusted.{trusted_texts}

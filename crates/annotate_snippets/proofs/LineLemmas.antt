@@ -10,8 +10,9 @@ use Rattle.std.proofs.lemmas.List.Elements.{All-get_or, All-contains, All-head, 
 use Rattle.std.proofs.lemmas.List.Sums.{AllPass-from_list_all, list_all-from_AllPass, sum_by-cons}
 use Rattle.snippet_model.specs.declared.snippet.Annotation.{Annotation}
 use Rattle.snippet_model.specs.declared.snippet.Snippet.{Snippet}
-use Rattle.snippet_style.specs.Grid.{Cell, SPACE, row_at, drawn, unlinked_cell}
-use Rattle.snippet_style.specs.Print.{row_text}
+use Rattle.snippet_grid.specs.Grid.{row_at}
+use Rattle.snippet_style.specs.Cell.{Cell, SPACE, drawn, unlinked_cell}
+use Rattle.snippet_grid.specs.Print.{row_text}
 use Rattle.snippet_style.specs.Glyphs.{separator_of, closing_of, placeholder_of, rail_glyphs}
 use Rattle.snippet_style.specs.declared.glyphs.DecorStyle.{DecorStyle}
 use Rattle.snippet_style.specs.declared.glyphs.DecorStyle.TheVariants.{Ascii, Unicode}

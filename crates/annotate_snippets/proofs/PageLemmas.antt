@@ -9,7 +9,8 @@ use Rattle.std.proofs.lemmas.List.{append_assoc, get_or-replicate, get_or_append
 use Rattle.std.proofs.lemmas.List.Elements.{All-head, All-tail}
 use Rattle.snippet_model.specs.declared.snippet.Annotation.{Annotation}
 use Rattle.snippet_model.specs.declared.snippet.Snippet.{Snippet}
-use Rattle.snippet_style.specs.Grid.{Cell, SPACE, drawn, row_at}
+use Rattle.snippet_grid.specs.Grid.{row_at}
+use Rattle.snippet_style.specs.Cell.{Cell, SPACE, drawn}
 use Rattle.snippet_style.specs.Glyphs.{elision_of}
 use Rattle.snippet_style.specs.declared.role.ElementStyle.TheVariants.{LineNumber}
 use Rattle.snippet_style.specs.declared.glyphs.DecorStyle.{DecorStyle}

@@ -13,7 +13,7 @@ use Rattle.snippet_style.specs.declared.glyphs.DecorStyle.{DecorStyle}
 use Rattle.snippet_style.specs.declared.glyphs.DecorStyle.TheVariants.{Ascii, Unicode}
 use Rattle.snippet_style.specs.declared.role.ElementStyle.TheVariants.{LineNumber}
 use Rattle.snippet_style.specs.Glyphs.{separator_of}
-use Rattle.snippet_style.specs.Grid.{Cell}
+use Rattle.snippet_style.specs.Cell.{Cell}
 use Rattle.snippet_text.specs.Normalized.{is_listed}
 use Rattle.snippet_lines.specs.Number.{number_width}
 use Rattle.snippet_lines.specs.declared.number.LineNumbers.{LineNumbers}

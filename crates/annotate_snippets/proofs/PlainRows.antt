@@ -1,7 +1,7 @@
 -- Elements that share no row with others.
 use Rattle.std.proofs.Common.{◌≡◌, false, List, [], ◌++◌, refl, sym, ap, ◌∙◌, subst}
 use Rattle.std.proofs.lemmas.List.{append-nil}
-use Rattle.snippet_style.specs.Grid.{Cell}
+use Rattle.snippet_style.specs.Cell.{Cell}
 use Rattle.snippet_model.specs.declared.snippet.Element.{Element}
 use Rattle.snippet_suggest.specs.Rows.{IsTail}
 use Rattle.annotate_snippets.specs.Around.{CanStandIn, begins_in_row_above}

@@ -4,13 +4,13 @@ use Rattle.std.specs.List.{AllZip, Contains, flat_map, join_with_byte, slice_get
 use Rattle.std.specs.Result.{IfOk, MatchResult, IsErrAnd}
 use Rattle.std.proofs.lemmas.List.Elements.{All-nil, All-cons, All-append, All-get_or}
 use Rattle.std.proofs.lemmas.Option.{get_or_from_slice_get, slice_get_within}
-use Rattle.snippet_style.specs.Print.{plain_text}
+use Rattle.snippet_grid.specs.Print.{plain_text}
 use Rattle.snippet_style.specs.Stylesheet.{is_plain_sheet}
-use Rattle.snippet_style.specs.Woven.{IsWoven, Prints, links_of}
+use Rattle.snippet_grid.specs.Woven.{IsWoven, Prints, links_of}
 use Rattle.snippet_style.specs.declared.role.LevelInner.{LevelInner}
 use Rattle.snippet_style.specs.declared.stylesheet.Stylesheet.{Stylesheet}
-use Rattle.snippet_style.proofs.WeaveLemmas.{some_same}
-use Rattle.snippet_style.proofs.WovenLemmas.{plain_woven}
+use Rattle.snippet_grid.proofs.WeaveLemmas.{some_same}
+use Rattle.snippet_grid.proofs.WovenLemmas.{plain_woven}
 use Rattle.snippet_text.specs.Normalized.{is_listed}
 use Rattle.snippet_model.specs.Fits.{ReportFits}
 use Rattle.snippet_model.specs.Trusted.{trusted_texts}

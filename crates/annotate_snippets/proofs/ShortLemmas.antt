@@ -24,7 +24,7 @@ use Rattle.snippet_model.specs.declared.snippet.Group.{Group}
 use Rattle.snippet_model.specs.declared.snippet.Snippet.{Snippet}
 use Rattle.snippet_view.specs.Annotated.{annotated_lines}
 use Rattle.snippet_strokes.proofs.TextLemmas.{is_empty-chars}
-use Rattle.snippet_style.proofs.GridLemmas.{length-chars_le}
+use Rattle.snippet_style.proofs.CellLemmas.{length-chars_le}
 use Rattle.snippet_text.specs.Normalized.{norm}
 use Rattle.snippet_text.proofs.NormLemmas.{length-norm}
 use Rattle.snippet_titles.specs.Origin.{column_text, line_name, line_text, origin_text, place_text}

@@ -22,13 +22,14 @@ use Rattle.snippet_view.specs.Annotated.{KeptLine, annotated_lines, is_long}
 use Rattle.snippet_view.specs.Mark.{is_marking}
 use Rattle.snippet_view.specs.NamedPlace.{IsNamedPlace, primary_place}
 use Rattle.snippet_view.proofs.NamedPlaceLaws.{place-named}
-use Rattle.snippet_style.specs.Grid.{Cell, row_at}
-use Rattle.snippet_style.specs.Print.{plain_text, row_text}
+use Rattle.snippet_grid.specs.Grid.{row_at}
+use Rattle.snippet_style.specs.Cell.{Cell}
+use Rattle.snippet_grid.specs.Print.{plain_text, row_text}
 use Rattle.snippet_style.specs.Stylesheet.{is_plain_sheet}
-use Rattle.snippet_style.specs.Woven.{Prints, links_of}
+use Rattle.snippet_grid.specs.Woven.{Prints, links_of}
 use Rattle.snippet_style.specs.declared.role.LevelInner.{LevelInner}
 use Rattle.snippet_style.specs.declared.stylesheet.Stylesheet.{Stylesheet}
-use Rattle.snippet_style.proofs.WovenLemmas.{IsWoven-from_prints, plain_woven}
+use Rattle.snippet_grid.proofs.WovenLemmas.{IsWoven-from_prints, plain_woven}
 use Rattle.snippet_text.specs.Normalized.{is_listed, norm}
 use Rattle.snippet_text.proofs.NormLemmas.{list_any-norm}
 use Rattle.snippet_titles.proofs.ShortLaws.{short-free, short-links, short-texts}

@@ -6,7 +6,7 @@ use Rattle.std.proofs.lemmas.List.Elements.{All-append, All-cons, All-nil}
 use Rattle.snippet_model.specs.declared.snippet.Element.TheVariants.{Suggestion}
 use Rattle.snippet_model.specs.declared.snippet.Patch.{Patch}
 use Rattle.snippet_model.specs.declared.snippet.Snippet.{Snippet}
-use Rattle.snippet_style.specs.Grid.{Cell}
+use Rattle.snippet_style.specs.Cell.{Cell}
 use Rattle.snippet_model.specs.Rows.{IsFree}
 use Rattle.snippet_view.proofs.PartLemmas.{All-unmapped}
 use Rattle.snippet_suggest.specs.Given.{first_given, given_lines, offered_lines, removed_lines}

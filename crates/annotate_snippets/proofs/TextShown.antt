@@ -6,9 +6,9 @@ use Rattle.std.proofs.lemmas.List.{append-nil}
 use Rattle.std.proofs.lemmas.List.Elements.{All-nil, All-head, All-tail, All-append, All-filter}
 use Rattle.std.proofs.lemmas.Grind.{flat_map-append}
 use Rattle.snippet_style.specs.Stylesheet.{is_plain_sheet}
-use Rattle.snippet_style.specs.Woven.{IsWoven}
+use Rattle.snippet_grid.specs.Woven.{IsWoven}
 use Rattle.snippet_style.specs.declared.stylesheet.Stylesheet.{Stylesheet}
-use Rattle.snippet_style.proofs.WovenLemmas.{plain_woven}
+use Rattle.snippet_grid.proofs.WovenLemmas.{plain_woven}
 use Rattle.snippet_model.specs.Heading.{Heading, heading_of_message, heading_of_title}
 use Rattle.snippet_model.specs.Trusted.{trusted_of_element, trusted_of_title, trusted_texts}
 use Rattle.snippet_model.specs.declared.snippet.Element.{Element}

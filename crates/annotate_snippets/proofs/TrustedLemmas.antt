@@ -7,8 +7,8 @@ use Rattle.std.proofs.lemmas.List.Elements.{All-nil, All-cons, All-head, All-tai
 use Rattle.std.proofs.lemmas.Grind.{flat_map-append}
 use Rattle.snippet_text.specs.Normalized.{is_listed}
 use Rattle.snippet_model.specs.Rows.{IsFree, IsFreeCell}
-use Rattle.snippet_style.specs.Grid.{Cell}
-use Rattle.snippet_style.specs.Print.{row_text, further_text, plain_text}
+use Rattle.snippet_style.specs.Cell.{Cell}
+use Rattle.snippet_grid.specs.Print.{row_text, further_text, plain_text}
 use Rattle.snippet_model.specs.declared.snippet.Element.{Element}
 use Rattle.snippet_model.specs.declared.snippet.Element.TheVariants.{Message, Cause, Suggestion, Origin, Padding}
 use Rattle.snippet_model.specs.declared.snippet.Message.{Message as MessageGiven}

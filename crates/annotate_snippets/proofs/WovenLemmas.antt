@@ -5,11 +5,11 @@ use Rattle.std.proofs.lemmas.List.{append-nil}
 use Rattle.std.proofs.lemmas.List.Elements.{All-nil, All-append, All-cons}
 use Rattle.std.proofs.lemmas.Grind.{flat_map-append}
 use Rattle.std.proofs.lemmas.Str.{encode_ascii}
-use Rattle.snippet_style.specs.Print.{plain_text}
-use Rattle.snippet_style.specs.Woven.{Piece, Char, Opening, Reset, LinkTo, LinkEnd, piece_text, plain_piece, piece_link, AreLinksEnded, IsOfSheet, IsWoven, links_of}
+use Rattle.snippet_grid.specs.Print.{plain_text}
+use Rattle.snippet_grid.specs.Woven.{Piece, Char, Opening, Reset, LinkTo, LinkEnd, piece_text, plain_piece, piece_link, AreLinksEnded, IsOfSheet, IsWoven, links_of}
 use Rattle.snippet_style.specs.declared.role.LevelInner.{LevelInner}
 use Rattle.snippet_style.specs.declared.stylesheet.Stylesheet.{Stylesheet}
-use Rattle.snippet_style.proofs.WovenLemmas.{IsWoven-from_prints}
+use Rattle.snippet_grid.proofs.WovenLemmas.{IsWoven-from_prints}
 use Rattle.annotate_snippets.specs.Page.{ArePrinted, Page, PrintsPage, group_rows, page_links, page_text}
 use Rattle.annotate_snippets.specs.declared.renderer.graphic.GroupGrid.{GroupGrid}
 

@@ -2,7 +2,7 @@
 use Rattle.std.specs.Prelude.{◌≡◌, ℕ, ◌+◌, ◌-◌, ◌≤◌, Bool, true, false, List, [], ◌∷◌, ◌++◌, Option, Some, length, map}
 use Rattle.std.specs.List.{AllZip, flat_map, slice_get, slice_index_or}
 use Rattle.std.specs.Cow.{cow_str_bytes}
-use Rattle.snippet_style.specs.Grid.{Cell}
+use Rattle.snippet_style.specs.Cell.{Cell}
 use Rattle.snippet_model.specs.declared.snippet.Group.{Group}
 use Rattle.snippet_model.specs.declared.snippet.Snippet.{Snippet}
 use Rattle.snippet_model.specs.declared.snippet.Annotation.{Annotation}
@@ -30,7 +30,7 @@ use Rattle.annotate_snippets.specs.Around.{closes_with, drawn_elements, file_of_
 use Rattle.annotate_snippets.specs.Gutter.{code_behind, depth_of_element, frame_of, line_numbers, numbered_source, width_wanted}
 use Rattle.annotate_snippets.specs.Rows.{cause_head, message_rows, origin_rows, rows_behind_cause, suggestion_head, title_part}
 use Rattle.snippet_model.specs.declared.snippet.Title.{Title}
-use Rattle.snippet_style.specs.Woven.{IsWoven}
+use Rattle.snippet_grid.specs.Woven.{IsWoven}
 use Rattle.snippet_style.specs.declared.stylesheet.Stylesheet.{Stylesheet}
 use Rattle.snippet_text_form.specs.Form.{form_bytes, form_links, form_text}
 use Rattle.annotate_snippets.specs.Page.{PrintsGrids}

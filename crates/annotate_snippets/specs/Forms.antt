@@ -12,10 +12,11 @@ use Rattle.snippet_view.specs.Annotated.{is_long}
 use Rattle.snippet_view.specs.Mark.{is_marking}
 use Rattle.snippet_view.specs.NamedPlace.{IsNamedPlace}
 use Rattle.snippet_view.specs.declared.named_place.NamedPlace.{NamedPlace}
-use Rattle.snippet_style.specs.Grid.{Cell, row_at}
-use Rattle.snippet_style.specs.Print.{plain_text, row_text}
+use Rattle.snippet_grid.specs.Grid.{row_at}
+use Rattle.snippet_style.specs.Cell.{Cell}
+use Rattle.snippet_grid.specs.Print.{plain_text, row_text}
 use Rattle.snippet_style.specs.Stylesheet.{is_plain_sheet}
-use Rattle.snippet_style.specs.Woven.{IsWoven, Prints, links_of}
+use Rattle.snippet_grid.specs.Woven.{IsWoven, Prints, links_of}
 use Rattle.snippet_style.specs.declared.stylesheet.Stylesheet.{Stylesheet}
 use Rattle.snippet_text_form.specs.Form.{form_bytes, form_text}
 use Rattle.snippet_text_form.specs.Order.{StandInOrder}

@@ -1,9 +1,9 @@
 -- A page: the rows of a report's text, each of them part of a title or of an element; and the texts that print it.
 use Rattle.std.specs.Prelude.{◌≡◌, ℕ, ◌+◌, ◌<◌, nat_lt, Bool, true, false, List, [], ◌∷◌, ◌++◌, Option, Some, None, map, filter, if◌then◌else◌}
 use Rattle.std.specs.List.{AllZip, flat_map, filter_map, join_with_byte}
-use Rattle.snippet_style.specs.Grid.{Cell}
-use Rattle.snippet_style.specs.Print.{plain_text}
-use Rattle.snippet_style.specs.Woven.{Prints, links_of}
+use Rattle.snippet_style.specs.Cell.{Cell}
+use Rattle.snippet_grid.specs.Print.{plain_text}
+use Rattle.snippet_grid.specs.Woven.{Prints, links_of}
 use Rattle.annotate_snippets.specs.declared.renderer.graphic.GroupGrid.{GroupGrid}
 use Rattle.snippet_style.specs.declared.role.LevelInner.{LevelInner}
 use Rattle.snippet_style.specs.declared.stylesheet.Stylesheet.{Stylesheet}

@@ -10,7 +10,7 @@ use Rattle.snippet_model.specs.declared.snippet.Patch.{Patch}
 use Rattle.snippet_model.specs.declared.snippet.Snippet.{Snippet}
 use Rattle.snippet_model.specs.declared.snippet.Title.{Title}
 use Rattle.snippet_model.specs.Heading.{heading_of_message}
-use Rattle.snippet_style.specs.Grid.{Cell}
+use Rattle.snippet_style.specs.Cell.{Cell}
 use Rattle.snippet_lines.specs.Place.{start_location}
 use Rattle.snippet_view.specs.Annotated.{KeptLine, annotated_lines}
 use Rattle.snippet_view.specs.NamedPlace.{primary_place, secondary_place}

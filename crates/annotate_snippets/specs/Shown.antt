@@ -5,8 +5,9 @@ use Rattle.std.specs.List.{AllZip, flat_map, count_by, list_any, slice_get, slic
 use Rattle.std.specs.Option.{option_map, option_to_list}
 use Rattle.std.specs.Char.{is_ascii_alphanumeric}
 use Rattle.std.specs.Cow.{cow_str_bytes}
-use Rattle.snippet_style.specs.Grid.{Cell, SPACE, row_at}
-use Rattle.snippet_style.specs.Print.{row_text}
+use Rattle.snippet_grid.specs.Grid.{row_at}
+use Rattle.snippet_style.specs.Cell.{Cell, SPACE}
+use Rattle.snippet_grid.specs.Print.{row_text}
 use Rattle.snippet_style.specs.declared.glyphs.DecorStyle.{DecorStyle}
 use Rattle.snippet_style.specs.declared.role.LevelInner.{LevelInner}
 use Rattle.snippet_style.specs.declared.stylesheet.Stylesheet.{Stylesheet}

@@ -2,7 +2,7 @@
 use Rattle.std.specs.Prelude.{◌≡◌, ℕ, ◌≤◌, false, None, List, All}
 use Rattle.std.specs.Char.{is_ascii_alphanumeric}
 use Rattle.std.specs.List.{slice_index_or}
-use Rattle.snippet_style.specs.Grid.{Cell, SPACE}
+use Rattle.snippet_style.specs.Cell.{Cell, SPACE}
 use Rattle.snippet_text.specs.Normalized.{is_listed}
 
 -- a cell that holds no listed character, which could change how a terminal shows the text around it, and that belongs to no

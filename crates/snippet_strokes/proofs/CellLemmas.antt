@@ -14,9 +14,11 @@ use Rattle.snippet_style.specs.declared.glyphs.DecorStyle.TheVariants.{Ascii, Un
 use Rattle.snippet_style.specs.declared.role.ElementStyle.{ElementStyle}
 use Rattle.snippet_style.specs.declared.role.ElementStyle.TheVariants.{LineNumber, Quotation}
 use Rattle.snippet_style.specs.Glyphs.{placeholder_of}
-use Rattle.snippet_style.specs.Grid.{Cell, SPACE, drawn, written, cells_written}
-use Rattle.snippet_style.specs.Print.{row_text}
-use Rattle.snippet_style.proofs.GridLemmas.{length-drawn, length-written, cells_written_last}
+use Rattle.snippet_grid.specs.Grid.{cells_written}
+use Rattle.snippet_style.specs.Cell.{Cell, SPACE, drawn, written}
+use Rattle.snippet_grid.specs.Print.{row_text}
+use Rattle.snippet_grid.proofs.GridLemmas.{cells_written_last}
+use Rattle.snippet_style.proofs.CellLemmas.{length-drawn, length-written}
 use Rattle.snippet_text.specs.Normalized.{is_listed}
 use Rattle.snippet_model.specs.Rows.{IsFree}
 use Rattle.snippet_strokes.specs.Rows.{begun_cells, ended_cells, shown_cells, window_cells, with_cells}

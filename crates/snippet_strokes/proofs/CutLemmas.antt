@@ -9,10 +9,11 @@ use Rattle.std.specs.List.{count_by, slice_index_or}
 use Rattle.snippet_view.specs.Window.{AreReplaced, IsReplaced}
 use Rattle.snippet_style.specs.declared.role.ElementStyle.TheVariants.{LineNumber}
 use Rattle.snippet_style.specs.Glyphs.{placeholder_of}
-use Rattle.snippet_style.specs.Grid.{Cell, drawn, replaced_within, cells_replaced}
-use Rattle.snippet_style.specs.Print.{row_text}
-use Rattle.snippet_style.proofs.ChangeLemmas.{changed_within_one}
-use Rattle.snippet_style.proofs.ReplaceLemmas.{replaced_there, replaced_empty, replaced_past}
+use Rattle.snippet_grid.specs.Grid.{replaced_within, cells_replaced}
+use Rattle.snippet_style.specs.Cell.{Cell, drawn}
+use Rattle.snippet_grid.specs.Print.{row_text}
+use Rattle.snippet_grid.proofs.ChangeLemmas.{changed_within_one}
+use Rattle.snippet_grid.proofs.ReplaceLemmas.{replaced_there, replaced_empty, replaced_past}
 use Rattle.snippet_strokes.specs.declared.layout.Layout.{Layout}
 use Rattle.snippet_model.specs.Rows.{IsFreeCell}
 use Rattle.snippet_strokes.specs.Rows.{IsCut, CutsRows}

@@ -1,12 +1,13 @@
 -- Drawing in rows from one on, and in cells from one on.
 use Rattle.std.proofs.Common.{◌≡◌, ◌≢◌, ℕ, ◌+◌, ◌-◌, ◌<◌, ◌≤◌, ◌==◌, ◌||◌, Bool, true, false, List, [], ◌∷◌, length, drop, get_or, refl, sym, ap, ◌∙◌, subst, arith, inl, inr, All}
 use Rattle.std.proofs.lemmas.Bool.{cases_lt, cases_eq}
-use Rattle.snippet_style.specs.Grid.{Cell, SPACE, cell_at, row_at, WritesCells, drawn, unlinked_cell}
+use Rattle.snippet_grid.specs.Grid.{cell_at, row_at, WritesCells}
+use Rattle.snippet_style.specs.Cell.{Cell, SPACE, drawn, unlinked_cell}
 use Rattle.snippet_style.specs.Glyphs.{glyph_of, rail_glyphs}
 use Rattle.snippet_style.specs.declared.glyphs.DecorStyle.{DecorStyle}
 use Rattle.snippet_style.specs.declared.glyphs.DecorStyle.TheVariants.{Ascii, Unicode}
 use Rattle.snippet_style.specs.declared.role.ElementStyle.{ElementStyle}
-use Rattle.snippet_style.proofs.GridLemmas.{All-drawn}
+use Rattle.snippet_style.proofs.CellLemmas.{All-drawn}
 use Rattle.std.specs.List.{list_any}
 use Rattle.std.proofs.lemmas.Bool.Decides.{nat_tests}
 use Rattle.std.proofs.lemmas.List.{length-drop, get_or-drop, ext_get_or}

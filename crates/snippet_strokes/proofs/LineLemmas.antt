@@ -5,7 +5,7 @@ use Rattle.std.proofs.lemmas.Str.{chars_from_encodes, chars-nil}
 use Rattle.std.specs.List.{repeat}
 use Rattle.std.specs.Str.{chars, IsUtf8}
 use Rattle.std.specs.Prelude.{encode_utf8, encode_utf8_all}
-use Rattle.snippet_style.specs.Grid.{Cell, drawn, unlinked_cell}
+use Rattle.snippet_style.specs.Cell.{Cell, drawn, unlinked_cell}
 use Rattle.snippet_style.specs.declared.role.ElementStyle.{ElementStyle}
 
 encodes-replicate : (n ch : ℕ) → encode_utf8_all (replicate n ch) ≡ repeat n (encode_utf8 ch)

@@ -9,7 +9,8 @@ use Rattle.snippet_model.specs.declared.snippet.AnnotationKind.{AnnotationKind}
 use Rattle.snippet_model.specs.declared.snippet.AnnotationKind.TheVariants.{Primary, Context, Visible}
 use Rattle.snippet_view.specs.declared.entries.LineAnnotation.{LineAnnotation}
 use Rattle.snippet_style.specs.Glyphs.{IsMarkGlyph, underline_role}
-use Rattle.snippet_style.specs.Grid.{Cell, cell_at}
+use Rattle.snippet_grid.specs.Grid.{cell_at}
+use Rattle.snippet_style.specs.Cell.{Cell}
 use Rattle.snippet_style.specs.declared.glyphs.DecorStyle.{DecorStyle}
 use Rattle.snippet_strokes.specs.declared.layout.Layout.{Layout}
 use Rattle.snippet_strokes.specs.declared.positions.PlacedEntry.{PlacedEntry}

@@ -15,7 +15,8 @@ use Rattle.snippet_style.specs.declared.glyphs.DecorStyle.{DecorStyle}
 use Rattle.snippet_style.specs.declared.glyphs.DecorStyle.TheVariants.{Ascii, Unicode}
 use Rattle.snippet_style.specs.declared.role.ElementStyle.{ElementStyle}
 use Rattle.snippet_style.specs.Glyphs.{glyph_of, underline_role}
-use Rattle.snippet_style.specs.Grid.{Cell, SPACE, cell_at, row_at, unlinked_cell, WritesCells}
+use Rattle.snippet_grid.specs.Grid.{cell_at, row_at, WritesCells}
+use Rattle.snippet_style.specs.Cell.{Cell, SPACE, unlinked_cell}
 use Rattle.snippet_text.specs.Normalized.{is_listed}
 use Rattle.snippet_strokes.specs.declared.layout.Layout.{Layout}
 use Rattle.snippet_strokes.specs.Entries.{EntryCovers, is_end_part, is_single, IsMarkCell}

@@ -9,8 +9,10 @@ use Rattle.snippet_style.specs.declared.glyphs.DecorStyle.{DecorStyle}
 use Rattle.snippet_style.specs.declared.glyphs.DecorStyle.TheVariants.{Ascii, Unicode}
 use Rattle.snippet_style.specs.declared.role.ElementStyle.TheVariants.{LineNumber}
 use Rattle.snippet_style.specs.Glyphs.{separator_of, closing_of, file_start_of}
-use Rattle.snippet_style.specs.Grid.{Cell, SPACE, drawn, unlinked_cell, written, cells_written}
-use Rattle.snippet_style.proofs.GridLemmas.{length-chars_le, length-drawn, length-written, drop-written, take-written_past, cells_written_below, cells_written_last, slice_index_or-written_before, slice_index_or-written_behind}
+use Rattle.snippet_grid.specs.Grid.{cells_written}
+use Rattle.snippet_style.specs.Cell.{Cell, SPACE, drawn, unlinked_cell, written}
+use Rattle.snippet_grid.proofs.GridLemmas.{cells_written_below, cells_written_last}
+use Rattle.snippet_style.proofs.CellLemmas.{length-chars_le, length-drawn, length-written, drop-written, take-written_past, slice_index_or-written_before, slice_index_or-written_behind}
 use Rattle.snippet_text.specs.Normalized.{is_listed}
 use Rattle.snippet_model.specs.Rows.{IsFreeCell}
 use Rattle.snippet_strokes.proofs.DrawLemmas.{free_drawn}

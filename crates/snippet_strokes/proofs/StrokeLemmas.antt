@@ -10,9 +10,11 @@ use Rattle.std.proofs.lemmas.List.Sorted.{IsPermutation-map, IsPermutation-trans
 use Rattle.snippet_view.specs.declared.entries.LineAnnotation.{LineAnnotation}
 use Rattle.snippet_view.specs.Window.{AreReplaced}
 use Rattle.snippet_style.specs.Glyphs.{placeholder_of}
-use Rattle.snippet_style.specs.Print.{row_text}
-use Rattle.snippet_style.specs.Grid.{Cell, SPACE, cell_at, row_at, drawn, written, cells_written}
-use Rattle.snippet_style.proofs.GridLemmas.{length-written, row_at-cells_written_same}
+use Rattle.snippet_grid.specs.Print.{row_text}
+use Rattle.snippet_grid.specs.Grid.{cell_at, row_at, cells_written}
+use Rattle.snippet_style.specs.Cell.{Cell, SPACE, drawn, written}
+use Rattle.snippet_grid.proofs.GridLemmas.{row_at-cells_written_same}
+use Rattle.snippet_style.proofs.CellLemmas.{length-written}
 use Rattle.snippet_strokes.specs.declared.layout.Layout.{Layout}
 use Rattle.snippet_strokes.specs.declared.positions.PlacedEntry.{PlacedEntry}
 use Rattle.snippet_strokes.specs.Entries.{EntryCovers, IsRailCell, are_plain, is_single, label_text, label_role, has_mark_role, wide_entries}

@@ -9,7 +9,7 @@ use Rattle.snippet_view.specs.Window.{reaching, fitting, reaching_last, window_l
 use Rattle.snippet_style.specs.declared.glyphs.DecorStyle.{DecorStyle}
 use Rattle.snippet_style.specs.declared.role.ElementStyle.TheVariants.{Quotation}
 use Rattle.snippet_style.specs.Glyphs.{placeholder_of}
-use Rattle.snippet_style.specs.Grid.{Cell, drawn}
+use Rattle.snippet_style.specs.Cell.{Cell, drawn}
 use Rattle.snippet_text.specs.Width.{char_width, width_of}
 use Rattle.snippet_strokes.specs.Rows.{shown_cells, window_cells}
 

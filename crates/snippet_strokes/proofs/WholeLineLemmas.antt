@@ -13,7 +13,7 @@ use Rattle.snippet_view.specs.Measures.{is_bar, is_single_part}
 use Rattle.snippet_view.specs.Window.{AreReplaced}
 use Rattle.snippet_style.specs.declared.glyphs.DecorStyle.{DecorStyle}
 use Rattle.snippet_style.specs.Glyphs.{placeholder_of}
-use Rattle.snippet_style.specs.Grid.{Cell}
+use Rattle.snippet_style.specs.Cell.{Cell}
 use Rattle.snippet_strokes.specs.declared.layout.Layout.{Layout}
 use Rattle.snippet_strokes.specs.Entries.{are_plain, is_single, shifted, wide_entries}
 use Rattle.snippet_strokes.specs.Rails.{DrawsBars, is_before, is_beside, is_beside_first, is_start, is_whole_line}

@@ -5,7 +5,8 @@ use Rattle.snippet_view.specs.declared.entries.LineAnnotationType.{LineAnnotatio
 use Rattle.snippet_view.specs.declared.entries.LineAnnotationType.TheVariants.{Singleline, MultilineStart, MultilineEnd, MultilineLine}
 use Rattle.snippet_style.specs.declared.glyphs.DecorStyle.{DecorStyle}
 use Rattle.snippet_style.specs.Glyphs.{glyph_of, underline_role}
-use Rattle.snippet_style.specs.Grid.{Cell, cell_at, row_at, unlinked_cell}
+use Rattle.snippet_grid.specs.Grid.{cell_at, row_at}
+use Rattle.snippet_style.specs.Cell.{Cell, unlinked_cell}
 use Rattle.snippet_strokes.specs.declared.layout.Layout.{Layout}
 use Rattle.snippet_model.specs.Rows.{IsFreeCell}
 use Rattle.snippet_strokes.specs.declared.positions.PlacedEntry.{PlacedEntry}

@@ -7,7 +7,8 @@ use Rattle.snippet_view.specs.declared.entries.LineAnnotationType.{LineAnnotatio
 use Rattle.snippet_view.specs.declared.entries.LineAnnotationType.TheVariants.{Singleline, MultilineStart, MultilineEnd, MultilineLine}
 use Rattle.snippet_view.specs.Measures.{is_bar}
 use Rattle.snippet_style.specs.Glyphs.{glyph_of}
-use Rattle.snippet_style.specs.Grid.{Cell, SPACE, row_at}
+use Rattle.snippet_grid.specs.Grid.{row_at}
+use Rattle.snippet_style.specs.Cell.{Cell, SPACE}
 use Rattle.snippet_style.specs.declared.glyphs.DecorStyle.{DecorStyle}
 use Rattle.snippet_strokes.specs.declared.layout.Layout.{Layout}
 use Rattle.snippet_strokes.specs.declared.rails.OpenBar.{OpenBar}

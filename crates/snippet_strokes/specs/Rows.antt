@@ -11,9 +11,10 @@ use Rattle.snippet_style.specs.declared.glyphs.DecorStyle.TheVariants.{Ascii, Un
 use Rattle.snippet_style.specs.declared.role.ElementStyle.{ElementStyle}
 use Rattle.snippet_style.specs.declared.role.ElementStyle.TheVariants.{LineNumber, Quotation, UnderlinePrimary, UnderlineSecondary}
 use Rattle.snippet_style.specs.Glyphs.{separator_of, placeholder_of, elision_of, underline_role}
-use Rattle.snippet_style.specs.Print.{row_text}
+use Rattle.snippet_grid.specs.Print.{row_text}
 use Rattle.snippet_style.specs.Separators.{closing_row, separator_row}
-use Rattle.snippet_style.specs.Grid.{Cell, SPACE, drawn, written, unlinked_cell, row_at, cell_at, gives_way, restyled}
+use Rattle.snippet_grid.specs.Grid.{row_at, cell_at, restyled}
+use Rattle.snippet_style.specs.Cell.{Cell, SPACE, drawn, written, unlinked_cell, gives_way}
 use Rattle.snippet_strokes.specs.declared.layout.Layout.{Layout}
 use Rattle.snippet_strokes.specs.Entries.{EntryCovers, IsEntryMark, IsMarkCell, IsRailCell, are_plain, has_mark_role, label_text, label_role, wide_entries}
 use Rattle.snippet_model.specs.AnnotationKind.{is_primary}

@@ -7,9 +7,9 @@ use Rattle.snippet_view.specs.Measures.{is_bar}
 use Rattle.snippet_view.specs.Window.{dropped_part, window}
 use Rattle.snippet_strokes.specs.declared.layout.Layout.{Layout}
 use Rattle.snippet_style.specs.Glyphs.{placeholder_of}
-use Rattle.snippet_style.specs.Grid.{Cell, drawn}
+use Rattle.snippet_style.specs.Cell.{Cell, drawn}
 use Rattle.snippet_style.specs.declared.role.ElementStyle.TheVariants.{Quotation}
-use Rattle.snippet_style.specs.Print.{row_text}
+use Rattle.snippet_grid.specs.Print.{row_text}
 use Rattle.snippet_text.specs.Normalized.{norm}
 use Rattle.snippet_text.specs.Width.{width_of}
 use Rattle.snippet_strokes.specs.Entries.{is_end_part, shifted, wide_entries}

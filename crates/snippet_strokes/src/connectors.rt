@@ -7,7 +7,7 @@ use crate::layout::Layout;
 use crate::lines::draw_stretch;
 use crate::positions::PlacedEntry;
 use crate::roles::is_primary;
-use snippet_style::StyledBuffer;
+use snippet_grid::StyledBuffer;
 use snippet_view::LineAnnotationType;
 use std::alloc::{AllocError, Global};
 

@@ -6,7 +6,7 @@ ghost use Rattle.snippet_strokes.specs.Painting.{DrawsRails, HasRows};
 use crate::layout::Layout;
 use crate::positions::PlacedEntry;
 use crate::roles::is_primary;
-use snippet_style::StyledBuffer;
+use snippet_grid::StyledBuffer;
 use snippet_view::LineAnnotationType;
 use std::alloc::AllocError;
 

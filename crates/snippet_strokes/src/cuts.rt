@@ -2,14 +2,16 @@
 ghost use Rattle.std.specs.Prelude.{◌≡◌, ◌+◌, ◌-◌, ◌^◌, ◌<◌, ◌≤◌, ◌++◌, ◌∷◌, [], List, All, IfOk, OnOk, length, map};
 ghost use Rattle.snippet_view.specs.Measures.{is_wide_entry};
 ghost use Rattle.snippet_style.specs.Glyphs.{placeholder_of};
-ghost use Rattle.snippet_style.specs.Grid.{Cell, cells_replaced, drawn};
+ghost use Rattle.snippet_grid.specs.Grid.{cells_replaced};
+ghost use Rattle.snippet_style.specs.Cell.{Cell, drawn};
 ghost use Rattle.snippet_style.specs.declared.role.ElementStyle.TheVariants.{LineNumber};
 ghost use Rattle.snippet_strokes.specs.Entries.{HasPlace, wide_entries};
 ghost use Rattle.snippet_strokes.specs.Rows.{CutsRows};
 
 use crate::layout::Layout;
 use crate::positions::{PlacedEntry, crosses, overlap, position_at, position_behind};
-use snippet_style::{DecorStyle, StyledBuffer, char_count};
+use snippet_grid::StyledBuffer;
+use snippet_style::{DecorStyle, char_count};
 use snippet_view::{LineAnnotation, LineAnnotationType};
 use std::alloc::{AllocError, Global};
 

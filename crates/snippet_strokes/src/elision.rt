@@ -5,7 +5,8 @@ ghost use Rattle.snippet_strokes.specs.Rows.{bare_elision_row};
 
 use crate::layout::Layout;
 use crate::rails::{OpenBar, RailStroke, draw_bars};
-use snippet_style::{DecorStyle, ElementStyle, StyledBuffer};
+use snippet_grid::StyledBuffer;
+use snippet_style::{DecorStyle, ElementStyle};
 use snippet_view::AnnotatedLineInfo;
 use std::alloc::{AllocError, Global};
 

@@ -1,6 +1,7 @@
 //! The labels of marks.
 ghost use Rattle.std.specs.Prelude.{◌≡◌, ◌+◌, ◌^◌, ◌<◌, ◌≤◌, ◌∷◌, [], All, OnOk, false, true, length, ℕ};
-ghost use Rattle.snippet_style.specs.Grid.{cells_written, drawn};
+ghost use Rattle.snippet_grid.specs.Grid.{cells_written};
+ghost use Rattle.snippet_style.specs.Cell.{drawn};
 ghost use Rattle.snippet_strokes.specs.Entries.{HasPlace, label_role, label_text};
 ghost use Rattle.snippet_strokes.specs.Painting.{DrawsFrom, HasRows, MarksStarts, StandsFrom};
 ghost use Rattle.snippet_strokes.specs.Positions as spec;
@@ -10,7 +11,7 @@ ghost use Rattle.snippet_strokes.specs.declared.positions.PlacedEntry.{PlacedEnt
 use crate::layout::Layout;
 use crate::positions::PlacedEntry;
 use crate::roles::label_role;
-use snippet_style::StyledBuffer;
+use snippet_grid::StyledBuffer;
 use std::alloc::AllocError;
 
 /// Draws the labels of some entries, the first row of which is that of the marks.

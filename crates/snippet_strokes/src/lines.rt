@@ -1,9 +1,12 @@
 //! Glyphs that stand side by side in a row.
 ghost use Rattle.std.specs.Prelude.{◌≡◌, ◌+◌, ◌-◌, ◌^◌, ◌<◌, ◌≤◌, IfOk, OnOk, replicate, string_bytes};
 ghost use Rattle.std.specs.Str.{chars};
-ghost use Rattle.snippet_style.specs.Grid.{WritesCells, unlinked_cell};
+ghost use Rattle.snippet_grid.specs.Grid.{WritesCells};
+ghost use Rattle.snippet_style.specs.Cell.{unlinked_cell};
 
-use snippet_style::{ElementStyle, StyledBuffer};
+use snippet_grid::StyledBuffer;
+
+use snippet_style::ElementStyle;
 use std::alloc::{AllocError, Global};
 
 /// A text that holds a glyph so many times.

@@ -7,7 +7,8 @@ ghost use Rattle.snippet_strokes.specs.Rails.{DrawsBars, HasRoom, StandsBeside, 
 use crate::layout::Layout;
 use crate::lines::repeated;
 use crate::roles::is_primary;
-use snippet_style::{DecorStyle, StyledBuffer};
+use snippet_grid::StyledBuffer;
+use snippet_style::DecorStyle;
 use snippet_view::{LineAnnotation, LineAnnotationType};
 use std::alloc::{AllocError, Global};
 

@@ -4,7 +4,8 @@ ghost use Rattle.snippet_strokes.specs.Rows.{bare_row};
 ghost use Rattle.snippet_style.specs.Separators.{closing_row, separator_row};
 
 use crate::layout::Layout;
-use snippet_style::{ElementStyle, StyledBuffer};
+use snippet_grid::StyledBuffer;
+use snippet_style::ElementStyle;
 use std::alloc::AllocError;
 
 /// Begins a row below all that stands in the grid, with the separator alone, and gives the row's number.

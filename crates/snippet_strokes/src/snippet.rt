@@ -5,7 +5,7 @@ ghost use Rattle.snippet_strokes.specs.Entries.{HasPlace, HasRail, shifted};
 ghost use Rattle.snippet_strokes.specs.Rails.{HasRoom, ends_of_bars, open_below};
 ghost use Rattle.snippet_lines.specs.Number.{shown_number};
 ghost use Rattle.snippet_strokes.specs.Rows.{AddsStrokes, HasNoBars};
-ghost use Rattle.snippet_style.specs.Grid.{Cell};
+ghost use Rattle.snippet_style.specs.Cell.{Cell};
 ghost use Rattle.snippet_strokes.specs.Snippet.{AddsLine, AddsSnippet};
 
 use crate::elision::draw_gap;
@@ -15,8 +15,8 @@ use crate::rails::{OpenBar, RailStroke, bars_apart, draw_bars, ends_on};
 use crate::source_row::draw_source_row;
 use crate::strokes::draw_strokes;
 use crate::whole_line::is_whole_line;
+use snippet_grid::StyledBuffer;
 use snippet_lines::LineNumbers;
-use snippet_style::StyledBuffer;
 use snippet_view::{AnnotatedLineInfo, Margin};
 use std::alloc::{AllocError, Global};
 

@@ -1,6 +1,6 @@
 //! The row that shows a line of the source.
 ghost use Rattle.std.specs.Prelude.{◌≡◌, ◌+◌, ◌^◌, ◌<◌, ◌≤◌, ◌++◌, ◌∷◌, [], IfOk, IfSome, List, OnOk, chars, false, length};
-ghost use Rattle.snippet_style.specs.Grid.{Cell};
+ghost use Rattle.snippet_style.specs.Cell.{Cell};
 ghost use Rattle.std.specs.List.{list_any};
 ghost use Rattle.snippet_view.specs.Margin.{bounds_of};
 ghost use Rattle.snippet_view.specs.Window.{dropped_part};
@@ -12,8 +12,9 @@ ghost use Rattle.snippet_text.specs.Width.{width_of};
 
 use crate::layout::Layout;
 use crate::row::begin_row;
+use snippet_grid::StyledBuffer;
 use snippet_lines::{LineNumbers, number_text};
-use snippet_style::{ElementStyle, StyledBuffer};
+use snippet_style::ElementStyle;
 use snippet_text::{normalized, str_width};
 use snippet_view::{AnnotatedLineInfo, LineWindow, Margin, near_part, window_of};
 use std::alloc::{AllocError, Global};

@@ -7,7 +7,8 @@ ghost use Rattle.snippet_strokes.specs.Positions as spec;
 use crate::layout::Layout;
 use crate::positions::PlacedEntry;
 use crate::roles::is_primary;
-use snippet_style::{DecorStyle, StyledBuffer};
+use snippet_grid::StyledBuffer;
+use snippet_style::DecorStyle;
 use snippet_view::LineAnnotationType;
 use std::alloc::AllocError;
 

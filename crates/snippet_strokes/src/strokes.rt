@@ -2,7 +2,7 @@
 ghost use Rattle.std.specs.Prelude.{◌≡◌, ◌+◌, ◌^◌, ◌<◌, ◌≤◌, ◌++◌, ◌∷◌, [], if◌then◌else◌, All, IfSome, List, OnOk, false, length, map};
 ghost use Rattle.snippet_strokes.specs.Entries.{HasPlace, HasRail, shifted};
 ghost use Rattle.snippet_view.specs.Measures.{is_bar};
-ghost use Rattle.snippet_style.specs.Grid.{Cell};
+ghost use Rattle.snippet_style.specs.Cell.{Cell};
 ghost use Rattle.snippet_strokes.specs.Positions as spec;
 ghost use Rattle.snippet_strokes.specs.Rows.{AddsStrokes, HasNoBars};
 ghost use Rattle.snippet_style.specs.Separators.{closing_row};
@@ -16,7 +16,7 @@ use crate::marks::draw_marks;
 use crate::positions::{PlacedEntry, are_starts, placed_entries};
 use crate::row::{begin_closing_row, begin_rows};
 use crate::stems::draw_stems;
-use snippet_style::StyledBuffer;
+use snippet_grid::StyledBuffer;
 use snippet_view::LineAnnotation;
 use std::alloc::{AllocError, Global};
 

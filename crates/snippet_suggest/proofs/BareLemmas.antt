@@ -9,8 +9,9 @@ use Rattle.snippet_style.specs.declared.glyphs.DecorStyle.TheVariants.{Ascii, Un
 use Rattle.snippet_style.specs.declared.role.ElementStyle.{ElementStyle}
 use Rattle.snippet_style.specs.declared.role.ElementStyle.TheVariants.{LineNumber}
 use Rattle.snippet_style.specs.Glyphs.{placeholder_of}
-use Rattle.snippet_style.specs.Grid.{Cell, SPACE, drawn, written, cells_written}
-use Rattle.snippet_style.proofs.GridLemmas.{All-drawn, length-chars_le, length-drawn, slice_index_or-written_behind}
+use Rattle.snippet_grid.specs.Grid.{cells_written}
+use Rattle.snippet_style.specs.Cell.{Cell, SPACE, drawn, written}
+use Rattle.snippet_style.proofs.CellLemmas.{All-drawn, length-chars_le, length-drawn, slice_index_or-written_behind}
 use Rattle.snippet_text.specs.Normalized.{is_listed}
 use Rattle.snippet_model.specs.Rows.{IsFreeCell}
 use Rattle.snippet_suggest.specs.declared.glyphs.SuggestionGlyph.{SuggestionGlyph}

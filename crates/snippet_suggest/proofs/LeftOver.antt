@@ -8,8 +8,8 @@ use Rattle.std.proofs.lemmas.List.{length-append, length-replicate}
 use Rattle.std.proofs.lemmas.List.Elements.{All-append, All-cons, All-nil, All-push, All-replicate}
 use Rattle.snippet_style.specs.declared.glyphs.DecorStyle.{DecorStyle}
 use Rattle.snippet_style.specs.declared.role.ElementStyle.TheVariants.{LineNumber}
-use Rattle.snippet_style.specs.Grid.{Cell, SPACE, drawn, written}
-use Rattle.snippet_style.proofs.GridLemmas.{All-drawn, length-drawn, slice_index_or-written_behind, slice_index_or-written_inside}
+use Rattle.snippet_style.specs.Cell.{Cell, SPACE, drawn, written}
+use Rattle.snippet_style.proofs.CellLemmas.{All-drawn, length-drawn, slice_index_or-written_behind, slice_index_or-written_inside}
 use Rattle.snippet_lines.specs.Number.{set_right, shown_number}
 use Rattle.snippet_lines.specs.declared.number.LineNumbers.{LineNumbers}
 use Rattle.snippet_lines.specs.declared.number.LineNumbers.TheVariants.{Shown, Anonymized, Hidden}

@@ -6,9 +6,9 @@ use Rattle.std.proofs.lemmas.List.{length-replicate, length-append}
 use Rattle.std.proofs.lemmas.List.Elements.{All-append, All-replicate}
 use Rattle.snippet_style.specs.declared.glyphs.DecorStyle.{DecorStyle}
 use Rattle.snippet_style.specs.declared.role.ElementStyle.{ElementStyle}
-use Rattle.snippet_style.specs.Grid.{Cell, SPACE, drawn}
-use Rattle.snippet_style.specs.Print.{row_text}
-use Rattle.snippet_style.proofs.GridLemmas.{All-drawn, length-drawn}
+use Rattle.snippet_style.specs.Cell.{Cell, SPACE, drawn}
+use Rattle.snippet_grid.specs.Print.{row_text}
+use Rattle.snippet_style.proofs.CellLemmas.{All-drawn, length-drawn}
 use Rattle.snippet_text.specs.Normalized.{is_listed}
 use Rattle.snippet_suggest.specs.declared.glyphs.SuggestionGlyph.{SuggestionGlyph}
 use Rattle.snippet_suggest.specs.Glyphs.{glyph_of, is_sign}

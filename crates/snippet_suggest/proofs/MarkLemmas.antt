@@ -6,8 +6,10 @@ use Rattle.std.proofs.lemmas.List.Elements.{All-cons, All-nil}
 use Rattle.snippet_style.specs.declared.glyphs.DecorStyle.{DecorStyle}
 use Rattle.snippet_style.specs.declared.glyphs.DecorStyle.TheVariants.{Ascii, Unicode}
 use Rattle.snippet_style.specs.declared.role.ElementStyle.{ElementStyle}
-use Rattle.snippet_style.specs.Grid.{Cell, SPACE, drawn, unlinked_cell, written, cells_written}
-use Rattle.snippet_style.proofs.GridLemmas.{cells_written_last, slice_index_or-written_before, slice_index_or-written_behind, slice_index_or-written_inside}
+use Rattle.snippet_grid.specs.Grid.{cells_written}
+use Rattle.snippet_style.specs.Cell.{Cell, SPACE, drawn, unlinked_cell, written}
+use Rattle.snippet_grid.proofs.GridLemmas.{cells_written_last}
+use Rattle.snippet_style.proofs.CellLemmas.{slice_index_or-written_before, slice_index_or-written_behind, slice_index_or-written_inside}
 use Rattle.snippet_text.specs.Normalized.{is_listed}
 use Rattle.snippet_model.specs.Rows.{IsFreeCell, IsFree}
 use Rattle.snippet_suggest.specs.Glyphs.{changed_mark_of}

@@ -4,11 +4,12 @@ use Rattle.std.specs.Char.{is_ascii_alphanumeric}
 use Rattle.std.specs.List.{slice_index_or}
 use Rattle.std.proofs.lemmas.List.{places, same_lists, map-append, get_or_at, get_or-map, drop-map, take-map, length-append, length-map}
 use Rattle.snippet_text.specs.Normalized.{is_listed}
-use Rattle.snippet_style.proofs.ChangeLemmas.{changed_within_one}
+use Rattle.snippet_grid.proofs.ChangeLemmas.{changed_within_one}
 use Rattle.snippet_style.specs.declared.role.ElementStyle.{ElementStyle}
 use Rattle.snippet_style.specs.declared.glyphs.DecorStyle.{DecorStyle}
-use Rattle.snippet_style.specs.Grid.{Cell, SPACE, changed_within, cells_restyled, restyled}
-use Rattle.snippet_style.specs.Print.{row_text}
+use Rattle.snippet_grid.specs.Grid.{changed_within, cells_restyled, restyled}
+use Rattle.snippet_style.specs.Cell.{Cell, SPACE}
+use Rattle.snippet_grid.specs.Print.{row_text}
 use Rattle.snippet_model.specs.Rows.{IsFree}
 use Rattle.snippet_suggest.specs.Rows.{without_role, IsRepainted, IsLineRow, IsSign, AddsRow}
 use Rattle.snippet_suggest.proofs.RowLemmas.{ch_at}

@@ -3,7 +3,7 @@ use Rattle.std.proofs.Common.{◌≡◌, ℕ, ◌+◌, ◌-◌, ◌<◌, ◌≤�
 use Rattle.std.specs.List.{AllZip}
 use Rattle.std.proofs.lemmas.List.{append-nil, get_or-map, length-append, length-map, take_all}
 use Rattle.snippet_text.specs.Normalized.{norm}
-use Rattle.snippet_style.specs.Grid.{Cell}
+use Rattle.snippet_style.specs.Cell.{Cell}
 use Rattle.snippet_parts.specs.declared.source_map.LineInfo.{LineInfo}
 use Rattle.snippet_suggest.specs.declared.layout.SuggestionLayout.{SuggestionLayout}
 use Rattle.snippet_suggest.specs.Given.{texts_at}

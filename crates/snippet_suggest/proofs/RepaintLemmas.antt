@@ -5,8 +5,8 @@ use Rattle.std.proofs.lemmas.List.{drop-map, take-map, length-map}
 use Rattle.snippet_text.specs.Normalized.{is_listed, norm}
 use Rattle.snippet_style.specs.declared.glyphs.DecorStyle.{DecorStyle}
 use Rattle.std.specs.Char.{is_ascii_alphanumeric}
-use Rattle.snippet_style.specs.Grid.{Cell, SPACE}
-use Rattle.snippet_style.specs.Print.{row_text}
+use Rattle.snippet_style.specs.Cell.{Cell, SPACE}
+use Rattle.snippet_grid.specs.Print.{row_text}
 use Rattle.snippet_model.specs.Rows.{IsFree}
 use Rattle.snippet_lines.specs.Number.{shown_number}
 use Rattle.snippet_lines.specs.declared.number.LineNumbers.{LineNumbers}

@@ -6,9 +6,11 @@ use Rattle.std.proofs.lemmas.List.{places, same_lists, append-nil, length-replic
 use Rattle.std.proofs.lemmas.List.Elements.{All-append, All-take, All-drop, All-replicate, All-cons, All-nil, All-weaker}
 use Rattle.std.proofs.lemmas.Str.{chars-nil}
 use Rattle.snippet_style.specs.declared.role.ElementStyle.{ElementStyle}
-use Rattle.snippet_style.specs.Grid.{Cell, SPACE, drawn, unlinked_cell, written, cells_written}
-use Rattle.snippet_style.specs.Print.{row_text}
-use Rattle.snippet_style.proofs.GridLemmas.{All-drawn, length-drawn, length-written, drop-written, cells_written_below, cells_written_last, slice_index_or-written_before, slice_index_or-written_behind, slice_index_or-written_inside}
+use Rattle.snippet_grid.specs.Grid.{cells_written}
+use Rattle.snippet_style.specs.Cell.{Cell, SPACE, drawn, unlinked_cell, written}
+use Rattle.snippet_grid.specs.Print.{row_text}
+use Rattle.snippet_grid.proofs.GridLemmas.{cells_written_below, cells_written_last}
+use Rattle.snippet_style.proofs.CellLemmas.{All-drawn, length-drawn, length-written, drop-written, slice_index_or-written_before, slice_index_or-written_behind, slice_index_or-written_inside}
 use Rattle.snippet_text.specs.Normalized.{is_listed}
 use Rattle.snippet_model.specs.Rows.{IsFreeCell, IsFree}
 use Rattle.snippet_suggest.specs.Rows.{HoldsText}

@@ -1,7 +1,7 @@
 //! A suggestion that is shown as the lines that are removed, and the one line that stands in their place.
 ghost use Rattle.std.specs.Prelude.{◌≡◌, ◌<◌, ◌^◌, ◌++◌, ◌∷◌, [], List, true, false, OnOk, length, if◌then◌else◌};
 ghost use Rattle.std.specs.Str.{bytes_eq};
-ghost use Rattle.snippet_style.specs.Grid.{Cell};
+ghost use Rattle.snippet_style.specs.Cell.{Cell};
 ghost use Rattle.snippet_suggest.specs.declared.kind.DisplaySuggestion.TheVariants.{Diff};
 ghost use Rattle.snippet_suggest.specs.declared.shown.ShownLine.TheVariants.{Line};
 ghost use Rattle.snippet_suggest.specs.Given.{is_left_out, last_removed, texts_at, unless_stays};
@@ -12,9 +12,10 @@ use crate::kind::is_blank;
 use crate::layout::SuggestionLayout;
 use crate::roles::{paint_stretches, stretches_of};
 use crate::row::{draw_line, draw_removed_line};
+use snippet_grid::StyledBuffer;
 use snippet_parts::LineInfo;
 use snippet_splice::SubstitutionHighlight;
-use snippet_style::{ElementStyle, StyledBuffer};
+use snippet_style::ElementStyle;
 use std::alloc::{AllocError, Global};
 
 /// Draws lines that are removed below all that stands in the grid, and the line in their place below them. Where this is

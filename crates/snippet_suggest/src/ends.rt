@@ -2,11 +2,12 @@
 ghost use Rattle.std.specs.Prelude.{◌≡◌, ℕ, ◌<◌, ◌^◌, ◌+◌, ◌++◌, Bool, false, List, IfOk, OnOk, length};
 ghost use Rattle.snippet_suggest.specs.Glyphs.{is_sign};
 ghost use Rattle.snippet_suggest.specs.Rows.{AddsEnd, AddsRow, IsBareRow, IsStart, IsTail};
-ghost use Rattle.snippet_style.specs.Grid.{Cell};
+ghost use Rattle.snippet_style.specs.Cell.{Cell};
 
 use crate::glyphs::SuggestionGlyph;
 use crate::layout::{SuggestionLayout, SuggestionStart};
-use snippet_style::{ElementStyle, StyledBuffer};
+use snippet_grid::StyledBuffer;
+use snippet_style::ElementStyle;
 use std::alloc::AllocError;
 
 /// Draws what a suggestion begins with: a row below all that stands in the grid, or a glyph in the last row, or nothing

@@ -16,9 +16,10 @@ use crate::layout::SuggestionLayout;
 use crate::roles::{paint_stretches, stretches_of};
 use crate::row::{draw_gap, draw_line};
 use crate::shown::{ShownLine, shown_lines};
+use snippet_grid::StyledBuffer;
 use snippet_lines::CursorLines;
 use snippet_splice::{LineRange, SubstitutionHighlight};
-use snippet_style::{ElementStyle, StyledBuffer};
+use snippet_style::ElementStyle;
 use std::alloc::{AllocError, Global};
 
 /// The lines of a text, without their ends.

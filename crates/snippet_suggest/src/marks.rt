@@ -1,15 +1,16 @@
 //! The marks below what a suggestion puts in.
 ghost use Rattle.std.specs.Prelude.{◌≡◌, ◌<◌, ◌^◌, ◌+◌, ◌++◌, ◌∷◌, [], List, All, OnOk, length};
-ghost use Rattle.snippet_style.specs.Grid.{Cell};
+ghost use Rattle.snippet_style.specs.Cell.{Cell};
 ghost use Rattle.snippet_suggest.specs.Rows.{AddsRow, IsBareRow, IsMarkOrSpace};
 ghost use Rattle.snippet_lines.specs.Span.{IsSpan};
 
 use crate::glyphs::changed_mark;
 use crate::kind::{is_addition, is_blank};
 use crate::layout::SuggestionLayout;
+use snippet_grid::StyledBuffer;
 use snippet_parts::SourceMap;
 use snippet_splice::TrimmedPatch;
-use snippet_style::{ElementStyle, StyledBuffer};
+use snippet_style::ElementStyle;
 use snippet_text::char_width;
 use std::alloc::{AllocError, Global};
 

@@ -1,13 +1,14 @@
 //! The rows of lines that are removed.
 ghost use Rattle.std.specs.Prelude.{◌≡◌, ◌<◌, ◌^◌, ◌+◌, ◌++◌, Bool, List, OnOk, length};
-ghost use Rattle.snippet_style.specs.Grid.{Cell};
+ghost use Rattle.snippet_style.specs.Cell.{Cell};
 ghost use Rattle.snippet_suggest.specs.Given.{texts_at};
 ghost use Rattle.snippet_suggest.specs.Rows.{AddsRemoved, IsTail};
 
 use crate::layout::SuggestionLayout;
 use crate::row::draw_removed_line;
+use snippet_grid::StyledBuffer;
 use snippet_parts::LineInfo;
-use snippet_style::{ElementStyle, StyledBuffer};
+use snippet_style::ElementStyle;
 use std::alloc::{AllocError, Global};
 
 /// Draws lines of a source that are removed with nothing in their place, in rows from this one on.

@@ -1,11 +1,12 @@
 //! The roles of what is new in a line, and of what is removed.
 ghost use Rattle.std.specs.Prelude.{◌≡◌, ◌++◌, ◌∷◌, [], List, OnOk, length};
-ghost use Rattle.snippet_style.specs.Grid.{Cell};
+ghost use Rattle.snippet_style.specs.Cell.{Cell};
 ghost use Rattle.snippet_suggest.specs.Rows.{IsRepainted};
 
 use crate::layout::SuggestionLayout;
+use snippet_grid::StyledBuffer;
 use snippet_splice::SubstitutionHighlight;
-use snippet_style::{ElementStyle, StyledBuffer};
+use snippet_style::ElementStyle;
 use std::alloc::AllocError;
 use std::str::Chars;
 

@@ -2,14 +2,15 @@
 ghost use Rattle.std.specs.Prelude.{◌≡◌, ◌<◌, ◌≤◌, ◌^◌, ◌+◌, ◌++◌, true, Bool, List, IfOk, OnOk, chars, length};
 ghost use Rattle.snippet_text.specs.Normalized.{norm};
 ghost use Rattle.snippet_lines.specs.Number.{shown_number};
-ghost use Rattle.snippet_style.specs.Grid.{Cell};
+ghost use Rattle.snippet_style.specs.Cell.{Cell};
 ghost use Rattle.snippet_suggest.specs.Glyphs.{is_sign};
 ghost use Rattle.snippet_suggest.specs.Rows.{AddsRow, IsBareRow, IsLineRow, IsRemovedRow, IsTail};
 
 use crate::glyphs::SuggestionGlyph;
 use crate::layout::SuggestionLayout;
+use snippet_grid::StyledBuffer;
 use snippet_lines::number_text;
-use snippet_style::{ElementStyle, StyledBuffer};
+use snippet_style::ElementStyle;
 use snippet_text::{normalized, str_width};
 use std::alloc::{AllocError, Global};
 

@@ -1,6 +1,6 @@
 //! The rows of a suggestion.
 ghost use Rattle.std.specs.Prelude.{◌≡◌, ◌<◌, ◌^◌, ◌+◌, ◌-◌, ◌++◌, ◌∷◌, [], List, IfOk, OnOk, All, length, map, if◌then◌else◌};
-ghost use Rattle.snippet_style.specs.Grid.{Cell};
+ghost use Rattle.snippet_style.specs.Cell.{Cell};
 ghost use Rattle.snippet_lines.specs.Span.{IsSpan};
 ghost use Rattle.snippet_splice.specs.Copied.{end_from};
 ghost use Rattle.snippet_splice.specs.Shown.{first_start};
@@ -21,9 +21,9 @@ use crate::prepared::{PreparedSuggestion, first_number};
 use crate::removed::draw_removed_lines;
 use crate::roles::stretches_of;
 use crate::shown::is_touched;
+use snippet_grid::StyledBuffer;
 use snippet_parts::SourceMap;
 use snippet_splice::TrimmedPatch;
-use snippet_style::StyledBuffer;
 use std::alloc::{AllocError, Global};
 use std::ops::Range;
 

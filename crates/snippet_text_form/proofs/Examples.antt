@@ -21,7 +21,7 @@ use Rattle.snippet_splice.specs.Trim.{kept_before, sandwich}
 use Rattle.snippet_style.specs.declared.role.LevelInner.{LevelInner}
 use Rattle.snippet_style.specs.declared.role.LevelInner.TheVariants.{Error, Help, Info}
 use Rattle.snippet_style.specs.Stylesheet.{default_sheet}
-use Rattle.snippet_style.specs.Woven.{link_start, link_stop}
+use Rattle.snippet_grid.specs.Woven.{link_start, link_stop}
 use Rattle.snippet_text.specs.Normalized.{norm}
 use Rattle.snippet_text.proofs.WidthLemmas.{width_of-colon}
 use Rattle.snippet_titles.specs.Heading.{heading_lines}

@@ -4,8 +4,8 @@ use Rattle.std.specs.List.{flat_map}
 use Rattle.std.specs.Option.{option_to_list}
 use Rattle.std.proofs.lemmas.List.{append_assoc}
 use Rattle.std.proofs.lemmas.List.Elements.{All-nil, All-cons}
-use Rattle.snippet_style.specs.Woven as woven
-use Rattle.snippet_style.specs.Woven.{Piece, Opening, Reset, LinkTo, LinkEnd, piece_text, plain_piece, piece_link, IsOfSheet, AreLinksEnded, IsStyleOf, IsWoven}
+use Rattle.snippet_grid.specs.Woven as woven
+use Rattle.snippet_grid.specs.Woven.{Piece, Opening, Reset, LinkTo, LinkEnd, piece_text, plain_piece, piece_link, IsOfSheet, AreLinksEnded, IsStyleOf, IsWoven}
 use Rattle.snippet_style.specs.declared.role.ElementStyle.{ElementStyle}
 use Rattle.snippet_style.specs.declared.role.LevelInner.TheVariants.{Note}
 use Rattle.snippet_style.specs.declared.style.Style.{Style}

@@ -5,7 +5,7 @@ use Rattle.std.specs.Fmt.{decimal}
 use Rattle.std.specs.List.{flat_map}
 use Rattle.std.specs.Option.{option_copied, option_to_list}
 use Rattle.snippet_style.specs.Stylesheet.{style_of}
-use Rattle.snippet_style.specs.Woven as woven
+use Rattle.snippet_grid.specs.Woven as woven
 use Rattle.snippet_style.specs.declared.role.ElementStyle.{ElementStyle}
 use Rattle.snippet_style.specs.declared.role.LevelInner.TheVariants.{Note}
 use Rattle.snippet_style.specs.declared.style.Style.{Style}

@@ -9,7 +9,7 @@ ghost use Rattle.std.specs.Cow.{cow_str_bytes};
 ghost use Rattle.std.specs.Fmt.{decimal};
 ghost use Rattle.std.specs.List.{flat_map};
 ghost use Rattle.std.specs.Option.{option_copied};
-ghost use Rattle.snippet_style.specs.Woven.{IsWoven, piece_text};
+ghost use Rattle.snippet_grid.specs.Woven.{IsWoven, piece_text};
 ghost use Rattle.snippet_text_form.specs.Form.{Break, Styled, bare, begun_behind, form_bytes, form_links, form_text, in_style, link_codes_before, link_codes_behind, pieces_of, plain_from, role_style, woven_from};
 
 use snippet_style::{ElementStyle, LevelInner, Style, Stylesheet, open_code, reset_code};

@@ -7,10 +7,11 @@ use Rattle.std.proofs.lemmas.Bool.{cases_eq, cases_lt}
 use Rattle.std.proofs.lemmas.List.{append-nil, append_assoc, get_or-set_same, get_or-set_other, set-get_or, length-append, length-drop, length-set, places, same_lists, take_all}
 use Rattle.std.proofs.Math.Seq.{take-append_seam, drop-append_seam}
 use Rattle.std.proofs.Math.ListN.{drop_of_length-le}
-use Rattle.snippet_style.specs.Grid.{Cell, SPACE, drawn, linked, row_at, written, cells_written, changed_within, cells_linked}
+use Rattle.snippet_grid.specs.Grid.{linked, row_at, cells_written, changed_within, cells_linked}
+use Rattle.snippet_style.specs.Cell.{Cell, SPACE, drawn, written}
 use Rattle.snippet_style.specs.declared.role.ElementStyle.{ElementStyle}
-use Rattle.snippet_style.proofs.GridLemmas.{slice_index_or-written_inside, length-written, written_end}
-use Rattle.snippet_style.proofs.ChangeLemmas.{changed_within_none, changed_within_one}
+use Rattle.snippet_style.proofs.CellLemmas.{slice_index_or-written_inside, length-written, written_end}
+use Rattle.snippet_grid.proofs.ChangeLemmas.{changed_within_none, changed_within_one}
 use Rattle.snippet_titles.specs.Appended.{appended, linked_from}
 use Rattle.snippet_titles.specs.Heading.{linked_to}
 

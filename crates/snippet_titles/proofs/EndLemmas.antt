@@ -3,7 +3,8 @@ use Rattle.std.proofs.Common.{◌≡◌, ℕ, suc, ◌+◌, ◌-◌, ◌<◌, �
 use Rattle.std.proofs.lemmas.Bool.{cases_lt}
 use Rattle.std.proofs.lemmas.List.{append-nil, append_assoc, get_or_past, length-append, length-take, places, same_lists}
 use Rattle.std.proofs.Math.Seq.{take-append_seam}
-use Rattle.snippet_style.specs.Grid.{Cell, row_at, written}
+use Rattle.snippet_grid.specs.Grid.{row_at}
+use Rattle.snippet_style.specs.Cell.{Cell, written}
 use Rattle.snippet_titles.specs.Appended.{IsAtEnd, appended}
 use Rattle.snippet_titles.specs.Heading.{on_top, trimmed}
 use Rattle.snippet_titles.proofs.AppendLemmas.{appended-appended, appended-is}

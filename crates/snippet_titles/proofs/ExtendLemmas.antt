@@ -3,9 +3,11 @@ use Rattle.std.proofs.Common.{◌≡◌, ℕ, ◌+◌, ◌<◌, List, [], ◌∷
 use Rattle.std.specs.Str.{chars}
 use Rattle.std.proofs.lemmas.List.{take_more, take_all, length-take, append-nil, length-append}
 use Rattle.std.proofs.Math.Seq.{take-append_seam, get_or-append_seam}
-use Rattle.snippet_style.specs.Grid.{Cell, SPACE, drawn, row_at, cells_written}
+use Rattle.snippet_grid.specs.Grid.{row_at, cells_written}
+use Rattle.snippet_style.specs.Cell.{Cell, SPACE, drawn}
 use Rattle.snippet_style.specs.declared.role.ElementStyle.{ElementStyle}
-use Rattle.snippet_style.proofs.GridLemmas.{cells_written_last, written_end}
+use Rattle.snippet_grid.proofs.GridLemmas.{cells_written_last}
+use Rattle.snippet_style.proofs.CellLemmas.{written_end}
 
 -- cells behind the last row are added to it
 pub appended_last : (front : List (List Cell)) (row cells : List Cell) → cells_written (front ++ row ∷ []) (length front) (length row) cells ≡ front ++ (row ++ cells) ∷ []

@@ -6,8 +6,10 @@ use Rattle.snippet_style.specs.declared.glyphs.DecorStyle.{DecorStyle}
 use Rattle.snippet_style.specs.declared.glyphs.DecorStyle.TheVariants.{Ascii, Unicode}
 use Rattle.snippet_style.specs.declared.role.ElementStyle.TheVariants.{LineAndColumn, LineNumber}
 use Rattle.snippet_style.specs.Glyphs.{closing_of, separator_of}
-use Rattle.snippet_style.specs.Grid.{Cell, SPACE, drawn, row_at, written, cells_written}
-use Rattle.snippet_style.proofs.GridLemmas.{length-chars_le, cells_written_below}
+use Rattle.snippet_grid.specs.Grid.{row_at, cells_written}
+use Rattle.snippet_style.specs.Cell.{Cell, SPACE, drawn, written}
+use Rattle.snippet_grid.proofs.GridLemmas.{cells_written_below}
+use Rattle.snippet_style.proofs.CellLemmas.{length-chars_le}
 use Rattle.snippet_titles.specs.declared.origin.FileStart.{FileStart}
 use Rattle.snippet_titles.specs.declared.origin.FileStart.TheVariants.{Alone, First, Later, Secondary}
 use Rattle.snippet_titles.specs.declared.origin.OriginPlace.{OriginPlace}

@@ -7,8 +7,8 @@ use Rattle.snippet_style.specs.declared.glyphs.DecorStyle.{DecorStyle}
 use Rattle.snippet_style.specs.declared.glyphs.DecorStyle.TheVariants.{Ascii, Unicode}
 use Rattle.snippet_style.specs.declared.role.ElementStyle.{ElementStyle}
 use Rattle.snippet_style.specs.declared.role.ElementStyle.TheVariants.{LineAndColumn, LineNumber}
-use Rattle.snippet_style.specs.Grid.{Cell, SPACE, drawn}
-use Rattle.snippet_style.specs.Print.{row_text}
+use Rattle.snippet_style.specs.Cell.{Cell, SPACE, drawn}
+use Rattle.snippet_grid.specs.Print.{row_text}
 use Rattle.snippet_text.specs.Normalized.{norm}
 use Rattle.snippet_model.specs.declared.snippet.Id.{Id}
 use Rattle.snippet_model.specs.Heading.{Heading, is_hidden}

@@ -1,7 +1,7 @@
 -- What holds of the rows of paths, and of separator rows, holds of each row that a snippet begins with.
 use Rattle.std.proofs.Common.{ℕ, Bool, true, false, List, [], ◌∷◌, All}
 use Rattle.std.proofs.lemmas.List.Elements.{All-nil, All-cons}
-use Rattle.snippet_style.specs.Grid.{Cell}
+use Rattle.snippet_style.specs.Cell.{Cell}
 use Rattle.snippet_titles.specs.declared.origin.FileStart.{FileStart}
 use Rattle.snippet_titles.specs.declared.origin.FileStart.TheVariants.{First, Later, Secondary}
 use Rattle.snippet_titles.specs.declared.origin.OriginPlace.{OriginPlace}

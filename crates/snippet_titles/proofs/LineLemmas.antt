@@ -8,7 +8,8 @@ use Rattle.std.proofs.lemmas.List.{get_or_past, length-append, length-map, lengt
 use Rattle.std.proofs.lemmas.List.FromFn.{get_or-enumerate_from, length-enumerate_from}
 use Rattle.std.proofs.lemmas.List.Splits.{slice_split_none, slice_split_at}
 use Rattle.std.proofs.lemmas.List.Elements.{All-from_get_or}
-use Rattle.snippet_style.specs.Grid.{Cell, drawn, row_at}
+use Rattle.snippet_grid.specs.Grid.{row_at}
+use Rattle.snippet_style.specs.Cell.{Cell, drawn}
 use Rattle.snippet_style.specs.declared.role.ElementStyle.{ElementStyle}
 use Rattle.snippet_titles.specs.Appended.{IsAtEnd, appended}
 use Rattle.snippet_titles.specs.Heading.{lines_below, trimmed}

@@ -3,7 +3,7 @@ use Rattle.std.proofs.Common.{◌≡◌, true, false, None, Some, codes, refl}
 use Rattle.std.specs.Fmt.{digits}
 use Rattle.std.specs.Str.{chars}
 use Rattle.snippet_style.specs.declared.glyphs.DecorStyle.TheVariants.{Ascii, Unicode}
-use Rattle.snippet_style.specs.Print.{plain_text, row_text}
+use Rattle.snippet_grid.specs.Print.{plain_text, row_text}
 use Rattle.snippet_text.specs.Normalized.{norm}
 use Rattle.snippet_titles.specs.declared.origin.FileStart.TheVariants.{Alone, First}
 use Rattle.snippet_titles.specs.Origin.{file_row, origin_row, origin_text, padding_row, primary_head, secondary_head, nameless_head}

@@ -8,8 +8,8 @@ use Rattle.snippet_style.specs.declared.glyphs.DecorStyle.TheVariants.{Ascii, Un
 use Rattle.snippet_style.specs.declared.role.ElementStyle.{ElementStyle}
 use Rattle.snippet_style.specs.declared.role.ElementStyle.TheVariants.{LineAndColumn, LineNumber}
 use Rattle.snippet_style.specs.Glyphs.{closing_of, separator_of}
-use Rattle.snippet_style.specs.Grid.{SPACE, drawn, unlinked_cell}
-use Rattle.snippet_style.proofs.GridLemmas.{All-drawn}
+use Rattle.snippet_style.specs.Cell.{SPACE, drawn, unlinked_cell}
+use Rattle.snippet_style.proofs.CellLemmas.{All-drawn}
 use Rattle.snippet_text.specs.Normalized.{norm, is_listed}
 use Rattle.snippet_text.proofs.NormLemmas.{list_any-norm}
 use Rattle.snippet_model.specs.Rows.{IsFree, IsFreeCell}

@@ -4,9 +4,9 @@ use Rattle.std.specs.Fmt.{decimal}
 use Rattle.std.proofs.lemmas.List.{append_assoc, length-append, length-replicate}
 use Rattle.std.proofs.Math.Seq.{drop-append_seam}
 use Rattle.snippet_style.specs.declared.role.ElementStyle.TheVariants.{LineAndColumn, LineNumber}
-use Rattle.snippet_style.specs.Grid.{SPACE, drawn}
-use Rattle.snippet_style.specs.Print.{row_text}
-use Rattle.snippet_style.proofs.GridLemmas.{length-drawn}
+use Rattle.snippet_style.specs.Cell.{SPACE, drawn}
+use Rattle.snippet_grid.specs.Print.{row_text}
+use Rattle.snippet_style.proofs.CellLemmas.{length-drawn}
 use Rattle.snippet_text.specs.Normalized.{norm}
 use Rattle.snippet_titles.specs.declared.origin.FileStart.{FileStart}
 use Rattle.snippet_titles.specs.declared.origin.OriginPlace.{OriginPlace}

@@ -9,9 +9,10 @@ use Rattle.std.proofs.lemmas.Bool.Decides.{nat_tests}
 use Rattle.std.proofs.lemmas.List.Splits.{length-slice_split}
 use Rattle.std.proofs.lemmas.List.{append-nil, append_assoc, get_or-map, get_or_past, length-map, length-append, places}
 use Rattle.std.proofs.lemmas.List.Elements.{All-nil, All-append, All-get_or}
-use Rattle.snippet_style.specs.Grid.{Cell, SPACE, cell_at, drawn, linked}
+use Rattle.snippet_grid.specs.Grid.{cell_at, linked}
+use Rattle.snippet_style.specs.Cell.{Cell, SPACE, drawn}
 use Rattle.snippet_style.specs.declared.role.ElementStyle.{ElementStyle}
-use Rattle.snippet_style.proofs.GridLemmas.{length-drawn}
+use Rattle.snippet_style.proofs.CellLemmas.{length-drawn}
 use Rattle.snippet_text.specs.Normalized.{norm}
 use Rattle.snippet_model.specs.declared.snippet.Id.{Id}
 use Rattle.snippet_model.specs.Heading.{Heading, is_hidden}

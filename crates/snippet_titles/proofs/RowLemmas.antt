@@ -4,9 +4,10 @@ use Rattle.std.specs.Str.{chars}
 use Rattle.std.proofs.lemmas.List.{append_assoc, length-append, places, same_lists}
 use Rattle.std.specs.Cow.{cow_str_bytes}
 use Rattle.std.specs.Option.{option_map}
-use Rattle.snippet_style.specs.Grid.{Cell, SPACE, drawn, row_at, written, cells_written}
+use Rattle.snippet_grid.specs.Grid.{row_at, cells_written}
+use Rattle.snippet_style.specs.Cell.{Cell, SPACE, drawn, written}
 use Rattle.snippet_style.specs.declared.role.ElementStyle.{ElementStyle}
-use Rattle.snippet_style.proofs.GridLemmas.{length-drawn, length-chars_le}
+use Rattle.snippet_style.proofs.CellLemmas.{length-drawn, length-chars_le}
 use Rattle.snippet_text.specs.Normalized.{norm}
 use Rattle.snippet_text.proofs.NormLemmas.{length-norm}
 use Rattle.snippet_model.specs.declared.snippet.Id.{Id}

@@ -2,7 +2,7 @@
 use Rattle.std.proofs.Common.{◌≡◌, List, ℕ, [], ◌∷◌, false, None, codes, refl}
 use Rattle.std.specs.Str.{chars}
 use Rattle.snippet_style.specs.declared.role.LevelInner.TheVariants.{Error}
-use Rattle.snippet_style.specs.Print.{plain_text}
+use Rattle.snippet_grid.specs.Print.{plain_text}
 use Rattle.snippet_text.specs.Normalized.{norm}
 use Rattle.snippet_text.specs.Width.{char_width}
 use Rattle.snippet_text.proofs.WidthLemmas.{unicode_width}

@@ -5,9 +5,10 @@ use Rattle.std.proofs.lemmas.List.{append-nil}
 use Rattle.std.proofs.lemmas.List.Elements.{All-nil, All-append, All-cons, All-head, All-tail}
 use Rattle.std.proofs.lemmas.List.Splits.{length-slice_split}
 use Rattle.snippet_style.specs.declared.role.ElementStyle.TheVariants.{LineAndColumn, NoStyle}
-use Rattle.snippet_style.specs.Grid.{Cell, drawn, row_at}
-use Rattle.snippet_style.specs.Print.{row_text}
-use Rattle.snippet_style.specs.Woven.{links_behind, links_of}
+use Rattle.snippet_grid.specs.Grid.{row_at}
+use Rattle.snippet_style.specs.Cell.{Cell, drawn}
+use Rattle.snippet_grid.specs.Print.{row_text}
+use Rattle.snippet_grid.specs.Woven.{links_behind, links_of}
 use Rattle.snippet_text.specs.Normalized.{is_listed}
 use Rattle.snippet_model.specs.Heading.{Heading}
 use Rattle.snippet_titles.specs.declared.style.HeadingRoles.{HeadingRoles}

@@ -1,6 +1,7 @@
 -- What the parts of a heading do to a grid.
 use Rattle.std.specs.Prelude.{◌≡◌, ◌≤◌, ℕ, ◌-◌, ◌^◌, List, [], ◌∷◌, ◌++◌, Option, None, Some, take, length}
-use Rattle.snippet_style.specs.Grid.{Cell, row_at, cells_written, cells_linked}
+use Rattle.snippet_grid.specs.Grid.{row_at, cells_written, cells_linked}
+use Rattle.snippet_style.specs.Cell.{Cell}
 use Rattle.snippet_titles.specs.Heading.{trimmed}
 
 -- the grid with these cells behind those of a row; where there are none it stays as it is, and no row is made

@@ -8,7 +8,8 @@ use Rattle.snippet_style.specs.declared.glyphs.DecorStyle.TheVariants.{Ascii, Un
 use Rattle.snippet_style.specs.declared.role.ElementStyle.{ElementStyle}
 use Rattle.snippet_style.specs.declared.role.ElementStyle.TheVariants as role
 use Rattle.snippet_style.specs.declared.role.LevelInner.{LevelInner}
-use Rattle.snippet_style.specs.Grid.{Cell, SPACE, unlinked_cell, drawn, linked}
+use Rattle.snippet_grid.specs.Grid.{linked}
+use Rattle.snippet_style.specs.Cell.{Cell, SPACE, unlinked_cell, drawn}
 use Rattle.snippet_text.specs.Normalized.{norm}
 use Rattle.snippet_text.specs.Width.{width_of}
 use Rattle.snippet_model.specs.declared.snippet.Id.{Id}

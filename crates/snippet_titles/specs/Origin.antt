@@ -6,7 +6,7 @@ use Rattle.snippet_style.specs.declared.glyphs.DecorStyle.TheVariants.{Ascii, Un
 use Rattle.snippet_style.specs.declared.role.ElementStyle.TheVariants.{LineAndColumn, LineNumber}
 use Rattle.snippet_style.specs.Glyphs.{file_start_of}
 use Rattle.snippet_style.specs.Separators.{closing_row, separator_row}
-use Rattle.snippet_style.specs.Grid.{Cell, SPACE, drawn}
+use Rattle.snippet_style.specs.Cell.{Cell, SPACE, drawn}
 use Rattle.snippet_text.specs.Normalized.{norm}
 use Rattle.snippet_titles.specs.declared.origin.FileStart.{FileStart}
 use Rattle.snippet_titles.specs.declared.origin.FileStart.TheVariants.{Alone, First, Later, Secondary}

@@ -1,8 +1,8 @@
 -- The rows of the short form: those of a title, with a text before its label and one behind its first row.
 use Rattle.std.specs.Prelude.{ℕ, Bool, List, [], ◌∷◌, ◌++◌}
 use Rattle.snippet_style.specs.declared.role.ElementStyle.TheVariants.{LineAndColumn, NoStyle}
-use Rattle.snippet_style.specs.Grid.{Cell, drawn}
-use Rattle.snippet_style.specs.Print.{row_text}
+use Rattle.snippet_style.specs.Cell.{Cell, drawn}
+use Rattle.snippet_grid.specs.Print.{row_text}
 use Rattle.snippet_model.specs.Heading.{Heading}
 use Rattle.snippet_titles.specs.declared.style.TitleStyle.TheVariants.{Short}
 use Rattle.snippet_titles.specs.Heading.{heading_lines, indent_cells, label_cells, label_text, label_width, lines_below, roles_of, trimmed}

@@ -1,7 +1,8 @@
 -- What the rows of a title or message show.
 use Rattle.std.specs.Prelude.{◌≡◌, ℕ, ◌+◌, ◌==◌, ◌&&◌, nat_le, nat_lt, Bool, true, None, List, [], ◌∷◌, ◌++◌, All, Contains, chars, length, map, if◌then◌else◌}
-use Rattle.snippet_style.specs.Grid.{Cell, cell_at}
-use Rattle.snippet_style.specs.Print.{row_text}
+use Rattle.snippet_grid.specs.Grid.{cell_at}
+use Rattle.snippet_style.specs.Cell.{Cell}
+use Rattle.snippet_grid.specs.Print.{row_text}
 use Rattle.snippet_text.specs.Normalized.{norm, is_listed}
 use Rattle.snippet_model.specs.Heading.{Heading, is_hidden}
 use Rattle.snippet_model.specs.Level.{name_of}

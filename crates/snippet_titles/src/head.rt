@@ -5,7 +5,8 @@ ghost use Rattle.snippet_titles.specs.Origin as spec;
 
 use crate::origin::{FileStart, OriginLayout, OriginPlace, begin_file_row, draw_origin};
 use crate::padding::draw_separator;
-use snippet_style::{DecorStyle, StyledBuffer};
+use snippet_grid::StyledBuffer;
+use snippet_style::DecorStyle;
 use std::alloc::{AllocError, Global};
 
 /// Draws what the group's primary snippet begins with, where it has no path, below all that stands in the grid. The snippet

@@ -3,15 +3,16 @@ ghost use Rattle.std.specs.Prelude.{◌≡◌, ◌+◌, ◌^◌, ◌<◌, ◌≤
 ghost use Rattle.std.specs.Cow.{cow_str_bytes};
 ghost use Rattle.std.specs.Option.{option_copied};
 ghost use Rattle.snippet_model.specs.Fits.{IdFits};
-ghost use Rattle.snippet_style.specs.Grid.{row_at};
+ghost use Rattle.snippet_grid.specs.Grid.{row_at};
 ghost use Rattle.snippet_text.specs.Normalized.{norm};
 ghost use Rattle.snippet_titles.specs.Appended.{appended};
 ghost use Rattle.snippet_titles.specs.Heading.{id_cells};
 ghost use Rattle.snippet_titles.specs.Heading as spec;
 
 use crate::row::{extend_row, link_from};
+use snippet_grid::StyledBuffer;
 use snippet_model::snippet::Id;
-use snippet_style::{ElementStyle, StyledBuffer};
+use snippet_style::ElementStyle;
 use snippet_text::{CowStr, normalized};
 use std::alloc::{AllocError, Global};
 

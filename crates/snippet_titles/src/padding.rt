@@ -3,7 +3,9 @@ ghost use Rattle.std.specs.Prelude.{◌≡◌, ◌+◌, ◌^◌, ◌<◌, ◌∷
 ghost use Rattle.snippet_titles.specs.Origin.{padding_row};
 ghost use Rattle.snippet_style.specs.Separators.{closing_row, separator_row};
 
-use snippet_style::{DecorStyle, ElementStyle, StyledBuffer};
+use snippet_grid::StyledBuffer;
+
+use snippet_style::{DecorStyle, ElementStyle};
 use std::alloc::AllocError;
 
 /// Draws the row of a padding below all that stands in the grid: the separator alone, or the closing glyph alone where it

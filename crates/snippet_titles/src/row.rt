@@ -3,10 +3,12 @@ ghost use Rattle.std.specs.Prelude.{◌≡◌, ◌+◌, ◌^◌, ◌<◌, [], ch
 ghost use Rattle.std.specs.Option.{option_copied};
 ghost use Rattle.snippet_titles.specs.Appended.{appended, linked_from};
 ghost use Rattle.snippet_titles.specs.Heading.{gutter_of, indent_cells, sign_cells};
-ghost use Rattle.snippet_style.specs.Grid.{SPACE, drawn, row_at};
+ghost use Rattle.snippet_grid.specs.Grid.{row_at};
+ghost use Rattle.snippet_style.specs.Cell.{SPACE, drawn};
 
 use crate::style::TitleStyle;
-use snippet_style::{ElementStyle, StyledBuffer};
+use snippet_grid::StyledBuffer;
+use snippet_style::ElementStyle;
 use std::alloc::AllocError;
 
 /// Adds a text behind the cells of a row. An empty one makes no row.

@@ -6,8 +6,9 @@ ghost use Rattle.snippet_titles.specs.Short.{short_rows};
 use crate::heading::{draw_label, draw_text};
 use crate::row::extend_row;
 use crate::style::{TitleStyle, roles_of};
+use snippet_grid::StyledBuffer;
 use snippet_model::MessageOrTitle;
-use snippet_style::{ElementStyle, StyledBuffer, char_count};
+use snippet_style::{ElementStyle, char_count};
 use std::alloc::{AllocError, Global};
 
 /// Draws a title in the short form below all that stands in the grid: behind a text, and its first row goes on with another.

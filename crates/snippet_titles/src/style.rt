@@ -1,6 +1,6 @@
 //! Where a title or message stands, and what that makes of its rows: the roles of their parts, and what they begin with.
 ghost use Rattle.std.specs.Prelude.{◌≡◌, ◌<◌, ◌^◌, chars, length};
-ghost use Rattle.snippet_style.specs.Grid.{unlinked_cell};
+ghost use Rattle.snippet_style.specs.Cell.{unlinked_cell};
 ghost use Rattle.snippet_titles.specs.Heading as spec;
 ghost use Rattle.snippet_style.specs.declared.role.ElementStyle.TheVariants.{Level};
 

@@ -5,8 +5,8 @@ ghost use Rattle.snippet_titles.specs.Title.{title_rows};
 
 use crate::heading::draw_heading;
 use crate::style::TitleStyle;
+use snippet_grid::StyledBuffer;
 use snippet_model::snippet::Title;
-use snippet_style::StyledBuffer;
 use std::alloc::{AllocError, Global};
 
 /// Draws the title of a group below all that stands in the grid. Where links are on, the text of its id links to its URL.

@@ -1,7 +1,7 @@
 -- The definitions, computed on small inputs.
 use Rattle.std.proofs.Common.{◌≡◌, ℕ, true, false, Some, None, [], ◌∷◌, ◌++◌, replicate, codes, encode_utf8_all, refl}
 use Rattle.std.specs.Str.{chars}
-use Rattle.snippet_style.specs.Grid.{written}
+use Rattle.snippet_style.specs.Cell.{written}
 use Rattle.snippet_text.specs.Width.{char_width, width_of}
 use Rattle.snippet_text.proofs.WidthLemmas.{unicode_width}
 use Rattle.snippet_text.specs.Normalized.{norm}

@@ -22,11 +22,11 @@ use crate::renderer::frame::Frame;
 use crate::renderer::gutter::line_numbers;
 use crate::renderer::preprocess::PreparedCause;
 use crate::renderer::surroundings::Surroundings;
+use snippet_grid::StyledBuffer;
 use snippet_parts::{
     AnnotatedLineInfo, margin_for, primary_place, secondary_place, with_lines_between,
 };
 use snippet_strokes::{Layout, draw_snippet};
-use snippet_style::StyledBuffer;
 use snippet_titles::{
     OriginPlace, draw_closing, draw_nameless_head, draw_opening_head, draw_primary_head,
     draw_secondary_head, draw_separator,

@@ -1,7 +1,7 @@
 //! The rows of a group's elements, one below the other.
 ghost use Rattle.std.specs.Prelude.{◌≡◌, ◌+◌, ◌<◌, ◌≤◌, ◌^◌, ◌++◌, All, List, OnOk, map};
 ghost use Rattle.std.specs.Option.{option_copied};
-ghost use Rattle.snippet_style.specs.Grid.{Cell};
+ghost use Rattle.snippet_style.specs.Cell.{Cell};
 ghost use Rattle.snippet_suggest.specs.Rows.{IsTail};
 ghost use Rattle.annotate_snippets.specs.Around.{CanStandIn, begins_in_row_above};
 ghost use Rattle.annotate_snippets.specs.Drawn.{AddsElement, AddsElements, HasRoomFor};
@@ -16,8 +16,8 @@ use crate::renderer::frame::Frame;
 use crate::renderer::preprocess::PreparedElement;
 use crate::renderer::suggestions::draw_patches;
 use crate::renderer::surroundings::{GroupPlace, Surroundings, surroundings_of};
+use snippet_grid::StyledBuffer;
 use snippet_model::snippet::{Message, Origin};
-use snippet_style::StyledBuffer;
 use snippet_titles::{
     FileStart, MessagePlace, OriginLayout, OriginPlace, TitleStyle, draw_closing, draw_heading,
     draw_origin, draw_padding,

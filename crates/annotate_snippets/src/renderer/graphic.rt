@@ -20,8 +20,9 @@ use crate::renderer::paths::{primary_path, report_file};
 use crate::renderer::preprocess::{PreparedGroup, prepare_groups};
 use crate::renderer::surroundings::{GroupPlace, next_of};
 use crate::renderer::title::draw_title;
+use snippet_grid::StyledBuffer;
 use snippet_model::snippet::Group;
-use snippet_style::{LevelInner, StyledBuffer, Stylesheet};
+use snippet_style::{LevelInner, Stylesheet};
 use std::alloc::{AllocError, Global};
 
 /// The rows of a group, and the level that they are printed in.

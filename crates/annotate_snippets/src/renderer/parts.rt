@@ -1,5 +1,6 @@
 //! The parts that reports are drawn with, public so that their contracts can be read.
 
+pub use snippet_grid::StyledBuffer;
 pub use snippet_parts::{
     AnnotatedLineInfo, CursorLines, EndLine, LineAnnotation, LineAnnotationType, LineInfo, Loc,
     Margin, SourceMap, SpanFault, check_span, newline_count,
@@ -7,4 +8,4 @@ pub use snippet_parts::{
 pub use snippet_splice::{
     LineRange, SplicedLines, SubstitutionHighlight, TrimmedPatch, as_substr, check_patches,
 };
-pub use snippet_style::{ElementStyle, LevelInner, StyledBuffer};
+pub use snippet_style::{ElementStyle, LevelInner};

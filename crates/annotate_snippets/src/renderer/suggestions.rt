@@ -8,7 +8,7 @@
 //! ```
 ghost use Rattle.std.specs.Prelude.{◌≡◌, ◌≤◌, ◌++◌, List, OnOk};
 ghost use Rattle.snippet_model.specs.declared.snippet.Element.TheVariants.{Suggestion};
-ghost use Rattle.snippet_style.specs.Grid.{Cell};
+ghost use Rattle.snippet_style.specs.Cell.{Cell};
 ghost use Rattle.snippet_suggest.specs.Prepared.{IsPrepared};
 ghost use Rattle.snippet_suggest.specs.Rows.{IsTail};
 ghost use Rattle.annotate_snippets.specs.Drawn.{AddsElement, HasRoomFor};
@@ -20,7 +20,7 @@ use crate::renderer::elements::origin_layout;
 use crate::renderer::frame::Frame;
 use crate::renderer::gutter::line_numbers;
 use crate::renderer::surroundings::Surroundings;
-use snippet_style::StyledBuffer;
+use snippet_grid::StyledBuffer;
 use snippet_suggest::{PreparedSuggestion, SuggestionLayout, SuggestionStart, draw_suggestion};
 use snippet_titles::{OriginPlace, draw_primary_head};
 use std::alloc::{AllocError, Global};

@@ -6,8 +6,8 @@ ghost use Rattle.annotate_snippets.specs.Rows.{title_part};
 use crate::renderer::Renderer;
 use crate::renderer::frame::Frame;
 use crate::renderer::surroundings::{GroupPlace, Next};
+use snippet_grid::StyledBuffer;
 use snippet_model::snippet::Title;
-use snippet_style::StyledBuffer;
 use snippet_titles::{draw_closing, draw_separator};
 use std::alloc::{AllocError, Global};
 

@@ -2,7 +2,7 @@ use Rattle.std.proofs.Common.{◌+◌, ◌-◌, ◌<◌, List, arith, sym, subst
 use Rattle.std.proofs.lemmas.Bool.{cases_lt}
 use Rattle.std.proofs.lemmas.List.Elements.{All-replicate}
 use Rattle.std.proofs.lemmas.Result.{on_ok_weaker}
-use Rattle.snippet_style.specs.Grid.{Cell, unlinked_cell}
+use Rattle.snippet_style.specs.Cell.{Cell, unlinked_cell}
 use Rattle.snippet_strokes.specs.Entries.{IsRailCell}
 use Rattle.snippet_strokes.specs.Painting.{DrawsFrom, KeepsRails}
 use Rattle.snippet_model.specs.Rows.{IsFreeCell}

@@ -1,5 +1,5 @@
 use Rattle.std.proofs.Common.{arith}
-use Rattle.snippet_style.specs.Grid.{unlinked_cell}
+use Rattle.snippet_style.specs.Cell.{unlinked_cell}
 use Rattle.snippet_strokes.proofs.DrawLemmas.{DrawsRails-none, DrawsRails-more, DrawsRails-writes, rail_vertical}
 use Rattle.snippet_strokes.proofs.corners.draw_bar.Goals as goal
 

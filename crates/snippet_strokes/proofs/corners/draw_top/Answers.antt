@@ -1,6 +1,6 @@
 use Rattle.std.proofs.Common.{◌+◌, arith}
 use Rattle.std.proofs.lemmas.Result.{on_ok_weaker}
-use Rattle.snippet_style.specs.Grid.{unlinked_cell}
+use Rattle.snippet_style.specs.Cell.{unlinked_cell}
 use Rattle.snippet_strokes.proofs.DrawLemmas.{DrawsRails-lower, DrawsRails-more, DrawsRails-writes, rail_top}
 use Rattle.snippet_strokes.proofs.corners.draw_top.Goals as goal
 

@@ -1,5 +1,5 @@
 use Rattle.std.proofs.Common.{◌≡◌, ◌++◌, ◌∷◌, List, length, map, take}
-use Rattle.snippet_style.specs.Grid.{Cell}
+use Rattle.snippet_style.specs.Cell.{Cell}
 use Rattle.snippet_strokes.specs.Entries.{wide_entries}
 use Rattle.snippet_strokes.specs.Rows.{CutsRows}
 use Rattle.snippet_strokes.proofs.cuts.cut_wide.Given as goal

@@ -3,7 +3,7 @@ use Rattle.std.proofs.lemmas.Result.{on_ok_weaker}
 use Rattle.snippet_style.specs.declared.glyphs.DecorStyle.{DecorStyle}
 use Rattle.snippet_style.specs.declared.role.ElementStyle.TheVariants.{LineNumber}
 use Rattle.snippet_style.specs.Glyphs.{elision_of}
-use Rattle.snippet_style.specs.Grid.{SPACE, drawn}
+use Rattle.snippet_style.specs.Cell.{SPACE, drawn}
 use Rattle.snippet_strokes.proofs.ElisionLemmas.{bare_elision_is, elision_cell, elision_some}
 use Rattle.snippet_strokes.proofs.RowLemmas.{begun_by_text}
 use Rattle.snippet_strokes.proofs.elision.begin_elision_row.Goals as goal

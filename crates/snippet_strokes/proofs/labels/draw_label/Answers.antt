@@ -3,7 +3,8 @@ use Rattle.std.proofs.lemmas.Bool.{cases_lt}
 use Rattle.std.proofs.lemmas.Bool.Decides.{nat_tests}
 use Rattle.std.proofs.lemmas.List.{nil_from_length}
 use Rattle.std.proofs.lemmas.Result.{on_ok_weaker}
-use Rattle.snippet_style.specs.Grid.{Cell, cell_at, drawn, cells_written, unlinked_cell}
+use Rattle.snippet_grid.specs.Grid.{cell_at, cells_written}
+use Rattle.snippet_style.specs.Cell.{Cell, drawn, unlinked_cell}
 use Rattle.snippet_model.specs.declared.snippet.AnnotationKind.{AnnotationKind}
 use Rattle.snippet_model.specs.declared.snippet.AnnotationKind.TheVariants.{Primary, Context, Visible}
 use Rattle.snippet_text.specs.Normalized.{is_listed}

@@ -1,5 +1,6 @@
 use Rattle.std.proofs.Common.{◌≡◌, ◌+◌, ◌<◌, ℕ, [], ◌∷◌, All, true, false}
-use Rattle.snippet_style.specs.Grid.{cells_written, drawn}
+use Rattle.snippet_grid.specs.Grid.{cells_written}
+use Rattle.snippet_style.specs.Cell.{drawn}
 use Rattle.snippet_strokes.specs.Entries.{label_role, label_text}
 use Rattle.snippet_strokes.specs.Painting.{DrawsFrom, MarksStarts, StandsFrom}
 use Rattle.snippet_strokes.specs.Positions.{has_label}

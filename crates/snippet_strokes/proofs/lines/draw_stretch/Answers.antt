@@ -2,7 +2,8 @@ use Rattle.std.proofs.Common.{◌≡◌, ◌∙◌, ◌-◌, ◌<◌, List, ap, 
 use Rattle.std.proofs.lemmas.List.{length-replicate}
 use Rattle.std.proofs.lemmas.Result.{on_ok_weaker}
 use Rattle.std.specs.Str.{chars}
-use Rattle.snippet_style.specs.Grid.{Cell, WritesCells, drawn, unlinked_cell}
+use Rattle.snippet_grid.specs.Grid.{WritesCells}
+use Rattle.snippet_style.specs.Cell.{Cell, drawn, unlinked_cell}
 use Rattle.snippet_strokes.proofs.LineLemmas.{drawn-replicate, some_bytes}
 use Rattle.snippet_strokes.proofs.lines.draw_stretch.Goals as goal
 

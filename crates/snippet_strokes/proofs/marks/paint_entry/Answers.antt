@@ -1,7 +1,8 @@
 use Rattle.std.proofs.Common.{◌≡◌, ◌∷◌, [], refl, sym, subst, arith, ◌+◌, ◌-◌, inl, inr, replicate}
 use Rattle.std.proofs.lemmas.Bool.{cases_lt}
 use Rattle.std.proofs.lemmas.Result.{on_ok_weaker}
-use Rattle.snippet_style.specs.Grid.{WritesCells, unlinked_cell}
+use Rattle.snippet_grid.specs.Grid.{WritesCells}
+use Rattle.snippet_style.specs.Cell.{unlinked_cell}
 use Rattle.snippet_strokes.proofs.PaintLemmas.{Paints-none, Paints-past, Paints-more, Paints-rest, first_cell_is, other_cell_is}
 use Rattle.snippet_strokes.specs.Painting.{Paints, mark_cell, mark_end}
 use Rattle.snippet_strokes.proofs.marks.paint_entry.Goals as goal

@@ -4,7 +4,8 @@ use Rattle.std.proofs.lemmas.List.Elements.{All-replicate}
 use Rattle.std.specs.List.{list_any}
 use Rattle.std.specs.Str.{chars}
 use Rattle.snippet_style.specs.Glyphs.{rail_glyphs}
-use Rattle.snippet_style.specs.Grid.{Cell, WritesCells, drawn, unlinked_cell}
+use Rattle.snippet_grid.specs.Grid.{WritesCells}
+use Rattle.snippet_style.specs.Cell.{Cell, drawn, unlinked_cell}
 use Rattle.snippet_strokes.specs.Entries.{IsRailCell}
 use Rattle.snippet_model.specs.Rows.{IsFreeCell}
 use Rattle.snippet_text.specs.Normalized.{is_listed}

@@ -2,7 +2,7 @@ use Rattle.std.proofs.Common.{◌∙◌, subst}
 use Rattle.std.specs.Prelude.{filter, not}
 use Rattle.std.proofs.lemmas.List.Elements.{All-same}
 use Rattle.snippet_view.specs.declared.entries.LineAnnotation.{LineAnnotation}
-use Rattle.snippet_style.specs.Grid.{row_at}
+use Rattle.snippet_grid.specs.Grid.{row_at}
 use Rattle.snippet_strokes.specs.Entries.{is_end_part}
 use Rattle.snippet_strokes.specs.Rails.{HasRoom}
 use Rattle.snippet_strokes.specs.Rows.{IsHighlighted}

@@ -6,7 +6,8 @@ use Rattle.snippet_view.specs.declared.entries.LineAnnotation.{LineAnnotation}
 use Rattle.snippet_strokes.specs.declared.positions.PlacedEntry.{PlacedEntry}
 use Rattle.snippet_strokes.specs.Painting.{AreMarked, HasRows, MarksStarts, StandsFrom, DrawsFrom, DrawsRails}
 use Rattle.snippet_strokes.specs.Positions.{HasItsLabel, has_label, has_stem, row_count}
-use Rattle.snippet_style.specs.Grid.{cells_written, drawn}
+use Rattle.snippet_grid.specs.Grid.{cells_written}
+use Rattle.snippet_style.specs.Cell.{drawn}
 use Rattle.snippet_strokes.specs.Entries.{HasPlace, HasRail, is_single, label_role, label_text, shifted, wide_entries}
 use Rattle.snippet_strokes.proofs.ShiftLemmas.{shifted_places, shifted_rails}
 use Rattle.snippet_strokes.specs.Rows.{bare_row}

@@ -1,5 +1,5 @@
 use Rattle.std.proofs.Common.{◌≡◌, ◌++◌, ◌∷◌, [], List, length}
-use Rattle.snippet_style.specs.Grid.{Cell}
+use Rattle.snippet_style.specs.Cell.{Cell}
 use Rattle.snippet_suggest.specs.Rows.{AddsRow, IsBareRow}
 use Rattle.snippet_suggest.proofs.marks.draw_marks.Given as goal
 

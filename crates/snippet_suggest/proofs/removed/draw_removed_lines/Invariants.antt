@@ -1,5 +1,5 @@
 use Rattle.std.proofs.Common.{◌≡◌, ◌<◌, ◌^◌, ◌++◌, Bool, List, length}
-use Rattle.snippet_style.specs.Grid.{Cell}
+use Rattle.snippet_style.specs.Cell.{Cell}
 use Rattle.snippet_suggest.specs.Rows.{IsTail}
 use Rattle.snippet_suggest.proofs.RemovedRows.{RemovesAt}
 use Rattle.snippet_suggest.proofs.removed.draw_removed_lines.Given as goal

@@ -1,5 +1,5 @@
 use Rattle.std.proofs.Common.{List, sym, subst}
-use Rattle.snippet_style.specs.Grid.{Cell}
+use Rattle.snippet_style.specs.Cell.{Cell}
 use Rattle.snippet_suggest.specs.Rows.{IsRepainted}
 use Rattle.snippet_suggest.proofs.PaintLemmas.{repaint_none, repaint_more}
 use Rattle.snippet_suggest.proofs.roles.paint_stretches.Goals as goal

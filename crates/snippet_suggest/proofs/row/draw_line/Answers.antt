@@ -1,5 +1,5 @@
 use Rattle.std.proofs.Common.{◌≡◌, ◌+◌, ◌∙◌, arith, ap, length, chars}
-use Rattle.snippet_style.specs.Grid.{drawn}
+use Rattle.snippet_style.specs.Cell.{drawn}
 use Rattle.snippet_style.specs.declared.role.ElementStyle.TheVariants.{LineNumber, NoStyle}
 use Rattle.snippet_text.specs.Normalized.{norm}
 use Rattle.snippet_text.proofs.NormLemmas.{list_any-norm}
@@ -7,7 +7,7 @@ use Rattle.snippet_lines.specs.Number.{shown_number}
 use Rattle.snippet_lines.proofs.NumberLemmas.{chars-shown_number, shown_number_unlisted}
 use Rattle.snippet_suggest.proofs.RowLemmas.{begun_by, text_put, texted}
 use Rattle.snippet_suggest.proofs.LineRowLemmas.{line_row, line_row_is, sign_row}
-use Rattle.snippet_style.proofs.GridLemmas.{length-chars_le}
+use Rattle.snippet_style.proofs.CellLemmas.{length-chars_le}
 use Rattle.snippet_suggest.proofs.GlyphLemmas.{glyph_short}
 use Rattle.snippet_suggest.proofs.row.draw_line.Goals as goal
 

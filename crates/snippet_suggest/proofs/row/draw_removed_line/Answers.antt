@@ -9,7 +9,7 @@ use Rattle.snippet_suggest.specs.Rows.{AddsRow, IsBeforeSign, IsRemovedRow}
 use Rattle.snippet_suggest.proofs.LeftOver.{StaysLeft, number_before, number_left}
 use Rattle.snippet_suggest.proofs.RowLemmas.{All-from_none}
 use Rattle.snippet_suggest.proofs.TailLemmas.{removed_added}
-use Rattle.snippet_style.proofs.GridLemmas.{length-chars_le}
+use Rattle.snippet_style.proofs.CellLemmas.{length-chars_le}
 use Rattle.snippet_suggest.proofs.row.draw_removed_line.Goals as goal
 
 pub puts-requires-clause-end : goal.puts-requires-clause-end

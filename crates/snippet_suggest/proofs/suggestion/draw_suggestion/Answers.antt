@@ -1,6 +1,6 @@
 use Rattle.std.proofs.Common.{◌++◌, [], All, List, replicate, subst, sym}
 use Rattle.snippet_lines.specs.Span.{IsSpan}
-use Rattle.snippet_style.specs.Grid.{Cell}
+use Rattle.snippet_style.specs.Cell.{Cell}
 use Rattle.snippet_splice.specs.declared.patches.TrimmedPatch.{TrimmedPatch}
 use Rattle.snippet_suggest.specs.Rows.{AddsRow, IsBareRow}
 use Rattle.snippet_suggest.proofs.LastRow.{end_number, end_row, suggestion_added}

@@ -1,7 +1,7 @@
 use Rattle.std.proofs.Common.{◌≡◌, ◌∙◌, ◌++◌, List, ℕ, ap, subst, chars, string_bytes}
 use Rattle.std.specs.List.{flat_map}
 use Rattle.std.specs.Result.{OnOk}
-use Rattle.snippet_style.specs.Woven.{piece_text}
+use Rattle.snippet_grid.specs.Woven.{piece_text}
 use Rattle.snippet_text_form.specs.Form.{bare, woven_from}
 use Rattle.snippet_text_form.proofs.FormSteps.{pushed-on_ok, woven-text, woven-number, woven-spaces}
 use Rattle.snippet_text_form.proofs.form.write_part.Goals as goal

@@ -1,5 +1,5 @@
 use Rattle.std.proofs.Common.{◌∙◌, ◌+◌, ◌++◌, ◌∷◌, ap, replicate}
-use Rattle.snippet_style.specs.Grid.{Cell, SPACE}
+use Rattle.snippet_style.specs.Cell.{Cell, SPACE}
 use Rattle.snippet_titles.specs.Appended.{appended}
 use Rattle.snippet_titles.proofs.RowLemmas.{bar_drawn}
 use Rattle.snippet_titles.proofs.row.draw_indent.Goals as goal

@@ -1,5 +1,5 @@
 use Rattle.std.proofs.Common.{◌∙◌, ◌+◌, ◌++◌, ap, replicate}
-use Rattle.snippet_style.specs.Grid.{SPACE, drawn}
+use Rattle.snippet_style.specs.Cell.{SPACE, drawn}
 use Rattle.snippet_style.specs.declared.role.ElementStyle.TheVariants.{LineNumber}
 use Rattle.snippet_titles.specs.Appended.{appended}
 use Rattle.snippet_titles.proofs.RowLemmas.{behind_gutter, some_sign}

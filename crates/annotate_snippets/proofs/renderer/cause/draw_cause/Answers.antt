@@ -1,7 +1,7 @@
 use Rattle.std.proofs.Common.{◌≡◌, ◌∙◌, ◌++◌, Bool, List, ap, refl, subst}
 use Rattle.std.proofs.lemmas.List.{append_assoc}
 use Rattle.std.proofs.lemmas.Result.{on_ok_weaker}
-use Rattle.snippet_style.specs.Grid.{Cell}
+use Rattle.snippet_style.specs.Cell.{Cell}
 use Rattle.annotate_snippets.specs.Drawn.{AreCauseRows}
 use Rattle.annotate_snippets.specs.Rows.{cause_head, rows_behind_cause}
 use Rattle.annotate_snippets.proofs.renderer.cause.draw_cause.Goals as goal

@@ -1,6 +1,6 @@
 use Rattle.std.proofs.Common.{◌||◌, ◌≡◌, Bool, List, ℕ, false, ap, sym, ◌∙◌, subst, string_bytes}
 use Rattle.std.specs.List.{flat_map}
-use Rattle.snippet_style.specs.Woven.{IsWoven}
+use Rattle.snippet_grid.specs.Woven.{IsWoven}
 use Rattle.snippet_text_form.specs.Form.{begun_behind, form_bytes, form_links, form_text, pieces_of, plain_from}
 use Rattle.snippet_text_form.specs.declared.form.TextPart.{TextPart}
 use Rattle.snippet_text_form.proofs.FormLaws.{form-woven}

@@ -1,0 +1,192 @@
+-- Runs that are copied, cut and moved.
+use Rattle.std.proofs.Common.{◌≡◌, ℕ, ◌+◌, ◌-◌, ◌<◌, ◌≤◌, List, [], ◌∷◌, ◌++◌, length, take, drop, get_or, refl, sym, ap, ◌∙◌, arith, Bool, true, false, inl, inr, subst, All, nat_lt, nat_le, min, max}
+use Rattle.std.proofs.lemmas.List.{take_more, get_or_default, get_or-take, get_or-drop}
+use Rattle.std.proofs.lemmas.Bool.{cases_lt, cases_eq, and_from, and_left, and_right, le-leb, lt-leb, lt-ltb, le-ltb}
+use Rattle.std.specs.Bool.{if◌then◌else◌}
+use Rattle.std.specs.Prelude.{◌&&◌}
+use Rattle.std.specs.Option.{option_copied}
+use Rattle.std.specs.Str.{chars}
+use Rattle.snippet_grid.proofs.RunLemmas.{run_bytes-grown}
+use Rattle.snippet_grid.proofs.StretchLemmas.{BeginsWith-same, BeginsWith-trans}
+use Rattle.snippet_grid.proofs.ShownLemmas.{painted-append, All-tail, pick, cell_same, holds_inside, holds_elsewhere, holds_before, holds_behind}
+use Rattle.snippet_grid.specs.Changes.{num_met}
+use Rattle.snippet_style.specs.Cell.{Cell, SPACE}
+use Rattle.snippet_grid.specs.Runs.{IsRun, IsPart, BeginsWith, ShowsMore, ShowsCopy, AddsRun, IsRow, EndsBy, Precedes, run_bytes, run_chars, run_cell, holds, painted, shown}
+use Rattle.snippet_grid.specs.declared.runs.Run.{Run}
+
+-- whether a cell is among those that are copied
+abbrev pub is_copied : ℕ → ℕ → ℕ → ℕ → Bool
+is_copied from to at c = nat_le at c && nat_lt c (at + (to - from))
+
+pub copied_yes : (from to at c : ℕ) → at ≤ c → c < at + (to - from) → is_copied from to at c ≡ true
+copied_yes from to at c low high = and_from _ _ (le-leb at c low) (lt-ltb c (at + (to - from)) high)
+
+pub copied_before : (from to at c : ℕ) → c < at → is_copied from to at c ≡ false
+copied_before from to at c before = and_left _ _ (lt-leb at c before)
+
+pub copied_behind : (from to at c : ℕ) → at + (to - from) ≤ c → is_copied from to at c ≡ false
+copied_behind from to at c behind = and_right _ _ (le-ltb c (at + (to - from)) behind)
+
+-- what runs show where none reaches
+pub shown_past : (text : List ℕ) (r c n : ℕ) (d : Cell) (runs : List Run) → EndsBy n runs → n ≤ c → painted text r c d runs ≡ d
+shown_past text r c n d [] ends past = refl
+shown_past text r c n d (run ∷ runs) ends past =
+    ap (λ (cell : Cell). painted text r c cell runs) (pick (run_cell text run c) d (holds_behind run r c (omega (arith, ends 0 run (omega arith))))) ∙ shown_past text r c n d runs (All-tail (λ x. x.cell + x.count ≤ n) run runs ends) past
+
+num_met-append : (from to : ℕ) (xs ys : List Run) → num_met from to (xs ++ ys) ≡ num_met from to xs + num_met from to ys
+num_met-append from to [] ys = omega arith
+num_met-append from to (run ∷ xs) ys = omega (arith, num_met-append from to xs ys)
+
+-- one more run is met, or not
+met_more : (from to n : ℕ) (runs : List Run) (run : Run) → n < length runs → run ≡ get_or runs n run → num_met from to (take (n + 1) runs) ≡ num_met from to (take n runs) + num_met from to (run ∷ [])
+met_more from to n runs run within read =
+    ap (λ (xs : List Run). num_met from to xs) (take_more runs n run within ∙ ap (λ (x : Run). take n runs ++ x ∷ []) (sym read)) ∙ num_met-append from to (take n runs) (run ∷ [])
+
+met_one : (from to : ℕ) (run : Run) → max run.cell from < min (run.cell + run.count) to → num_met from to (run ∷ []) ≡ 1
+met_one from to run some = ap (λ k. k + 0) (pick 1 0 (lt-ltb (max run.cell from) (min (run.cell + run.count) to) some))
+
+-- what was copied so far
+pub record CopySoFar (old now : List ℕ) (out_old out_now runs : List Run) (row from to at n : ℕ) : Type 0 where
+  pub grows : BeginsWith old now
+  pub is_row : IsRow now row out_now
+  pub ends : EndsBy (at + (to - from)) out_now
+  pub tight : (m : ℕ) → EndsBy m runs → EndsBy (at + (min m to - from)) out_now
+  pub before : (k : ℕ) (d : Run) → n ≤ k → k < length runs → EndsBy (at + ((get_or runs k d).cell - from)) out_now
+  pub shows : ShowsCopy old now out_old out_now (take n runs) from to at
+  pub count : length out_now ≤ length out_old + num_met from to (take n runs)
+
+pub copy_start : (old : List ℕ) (out runs : List Run) (row from to at : ℕ) → IsRow old row out → EndsBy at out → CopySoFar old old out out runs row from to at 0
+copy_start old out runs row from to at is ends =
+    record {
+      grows = BeginsWith-same old;
+      is_row = is;
+      ends = λ k d within. omega (arith, ends k d within);
+      tight = λ m all k d within. omega (arith, ends k d within);
+      before = λ k d first within j e inside. omega (arith, ends j e inside);
+      shows = λ r c. elim (cases_lt c at) [
+        | inl before ↦ sym (pick SPACE (shown old out r c) (copied_before from to at c before))
+        | inr low ↦ elim (cases_lt c (at + (to - from))) [
+          | inl high ↦ shown_past old r c at SPACE out ends low ∙ sym (pick SPACE (shown old out r c) (copied_yes from to at c low high))
+          | inr behind ↦ sym (pick SPACE (shown old out r c) (copied_behind from to at c behind))
+        ]
+      ];
+      count = omega arith;
+    }
+
+-- a cell of a piece is the cell of the run that it was cut from
+pub piece_cell : (old now : List ℕ) (run part piece : Run) (from at start end c : ℕ) → BeginsWith old now → IsRun old run → IsPart now run start end part → run.cell ≤ start → from ≤ start → piece.cell ≡ at + (start - from) → piece.start ≡ part.start → piece.end ≡ part.end → piece.role ≡ part.role → option_copied piece.link ≡ option_copied part.link → piece.cell ≤ c → c < piece.cell + (end - start) → run_cell now piece c ≡ run_cell old run (from + (c - at))
+piece_cell old now run part piece from at start end c grows is cut low from_le cell starts ends role link above below =
+    let cs = run_chars old run in
+    let bytes : run_bytes now piece ≡ run_bytes now part = ap (λ s. take (piece.end - s) (drop s now)) starts ∙ ap (λ e. take (e - part.start) (drop part.start now)) ends in
+    let characters : run_chars now piece ≡ take (end - start) (drop (start - run.cell) cs) = ap chars bytes ∙ cut.chars_are ∙ ap (λ (t : List ℕ). take (end - start) (drop (start - run.cell) (chars t))) (run_bytes-grown old now run grows is) in
+    let i : ℕ = c - piece.cell in
+    let index : (start - run.cell) + i ≡ from + (c - at) - run.cell = omega arith in
+    let ch : get_or (run_chars now piece) i 32 ≡ get_or cs (from + (c - at) - run.cell) 32 = ap (λ (x : List ℕ). get_or x i 32) characters ∙ get_or-take (end - start) (drop (start - run.cell) cs) i 32 (omega arith) ∙ get_or-drop (start - run.cell) cs i 32 ∙ ap (λ k. get_or cs k 32) index in
+    cell_same (run_cell now piece c) (run_cell old run (from + (c - at))) ch (role ∙ cut.role) (link ∙ cut.link)
+
+-- one more run was copied
+copied_cell : (old now : List ℕ) (run part piece : Run) (from to at start end r c : ℕ) (before outside : Cell) → BeginsWith old now → IsRun old run → IsPart now run start end part → start ≡ max run.cell from → end ≡ min (run.cell + run.count) to → start < end → piece.row ≡ run.row → piece.cell ≡ at + (start - from) → piece.count ≡ part.count → piece.start ≡ part.start → piece.end ≡ part.end → piece.role ≡ part.role → option_copied piece.link ≡ option_copied part.link → (if holds piece r c then run_cell now piece c else (if is_copied from to at c then before else outside)) ≡ (if is_copied from to at c then (if holds run r (from + (c - at)) then run_cell old run (from + (c - at)) else before) else outside)
+copied_cell old now run part piece from to at start end r c before outside grows is cut is_start is_end some row cell count starts ends role link =
+    let there = from + (c - at) in
+    let x = run_cell now piece c in
+    let y = run_cell old run there in
+    let kept : Cell = if is_copied from to at c then before else outside in
+    let more : Cell = if holds run r there then y else before in
+    let long : piece.count ≡ end - start = omega (arith, count, cut.count) in
+    let low : run.cell ≤ start = omega arith in
+    let from_le : from ≤ start = omega arith in
+    let end_le : end ≤ to = omega arith in
+    let run_end : end ≤ run.cell + run.count = omega arith in
+    elim (cases_lt c at) [
+      | inl left ↦ pick x kept (holds_before piece r c (omega arith)) ∙ pick before outside (copied_before from to at c left) ∙ sym (pick more outside (copied_before from to at c left))
+      | inr above ↦ elim (cases_lt c (at + (to - from))) [
+        | inr behind ↦ pick x kept (holds_behind piece r c (omega arith)) ∙ pick before outside (copied_behind from to at c behind) ∙ sym (pick more outside (copied_behind from to at c behind))
+        | inl below ↦
+            let yes = copied_yes from to at c above below in
+            elim (cases_eq run.row r) [
+              | inr other ↦ pick x kept (holds_elsewhere piece r c (λ h. other (sym row ∙ h))) ∙ pick before outside yes ∙ sym (pick more outside yes ∙ pick y before (holds_elsewhere run r there other))
+              | inl here ↦ elim (cases_lt there run.cell) [
+                | inl short ↦ pick x kept (holds_before piece r c (omega arith)) ∙ pick before outside yes ∙ sym (pick more outside yes ∙ pick y before (holds_before run r there short))
+                | inr reaches ↦ elim (cases_lt there (run.cell + run.count)) [
+                  | inr past ↦ pick x kept (holds_behind piece r c (omega arith)) ∙ pick before outside yes ∙ sym (pick more outside yes ∙ pick y before (holds_behind run r there past))
+                  | inl within ↦
+                      let first : piece.cell ≤ c = omega arith in
+                      let last : c < piece.cell + (end - start) = omega arith in
+                      pick x kept (holds_inside piece r c (row ∙ here) first (omega arith)) ∙ piece_cell old now run part piece from at start end c grows is cut low from_le cell starts ends role link first last ∙ sym (pick more outside yes ∙ pick y before (holds_inside run r there here reaches within))
+                ]
+              ]
+            ]
+      ]
+    ]
+
+-- the runs so far show one more
+shown_more : (text : List ℕ) (runs : List Run) (n r c : ℕ) (d : Run) → n < length runs → shown text (take (n + 1) runs) r c ≡ (let run = get_or runs n d in if holds run r c then run_cell text run c else shown text (take n runs) r c)
+shown_more text runs n r c d within =
+    ap (λ (xs : List Run). shown text xs r c) (take_more runs n d within) ∙ painted-append text r c SPACE (take n runs) (get_or runs n d ∷ [])
+
+pub copy_next : (old now new : List ℕ) (out_old out_now out_new runs : List Run) (run part piece : Run) (row from to at n start end : ℕ) → n < length runs → run ≡ get_or runs n run → IsRow old row runs → CopySoFar old now out_old out_now runs row from to at n → IsPart now run start end part → start ≡ max run.cell from → end ≡ min (run.cell + run.count) to → start < end → piece.row ≡ row → piece.cell ≡ at + (start - from) → piece.count ≡ part.count → piece.start ≡ part.start → piece.end ≡ part.end → piece.role ≡ part.role → option_copied piece.link ≡ option_copied part.link → BeginsWith now new → ShowsMore now new out_now out_new piece → All (λ x. IsRun new x) out_new → AddsRun out_now out_new piece → CopySoFar old new out_old out_new runs row from to at (n + 1)
+copy_next old now new out_old out_now out_new runs run part piece row from to at n start end within read are so_far cut is_start is_end some piece_row cell count starts ends role link grows shows are_new adds =
+    let is : IsRun old run = subst (λ x. IsRun old x) (sym read) (are.are_runs n run within) in
+    let run_row : run.row ≡ row = subst (λ (x : Run). x.row ≡ row) (sym read) (are.in_row n run within) in
+    let piece_end : piece.cell + piece.count ≡ at + (end - from) = omega (arith, count, cut.count, cell) in
+    let ends_now : EndsBy (at + (run.cell - from)) out_now = subst (λ (x : Run). EndsBy (at + (x.cell - from)) out_now) (sym read) (so_far.before n run (omega arith) within) in
+    let all_before : All (λ x. Precedes x piece) out_now = λ k d inside. record {
+      rows = omega (arith, piece_row, so_far.is_row.in_row k d inside);
+      cells = λ same. omega (arith, ends_now k d inside, cell, is_start);
+    } in
+    record {
+      grows = BeginsWith-trans old now new so_far.grows grows;
+      is_row = record {
+        are_runs = are_new;
+        in_row = adds.rows row so_far.is_row.in_row piece_row;
+        ordered = adds.order so_far.is_row.ordered all_before;
+        apart = adds.apart so_far.is_row.ordered all_before so_far.is_row.apart;
+      };
+      ends = adds.ends (at + (to - from)) so_far.ends (omega arith);
+      tight = λ m all.
+          let run_end : run.cell + run.count ≤ m = subst (λ (x : Run). x.cell + x.count ≤ m) (sym read) (all n run within) in
+          adds.ends (at + (min m to - from)) (so_far.tight m all) (omega arith);
+      before = λ k d later inside.
+          let next : Run = get_or runs k d in
+          let precedes : Precedes (get_or runs n d) next = are.ordered n k d (omega arith) inside in
+          let read_at : get_or runs n d ≡ run = get_or_default runs n d run within ∙ sym read in
+          let next_row : next.row ≡ row = are.in_row k d inside in
+          let gap : run.cell + run.count ≤ next.cell = subst (λ (x : Run). x.cell + x.count ≤ next.cell) read_at (precedes.cells (ap (λ (x : Run). x.row) read_at ∙ run_row ∙ sym next_row)) in
+          adds.ends (at + (next.cell - from)) (so_far.before k d (omega arith) inside) (omega arith);
+      shows = λ r c.
+          let there = from + (c - at) in
+          let before = shown old (take n runs) r there in
+          let outside = shown old out_old r c in
+          let one_more : shown old (take (n + 1) runs) r there ≡ (if holds run r there then run_cell old run there else before) = shown_more old runs n r there run within ∙ ap (λ (x : Run). if holds x r there then run_cell old x there else before) (sym read) in
+          shows r c ∙ ap (λ (d : Cell). if holds piece r c then run_cell now piece c else d) (so_far.shows r c) ∙ copied_cell old now run part piece from to at start end r c before outside so_far.grows is cut is_start is_end some (piece_row ∙ sym run_row) cell count starts ends role link ∙ ap (λ (d : Cell). if is_copied from to at c then d else outside) (sym one_more);
+      count = omega (arith, so_far.count, adds.count, met_more from to n runs run within read, met_one from to run (omega arith));
+    }
+
+-- a run that has no cell in the stretch
+pub copy_past : (old now : List ℕ) (out_old out_now runs : List Run) (run : Run) (row from to at n start end : ℕ) → n < length runs → run ≡ get_or runs n run → CopySoFar old now out_old out_now runs row from to at n → start ≡ max run.cell from → end ≡ min (run.cell + run.count) to → end ≤ start → CopySoFar old now out_old out_now runs row from to at (n + 1)
+copy_past old now out_old out_now runs run row from to at n start end within read so_far is_start is_end none =
+    record {
+      grows = so_far.grows;
+      is_row = so_far.is_row;
+      ends = so_far.ends;
+      tight = so_far.tight;
+      before = λ k d later inside. so_far.before k d (omega arith) inside;
+      shows = λ r c.
+          let there = from + (c - at) in
+          let before = shown old (take n runs) r there in
+          let outside = shown old out_old r c in
+          let one_more : shown old (take (n + 1) runs) r there ≡ (if holds run r there then run_cell old run there else before) = shown_more old runs n r there run within ∙ ap (λ (x : Run). if holds x r there then run_cell old x there else before) (sym read) in
+          so_far.shows r c ∙ elim (cases_lt c at) [
+            | inl left ↦ pick before outside (copied_before from to at c left) ∙ sym (pick (shown old (take (n + 1) runs) r there) outside (copied_before from to at c left))
+            | inr above ↦ elim (cases_lt c (at + (to - from))) [
+              | inr behind ↦ pick before outside (copied_behind from to at c behind) ∙ sym (pick (shown old (take (n + 1) runs) r there) outside (copied_behind from to at c behind))
+              | inl below ↦
+                  let gone : shown old (take (n + 1) runs) r there ≡ before = elim (cases_lt there run.cell) [
+                    | inl short ↦ one_more ∙ pick (run_cell old run there) before (holds_before run r there short)
+                    | inr reaches ↦ one_more ∙ pick (run_cell old run there) before (holds_behind run r there (omega arith))
+                  ] in
+                  ap (λ (d : Cell). if is_copied from to at c then d else outside) (sym gone)
+            ]
+          ];
+      count = omega (arith, so_far.count, met_more from to n runs run within read);
+    }

@@ -1,0 +1,163 @@
+-- A text cut after its first characters.
+use Rattle.std.proofs.Common.{◌≡◌, ℕ, ◌+◌, ◌-◌, ◌<◌, ◌≤◌, true, List, [], ◌∷◌, ◌++◌, length, take, drop, get_or, refl, sym, ap, ◌∙◌, subst, arith, chars, encode_utf8, encode_utf8_all, IsUtf8}
+use Rattle.std.proofs.Math.Utf8.{scalars}
+use Rattle.std.specs.Str.{IsCharBoundary, is_utf8}
+use Rattle.std.specs.Option.{option_copied}
+use Rattle.std.proofs.lemmas.Str.{encodes-chars, encodes-append, length-le-encodes, scalars-chars, chars-encodes, IsCharBoundary-at_seam, IsUtf8-take, IsUtf8-append, IsUtf8-from_is_utf8, is_utf8-from_IsUtf8}
+use Rattle.std.proofs.lemmas.List.{places, same_lists, at_drop_more, take-append-drop, take_at, drop_at, drop-take, take-take, length-append, length-take-le, length-drop, take_more, append-nil}
+use Rattle.snippet_grid.proofs.StretchLemmas.{stretch, length-stretch_of}
+use Rattle.snippet_grid.proofs.RunLemmas.{IsUtf8-run_bytes}
+use Rattle.snippet_grid.specs.Runs.{IsRun, IsPart, bytes_of, run_bytes, run_chars}
+use Rattle.snippet_grid.specs.declared.runs.Run.{Run}
+
+-- how long the bytes of a run are
+pub run_long : (text : List ℕ) (run : Run) → IsRun text run → length (run_bytes text run) ≡ run.end - run.start
+run_long text run is = length-stretch_of text run.start run.end is.within
+
+-- the scalars of a list's two parts
+scalars_back : (xs ys : List ℕ) → scalars (xs ++ ys) ≡ true → scalars ys ≡ true
+scalars_back [] ys all = all
+scalars_back (x ∷ xs) ys all = scalars_back xs ys (grind arith)
+
+scalars_front : (xs ys : List ℕ) → scalars (xs ++ ys) ≡ true → scalars xs ≡ true
+scalars_front [] ys all = refl
+scalars_front (x ∷ xs) ys all =
+    let rest = scalars_front xs ys (grind arith) in
+    grind arith
+
+-- a text, cut after its first n characters
+pub text_parts : (text : List ℕ) (n : ℕ) → IsUtf8 text → text ≡ encode_utf8_all (take n (chars text)) ++ encode_utf8_all (drop n (chars text))
+text_parts text n utf8 =
+    sym (encodes-chars text utf8) ∙ ap encode_utf8_all (sym (take-append-drop n (chars text))) ∙ encodes-append (take n (chars text)) (drop n (chars text))
+
+all_scalars : (text : List ℕ) (n : ℕ) → IsUtf8 text → scalars (take n (chars text) ++ drop n (chars text)) ≡ true
+all_scalars text n utf8 = ap scalars (take-append-drop n (chars text)) ∙ scalars-chars text utf8
+
+pub cut_boundary : (text : List ℕ) (n at : ℕ) → IsUtf8 text → at ≡ bytes_of (take n (chars text)) → IsCharBoundary text at
+cut_boundary text n at utf8 is =
+    let back = drop n (chars text) in
+    subst (IsCharBoundary text) (sym is) (IsCharBoundary-at_seam text (encode_utf8_all (take n (chars text))) (encode_utf8_all back) (text_parts text n utf8) (back, (scalars_back (take n (chars text)) back (all_scalars text n utf8), refl)))
+
+pub cut_front : (text : List ℕ) (n at : ℕ) → IsUtf8 text → at ≡ bytes_of (take n (chars text)) → chars (take at text) ≡ take n (chars text)
+cut_front text n at utf8 is =
+    let front = take n (chars text) in
+    let back = drop n (chars text) in
+    let bytes : take at text ≡ encode_utf8_all front = ap (take at) (text_parts text n utf8) ∙ take_at (encode_utf8_all front) (encode_utf8_all back) at (sym is) in
+    ap chars bytes ∙ chars-encodes front (scalars_front front back (all_scalars text n utf8))
+
+pub cut_back : (text : List ℕ) (n at : ℕ) → IsUtf8 text → at ≡ bytes_of (take n (chars text)) → chars (drop at text) ≡ drop n (chars text)
+cut_back text n at utf8 is =
+    let front = take n (chars text) in
+    let back = drop n (chars text) in
+    let bytes : drop at text ≡ encode_utf8_all back = ap (drop at) (text_parts text n utf8) ∙ drop_at (encode_utf8_all front) (encode_utf8_all back) at (sym is) in
+    ap chars bytes ∙ chars-encodes back (scalars_back front back (all_scalars text n utf8))
+
+bytes-push : (cs : List ℕ) (c : ℕ) → bytes_of (cs ++ c ∷ []) ≡ bytes_of cs + length (encode_utf8 c)
+bytes-push cs c =
+    ap length (encodes-append cs (c ∷ []) ∙ ap (λ bs. encode_utf8_all cs ++ bs) (append-nil (encode_utf8 c))) ∙ length-append (encode_utf8_all cs) (encode_utf8 c)
+
+-- where characters take one byte each, so do the first of them
+bytes_single : (cs : List ℕ) (n : ℕ) → bytes_of cs ≡ length cs → n ≤ length cs → bytes_of (take n cs) ≡ n
+bytes_single cs n single within =
+    let front = take n cs in
+    let back = drop n cs in
+    omega (arith, single, ap bytes_of (take-append-drop n cs), ap length (encodes-append front back), length-append (encode_utf8_all front) (encode_utf8_all back), length-le-encodes front, length-le-encodes back, length-take-le n cs within, length-drop n cs)
+
+-- and a run of as many bytes as cells is cut after as many bytes as cells
+pub run_single : (text : List ℕ) (run : Run) (n : ℕ) → IsUtf8 text → IsRun text run → run.end - run.start ≡ run.count → n ≤ run.count → n ≡ bytes_of (take n (run_chars text run))
+run_single text run n utf8 is single within =
+    let bytes = run_bytes text run in
+    let whole : bytes_of (run_chars text run) ≡ length bytes = ap length (encodes-chars bytes (IsUtf8-run_bytes text run utf8 is)) in
+    sym (bytes_single (run_chars text run) n (omega (arith, whole, run_long text run is, single, is.counted)) (omega (arith, is.counted, within)))
+
+-- the character that stands next
+abbrev pub IsNext : List ℕ → ℕ → ℕ → Type 0
+IsNext cs n c = (n < length cs) × (c ≡ get_or cs n c)
+
+take-next : (cs : List ℕ) (n c : ℕ) → IsNext cs n c → take (n + 1) cs ≡ take n cs ++ c ∷ []
+take-next cs n c next = take_more cs n c next.0 ∙ ap (λ x. take n cs ++ x ∷ []) (sym next.1)
+
+drop-next : (cs : List ℕ) (n c : ℕ) → IsNext cs n c → drop n cs ≡ c ∷ drop (n + 1) cs
+drop-next cs n c next = at_drop_more (λ xs. xs) cs n c next.0 ∙ ap (λ x. x ∷ drop (n + 1) cs) (sym next.1)
+
+-- no more bytes stand before a character than the text has
+pub bytes_within : (text : List ℕ) (n : ℕ) → IsUtf8 text → bytes_of (take n (chars text)) ≤ length text
+bytes_within text n utf8 =
+    omega (arith, ap length (text_parts text n utf8), length-append (encode_utf8_all (take n (chars text))) (encode_utf8_all (drop n (chars text))))
+
+pub bytes_next : (text : List ℕ) (n at c : ℕ) → IsUtf8 text → IsNext (chars text) n c → at ≡ bytes_of (take n (chars text)) → at + length (encode_utf8 c) ≤ length text
+bytes_next text n at c utf8 next is =
+    omega (arith, is, bytes_within text (n + 1) utf8, ap bytes_of (take-next (chars text) n c next), bytes-push (take n (chars text)) c)
+
+-- how far the first n characters have come
+pub record CutSoFar (count : ℕ) (cs : List ℕ) (n at left : ℕ) : Type 0 where
+  pub bytes : at ≡ bytes_of (take n cs)
+  pub left_is : left + n ≡ count
+
+pub cut_next : (count : ℕ) (cs : List ℕ) (n m at left c len : ℕ) → IsNext cs n c → m ≡ n + 1 → 0 < left → len ≡ length (encode_utf8 c) → CutSoFar count cs n at left → CutSoFar count cs m (at + len) (left - 1)
+cut_next count cs n m at left c len next one some is_len so_far =
+    let front = ap (λ k. take k cs) one ∙ take-next cs n c next in
+    record {
+      bytes = omega (arith, so_far.bytes, ap bytes_of front, bytes-push (take n cs) c, is_len);
+      left_is = omega (arith, so_far.left_is);
+    }
+
+pub cut_here : (count : ℕ) (cs : List ℕ) (n at left : ℕ) → left ≡ 0 → CutSoFar count cs n at left → at ≡ bytes_of (take count cs)
+cut_here count cs n at left none so_far =
+    let same : n ≡ count = omega (arith, so_far.left_is) in
+    so_far.bytes ∙ ap (λ k. bytes_of (take k cs)) same
+
+pub cut_all : (count : ℕ) (cs : List ℕ) (n at left : ℕ) → length cs ≤ n → count ≤ length cs → CutSoFar count cs n at left → at ≡ bytes_of (take count cs)
+cut_all count cs n at left all within so_far =
+    let same : n ≡ count = omega (arith, so_far.left_is) in
+    so_far.bytes ∙ ap (λ k. bytes_of (take k cs)) same
+
+-- a stretch within a stretch
+stretch_within : (text : List ℕ) (s e a b : ℕ) → a ≤ b → b ≤ e - s → e ≤ length text → stretch text (s + a) (s + b) ≡ drop a (take b (stretch text s e))
+stretch_within text s e a b ordered inside within =
+    same_lists _ _ (grind (arith, places)) (λ k d h. grind (arith, places))
+
+front_within : (text : List ℕ) (s e a : ℕ) → s ≤ e → a ≤ e - s → e ≤ length text → take (s + a) text ≡ take s text ++ take a (stretch text s e)
+front_within text s e a ordered inside within =
+    same_lists _ _ (grind (arith, places)) (λ k d h. grind (arith, places))
+
+-- the part of a run from one of its cells to before another
+pub IsPart-cut : (text : List ℕ) (run part : Run) (from to a b : ℕ) → IsUtf8 text → IsRun text run → run.cell ≤ from → from < to → to ≤ run.cell + run.count → a ≡ bytes_of (take (from - run.cell) (run_chars text run)) → b ≡ bytes_of (take (to - run.cell) (run_chars text run)) → part.row ≡ run.row → part.cell ≡ from → part.count ≡ to - from → part.start ≡ run.start + a → part.end ≡ run.start + b → part.role ≡ run.role → option_copied part.link ≡ option_copied run.link → IsPart text run from to part
+IsPart-cut text run part from to a b utf8 is low some high is_a is_b row cell count start end role link =
+    let bytes = run_bytes text run in
+    let cs = run_chars text run in
+    let i = from - run.cell in
+    let j = to - run.cell in
+    let utf8_bytes : IsUtf8 bytes = IsUtf8-run_bytes text run utf8 is in
+    let long : length bytes ≡ run.end - run.start = run_long text run is in
+    let b_within : b ≤ length bytes = omega (arith, is_b, bytes_within bytes j utf8_bytes) in
+    let front : List ℕ = take b bytes in
+    let utf8_front : IsUtf8 front = IsUtf8-take bytes b utf8_bytes (cut_boundary bytes j b utf8_bytes is_b) in
+    let front_chars : chars front ≡ take j cs = cut_front bytes j b utf8_bytes is_b in
+    let fewer : take i (chars front) ≡ take i cs = ap (take i) front_chars ∙ take-take i j cs (omega arith) in
+    let a_is : a ≡ bytes_of (take i (chars front)) = is_a ∙ sym (ap bytes_of fewer) in
+    let a_within : a ≤ b = omega (arith, a_is, bytes_within front i utf8_front, length-take-le b bytes b_within) in
+    let part_bytes : run_bytes text part ≡ drop a front =
+    ap (λ s. stretch text s part.end) start ∙ ap (λ e. stretch text (run.start + a) e) end ∙ stretch_within text run.start run.end a b a_within (omega arith) is.within in
+    let index : i + (to - from) ≡ j = omega arith in
+    let part_chars : run_chars text part ≡ take (to - from) (drop i cs) =
+    ap chars part_bytes ∙ cut_back front i a utf8_front a_is ∙ ap (drop i) front_chars ∙ ap (λ n. drop i (take n cs)) (sym index) ∙ drop-take i (to - from) cs in
+    let front_at : (n k : ℕ) → n ≡ bytes_of (take k cs) → n ≤ length bytes → is_utf8 (take (run.start + n) text) ≡ true =
+    λ n k is_n within_n. is_utf8-from_IsUtf8 (take (run.start + n) text) (subst IsUtf8 (sym (front_within text run.start run.end n is.ordered (omega arith) is.within)) (IsUtf8-append (take run.start text) (take n bytes) (IsUtf8-from_is_utf8 (take run.start text) is.starts) (IsUtf8-take bytes n utf8_bytes (cut_boundary bytes k n utf8_bytes is_n)))) in
+    record {
+      is_run = record {
+        ordered = omega (arith, start, end, a_within);
+        within = omega (arith, end, is.within, is.ordered, b_within, long);
+        starts = ap (λ s. is_utf8 (take s text)) start ∙ front_at a i is_a (omega (arith, a_within, b_within));
+        ends = ap (λ e. is_utf8 (take e text)) end ∙ front_at b j is_b b_within;
+        counted = omega (arith, count, is.counted, ap length part_chars, length-take-le (to - from) (drop i cs) (omega (arith, is.counted, length-drop i cs)));
+        some = omega (arith, count);
+        fits = omega (arith, count, cell, is.fits);
+      };
+      row = row;
+      cell = cell;
+      count = omega (arith, count);
+      role = role;
+      link = link;
+      chars_are = part_chars;
+    }

@@ -1,0 +1,198 @@
+-- A run that is put over others.
+use Rattle.std.proofs.Common.{◌≡◌, ℕ, ◌+◌, ◌-◌, ◌<◌, ◌≤◌, ◌^◌, List, [], ◌∷◌, ◌++◌, length, take, drop, get_or, refl, sym, ap, ◌∙◌, arith, inl, inr, subst, All}
+use Rattle.std.proofs.lemmas.List.{places, same_lists, get_or_default, get_or_append_left, get_or-append_right, get_or-take, get_or-drop, length-append, length-take, length-drop}
+use Rattle.std.proofs.lemmas.List.Elements.{All-take, All-drop, All-append}
+use Rattle.std.proofs.lemmas.Bool.{cases_lt, cases_eq}
+use Rattle.std.specs.List.{AllPairs}
+use Rattle.snippet_grid.proofs.StretchLemmas.{stretch, below_take, get_or-stretch}
+use Rattle.snippet_grid.proofs.ShownLemmas.{painted-append, All-tail, All-IsRun-grown, pick, holds_elsewhere}
+use Rattle.snippet_style.specs.Cell.{Cell, SPACE}
+use Rattle.snippet_grid.specs.Runs.{IsRun, BeginsWith, AddsRun, IsRow, EndsBy, FitIn, Precedes, Differ, run_cell, painted, shown}
+use Rattle.snippet_grid.specs.declared.runs.Run.{Run}
+
+abbrev pub AreOrdered : List Run → Type 0
+AreOrdered runs = AllPairs (λ a b. Precedes a b) runs
+
+abbrev pub AreApart : List Run → Type 0
+AreApart runs = AllPairs (λ a b. Differ a b) runs
+
+Precedes-trans : (a b c : Run) → Precedes a b → Precedes b c → Precedes a c
+Precedes-trans a b c first second =
+    record {
+      rows = omega (arith, first.rows, second.rows);
+      cells = λ same.
+          let one : a.row ≡ b.row = omega (arith, first.rows, second.rows, same) in
+          let two : b.row ≡ c.row = omega (arith, first.rows, second.rows, same) in
+          omega (arith, first.cells one, second.cells two);
+    }
+
+-- each run ends before the greatest cell
+abbrev pub AllFit : List Run → Type 0
+AllFit runs = All (λ x. x.cell + x.count < 2 ^ 64) runs
+
+pub fits_all : (text : List ℕ) (runs : List Run) → All (λ x. IsRun text x) runs → AllFit runs
+fits_all text runs are = λ k d within. (are k d within).fits
+
+-- what stands before the last run's place stands before what the last run precedes
+pub all_before : (runs : List Run) (run d : Run) → 0 < length runs → AreOrdered runs → Precedes (get_or runs (length runs - 1) d) run → All (λ x. Precedes x run) runs
+all_before runs run d some ordered last =
+    λ k e within.
+    let last_is : get_or runs (length runs - 1) d ≡ get_or runs (length runs - 1) e = get_or_default runs (length runs - 1) d e (omega arith) in
+    let last_e : Precedes (get_or runs (length runs - 1) e) run = subst (λ x. Precedes x run) last_is last in
+    elim (cases_eq k (length runs - 1)) [
+      | inl same ↦ subst (λ i. Precedes (get_or runs i e) run) (sym same) last_e
+      | inr other ↦ Precedes-trans (get_or runs k e) (get_or runs (length runs - 1) e) run (ordered k (length runs - 1) e (omega arith) (omega arith)) last_e
+    ]
+
+pub rows_rise : (runs : List Run) (i j : ℕ) (d : Run) → AreOrdered runs → i ≤ j → j < length runs → (get_or runs i d).row ≤ (get_or runs j d).row
+rows_rise runs i j d ordered below within =
+    elim (cases_eq i j) [
+      | inl same ↦ omega (arith, ap (λ k. (get_or runs k d).row) same)
+      | inr other ↦ (ordered i j d (omega arith) within).rows
+    ]
+
+-- the rows of the runs before the first of a row
+pub rows_above : (runs : List Run) (start end row : ℕ) (d e : Run) → AreOrdered runs → start ≤ end → end ≤ length runs → 0 < start → ((get_or runs (start - 1) d).row ≡ row → ⊥) → (get_or runs (end - 1) e).row ≤ row → (k : ℕ) (f : Run) → k < start → (get_or runs k f).row < row
+rows_above runs start end row d e ordered low high some other last =
+    λ k f within.
+    let first : (get_or runs k f).row ≤ (get_or runs (start - 1) f).row = rows_rise runs k (start - 1) f ordered (omega arith) (omega arith) in
+    let second : (get_or runs (start - 1) f).row ≤ (get_or runs (end - 1) f).row = rows_rise runs (start - 1) (end - 1) f ordered (omega arith) (omega arith) in
+    let d_is : (get_or runs (start - 1) d).row ≡ (get_or runs (start - 1) f).row = ap (λ (x : Run). x.row) (get_or_default runs (start - 1) d f (omega arith)) in
+    let e_is : (get_or runs (end - 1) e).row ≡ (get_or runs (end - 1) f).row = ap (λ (x : Run). x.row) (get_or_default runs (end - 1) e f (omega arith)) in
+    elim (cases_eq (get_or runs (start - 1) f).row row) [
+      | inl same ↦ absurd (other (d_is ∙ same))
+      | inr differs ↦ omega arith
+    ]
+
+pub IsRow-grown : (old new : List ℕ) (row : ℕ) (runs : List Run) → BeginsWith old new → IsRow old row runs → IsRow new row runs
+IsRow-grown old new row runs grows is =
+    record { are_runs = All-IsRun-grown old new runs grows is.are_runs; in_row = is.in_row; ordered = is.ordered; apart = is.apart }
+
+-- a row to which a run was added
+pub IsRow-added : (old new : List ℕ) (row n : ℕ) (runs now : List Run) (run : Run) → IsRow old row runs → EndsBy n runs → n ≤ run.cell → run.row ≡ row → All (λ x. IsRun new x) now → AddsRun runs now run → IsRow new row now
+IsRow-added old new row n runs now run is ends before in_row are adds =
+    let all_before : All (λ x. Precedes x run) runs = λ k d within. record { rows = omega (arith, is.in_row k d within, in_row); cells = λ same. omega (arith, ends k d within, before) } in
+    record {
+      are_runs = are;
+      in_row = adds.rows row is.in_row in_row;
+      ordered = adds.order is.ordered all_before;
+      apart = adds.apart is.ordered all_before is.apart;
+    }
+
+-- what is painted by runs of other rows
+pub painted_elsewhere : (text : List ℕ) (r c : ℕ) (d : Cell) (runs : List Run) → All (λ x. x.row ≡ r → ⊥) runs → painted text r c d runs ≡ d
+painted_elsewhere text r c d [] others = refl
+painted_elsewhere text r c d (run ∷ runs) others =
+    ap (λ (cell : Cell). painted text r c cell runs) (pick (run_cell text run c) d (holds_elsewhere run r c (others 0 run (omega arith)))) ∙ painted_elsewhere text r c d runs (All-tail (λ x. x.row ≡ r → ⊥) run runs others)
+
+-- a list in three parts
+pub split_three : {X : Type 0} (xs : List X) (i j : ℕ) → i ≤ j → j ≤ length xs → xs ≡ take i xs ++ stretch xs i j ++ drop j xs
+split_three xs i j low high =
+    same_lists _ _ (grind (arith, places)) (λ k d h. grind (arith, places, cases_lt k i, cases_lt k j))
+
+-- what three parts show, where the outer two hold nothing of the row
+pub painted_middle : (text : List ℕ) (r c : ℕ) (xs ys zs : List Run) → All (λ x. x.row ≡ r → ⊥) xs → All (λ x. x.row ≡ r → ⊥) zs → shown text (xs ++ ys ++ zs) r c ≡ shown text ys r c
+painted_middle text r c xs ys zs left right =
+    painted-append text r c SPACE (xs ++ ys) zs ∙ painted_elsewhere text r c (painted text r c SPACE (xs ++ ys)) zs right ∙ painted-append text r c SPACE xs ys ∙ ap (λ (d : Cell). painted text r c d ys) (painted_elsewhere text r c SPACE xs left)
+
+-- and where the middle holds nothing of the row
+pub painted_outer : (text : List ℕ) (r c : ℕ) (xs ys zs : List Run) → All (λ x. x.row ≡ r → ⊥) ys → shown text (xs ++ ys ++ zs) r c ≡ painted text r c (shown text xs r c) zs
+painted_outer text r c xs ys zs none =
+    painted-append text r c SPACE (xs ++ ys) zs ∙ ap (λ (d : Cell). painted text r c d zs) (painted-append text r c SPACE xs ys ∙ painted_elsewhere text r c (shown text xs r c) ys none)
+
+pub AllPairs-append : {X : Type 0} (R : X → X → Type 0) (xs ys : List X) → AllPairs R xs → AllPairs R ys → ((i j : ℕ) (d : X) → i < length xs → j < length ys → R (get_or xs i d) (get_or ys j d)) → AllPairs R (xs ++ ys)
+AllPairs-append R xs ys left right across =
+    λ i j d below within.
+    elim (cases_lt j (length xs)) [
+      | inl j_left ↦ subst (λ b. R (get_or (xs ++ ys) i d) b) (sym (get_or_append_left xs ys d j j_left)) (subst (λ a. R a (get_or xs j d)) (sym (get_or_append_left xs ys d i (omega arith))) (left i j d below j_left))
+      | inr j_right ↦
+          let j_is = get_or-append_right xs ys (length xs) j d refl j_right in
+          let j_within : j - length xs < length ys = omega (arith, length-append xs ys) in
+          subst (λ b. R (get_or (xs ++ ys) i d) b) (sym j_is) (elim (cases_lt i (length xs)) [
+            | inl i_left ↦ subst (λ a. R a (get_or ys (j - length xs) d)) (sym (get_or_append_left xs ys d i i_left)) (across i (j - length xs) d i_left j_within)
+            | inr i_right ↦ subst (λ a. R a (get_or ys (j - length xs) d)) (sym (get_or-append_right xs ys (length xs) i d refl i_right)) (right (i - length xs) (j - length xs) d (omega arith) j_within)
+          ])
+    ]
+
+-- the runs of one row
+pub IsRow-stretch : (text : List ℕ) (row : ℕ) (runs : List Run) (start end : ℕ) → start ≤ end → end ≤ length runs → All (λ x. IsRun text x) runs → AreOrdered runs → AreApart runs → ((k : ℕ) (d : Run) → start ≤ k → k < end → (get_or runs k d).row ≡ row) → IsRow text row (stretch runs start end)
+IsRow-stretch text row runs start end low high are ordered apart inside =
+    let ys = stretch runs start end in
+    let read : (k : ℕ) (d : Run) → k < length ys → (k < end - start) × (get_or ys k d ≡ get_or runs (start + k) d) = λ k d within.
+    (below_take (drop start runs) (end - start) k within, get_or-stretch runs start end k d within) in
+    record {
+      are_runs = All-take (λ x. IsRun text x) (end - start) (drop start runs) (All-drop (λ x. IsRun text x) start runs are);
+      in_row = λ k d within. let at = read k d within in subst (λ (z : Run). z.row ≡ row) (sym at.1) (inside (start + k) d (omega arith) (omega (arith, at.0)));
+      ordered = λ i j d below within.
+          let at_i = read i d (omega arith) in
+          let at_j = read j d within in
+          subst (λ (z : Run). Precedes (get_or ys i d) z) (sym at_j.1) (subst (λ (z : Run). Precedes z (get_or runs (start + j) d)) (sym at_i.1) (ordered (start + i) (start + j) d (omega arith) (omega (arith, at_j.0))));
+      apart = λ i j d below within.
+          let at_i = read i d (omega arith) in
+          let at_j = read j d within in
+          subst (λ (z : Run). Differ (get_or ys i d) z) (sym at_j.1) (subst (λ (z : Run). Differ z (get_or runs (start + j) d)) (sym at_i.1) (apart (start + i) (start + j) d (omega arith) (omega (arith, at_j.0))));
+    }
+
+-- the facts that stay when the runs of a row give their place to others
+pub are_runs-put : (old new : List ℕ) (runs now fresh : List Run) (row start end : ℕ) → BeginsWith old new → All (λ x. IsRun old x) runs → IsRow new row fresh → now ≡ take start runs ++ fresh ++ drop end runs → All (λ x. IsRun new x) now
+are_runs-put old new runs now fresh row start end grows are is_row is =
+    let all : All (λ x. IsRun new x) runs = All-IsRun-grown old new runs grows are in
+    subst (λ (l : List Run). All (λ x. IsRun new x) l) (sym is) (All-append (λ x. IsRun new x) (take start runs ++ fresh) (drop end runs) (All-append (λ x. IsRun new x) (take start runs) fresh (All-take (λ x. IsRun new x) start runs all) is_row.are_runs) (All-drop (λ x. IsRun new x) end runs all))
+
+pub ordered-put : (new : List ℕ) (runs now fresh : List Run) (row start end : ℕ) → start ≤ end → end ≤ length runs → ((k : ℕ) (d : Run) → k < start → (get_or runs k d).row < row) → ((k : ℕ) (d : Run) → end ≤ k → k < length runs → row < (get_or runs k d).row) → AreOrdered runs → IsRow new row fresh → now ≡ take start runs ++ fresh ++ drop end runs → AreOrdered now
+ordered-put new runs now fresh row start end low high above below ordered is_row is =
+    let xs = take start runs in
+    let zs = drop end runs in
+    let left : (k : ℕ) (d : Run) → k < length xs → (k < start) × (get_or xs k d ≡ get_or runs k d) = λ k d within.
+    let short : k < start = below_take runs start k within in
+    (short, get_or-take start runs k d short) in
+    let xs_ordered : AreOrdered xs = λ i j d before within.
+    let at_i = left i d (omega arith) in
+    let at_j = left j d within in
+    subst (λ (z : Run). Precedes (get_or xs i d) z) (sym at_j.1) (subst (λ (z : Run). Precedes z (get_or runs j d)) (sym at_i.1) (ordered i j d before (omega (arith, at_j.0)))) in
+    let zs_ordered : AreOrdered zs = λ i j d before within.
+    subst (λ (z : Run). Precedes (get_or zs i d) z) (sym (get_or-drop end runs j d)) (subst (λ (z : Run). Precedes z (get_or runs (end + j) d)) (sym (get_or-drop end runs i d)) (ordered (end + i) (end + j) d (omega arith) (omega (arith, length-drop end runs)))) in
+    let xs_rows : All (λ x. x.row < row) xs = λ k d within. let at = left k d within in subst (λ (z : Run). z.row < row) (sym at.1) (above k d at.0) in
+    let zs_rows : All (λ x. row < x.row) zs = λ k d within. subst (λ (z : Run). row < z.row) (sym (get_or-drop end runs k d)) (below (end + k) d (omega arith) (omega (arith, length-drop end runs))) in
+    let front : AreOrdered (xs ++ fresh) = AllPairs-append (λ a b. Precedes a b) xs fresh xs_ordered is_row.ordered (λ i j d i_within j_within. record { rows = omega (arith, xs_rows i d i_within, is_row.in_row j d j_within); cells = λ same. absurd (omega (arith, xs_rows i d i_within, is_row.in_row j d j_within, same)) }) in
+    let front_rows : All (λ x. x.row ≤ row) (xs ++ fresh) = All-append (λ x. x.row ≤ row) xs fresh (λ k d within. omega (arith, xs_rows k d within)) (λ k d within. omega (arith, is_row.in_row k d within)) in
+    subst (λ (l : List Run). AreOrdered l) (sym is) (AllPairs-append (λ a b. Precedes a b) (xs ++ fresh) zs front zs_ordered (λ i j d i_within j_within. record { rows = omega (arith, front_rows i d i_within, zs_rows j d j_within); cells = λ same. absurd (omega (arith, front_rows i d i_within, zs_rows j d j_within, same)) }))
+
+-- a part of the front or of the back of a list
+pub AllPairs-take : {X : Type 0} (R : X → X → Type 0) (n : ℕ) (xs : List X) → AllPairs R xs → AllPairs R (take n xs)
+AllPairs-take R n xs pairs =
+    λ i j d before within.
+    let short : j < n = below_take xs n j within in
+    let long : j < length xs = omega (arith, within, length-take n xs) in
+    subst (λ z. R (get_or (take n xs) i d) z) (sym (get_or-take n xs j d short)) (subst (λ z. R z (get_or xs j d)) (sym (get_or-take n xs i d (omega arith))) (pairs i j d before long))
+
+pub AllPairs-drop : {X : Type 0} (R : X → X → Type 0) (n : ℕ) (xs : List X) → AllPairs R xs → AllPairs R (drop n xs)
+AllPairs-drop R n xs pairs =
+    λ i j d before within.
+    subst (λ z. R (get_or (drop n xs) i d) z) (sym (get_or-drop n xs j d)) (subst (λ z. R z (get_or xs (n + j) d)) (sym (get_or-drop n xs i d)) (pairs (n + i) (n + j) d (omega arith) (omega (arith, length-drop n xs))))
+
+-- runs that touch differ still
+pub apart-put : (new : List ℕ) (runs now fresh : List Run) (row start end : ℕ) → start ≤ end → end ≤ length runs → ((k : ℕ) (d : Run) → k < start → (get_or runs k d).row < row) → ((k : ℕ) (d : Run) → end ≤ k → k < length runs → row < (get_or runs k d).row) → AreApart runs → IsRow new row fresh → now ≡ take start runs ++ fresh ++ drop end runs → AreApart now
+apart-put new runs now fresh row start end low high above below apart is_row is =
+    let xs = take start runs in
+    let zs = drop end runs in
+    let xs_rows : All (λ x. x.row < row) xs = λ k d within.
+    let short : k < start = below_take runs start k within in
+    subst (λ (z : Run). z.row < row) (sym (get_or-take start runs k d short)) (above k d short) in
+    let zs_rows : All (λ x. row < x.row) zs = λ k d within. subst (λ (z : Run). row < z.row) (sym (get_or-drop end runs k d)) (below (end + k) d (omega arith) (omega (arith, length-drop end runs))) in
+    let front : AreApart (xs ++ fresh) = AllPairs-append (λ a b. Differ a b) xs fresh (AllPairs-take (λ a b. Differ a b) start runs apart) is_row.apart (λ i j d i_within j_within goes. absurd (omega (arith, xs_rows i d i_within, is_row.in_row j d j_within, goes.row))) in
+    let front_rows : All (λ x. x.row ≤ row) (xs ++ fresh) = All-append (λ x. x.row ≤ row) xs fresh (λ k d within. omega (arith, xs_rows k d within)) (λ k d within. omega (arith, is_row.in_row k d within)) in
+    subst (λ (l : List Run). AreApart l) (sym is) (AllPairs-append (λ a b. Differ a b) (xs ++ fresh) zs front (AllPairs-drop (λ a b. Differ a b) end runs apart) (λ i j d i_within j_within goes. absurd (omega (arith, front_rows i d i_within, zs_rows j d j_within, goes.row))))
+
+pub inside-put : (widths : List ℕ) (new : List ℕ) (runs now fresh : List Run) (row start end : ℕ) → start ≤ end → end ≤ length runs → ((k : ℕ) (d : Run) → start ≤ k → k < end → (get_or runs k d).row ≡ row) → FitIn widths runs → IsRow new row fresh → (EndsBy (get_or widths row 0) (stretch runs start end) → EndsBy (get_or widths row 0) fresh) → now ≡ take start runs ++ fresh ++ drop end runs → FitIn widths now
+inside-put widths new runs now fresh row start end low high inside fit is_row ends is =
+    let P = λ (x : Run). x.cell + x.count ≤ get_or widths x.row 0 in
+    let ys = stretch runs start end in
+    let ends_old : EndsBy (get_or widths row 0) ys = λ k d within.
+    let short : k < end - start = below_take (drop start runs) (end - start) k within in
+    let read : get_or ys k d ≡ get_or runs (start + k) d = get_or-stretch runs start end k d within in
+    let row_is : (get_or runs (start + k) d).row ≡ row = inside (start + k) d (omega arith) (omega arith) in
+    subst (λ (z : Run). z.cell + z.count ≤ get_or widths row 0) (sym read) (subst (λ r. (get_or runs (start + k) d).cell + (get_or runs (start + k) d).count ≤ get_or widths r 0) row_is (fit (start + k) d (omega arith))) in
+    let ends_new = ends ends_old in
+    let fresh_fit : FitIn widths fresh = λ k d within. subst (λ r. (get_or fresh k d).cell + (get_or fresh k d).count ≤ get_or widths r 0) (sym (is_row.in_row k d within)) (ends_new k d within) in
+    subst (λ (l : List Run). FitIn widths l) (sym is) (All-append P (take start runs ++ fresh) (drop end runs) (All-append P (take start runs) fresh (All-take P start runs fit) fresh_fit) (All-drop P end runs fit))

@@ -1,0 +1,128 @@
+-- A row that is printed run by run.
+use Rattle.std.proofs.Common.{◌≡◌, ℕ, ◌+◌, ◌-◌, ◌<◌, ◌≤◌, List, [], ◌∷◌, ◌++◌, length, take, drop, get_or, replicate, Option, None, Some, refl, sym, ap, ◌∙◌, subst, arith, false, inl, inr, All, if◌then◌else◌}
+use Rattle.std.proofs.lemmas.List.{same_lists, take-append-drop, drop_more, length-append, length-map, length-replicate, get_or-map, get_or-replicate, get_or_default, get_or_append_left, get_or-append_right, get_or-drop, length-drop}
+use Rattle.std.proofs.lemmas.List.FromFn.{length-map-range_with_len, get_or-map-range_with_len}
+use Rattle.std.proofs.lemmas.Bool.{cases_lt, cases_eq}
+use Rattle.std.specs.Option.{option_copied}
+use Rattle.snippet_grid.proofs.ShownLemmas.{painted-append, All-tail, pick, holds_inside, holds_before, holds_behind}
+use Rattle.snippet_grid.proofs.StretchPrinted.{alike, stretch_printed}
+use Rattle.snippet_grid.proofs.WeaveLemmas.{Url, Goes}
+use Rattle.snippet_style.specs.Cell.{Cell, SPACE}
+use Rattle.snippet_grid.specs.Runs.{IsRun, IsRow, Precedes, run_chars, run_cell, holds, painted, shown, cells_to}
+use Rattle.snippet_grid.specs.Stretch.{PrintsStretch}
+use Rattle.snippet_style.specs.Stylesheet.{style_of}
+use Rattle.snippet_style.specs.declared.role.ElementStyle.TheVariants.{NoStyle}
+use Rattle.snippet_style.specs.declared.role.LevelInner.{LevelInner}
+use Rattle.snippet_grid.specs.declared.runs.Run.{Run}
+use Rattle.snippet_style.specs.declared.style.Style.{Style}
+use Rattle.snippet_style.specs.declared.stylesheet.Stylesheet.{Stylesheet}
+
+pub painted_unheld : (text : List ℕ) (r c : ℕ) (d : Cell) (runs : List Run) → All (λ x. holds x r c ≡ false) runs → painted text r c d runs ≡ d
+painted_unheld text r c d [] none = refl
+painted_unheld text r c d (run ∷ runs) none =
+    ap (λ (cell : Cell). painted text r c cell runs) (pick (run_cell text run c) d (none 0 run (omega arith))) ∙ painted_unheld text r c d runs (All-tail (λ x. holds x r c ≡ false) run runs none)
+
+-- a run shows its own cells, whatever stands after it
+pub shown_in : (text : List ℕ) (row c n : ℕ) (runs : List Run) (d : Run) → IsRow text row runs → n < length runs → (let run = get_or runs n d in run.cell ≤ c → c < run.cell + run.count → shown text runs row c ≡ run_cell text run c)
+shown_in text row c n runs d is within =
+    λ low high.
+    let run : Run = get_or runs n d in
+    let front = take n runs in
+    let back = drop (n + 1) runs in
+    let split : runs ≡ front ++ run ∷ back = sym (take-append-drop n runs) ∙ ap (λ (xs : List Run). front ++ xs) (drop_more runs n d within) in
+    let below : Cell = shown text front row c in
+    let none : All (λ x. holds x row c ≡ false) back = λ k e inside.
+    let later : n + 1 + k < length runs = omega (arith, length-drop (n + 1) runs) in
+    let precedes : Precedes (get_or runs n e) (get_or runs (n + 1 + k) e) = is.ordered n (n + 1 + k) e (omega arith) later in
+    let first_is : get_or runs n e ≡ run = get_or_default runs n e d within in
+    let rows : (get_or runs n e).row ≡ (get_or runs (n + 1 + k) e).row = is.in_row n e within ∙ sym (is.in_row (n + 1 + k) e later) in
+    let gap : run.cell + run.count ≤ (get_or runs (n + 1 + k) e).cell = subst (λ (x : Run). x.cell + x.count ≤ (get_or runs (n + 1 + k) e).cell) first_is (precedes.cells rows) in
+    subst (λ (x : Run). holds x row c ≡ false) (sym (get_or-drop (n + 1) runs k e)) (holds_before (get_or runs (n + 1 + k) e) row c (omega arith)) in
+    ap (λ (xs : List Run). shown text xs row c) split ∙ painted-append text row c SPACE front (run ∷ back) ∙ painted_unheld text row c (if holds run row c then run_cell text run c else below) back none ∙ pick (run_cell text run c) below (holds_inside run row c (is.in_row n d within) low high)
+
+-- nothing is shown between two runs
+pub shown_gap : (text : List ℕ) (row c n : ℕ) (runs : List Run) → ((k : ℕ) (d : Run) → k < n → k < length runs → (get_or runs k d).cell + (get_or runs k d).count ≤ c) → ((k : ℕ) (d : Run) → n ≤ k → k < length runs → c < (get_or runs k d).cell) → shown text runs row c ≡ SPACE
+shown_gap text row c n runs behind ahead =
+    painted_unheld text row c SPACE runs (λ k d within. elim (cases_lt k n) [
+      | inl before ↦ holds_behind (get_or runs k d) row c (behind k d before within)
+      | inr after ↦ holds_before (get_or runs k d) row c (ahead k d after within)
+    ])
+
+-- further cells of a row
+cells_more : (text : List ℕ) (runs : List Run) (row a b : ℕ) (more : List Cell) → a + length more ≡ b → ((k : ℕ) → k < length more → get_or more k SPACE ≡ shown text runs row (a + k)) → cells_to text runs row b ≡ cells_to text runs row a ++ more
+cells_more text runs row a b more long same =
+    let f = λ (c : ℕ). shown text runs row c in
+    let xs = cells_to text runs row a in
+    let xs_long : length xs ≡ a = length-map-range_with_len f 0 a in
+    same_lists (cells_to text runs row b) (xs ++ more) (omega (arith, length-map-range_with_len f 0 b, length-append xs more)) (λ k d within.
+    let inside : k < b = omega (arith, length-map-range_with_len f 0 b) in
+    get_or-map-range_with_len f 0 b k k d inside (omega arith) ∙ elim (cases_lt k a) [
+      | inl front ↦ sym (get_or_append_left xs more d k (omega arith) ∙ get_or-map-range_with_len f 0 a k k d front (omega arith))
+      | inr behind ↦
+          let place : a + (k - a) ≡ k = omega arith in
+          sym (get_or-append_right xs more a k d xs_long behind ∙ get_or_default more (k - a) d SPACE (omega arith) ∙ same (k - a) (omega arith) ∙ ap f place)
+    ])
+
+-- the row is printed up to a cell, and so are the runs up to a place
+pub record WovenTo (sheet : Stylesheet) (level : LevelInner) (text : List ℕ) (runs : List Run) (row n col : ℕ) (style : Style) (link : Option Url) (old now : List ℕ) : Type 0 where
+  pub goes : Goes sheet level (Some style) link (cells_to text runs row col) old now
+  pub behind : (k : ℕ) (d : Run) → k < n → k < length runs → (get_or runs k d).cell + (get_or runs k d).count ≤ col
+  pub ahead : (k : ℕ) (d : Run) → n ≤ k → k < length runs → col ≤ (get_or runs k d).cell
+
+pub woven_start : (sheet : Stylesheet) (level : LevelInner) (text : List ℕ) (runs : List Run) (row : ℕ) (old : List ℕ) → WovenTo sheet level text runs row 0 0 sheet.none None old old
+woven_start sheet level text runs row old =
+    record { goes = λ rest more prints. record { pieces = rest; text_is = refl; prints = prints }; behind = λ k d before within. absurd (omega arith); ahead = λ k d after within. omega arith }
+
+-- a gap was printed
+pub woven_gap : (sheet : Stylesheet) (level : LevelInner) (text : List ℕ) (runs : List Run) (row n col to count : ℕ) (style space : Style) (link : Option Url) (old now new : List ℕ) → col < to → count ≡ to - col → ((k : ℕ) (d : Run) → n ≤ k → k < length runs → to ≤ (get_or runs k d).cell) → space ≡ style_of sheet level NoStyle → PrintsStretch (replicate count 32) style space link None now new → WovenTo sheet level text runs row n col style link old now → WovenTo sheet level text runs row n to space None old new
+woven_gap sheet level text runs row n col to count style space link old now new some is_count before is prints woven =
+    let word : List ℕ = replicate count 32 in
+    let more : List Cell = alike NoStyle None word in
+    let long : length word ≡ count = length-replicate count 32 in
+    let long_more : length more ≡ count = length-map word (λ ch. (let cell : Cell = record { ch = ch; role = NoStyle; link = None } in cell)) ∙ long in
+    let cells : cells_to text runs row to ≡ cells_to text runs row col ++ more = cells_more text runs row col to more (omega arith) (λ k within.
+    get_or-map (λ ch. (let cell : Cell = record { ch = ch; role = NoStyle; link = None } in cell)) word k 32 SPACE (omega arith) ∙ ap (λ ch. (let cell : Cell = record { ch = ch; role = NoStyle; link = None } in cell)) (get_or-replicate count k 32 32 (omega arith)) ∙ sym (shown_gap text row (col + k) n runs (λ j d first inside. omega (arith, woven.behind j d first inside)) (λ j d later inside. omega (arith, before j d later inside)))) in
+    record {
+      goes = subst (λ (cs : List Cell). Goes sheet level (Some space) None cs old new) (sym cells) (stretch_printed sheet level style space NoStyle link None word (cells_to text runs row col) old now new (omega arith) is prints woven.goes);
+      behind = λ k d first inside. omega (arith, woven.behind k d first inside);
+      ahead = before;
+    }
+
+-- a run was printed
+pub woven_run : (sheet : Stylesheet) (level : LevelInner) (text : List ℕ) (runs : List Run) (row n col : ℕ) (d : Run) (style next : Style) (link : Option Url) (old now new : List ℕ) → IsRow text row runs → n < length runs → (let run = get_or runs n d in col ≡ run.cell → next ≡ style_of sheet level run.role → PrintsStretch (run_chars text run) style next link (option_copied run.link) now new → WovenTo sheet level text runs row n col style link old now → WovenTo sheet level text runs row (n + 1) (run.cell + run.count) next (option_copied run.link) old new)
+woven_run sheet level text runs row n col d style next link old now new is_row within =
+    λ here is prints woven.
+    let run : Run = get_or runs n d in
+    let is_run : IsRun text run = is_row.are_runs n d within in
+    let word = run_chars text run in
+    let as_cell = λ (ch : ℕ). (let cell : Cell = record { ch = ch; role = run.role; link = option_copied run.link } in cell) in
+    let more : List Cell = alike run.role (option_copied run.link) word in
+    let long_more : length more ≡ length word = length-map word as_cell in
+    let cells : cells_to text runs row (run.cell + run.count) ≡ cells_to text runs row col ++ more = cells_more text runs row col (run.cell + run.count) more (omega (arith, is_run.counted)) (λ k inside.
+    let index : (col + k) - run.cell ≡ k = omega arith in
+    get_or-map as_cell word k 32 SPACE (omega arith) ∙ ap (λ i. as_cell (get_or word i 32)) (sym index) ∙ sym (shown_in text row (col + k) n runs d is_row within (omega arith) (omega (arith, is_run.counted)))) in
+    record {
+      goes = subst (λ (cs : List Cell). Goes sheet level (Some next) (option_copied run.link) cs old new) (sym cells) (stretch_printed sheet level style next run.role link (option_copied run.link) word (cells_to text runs row col) old now new (omega (arith, is_run.counted, is_run.some)) is prints woven.goes);
+      behind = λ k e first inside. elim (cases_lt k n) [
+        | inl before ↦ omega (arith, woven.behind k e before inside)
+        | inr last ↦
+            let same : k ≡ n = omega arith in
+            let read : get_or runs k e ≡ run = ap (λ i. get_or runs i e) same ∙ get_or_default runs n e d within in
+            omega (arith, ap (λ (x : Run). x.cell + x.count) read)
+      ];
+      ahead = λ k e later inside.
+          let precedes : Precedes (get_or runs n e) (get_or runs k e) = is_row.ordered n k e (omega arith) inside in
+          let rows : (get_or runs n e).row ≡ (get_or runs k e).row = is_row.in_row n e within ∙ sym (is_row.in_row k e inside) in
+          subst (λ (x : Run). x.cell + x.count ≤ (get_or runs k e).cell) (get_or_default runs n e d within) (precedes.cells rows);
+    }
+
+-- no run from this one on begins before it
+pub first_ahead : (text : List ℕ) (row : ℕ) (runs : List Run) (n : ℕ) (e : Run) → IsRow text row runs → n < length runs → (k : ℕ) (d : Run) → n ≤ k → k < length runs → (get_or runs n e).cell ≤ (get_or runs k d).cell
+first_ahead text row runs n e is within k d after inside =
+    let read : (get_or runs n d).cell ≡ (get_or runs n e).cell = ap (λ (x : Run). x.cell) (get_or_default runs n d e within) in
+    elim (cases_eq n k) [
+      | inl same ↦ omega (arith, ap (λ i. (get_or runs i d).cell) same)
+      | inr other ↦
+          let precedes : Precedes (get_or runs n d) (get_or runs k d) = is.ordered n k d (omega arith) inside in
+          omega (arith, precedes.cells (is.in_row n d within ∙ sym (is.in_row k d inside)))
+    ]

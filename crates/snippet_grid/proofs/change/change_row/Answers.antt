@@ -1,0 +1,28 @@
+use Rattle.std.proofs.Common.{string_bytes, subst, sym, List}
+use Rattle.snippet_grid.proofs.ChangedRow.{change_next}
+use Rattle.snippet_grid.proofs.ShownLemmas.{All-IsRun-grown}
+use Rattle.snippet_grid.specs.Changes.{IsPartOfRow}
+use Rattle.snippet_grid.specs.Runs.{IsRow, shown}
+use Rattle.snippet_grid.specs.declared.runs.Run.{Run}
+use Rattle.snippet_grid.proofs.change.change_row.Goals as goal
+
+pub put_run-requires-clause-runs : goal.put_run-requires-clause-runs
+put_run-requires-clause-runs c =
+    All-IsRun-grown (string_bytes c.loop-col.text) (string_bytes c.part_at.new.text) c.loop-col.runs.items c.in_ok-part.ensures.text c.loop-col.invariant.is_row.are_runs
+
+pub loop-col-preserved : goal.loop-col-preserved
+loop-col-preserved c =
+    let now = string_bytes c.loop-col.text in
+    let mid = string_bytes c.part_at.new.text in
+    let part = subst (λ (l : List Run). IsPartOfRow mid c.args.row c.loop-col.col c.args.end (λ k. shown now l c.args.row k) c.in_ok-part.part) c.as_slice.ensures.value c.in_ok-part.ensures.ok in
+    change_next (string_bytes c.args.text.now) now mid (string_bytes c.put_run.new.text) c.args.runs.now.items c.loop-col.runs.items c.put_run.new.runs.items c.in_ok-part.part c.changed.result c.args.row c.args.start c.args.end c.args.change c.loop-col.col c.loop-col.invariant c.in_ok-part.ensures.text c.in_ok-put_run.ensures.text part c.changed.ensures.is c.in_ok-put_run.ensures.ok
+
+pub part_at-requires-clause-runs : goal.part_at-requires-clause-runs
+part_at-requires-clause-runs c =
+    subst (λ (l : List Run). IsRow (string_bytes c.loop-col.text) c.args.row l) (sym c.as_slice.ensures.value) c.loop-col.invariant.is_row
+
+pub put_run-requires-clause-ordered : goal.put_run-requires-clause-ordered
+put_run-requires-clause-ordered c = c.loop-col.invariant.is_row.ordered
+
+pub put_run-requires-clause-apart : goal.put_run-requires-clause-apart
+put_run-requires-clause-apart c = c.loop-col.invariant.is_row.apart

@@ -1,0 +1,17 @@
+use Rattle.std.proofs.Common.{◌∙◌, ap, arith, rules, string_bytes}
+use Rattle.std.proofs.lemmas.Result.{on_ok_weaker}
+use Rattle.std.specs.Str.{chars}
+use Rattle.snippet_grid.specs.Grid.{cells_written}
+use Rattle.snippet_style.specs.Cell.{drawn}
+use Rattle.snippet_grid.specs.Runs.{grid_shown}
+use Rattle.snippet_grid.proofs.GridLemmas.{WritesCells-from_equal}
+use Rattle.snippet_grid.proofs.GridShown.{chars_some}
+use Rattle.snippet_grid.proofs.grid.StyledBuffer.puts.Goals as goal
+
+pub write_word-requires-clause-some : goal.write_word-requires-clause-some
+write_word-requires-clause-some c = chars_some c.args.text.now c.utf8.text (first_of (omega arith, search rules, grind arith))
+
+pub returns-clause-reads : goal.returns-clause-reads
+returns-clause-reads c =
+    let cells = drawn c.args.role (chars c.args.text.now) in
+    on_ok_weaker c.write_word.result (λ is _. WritesCells-from_equal c.args.self.now (grid_shown (string_bytes c.write_word.new.text) c.write_word.new.runs.items c.write_word.new.widths.items) c.args.row c.args.cell cells (is ∙ ap (λ rows. cells_written rows c.args.row c.args.cell cells) c.self.view_is)) c.write_word.ensures.ok

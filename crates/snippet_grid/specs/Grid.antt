@@ -1,0 +1,106 @@
+-- Rows of cells, and what the calls make of them.
+use Rattle.std.specs.Prelude.{◌≡◌, ◌≢◌, ◌<◌, ◌≤◌, ◌+◌, ◌-◌, ℕ, nat_lt, nat_le, max, Bool, ◌||◌, ◌&&◌, if◌then◌else◌, List, [], ◌∷◌, ◌++◌, length, map, take, drop, Some}
+use Rattle.std.specs.List.{slice_index_or}
+use Rattle.snippet_style.specs.Cell.{Cell, SPACE, gives_way, written}
+use Rattle.snippet_style.specs.declared.role.ElementStyle.{ElementStyle}
+
+-- the row of this number, which has no cells where the grid has no such row
+abbrev pub row_at : List (List Cell) → ℕ → List Cell
+row_at rows r = slice_index_or rows r []
+
+-- the cell at this place, a space where the grid has no such cell
+abbrev pub cell_at : List (List Cell) → ℕ → ℕ → Cell
+cell_at rows r c = slice_index_or (row_at rows r) c SPACE
+
+-- how many cells the grid has
+abbrev pub num_cells : List (List Cell) → ℕ
+num_cells [] = 0
+num_cells (row ∷ rows) = length row + num_cells rows
+
+-- the grid after these cells are written in row r from cell `at` on
+abbrev pub cells_written : List (List Cell) → ℕ → ℕ → List Cell → List (List Cell)
+cells_written rows r at cells = written [] rows r (written SPACE (row_at rows r) at cells ∷ [])
+
+-- the same, read cell by cell
+pub record WritesCells (old new : List (List Cell)) (row at : ℕ) (cells : List Cell) : Type 0 where
+  -- the written cells are there, and every other cell of the row is as it was
+  pub inside : (k : ℕ) → k < length cells → cell_at new row (at + k) ≡ slice_index_or cells k SPACE
+  pub before : (c : ℕ) → c < at → cell_at new row c ≡ cell_at old row c
+  pub behind : (c : ℕ) → at + length cells ≤ c → cell_at new row c ≡ cell_at old row c
+  -- every other row is as it was
+  pub others : (r : ℕ) → r ≢ row → row_at new r ≡ row_at old r
+  -- the row and the grid are larger only as far as the write reaches
+  pub width : length (row_at new row) ≡ max (length (row_at old row)) (at + length cells)
+  pub count : length new ≡ max (length old) (row + 1)
+
+-- the cell in this role, where overwriting is allowed or its own role gives way; else the cell as it was
+abbrev pub restyled : ElementStyle → Bool → Cell → Cell
+restyled role overwrite cell =
+    if overwrite || gives_way cell.role then record cell { role = role } else cell
+
+-- the list with each element from `start` to before `end` changed by f, as far as the list has any there
+unfoldable pub changed_within : {X : Type 0} → (X → X) → ℕ → ℕ → List X → List X
+changed_within f start end xs =
+    take start xs ++ map f (take (end - start) (drop start xs)) ++ drop (max start end) xs
+
+-- the grid after the cells of row r from `start` to before `end` are changed by f, as far as they are there
+abbrev pub cells_changed : (Cell → Cell) → List (List Cell) → ℕ → ℕ → ℕ → List (List Cell)
+cells_changed f rows r start end = changed_within (changed_within f start end) r (r + 1) rows
+
+-- the same, read cell by cell
+pub record ChangesCells (f : Cell → Cell) (old new : List (List Cell)) (row start end : ℕ) : Type 0 where
+  -- the cells that are there are changed, and every other cell of the row is as it was
+  pub inside : (c : ℕ) → start ≤ c → c < end → c < length (row_at old row) → cell_at new row c ≡ f (cell_at old row c)
+  pub before : (c : ℕ) → c < start → cell_at new row c ≡ cell_at old row c
+  pub behind : (c : ℕ) → end ≤ c → cell_at new row c ≡ cell_at old row c
+  -- every other row is as it was
+  pub others : (r : ℕ) → r ≢ row → row_at new r ≡ row_at old r
+  -- no cell and no row is added
+  pub width : length (row_at new row) ≡ length (row_at old row)
+  pub count : length new ≡ length old
+
+-- the grid after the cells of row r from `start` to before `end` are restyled, and the same read cell by cell
+abbrev pub cells_restyled : List (List Cell) → ℕ → ℕ → ℕ → ElementStyle → Bool → List (List Cell)
+cells_restyled rows r start end role overwrite = cells_changed (restyled role overwrite) rows r start end
+
+abbrev pub RestylesCells : List (List Cell) → List (List Cell) → ℕ → ℕ → ℕ → ElementStyle → Bool → Type 0
+RestylesCells old new row start end role overwrite =
+    ChangesCells (restyled role overwrite) old new row start end
+
+-- the cell as part of a linked text with this URL, whatever link it had
+abbrev pub linked : List ℕ → Cell → Cell
+linked url cell = record cell { link = Some url }
+
+-- the grid after the cells of row r from `start` to before `end` are linked, and the same read cell by cell
+abbrev pub cells_linked : List (List Cell) → ℕ → ℕ → ℕ → List ℕ → List (List Cell)
+cells_linked rows r start end url = cells_changed (linked url) rows r start end
+
+abbrev pub LinksCells : List (List Cell) → List (List Cell) → ℕ → ℕ → ℕ → List ℕ → Type 0
+LinksCells old new row start end url = ChangesCells (linked url) old new row start end
+
+-- the list with these elements in place of those from `start` to before `end`; where it has no such stretch it stays
+unfoldable pub replaced_within : {X : Type 0} → ℕ → ℕ → List X → List X → List X
+replaced_within start end new xs =
+    if nat_lt start end && nat_le end (length xs) then take start xs ++ new ++ drop end xs else xs
+
+-- the grid after the cells of row r from `start` to before `end` gave their place to these, if they are there
+abbrev pub cells_replaced : List (List Cell) → ℕ → ℕ → ℕ → List Cell → List (List Cell)
+cells_replaced rows r start end cells = changed_within (replaced_within start end cells) r (r + 1) rows
+
+-- the same, read cell by cell
+pub record ReplacesCells (old new : List (List Cell)) (row start end : ℕ) (cells : List Cell) : Type 0 where
+  -- the new cells are there, and behind them those that stood behind the stretch
+  pub inside : start < end → end ≤ length (row_at old row) → (k : ℕ) → k < length cells → cell_at new row (start + k) ≡ slice_index_or cells k SPACE
+  pub behind : start < end → end ≤ length (row_at old row) → (k : ℕ) → cell_at new row (start + length cells + k) ≡ cell_at old row (end + k)
+  pub width : start < end → end ≤ length (row_at old row) → length (row_at new row) + (end - start) ≡ length (row_at old row) + length cells
+  -- the cells before the stretch, and every other row, are as they were
+  pub before : (c : ℕ) → c < start → cell_at new row c ≡ cell_at old row c
+  pub others : (r : ℕ) → r ≢ row → row_at new r ≡ row_at old r
+  pub count : length new ≡ length old
+  -- where there is no such stretch, nothing changes
+  pub empty : end ≤ start → new ≡ old
+  pub past : length (row_at old row) < end → new ≡ old
+
+-- the fact holds of every cell of the grid, and of the spaces around it
+abbrev pub EachCell : (Cell → Type 0) → List (List Cell) → Type 0
+EachCell P rows = (r c : ℕ) → P (cell_at rows r c)

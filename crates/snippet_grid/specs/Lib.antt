@@ -1,0 +1,6 @@
+pub mod Changes
+pub mod Grid
+pub mod Print
+pub mod Runs
+pub mod Stretch
+pub mod Woven

@@ -1,0 +1,229 @@
+//! Cells of a row that change their role, or the link that they belong to, and nothing else.
+ghost use Rattle.std.specs.Prelude.{◌≡◌, ◌+◌, ◌-◌, ◌*◌, ◌<◌, ◌≤◌, ℕ, min, length, IfOk, OnOk, OnErr, string_bytes};
+ghost use Rattle.std.specs.List.{slice_index_or};
+ghost use Rattle.snippet_grid.specs.Grid.{cells_changed};
+ghost use Rattle.snippet_grid.specs.Runs.{IsRow, IsGrid, EndsBy, BeginsWith, shown, grid_shown};
+ghost use Rattle.snippet_grid.specs.declared.runs.Run.{Run};
+ghost use Rattle.snippet_grid.specs.Changes.{changed_by, IsChanged, IsGap, IsPartOfRow, ShowsSpan};
+
+use crate::put::{Spare, exchange, put_run};
+use crate::runs::{Run, begun_by, clipped, row_bounds};
+use crate::spaces::push_spaces;
+use crate::words::width_of;
+use snippet_style::ElementStyle;
+use std::alloc::AllocError;
+
+/// What becomes of cells.
+#[derive(Clone, Copy)]
+pub(crate) enum Change<'a> {
+    /// They get this role, where overwriting is allowed or their own gives way.
+    Restyle(ElementStyle, bool),
+    /// They link to this URL.
+    Link(&'a str),
+}
+
+/// The run with each of its cells changed.
+fn changed<'a>(change: Change<'a>, run: Run<'a>) -> Run<'a>
+    ensures is { IsChanged change.entry run.entry result }
+{
+    match change {
+        Change::Restyle(role, overwrite) => {
+            if overwrite || run.role.gives_way() {
+                Run { role, ..run }
+            } else {
+                run
+            }
+        }
+        Change::Link(url) => Run {
+            link: Some(url),
+            ..run
+        },
+    }
+}
+
+/// Adds spaces to the text, as an unstyled run.
+fn push_gap<'a>(
+    text: &mut String,
+    row: usize,
+    from: usize,
+    to: usize,
+) -> Result<Run<'a>, AllocError>
+    requires some { from < to }
+    ensures ok { IfOk result (λ run. IsGap (string_bytes text.new) row from to run) }
+    ensures text { BeginsWith (string_bytes text.old) (string_bytes text.new) }
+{
+    let start = text.len();
+    push_spaces(text, to - from)?;
+    Ok(Run {
+        row,
+        cell: from,
+        count: to - from,
+        start,
+        end: text.len(),
+        role: ElementStyle::NoStyle,
+        link: None,
+    })
+}
+
+/// Where a stretch of cells ends that no run holds: where the run of this number begins, or at `to`.
+fn gap_end(runs: &[Run<'_>], next: usize, to: usize) -> usize
+    ensures within { result ≤ to }
+    ensures next { (d : Run) → next < length runs.now → result ≡ min (slice_index_or runs.now next d).cell to }
+    ensures none { length runs.now ≤ next → result ≡ to }
+{
+    if next < runs.len() {
+        runs[next].cell.min(to)
+    } else {
+        to
+    }
+}
+
+/// The first cells of a stretch of a row that one run holds, or none does: as a run.
+fn part_at<'a>(
+    text: &mut String,
+    runs: &[Run<'a>],
+    row: usize,
+    from: usize,
+    to: usize,
+) -> Result<Run<'a>, AllocError>
+    requires runs { IsRow (string_bytes text.old) row runs.now }
+    requires some { from < to }
+    ensures text { BeginsWith (string_bytes text.old) (string_bytes text.new) }
+    ensures ok { IfOk result (λ part. IsPartOfRow (string_bytes text.new) row from to (λ c. shown (string_bytes text.old) runs.now row c) part) }
+{
+    let next = begun_by(runs, row, from);
+    if next > 0 {
+        let run = runs[next - 1];
+        let end = run.cell + run.count;
+        if from < end {
+            return Ok(clipped(text.as_str(), run, from, end.min(to)));
+        }
+    }
+    let gap = push_gap(text, row, from, gap_end(runs, next, to))?;
+    Ok(gap)
+}
+
+/// Changes the cells of a row from `start` to before `end`.
+fn change_row<'a>(
+    text: &mut String,
+    spare: &mut Spare<'a>,
+    runs: &mut Vec<Run<'a>>,
+    row: usize,
+    start: usize,
+    end: usize,
+    change: Change<'a>,
+) -> Result<(), AllocError>
+    requires runs { IsRow (string_bytes text.old) row runs.old.items }
+    requires some { start ≤ end }
+    ensures text { BeginsWith (string_bytes text.old) (string_bytes text.new) }
+    ensures ok { OnOk result (ShowsSpan (string_bytes text.old) (string_bytes text.new) runs.old.items runs.new.items row start end (λ c. changed_by change.entry (shown (string_bytes text.old) runs.old.items row c))) }
+    ensures row { OnOk result (IsRow (string_bytes text.new) row runs.new.items) }
+    ensures ends { (n : ℕ) → EndsBy n runs.old.items → end ≤ n → OnOk result (EndsBy n runs.new.items) }
+    ensures count { OnOk result (length runs.new.items ≤ length runs.old.items + 2 * (end - start)) }
+{
+    let mut col = start;
+    while col < end {
+        let part = part_at(text, runs.as_slice(), row, col, end)?;
+        put_run(text, spare, runs, changed(change, part))?;
+        col += part.count;
+    }
+    Ok(())
+}
+
+/// Changes the cells of a row from `start` to before `end`, as far as they are there, whatever runs they are part of: the row
+/// is changed in a copy, for which `fresh` has room, and then put in its place at once.
+fn change_copied<'a>(
+    text: &mut String,
+    spare: &mut Spare<'a>,
+    fresh: &mut Vec<Run<'a>>,
+    runs: &mut Vec<Run<'a>>,
+    widths: &[usize],
+    row: usize,
+    start: usize,
+    end: usize,
+    change: Change<'a>,
+) -> Result<(), AllocError>
+    requires grid { IsGrid (string_bytes text.old) runs.old.items widths.now }
+    ensures ok { OnOk result (grid_shown (string_bytes text.new) runs.new.items widths.now ≡ cells_changed (changed_by change.entry) (grid_shown (string_bytes text.old) runs.old.items widths.now) row start end) }
+    ensures grid { IsGrid (string_bytes text.new) runs.new.items widths.now }
+    ensures runs_added { length runs.new.items ≤ length runs.old.items + 2 * (end - start) }
+    ensures err { OnErr result (grid_shown (string_bytes text.new) runs.new.items widths.now ≡ grid_shown (string_bytes text.old) runs.old.items widths.now) }
+{
+    let last = end.min(width_of(widths, row));
+    if last <= start {
+        return Ok(());
+    }
+    let old = runs.as_slice();
+    let (from, to) = row_bounds(old, row);
+    fresh.clear();
+    fresh.extend_from_slice(&old[from..to])?;
+    change_row(text, spare, fresh, row, start, last, change)?;
+    exchange(runs, from, to, fresh)?;
+    Ok(())
+}
+
+/// Changes the cells of a row from `start` to before `end`, as far as they are there.
+pub(crate) fn change_cells<'a>(
+    text: &mut String,
+    spare: &mut Spare<'a>,
+    fresh: &mut Vec<Run<'a>>,
+    runs: &mut Vec<Run<'a>>,
+    widths: &[usize],
+    row: usize,
+    start: usize,
+    end: usize,
+    change: Change<'a>,
+) -> Result<(), AllocError>
+    requires grid { IsGrid (string_bytes text.old) runs.old.items widths.now }
+    ensures ok { OnOk result (grid_shown (string_bytes text.new) runs.new.items widths.now ≡ cells_changed (changed_by change.entry) (grid_shown (string_bytes text.old) runs.old.items widths.now) row start end) }
+    ensures grid { IsGrid (string_bytes text.new) runs.new.items widths.now }
+    ensures runs_added { length runs.new.items ≤ length runs.old.items + 2 * (end - start) }
+    ensures err { OnErr result (grid_shown (string_bytes text.new) runs.new.items widths.now ≡ grid_shown (string_bytes text.old) runs.old.items widths.now) }
+{
+    let last = end.min(width_of(widths, row));
+    if last <= start {
+        return Ok(());
+    }
+    let old = runs.as_slice();
+    let (from, to) = row_bounds(old, row);
+    let part = part_at(text, &old[from..to], row, start, last)?;
+    if part.count == last - start {
+        put_run(text, spare, runs, changed(change, part))?;
+        return Ok(());
+    }
+    change_copied(text, spare, fresh, runs, widths, row, start, end, change)?;
+    Ok(())
+}
+
+/// Changes one cell of a row, if it is there.
+pub(crate) fn change_cell<'a>(
+    text: &mut String,
+    spare: &mut Spare<'a>,
+    fresh: &mut Vec<Run<'a>>,
+    runs: &mut Vec<Run<'a>>,
+    widths: &[usize],
+    row: usize,
+    cell: usize,
+    change: Change<'a>,
+) -> Result<(), AllocError>
+    requires grid { IsGrid (string_bytes text.old) runs.old.items widths.now }
+    ensures ok { OnOk result (grid_shown (string_bytes text.new) runs.new.items widths.now ≡ cells_changed (changed_by change.entry) (grid_shown (string_bytes text.old) runs.old.items widths.now) row cell (cell + 1)) }
+    ensures grid { IsGrid (string_bytes text.new) runs.new.items widths.now }
+    ensures runs_added { length runs.new.items ≤ length runs.old.items + 2 }
+    ensures err { OnErr result (grid_shown (string_bytes text.new) runs.new.items widths.now ≡ grid_shown (string_bytes text.old) runs.old.items widths.now) }
+{
+    if cell < width_of(widths, row) {
+        change_cells(
+            text,
+            spare,
+            fresh,
+            runs,
+            widths,
+            row,
+            cell,
+            cell + 1,
+            change,
+        )?;
+    }
+    Ok(())
+}

@@ -1,0 +1,331 @@
+//! The grid of styled cells that a report is drawn into.
+//!
+//! A grid has rows, and a row has cells, both counted from 0. What is written beyond a row's end,
+//! or below the last row, makes the row longer and adds rows, as far as needed and no farther.
+
+ghost use Rattle.std.specs.Prelude.{◌≡◌, ◌+◌, ◌^◌, ◌<◌, ◌≤◌, List, [], ◌∷◌, length, ℕ, true, IfOk, OnOk, OnErr, IsOk, string_bytes, encode_utf8_all};
+ghost use Rattle.snippet_grid.specs.Grid.{row_at, num_cells, cells_written, WritesCells, cells_restyled, RestylesCells, cells_linked, LinksCells, cells_replaced, ReplacesCells};
+ghost use Rattle.snippet_style.specs.Cell.{drawn};
+ghost use Rattle.snippet_style.specs.declared.role.ElementStyle.TheVariants.{LineNumber};
+ghost use Rattle.std.specs.Str.{chars};
+ghost use Rattle.snippet_grid.specs.Print as spec;
+ghost use Rattle.snippet_style.specs.Stylesheet.{is_plain_sheet};
+ghost use Rattle.snippet_grid.specs.Woven.{Prints, IsWoven, links_of};
+
+use crate::change::{Change, change_cell, change_cells};
+use crate::put::Spare;
+use crate::replace::replace_cells;
+use crate::runs::Run;
+use crate::weave::weave_rows;
+use crate::words::{width_of, write_word};
+use snippet_style::{ElementStyle, LevelInner, Stylesheet};
+use std::alloc::{AllocError, Global};
+use std::marker::Model;
+use std::ops::Range;
+
+/// A grid of styled cells. It has no row at first.
+///
+/// Rows and cells are numbered from 0, and each character takes one cell. A call that fails for
+/// want of memory leaves the grid as it was.
+#[derive(Drop)]
+pub struct StyledBuffer<'a> {
+    /// What is written, in order; a cell that no run holds is an unstyled space.
+    runs: Vec<Run<'a>>,
+    /// How many cells each row has.
+    widths: Vec<usize>,
+    /// The characters of the runs, and what they were copied from.
+    text: String,
+    /// Room for what is put, and for the runs of a row that is changed.
+    spare: Spare<'a>,
+    fresh: Vec<Run<'a>>,
+    alloc: Global,
+}
+
+impl<'a> Model for StyledBuffer<'a> {
+    ghost use Rattle.std.specs.Prelude.{◌<◌, ◌^◌, List, length, string_bytes};
+    ghost use Rattle.snippet_style.specs.Cell.{Cell};
+    ghost use Rattle.snippet_grid.specs.Runs.{grid_shown, IsGrid};
+
+    ghost Value = { List (List Cell) };
+
+    ghost view = { λ b. grid_shown (string_bytes b.text) b.runs.items b.widths.items };
+
+    ghost invariant = { λ b. IsGrid (string_bytes b.text) b.runs.items b.widths.items × (length b.widths.items < 2 ^ 60) };
+}
+
+impl<'a> StyledBuffer<'a> {
+    /// A grid with no rows.
+    pub fn new(alloc: Global) -> Self
+        ensures empty { result ≡ [] }
+    {
+        StyledBuffer {
+            runs: Vec::new(alloc),
+            widths: Vec::new(alloc),
+            text: String::new(alloc),
+            spare: Spare {
+                text: String::new(alloc),
+                runs: Vec::new(alloc),
+            },
+            fresh: Vec::new(alloc),
+            alloc,
+        }
+    }
+
+    /// How many rows there are.
+    pub fn num_lines(&self) -> usize
+        ensures count { result ≡ length self.now }
+        ensures small { result < 2 ^ 60 }
+    {
+        self.widths.len()
+    }
+
+    /// How many runs of neighbouring cells with one role and one link are kept: no more than
+    /// there are cells. A new grid has none. `putc`, `puts`, `append`, `replace` and `set_style`
+    /// each add at most two; the functions that they call promise it of the list of runs.
+    pub fn num_runs(&self) -> usize
+        ensures few { result ≤ num_cells self.now }
+    {
+        self.runs.len()
+    }
+
+    /// Writes a character at this cell of this row.
+    ///
+    /// # Errors
+    ///
+    /// There is no memory for the row or its cells.
+    pub fn putc(
+        &mut self,
+        row: usize,
+        cell: usize,
+        ch: char,
+        role: ElementStyle,
+    ) -> Result<(), AllocError>
+        requires row { row + 1 < 2 ^ 64 }
+        requires end { cell + 1 < 2 ^ 64 }
+        ensures ok { OnOk result
+            (self.new ≡ cells_written self.old row cell (drawn role (ch ∷ []))) }
+        ensures reads { OnOk result
+            (WritesCells self.old self.new row cell (drawn role (ch ∷ []))) }
+        ensures err { OnErr result (self.new ≡ self.old) }
+    {
+        let mut bytes = [0; 4];
+        self.puts(row, cell, ch.encode_utf8(&mut bytes), role)
+    }
+
+    /// Writes a text in this row, from this cell on, one cell for each character. An empty text
+    /// does nothing: it makes no row.
+    ///
+    /// # Errors
+    ///
+    /// There is no memory for the row or its cells.
+    pub fn puts(
+        &mut self,
+        row: usize,
+        cell: usize,
+        text: &str,
+        role: ElementStyle,
+    ) -> Result<(), AllocError>
+        requires row { 0 < length text.now → row + 1 < 2 ^ 64 }
+        requires end { cell + length (chars text.now) < 2 ^ 64 }
+        ensures ok { OnOk result (0 < length text.now
+            → self.new ≡ cells_written self.old row cell (drawn role (chars text.now))) }
+        ensures reads { OnOk result (0 < length text.now
+            → WritesCells self.old self.new row cell (drawn role (chars text.now))) }
+        ensures empty { text.now ≡ [] → self.new ≡ self.old }
+        ensures empty_succeeds { text.now ≡ [] → IsOk result }
+        ensures err { OnErr result (self.new ≡ self.old) }
+    {
+        if text.is_empty() {
+            return Ok(());
+        }
+        write_word(
+            &mut self.text,
+            &mut self.spare,
+            &mut self.runs,
+            &mut self.widths,
+            row,
+            cell,
+            text,
+            role,
+        )
+    }
+
+    /// Writes a text in this row, behind its last cell, one cell for each character. An empty text
+    /// does nothing: it makes no row.
+    ///
+    /// # Errors
+    ///
+    /// There is no memory for the row or its cells.
+    pub fn append(&mut self, row: usize, text: &str, role: ElementStyle) -> Result<(), AllocError>
+        requires row { 0 < length text.now → row + 1 < 2 ^ 64 }
+        ensures ok { OnOk result (0 < length text.now
+            → (let end = length (row_at self.old row) in
+            self.new ≡ cells_written self.old row end (drawn role (chars text.now)))) }
+        ensures reads { OnOk result (0 < length text.now
+            → (let end = length (row_at self.old row) in
+            WritesCells self.old self.new row end (drawn role (chars text.now)))) }
+        ensures empty { text.now ≡ [] → self.new ≡ self.old }
+        ensures empty_succeeds { text.now ≡ [] → IsOk result }
+        ensures err { OnErr result (self.new ≡ self.old) }
+    {
+        let end = width_of(&self.widths, row);
+        if text.len() > usize::MAX - end {
+            return Err(AllocError);
+        }
+        self.puts(row, end, text, role)
+    }
+
+    /// Puts a text of role `LineNumber` in place of the cells of this row from `start` to before `end`; the cells behind
+    /// them move. Nothing happens where `start` is not below `end`, or where the row has no such cells. The new cells
+    /// belong to no link.
+    ///
+    /// # Errors
+    ///
+    /// There is no memory for the row.
+    pub fn replace(
+        &mut self,
+        row: usize,
+        start: usize,
+        end: usize,
+        text: &str,
+    ) -> Result<(), AllocError>
+        ensures ok { OnOk result
+            (self.new ≡ cells_replaced self.old row start end (drawn LineNumber (chars text.now))) }
+        ensures reads { OnOk result
+            (ReplacesCells self.old self.new row start end (drawn LineNumber (chars text.now))) }
+        ensures empty_succeeds { end ≤ start → IsOk result }
+        ensures past_succeeds { length (row_at self.old row) < end → IsOk result }
+        ensures err { OnErr result (self.new ≡ self.old) }
+    {
+        replace_cells(
+            &mut self.text,
+            &mut self.spare,
+            &mut self.runs,
+            &mut self.widths,
+            row,
+            start,
+            end,
+            text,
+            ElementStyle::LineNumber,
+        )
+    }
+
+    /// Gives the cell of this row and number another role, if there is such a cell, and if
+    /// overwriting is allowed or its role is `NoStyle` or `Quotation`. Nothing else changes.
+    ///
+    /// # Errors
+    ///
+    /// There is no memory for the row's runs.
+    pub fn set_style(
+        &mut self,
+        row: usize,
+        cell: usize,
+        style: ElementStyle,
+        overwrite: bool,
+    ) -> Result<(), AllocError>
+        ensures ok { OnOk result
+            (self.new ≡ cells_restyled self.old row cell (cell + 1) style overwrite) }
+        ensures reads { OnOk result
+            (RestylesCells self.old self.new row cell (cell + 1) style overwrite) }
+        ensures err { OnErr result (self.new ≡ self.old) }
+    {
+        change_cell(
+            &mut self.text,
+            &mut self.spare,
+            &mut self.fresh,
+            &mut self.runs,
+            &self.widths,
+            row,
+            cell,
+            Change::Restyle(style, overwrite),
+        )
+    }
+
+    /// Does what `set_style` does with each cell of this row from `start` to before `end`. Cells
+    /// that are not there are left out, and nothing happens where `start` is not below `end`.
+    ///
+    /// # Errors
+    ///
+    /// There is no memory for the row's runs.
+    pub fn set_style_range(
+        &mut self,
+        row: usize,
+        start: usize,
+        end: usize,
+        style: ElementStyle,
+        overwrite: bool,
+    ) -> Result<(), AllocError>
+        ensures ok { OnOk result
+            (self.new ≡ cells_restyled self.old row start end style overwrite) }
+        ensures reads { OnOk result
+            (RestylesCells self.old self.new row start end style overwrite) }
+        ensures err { OnErr result (self.new ≡ self.old) }
+    {
+        change_cells(
+            &mut self.text,
+            &mut self.spare,
+            &mut self.fresh,
+            &mut self.runs,
+            &self.widths,
+            row,
+            start,
+            end,
+            Change::Restyle(style, overwrite),
+        )
+    }
+
+    /// Marks the cells of this row in this range as a link to a URL. Cells that are not there are
+    /// left out, and nothing happens where the range is empty. A linked cell that is written
+    /// anew is linked no more.
+    ///
+    /// # Errors
+    ///
+    /// There is no memory for the row's runs.
+    pub fn link(&mut self, row: usize, cells: Range<usize>, url: &'a str) -> Result<(), AllocError>
+        ensures ok { OnOk result
+            (self.new ≡ cells_linked self.old row cells.start cells.end url.now) }
+        ensures reads { OnOk result
+            (LinksCells self.old self.new row cells.start cells.end url.now) }
+        ensures err { OnErr result (self.new ≡ self.old) }
+    {
+        change_cells(
+            &mut self.text,
+            &mut self.spare,
+            &mut self.fresh,
+            &mut self.runs,
+            &self.widths,
+            row,
+            cells.start,
+            cells.end,
+            Change::Link(url),
+        )
+    }
+
+    /// The rows, joined by line feeds, as they look under a sheet of styles in a group of this
+    /// level, with the codes of their links. The characters are the same under each sheet.
+    ///
+    /// # Errors
+    ///
+    /// There is no memory for the text.
+    pub fn render(&self, level: LevelInner, sheet: &Stylesheet) -> Result<String, AllocError>
+        ensures prints { IfOk result (λ t. Prints sheet.now level self.now (string_bytes t)) }
+        ensures only { IfOk result (λ t. (other : List ℕ)
+            → Prints sheet.now level self.now other → other ≡ string_bytes t) }
+        ensures woven { IfOk result (λ t.
+            IsWoven sheet.now (string_bytes t) (spec.plain_text self.now) (links_of self.now)) }
+        ensures plain { IfOk result (λ t. is_plain_sheet sheet.now ≡ true → links_of self.now ≡ []
+            → string_bytes t ≡ encode_utf8_all (spec.plain_text self.now)) }
+    {
+        // Codes take about as much as the text itself.
+        let mut text = String::with_capacity(self.alloc, self.text.len().saturating_mul(2))?;
+        weave_rows(
+            &mut text,
+            self.text.as_str(),
+            &self.runs,
+            &self.widths,
+            level,
+            sheet,
+        )?;
+        Ok(text)
+    }
+}

@@ -1,0 +1,13 @@
+//! The grid of styled cells that a report is drawn into, and its text.
+#![tactic(auto)]
+
+mod change;
+pub mod grid;
+mod put;
+mod replace;
+mod runs;
+mod spaces;
+mod weave;
+mod words;
+
+pub use grid::StyledBuffer;

@@ -1,0 +1,176 @@
+//! Runs that are put over others.
+//!
+//! A put takes only the runs that the new one touches: what the first of them holds before it, and the last after it,
+//! stays. All other runs keep their places.
+ghost use Rattle.std.specs.Prelude.{◌≡◌, ◌+◌, ◌-◌, ◌<◌, ◌≤◌, ◌^◌, ◌++◌, ℕ, List, [], true, false, length, take, drop, All, OnOk, OnErr, string_bytes, option_to_list};
+ghost use Rattle.snippet_grid.specs.Runs.{IsRun, BeginsWith, Precedes, Differ, IsClear, ReachesTo, Touches, IsTouched, IsFront, IsBack, ArePieces, IsPut};
+ghost use Rattle.snippet_grid.specs.declared.runs.Run.{Run};
+ghost use Rattle.std.specs.List.{AllPairs, slice_index_or};
+
+use crate::runs::{Run, add_run, begun_by, clipped, goes_on, joined};
+use std::alloc::AllocError;
+
+/// Whether all runs stand before this one.
+fn are_before(runs: &[Run<'_>], run: &Run<'_>) -> bool
+    requires ordered { AllPairs (λ a b. Precedes a b) runs.now }
+    requires are_runs { All (λ x. x.cell + x.count < 2 ^ 64) runs.now }
+    ensures yes { result ≡ true → All (λ x. Precedes x run.now) runs.now }
+{
+    let len = runs.len();
+    if len == 0 {
+        return true;
+    }
+    let last = runs[len - 1];
+    last.row < run.row || last.row == run.row && last.cell + last.count <= run.cell
+}
+
+/// Whether a run stands before another one and does not touch it.
+fn is_clear(first: &Run<'_>, second: &Run<'_>) -> bool
+    requires fits { first.now.cell + first.now.count < 2 ^ 64 }
+    ensures yes { result ≡ true → IsClear first.now second.now }
+    ensures no { result ≡ false → ReachesTo first.now second.now }
+{
+    first.row < second.row || first.row == second.row && first.cell + first.count < second.cell
+}
+
+/// The first of the runs before `end` that touches this one, or `end`.
+fn first_touched(runs: &[Run<'_>], end: usize, run: &Run<'_>) -> usize
+    requires ordered { AllPairs (λ a b. Precedes a b) runs.now }
+    requires are_runs { All (λ x. x.cell + x.count < 2 ^ 64) runs.now }
+    requires within { end ≤ length runs.now }
+    requires reaches { (k : ℕ) (d : Run) → k < end → ReachesTo run.now (slice_index_or runs.now k d) }
+    ensures ordered { result ≤ end }
+    ensures before { (k : ℕ) (d : Run) → k < result → IsClear (slice_index_or runs.now k d) run.now }
+    ensures touch { (k : ℕ) (d : Run) → result ≤ k → k < end → Touches (slice_index_or runs.now k d) run.now }
+{
+    let mut start = end;
+    while start > 0 && !is_clear(&runs[start - 1], run) {
+        start -= 1;
+    }
+    start
+}
+
+/// What the first of the runs that a run touches holds before it.
+fn front_of<'a>(text: &str, touched: &[Run<'a>], run: &Run<'a>) -> Option<Run<'a>>
+    requires touched { IsTouched text.now run.now touched.now }
+    ensures front { IsFront text.now touched.now run.now (option_to_list result) }
+{
+    let len = touched.len();
+    if len == 0 {
+        return None;
+    }
+    let first = touched[0];
+    if run.cell <= first.cell {
+        return None;
+    }
+    Some(clipped(text, first, first.cell, run.cell))
+}
+
+/// What the last of the runs that a run touches holds after it.
+fn back_of<'a>(text: &str, touched: &[Run<'a>], run: &Run<'a>) -> Option<Run<'a>>
+    requires touched { IsTouched text.now run.now touched.now }
+    requires run { IsRun text.now run.now }
+    ensures back { IsBack text.now touched.now run.now (option_to_list result) }
+{
+    let len = touched.len();
+    if len == 0 {
+        return None;
+    }
+    let last = touched[len - 1];
+    let (from, to) = (run.cell + run.count, last.cell + last.count);
+    if to <= from {
+        return None;
+    }
+    Some(clipped(text, last, from, to))
+}
+
+/// What becomes of the runs that a run touches when it is put over them: at most three.
+fn add_pieces<'a>(
+    text: &mut String,
+    copy: &mut String,
+    pieces: &mut Vec<Run<'a>>,
+    touched: &[Run<'a>],
+    run: Run<'a>,
+) -> Result<(), AllocError>
+    requires none { pieces.old.items ≡ [] }
+    requires touched { IsTouched (string_bytes text.old) run touched.now }
+    requires run { IsRun (string_bytes text.old) run }
+    ensures text { BeginsWith (string_bytes text.old) (string_bytes text.new) }
+    ensures pieces { OnOk result (ArePieces (string_bytes text.old) (string_bytes text.new) touched.now pieces.new.items run.entry) }
+{
+    let front = front_of(text.as_str(), touched, &run);
+    let back = back_of(text.as_str(), touched, &run);
+    if let Some(left) = front {
+        pieces.push(left)?;
+    }
+    add_run(text, copy, pieces, run)?;
+    if let Some(right) = back {
+        add_run(text, copy, pieces, right)?;
+    }
+    Ok(())
+}
+
+/// Puts runs in place of those from `start` to before `end`, all at once. What is left in `fresh` means nothing.
+pub(crate) fn exchange<'a>(
+    runs: &mut Vec<Run<'a>>,
+    start: usize,
+    end: usize,
+    fresh: &mut Vec<Run<'a>>,
+) -> Result<(), AllocError>
+    requires ordered { start ≤ end }
+    requires within { end ≤ length runs.old.items }
+    ensures ok { OnOk result (runs.new.items ≡ take start runs.old.items ++ fresh.old.items ++ drop end runs.old.items) }
+    ensures err { OnErr result (runs.new.items ≡ runs.old.items) }
+{
+    fresh.extend_from_slice(&runs[end..])?;
+    runs.reserve(fresh.len())?;
+    runs.truncate(start);
+    runs.extend_from_slice(fresh)?;
+    Ok(())
+}
+
+/// Room for a change that is made: what is left in it means nothing.
+#[derive(Drop)]
+pub(crate) struct Spare<'a> {
+    pub(crate) text: String,
+    pub(crate) runs: Vec<Run<'a>>,
+}
+
+/// Puts a run over what others hold.
+pub(crate) fn put_run<'a>(
+    text: &mut String,
+    spare: &mut Spare<'a>,
+    runs: &mut Vec<Run<'a>>,
+    run: Run<'a>,
+) -> Result<(), AllocError>
+    requires runs { All (λ x. IsRun (string_bytes text.old) x) runs.old.items }
+    requires ordered { AllPairs (λ a b. Precedes a b) runs.old.items }
+    requires apart { AllPairs (λ a b. Differ a b) runs.old.items }
+    requires run { IsRun (string_bytes text.old) run }
+    ensures text { BeginsWith (string_bytes text.old) (string_bytes text.new) }
+    ensures ok { OnOk result (IsPut (string_bytes text.old) (string_bytes text.new) runs.old.items runs.new.items run.entry) }
+    ensures err { OnErr result (runs.new.items ≡ runs.old.items) }
+{
+    let old = runs.as_slice();
+    if are_before(old, &run) {
+        add_run(text, &mut spare.text, runs, run)?;
+        return Ok(());
+    }
+    let end = begun_by(old, run.row, run.cell + run.count);
+    let start = first_touched(old, end, &run);
+    if end - start == 1 && goes_on(&old[start], &run) {
+        let whole = joined(text, &mut spare.text, old[start], run)?;
+        runs[start] = whole;
+        return Ok(());
+    }
+    spare.runs.clear();
+    add_pieces(
+        text,
+        &mut spare.text,
+        &mut spare.runs,
+        &old[start..end],
+        run,
+    )?;
+    exchange(runs, start, end, &mut spare.runs)?;
+    Ok(())
+}

@@ -1,0 +1,163 @@
+//! Words that are written into a grid of runs.
+ghost use Rattle.std.specs.Prelude.{◌≡◌, ◌+◌, ◌<◌, ◌≤◌, ◌^◌, max, length, None, IfOk, OnOk, OnErr, IsOk, string_bytes, vec_capacity};
+ghost use Rattle.std.specs.List.{slice_index_or};
+ghost use Rattle.std.specs.Option.{option_copied};
+ghost use Rattle.std.specs.Str.{chars};
+ghost use Rattle.snippet_grid.specs.Grid.{cells_written};
+ghost use Rattle.snippet_style.specs.Cell.{drawn};
+ghost use Rattle.snippet_grid.specs.Runs.{BeginsWith, IsRun, IsGrid, IsWord, IsWidened, run_chars, grid_shown};
+
+use crate::put::{Spare, put_run};
+use crate::runs::Run;
+use snippet_style::{ElementStyle, char_count};
+use std::alloc::AllocError;
+
+/// The most rows that a grid may have.
+const MAX_ROWS: usize = (1 << 60) - 1;
+
+/// How many cells a row has, none where there is no such row.
+pub(crate) fn width_of(widths: &[usize], row: usize) -> usize
+    ensures value { result ≡ slice_index_or widths.now row 0 }
+{
+    if row < widths.len() { widths[row] } else { 0 }
+}
+
+/// What a small report takes: its first write makes room for so much at once.
+const FIRST_BYTES: usize = 512;
+
+const FIRST_RUNS: usize = 32;
+
+const FIRST_ROWS: usize = 16;
+
+/// Makes room for a small report, if nothing was written yet.
+fn make_first_room(
+    text: &mut String,
+    runs: &mut Vec<Run<'_>>,
+    widths: &mut Vec<usize>,
+) -> Result<(), AllocError>
+    ensures text { string_bytes text.new ≡ string_bytes text.old }
+    ensures runs { runs.new.items ≡ runs.old.items }
+    ensures widths { widths.new.items ≡ widths.old.items }
+{
+    if runs.is_empty() {
+        text.reserve(FIRST_BYTES)?;
+        runs.reserve(FIRST_RUNS)?;
+        widths.reserve(FIRST_ROWS)?;
+    }
+    Ok(())
+}
+
+/// Makes room for a row of this number.
+fn make_room(widths: &mut Vec<usize>, row: usize) -> Result<(), AllocError>
+    requires row { row + 1 < 2 ^ 64 }
+    ensures items { widths.new.items ≡ widths.old.items }
+    ensures room { OnOk result (row + 1 ≤ vec_capacity widths.new) }
+    ensures few { OnOk result (length widths.old.items < 2 ^ 60 → max (length widths.old.items) (row + 1) < 2 ^ 60) }
+{
+    let len = widths.len();
+    if row < len {
+        return Ok(());
+    }
+    widths.reserve(row + 1 - len)?;
+
+    // No memory holds so many rows, so the reserve has failed before. The test states it for the
+    // proof, since a `Vec` promises only a bound on its capacity that is above this one.
+    if row >= MAX_ROWS {
+        return Err(AllocError);
+    }
+    Ok(())
+}
+
+/// Makes a row reach to this cell, unless it is longer already. There is room for it.
+fn widen(widths: &mut Vec<usize>, row: usize, end: usize) -> Result<(), AllocError>
+    requires row { row + 1 < 2 ^ 64 }
+    requires room { row + 1 ≤ vec_capacity widths.old }
+    ensures wide { IsWidened widths.old.items widths.new.items row end }
+    ensures succeeds { IsOk result }
+{
+    if widths.len() <= row {
+        widths.resize(row + 1, 0)?;
+    }
+    if widths[row] < end {
+        widths[row] = end;
+    }
+    Ok(())
+}
+
+/// Adds a word to the text, as a run.
+pub(crate) fn push_word<'a>(
+    text: &mut String,
+    row: usize,
+    at: usize,
+    word: &str,
+    role: ElementStyle,
+) -> Result<Run<'a>, AllocError>
+    requires some { 0 < length (chars word.now) }
+    requires end { at + length (chars word.now) < 2 ^ 64 }
+    ensures ok { IfOk result (λ run. IsWord (string_bytes text.new) row at role word.now run) }
+    ensures text { BeginsWith (string_bytes text.old) (string_bytes text.new) }
+{
+    let count = char_count(word);
+    let start = text.len();
+    text.push_str(word)?;
+    Ok(Run {
+        row,
+        cell: at,
+        count,
+        start,
+        end: text.len(),
+        role,
+        link: None,
+    })
+}
+
+/// Puts a run of cells with no link over what others hold, and makes its row reach to its end.
+fn place_run<'a>(
+    text: &mut String,
+    spare: &mut Spare<'a>,
+    runs: &mut Vec<Run<'a>>,
+    widths: &mut Vec<usize>,
+    run: Run<'a>,
+) -> Result<(), AllocError>
+    requires grid { IsGrid (string_bytes text.old) runs.old.items widths.old.items }
+    requires run { IsRun (string_bytes text.old) run }
+    requires unlinked { option_copied run.link ≡ None }
+    requires row { run.row + 1 < 2 ^ 64 }
+    ensures ok { OnOk result (grid_shown (string_bytes text.new) runs.new.items widths.new.items ≡ cells_written (grid_shown (string_bytes text.old) runs.old.items widths.old.items) run.entry.row run.entry.cell (drawn run.entry.role (run_chars (string_bytes text.old) run.entry))) }
+    ensures grid { IsGrid (string_bytes text.new) runs.new.items widths.new.items }
+    ensures runs_added { length runs.new.items ≤ length runs.old.items + 2 }
+    ensures rows { length widths.old.items < 2 ^ 60 → length widths.new.items < 2 ^ 60 }
+    ensures err { OnErr result (grid_shown (string_bytes text.new) runs.new.items widths.new.items ≡ grid_shown (string_bytes text.old) runs.old.items widths.old.items) }
+{
+    make_room(widths, run.row)?;
+    put_run(text, spare, runs, run)?;
+    widen(widths, run.row, run.cell + run.count)?;
+    Ok(())
+}
+
+/// Writes a word that has a character into a row, from this cell on.
+pub(crate) fn write_word<'a>(
+    text: &mut String,
+    spare: &mut Spare<'a>,
+    runs: &mut Vec<Run<'a>>,
+    widths: &mut Vec<usize>,
+    row: usize,
+    at: usize,
+    word: &str,
+    role: ElementStyle,
+) -> Result<(), AllocError>
+    requires grid { IsGrid (string_bytes text.old) runs.old.items widths.old.items }
+    requires row { row + 1 < 2 ^ 64 }
+    requires end { at + length (chars word.now) < 2 ^ 64 }
+    requires some { 0 < length (chars word.now) }
+    ensures ok { OnOk result (grid_shown (string_bytes text.new) runs.new.items widths.new.items ≡ cells_written (grid_shown (string_bytes text.old) runs.old.items widths.old.items) row at (drawn role (chars word.now))) }
+    ensures grid { IsGrid (string_bytes text.new) runs.new.items widths.new.items }
+    ensures runs_added { length runs.new.items ≤ length runs.old.items + 2 }
+    ensures rows { length widths.old.items < 2 ^ 60 → length widths.new.items < 2 ^ 60 }
+    ensures err { OnErr result (grid_shown (string_bytes text.new) runs.new.items widths.new.items ≡ grid_shown (string_bytes text.old) runs.old.items widths.old.items) }
+{
+    make_first_room(text, runs, widths)?;
+    let run = push_word(text, row, at, word, role)?;
+    place_run(text, spare, runs, widths, run)?;
+    Ok(())
+}
