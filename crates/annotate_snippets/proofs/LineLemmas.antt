@@ -39,7 +39,7 @@ use Rattle.snippet_model.specs.Rows.{HasNoNumber}
 use Rattle.snippet_strokes.specs.Rows.{bare_row, IsSourceRow, IsStrokeRow, ShowsMarks}
 use Rattle.snippet_strokes.specs.Snippet as strokes
 use Rattle.snippet_strokes.specs.declared.layout.Layout.{Layout}
-use Rattle.snippet_strokes.proofs.SnippetLemmas.{highlighted_text}
+use Rattle.snippet_strokes.proofs.SnippetLemmas.{highlighted_left, highlighted_text}
 use Rattle.snippet_titles.proofs.TextLemmas.{row_text-drawn}
 use Rattle.annotate_snippets.specs.declared.renderer.Renderer.{Renderer}
 use Rattle.annotate_snippets.specs.declared.renderer.frame.Frame.{Frame}
@@ -68,6 +68,22 @@ beside_number layout shown cells row c is right left =
     no_letter : (decor : DecorStyle) → is_ascii_alphanumeric (separator_of decor) ≡ false
     no_letter Ascii = refl
     no_letter Unicode = refl
+
+-- no cell of what the gutter shows, of the separator, and of the spaces beside it is in the role of marks
+drawn_unmarked : (shown : List ℕ) (c : ℕ) → has_mark_role (get_or (drawn LineNumber shown) c SPACE) ≡ false
+drawn_unmarked [] c = refl
+drawn_unmarked (ch ∷ shown) zero = refl
+drawn_unmarked (ch ∷ shown) (suc c) = drawn_unmarked shown c
+
+unmarked_left : (layout : Layout) (shown : List ℕ) (cells row : List Cell) (c : ℕ) → IsSourceRow layout shown cells row → c < layout.code → has_mark_role (get_or row c SPACE) ≡ false
+unmarked_left layout shown cells row c is left =
+    elim (cases_lt c (length shown)) [
+      | inl number ↦ ap has_mark_role (sym (get_or-take (length shown) row c SPACE number) ∙ ap (λ cs. get_or cs c SPACE) is.shows.number) ∙ drawn_unmarked shown c
+      | inr right ↦ elim (cases_eq c (layout.gutter + 1)) [
+        | inl at ↦ ap has_mark_role (ap (λ n. get_or row n SPACE) at ∙ is.separator)
+        | inr other ↦ ap has_mark_role (is.blank c right other left)
+      ]
+    ]
 
 -- the character of a cell, read from the row's text
 char_at : (row : List Cell) (c : ℕ) → (get_or row c SPACE).ch ≡ get_or (row_text row) c 32
@@ -240,6 +256,20 @@ module _ (r : Renderer) (frame : Frame) (s : Snippet Annotation) (spans : All (�
     front_cell c left =
         sym (ap (λ (cell : Cell). cell.ch) (get_or-take (frame.gutter + 2) shows.source c SPACE left)) ∙ char_at (take (frame.gutter + 2) shows.source) c ∙ ap (λ cs. get_or cs c 32) front_text ∙ sym (char_at (take (frame.gutter + 2) shows.plain) c) ∙ ap (λ (cell : Cell). cell.ch) (get_or-take (frame.gutter + 2) shows.plain c SPACE left)
 
+    -- so is its role, whatever is highlighted
+    left_cell : (c : ℕ) → c < frame.gutter + 3 → c < frame.code → get_or shows.source c SPACE ≡ get_or shows.plain c SPACE
+    left_cell c beside left =
+        kept ∙ highlighted_left frame.code shows.dropped _ shows.plain shows.highlighted shows.highlights c left
+      where
+        kept : get_or shows.source c SPACE ≡ get_or shows.highlighted c SPACE
+        kept =
+            elim (cases_lt c (frame.gutter + 2)) [
+              | inl front ↦ sym (get_or-take (frame.gutter + 2) shows.source c SPACE front) ∙ ap (λ cs. get_or cs c SPACE) shows.beside.front ∙ get_or-take (frame.gutter + 2) shows.highlighted c SPACE front
+              | inr behind ↦
+                  let at : c ≡ frame.gutter + 2 = omega (arith, behind, beside) in
+                  ap (λ n. get_or shows.source n SPACE) at ∙ shows.beside.gap ∙ ap (λ n. get_or shows.highlighted n SPACE) (sym at)
+            ]
+
     gap_cell : (get_or shows.source (frame.gutter + 2) SPACE).ch ≡ (get_or shows.plain (frame.gutter + 2) SPACE).ch
     gap_cell =
         ap (λ (cell : Cell). cell.ch) shows.beside.gap ∙ char_at shows.highlighted (frame.gutter + 2) ∙ ap (λ cs. get_or cs (frame.gutter + 2) 32) (highlighted_text frame.code shows.dropped _ shows.plain shows.highlighted shows.highlights) ∙ sym (char_at shows.plain (frame.gutter + 2))
@@ -279,6 +309,7 @@ module _ (r : Renderer) (frame : Frame) (s : Snippet Annotation) (spans : All (�
           separator = front_cell (frame.gutter + 1) (omega arith) ∙ ap (λ (cell : Cell). cell.ch) is.separator;
           beside = λ c right left. beside_is c (omega (arith, ap length same_number, right)) left;
           bars = shows.beside.rails;
+          unmarked = λ c beside left. ap has_mark_role (left_cell c beside left) ∙ unmarked_left (layout_in r frame) _ _ shows.plain c is left;
           window = record {
             ordered = omega (arith, ordered, ap (λ (b : Bounds). b.left) bounds, ap (λ (b : Bounds). b.right) bounds);
             dropped_is = dropped_here;

@@ -232,6 +232,12 @@ elided_row s is dropped shown =
     let text : codes "..." ≡ codes "ab" = subst (λ source. codes "..." ≡ norm (chars_at source 0)) is.source_is (shown.whole whole).1 in
     cc
 
+-- a separator in the role of marks, as a highlight that begins left of the code would leave it
+coloured_separator : (s : Snippet Annotation) (k dropped : ℕ) → ShowsSourceLine plain_settings frame s k dropped (drawn LineNumber (codes "1") ++ SPACE ∷ drawn UnderlinePrimary (codes "|") ++ SPACE ∷ drawn Quotation (codes "ab")) → ⊥
+coloured_separator s k dropped shown =
+    let marked : true ≡ false = shown.unmarked 2 (omega arith) (omega arith) in
+    cc
+
 -- a second copy of a line, here of `a`, whatever it is named: two rows that are named by one line don't ascend, whatever
 -- stands before, between and behind them, and the copy is no row below a line's, as it has a digit in the gutter
 --

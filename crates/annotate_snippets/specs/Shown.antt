@@ -124,14 +124,16 @@ HasBarsAlone decor frame row =
     (c : ℕ) → frame.gutter + 3 ≤ c → c < frame.code → IsRailCell decor (slice_index_or row c SPACE)
 
 -- the row shows line k: its number in the gutter, the separator behind it and no letter or digit between them and the code,
--- where nothing but bars stands; and from the code's cell to its end the window of the line's normalised text between the
--- snippet's bounds, left of which so many columns are dropped; where the line stands whole, all of it
+-- where nothing but bars stands, left of which no cell is in the role of marks; and from the code's cell to its end the window
+-- of the line's normalised text between the snippet's bounds, left of which so many columns are dropped; where the line stands
+-- whole, all of it
 pub record ShowsSourceLine (r : Renderer) (frame : Frame) (s : Snippet Annotation) (k dropped : ℕ) (row : List Cell) : Type 0 where
   pub within : k < length (source_lines (cow_str_bytes s.source))
   pub number : let shown = number_text r s.line_numbering frame.gutter (s.line_start + k) in row_text (take (length shown) row) ≡ shown
   pub separator : (slice_index_or row (frame.gutter + 1) SPACE).ch ≡ separator_of r.decor_style
   pub beside : (c : ℕ) → length (number_text r s.line_numbering frame.gutter (s.line_start + k)) ≤ c → c < frame.code → is_ascii_alphanumeric (slice_index_or row c SPACE).ch ≡ false
   pub bars : HasBarsAlone r.decor_style frame row
+  pub unmarked : (c : ℕ) → c < frame.gutter + 3 → c < frame.code → has_mark_role (slice_index_or row c SPACE) ≡ false
   pub window : IsWindowOf (placeholder_of r.decor_style) (room_of r frame) (wide_spans (room_of r frame) (length (placeholder_of r.decor_style)) s k) (bounds_in r frame s).left (bounds_in r frame s).right (norm (chars_at (cow_str_bytes s.source) k)) dropped (row_text (drop frame.code row))
   pub whole : stands_whole (room_of r frame) (length (placeholder_of r.decor_style)) s.fold (cow_str_bytes s.source) s.markers.items k ≡ true → (dropped ≡ 0) × (row_text (drop frame.code row) ≡ norm (chars_at (cow_str_bytes s.source) k))
 

@@ -1,11 +1,12 @@
 -- The rows of lines, one after another.
-use Rattle.std.proofs.Common.{◌≡◌, ◌≢◌, ℕ, ◌+◌, ◌<◌, ◌≤◌, ◌^◌, ◌==◌, ◌&&◌, true, false, Bool, None, List, [], ◌∷◌, ◌++◌, length, map, get_or, refl, sym, ap, ◌∙◌, subst, arith, inl, inr, All, chars, drop}
-use Rattle.std.specs.Prelude.{filter, not}
-use Rattle.std.specs.List.{slice_index_or}
+use Rattle.std.proofs.Common.{◌≡◌, ◌≢◌, ℕ, ◌+◌, ◌-◌, ◌<◌, ◌≤◌, ◌^◌, ◌==◌, ◌&&◌, true, false, Bool, None, List, [], ◌∷◌, ◌++◌, length, map, max, get_or, refl, sym, ap, ◌∙◌, subst, arith, inl, inr, All, chars, drop}
+use Rattle.std.specs.Prelude.{filter, not, nat_le, nat_lt}
+use Rattle.std.specs.List.{slice_index_or, list_any}
 use Rattle.std.specs.Char.{is_ascii_alphanumeric}
-use Rattle.std.proofs.lemmas.Bool.{cases_eq, cases_lt, false≢true}
+use Rattle.std.proofs.lemmas.Bool.{cases_eq, cases_lt, false≢true, and_left, and_right, lt-leb}
 use Rattle.std.proofs.lemmas.Bool.Decides.{nat_tests}
 use Rattle.std.proofs.lemmas.List.{append_assoc, append-nil, drop_all, drop_more, get_or_past, length_push, length-drop, get_or_push, get_or_append_left, get_or-map, length-map, ext_get_or}
+use Rattle.std.proofs.lemmas.List.Folds.{list_any_none}
 use Rattle.std.proofs.lemmas.List.Elements.{All-get_or, All-from_get_or, All-append, All-cons, All-nil, All-same}
 use Rattle.snippet_lines.specs.declared.number.LineNumbers.{LineNumbers}
 use Rattle.snippet_view.specs.declared.entries.AnnotatedLineInfo.{AnnotatedLineInfo}
@@ -23,6 +24,7 @@ use Rattle.snippet_view.specs.Margin.{bounds_of}
 use Rattle.snippet_view.specs.Window.{dropped_part}
 use Rattle.snippet_style.specs.Glyphs.{separator_of}
 use Rattle.snippet_text.specs.Width.{width_of}
+use Rattle.snippet_model.specs.AnnotationKind.{is_primary}
 use Rattle.snippet_view.specs.Measures.{StandsClear, is_bar}
 use Rattle.snippet_strokes.specs.Entries.{are_plain, is_end_part, shifted}
 use Rattle.snippet_strokes.specs.Rails.{AddsGap, DrawsBars}
@@ -31,7 +33,7 @@ use Rattle.snippet_strokes.proofs.CellLemmas.{row_text-window_cells}
 use Rattle.snippet_strokes.proofs.WholeLemmas.{window_cells-whole}
 use Rattle.snippet_lines.specs.Number.{shown_number}
 use Rattle.snippet_model.specs.Rows.{HasNoNumber, IsFree}
-use Rattle.snippet_strokes.specs.Rows.{window_cells, IsSourceRow, IsStrokeRow, HasNoBars, IsHighlighted, AddsSourceRow, AddsStrokes}
+use Rattle.snippet_strokes.specs.Rows.{window_cells, IsSourceRow, IsStrokeRow, HasNoBars, IsHighlighted, highlights, holds_character, role_in_source, AddsSourceRow, AddsStrokes}
 use Rattle.snippet_strokes.proofs.RowLemmas.{bare_row_left}
 use Rattle.snippet_strokes.specs.Snippet.{ShowsLine, AreLinesShown, AddsLine, AddsSnippet, IsGap}
 
@@ -79,6 +81,29 @@ highlighted_text code dropped es plain row is =
     let here : k < length row = omega (arith, within, length-map row f) in
     let there : k < length plain = omega (arith, here, is.width) in
     get_or-map f row k SPACE 32 here ∙ ap f (is.cells k there) ∙ sym (get_or-map f plain k SPACE 32 there))
+
+-- nothing is highlighted left of the code
+unasked_left : (code dropped c : ℕ) → c < code → (e : LineAnnotation) → highlights code dropped c e ≡ false
+unasked_left code dropped c left e =
+    let first = max code (code + e.start.char - dropped) in
+    let out : nat_le first c ≡ false = lt-leb first c (omega (arith, left)) in
+    and_right e.highlight_source (holds_character code dropped c e) (and_left (nat_le first c) (nat_lt c (code + e.end.char - dropped)) out)
+
+role_left : (code dropped c : ℕ) → c < code → (es : List LineAnnotation) (role : ElementStyle) → role_in_source code dropped es c role ≡ role
+role_left code dropped c left es role =
+    let unasked = unasked_left code dropped c left in
+    let primary : list_any (λ e. is_primary e.kind && highlights code dropped c e) es ≡ false = list_any_none _ es (λ k d within. and_right (is_primary (get_or es k d).kind) (highlights code dropped c (get_or es k d)) (unasked (get_or es k d))) in
+    let any : list_any (highlights code dropped c) es ≡ false = list_any_none _ es (λ k d within. unasked (get_or es k d)) in
+    rw (primary, any)
+
+pub highlighted_left : (code dropped : ℕ) (es : List LineAnnotation) (plain row : List Cell) → IsHighlighted code dropped es plain row → (c : ℕ) → c < code → slice_index_or row c SPACE ≡ slice_index_or plain c SPACE
+highlighted_left code dropped es plain row is c left =
+    elim (cases_lt c (length plain)) [
+      | inl inside ↦
+          let cell = slice_index_or plain c SPACE in
+          is.cells c inside ∙ ap (λ (role : ElementStyle). record cell { role = role }) (role_left code dropped c left es cell.role)
+      | inr past ↦ get_or_past row c SPACE (omega (arith, past, is.width)) ∙ sym (get_or_past plain c SPACE past)
+    ]
 
 -- a cell in the role of line numbers is no space
 not_space : (role : ElementStyle) → gives_way role ≡ false → (ch : ℕ) → unlinked_cell role ch ≡ SPACE → ⊥

@@ -1,5 +1,5 @@
 -- The rows of a line that is shown: its source row, and the rows of its strokes below it.
-use Rattle.std.specs.Prelude.{◌≡◌, ℕ, ◌≢◌, ◌+◌, ◌-◌, ◌<◌, ◌≤◌, ◌==◌, ◌&&◌, nat_le, nat_lt, Bool, true, false, Option, None, Some, List, [], ◌∷◌, ◌++◌, All, length, take, drop, replicate, if◌then◌else◌}
+use Rattle.std.specs.Prelude.{◌≡◌, ℕ, ◌≢◌, ◌+◌, ◌-◌, ◌<◌, ◌≤◌, ◌==◌, ◌&&◌, nat_le, nat_lt, Bool, true, false, Option, None, Some, List, [], ◌∷◌, ◌++◌, All, length, max, take, drop, replicate, if◌then◌else◌}
 use Rattle.std.specs.List.{slice_index_or, list_any}
 use Rattle.snippet_model.specs.declared.snippet.AnnotationKind.{AnnotationKind}
 use Rattle.snippet_view.specs.declared.entries.LineAnnotation.{LineAnnotation}
@@ -155,10 +155,14 @@ pub record IsElisionRow (layout : Layout) (row : List Cell) : Type 0 where
   pub ends : length row ≤ layout.code
   pub free : IsFree row
 
+-- whether the cell is that of one of an entry's characters, where so many columns are dropped. No cell left of the code is
+abbrev pub holds_character : ℕ → ℕ → ℕ → LineAnnotation → Bool
+holds_character code dropped c e =
+    nat_le (max code (code + e.start.char - dropped)) c && nat_lt c (code + e.end.char - dropped)
+
 -- whether an entry asks to highlight the character at this cell, where so many columns are dropped
 abbrev pub highlights : ℕ → ℕ → ℕ → LineAnnotation → Bool
-highlights code dropped c e =
-    e.highlight_source && nat_le (code + e.start.char - dropped) c && nat_lt c (code + e.end.char - dropped)
+highlights code dropped c e = e.highlight_source && holds_character code dropped c e
 
 -- the role of a cell of a source row, one which has this role, with what entries highlight: that of primary marks where a
 -- primary entry asks for it, else that of marks for context where an entry asks and the cell's role gives way
@@ -174,8 +178,8 @@ pub record IsHighlighted (code dropped : ℕ) (es : List LineAnnotation) (plain 
 -- the characters of a row that one entry asks to highlight have the role of its marks, where it is primary or their own
 -- gives way, and nothing else changed
 pub record Restyled (code dropped : ℕ) (e : LineAnnotation) (row : ℕ) (old new : List (List Cell)) : Type 0 where
-  pub asked : (c : ℕ) → c < length (row_at old row) → nat_le (code + e.start.char - dropped) c && nat_lt c (code + e.end.char - dropped) ≡ true → cell_at new row c ≡ restyled (underline_role (is_primary e.kind)) (is_primary e.kind) (cell_at old row c)
-  pub unasked : (c : ℕ) → nat_le (code + e.start.char - dropped) c && nat_lt c (code + e.end.char - dropped) ≡ false → cell_at new row c ≡ cell_at old row c
+  pub asked : (c : ℕ) → c < length (row_at old row) → holds_character code dropped c e ≡ true → cell_at new row c ≡ restyled (underline_role (is_primary e.kind)) (is_primary e.kind) (cell_at old row c)
+  pub unasked : (c : ℕ) → holds_character code dropped c e ≡ false → cell_at new row c ≡ cell_at old row c
   pub others : (r : ℕ) → r ≢ row → row_at new r ≡ row_at old r
   pub width : length (row_at new row) ≡ length (row_at old row)
   pub count : length new ≡ length old

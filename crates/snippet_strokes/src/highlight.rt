@@ -49,7 +49,8 @@ fn is_end_part(part: LineAnnotationType) -> bool
     )
 }
 
-/// Gives the characters of an entry the role of its mark.
+/// Gives the characters of an entry the role of its mark. Characters and columns differ after wide ones, so that some of
+/// them may count as left of the code: there nothing is coloured.
 fn highlight_entry(
     buffer: &mut StyledBuffer,
     layout: Layout,
@@ -68,7 +69,8 @@ fn highlight_entry(
         layout
             .code
             .saturating_add(entry.start.char)
-            .saturating_sub(dropped),
+            .saturating_sub(dropped)
+            .max(layout.code),
         layout
             .code
             .saturating_add(entry.end.char)
