@@ -6,8 +6,9 @@ use Rattle.std.proofs.lemmas.Bool.{false≢true}
 use Rattle.std.proofs.lemmas.List.Elements.{All-head}
 use Rattle.replay_run.specs.declared.command.Command.{Command}
 use Rattle.replay_run.specs.declared.command.Command.TheVariants.{Answer, Check, Repeat}
+use Rattle.replay_run.specs.declared.lines.Form.{Form}
 use Rattle.replay_run.specs.declared.lines.Form.TheVariants.{Json, Texts}
-use Rattle.replay_run.specs.Words.{Word, words_at, IsOption, AreFiles, ArePairs, IsNumber, Asks, IfComparison}
+use Rattle.replay_run.specs.Words.{Word, words_at, IsOption, AreFiles, ArePairs, IsNumber, Asks, AsksAnswers, IfAnswers, IfComparison}
 
 -- lists that begin with two words that a test tells apart
 apart : (a b : Word) (xs ys : List Word) → bytes_eq a b ≡ false → bytes_eq b b ≡ true → a ∷ xs ≡ b ∷ ys → ⊥
@@ -58,3 +59,32 @@ files_compared ws (Check files) P h known =
     subst P (sym (ap length rest ∙ length-map files.now (λ (w : Bor Word). w.now))) known
 files_compared ws (Repeat times files) P h known =
     absurd (apart (codes "--check") (codes "--repeat") ws (h.0 ∷ words_at files.now) refl refl h.1)
+
+-- as many files as words for them
+as_many : (words : List Word) (refs : List (Bor Word)) → words ≡ words_at refs → length refs ≡ length words
+as_many words refs same = sym (ap length same ∙ length-map refs (λ (w : Bor Word). w.now))
+
+-- no word for a file begins the words of another command
+no_option : (ws rest : List Word) (name : Word) → ws ≡ (codes "--" ++ name) ∷ rest → AreFiles ws → ⊥
+no_option ws rest name is files = no_file name rest (subst AreFiles is files)
+
+-- what is known of the form of the answers and of the number of the files, by the words
+pub files_answered : (ws : List Word) (c : Command) (P : Form → ℕ → Type 0) (form : Form) (files : List Word) → Asks ws c → AsksAnswers ws form files → IfAnswers c P → P form (length files)
+files_answered ws (Answer Json refs) P Json files h asks known =
+    subst (P Json) (as_many files refs.now (sym asks.0 ∙ h.0)) known
+files_answered ws (Answer Texts refs) P Texts files h asks known =
+    let both : codes "--text" ∷ files ≡ codes "--text" ∷ words_at refs.now = sym asks.0 ∙ h.0 in
+    let rest : files ≡ words_at refs.now = cc both in
+    subst (P Texts) (as_many files refs.now rest) known
+files_answered ws (Answer Json refs) P Texts files h asks known =
+    absurd (no_option ws files (codes "text") asks.0 h.1)
+files_answered ws (Answer Texts refs) P Json files h asks known =
+    absurd (no_option ws (words_at refs.now) (codes "text") h.0 asks.1)
+files_answered ws (Check refs) P Json files h asks known =
+    absurd (no_option ws (words_at refs.now) (codes "check") h.0 asks.1)
+files_answered ws (Check refs) P Texts files h asks known =
+    absurd (apart (codes "--text") (codes "--check") files (words_at refs.now) refl refl (sym asks.0 ∙ h.0))
+files_answered ws (Repeat times refs) P Json files h asks known =
+    absurd (no_option ws (h.0 ∷ words_at refs.now) (codes "repeat") h.1 asks.1)
+files_answered ws (Repeat times refs) P Texts files h asks known =
+    absurd (apart (codes "--text") (codes "--repeat") files (h.0 ∷ words_at refs.now) refl refl (sym asks.0 ∙ h.1))

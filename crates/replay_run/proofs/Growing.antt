@@ -1,6 +1,5 @@
 -- A writer that grows twice has grown.
 use Rattle.std.proofs.Common.{ℕ, List, [], ◌++◌, Option, Some, None, ap, sym, ◌∙◌, append_assoc}
-use Rattle.std.specs.Prelude.{IsOkAnd, Result, Ok, Err}
 use Rattle.std.specs.Io.KnownBytes.{Appends, Keeps}
 use Rattle.std.proofs.lemmas.List.{append-nil}
 use Rattle.replay_run.specs.Growth.{Grows}
@@ -11,12 +10,6 @@ grows_twice (Some x) None c first then = absurd first.1
 grows_twice (Some x) (Some y) None first then = absurd then.1
 grows_twice (Some x) (Some y) (Some z) first then =
     (first.0 ++ then.0, then.1 ∙ ap (λ (l : List ℕ). l ++ then.0) first.1 ∙ append_assoc x first.0 then.0)
-
--- one that keeps what it holds has grown by nothing
-pub grows_kept : (a b : Option (List ℕ)) → Keeps a b → Grows a b
-grows_kept None b kept = ([], tt)
-grows_kept (Some x) None kept = absurd kept
-grows_kept (Some x) (Some y) kept = ([], kept ∙ sym (append-nil x))
 
 -- a text that is added makes it grow
 pub grows_appended : (a b : Option (List ℕ)) (text : List ℕ) → Appends a b text → Grows a b
@@ -39,8 +32,3 @@ appends_kept None b c text one kept = tt
 appends_kept (Some x) None c text one kept = absurd one
 appends_kept (Some x) (Some y) None text one kept = absurd kept
 appends_kept (Some x) (Some y) (Some z) text one kept = kept ∙ one
-
--- so does a text that is added for a line
-pub grows_ok : {T E : Type 0} (r : Result T E) (P : T → List ℕ → Type 0) (a b : Option (List ℕ)) → IsOkAnd r (λ line. (text : List ℕ) × P line text × Appends a b text) → Grows a b
-grows_ok (Ok line) P a b h = (h.0, h.2)
-grows_ok (Err e) P a b h = absurd h

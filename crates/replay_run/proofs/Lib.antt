@@ -1,3 +1,5 @@
+pub mod AnsweredLines
+pub mod AnsweredReaders
 pub mod Answering
 pub mod Commands
 pub mod Ending

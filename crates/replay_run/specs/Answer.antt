@@ -1,5 +1,6 @@
 -- The answer to a case, as it is written.
-use Rattle.std.specs.Prelude.{◌≡◌, ℕ, Bool, List, [], ◌∷◌, ◌++◌, codes, map, if◌then◌else◌, string_bytes}
+use Rattle.std.specs.Prelude.{◌≡◌, ℕ, ◌<◌, Bool, false, List, [], ◌∷◌, ◌++◌, codes, length, map, if◌then◌else◌, string_bytes}
+use Rattle.std.specs.Io.BufRead.{first_line, drop_through}
 use Rattle.std.specs.List.{flat_map}
 use Rattle.serde_json.specs.Data.{Data, string, array, object, Items, no_items, item, member, no_members}
 use Rattle.serde_json.specs.Written.{compact_text}
@@ -42,3 +43,22 @@ pub record AnswersLine (form : Form) (is_first : Bool) (line text : List ℕ) : 
   pub outcome : Outcome
   pub became : Becomes line case outcome
   pub text_is : text ≡ answer_text form is_first case.id.now outcome
+
+-- the lines of a text, in order, each without its end (a line feed, or a carriage return and a line feed)
+abbrev pub AreLines : List ℕ → List (List ℕ) → Type 0
+AreLines text [] = text ≡ []
+AreLines text (line ∷ lines) =
+    (0 < length text) × (line ≡ first_line text) × AreLines (drop_through 10 text) lines
+
+-- texts answer lines, one each, in order; is_first tells whether nothing was written before the first of them
+abbrev pub AnswersLines : Form → Bool → List (List ℕ) → List (List ℕ) → Type 0
+AnswersLines form is_first [] [] = Unit {0}
+AnswersLines form is_first [] (text ∷ texts) = ⊥
+AnswersLines form is_first (line ∷ lines) [] = ⊥
+AnswersLines form is_first (line ∷ lines) (text ∷ texts) =
+    AnswersLine form is_first line text × AnswersLines form false lines texts
+
+-- whether still nothing is written once lines are answered, where is_first tells whether nothing was before
+abbrev pub first_after : Bool → List (List ℕ) → Bool
+first_after is_first [] = is_first
+first_after is_first (line ∷ lines) = false

@@ -1,4 +1,5 @@
 pub mod Answer
+pub mod Answered
 pub mod Compared
 pub mod Expected
 pub mod Field

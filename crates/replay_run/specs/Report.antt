@@ -1,5 +1,5 @@
 -- The case that a value of JSON describes: what each part of it is, by the fields of the value.
-use Rattle.std.specs.Prelude.{◌≡◌, ℕ, Bool, true, false, not, List, [], ◌∷◌, Option, Some, None, codes, is_some, if◌then◌else◌, option_and_then, option_map, unwrap_or, MatchOption}
+use Rattle.std.specs.Prelude.{◌≡◌, ℕ, Bool, true, false, not, List, Option, Some, None, codes, is_some, if◌then◌else◌, option_and_then, option_map, unwrap_or}
 use Rattle.std.specs.Cow.{cow_str_bytes}
 use Rattle.annotate_snippets.specs.Settings.{plain_settings}
 use Rattle.annotate_snippets.specs.declared.level.LevelName.{LevelName}
@@ -10,8 +10,6 @@ use Rattle.annotate_snippets.specs.declared.renderer.DecorStyle.TheVariants.{Asc
 use Rattle.annotate_snippets.specs.declared.renderer.Renderer.{Renderer}
 use Rattle.annotate_snippets.specs.declared.renderer.parts.LevelInner.{LevelInner}
 use Rattle.annotate_snippets.specs.declared.snippet.Annotation.{Annotation}
-use Rattle.annotate_snippets.specs.declared.snippet.AnnotationKind.{AnnotationKind}
-use Rattle.annotate_snippets.specs.declared.snippet.AnnotationKind.TheVariants.{Primary, Context, Visible}
 use Rattle.annotate_snippets.specs.declared.snippet.Element.{Element}
 use Rattle.annotate_snippets.specs.declared.snippet.Element.TheVariants as element
 use Rattle.annotate_snippets.specs.declared.snippet.Group.{Group}
@@ -21,7 +19,7 @@ use Rattle.annotate_snippets.specs.declared.snippet.Patch.{Patch}
 use Rattle.annotate_snippets.specs.declared.snippet.Snippet.{Snippet}
 use Rattle.annotate_snippets.specs.declared.snippet.Title.{Title}
 use Rattle.serde_json.specs.Data.{Data}
-use Rattle.serde_json.specs.Find.{as_null, as_object, as_str, get}
+use Rattle.serde_json.specs.Find.{as_null, as_str, get}
 use Rattle.replay_run.specs.Field.{SaysAt, OrNull, ListSays, flag_at, number_at, text_at}
 use Rattle.replay_run.specs.Kinds.{kind_name, mark_name}
 use Rattle.replay_run.specs.Sheet.{AreSheetsOf}

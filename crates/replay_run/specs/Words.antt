@@ -4,6 +4,7 @@ use Rattle.std.specs.Borrow.{Bor}
 use Rattle.std.specs.Str.Parse.{IsNumeral, digits_value}
 use Rattle.replay_run.specs.declared.command.Command.{Command}
 use Rattle.replay_run.specs.declared.command.Command.TheVariants.{Answer, Check, Repeat}
+use Rattle.replay_run.specs.declared.lines.Form.{Form}
 use Rattle.replay_run.specs.declared.lines.Form.TheVariants.{Json, Texts}
 
 -- a word, by its bytes
@@ -30,11 +31,14 @@ IsNumber word = IsNumeral 10 word × (digits_value 10 word < 2 ^ 64)
 abbrev pub ArePairs : List Word → Type 0
 ArePairs words = (0 < length words) × (length words % 2 ≡ 0)
 
+-- the words ask for answers in this form to the cases of these files
+abbrev pub AsksAnswers : List Word → Form → List Word → Type 0
+AsksAnswers words Json files = (words ≡ files) × AreFiles words
+AsksAnswers words Texts files = (words ≡ codes "--text" ∷ files) × AreFiles files
+
 -- the words ask for this command
 abbrev pub Asks : List Word → Command → Type 0
-Asks words (Answer Json files) = (words ≡ words_at files.now) × AreFiles words
-Asks words (Answer Texts files) =
-    (words ≡ codes "--text" ∷ words_at files.now) × AreFiles (words_at files.now)
+Asks words (Answer form files) = AsksAnswers words form (words_at files.now)
 Asks words (Check files) =
     (words ≡ codes "--check" ∷ words_at files.now) × AreFiles (words_at files.now) × ArePairs (words_at files.now)
 Asks words (Repeat times files) =
@@ -55,6 +59,12 @@ abbrev pub IfComparison : Command → (ℕ → Type 0) → Type 0
 IfComparison (Answer form files) P = Unit {0}
 IfComparison (Check files) P = P (length files.now)
 IfComparison (Repeat times files) P = Unit {0}
+
+-- P holds of the form of the answers and of the number of the files whose cases the command answers, if it does
+abbrev pub IfAnswers : Command → (Form → ℕ → Type 0) → Type 0
+IfAnswers (Answer form files) P = P form (length files.now)
+IfAnswers (Check files) P = Unit {0}
+IfAnswers (Repeat times files) P = Unit {0}
 
 -- the words ask for a comparison
 abbrev pub Compares : List Word → Type 0

@@ -8,7 +8,7 @@ ghost use Rattle.serde_json.specs.View.{view};
 ghost use Rattle.serde_json.specs.Written.{compact_text};
 ghost use Rattle.replay_run.specs.Answer as spec;
 ghost use Rattle.replay_run.specs.Answer.{AnswersLine, answer_text, line_of, outcome_text};
-ghost use Rattle.replay_run.specs.Growth.{Grows};
+ghost use Rattle.replay_run.specs.Answered.{AnswersReader};
 ghost use Rattle.replay_run.specs.Outcome.{IsOutcomeOf};
 ghost use Rattle.replay_run.specs.Report.{IsCaseOf};
 ghost use Rattle.replay_run.specs.declared.outcome.Outcome.{Outcome};
@@ -40,7 +40,8 @@ pub fn answer_lines<B: BufRead + Drop, W: Write>(
     is_first: &mut bool,
     out: &mut W,
 ) -> Result<(), Trouble>
-    ensures added { OnOk result (Grows (W.contents out.old) (W.contents out.new)) }
+    ensures answers { OnOk result (AnswersReader form is_first.old is_first.new (B.remaining input)
+        (W.contents out.old) (W.contents out.new)) }
 {
     let mut number = 0u64;
     for line in input.lines(alloc) {

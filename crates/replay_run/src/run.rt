@@ -1,13 +1,15 @@
 //! A run of the program: what its words ask for is done, and the status tells how it went.
 
-ghost use Rattle.std.specs.Prelude.{◌≡◌, ◌≤◌, List, ◌∷◌, codes, length, IfOk, OnOk};
+ghost use Rattle.std.specs.Prelude.{◌≡◌, ◌<◌, ◌≤◌, List, [], ◌∷◌, codes, length, IfOk, OnOk};
 ghost use Rattle.std.specs.Io.Buffered.{reader_inner, reader_remaining};
 ghost use Rattle.std.specs.Io.KnownBytes.{Appends};
+ghost use Rattle.replay_run.specs.Answered.{AnswersReader, AnswersReaders};
 ghost use Rattle.replay_run.specs.Compared.{EndsComparison, count_line};
 ghost use Rattle.replay_run.specs.Growth.{Grows};
 ghost use Rattle.replay_run.specs.Judged.{CountsLines};
-ghost use Rattle.replay_run.specs.Words.{Word, words_at, IsCommandLine, IsComparison, IfComparison, Compares};
+ghost use Rattle.replay_run.specs.Words.{Word, words_at, AsksAnswers, IsCommandLine, IsComparison, IfAnswers, IfComparison, Compares};
 ghost use Rattle.replay_run.specs.declared.command.Command.{Command};
+ghost use Rattle.replay_run.specs.declared.lines.Form.{Form};
 
 use crate::check::{Counts, check_lines};
 use crate::command::{Command, command_of};
@@ -70,6 +72,11 @@ pub fn run<R: Files + Input + Clock + AllocGlobal, W: Write, V: Write>(
     ensures differs { result ≡ 1 → Compares (words_at words.now) }
     ensures compares { result ≤ 1 → (files : List Word) → words_at words.now ≡ codes "--check" ∷ files
         → EndsComparison R.File R.File.remaining (length files) (W.contents out.old) (W.contents out.new) result }
+    ensures answers { result ≡ 0 → (form : Form) → (files : List Word) → AsksAnswers (words_at words.now) form files
+        → 0 < length files
+        → AnswersReaders R.File R.File.remaining form (length files) (W.contents out.old) (W.contents out.new) }
+    ensures answers_input { result ≡ 0 → (form : Form) → AsksAnswers (words_at words.now) form []
+        → AnswersReaders R.Reader R.Reader.remaining form 1 (W.contents out.old) (W.contents out.new) }
 {
     let Some(command) = command_of(words) else {
         let _ = err.writeln(USAGE);
@@ -120,6 +127,10 @@ fn do_command<'a, R: Files + Input + Clock + AllocGlobal, W: Write>(
     ensures differs { IfOk result (λ status. status ≡ 1 → IsComparison command.now) }
     ensures compares { IfOk result (λ status. IfComparison command.now (λ files.
         EndsComparison R.File R.File.remaining files (W.contents out.old) (W.contents out.new) status)) }
+    ensures answers { OnOk result (IfAnswers command.now (λ form files. 0 < files
+        → AnswersReaders R.File R.File.remaining form files (W.contents out.old) (W.contents out.new))) }
+    ensures answers_input { OnOk result (IfAnswers command.now (λ form files. files ≡ 0
+        → AnswersReaders R.Reader R.Reader.remaining form 1 (W.contents out.old) (W.contents out.new))) }
 {
     match *command {
         Command::Answer(form, files) => answer(rt, form, files, out),
@@ -139,15 +150,34 @@ fn answer<'a, R: Files + Input + AllocGlobal, W: Write>(
     out: &mut W,
 ) -> Result<u8, Stop<'a>>
     ensures status { IfOk result (λ status. status ≡ 0) }
+    ensures answers { OnOk result (0 < length files.now
+        → AnswersReaders R.File R.File.remaining form (length files.now) (W.contents out.old) (W.contents out.new)) }
+    ensures answers_input { OnOk result (length files.now ≡ 0
+        → AnswersReaders R.Reader R.Reader.remaining form 1 (W.contents out.old) (W.contents out.new)) }
+{
+    if files.is_empty() {
+        or_stop(INPUT, answer_input(rt, form, out))?;
+    } else {
+        answer_files(rt, form, files, out)?;
+    }
+    Ok(DONE)
+}
+
+/// Answers the cases of each file, one file after another.
+fn answer_files<'a, R: Files + AllocGlobal, W: Write>(
+    rt: &R,
+    form: Form,
+    files: &[&'a str],
+    out: &mut W,
+) -> Result<(), Stop<'a>>
+    ensures answers { OnOk result
+        (AnswersReaders R.File R.File.remaining form (length files.now) (W.contents out.old) (W.contents out.new)) }
 {
     let mut is_first = true;
-    if files.is_empty() {
-        or_stop(INPUT, answer_input(rt, form, &mut is_first, out))?;
-    }
     for file in files {
         or_stop(file, answer_file(rt, form, file, &mut is_first, out))?;
     }
-    Ok(DONE)
+    Ok(())
 }
 
 /// The bytes of a file.
@@ -159,15 +189,26 @@ fn opened<R: Files + AllocGlobal>(rt: &R, file: &str) -> Result<BufReader<R::Fil
     BufReader::new(rt.alloc(), input).map_err(Trouble::Read)
 }
 
+/// The bytes of standard input.
+fn opened_input<R: Input + AllocGlobal>(rt: &R) -> Result<BufReader<R::Reader>, Trouble>
+    ensures bytes { IfOk result (λ reader.
+        reader_remaining R.Reader.remaining reader ≡ R.Reader.remaining (reader_inner reader)) }
+{
+    BufReader::new(rt.alloc(), rt.reader()).map_err(Trouble::Read)
+}
+
 /// Answers the cases of standard input.
 fn answer_input<R: Input + AllocGlobal, W: Write>(
     rt: &R,
     form: Form,
-    is_first: &mut bool,
     out: &mut W,
-) -> Result<(), Trouble> {
-    let input = BufReader::new(rt.alloc(), rt.reader()).map_err(Trouble::Read)?;
-    answer_lines(rt.alloc(), input, form, is_first, out)
+) -> Result<(), Trouble>
+    ensures answers { OnOk result
+        (AnswersReaders R.Reader R.Reader.remaining form 1 (W.contents out.old) (W.contents out.new)) }
+{
+    let input = opened_input(rt)?;
+    let mut is_first = true;
+    answer_lines(rt.alloc(), input, form, &mut is_first, out)
 }
 
 /// Answers the cases of one file.
@@ -177,7 +218,10 @@ fn answer_file<R: Files + AllocGlobal, W: Write>(
     file: &str,
     is_first: &mut bool,
     out: &mut W,
-) -> Result<(), Trouble> {
+) -> Result<(), Trouble>
+    ensures answers { OnOk result ((input : R.File) × AnswersReader form is_first.old is_first.new (R.File.remaining input)
+        (W.contents out.old) (W.contents out.new)) }
+{
     let input = opened(rt, file)?;
     answer_lines(rt.alloc(), input, form, is_first, out)
 }
@@ -264,7 +308,7 @@ fn repeat_input<R: Input + Clock + AllocGlobal>(
     times: u64,
     tally: &mut Tally,
 ) -> Result<(), Trouble> {
-    let input = BufReader::new(rt.alloc(), rt.reader()).map_err(Trouble::Read)?;
+    let input = opened_input(rt)?;
     repeat_lines(rt, rt.alloc(), input, times, tally)
 }
 

@@ -1,4 +1,4 @@
-use Rattle.std.proofs.Common.{arith, refl, ◌∙◌, []}
+use Rattle.std.proofs.Common.{refl, ◌∙◌, []}
 use Rattle.replay_run.proofs.Growing.{appends_none, grows_appended, grows_twice}
 use Rattle.replay_run.proofs.Judging.{ended, judged_all, judged_none, judged_step, passes_counted, passes_if_none}
 use Rattle.replay_run.proofs.check.check_lines.Goals as goal

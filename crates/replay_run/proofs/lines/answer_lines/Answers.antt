@@ -1,6 +1,15 @@
-use Rattle.replay_run.proofs.Growing.{grows_kept, grows_ok, grows_twice}
+use Rattle.std.proofs.Common.{ap, ◌∙◌}
+use Rattle.std.specs.Io.Iter.{lines_known_bytes}
+use Rattle.replay_run.proofs.AnsweredLines.{answered_all, answered_none, answered_step}
 use Rattle.replay_run.proofs.lines.answer_lines.Goals as goal
+
+pub loop-line-init : goal.loop-line-init
+loop-line-init g c = 
+    answered_none c.args.form _ _ _ _ (ap (lines_known_bytes g.B.Read.remaining) c.into_iter-line-iterator.ensures.into_iter_gives ∙ c.lines-line-items.ensures)
 
 pub loop-line-preserved : goal.loop-line-preserved
 loop-line-preserved g c =
-    grows_twice _ _ _ (grows_twice _ _ _ c.loop-line.invariant (grows_ok _ _ _ _ c.in_ok-answer_line.ensures.answers)) (grows_kept _ _ c.flush.ensures.bytes)
+    answered_step _ _ _ _ _ _ _ _ _ _ _ c.in-Some.line c.loop-line.invariant c.in-Some.is c.next.ensures.steps.1 c.in_ok-answer_line.ensures.answers c.flush.ensures.bytes
+
+pub returns : goal.returns
+returns g c = record { answers = answered_all _ _ _ _ _ _ _ _ _ c.loop-line.invariant c.in-None.is c.next.ensures.steps.1 }

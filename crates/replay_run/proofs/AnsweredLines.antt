@@ -1,0 +1,113 @@
+-- The lines answered so far, and what is left to read.
+use Rattle.std.proofs.Common.{◌≡◌, ℕ, Bool, false, List, [], ◌∷◌, ◌++◌, Option, Some, None, refl, sym, subst, append_assoc}
+use Rattle.std.specs.Prelude.{IfSome, IsOkAnd, Result, Ok, Err, String, string_bytes}
+use Rattle.std.specs.Io.BufRead.{first_line, drop_through}
+use Rattle.std.specs.Io.Iter.{YieldsKnownPiece}
+use Rattle.std.specs.Io.KnownBytes.{Appends, IsAtEnd, Keeps}
+use Rattle.std.specs.List.{concat}
+use Rattle.std.specs.declared.alloc.Global.{Global}
+use Rattle.std.proofs.lemmas.List.{append-nil}
+use Rattle.std.proofs.lemmas.List.Folds.{concat-append}
+use Rattle.replay_run.specs.Answer.{AnswersLine, AnswersLines, AreLines, first_after}
+use Rattle.replay_run.specs.Answered.{AnswersReader, AreRead}
+use Rattle.replay_run.specs.declared.lines.Form.{Form}
+use Rattle.replay_run.proofs.Growing.{appends_kept, appends_none, appends_twice}
+use Rattle.replay_run.proofs.Judging.{GivesLine, ended}
+
+-- the first text, and those after it
+not_first : (lines : List (List ℕ)) → first_after false lines ≡ false
+not_first [] = refl
+not_first (line ∷ lines) = refl
+
+pub first_twice : (is_first : Bool) (before lines : List (List ℕ)) → first_after is_first (before ++ lines) ≡ first_after (first_after is_first before) lines
+first_twice is_first [] lines = refl
+first_twice is_first (line ∷ before) lines = sym (not_first lines)
+
+-- lines and then more lines are answered
+pub answered_twice : (form : Form) (is_first : Bool) (before texts lines more : List (List ℕ)) → AnswersLines form is_first before texts → AnswersLines form (first_after is_first before) lines more → AnswersLines form is_first (before ++ lines) (texts ++ more)
+answered_twice form is_first [] [] lines more one two = two
+answered_twice form is_first [] (text ∷ texts) lines more one two = absurd one
+answered_twice form is_first (line ∷ before) [] lines more one two = absurd one
+answered_twice form is_first (line ∷ before) (text ∷ texts) lines more one two = (
+  one.0,
+  answered_twice form false before texts lines more one.1 (subst (λ f. AnswersLines form f lines more) (sym (not_first before)) two),
+)
+
+-- texts and then more texts are added
+pub written_twice : (a b c : Option (List ℕ)) (texts more : List (List ℕ)) → Appends a b (concat texts) → Appends b c (concat more) → Appends a c (concat (texts ++ more))
+written_twice a b c texts more one two =
+    subst (Appends a c) (sym (concat-append texts more)) (appends_twice a b c (concat texts) (concat more) one two)
+
+-- once these lines were read, this is left of what a reader held
+abbrev pub LeavesAfter : (held left : Option (List ℕ)) (lines : List (List ℕ)) → Type 0
+LeavesAfter held left lines =
+    IfSome held (λ text. (rest : List ℕ) × (left ≡ Some rest) × ((more : List (List ℕ)) → AreLines rest more → AreLines text (lines ++ more)))
+
+left_none : (held left : Option (List ℕ)) → left ≡ held → LeavesAfter held left []
+left_none None left is = tt
+left_none (Some text) left is = (text, is, λ more are. are)
+
+left_more : (held left next : Option (List ℕ)) (lines : List (List ℕ)) (line : List ℕ) → LeavesAfter held left lines → GivesLine left next line → LeavesAfter held next (lines ++ line ∷ [])
+left_more None left next lines line h gives = tt
+left_more (Some text) left next lines line h gives =
+    let from : GivesLine (Some h.0) next line = subst (λ l. GivesLine l next line) h.1 gives in
+    (
+      drop_through 10 h.0,
+      from.1,
+      λ more are. subst (AreLines text) (sym (append_assoc lines (line ∷ []) more)) (h.2 (line ∷ more) (from.0.0, from.0.1, are)),
+    )
+
+left_all : (held left : Option (List ℕ)) (lines : List (List ℕ)) → LeavesAfter held left lines → IsAtEnd left → AreRead held lines
+left_all None left lines h end = tt
+left_all (Some text) left lines h end =
+    let at_end : IsAtEnd (Some h.0) = subst IsAtEnd h.1 end in
+    subst (AreLines text) (append-nil lines) (h.2 [] at_end)
+
+-- the lines so far are answered, and this is left of what a reader held
+pub record HaveAnswered (form : Form) (is_first still_first : Bool) (held left old new : Option (List ℕ)) : Type 0 where
+  pub lines : List (List ℕ)
+  pub leaves : LeavesAfter held left lines
+  pub texts : List (List ℕ)
+  pub answered : AnswersLines form is_first lines texts
+  pub written : Appends old new (concat texts)
+  pub still : still_first ≡ first_after is_first lines
+
+pub answered_none : (form : Form) (is_first : Bool) (held left old : Option (List ℕ)) → left ≡ held → HaveAnswered form is_first is_first held left old old
+answered_none form is_first held left old is =
+    record {
+      lines = [];
+      leaves = left_none held left is;
+      texts = [];
+      answered = tt;
+      written = appends_none old;
+      still = refl;
+    }
+
+answered_more : (form : Form) (is_first still_first : Bool) (held left next old mid out new : Option (List ℕ)) (line text : List ℕ) → HaveAnswered form is_first still_first held left old mid → GivesLine left next line → AnswersLine form still_first line text → Appends mid out text → Keeps out new → HaveAnswered form is_first false held next old new
+answered_more form is_first still_first held left next old mid out new line text h gives answers added kept =
+    let here : AnswersLine form (first_after is_first h.lines) line text = subst (λ f. AnswersLine form f line text) h.still answers in
+    let alone : Appends mid out (concat (text ∷ [])) = subst (Appends mid out) (sym (append-nil text)) added in
+    record {
+      lines = h.lines ++ line ∷ [];
+      leaves = left_more held left next h.lines line h.leaves gives;
+      texts = h.texts ++ text ∷ [];
+      answered = answered_twice form is_first h.lines h.texts (line ∷ []) (text ∷ []) h.answered (here, tt);
+      written = appends_kept old out new (concat (h.texts ++ text ∷ [])) (written_twice old mid out h.texts (text ∷ []) h.written alone) kept;
+      still = sym (first_twice is_first h.lines (line ∷ []));
+    }
+
+pub answered_step : {E : Type 0} (form : Form) (is_first still_first : Bool) (held left next old mid out new : Option (List ℕ)) (r : Option (Result (String Global) E)) (line : Result (String Global) E) → HaveAnswered form is_first still_first held left old mid → r ≡ Some line → YieldsKnownPiece string_bytes first_line 10 left r next → IsOkAnd line (λ x. (text : List ℕ) × AnswersLine form still_first (string_bytes x) text × Appends mid out text) → Keeps out new → HaveAnswered form is_first false held next old new
+answered_step form is_first still_first held left next old mid out new r (Ok x) h is gives answers kept =
+    answered_more form is_first still_first held left next old mid out new (string_bytes x) answers.0 h (subst (λ item. YieldsKnownPiece string_bytes first_line 10 left item next) is gives) answers.1 answers.2 kept
+answered_step form is_first still_first held left next old mid out new r (Err e) h is gives answers kept = absurd answers
+
+pub answered_all : {E : Type 0} (form : Form) (is_first still_first : Bool) (held left next old new : Option (List ℕ)) (r : Option (Result (String Global) E)) → HaveAnswered form is_first still_first held left old new → r ≡ None → YieldsKnownPiece string_bytes first_line 10 left r next → AnswersReader form is_first still_first held old new
+answered_all form is_first still_first held left next old new r h is gives =
+    record {
+      lines = h.lines;
+      read = left_all held left h.lines h.leaves (ended left next r is gives);
+      texts = h.texts;
+      answered = h.answered;
+      written = h.written;
+      still = h.still;
+    }
