@@ -50,8 +50,7 @@ left_none (Some text) left is = (text, is, λ more are. are)
 left_more : (held left next : Option (List ℕ)) (lines : List (List ℕ)) (line : List ℕ) → LeavesAfter held left lines → GivesLine left next line → LeavesAfter held next (lines ++ line ∷ [])
 left_more None left next lines line h gives = tt
 left_more (Some text) left next lines line h gives =
-    let from : GivesLine (Some h.0) next line = subst (λ l. GivesLine l next line) h.1 gives in
-    (
+    let from : GivesLine (Some h.0) next line = subst (λ l. GivesLine l next line) h.1 gives in (
       drop_through 10 h.0,
       from.1,
       λ more are. subst (AreLines text) (sym (append_assoc lines (line ∷ []) more)) (h.2 (line ∷ more) (from.0.0, from.0.1, are)),

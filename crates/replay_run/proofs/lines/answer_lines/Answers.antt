@@ -4,7 +4,7 @@ use Rattle.replay_run.proofs.AnsweredLines.{answered_all, answered_none, answere
 use Rattle.replay_run.proofs.lines.answer_lines.Goals as goal
 
 pub loop-line-init : goal.loop-line-init
-loop-line-init g c = 
+loop-line-init g c =
     answered_none c.args.form _ _ _ _ (ap (lines_known_bytes g.B.Read.remaining) c.into_iter-line-iterator.ensures.into_iter_gives ∙ c.lines-line-items.ensures)
 
 pub loop-line-preserved : goal.loop-line-preserved
