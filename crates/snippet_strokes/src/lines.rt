@@ -5,7 +5,6 @@ ghost use Rattle.snippet_grid.specs.Grid.{WritesCells};
 ghost use Rattle.snippet_style.specs.Cell.{unlinked_cell};
 
 use snippet_grid::StyledBuffer;
-
 use snippet_style::ElementStyle;
 use std::alloc::{AllocError, Global};
 

@@ -5,7 +5,6 @@ ghost use Rattle.snippet_titles.specs.Origin as spec;
 ghost use Rattle.snippet_titles.specs.Origin.{file_glyph, file_row, origin_row, place_text};
 
 use snippet_grid::StyledBuffer;
-
 use snippet_style::{DecorStyle, ElementStyle};
 use snippet_text::normalize_untrusted_str;
 use std::alloc::{AllocError, Global};

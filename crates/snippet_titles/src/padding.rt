@@ -4,7 +4,6 @@ ghost use Rattle.snippet_titles.specs.Origin.{padding_row};
 ghost use Rattle.snippet_style.specs.Separators.{closing_row, separator_row};
 
 use snippet_grid::StyledBuffer;
-
 use snippet_style::{DecorStyle, ElementStyle};
 use std::alloc::AllocError;
 
