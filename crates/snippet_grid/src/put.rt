@@ -110,7 +110,26 @@ fn add_pieces<'a>(
     Ok(())
 }
 
-/// Puts runs in place of those from `start` to before `end`, all at once. What is left in `fresh` means nothing.
+/// Puts one more run than there are in place of those from `start` to before `end`. Those after them move once.
+fn insert_one<'a>(
+    runs: &mut Vec<Run<'a>>,
+    start: usize,
+    end: usize,
+    fresh: &[Run<'a>],
+) -> Result<(), AllocError>
+    requires ordered { start ≤ end }
+    requires within { end ≤ length runs.old.items }
+    requires one_more { length fresh.now ≡ end - start + 1 }
+    ensures ok { OnOk result (runs.new.items ≡ take start runs.old.items ++ fresh.now ++ drop end runs.old.items) }
+    ensures err { OnErr result (runs.new.items ≡ runs.old.items) }
+{
+    let count = end - start;
+    runs.insert(end, fresh[count])?;
+    runs[start..end].copy_from_slice(&fresh[..count]);
+    Ok(())
+}
+
+/// Puts runs in place of those from `start` to before `end`. What is left in `fresh` means nothing.
 pub(crate) fn exchange<'a>(
     runs: &mut Vec<Run<'a>>,
     start: usize,
@@ -122,6 +141,15 @@ pub(crate) fn exchange<'a>(
     ensures ok { OnOk result (runs.new.items ≡ take start runs.old.items ++ fresh.old.items ++ drop end runs.old.items) }
     ensures err { OnErr result (runs.new.items ≡ runs.old.items) }
 {
+    let (old, new) = (end - start, fresh.len());
+    if new == old {
+        runs[start..end].copy_from_slice(fresh);
+        return Ok(());
+    }
+    if new == old + 1 {
+        insert_one(runs, start, end, fresh)?;
+        return Ok(());
+    }
     fresh.extend_from_slice(&runs[end..])?;
     runs.reserve(fresh.len())?;
     runs.truncate(start);
