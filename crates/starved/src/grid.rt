@@ -1,0 +1,108 @@
+//! The grid of cells: a call that is out of memory leaves it as it was, and can be made once more.
+
+use crate::retry::again;
+use crate::subject::{print_subject, print_text};
+use annotate_snippets::renderer::parts::{ElementStyle, LevelInner, StyledBuffer};
+use annotate_snippets::renderer::{AnsiColor, Stylesheet};
+use std::alloc::AllocError;
+use std::io;
+
+/// A call that writes.
+#[derive(Clone, Copy)]
+enum Call {
+    Putc,
+    Puts,
+    Append,
+    Replace,
+    SetStyle,
+    SetStyleRange,
+    Link,
+}
+
+/// The calls, in the order in which they are made of each row.
+const CALLS: [(Call, &str); 7] = [
+    (Call::Putc, "grid: `putc`"),
+    (Call::Puts, "grid: `puts`"),
+    (Call::Append, "grid: `append`"),
+    (Call::Replace, "grid: `replace`"),
+    (Call::SetStyle, "grid: `set_style`"),
+    (Call::SetStyleRange, "grid: `set_style_range`"),
+    (Call::Link, "grid: `link`"),
+];
+
+/// How many rows are written.
+const ROWS: u8 = 3;
+
+/// The text of three such rows: `a`, dots in place of `bc`, `d` and two spaces, and a mark with a linked label.
+const TEXT: &str = "\u{1b}[32ma\u{1b}[0m\u{1b}[34m...\u{1b}[0m\u{1b}[35md  \u{1b}[0m\u{1b}[31m^ \u{1b}]8;;u\u{1b}\\label\u{1b}]8;;\u{1b}\\\u{1b}[0m\n\u{1b}[32ma\u{1b}[0m\u{1b}[34m...\u{1b}[0m\u{1b}[35md  \u{1b}[0m\u{1b}[31m^ \u{1b}]8;;u\u{1b}\\label\u{1b}]8;;\u{1b}\\\u{1b}[0m\n\u{1b}[32ma\u{1b}[0m\u{1b}[34m...\u{1b}[0m\u{1b}[35md  \u{1b}[0m\u{1b}[31m^ \u{1b}]8;;u\u{1b}\\label\u{1b}]8;;\u{1b}\\\u{1b}[0m";
+
+/// A sheet that tells the roles apart.
+fn sheet() -> Stylesheet {
+    Stylesheet {
+        error: AnsiColor::Red.on_default(),
+        line_num: AnsiColor::Blue.on_default(),
+        addition: AnsiColor::Green.on_default(),
+        removal: AnsiColor::Magenta.on_default(),
+        ..Stylesheet::plain()
+    }
+}
+
+/// Makes a call of a row.
+fn make(grid: &mut StyledBuffer<'static>, call: Call, row: u8) -> Result<(), AllocError> {
+    let row = usize::from(row);
+    match call {
+        Call::Putc => grid.putc(row, 6, '^', ElementStyle::UnderlinePrimary),
+        Call::Puts => grid.puts(row, 0, "abcd", ElementStyle::Quotation),
+        Call::Append => grid.append(row, " label", ElementStyle::LabelPrimary),
+        Call::Replace => grid.replace(row, 1, 3, "..."),
+        Call::SetStyle => grid.set_style(row, 0, ElementStyle::Addition, false),
+        Call::SetStyleRange => grid.set_style_range(row, 4, 9, ElementStyle::Removal, false),
+        Call::Link => grid.link(row, 9..14, "u"),
+    }
+}
+
+/// What a grid shows of itself.
+#[derive(Drop)]
+struct State {
+    rows: usize,
+    runs: usize,
+    /// Its characters, with the codes of their roles and links.
+    text: String,
+}
+
+/// What a grid shows.
+fn state_of(grid: &StyledBuffer<'static>) -> Result<State, AllocError> {
+    let text = again!(grid.render(LevelInner::Error, &sheet()))?;
+    Ok(State {
+        rows: grid.num_lines(),
+        runs: grid.num_runs(),
+        text,
+    })
+}
+
+/// Makes a call, once more where it is out of memory, and says whether the grid was then as before.
+fn made(grid: &mut StyledBuffer<'static>, call: Call, row: u8) -> Result<bool, AllocError> {
+    let before = state_of(grid)?;
+    if make(grid, call, row).is_ok() {
+        return Ok(true);
+    }
+    let after = state_of(grid)?;
+    make(grid, call, row)?;
+    Ok(before.rows == after.rows
+        && before.runs == after.runs
+        && before.text.as_str() == after.text.as_str())
+}
+
+/// Makes each call of each row, and prints what came out right.
+pub fn print(rt: &(impl Print + AllocGlobal)) -> io::Result<()> {
+    let mut grid = StyledBuffer::new(rt.alloc());
+    for (call, name) in CALLS {
+        let mut same = true;
+        for row in 0..ROWS {
+            same = made(&mut grid, call, row)? && same;
+        }
+        print_subject(rt, name, same)?;
+    }
+    let text = again!(grid.render(LevelInner::Error, &sheet()))?;
+    print_text(rt, "grid: `render`", text.as_str(), TEXT)
+}

@@ -1,0 +1,75 @@
+//! Reports that are refused by name: that is answered with no memory at all.
+ghost use Rattle.std.specs.Prelude.{◌^◌, ◌<◌, IfOk, length};
+ghost use Rattle.snippet_model.specs.Fits.{GroupFits, ReportFits};
+
+use crate::retry::again;
+use annotate_snippets::level::{ERROR, HELP};
+use annotate_snippets::snippet::Report;
+use annotate_snippets::{AnnotationKind, Element, Group, Patch, Renderer, Snippet};
+use std::alloc::{AllocError, Global};
+use std::io;
+
+/// A source whose bytes from `start` to before `end` are marked, and whose first line has this number.
+fn marked(
+    alloc: Global,
+    source: &'static str,
+    start: usize,
+    end: usize,
+    line_start: usize,
+) -> Result<Group<'static>, AllocError>
+    requires source { length source.now < 2 ^ 56 }
+    ensures fits { IfOk result GroupFits }
+{
+    let snippet = Snippet::source(alloc, source)
+        .line_start(line_start)
+        .annotation(AnnotationKind::Primary.span(start..end))?;
+    ERROR
+        .primary_title("e")
+        .element(alloc, Element::from(snippet))
+}
+
+/// Two patches of the second byte.
+fn overlapping(alloc: Global) -> Result<Group<'static>, AllocError>
+    ensures fits { IfOk result GroupFits }
+{
+    let snippet = Snippet::source(alloc, "abc")
+        .patch(Patch::new(0..2, "x"))?
+        .patch(Patch::new(1..3, "y"))?;
+    HELP.secondary_title("t")
+        .element(alloc, Element::from(snippet))
+}
+
+/// Prints what a report is refused for.
+fn print_refused(
+    rt: &(impl Print + AllocGlobal),
+    subject: &str,
+    groups: Report<'_>,
+    short: bool,
+) -> io::Result<()>
+    requires fits { ReportFits groups.now }
+{
+    let renderer = Renderer::plain().short_message(short);
+    match renderer.render(rt.alloc(), groups) {
+        Ok(_) => println!(rt; "{subject}: DIFFERS: it is drawn"),
+        Err(refusal) => println!(rt; "{subject}: {refusal}"),
+    }
+}
+
+/// Builds the reports, prints the first line, and then what each report is refused for.
+pub fn print(rt: &(impl Print + AllocGlobal)) -> io::Result<()> {
+    let alloc = rt.alloc();
+    let past_end = again!(marked(alloc, "ab", 3, 4, 1))?;
+    let reversed = again!(marked(alloc, "let x", 2, 1, 1))?;
+    let off_border = again!(marked(alloc, "é", 1, 2, 1))?;
+    let too_large = again!(marked(alloc, "a", 0, 1, usize::MAX))?;
+    let overlapping = again!(overlapping(alloc))?;
+    let untitled = Group::with_level(alloc, ERROR);
+    println!(rt; "what is needed from here on, up to where memory is taken, is built")?;
+    print_refused(rt, "a span past the end", &[past_end], false)?;
+    print_refused(rt, "a reversed span", &[reversed], false)?;
+    print_refused(rt, "a span inside a character", &[off_border], false)?;
+    print_refused(rt, "a line number that is too large", &[too_large], false)?;
+    print_refused(rt, "patches that overlap", &[overlapping], false)?;
+    print_refused(rt, "no group in the short form", &[], true)?;
+    print_refused(rt, "no title in the short form", &[untitled], true)
+}

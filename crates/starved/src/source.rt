@@ -1,0 +1,96 @@
+//! What is made of a source map: the lines of a span, the lines that are kept, and the text with patches applied.
+
+use crate::retry::again;
+use crate::subject::{print_subject, print_text};
+use annotate_snippets::renderer::parts::{
+    AnnotatedLineInfo, LineInfo, SourceMap, check_patches, check_span, newline_count,
+};
+use annotate_snippets::text::text_fits;
+use annotate_snippets::{AnnotationKind, Patch};
+use std::alloc::AllocError;
+use std::io;
+
+/// A source of six lines.
+const SOURCE: &str = "a\nb\nc\nd\ne\nf";
+
+/// Makes the map of a source, and each call of it that takes memory.
+pub fn print(rt: &(impl Print + AllocGlobal)) -> io::Result<()> {
+    if !text_fits(SOURCE) || newline_count(SOURCE) > 9 {
+        return println!(rt; "too long");
+    }
+    let map = again!(SourceMap::new(rt.alloc(), SOURCE, 1))?;
+    print_subject(rt, "source map: `new`", map.line_count() == 6)?;
+    print_span(rt, &map)?;
+    print_kept(rt, &map)?;
+    print_spliced(rt, &map)
+}
+
+/// Whether this is the line of this text and number.
+fn is_line(line: &LineInfo<'_>, text: &str, number: usize) -> bool {
+    line.line == text && line.line_index == number
+}
+
+/// Prints whether the lines of a span are the second and the third.
+fn print_span(rt: &impl Print, map: &SourceMap<'_>) -> io::Result<()> {
+    if check_span(map.source(), &(2..5)).is_some() {
+        return println!(rt; "no span");
+    }
+    let lines = again!(map.span_to_lines(2..5))?;
+    let right = match lines.as_slice() {
+        [one, other] => is_line(one, "b", 2) && is_line(other, "c", 3),
+        _ => false,
+    };
+    print_subject(rt, "source map: `span_to_lines`", right)
+}
+
+/// Whether this line is kept, with one entry.
+fn is_kept(line: &AnnotatedLineInfo<'_>, text: &str, number: usize) -> bool {
+    line.line == text && line.line_index == number && line.annotations.len() == 1
+}
+
+/// Prints whether the first two lines and the last are kept, where a span goes over the first two and another is in the last.
+fn print_kept(rt: &impl Print, map: &SourceMap<'_>) -> io::Result<()> {
+    let (long, short) = (
+        AnnotationKind::Primary.span(0..3),
+        AnnotationKind::Context.span(10..11),
+    );
+    let source = map.source();
+    if check_span(source, &long.span).is_some() || check_span(source, &short.span).is_some() {
+        return println!(rt; "no span");
+    }
+    let marks = [long, short];
+    let (deepest, kept) = again!(map.annotated_lines(&marks, true))?;
+    let right = match kept.as_slice() {
+        [one, two, six] => is_kept(one, "a", 1) && is_kept(two, "b", 2) && is_kept(six, "f", 6),
+        _ => false,
+    };
+    print_subject(
+        rt,
+        "source map: `annotated_lines`",
+        deepest == 1 && right,
+    )
+}
+
+/// Prints whether an insertion and a replacement give the first two lines anew.
+fn print_spliced(rt: &impl Print, map: &SourceMap<'_>) -> io::Result<()> {
+    let (insertion, replacement) = (Patch::new(0..0, "x"), Patch::new(2..3, "zz"));
+    let source = map.source();
+    if check_span(source, &insertion.span).is_some()
+        || check_span(source, &replacement.span).is_some()
+    {
+        return println!(rt; "no span");
+    }
+    let patches = [insertion, replacement];
+    if check_patches(source, &patches).is_some() {
+        return println!(rt; "overlap");
+    }
+    match again!(map.splice_lines(&patches, true))? {
+        Some(spliced) => print_text(
+            rt,
+            "source map: `splice_lines`",
+            spliced.complete.as_str(),
+            "xa\nzz",
+        ),
+        None => print_subject(rt, "source map: `splice_lines`", false),
+    }
+}
