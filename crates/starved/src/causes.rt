@@ -1,9 +1,8 @@
 //! Reports with annotated snippets, or with an origin: how each is built, and its texts.
 ghost use Rattle.std.specs.Prelude.{IfOk};
-ghost use Rattle.snippet_model.specs.Fits.{GroupFits};
+ghost use Rattle.annotate_snippets.specs.Fits.{GroupFits};
 
 use crate::drawn::{self, Texts};
-use crate::retry::again;
 use annotate_snippets::level::{ERROR, NOTE};
 use annotate_snippets::renderer::DEFAULT_TERM_WIDTH;
 use annotate_snippets::{AnnotationKind, Element, Group, OptionCow, Origin, Snippet};
@@ -77,7 +76,7 @@ fn labelled(alloc: Global) -> Result<Group<'static>, AllocError>
         .element(alloc, Element::from(snippet))
 }
 
-/// Two labels: `annotations`.
+/// Two labels.
 fn two_labels(alloc: Global) -> Result<Group<'static>, AllocError>
     ensures fits { IfOk result GroupFits }
 {
@@ -87,7 +86,9 @@ fn two_labels(alloc: Global) -> Result<Group<'static>, AllocError>
     let primary = AnnotationKind::Primary
         .span(3..5)
         .label(OptionCow::from("c"));
-    let snippet = Snippet::source(alloc, "ab cd").annotations([context, primary])?;
+    let snippet = Snippet::source(alloc, "ab cd")
+        .annotation(context)?
+        .annotation(primary)?;
     ERROR
         .primary_title("e")
         .element(alloc, Element::from(snippet))
@@ -114,14 +115,16 @@ fn cut_line(alloc: Global) -> Result<Group<'static>, AllocError>
         .element(alloc, Element::from(snippet))
 }
 
-/// A snippet and a note: `elements` of a title.
+/// A snippet and a note: `element` of a title and of the group.
 fn note_below(alloc: Global) -> Result<Group<'static>, AllocError>
     ensures fits { IfOk result GroupFits }
 {
     let mark = AnnotationKind::Primary.span(0..1);
     let snippet = Snippet::source(alloc, "ab").annotation(mark)?;
-    let elements = [Element::from(snippet), Element::from(NOTE.message("m"))];
-    ERROR.primary_title("e").elements(alloc, elements)
+    ERROR
+        .primary_title("e")
+        .element(alloc, Element::from(snippet))?
+        .element(Element::from(NOTE.message("m")))
 }
 
 /// An origin.
@@ -137,16 +140,64 @@ fn origin(alloc: Global) -> Result<Group<'static>, AllocError>
 
 /// Builds each report, draws it, and prints what came out right.
 pub fn print(rt: &(impl Print + AllocGlobal)) -> io::Result<()> {
-    let group = again!(labelled(rt.alloc()))?;
-    drawn::print(rt, &[group], LABELLED_TEXTS)?;
-    let group = again!(two_labels(rt.alloc()))?;
-    drawn::print(rt, &[group], TWO_LABELS_TEXTS)?;
-    let group = again!(several_lines(rt.alloc()))?;
-    drawn::print(rt, &[group], SEVERAL_LINES_TEXTS)?;
-    let group = again!(cut_line(rt.alloc()))?;
-    drawn::print(rt, &[group], CUT_LINE_TEXTS)?;
-    let group = again!(note_below(rt.alloc()))?;
-    drawn::print(rt, &[group], NOTE_BELOW_TEXTS)?;
-    let group = again!(origin(rt.alloc()))?;
+    print_labelled(rt)?;
+    print_two_labels(rt)?;
+    print_several_lines(rt)?;
+    print_cut_line(rt)?;
+    print_note_below(rt)?;
+    print_origin(rt)
+}
+
+/// Draws the report, which is built once more where that is out of memory.
+fn print_labelled(rt: &(impl Print + AllocGlobal)) -> io::Result<()> {
+    if let Ok(group) = labelled(rt.alloc()) {
+        return drawn::print(rt, &[group], LABELLED_TEXTS);
+    }
+    let group = labelled(rt.alloc())?;
+    drawn::print(rt, &[group], LABELLED_TEXTS)
+}
+
+/// Draws the report, which is built once more where that is out of memory.
+fn print_two_labels(rt: &(impl Print + AllocGlobal)) -> io::Result<()> {
+    if let Ok(group) = two_labels(rt.alloc()) {
+        return drawn::print(rt, &[group], TWO_LABELS_TEXTS);
+    }
+    let group = two_labels(rt.alloc())?;
+    drawn::print(rt, &[group], TWO_LABELS_TEXTS)
+}
+
+/// Draws the report, which is built once more where that is out of memory.
+fn print_several_lines(rt: &(impl Print + AllocGlobal)) -> io::Result<()> {
+    if let Ok(group) = several_lines(rt.alloc()) {
+        return drawn::print(rt, &[group], SEVERAL_LINES_TEXTS);
+    }
+    let group = several_lines(rt.alloc())?;
+    drawn::print(rt, &[group], SEVERAL_LINES_TEXTS)
+}
+
+/// Draws the report, which is built once more where that is out of memory.
+fn print_cut_line(rt: &(impl Print + AllocGlobal)) -> io::Result<()> {
+    if let Ok(group) = cut_line(rt.alloc()) {
+        return drawn::print(rt, &[group], CUT_LINE_TEXTS);
+    }
+    let group = cut_line(rt.alloc())?;
+    drawn::print(rt, &[group], CUT_LINE_TEXTS)
+}
+
+/// Draws the report, which is built once more where that is out of memory.
+fn print_note_below(rt: &(impl Print + AllocGlobal)) -> io::Result<()> {
+    if let Ok(group) = note_below(rt.alloc()) {
+        return drawn::print(rt, &[group], NOTE_BELOW_TEXTS);
+    }
+    let group = note_below(rt.alloc())?;
+    drawn::print(rt, &[group], NOTE_BELOW_TEXTS)
+}
+
+/// Draws the report, which is built once more where that is out of memory.
+fn print_origin(rt: &(impl Print + AllocGlobal)) -> io::Result<()> {
+    if let Ok(group) = origin(rt.alloc()) {
+        return drawn::print(rt, &[group], ORIGIN_TEXTS);
+    }
+    let group = origin(rt.alloc())?;
     drawn::print(rt, &[group], ORIGIN_TEXTS)
 }

@@ -1,5 +1,5 @@
 //! A report in its three forms, and under two sheets.
-ghost use Rattle.snippet_model.specs.Fits.{ReportFits};
+ghost use Rattle.annotate_snippets.specs.Fits.{ReportFits};
 
 use crate::subject::print_text;
 use annotate_snippets::Renderer;

@@ -13,7 +13,11 @@ use std::io;
 /// Makes the calls, and prints what came out right.
 pub fn print(rt: &impl Print) -> io::Result<()> {
     print_subject(rt, "widths of characters", widths())?;
-    print_subject(rt, "the width of a text, and what it is asked for", sizes("a\tb"))?;
+    print_subject(
+        rt,
+        "the width of a text, and what it is asked for",
+        sizes("a\tb"),
+    )?;
     print_subject(rt, "the parts of a style", style_parts())?;
     print_subject(rt, "the code that resets a style", resets())?;
     print_subject(rt, "the order of levels and kinds", orders())?;

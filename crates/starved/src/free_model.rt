@@ -46,7 +46,7 @@ fn headings() -> bool {
         && is_heading(&ERROR.secondary_title("t"), "t", true)
         && is_heading(&ERROR.message("m"), "m", true)
         && is_heading(&ERROR.primary_title_cow(owned), "e", false)
-        && title.id().is_some()
+        && title.id.is_some()
 }
 
 /// Whether groups without elements are empty where they have no title.

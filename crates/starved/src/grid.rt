@@ -34,7 +34,8 @@ const CALLS: [(Call, &str); 7] = [
 const ROWS: u8 = 3;
 
 /// The text of three such rows: `a`, dots in place of `bc`, `d` and two spaces, and a mark with a linked label.
-const TEXT: &str = "\u{1b}[32ma\u{1b}[0m\u{1b}[34m...\u{1b}[0m\u{1b}[35md  \u{1b}[0m\u{1b}[31m^ \u{1b}]8;;u\u{1b}\\label\u{1b}]8;;\u{1b}\\\u{1b}[0m\n\u{1b}[32ma\u{1b}[0m\u{1b}[34m...\u{1b}[0m\u{1b}[35md  \u{1b}[0m\u{1b}[31m^ \u{1b}]8;;u\u{1b}\\label\u{1b}]8;;\u{1b}\\\u{1b}[0m\n\u{1b}[32ma\u{1b}[0m\u{1b}[34m...\u{1b}[0m\u{1b}[35md  \u{1b}[0m\u{1b}[31m^ \u{1b}]8;;u\u{1b}\\label\u{1b}]8;;\u{1b}\\\u{1b}[0m";
+const TEXT: &str =
+    "\u{1b}[32ma\u{1b}[0m\u{1b}[34m...\u{1b}[0m\u{1b}[35md  \u{1b}[0m\u{1b}[31m^ \u{1b}]8;;u\u{1b}\\label\u{1b}]8;;\u{1b}\\\u{1b}[0m\n\u{1b}[32ma\u{1b}[0m\u{1b}[34m...\u{1b}[0m\u{1b}[35md  \u{1b}[0m\u{1b}[31m^ \u{1b}]8;;u\u{1b}\\label\u{1b}]8;;\u{1b}\\\u{1b}[0m\n\u{1b}[32ma\u{1b}[0m\u{1b}[34m...\u{1b}[0m\u{1b}[35md  \u{1b}[0m\u{1b}[31m^ \u{1b}]8;;u\u{1b}\\label\u{1b}]8;;\u{1b}\\\u{1b}[0m";
 
 /// A sheet that tells the roles apart.
 fn sheet() -> Stylesheet {
@@ -88,9 +89,11 @@ fn made(grid: &mut StyledBuffer<'static>, call: Call, row: u8) -> Result<bool, A
     }
     let after = state_of(grid)?;
     make(grid, call, row)?;
-    Ok(before.rows == after.rows
-        && before.runs == after.runs
-        && before.text.as_str() == after.text.as_str())
+    Ok(
+        before.rows == after.rows
+            && before.runs == after.runs
+            && before.text.as_str() == after.text.as_str(),
+    )
 }
 
 /// Makes each call of each row, and prints what came out right.

@@ -1,8 +1,7 @@
 //! Reports that are refused by name: that is answered with no memory at all.
 ghost use Rattle.std.specs.Prelude.{◌^◌, ◌<◌, IfOk, length};
-ghost use Rattle.snippet_model.specs.Fits.{GroupFits, ReportFits};
+ghost use Rattle.annotate_snippets.specs.Fits.{GroupFits, ReportFits};
 
-use crate::retry::again;
 use annotate_snippets::level::{ERROR, HELP};
 use annotate_snippets::snippet::Report;
 use annotate_snippets::{AnnotationKind, Element, Group, Patch, Renderer, Snippet};
@@ -55,21 +54,52 @@ fn print_refused(
     }
 }
 
+/// The same, built once more where that is out of memory.
+fn built(
+    alloc: Global,
+    source: &'static str,
+    start: usize,
+    end: usize,
+    line_start: usize,
+) -> Result<Group<'static>, AllocError>
+    requires source { length source.now < 2 ^ 56 }
+    ensures fits { IfOk result GroupFits }
+{
+    if let Ok(group) = marked(alloc, source, start, end, line_start) {
+        return Ok(group);
+    }
+    marked(alloc, source, start, end, line_start)
+}
+
+/// The same of the patches.
+fn patched(alloc: Global) -> Result<Group<'static>, AllocError>
+    ensures fits { IfOk result GroupFits }
+{
+    if let Ok(group) = overlapping(alloc) {
+        return Ok(group);
+    }
+    overlapping(alloc)
+}
+
 /// Builds the reports, prints the first line, and then what each report is refused for.
 pub fn print(rt: &(impl Print + AllocGlobal)) -> io::Result<()> {
-    let alloc = rt.alloc();
-    let past_end = again!(marked(alloc, "ab", 3, 4, 1))?;
-    let reversed = again!(marked(alloc, "let x", 2, 1, 1))?;
-    let off_border = again!(marked(alloc, "é", 1, 2, 1))?;
-    let too_large = again!(marked(alloc, "a", 0, 1, usize::MAX))?;
-    let overlapping = again!(overlapping(alloc))?;
-    let untitled = Group::with_level(alloc, ERROR);
+    let past_end = built(rt.alloc(), "ab", 3, 4, 1)?;
+    let reversed = built(rt.alloc(), "let x", 2, 1, 1)?;
+    let off_border = built(rt.alloc(), "é", 1, 2, 1)?;
+    let too_large = built(rt.alloc(), "a", 0, 1, usize::MAX)?;
+    let patched = patched(rt.alloc())?;
     println!(rt; "what is needed from here on, up to where memory is taken, is built")?;
     print_refused(rt, "a span past the end", &[past_end], false)?;
     print_refused(rt, "a reversed span", &[reversed], false)?;
     print_refused(rt, "a span inside a character", &[off_border], false)?;
     print_refused(rt, "a line number that is too large", &[too_large], false)?;
-    print_refused(rt, "patches that overlap", &[overlapping], false)?;
+    print_refused(rt, "patches that overlap", &[patched], false)?;
+    print_short(rt)
+}
+
+/// Prints what reports that the short form has nothing for are refused for.
+fn print_short(rt: &(impl Print + AllocGlobal)) -> io::Result<()> {
+    let untitled = Group::with_level(rt.alloc(), ERROR);
     print_refused(rt, "no group in the short form", &[], true)?;
     print_refused(rt, "no title in the short form", &[untitled], true)
 }

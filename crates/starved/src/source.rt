@@ -1,7 +1,7 @@
 //! What is made of a source map: the lines of a span, the lines that are kept, and the text with patches applied.
 
 use crate::retry::again;
-use crate::subject::{print_subject, print_text};
+use crate::subject::print_subject;
 use annotate_snippets::renderer::parts::{
     AnnotatedLineInfo, LineInfo, SourceMap, check_patches, check_span, newline_count,
 };
@@ -21,8 +21,8 @@ pub fn print(rt: &(impl Print + AllocGlobal)) -> io::Result<()> {
     let map = again!(SourceMap::new(rt.alloc(), SOURCE, 1))?;
     print_subject(rt, "source map: `new`", map.line_count() == 6)?;
     print_span(rt, &map)?;
-    print_kept(rt, &map)?;
-    print_spliced(rt, &map)
+    print_subject(rt, "source map: `annotated_lines`", again!(keeps(&map))?)?;
+    print_subject(rt, "source map: `splice_lines`", again!(splices(&map))?)
 }
 
 /// Whether this is the line of this text and number.
@@ -48,49 +48,40 @@ fn is_kept(line: &AnnotatedLineInfo<'_>, text: &str, number: usize) -> bool {
     line.line == text && line.line_index == number && line.annotations.len() == 1
 }
 
-/// Prints whether the first two lines and the last are kept, where a span goes over the first two and another is in the last.
-fn print_kept(rt: &impl Print, map: &SourceMap<'_>) -> io::Result<()> {
+/// Whether the first two lines and the last are kept, where a span goes over the first two and another is in the last.
+fn keeps(map: &SourceMap<'_>) -> Result<bool, AllocError> {
     let (long, short) = (
         AnnotationKind::Primary.span(0..3),
         AnnotationKind::Context.span(10..11),
     );
     let source = map.source();
     if check_span(source, &long.span).is_some() || check_span(source, &short.span).is_some() {
-        return println!(rt; "no span");
+        return Ok(false);
     }
     let marks = [long, short];
-    let (deepest, kept) = again!(map.annotated_lines(&marks, true))?;
+    let (deepest, kept) = map.annotated_lines(&marks, true)?;
     let right = match kept.as_slice() {
         [one, two, six] => is_kept(one, "a", 1) && is_kept(two, "b", 2) && is_kept(six, "f", 6),
         _ => false,
     };
-    print_subject(
-        rt,
-        "source map: `annotated_lines`",
-        deepest == 1 && right,
-    )
+    Ok(deepest == 1 && right)
 }
 
-/// Prints whether an insertion and a replacement give the first two lines anew.
-fn print_spliced(rt: &impl Print, map: &SourceMap<'_>) -> io::Result<()> {
+/// Whether an insertion and a replacement give the first two lines anew.
+fn splices(map: &SourceMap<'_>) -> Result<bool, AllocError> {
     let (insertion, replacement) = (Patch::new(0..0, "x"), Patch::new(2..3, "zz"));
     let source = map.source();
     if check_span(source, &insertion.span).is_some()
         || check_span(source, &replacement.span).is_some()
     {
-        return println!(rt; "no span");
+        return Ok(false);
     }
     let patches = [insertion, replacement];
     if check_patches(source, &patches).is_some() {
-        return println!(rt; "overlap");
+        return Ok(false);
     }
-    match again!(map.splice_lines(&patches, true))? {
-        Some(spliced) => print_text(
-            rt,
-            "source map: `splice_lines`",
-            spliced.complete.as_str(),
-            "xa\nzz",
-        ),
-        None => print_subject(rt, "source map: `splice_lines`", false),
+    match map.splice_lines(&patches, true)? {
+        Some(spliced) => Ok(spliced.complete.as_str() == "xa\nzz"),
+        None => Ok(false),
     }
 }

@@ -8,15 +8,9 @@ use std::io;
 
 /// Normalises a text, and one that grows by it.
 pub fn print(rt: &(impl Print + AllocGlobal)) -> io::Result<()> {
-    let shown = again!(normalize_untrusted_str(
-        rt.alloc(),
-        "a\tb\u{1b}[1m\u{200d}"
-    ))?;
+    let shown = again!(normalize_untrusted_str(rt.alloc(), "a\tb\u{1b}[1m\u{200d}"))?;
     print_text(rt, "a normalised text", shown.as_str(), "a    b␛[1m")?;
-    let long = again!(normalize_untrusted_str(
-        rt.alloc(),
-        "\t\t\t\t\t\t\t\t\t\t\t\t"
-    ))?;
+    let long = again!(normalize_untrusted_str(rt.alloc(), "\t\t\t\t\t\t\t\t\t\t\t\t"))?;
     print_text(
         rt,
         "a normalised text that is four times as long",
