@@ -120,3 +120,8 @@ ssize_t write(int file, const void *bytes, size_t length)
         refuses_all = 1;
     return written;
 }
+
+ssize_t __write(int file, const void *bytes, size_t length)
+{
+    return write(file, bytes, length);
+}

@@ -151,53 +151,53 @@ pub fn print(rt: &(impl Print + AllocGlobal)) -> io::Result<()> {
 /// Draws the report, which is built once more where that is out of memory.
 fn print_labelled(rt: &(impl Print + AllocGlobal)) -> io::Result<()> {
     if let Ok(group) = labelled(rt.alloc()) {
-        return drawn::print(rt, &[group], LABELLED_TEXTS);
+        return drawn::print(rt, group, LABELLED_TEXTS);
     }
     let group = labelled(rt.alloc())?;
-    drawn::print(rt, &[group], LABELLED_TEXTS)
+    drawn::print(rt, group, LABELLED_TEXTS)
 }
 
 /// Draws the report, which is built once more where that is out of memory.
 fn print_two_labels(rt: &(impl Print + AllocGlobal)) -> io::Result<()> {
     if let Ok(group) = two_labels(rt.alloc()) {
-        return drawn::print(rt, &[group], TWO_LABELS_TEXTS);
+        return drawn::print(rt, group, TWO_LABELS_TEXTS);
     }
     let group = two_labels(rt.alloc())?;
-    drawn::print(rt, &[group], TWO_LABELS_TEXTS)
+    drawn::print(rt, group, TWO_LABELS_TEXTS)
 }
 
 /// Draws the report, which is built once more where that is out of memory.
 fn print_several_lines(rt: &(impl Print + AllocGlobal)) -> io::Result<()> {
     if let Ok(group) = several_lines(rt.alloc()) {
-        return drawn::print(rt, &[group], SEVERAL_LINES_TEXTS);
+        return drawn::print(rt, group, SEVERAL_LINES_TEXTS);
     }
     let group = several_lines(rt.alloc())?;
-    drawn::print(rt, &[group], SEVERAL_LINES_TEXTS)
+    drawn::print(rt, group, SEVERAL_LINES_TEXTS)
 }
 
 /// Draws the report, which is built once more where that is out of memory.
 fn print_cut_line(rt: &(impl Print + AllocGlobal)) -> io::Result<()> {
     if let Ok(group) = cut_line(rt.alloc()) {
-        return drawn::print(rt, &[group], CUT_LINE_TEXTS);
+        return drawn::print(rt, group, CUT_LINE_TEXTS);
     }
     let group = cut_line(rt.alloc())?;
-    drawn::print(rt, &[group], CUT_LINE_TEXTS)
+    drawn::print(rt, group, CUT_LINE_TEXTS)
 }
 
 /// Draws the report, which is built once more where that is out of memory.
 fn print_note_below(rt: &(impl Print + AllocGlobal)) -> io::Result<()> {
     if let Ok(group) = note_below(rt.alloc()) {
-        return drawn::print(rt, &[group], NOTE_BELOW_TEXTS);
+        return drawn::print(rt, group, NOTE_BELOW_TEXTS);
     }
     let group = note_below(rt.alloc())?;
-    drawn::print(rt, &[group], NOTE_BELOW_TEXTS)
+    drawn::print(rt, group, NOTE_BELOW_TEXTS)
 }
 
 /// Draws the report, which is built once more where that is out of memory.
 fn print_origin(rt: &(impl Print + AllocGlobal)) -> io::Result<()> {
     if let Ok(group) = origin(rt.alloc()) {
-        return drawn::print(rt, &[group], ORIGIN_TEXTS);
+        return drawn::print(rt, group, ORIGIN_TEXTS);
     }
     let group = origin(rt.alloc())?;
-    drawn::print(rt, &[group], ORIGIN_TEXTS)
+    drawn::print(rt, group, ORIGIN_TEXTS)
 }

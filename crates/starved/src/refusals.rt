@@ -1,9 +1,9 @@
 //! Reports that are refused by name: that is answered with no memory at all.
 ghost use Rattle.std.specs.Prelude.{◌^◌, ◌<◌, IfOk, length};
-ghost use Rattle.annotate_snippets.specs.Fits.{GroupFits, ReportFits};
+ghost use Rattle.annotate_snippets.specs.Fits.{GroupFits};
 
 use annotate_snippets::level::{ERROR, HELP};
-use annotate_snippets::snippet::Report;
+use annotate_snippets::renderer::RenderError;
 use annotate_snippets::{AnnotationKind, Element, Group, Patch, Renderer, Snippet};
 use std::alloc::{AllocError, Global};
 use std::io;
@@ -39,19 +39,29 @@ fn overlapping(alloc: Global) -> Result<Group<'static>, AllocError>
 }
 
 /// Prints what a report is refused for.
-fn print_refused(
-    rt: &(impl Print + AllocGlobal),
+fn print_refusal(
+    rt: &impl Print,
     subject: &str,
-    groups: Report<'_>,
-    short: bool,
-) -> io::Result<()>
-    requires fits { ReportFits groups.now }
-{
-    let renderer = Renderer::plain().short_message(short);
-    match renderer.render(rt.alloc(), groups) {
+    answer: Result<String, RenderError>,
+) -> io::Result<()> {
+    match answer {
         Ok(_) => println!(rt; "{subject}: DIFFERS: it is drawn"),
         Err(refusal) => println!(rt; "{subject}: {refusal}"),
     }
+}
+
+/// Prints what a report of one group is refused for.
+fn print_refused(
+    rt: &(impl Print + AllocGlobal),
+    subject: &str,
+    group: Group<'static>,
+    short: bool,
+) -> io::Result<()>
+    requires fits { GroupFits group.entry }
+{
+    let renderer = Renderer::plain().short_message(short);
+    let groups = [group];
+    print_refusal(rt, subject, renderer.render(rt.alloc(), &groups))
 }
 
 /// The same, built once more where that is out of memory.
@@ -89,17 +99,20 @@ pub fn print(rt: &(impl Print + AllocGlobal)) -> io::Result<()> {
     let too_large = built(rt.alloc(), "a", 0, 1, usize::MAX)?;
     let patched = patched(rt.alloc())?;
     println!(rt; "what is needed from here on, up to where memory is taken, is built")?;
-    print_refused(rt, "a span past the end", &[past_end], false)?;
-    print_refused(rt, "a reversed span", &[reversed], false)?;
-    print_refused(rt, "a span inside a character", &[off_border], false)?;
-    print_refused(rt, "a line number that is too large", &[too_large], false)?;
-    print_refused(rt, "patches that overlap", &[patched], false)?;
+    print_refused(rt, "a span past the end", past_end, false)?;
+    print_refused(rt, "a reversed span", reversed, false)?;
+    print_refused(rt, "a span inside a character", off_border, false)?;
+    print_refused(rt, "a line number that is too large", too_large, false)?;
+    print_refused(rt, "patches that overlap", patched, false)?;
     print_short(rt)
 }
 
 /// Prints what reports that the short form has nothing for are refused for.
 fn print_short(rt: &(impl Print + AllocGlobal)) -> io::Result<()> {
+    let renderer = Renderer::plain().short_message(true);
+    let none: Vec<Group<'static>> = Vec::new(rt.alloc());
+    let answer = renderer.render(rt.alloc(), &none);
+    print_refusal(rt, "no group in the short form", answer)?;
     let untitled = Group::with_level(rt.alloc(), ERROR);
-    print_refused(rt, "no group in the short form", &[], true)?;
-    print_refused(rt, "no title in the short form", &[untitled], true)
+    print_refused(rt, "no title in the short form", untitled, true)
 }

@@ -69,17 +69,17 @@ pub fn print(rt: &(impl Print + AllocGlobal)) -> io::Result<()> {
 /// Draws the report, which is built once more where that is out of memory.
 fn print_two_offers(rt: &(impl Print + AllocGlobal)) -> io::Result<()> {
     if let Ok(group) = two_offers(rt.alloc()) {
-        return drawn::print(rt, &[group], TWO_OFFERS_TEXTS);
+        return drawn::print(rt, group, TWO_OFFERS_TEXTS);
     }
     let group = two_offers(rt.alloc())?;
-    drawn::print(rt, &[group], TWO_OFFERS_TEXTS)
+    drawn::print(rt, group, TWO_OFFERS_TEXTS)
 }
 
 /// Draws the report, which is built once more where that is out of memory.
 fn print_two_patches(rt: &(impl Print + AllocGlobal)) -> io::Result<()> {
     if let Ok(group) = two_patches(rt.alloc()) {
-        return drawn::print(rt, &[group], TWO_PATCHES_TEXTS);
+        return drawn::print(rt, group, TWO_PATCHES_TEXTS);
     }
     let group = two_patches(rt.alloc())?;
-    drawn::print(rt, &[group], TWO_PATCHES_TEXTS)
+    drawn::print(rt, group, TWO_PATCHES_TEXTS)
 }
