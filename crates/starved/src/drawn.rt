@@ -3,6 +3,7 @@ ghost use Rattle.annotate_snippets.specs.Fits.{GroupFits, ReportFits};
 
 use crate::subject::print_text;
 use annotate_snippets::renderer::{RenderError, Stylesheet};
+use annotate_snippets::snippet::Report;
 use annotate_snippets::{Group, Renderer};
 use std::alloc::Global;
 use std::io;
@@ -26,24 +27,31 @@ pub struct Texts {
 
 /// Draws a report of one group in each form, and under two sheets.
 pub fn print(rt: &(impl Print + AllocGlobal), group: Group<'static>, texts: Texts) -> io::Result<()>
-    requires fits { GroupFits group.entry }
+    requires fits { GroupFits group }
+{
+    let groups = [group];
+    print_report(rt, &groups, texts)
+}
+
+/// Draws a report in each form, and under two sheets.
+fn print_report(rt: &(impl Print + AllocGlobal), groups: Report<'_>, texts: Texts) -> io::Result<()>
+    requires fits { ReportFits groups.now }
 {
     let name = texts.name;
-    let groups = [group];
     let plain = Renderer::plain().term_width(texts.width);
     println!(rt; "{name}:")?;
-    print_form(rt, &groups, &plain, "  graphic form", texts.graphic)?;
-    print_sheets(rt, &groups, &plain, texts)?;
+    print_form(rt, groups, &plain, "  graphic form", texts.graphic)?;
+    print_sheets(rt, groups, &plain, texts)?;
     let short = plain.short_message(true);
-    print_form(rt, &groups, &short, "  short form", texts.short)?;
+    print_form(rt, groups, &short, "  short form", texts.short)?;
     let text_form = short.no_graphics(true);
-    print_form(rt, &groups, &text_form, "  text form", texts.text_form)
+    print_form(rt, groups, &text_form, "  text form", texts.text_form)
 }
 
 /// Draws a report in one form, once more where it is out of memory.
 fn print_form(
     rt: &(impl Print + AllocGlobal),
-    groups: &[Group<'static>],
+    groups: Report<'_>,
     renderer: &Renderer,
     form: &str,
     wanted: &str,
@@ -71,7 +79,7 @@ fn print_refusal(rt: &impl Print, form: &str, refusal: RenderError) -> io::Resul
 /// The texts of a report under the plain and the default sheet.
 fn under_sheets(
     alloc: Global,
-    groups: &[Group<'static>],
+    groups: Report<'_>,
     renderer: &Renderer,
 ) -> Result<Vec<String>, RenderError>
     requires fits { ReportFits groups.now }
@@ -83,7 +91,7 @@ fn under_sheets(
 /// Draws a report under the plain and the default sheet, once more where it is out of memory.
 fn print_sheets(
     rt: &(impl Print + AllocGlobal),
-    groups: &[Group<'static>],
+    groups: Report<'_>,
     renderer: &Renderer,
     texts: Texts,
 ) -> io::Result<()>

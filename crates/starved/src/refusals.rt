@@ -57,7 +57,7 @@ fn print_refused(
     group: Group<'static>,
     short: bool,
 ) -> io::Result<()>
-    requires fits { GroupFits group.entry }
+    requires fits { GroupFits group }
 {
     let renderer = Renderer::plain().short_message(short);
     let groups = [group];
