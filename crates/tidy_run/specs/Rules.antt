@@ -1,0 +1,1 @@
+-- What the linter's own rules find.
