@@ -1,1 +1,2 @@
 pub mod FoundSoFar
+pub mod Mapped

@@ -22,3 +22,30 @@ fn findings(alloc: Global, rule: &dyn Rule, source: &str) -> Result<Vec<Edit>, A
     }
     Ok(found)
 }
+
+/// The findings of some rules in a source: each rule's in order, in the order of the rules.
+pub fn lint(
+    alloc: Global,
+    rules: &[Box<dyn Rule>],
+    source: &str,
+) -> Result<Vec<Vec<Edit>>, AllocError>
+    ensures value { IfOk result (λ found. map (λ edits. map finding_of edits.items) found.items
+        ≡ map (λ rule. findings_of (finds rule source.now) source.now) rules.now) }
+{
+    let mut found = Vec::new(alloc);
+    for rule in rules {
+        found.push(box_findings(alloc, rule, source)?)?;
+    }
+    Ok(found)
+}
+
+/// What a rule in a box finds in a source.
+fn box_findings(
+    alloc: Global,
+    rule: &Box<dyn Rule>,
+    source: &str,
+) -> Result<Vec<Edit>, AllocError>
+    ensures value { IfOk result (λ found. map finding_of found.items ≡ findings_of (finds rule.now source.now) source.now) }
+{
+    findings(alloc, rule.as_ref(), source)
+}
