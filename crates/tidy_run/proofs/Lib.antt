@@ -1,2 +1,4 @@
 pub mod FoundSoFar
 pub mod Mapped
+pub mod FirstLemmas
+pub mod TabLemmas
