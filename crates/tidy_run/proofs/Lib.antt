@@ -2,3 +2,5 @@ pub mod FoundSoFar
 pub mod Mapped
 pub mod FirstLemmas
 pub mod TabLemmas
+pub mod RunLemmas
+pub mod BlankLemmas

@@ -1,5 +1,5 @@
 -- What a rule finds in a source.
-use Rattle.std.specs.Prelude.{◌≡◌, ℕ, zero, suc, ◌+◌, ◌<◌, ◌≤◌, Bool, nat_lt, Option, Some, None, List, [], ◌∷◌, All, length, if◌then◌else◌}
+use Rattle.std.specs.Prelude.{◌≡◌, ℕ, zero, suc, ◌+◌, ◌<◌, ◌≤◌, Bool, nat_lt, Option, Some, None, List, [], ◌∷◌, All, length, slice_index_or, if◌then◌else◌}
 use Rattle.std.specs.Str.{IsCharBoundary}
 use Rattle.tidy_run.specs.declared.rule.Edit.{Edit}
 
@@ -44,3 +44,12 @@ findings_from find (suc more) from = with_rest (findings_from find more) (find f
 -- so there are no more of them than bytes, and one
 unfoldable pub findings_of : (ℕ → Option Finding) → List ℕ → List Finding
 findings_of find source = findings_from find (length source + 1) 0
+
+-- a finding of ASCII characters, one or more, that begins at byte `at`: it ends at the source's end, or before one that is ASCII too
+pub record IsRunAt (source : List ℕ) (at : ℕ) (f : Finding) : Type 0 where
+  pub begins : f.start ≡ at
+  pub takes : at < f.end
+  pub inside : f.end ≤ length source
+  pub from_ascii : slice_index_or source at 0 < 128
+  pub to_ascii : f.end < length source → slice_index_or source f.end 0 < 128
+  pub short : length f.text ≤ 64

@@ -1,5 +1,6 @@
 -- What the linter's own rules find: for each rule, the finding that begins at a byte, where one does.
 use Rattle.std.specs.Prelude.{ℕ, zero, suc, ◌+◌, ◌-◌, Bool, true, false, not, ◌==◌, ◌&&◌, ◌||◌, nat_lt, Option, Some, None, List, [], ◌∷◌, drop, length, slice_index_or, codes, if◌then◌else◌}
+use Rattle.std.specs.List.{prefix_len}
 use Rattle.std.specs.Option.{option_or}
 use Rattle.tidy_run.specs.Findings.{Finding}
 
@@ -27,11 +28,6 @@ missing_end_at source at =
 abbrev pub is_blank : ℕ → Bool
 is_blank b = b == 32 || b == 9
 
--- how many blanks some bytes begin with
-abbrev pub leading_blanks : List ℕ → ℕ
-leading_blanks [] = 0
-leading_blanks (b ∷ bs) = if is_blank b then suc (leading_blanks bs) else 0
-
 -- whether bytes begin with a line feed
 abbrev pub begins_with_line_feed : List ℕ → Bool
 begins_with_line_feed [] = false
@@ -46,5 +42,5 @@ ends_line (b ∷ bs) = b == 10 || b == 13 && begins_with_line_feed bs
 abbrev pub trailing_blanks_at : List ℕ → ℕ → Option Finding
 trailing_blanks_at source at =
     if is_blank (slice_index_or source at 0) && not (nat_lt 0 at && is_blank (slice_index_or source (at - 1) 0))
-        && ends_line (drop (at + leading_blanks (drop at source)) source)
-    then Some record { start = at; end = at + leading_blanks (drop at source); text = [] } else None
+        && ends_line (drop (at + prefix_len is_blank (drop at source)) source)
+    then Some record { start = at; end = at + prefix_len is_blank (drop at source); text = [] } else None

@@ -5,3 +5,4 @@ pub mod final_line;
 pub mod lint;
 pub mod rule;
 pub mod tabs;
+pub mod trailing_blanks;
