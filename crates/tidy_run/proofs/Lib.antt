@@ -4,3 +4,4 @@ pub mod FirstLemmas
 pub mod TabLemmas
 pub mod RunLemmas
 pub mod BlankLemmas
+pub mod EndLemmas
