@@ -5,3 +5,4 @@ pub mod TabLemmas
 pub mod RunLemmas
 pub mod BlankLemmas
 pub mod EndLemmas
+mod Examples

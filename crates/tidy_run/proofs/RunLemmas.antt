@@ -1,5 +1,5 @@
 -- Findings of ASCII characters.
-use Rattle.std.proofs.Common.{◌≡◌, ℕ, arith, ◌+◌, ◌-◌, ◌<◌, ◌≤◌, List, length, slice_index_or, sym, subst}
+use Rattle.std.proofs.Common.{ℕ, arith, ◌≤◌, List, sym, subst}
 use Rattle.std.proofs.lemmas.Str.{IsCharBoundary-before_ascii}
 use Rattle.std.specs.Str.{IsCharBoundary}
 use Rattle.tidy_run.specs.Findings.{Finding, IsFinding, IsRunAt}

@@ -1,5 +1,5 @@
 -- Where a tab stands.
-use Rattle.std.proofs.Common.{◌≡◌, ◌≢◌, ℕ, arith, ◌+◌, ◌<◌, ◌≤◌, Option, Some, None, List, length, slice_index_or, codes, ap, sym, ◌∙◌, inl, inr, if◌then◌else◌}
+use Rattle.std.proofs.Common.{◌≡◌, ◌≢◌, ℕ, arith, ◌+◌, ◌<◌, ◌≤◌, Some, None, List, length, slice_index_or, codes, ap, inl, inr, if◌then◌else◌}
 use Rattle.std.proofs.lemmas.List.{get_or_past}
 use Rattle.std.proofs.lemmas.Bool.{eq-eqb}
 use Rattle.std.proofs.lemmas.Bool.Decides.{eqb_tells}
@@ -24,7 +24,7 @@ tab-none source at other =
     ]
 
 pub tab-finding : (source : List ℕ) → (from at : ℕ) → IsUtf8 source → from ≤ at → at < length source
-  → slice_index_or source at 0 ≡ 9 → IsFinding source from (tab at)
+    → slice_index_or source at 0 ≡ 9 → IsFinding source from (tab at)
 tab-finding source from at utf8 after within is =
     record {
       after = after;

@@ -1,5 +1,5 @@
 -- What a rule finds in a source.
-use Rattle.std.specs.Prelude.{◌≡◌, ℕ, zero, suc, ◌+◌, ◌<◌, ◌≤◌, Bool, nat_lt, Option, Some, None, List, [], ◌∷◌, All, length, slice_index_or, if◌then◌else◌}
+use Rattle.std.specs.Prelude.{◌≡◌, ℕ, zero, suc, ◌+◌, ◌<◌, ◌≤◌, nat_lt, Option, Some, None, List, [], ◌∷◌, All, length, slice_index_or, if◌then◌else◌}
 use Rattle.std.specs.Str.{IsCharBoundary}
 use Rattle.tidy_run.specs.declared.rule.Edit.{Edit}
 

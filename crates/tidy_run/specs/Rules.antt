@@ -42,5 +42,5 @@ ends_line (b ∷ bs) = b == 10 || b == 13 && begins_with_line_feed bs
 abbrev pub trailing_blanks_at : List ℕ → ℕ → Option Finding
 trailing_blanks_at source at =
     if is_blank (slice_index_or source at 0) && not (nat_lt 0 at && is_blank (slice_index_or source (at - 1) 0))
-        && ends_line (drop (at + prefix_len is_blank (drop at source)) source)
+    && ends_line (drop (at + prefix_len is_blank (drop at source)) source)
     then Some record { start = at; end = at + prefix_len is_blank (drop at source); text = [] } else None

@@ -11,6 +11,7 @@ pub struct FinalLine;
 
 impl Rule for FinalLine {
     ghost title_of = { λ rule. codes "no final line end" };
+
     ghost finds = { λ rule. first_from missing_end_at };
 
     fn title(&self) -> &'static str {

@@ -40,11 +40,7 @@ pub fn lint(
 }
 
 /// What a rule in a box finds in a source.
-fn box_findings(
-    alloc: Global,
-    rule: &Box<dyn Rule>,
-    source: &str,
-) -> Result<Vec<Edit>, AllocError>
+fn box_findings(alloc: Global, rule: &Box<dyn Rule>, source: &str) -> Result<Vec<Edit>, AllocError>
     ensures value { IfOk result (λ found. map finding_of found.items ≡ findings_of (finds rule.now source.now) source.now) }
 {
     findings(alloc, rule.as_ref(), source)

@@ -11,6 +11,7 @@ pub struct Tabs;
 
 impl Rule for Tabs {
     ghost title_of = { λ rule. codes "tab" };
+
     ghost finds = { λ rule. first_from tab_at };
 
     fn title(&self) -> &'static str {

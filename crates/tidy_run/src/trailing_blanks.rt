@@ -59,6 +59,7 @@ fn blanks_at(bytes: &[u8], at: usize) -> Option<Edit>
 
 impl Rule for TrailingBlanks {
     ghost title_of = { λ rule. codes "trailing blanks" };
+
     ghost finds = { λ rule. first_from trailing_blanks_at };
 
     fn title(&self) -> &'static str {

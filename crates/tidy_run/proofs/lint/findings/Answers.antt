@@ -1,7 +1,7 @@
-use Rattle.std.proofs.Common.{rules, arith, ◌≡◌, ◌<◌, ◌≤◌, IfSome, map, ℕ, List, Option, Some, [], ◌∷◌, ◌++◌, subst, sym, Vec, Global, ap, ◌∙◌}
+use Rattle.std.proofs.Common.{arith, ◌≡◌, ◌<◌, IfSome, map, ℕ, List, Option, Some, [], ◌∷◌, subst, sym, Vec, Global, ap, ◌∙◌}
 use Rattle.std.specs.Option.{option_map}
 use Rattle.std.proofs.lemmas.List.{map-append}
-use Rattle.tidy_run.specs.Findings.{Finding, IsFinding, finding_of, findings_of}
+use Rattle.tidy_run.specs.Findings.{Finding, IsFinding, finding_of}
 use Rattle.tidy_run.specs.declared.rule.Edit.{Edit}
 use Rattle.tidy_run.proofs.FoundSoFar.{FoundSoFar, found-none-yet, found-next, found-none, found-last}
 use Rattle.tidy_run.proofs.lint.findings.Goals as goal
@@ -21,8 +21,8 @@ loop-edit-preserved g c =
     let is : IsFinding c.args.source.now from (finding_of edit) = subst (λ r. IfSome r (λ e. IsFinding c.args.source.now from (finding_of e))) c.in-Some.is c.find.ensures.1 in
     let takes : edit.span.start < edit.span.end = grind (arith, c.if-last.ensures) in
     subst (λ (l : List Finding). FoundSoFar find c.args.source.now l edit.span.end)
-      (sym (ap (map finding_of) c.in_ok-push.ensures.items ∙ map-append finding_of c.loop-edit.found.items (edit ∷ [])))
-      (found-next find c.args.source.now (map finding_of c.loop-edit.found.items) from (finding_of edit) c.loop-edit.invariant some is takes)
+    (sym (ap (map finding_of) c.in_ok-push.ensures.items ∙ map-append finding_of c.loop-edit.found.items (edit ∷ [])))
+    (found-next find c.args.source.now (map finding_of c.loop-edit.found.items) from (finding_of edit) c.loop-edit.invariant some is takes)
 
 pub returns : goal.returns
 returns g c =
@@ -32,14 +32,14 @@ returns g c =
       value = elim c.match-find.branch [
         | in-Some+in_ok-push+then-last w ↦
             ap (λ (v : Vec Edit Global). map finding_of v.items) w.found-is
-              ∙ ap (map finding_of) w.in_ok-push.ensures.items
-              ∙ map-append finding_of c.loop-edit.found.items (w.in-Some.edit ∷ [])
-              ∙ found-last find c.args.source.now (map finding_of c.loop-edit.found.items) from (finding_of w.in-Some.edit) c.loop-edit.invariant
-                  (sym c.find.ensures.0 ∙ ap (option_map finding_of) w.in-Some.is)
-                  (grind (arith, w.if-last.ensures))
+            ∙ ap (map finding_of) w.in_ok-push.ensures.items
+            ∙ map-append finding_of c.loop-edit.found.items (w.in-Some.edit ∷ [])
+            ∙ found-last find c.args.source.now (map finding_of c.loop-edit.found.items) from (finding_of w.in-Some.edit) c.loop-edit.invariant
+            (sym c.find.ensures.0 ∙ ap (option_map finding_of) w.in-Some.is)
+            (grind (arith, w.if-last.ensures))
         | in_default w ↦
             ap (λ (v : Vec Edit Global). map finding_of v.items) w.found-is
-              ∙ found-none find c.args.source.now (map finding_of c.loop-edit.found.items) from c.loop-edit.invariant
-                  (sym c.find.ensures.0 ∙ ap (option_map finding_of) w.in_default.is)
-      ]
+            ∙ found-none find c.args.source.now (map finding_of c.loop-edit.found.items) from c.loop-edit.invariant
+            (sym c.find.ensures.0 ∙ ap (option_map finding_of) w.in_default.is)
+      ];
     }

@@ -1,4 +1,4 @@
-use Rattle.std.proofs.Common.{◌≡◌, ◌<◌, ◌≤◌, map, ℕ, ◌+◌, ◌-◌, ◌*◌, length}
+use Rattle.std.proofs.Common.{map, ◌-◌, length}
 use Rattle.tidy_run.specs.Findings.{finding_of}
 use Rattle.tidy_run.proofs.FoundSoFar.{FoundSoFar}
 use Rattle.tidy_run.proofs.lint.findings.Given as goal

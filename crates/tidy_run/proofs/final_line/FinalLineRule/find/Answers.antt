@@ -21,7 +21,7 @@ pub returns-clause-value : goal.returns-clause-value
 returns-clause-value c =
     let bytes = c.as_bytes-bytes.ensures.value in
     subst (λ (l : List ℕ). Some (missing_end (length l)) ≡ first_from missing_end_at c.args.source.now c.args.from) (sym bytes)
-      (sym (end-found c.args.source.now c.args.from
-        (subst (λ (l : List ℕ). c.args.from ≤ length l) bytes c.if-end-from.false)
-        (omega (arith, subst (λ (l : List ℕ). length l ≢ 0) bytes c.if-end-eq0.false))
-        (subst (λ (l : List ℕ). slice_index_or l (length l - 1) 0 ≢ 10) bytes c.if-bytes-end-eq10.false)))
+    (sym (end-found c.args.source.now c.args.from
+    (subst (λ (l : List ℕ). c.args.from ≤ length l) bytes c.if-end-from.false)
+    (omega (arith, subst (λ (l : List ℕ). length l ≢ 0) bytes c.if-end-eq0.false))
+    (subst (λ (l : List ℕ). slice_index_or l (length l - 1) 0 ≢ 10) bytes c.if-bytes-end-eq10.false)))

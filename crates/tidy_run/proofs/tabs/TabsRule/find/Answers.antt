@@ -1,4 +1,4 @@
-use Rattle.std.proofs.Common.{◌≡◌, ◌≢◌, arith, ◌<◌, ◌≤◌, List, ℕ, length, slice_index_or, refl, subst, sym, ap, ◌∙◌}
+use Rattle.std.proofs.Common.{◌≡◌, ◌≢◌, arith, ◌<◌, ◌≤◌, List, ℕ, length, slice_index_or, refl, subst, sym, ◌∙◌}
 use Rattle.tidy_run.specs.Rules.{tab_at}
 use Rattle.tidy_run.proofs.FirstLemmas.{first-here, first-next}
 use Rattle.tidy_run.proofs.TabLemmas.{tab, tab-here, tab-none, tab-past, tab-finding}
@@ -26,7 +26,7 @@ loop-at-preserved c =
     let bytes = c.as_bytes-bytes.ensures.value in
     let within : c.loop-at.at < length c.args.source.now = subst (λ (l : List ℕ). c.loop-at.at < length l) bytes c.loop-at-test.true in
     c.loop-at.invariant ∙ first-next tab_at c.args.source.now c.loop-at.at (omega (arith, within))
-      (tab-none c.args.source.now c.loop-at.at (subst (λ (l : List ℕ). slice_index_or l c.loop-at.at 0 ≢ 9) bytes c.if-bytes-at-eq9.false))
+    (tab-none c.args.source.now c.loop-at.at (subst (λ (l : List ℕ). slice_index_or l c.loop-at.at 0 ≢ 9) bytes c.if-bytes-at-eq9.false))
 
 pub returns-clause-value : goal.returns-clause-value
 returns-clause-value c =
