@@ -29,14 +29,14 @@ pub fn lint(
     rules: &[Box<dyn Rule>],
     source: &str,
 ) -> Result<Vec<Vec<Edit>>, AllocError>
-    ensures value { IfOk result (λ found. map (λ edits. map finding_of edits.items) found.items
+    ensures value { IfOk result (λ all. map (λ edits. map finding_of edits.items) all.items
         ≡ map (λ rule. findings_of (finds rule source.now) source.now) rules.now) }
 {
-    let mut found = Vec::new(alloc);
+    let mut all = Vec::new(alloc);
     for rule in rules {
-        found.push(box_findings(alloc, rule, source)?)?;
+        all.push(box_findings(alloc, rule, source)?)?;
     }
-    Ok(found)
+    Ok(all)
 }
 
 /// What a rule in a box finds in a source.

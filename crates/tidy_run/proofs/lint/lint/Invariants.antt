@@ -4,5 +4,5 @@ use Rattle.tidy_run.proofs.lint.lint.Given as goal
 
 abbrev pub invariant-loop-rule : goal.invariant-loop-rule
 invariant-loop-rule g l =
-    map (λ edits. map finding_of edits.items) l.found.items
+    map (λ edits. map finding_of edits.items) l.all.items
     ≡ map (λ rule. findings_of ((goal.Rule-dyn g (rule.vtable, rule.value)).finds rule.value l.source) l.source) (take l.rule-index l.rules)
