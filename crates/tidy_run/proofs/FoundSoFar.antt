@@ -1,0 +1,78 @@
+-- The findings so far, while a source is looked through.
+use Rattle.std.proofs.Common.{◌≡◌, refl, sym, ap, arith, ◌∙◌, ℕ, zero, suc, ◌+◌, ◌<◌, ◌≤◌, Option, Some, None, List, [], ◌∷◌, ◌++◌, length, if◌then◌else◌}
+use Rattle.std.proofs.lemmas.Bool.{lt-ltb, le-ltb}
+use Rattle.std.proofs.lemmas.List.{append-nil, append_assoc}
+use Rattle.tidy_run.specs.Findings.{Finding, IsFinding, findings_from, findings_of, with_rest}
+
+-- what is found so far, up to byte `from`, where the rest comes after it: `fuel` is more than the bytes that are left
+pub record FoundSoFar (find : ℕ → Option Finding) (source : List ℕ) (found : List Finding) (from : ℕ) : Type 0 where
+  pub within : from ≤ length source
+  pub fuel : ℕ
+  pub enough : length source < fuel + from
+  pub whole : found ++ findings_from find fuel from ≡ findings_of find source
+
+-- before the first
+pub found-none-yet : (find : ℕ → Option Finding) → (source : List ℕ) → FoundSoFar find source [] 0
+unfolding findings_of
+found-none-yet find source =
+    record { within = omega arith; fuel = length source + 1; enough = omega arith; whole = refl }
+
+-- what is found from a byte on, where there is something, that takes a byte or more
+begun : (find : ℕ → Option Finding) → (more from : ℕ) → (f : Finding) → find from ≡ Some f → f.start < f.end
+    → findings_from find (suc more) from ≡ f ∷ findings_from find more f.end
+begun find more from f some takes =
+    ap (with_rest (findings_from find more)) some
+    ∙ ap (λ b. f ∷ (if b then findings_from find more f.end else [])) (lt-ltb f.start f.end takes)
+
+next-at : (find : ℕ → Option Finding) → (source : List ℕ) → (found : List Finding) → (from : ℕ) → (f : Finding)
+    → from ≤ length source → find from ≡ Some f → IsFinding source from f → f.start < f.end
+    → (fuel : ℕ) → length source < fuel + from → found ++ findings_from find fuel from ≡ findings_of find source
+    → FoundSoFar find source (found ++ f ∷ []) f.end
+next-at find source found from f within some is takes zero enough whole = absurd (omega (arith, enough, within))
+next-at find source found from f within some is takes (suc more) enough whole =
+    record {
+      within = is.inside;
+      fuel = more;
+      enough = omega (arith, enough, is.after, takes);
+      whole = append_assoc found (f ∷ []) (findings_from find more f.end)
+          ∙ ap (λ rest. found ++ rest) (sym (begun find more from f some takes)) ∙ whole;
+    }
+
+-- one more, that takes a byte or more
+pub found-next : (find : ℕ → Option Finding) → (source : List ℕ) → (found : List Finding) → (from : ℕ) → (f : Finding)
+    → FoundSoFar find source found from → find from ≡ Some f → IsFinding source from f → f.start < f.end
+    → FoundSoFar find source (found ++ f ∷ []) f.end
+found-next find source found from f so_far some is takes =
+    next-at find source found from f so_far.within some is takes so_far.fuel so_far.enough so_far.whole
+
+none-at : (find : ℕ → Option Finding) → (source : List ℕ) → (found : List Finding) → (from : ℕ)
+    → from ≤ length source → find from ≡ None
+    → (fuel : ℕ) → length source < fuel + from → found ++ findings_from find fuel from ≡ findings_of find source
+    → found ≡ findings_of find source
+none-at find source found from within none zero enough whole = absurd (omega (arith, enough, within))
+none-at find source found from within none (suc more) enough whole =
+    sym (append-nil found) ∙ ap (λ rest. found ++ rest) (sym (ap (with_rest (findings_from find more)) none)) ∙ whole
+
+-- where nothing more is found, these are the findings
+pub found-none : (find : ℕ → Option Finding) → (source : List ℕ) → (found : List Finding) → (from : ℕ)
+    → FoundSoFar find source found from → find from ≡ None → found ≡ findings_of find source
+found-none find source found from so_far none =
+    none-at find source found from so_far.within none so_far.fuel so_far.enough so_far.whole
+
+last-at : (find : ℕ → Option Finding) → (source : List ℕ) → (found : List Finding) → (from : ℕ) → (f : Finding)
+    → from ≤ length source → find from ≡ Some f → f.end ≤ f.start
+    → (fuel : ℕ) → length source < fuel + from → found ++ findings_from find fuel from ≡ findings_of find source
+    → found ++ f ∷ [] ≡ findings_of find source
+last-at find source found from f within some empty zero enough whole = absurd (omega (arith, enough, within))
+last-at find source found from f within some empty (suc more) enough whole =
+    ap (λ rest. found ++ rest)
+    (sym (ap (with_rest (findings_from find more)) some
+    ∙ ap (λ b. f ∷ (if b then findings_from find more f.end else [])) (le-ltb f.start f.end empty)))
+    ∙ whole
+
+-- after one that takes no byte, these and that are the findings
+pub found-last : (find : ℕ → Option Finding) → (source : List ℕ) → (found : List Finding) → (from : ℕ) → (f : Finding)
+    → FoundSoFar find source found from → find from ≡ Some f → f.end ≤ f.start
+    → found ++ f ∷ [] ≡ findings_of find source
+found-last find source found from f so_far some empty =
+    last-at find source found from f so_far.within some empty so_far.fuel so_far.enough so_far.whole

@@ -1,0 +1,8 @@
+pub mod FoundSoFar
+pub mod Mapped
+pub mod FirstLemmas
+pub mod TabLemmas
+pub mod RunLemmas
+pub mod BlankLemmas
+pub mod EndLemmas
+mod Examples
