@@ -1,11 +1,11 @@
 //! Reports with annotated snippets, or with an origin: how each is built, and its texts.
 ghost use Rattle.std.specs.Prelude.{IfOk};
-ghost use Rattle.annotate_snippets.specs.Fits.{GroupFits};
+ghost use Rattle.annotate_snippets.specs.Fits.{AnnotationFits, GroupFits, SnippetFits};
 
 use crate::drawn::{self, Texts};
 use annotate_snippets::level::{ERROR, NOTE};
 use annotate_snippets::renderer::DEFAULT_TERM_WIDTH;
-use annotate_snippets::{AnnotationKind, Element, Group, OptionCow, Origin, Snippet};
+use annotate_snippets::{Annotation, AnnotationKind, Element, Group, OptionCow, Origin, Snippet};
 use std::alloc::{AllocError, Global};
 use std::io;
 
@@ -76,9 +76,9 @@ fn labelled(alloc: Global) -> Result<Group<'static>, AllocError>
         .element(alloc, Element::from(snippet))
 }
 
-/// Two labels.
-fn two_labels(alloc: Global) -> Result<Group<'static>, AllocError>
-    ensures fits { IfOk result GroupFits }
+/// A line with two labels: `annotations`.
+fn two_marks(alloc: Global) -> Result<Snippet<'static, Annotation<'static>>, AllocError>
+    ensures fits { IfOk result (SnippetFits AnnotationFits) }
 {
     let context = AnnotationKind::Context
         .span(0..2)
@@ -86,9 +86,14 @@ fn two_labels(alloc: Global) -> Result<Group<'static>, AllocError>
     let primary = AnnotationKind::Primary
         .span(3..5)
         .label(OptionCow::from("c"));
-    let snippet = Snippet::source(alloc, "ab cd")
-        .annotation(context)?
-        .annotation(primary)?;
+    Snippet::source(alloc, "ab cd").annotations([context, primary])
+}
+
+/// Two labels.
+fn two_labels(alloc: Global) -> Result<Group<'static>, AllocError>
+    ensures fits { IfOk result GroupFits }
+{
+    let snippet = two_marks(alloc)?;
     ERROR
         .primary_title("e")
         .element(alloc, Element::from(snippet))
@@ -115,27 +120,25 @@ fn cut_line(alloc: Global) -> Result<Group<'static>, AllocError>
         .element(alloc, Element::from(snippet))
 }
 
-/// A snippet and a note: `element` of a title and of the group.
+/// A snippet and a note: `elements` of a title.
 fn note_below(alloc: Global) -> Result<Group<'static>, AllocError>
     ensures fits { IfOk result GroupFits }
 {
     let mark = AnnotationKind::Primary.span(0..1);
     let snippet = Snippet::source(alloc, "ab").annotation(mark)?;
+    let note = NOTE.message("m");
     ERROR
         .primary_title("e")
-        .element(alloc, Element::from(snippet))?
-        .element(Element::from(NOTE.message("m")))
+        .elements(alloc, [Element::from(snippet), Element::from(note)])
 }
 
-/// An origin.
+/// An origin: `elements` of a group.
 fn origin(alloc: Global) -> Result<Group<'static>, AllocError>
     ensures fits { IfOk result GroupFits }
 {
     let place = Origin::path("$DIR/mismatched-types.rs");
-    ERROR
-        .primary_title("mismatched types")
-        .id("E0308")
-        .element(alloc, Element::from(place))
+    let title = ERROR.primary_title("mismatched types").id("E0308");
+    Group::with_title(alloc, title).elements([Element::from(place)])
 }
 
 /// Builds each report, draws it, and prints what came out right.

@@ -11,7 +11,6 @@ mod free;
 mod free_model;
 mod free_parts;
 mod grid;
-mod lists;
 mod refusals;
 mod retry;
 mod source;
@@ -48,7 +47,6 @@ fn print_taking(rt: &(impl Print + AllocGlobal)) -> io::Result<()> {
     println!(rt; "what follows takes memory")?;
     causes::print(rt)?;
     suggestions::print(rt)?;
-    lists::print(rt)?;
     texts::print(rt)?;
     styles::print(rt)?;
     source::print(rt)?;

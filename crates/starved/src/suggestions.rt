@@ -49,13 +49,19 @@ fn two_offers(alloc: Global) -> Result<Group<'static>, AllocError>
         .element(other)
 }
 
+/// An insertion and a deletion: `patches`.
+fn both_patches(alloc: Global) -> Result<Snippet<'static, Patch<'static>>, AllocError>
+    ensures fits { IfOk result (SnippetFits PatchFits) }
+{
+    let patches = [Patch::new(0..0, "x"), Patch::new(2..3, "")];
+    Snippet::source(alloc, "a\nbc").patches(patches)
+}
+
 /// An insertion and a deletion.
 fn two_patches(alloc: Global) -> Result<Group<'static>, AllocError>
     ensures fits { IfOk result GroupFits }
 {
-    let snippet = Snippet::source(alloc, "a\nbc")
-        .patch(Patch::new(0..0, "x"))?
-        .patch(Patch::new(2..3, ""))?;
+    let snippet = both_patches(alloc)?;
     HELP.secondary_title("t")
         .element(alloc, Element::from(snippet))
 }
