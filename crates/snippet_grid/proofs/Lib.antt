@@ -6,6 +6,7 @@ pub mod GridChanged
 pub mod GridLemmas
 pub mod GridShown
 pub mod MetRuns
+pub mod OutcomeLemmas
 pub mod PieceLemmas
 pub mod PrintsOnce
 pub mod PutLemmas

@@ -2,8 +2,11 @@
 use Rattle.std.proofs.Common.{◌≡◌, ℕ, zero, suc, replicate, ◌+◌, ◌<◌, List, [], ◌∷◌, ◌++◌, length, map, Option, Some, refl, sym, ap, ◌∙◌, subst, arith, encode_utf8, encode_utf8_all}
 use Rattle.std.proofs.lemmas.List.{append_assoc, append-nil, replicate-append-replicate}
 use Rattle.snippet_grid.proofs.WeaveLemmas.{Url, Goes, cell_printed}
+use Rattle.std.specs.List.{flat_map}
 use Rattle.snippet_style.specs.Cell.{Cell}
+use Rattle.snippet_style.specs.Codes.{opening, reset}
 use Rattle.snippet_grid.specs.Stretch.{PrintsStretch}
+use Rattle.snippet_grid.specs.Woven.{Opening, Reset, piece_text}
 use Rattle.snippet_style.specs.Stylesheet.{style_of}
 use Rattle.snippet_style.specs.declared.role.ElementStyle.{ElementStyle}
 use Rattle.snippet_style.specs.declared.role.LevelInner.{LevelInner}
@@ -13,6 +16,13 @@ use Rattle.snippet_style.specs.declared.stylesheet.Stylesheet.{Stylesheet}
 -- the cells of these characters, in one role, with one link
 abbrev pub alike : ElementStyle → Option Url → List ℕ → List Cell
 alike role link word = map (λ ch. (let cell : Cell = record { ch = ch; role = role; link = link } in cell)) word
+
+-- the codes between two styles
+pub codes_added : (last next : Style) (old mid new code : List ℕ) → code ≡ encode_utf8_all (reset last) → mid ≡ old ++ code → new ≡ mid ++ encode_utf8_all (opening next) → new ≡ old ++ flat_map piece_text (Reset last ∷ Opening next ∷ [])
+codes_added last next old mid new code is reset_added opened =
+    let before = encode_utf8_all (reset last) in
+    let after = encode_utf8_all (opening next) in
+    opened ∙ ap (λ (t : List ℕ). t ++ after) (reset_added ∙ ap (λ (t : List ℕ). old ++ t) is) ∙ append_assoc old before after ∙ ap (λ (t : List ℕ). old ++ (before ++ t)) (sym (append-nil after))
 
 -- spaces after spaces
 pub more_spaces : (old mid new : List ℕ) (a b n : ℕ) → a + b ≡ n → mid ≡ old ++ replicate a 32 → new ≡ mid ++ replicate b 32 → new ≡ old ++ replicate n 32

@@ -23,20 +23,20 @@ pub(crate) enum Change<'a> {
 }
 
 /// The run with each of its cells changed.
-fn changed<'a>(change: Change<'a>, run: Run<'a>) -> Run<'a>
-    ensures is { IsChanged change.entry run.entry result }
+fn changed<'a>(change: Change<'a>, run: &Run<'a>) -> Run<'a>
+    ensures is { IsChanged change.entry run.now result }
 {
     match change {
         Change::Restyle(role, overwrite) => {
             if overwrite || run.role.gives_way() {
-                Run { role, ..run }
+                Run { role, ..*run }
             } else {
-                run
+                *run
             }
         }
         Change::Link(url) => Run {
             link: Some(url),
-            ..run
+            ..*run
         },
     }
 }
@@ -93,14 +93,13 @@ fn part_at<'a>(
 {
     let next = begun_by(runs, row, from);
     if next > 0 {
-        let run = runs[next - 1];
+        let run = &runs[next - 1];
         let end = run.cell + run.count;
         if from < end {
             return Ok(clipped(text.as_str(), run, from, end.min(to)));
         }
     }
-    let gap = push_gap(text, row, from, gap_end(runs, next, to))?;
-    Ok(gap)
+    push_gap(text, row, from, gap_end(runs, next, to))
 }
 
 /// Changes the cells of a row from `start` to before `end`.
@@ -124,7 +123,7 @@ fn change_row<'a>(
     let mut col = start;
     while col < end {
         let part = part_at(text, runs.as_slice(), row, col, end)?;
-        put_run(text, spare, runs, changed(change, part))?;
+        put_run(text, spare, runs, &changed(change, &part))?;
         col += part.count;
     }
     Ok(())
@@ -158,8 +157,7 @@ fn change_copied<'a>(
     fresh.clear();
     fresh.extend_from_slice(&old[from..to])?;
     change_row(text, spare, fresh, row, start, last, change)?;
-    exchange(runs, from, to, fresh)?;
-    Ok(())
+    exchange(runs, from, to, fresh)
 }
 
 /// Changes the cells of a row from `start` to before `end`, as far as they are there.
@@ -188,42 +186,7 @@ pub(crate) fn change_cells<'a>(
     let (from, to) = row_bounds(old, row);
     let part = part_at(text, &old[from..to], row, start, last)?;
     if part.count == last - start {
-        put_run(text, spare, runs, changed(change, part))?;
-        return Ok(());
+        return put_run(text, spare, runs, &changed(change, &part));
     }
-    change_copied(text, spare, fresh, runs, widths, row, start, end, change)?;
-    Ok(())
-}
-
-/// Changes one cell of a row, if it is there.
-pub(crate) fn change_cell<'a>(
-    text: &mut String,
-    spare: &mut Spare<'a>,
-    fresh: &mut Vec<Run<'a>>,
-    runs: &mut Vec<Run<'a>>,
-    widths: &[usize],
-    row: usize,
-    cell: usize,
-    change: Change<'a>,
-) -> Result<(), AllocError>
-    requires grid { IsGrid (string_bytes text.old) runs.old.items widths.now }
-    ensures ok { OnOk result (grid_shown (string_bytes text.new) runs.new.items widths.now ≡ cells_changed (changed_by change.entry) (grid_shown (string_bytes text.old) runs.old.items widths.now) row cell (cell + 1)) }
-    ensures grid { IsGrid (string_bytes text.new) runs.new.items widths.now }
-    ensures runs_added { length runs.new.items ≤ length runs.old.items + 2 }
-    ensures err { OnErr result (grid_shown (string_bytes text.new) runs.new.items widths.now ≡ grid_shown (string_bytes text.old) runs.old.items widths.now) }
-{
-    if cell < width_of(widths, row) {
-        change_cells(
-            text,
-            spare,
-            fresh,
-            runs,
-            widths,
-            row,
-            cell,
-            cell + 1,
-            change,
-        )?;
-    }
-    Ok(())
+    change_copied(text, spare, fresh, runs, widths, row, start, end, change)
 }

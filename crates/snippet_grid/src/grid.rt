@@ -12,7 +12,7 @@ ghost use Rattle.snippet_grid.specs.Print as spec;
 ghost use Rattle.snippet_style.specs.Stylesheet.{is_plain_sheet};
 ghost use Rattle.snippet_grid.specs.Woven.{Prints, IsWoven, links_of};
 
-use crate::change::{Change, change_cell, change_cells};
+use crate::change::{Change, change_cells};
 use crate::put::Spare;
 use crate::replace::replace_cells;
 use crate::runs::Run;
@@ -229,16 +229,11 @@ impl<'a> StyledBuffer<'a> {
             (RestylesCells self.old self.new row cell (cell + 1) style overwrite) }
         ensures err { OnErr result (self.new ≡ self.old) }
     {
-        change_cell(
-            &mut self.text,
-            &mut self.spare,
-            &mut self.fresh,
-            &mut self.runs,
-            &self.widths,
-            row,
-            cell,
-            Change::Restyle(style, overwrite),
-        )
+        let width = width_of(&self.widths, row);
+        if cell >= width {
+            return Ok(());
+        }
+        self.set_style_range(row, cell, cell + 1, style, overwrite)
     }
 
     /// Does what `set_style` does with each cell of this row from `start` to before `end`. Cells

@@ -7,7 +7,7 @@ ghost use Rattle.snippet_grid.specs.Runs.{IsRun, BeginsWith, Precedes, Differ, I
 ghost use Rattle.snippet_grid.specs.declared.runs.Run.{Run};
 ghost use Rattle.std.specs.List.{AllPairs, slice_index_or};
 
-use crate::runs::{Run, add_run, begun_by, clipped, goes_on, joined};
+use crate::runs::{Run, add_run, begun_by, clipped, goes_on, join};
 use std::alloc::AllocError;
 
 /// Whether all runs stand before this one.
@@ -20,7 +20,7 @@ fn are_before(runs: &[Run<'_>], run: &Run<'_>) -> bool
     if len == 0 {
         return true;
     }
-    let last = runs[len - 1];
+    let last = &runs[len - 1];
     last.row < run.row || last.row == run.row && last.cell + last.count <= run.cell
 }
 
@@ -59,7 +59,7 @@ fn front_of<'a>(text: &str, touched: &[Run<'a>], run: &Run<'a>) -> Option<Run<'a
     if len == 0 {
         return None;
     }
-    let first = touched[0];
+    let first = &touched[0];
     if run.cell <= first.cell {
         return None;
     }
@@ -76,8 +76,9 @@ fn back_of<'a>(text: &str, touched: &[Run<'a>], run: &Run<'a>) -> Option<Run<'a>
     if len == 0 {
         return None;
     }
-    let last = touched[len - 1];
-    let (from, to) = (run.cell + run.count, last.cell + last.count);
+    let last = &touched[len - 1];
+    let from = run.cell + run.count;
+    let to = last.cell + last.count;
     if to <= from {
         return None;
     }
@@ -90,24 +91,24 @@ fn add_pieces<'a>(
     copy: &mut String,
     pieces: &mut Vec<Run<'a>>,
     touched: &[Run<'a>],
-    run: Run<'a>,
+    run: &Run<'a>,
 ) -> Result<(), AllocError>
     requires none { pieces.old.items ≡ [] }
-    requires touched { IsTouched (string_bytes text.old) run touched.now }
-    requires run { IsRun (string_bytes text.old) run }
+    requires touched { IsTouched (string_bytes text.old) run.now touched.now }
+    requires run { IsRun (string_bytes text.old) run.now }
     ensures text { BeginsWith (string_bytes text.old) (string_bytes text.new) }
-    ensures pieces { OnOk result (ArePieces (string_bytes text.old) (string_bytes text.new) touched.now pieces.new.items run.entry) }
+    ensures pieces { OnOk result (ArePieces (string_bytes text.old) (string_bytes text.new) touched.now pieces.new.items run.now) }
 {
-    let front = front_of(text.as_str(), touched, &run);
-    let back = back_of(text.as_str(), touched, &run);
+    let front = front_of(text.as_str(), touched, run);
+    let back = back_of(text.as_str(), touched, run);
     if let Some(left) = front {
         pieces.push(left)?;
     }
     add_run(text, copy, pieces, run)?;
-    if let Some(right) = back {
-        add_run(text, copy, pieces, right)?;
+    match back {
+        Some(right) => add_run(text, copy, pieces, &right),
+        None => Ok(()),
     }
-    Ok(())
 }
 
 /// Puts one more run than there are in place of those from `start` to before `end`. Those after them move once.
@@ -141,20 +142,18 @@ pub(crate) fn exchange<'a>(
     ensures ok { OnOk result (runs.new.items ≡ take start runs.old.items ++ fresh.old.items ++ drop end runs.old.items) }
     ensures err { OnErr result (runs.new.items ≡ runs.old.items) }
 {
-    let (old, new) = (end - start, fresh.len());
-    if new == old {
+    let count = end - start;
+    if fresh.len() == count {
         runs[start..end].copy_from_slice(fresh);
         return Ok(());
     }
-    if new == old + 1 {
-        insert_one(runs, start, end, fresh)?;
-        return Ok(());
+    if fresh.len() == count + 1 {
+        return insert_one(runs, start, end, fresh);
     }
     fresh.extend_from_slice(&runs[end..])?;
     runs.reserve(fresh.len())?;
     runs.truncate(start);
-    runs.extend_from_slice(fresh)?;
-    Ok(())
+    runs.extend_from_slice(fresh)
 }
 
 /// Room for a change that is made: what is left in it means nothing.
@@ -169,27 +168,24 @@ pub(crate) fn put_run<'a>(
     text: &mut String,
     spare: &mut Spare<'a>,
     runs: &mut Vec<Run<'a>>,
-    run: Run<'a>,
+    run: &Run<'a>,
 ) -> Result<(), AllocError>
     requires runs { All (λ x. IsRun (string_bytes text.old) x) runs.old.items }
     requires ordered { AllPairs (λ a b. Precedes a b) runs.old.items }
     requires apart { AllPairs (λ a b. Differ a b) runs.old.items }
-    requires run { IsRun (string_bytes text.old) run }
+    requires run { IsRun (string_bytes text.old) run.now }
     ensures text { BeginsWith (string_bytes text.old) (string_bytes text.new) }
-    ensures ok { OnOk result (IsPut (string_bytes text.old) (string_bytes text.new) runs.old.items runs.new.items run.entry) }
+    ensures ok { OnOk result (IsPut (string_bytes text.old) (string_bytes text.new) runs.old.items runs.new.items run.now) }
     ensures err { OnErr result (runs.new.items ≡ runs.old.items) }
 {
     let old = runs.as_slice();
-    if are_before(old, &run) {
-        add_run(text, &mut spare.text, runs, run)?;
-        return Ok(());
+    if are_before(old, run) {
+        return add_run(text, &mut spare.text, runs, run);
     }
     let end = begun_by(old, run.row, run.cell + run.count);
-    let start = first_touched(old, end, &run);
-    if end - start == 1 && goes_on(&old[start], &run) {
-        let whole = joined(text, &mut spare.text, old[start], run)?;
-        runs[start] = whole;
-        return Ok(());
+    let start = first_touched(old, end, run);
+    if end - start == 1 && goes_on(&old[start], run) {
+        return join(text, &mut spare.text, &mut runs[start], run);
     }
     spare.runs.clear();
     add_pieces(
@@ -199,6 +195,5 @@ pub(crate) fn put_run<'a>(
         &old[start..end],
         run,
     )?;
-    exchange(runs, start, end, &mut spare.runs)?;
-    Ok(())
+    exchange(runs, start, end, &mut spare.runs)
 }

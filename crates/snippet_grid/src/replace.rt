@@ -36,8 +36,7 @@ fn add_word<'a>(
         return Ok(());
     }
     let run = push_word(text, row, at, word, role)?;
-    add_run(text, copy, out, run)?;
-    Ok(())
+    add_run(text, copy, out, &run)
 }
 
 /// Lays out the runs of a row with a text in place of the cells from `start` to before `end`.
@@ -61,13 +60,13 @@ fn replaced_row<'a>(
     ensures ends { (n : ℕ) → EndsBy n runs.now → OnOk result (EndsBy (start + length (chars word.now) + (n - end)) spare.new.runs.items) }
     ensures count { OnOk result (length spare.new.runs.items ≤ length runs.now + 2) }
 {
-    let (copy, fresh) = (&mut spare.text, &mut spare.runs);
+    let copy = &mut spare.text;
+    let fresh = &mut spare.runs;
     fresh.clear();
     copy_cells(text, copy, fresh, runs, row, 0, start, 0)?;
     add_word(text, copy, fresh, row, start, word, role)?;
     let at = start + char_count(word);
-    copy_cells(text, copy, fresh, runs, row, end, usize::MAX, at)?;
-    Ok(())
+    copy_cells(text, copy, fresh, runs, row, end, usize::MAX, at)
 }
 
 /// Puts a text in place of the cells of a row from `start` to before `end`, if they are there.

@@ -37,9 +37,9 @@ pub(crate) fn goes_on(first: &Run<'_>, second: &Run<'_>) -> bool
 }
 
 /// The run with a copy of its characters, which begins where the text ended. `copy` is there for its room.
-fn copied<'a>(text: &mut String, copy: &mut String, run: Run<'a>) -> Result<Run<'a>, AllocError>
-    requires run { IsRun (string_bytes text.old) run }
-    ensures ok { IfOk result (λ moved. IsMoved (string_bytes text.old) (string_bytes text.new) run.entry moved) }
+fn copied<'a>(text: &mut String, copy: &mut String, run: &Run<'a>) -> Result<Run<'a>, AllocError>
+    requires run { IsRun (string_bytes text.old) run.now }
+    ensures ok { IfOk result (λ moved. IsMoved (string_bytes text.old) (string_bytes text.new) run.now moved) }
     ensures start { IfOk result (λ moved. moved.start ≡ length (string_bytes text.old)) }
     ensures text { BeginsWith (string_bytes text.old) (string_bytes text.new) }
 {
@@ -50,18 +50,18 @@ fn copied<'a>(text: &mut String, copy: &mut String, run: Run<'a>) -> Result<Run<
     Ok(Run {
         start,
         end: text.len(),
-        ..run
+        ..*run
     })
 }
 
 /// The run with its characters at the end of the text: copied there, unless they stand there.
-fn at_end<'a>(text: &mut String, copy: &mut String, run: Run<'a>) -> Result<Run<'a>, AllocError>
-    requires run { IsRun (string_bytes text.old) run }
-    ensures ok { IfOk result (λ moved. IsMoved (string_bytes text.old) (string_bytes text.new) run.entry moved) }
+fn at_end<'a>(text: &mut String, copy: &mut String, run: &Run<'a>) -> Result<Run<'a>, AllocError>
+    requires run { IsRun (string_bytes text.old) run.now }
+    ensures ok { IfOk result (λ moved. IsMoved (string_bytes text.old) (string_bytes text.new) run.now moved) }
     ensures text { BeginsWith (string_bytes text.old) (string_bytes text.new) }
 {
     if run.end == text.len() {
-        return Ok(run);
+        return Ok(*run);
     }
     copied(text, copy, run)
 }
@@ -83,35 +83,34 @@ fn stands_at(text: &str, at: usize, run: &Run<'_>) -> bool
     bytes[at..at + len] == bytes[run.start..run.end]
 }
 
-/// Two runs as one, the second going on where the first ends. Where the text goes on with the second's characters, nothing
-/// is copied.
-pub(crate) fn joined<'a>(
+/// Adds to a run another one, which goes on where it ends. Where the text goes on with the second's characters, nothing is
+/// copied.
+pub(crate) fn join<'a>(
     text: &mut String,
     copy: &mut String,
-    first: Run<'a>,
-    second: Run<'a>,
-) -> Result<Run<'a>, AllocError>
-    requires first { IsRun (string_bytes text.old) first }
-    requires second { IsRun (string_bytes text.old) second }
-    requires goes_on { GoesOn first second }
-    ensures ok { IfOk result (λ whole. IsJoined (string_bytes text.old) (string_bytes text.new) first.entry second.entry whole) }
+    first: &mut Run<'a>,
+    second: &Run<'a>,
+) -> Result<(), AllocError>
+    requires first { IsRun (string_bytes text.old) first.old }
+    requires second { IsRun (string_bytes text.old) second.now }
+    requires goes_on { GoesOn first.old second.now }
+    ensures ok { OnOk result (IsJoined (string_bytes text.old) (string_bytes text.new) first.old second.now first.new) }
     ensures text { BeginsWith (string_bytes text.old) (string_bytes text.new) }
+    ensures err { OnErr result (first.new ≡ first.old) }
 {
-    let count = first.count + second.count;
-    if stands_at(text.as_str(), first.end, &second) {
-        return Ok(Run {
-            count,
-            end: first.end + (second.end - second.start),
-            ..first
-        });
+    if stands_at(text.as_str(), first.end, second) {
+        first.count += second.count;
+        first.end += second.end - second.start;
+        return Ok(());
     }
     let front = at_end(text, copy, first)?;
     let behind = copied(text, copy, second)?;
-    Ok(Run {
-        count,
+    *first = Run {
+        count: first.count + second.count,
         end: behind.end,
         ..front
-    })
+    };
+    Ok(())
 }
 
 /// Adds a run after others, and joins it to the last where it goes on.
@@ -119,26 +118,24 @@ pub(crate) fn add_run<'a>(
     text: &mut String,
     copy: &mut String,
     runs: &mut Vec<Run<'a>>,
-    run: Run<'a>,
+    run: &Run<'a>,
 ) -> Result<(), AllocError>
     requires runs { All (λ old. IsRun (string_bytes text.old) old) runs.old.items }
-    requires run { IsRun (string_bytes text.old) run }
+    requires run { IsRun (string_bytes text.old) run.now }
     ensures text { BeginsWith (string_bytes text.old) (string_bytes text.new) }
-    ensures ok { OnOk result (ShowsMore (string_bytes text.old) (string_bytes text.new) runs.old.items runs.new.items run.entry) }
+    ensures ok { OnOk result (ShowsMore (string_bytes text.old) (string_bytes text.new) runs.old.items runs.new.items run.now) }
     ensures are_runs { OnOk result (All (λ new. IsRun (string_bytes text.new) new) runs.new.items) }
-    ensures adds { OnOk result (AddsRun runs.old.items runs.new.items run.entry) }
+    ensures adds { OnOk result (AddsRun runs.old.items runs.new.items run.now) }
     ensures err { OnErr result (runs.new.items ≡ runs.old.items) }
 {
     let len = runs.len();
     if len > 0 {
-        let last = runs[len - 1];
-        if goes_on(&last, &run) {
-            let whole = joined(text, copy, last, run)?;
-            runs[len - 1] = whole;
-            return Ok(());
+        let last = &runs[len - 1];
+        if goes_on(last, run) {
+            return join(text, copy, &mut runs[len - 1], run);
         }
     }
-    runs.push(run)?;
+    runs.push(*run)?;
     Ok(())
 }
 
@@ -175,24 +172,24 @@ fn byte_in(text: &str, run: &Run<'_>, count: usize) -> usize
 }
 
 /// The part of a run from one of its cells to before another.
-pub(crate) fn clipped<'a>(text: &str, run: Run<'a>, from: usize, to: usize) -> Run<'a>
-    requires run { IsRun text.now run }
-    requires low { run.cell ≤ from }
+pub(crate) fn clipped<'a>(text: &str, run: &Run<'a>, from: usize, to: usize) -> Run<'a>
+    requires run { IsRun text.now run.now }
+    requires low { run.now.cell ≤ from }
     requires some { from < to }
-    requires high { to ≤ run.cell + run.count }
-    ensures part { IsPart text.now run.entry from to result }
+    requires high { to ≤ run.now.cell + run.now.count }
+    ensures part { IsPart text.now run.now from to result }
 {
     if from == run.cell && to == run.cell + run.count {
-        return run;
+        return *run;
     }
-    let skipped = byte_in(text, &run, from - run.cell);
-    let kept = byte_in(text, &run, to - run.cell);
+    let skipped = byte_in(text, run, from - run.cell);
+    let kept = byte_in(text, run, to - run.cell);
     Run {
         cell: from,
         count: to - from,
         start: run.start + skipped,
         end: run.start + kept,
-        ..run
+        ..*run
     }
 }
 
@@ -222,13 +219,13 @@ pub(crate) fn copy_cells<'a>(
         let start = run.cell.max(from);
         let end = (run.cell + run.count).min(to);
         if start < end {
-            let part = clipped(text.as_str(), *run, start, end);
+            let part = clipped(text.as_str(), run, start, end);
             let piece = Run {
                 row,
                 cell: at + (start - from),
                 ..part
             };
-            add_run(text, copy, out, piece)?;
+            add_run(text, copy, out, &piece)?;
         }
     }
     Ok(())

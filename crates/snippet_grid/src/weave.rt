@@ -96,8 +96,7 @@ fn weave_row(
         link = None;
     }
     end_link(out, link, None)?;
-    out.push_str(reset_code(style))?;
-    Ok(())
+    out.push_str(reset_code(style))
 }
 
 /// Adds a text in a style and with a link, after what was printed in another style and with another link.
@@ -115,8 +114,7 @@ fn weave_stretch(
     end_link(out, last_link, next_link)?;
     change_style(out, last, next)?;
     begin_link(out, last_link, next_link)?;
-    out.push_str(word)?;
-    Ok(())
+    out.push_str(word)
 }
 
 /// Adds unstyled spaces after what was printed in a style and with a link.
@@ -131,8 +129,7 @@ fn weave_gap(
 {
     end_link(out, last_link, None)?;
     change_style(out, last, next)?;
-    push_spaces(out, count)?;
-    Ok(())
+    push_spaces(out, count)
 }
 
 /// Ends the link that is open, unless it goes on.

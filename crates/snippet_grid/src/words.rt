@@ -39,12 +39,12 @@ fn make_first_room(
     ensures runs { runs.new.items ≡ runs.old.items }
     ensures widths { widths.new.items ≡ widths.old.items }
 {
-    if runs.is_empty() {
-        text.reserve(FIRST_BYTES)?;
-        runs.reserve(FIRST_RUNS)?;
-        widths.reserve(FIRST_ROWS)?;
+    if !runs.is_empty() {
+        return Ok(());
     }
-    Ok(())
+    text.reserve(FIRST_BYTES)?;
+    runs.reserve(FIRST_RUNS)?;
+    widths.reserve(FIRST_ROWS)
 }
 
 /// Makes room for a row of this number.
@@ -117,13 +117,13 @@ fn place_run<'a>(
     spare: &mut Spare<'a>,
     runs: &mut Vec<Run<'a>>,
     widths: &mut Vec<usize>,
-    run: Run<'a>,
+    run: &Run<'a>,
 ) -> Result<(), AllocError>
     requires grid { IsGrid (string_bytes text.old) runs.old.items widths.old.items }
-    requires run { IsRun (string_bytes text.old) run }
-    requires unlinked { option_copied run.link ≡ None }
-    requires row { run.row + 1 < 2 ^ 64 }
-    ensures ok { OnOk result (grid_shown (string_bytes text.new) runs.new.items widths.new.items ≡ cells_written (grid_shown (string_bytes text.old) runs.old.items widths.old.items) run.entry.row run.entry.cell (drawn run.entry.role (run_chars (string_bytes text.old) run.entry))) }
+    requires run { IsRun (string_bytes text.old) run.now }
+    requires unlinked { option_copied run.now.link ≡ None }
+    requires row { run.now.row + 1 < 2 ^ 64 }
+    ensures ok { OnOk result (grid_shown (string_bytes text.new) runs.new.items widths.new.items ≡ cells_written (grid_shown (string_bytes text.old) runs.old.items widths.old.items) run.now.row run.now.cell (drawn run.now.role (run_chars (string_bytes text.old) run.now))) }
     ensures grid { IsGrid (string_bytes text.new) runs.new.items widths.new.items }
     ensures runs_added { length runs.new.items ≤ length runs.old.items + 2 }
     ensures rows { length widths.old.items < 2 ^ 60 → length widths.new.items < 2 ^ 60 }
@@ -158,6 +158,5 @@ pub(crate) fn write_word<'a>(
 {
     make_first_room(text, runs, widths)?;
     let run = push_word(text, row, at, word, role)?;
-    place_run(text, spare, runs, widths, run)?;
-    Ok(())
+    place_run(text, spare, runs, widths, &run)
 }

@@ -1,9 +1,11 @@
-use Rattle.std.proofs.Common.{◌∙◌, ◌++◌, ◌<◌, ◌≤◌, ◌^◌, ap, arith, refl, sym, subst, min, string_bytes, get_or, List, ℕ, All}
+use Rattle.std.proofs.Common.{◌≡◌, ◌∙◌, ◌++◌, ◌+◌, ◌-◌, ◌*◌, ◌<◌, ◌≤◌, ◌^◌, ap, arith, refl, sym, subst, min, string_bytes, get_or, length, take, drop, List, ℕ, All}
+use Rattle.std.proofs.lemmas.Result.{on_ok_weaker, on_err_weaker}
 use Rattle.snippet_grid.proofs.ChangeLemmas.{cells_changed_none}
 use Rattle.snippet_grid.proofs.GridChanged.{IsExchanged, IsGrid-put, FitIn-put, grid_changed}
 use Rattle.snippet_grid.proofs.GridShown.{on_err_from, IsGrid-grown, grid_grown, width_shown}
+use Rattle.snippet_grid.proofs.OutcomeLemmas.{on_either}
 use Rattle.snippet_grid.proofs.PutLemmas.{AreOrdered, AreApart, IsRow-stretch}
-use Rattle.snippet_grid.proofs.RowPut.{RowAt-read, begins_fit}
+use Rattle.snippet_grid.proofs.RowPut.{RowAt-read, begins_fit, put_length, length-stretch}
 use Rattle.snippet_grid.proofs.StretchLemmas.{stretch}
 use Rattle.snippet_grid.specs.Changes.{changed_by, ShowsSpan}
 use Rattle.snippet_grid.specs.Runs.{IsRun, IsRow, EndsBy, FitIn, grid_shown, shown}
@@ -38,50 +40,33 @@ pub returns-in_err-change_row-clause-err : goal.returns-in_err-change_row-clause
 returns-in_err-change_row-clause-err c =
     on_err_from c.from_residual-in_err-change_row.result (grid_grown (string_bytes c.args.text.now) (string_bytes c.change_row.new.text) c.args.runs.now.items c.args.runs.now.items c.args.widths.now c.args.widths.now c.in_err-change_row.ensures.text refl refl c.requires.grid)
 
-pub returns-in_err-exchange-clause-grid : goal.returns-in_err-exchange-clause-grid
-returns-in_err-exchange-clause-grid c =
-    IsGrid-grown (string_bytes c.args.text.now) (string_bytes c.change_row.new.text) c.args.runs.now.items c.exchange.new.runs.items c.args.widths.now c.args.widths.now c.in_ok-change_row.ensures.text c.in_err-exchange.ensures.err refl c.requires.grid
-
-pub returns-in_err-exchange-clause-err : goal.returns-in_err-exchange-clause-err
-returns-in_err-exchange-clause-err c =
-    on_err_from c.from_residual-in_err-exchange.result (grid_grown (string_bytes c.args.text.now) (string_bytes c.change_row.new.text) c.args.runs.now.items c.exchange.new.runs.items c.args.widths.now c.args.widths.now c.in_ok-change_row.ensures.text c.in_err-exchange.ensures.err refl c.requires.grid)
-
-put_there : (c : goal.In_ok-exchange) → IsExchanged (string_bytes c.args.text.now) (string_bytes c.change_row.new.text) c.args.runs.now.items c.exchange.new.runs.items c.change_row.new.runs.items c.args.row c.row_bounds-from.result.0 c.row_bounds-from.result.1
-put_there c =
-    record {
-      at = RowAt-read c.args.runs.now.items c.as_slice-old.result.now c.args.row c.row_bounds-from.result.0 c.row_bounds-from.result.1 c.as_slice-old.ensures.value record { ordered = c.row_bounds-from.ensures.bounds.0; within = c.row_bounds-from.ensures.bounds.1; above = c.row_bounds-from.ensures.above; inside = c.row_bounds-from.ensures.inside; below = c.row_bounds-from.ensures.below };
-      grows = c.in_ok-change_row.ensures.text;
-      are_runs = c.requires.grid.are_runs;
-      ordered = c.requires.grid.ordered;
-      apart = c.requires.grid.apart;
-      is_row = c.in_ok-change_row.ensures.row;
-      is = c.in_ok-exchange.ensures.ok;
-    }
-
-fits_there : (c : goal.In_ok-exchange) → FitIn c.args.widths.now c.exchange.new.runs.items
-fits_there c =
-    let is = c.as_slice-old.ensures.value in
-    let from = c.row_bounds-from.result.0 in
-    let to = c.row_bounds-from.result.1 in
-    let width : ℕ = get_or c.args.widths.now c.args.row 0 in
-    let copied = c.in_ok-extend_from_slice.ensures.items ∙ ap (λ (l : List Run). l ++ stretch c.as_slice-old.result.now from to) c.clear.ensures.items in
-    let high : c.min-last.result ≤ width = omega (arith, c.min-last.ensures, c.width_of.ensures.value) in
-    FitIn-put (string_bytes c.args.text.now) (string_bytes c.change_row.new.text) c.args.runs.now.items c.exchange.new.runs.items c.change_row.new.runs.items c.args.widths.now c.args.row from to (put_there c) c.requires.grid.inside (λ all. c.in_ok-change_row.ensures.ends width (subst (λ (l : List Run). EndsBy width l) (sym copied) (subst (λ (l : List Run). EndsBy width (stretch l from to)) (sym is) all)) high)
-
-pub returns-clause-ok : goal.returns-clause-ok
-returns-clause-ok c =
+pub returns : goal.returns
+returns c =
     let is = c.as_slice-old.ensures.value in
     let from = c.row_bounds-from.result.0 in
     let to = c.row_bounds-from.result.1 in
     let old = string_bytes c.args.text.now in
     let new = string_bytes c.change_row.new.text in
+    let row = c.args.row in
+    let runs = c.args.runs.now.items in
+    let now = c.exchange.new.runs.items in
     let fresh = c.change_row.new.runs.items in
+    let w = c.args.widths.now in
     let f = changed_by c.args.change in
+    let grows = c.in_ok-change_row.ensures.text in
     let copied = c.in_ok-extend_from_slice.ensures.items ∙ ap (λ (l : List Run). l ++ stretch c.as_slice-old.result.now from to) c.clear.ensures.items in
-    let there = subst (λ (l : List Run). ShowsSpan old new l fresh c.args.row c.args.start c.min-last.result (λ k. f (shown old l c.args.row k))) copied c.in_ok-change_row.ensures.ok in
-    let shows = subst (λ (l : List Run). ShowsSpan old new (stretch l from to) fresh c.args.row c.args.start c.min-last.result (λ k. f (shown old (stretch l from to) c.args.row k))) is there in
-    grid_changed f old new c.args.runs.now.items c.exchange.new.runs.items fresh c.args.widths.now c.args.row c.args.start c.args.end c.min-last.result from to (put_there c) (c.min-last.ensures ∙ ap (min c.args.end) c.width_of.ensures.value) c.requires.grid.inside (fits_there c) shows
-
-pub returns-clause-grid : goal.returns-clause-grid
-returns-clause-grid c =
-    IsGrid-put (string_bytes c.args.text.now) (string_bytes c.change_row.new.text) c.args.runs.now.items c.exchange.new.runs.items c.change_row.new.runs.items c.args.widths.now c.args.widths.now c.args.row c.row_bounds-from.result.0 c.row_bounds-from.result.1 (put_there c) (fits_there c)
+    let at = RowAt-read runs c.as_slice-old.result.now row from to is record { ordered = c.row_bounds-from.ensures.bounds.0; within = c.row_bounds-from.ensures.bounds.1; above = c.row_bounds-from.ensures.above; inside = c.row_bounds-from.ensures.inside; below = c.row_bounds-from.ensures.below } in
+    let width : ℕ = get_or w row 0 in
+    let high : c.min-last.result ≤ width = omega (arith, c.min-last.ensures, c.width_of.ensures.value) in
+    let there = subst (λ (l : List Run). ShowsSpan old new l fresh row c.args.start c.min-last.result (λ k. f (shown old l row k))) copied c.in_ok-change_row.ensures.ok in
+    let shows = subst (λ (l : List Run). ShowsSpan old new (stretch l from to) fresh row c.args.start c.min-last.result (λ k. f (shown old (stretch l from to) row k))) is there in
+    let ends = λ (all : EndsBy width (stretch runs from to)). c.in_ok-change_row.ensures.ends width (subst (λ (l : List Run). EndsBy width l) (sym copied) (subst (λ (l : List Run). EndsBy width (stretch l from to)) (sym is) all)) high in
+    let put : now ≡ take from runs ++ fresh ++ drop to runs → IsExchanged old new runs now fresh row from to = λ done. record { at = at; grows = grows; are_runs = c.requires.grid.are_runs; ordered = c.requires.grid.ordered; apart = c.requires.grid.apart; is_row = c.in_ok-change_row.ensures.row; is = done } in
+    let fits : now ≡ take from runs ++ fresh ++ drop to runs → FitIn w now = λ done. FitIn-put old new runs now fresh w row from to (put done) c.requires.grid.inside ends in
+    let long : length fresh ≤ length (stretch runs from to) + 2 * (c.args.end - c.args.start) = omega (arith, c.in_ok-change_row.ensures.count, ap length copied, ap (λ (l : List Run). length (stretch l from to)) is, c.min-last.ensures) in
+    record {
+      ok = on_ok_weaker c.exchange.result (λ done. grid_changed f old new runs now fresh w row c.args.start c.args.end c.min-last.result from to (put done) (c.min-last.ensures ∙ ap (min c.args.end) c.width_of.ensures.value) c.requires.grid.inside (fits done) shows) c.exchange.ensures.ok;
+      grid = on_either c.exchange.result (on_ok_weaker c.exchange.result (λ done. IsGrid-put old new runs now fresh w w row from to (put done) (fits done)) c.exchange.ensures.ok) (on_err_weaker c.exchange.result (λ same. IsGrid-grown old new runs now w w grows same refl c.requires.grid) c.exchange.ensures.err);
+      runs_added = on_either c.exchange.result (on_ok_weaker c.exchange.result (λ done. omega (arith, put_length runs now fresh row from to at done, long, length-stretch runs row from to at)) c.exchange.ensures.ok) (on_err_weaker c.exchange.result (λ same. omega (arith, ap length same)) c.exchange.ensures.err);
+      err = on_err_weaker c.exchange.result (λ same. grid_grown old new runs now w w grows same refl c.requires.grid) c.exchange.ensures.err;
+    }

@@ -1,6 +1,7 @@
 use Rattle.std.proofs.Common.{◌+◌, ◌-◌, ◌<◌, ◌≤◌, arith, get_or, inl, inr, length, string_bytes, subst, sym, List, ℕ}
 use Rattle.std.proofs.lemmas.Bool.{cases_lt}
 use Rattle.std.proofs.lemmas.List.{get_or_default}
+use Rattle.std.proofs.lemmas.Result.{IfOk-weaker}
 use Rattle.snippet_grid.proofs.ChangedRow.{part_held, part_free}
 use Rattle.snippet_grid.proofs.RunLemmas.{none}
 use Rattle.snippet_grid.specs.Runs.{IsPart}
@@ -39,4 +40,4 @@ returns-clause-ok c =
       | else-next-gt0 w ↦ absurd (omega (arith, some, w.if-next-gt0.false))
     ] in
     let after : (d : Run) → n < length c.args.runs.now → c.gap_end.result ≤ (get_or c.args.runs.now n d).cell = λ d more. omega (arith, c.gap_end.ensures.next d more) in
-    part_free (string_bytes c.args.text.now) (string_bytes c.push_gap.new.text) c.args.runs.now _ c.args.row c.args.from c.args.to c.gap_end.result n c.requires.runs c.begun_by-next.ensures.within before after c.gap_end.ensures.within c.in_ok-gap.ensures.ok
+    IfOk-weaker c.push_gap.result _ _ (λ gap is. part_free (string_bytes c.args.text.now) (string_bytes c.push_gap.new.text) c.args.runs.now gap c.args.row c.args.from c.args.to c.gap_end.result n c.requires.runs c.begun_by-next.ensures.within before after c.gap_end.ensures.within is) c.push_gap.ensures.ok

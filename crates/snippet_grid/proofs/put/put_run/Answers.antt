@@ -1,45 +1,57 @@
-use Rattle.std.proofs.Common.{arith, ◌<◌, ◌≤◌, sym, subst, string_bytes, length, get_or, set, List, ℕ, All}
-use Rattle.std.proofs.lemmas.List.{get_or_default}
+use Rattle.std.proofs.Common.{arith, ◌<◌, ◌≤◌, ◌∙◌, ap, sym, subst, string_bytes, length, get_or, set, List, ℕ, All}
+use Rattle.std.proofs.lemmas.List.{get_or_default, set-get_or}
+use Rattle.std.proofs.lemmas.Result.{on_ok_weaker, on_err_weaker}
+use Rattle.snippet_grid.proofs.OutcomeLemmas.{on_ok_three}
 use Rattle.snippet_grid.proofs.PieceLemmas.{IsPut-one}
 use Rattle.snippet_grid.proofs.RunLemmas.{none}
 use Rattle.snippet_grid.proofs.PutLemmas.{AllFit, AreOrdered, AreApart, fits_all}
 use Rattle.snippet_grid.proofs.StretchLemmas.{stretch}
 use Rattle.snippet_grid.proofs.TouchLemmas.{IsPut-added, IsPut-touched, touched_stretch}
-use Rattle.snippet_grid.specs.Runs.{IsRun, IsClear, Touches, ArePieces, Precedes, IsPut}
+use Rattle.snippet_grid.specs.Runs.{IsRun, GoesOn, IsClear, Touches, ArePieces, Precedes}
 use Rattle.snippet_grid.specs.declared.runs.Run.{Run}
 use Rattle.snippet_grid.proofs.put.put_run.Goals as goal
 
 pub returns-then-are_before-clause-ok : goal.returns-then-are_before-clause-ok
 returns-then-are_before-clause-ok c =
-    let before = subst (λ (l : List Run). All (λ x. Precedes x c.args.run) l) c.as_slice-old.ensures.value (c.are_before.ensures.yes c.if-are_before.true) in
-    IsPut-added (string_bytes c.args.text.now) (string_bytes c.add_run.new.text) c.args.runs.now.items c.add_run.new.runs.items c.args.run c.in_ok-add_run.ensures.ok c.in_ok-add_run.ensures.are_runs c.requires.ordered c.requires.apart before c.in_ok-add_run.ensures.adds
+    let before = subst (λ (l : List Run). All (λ x. Precedes x c.args.run.now) l) c.as_slice-old.ensures.value (c.are_before.ensures.yes c.if-are_before.true) in
+    on_ok_three c.add_run.result (λ shows are adds. IsPut-added (string_bytes c.args.text.now) (string_bytes c.add_run.new.text) c.args.runs.now.items c.add_run.new.runs.items c.args.run.now shows are c.requires.ordered c.requires.apart before adds) c.add_run.ensures.ok c.add_run.ensures.are_runs c.add_run.ensures.adds
 
 pub returns-then-goes_on-clause-ok : goal.returns-then-goes_on-clause-ok
 returns-then-goes_on-clause-ok c =
-    let text = string_bytes c.args.text.now in
-    let new = string_bytes c.joined.new.text in
-    let runs = c.as_slice-old.result.now in
-    let is = sym c.as_slice-old.ensures.value in
+    let old = string_bytes c.args.text.now in
+    let new = string_bytes c.join.new.text in
+    let is = c.as_slice-old.ensures.value in
+    let items = c.args.runs.now.items in
     let start = c.first_touched-start.result in
     let end = c.begun_by-end.result in
-    let run = c.args.run in
-    let whole = c.in_ok-whole.whole in
-    let first = get_or runs start none in
-    let put = IsPut-one text new runs run first whole start end (omega (arith, c.if-end-start-eq1.true)) c.begun_by-end.ensures.within (get_or_default runs start none first (omega (arith, c.if-end-start-eq1.true, c.begun_by-end.ensures.within))) c.first_touched-start.ensures.before c.first_touched-start.ensures.touch c.begun_by-end.ensures.later (subst (λ (l : List Run). All (λ x. IsRun text x) l) is c.requires.runs) (subst AreOrdered is c.requires.ordered) (subst AreApart is c.requires.apart) c.in_ok-whole.ensures.text c.requires.run (c.goes_on.ensures.yes c.if-goes_on.true) c.in_ok-whole.ensures.ok in
-    subst (λ (l : List Run). IsPut text new l (set l start whole) run) c.as_slice-old.ensures.value put
+    let run = c.args.run.now in
+    let first = c.index_mut.result.now in
+    let high : end ≤ length items = subst (λ (l : List Run). end ≤ length l) is c.begun_by-end.ensures.within in
+    let same = ap (λ (l : List Run). get_or l start none) is ∙ get_or_default items start none first (omega (arith, c.if-end-start-eq1.true, high)) ∙ sym c.index_mut.ensures.value in
+    let goes = subst (λ x. GoesOn x run) same (c.goes_on.ensures.yes c.if-goes_on.true) in
+    let above : (k : ℕ) (d : Run) → k < start → IsClear (get_or items k d) run = subst (λ (l : List Run). (k : ℕ) (d : Run) → k < start → IsClear (get_or l k d) run) is c.first_touched-start.ensures.before in
+    let touch : (k : ℕ) (d : Run) → start ≤ k → k < end → Touches (get_or items k d) run = subst (λ (l : List Run). (k : ℕ) (d : Run) → start ≤ k → k < end → Touches (get_or l k d) run) is c.first_touched-start.ensures.touch in
+    let below : (k : ℕ) (d : Run) → end ≤ k → k < length items → IsClear run (get_or items k d) = subst (λ (l : List Run). (k : ℕ) (d : Run) → end ≤ k → k < length l → IsClear run (get_or l k d)) is c.begun_by-end.ensures.later in
+    on_ok_weaker c.join.result (λ joined. IsPut-one old new items run first c.join.new.first start end (omega (arith, c.if-end-start-eq1.true)) high c.index_mut.ensures.value above touch below c.requires.runs c.requires.ordered c.requires.apart c.join.ensures.text c.requires.run goes joined) c.join.ensures.ok
+
+pub returns-then-goes_on-clause-err : goal.returns-then-goes_on-clause-err
+returns-then-goes_on-clause-err c =
+    let items = c.args.runs.now.items in
+    let start = c.first_touched-start.result in
+    on_err_weaker c.join.result (λ same. ap (λ (x : Run). set items start x) (same ∙ c.index_mut.ensures.value) ∙ set-get_or items start c.index_mut.result.now) c.join.ensures.err
 
 pub add_pieces-requires-clause-touched : goal.add_pieces-requires-clause-touched
 add_pieces-requires-clause-touched c =
     let text = string_bytes c.args.text.now in
     let is = sym c.as_slice-old.ensures.value in
     let old = c.as_slice-old.result.now in
-    touched_stretch text old c.args.run c.first_touched-start.result c.begun_by-end.result c.first_touched-start.ensures.ordered c.begun_by-end.ensures.within (subst (λ (l : List Run). All (λ x. IsRun text x) l) is c.requires.runs) (subst AreOrdered is c.requires.ordered) (subst AreApart is c.requires.apart) c.first_touched-start.ensures.touch
+    touched_stretch text old c.args.run.now c.first_touched-start.result c.begun_by-end.result c.first_touched-start.ensures.ordered c.begun_by-end.ensures.within (subst (λ (l : List Run). All (λ x. IsRun text x) l) is c.requires.runs) (subst AreOrdered is c.requires.ordered) (subst AreApart is c.requires.apart) c.first_touched-start.ensures.touch
 
 pub returns-clause-ok : goal.returns-clause-ok
 returns-clause-ok c =
     let is = c.as_slice-old.ensures.value in
     let items = c.args.runs.now.items in
-    let run = c.args.run in
+    let run = c.args.run.now in
     let start = c.first_touched-start.result in
     let end = c.begun_by-end.result in
     let old = string_bytes c.args.text.now in
@@ -50,7 +62,7 @@ returns-clause-ok c =
     let touch : (k : ℕ) (d : Run) → start ≤ k → k < end → Touches (get_or items k d) run = subst (λ (l : List Run). (k : ℕ) (d : Run) → start ≤ k → k < end → Touches (get_or l k d) run) is c.first_touched-start.ensures.touch in
     let below : (k : ℕ) (d : Run) → end ≤ k → k < length items → IsClear run (get_or items k d) = subst (λ (l : List Run). (k : ℕ) (d : Run) → end ≤ k → k < length l → IsClear run (get_or l k d)) is c.begun_by-end.ensures.later in
     let are = subst (λ (l : List Run). ArePieces old new (stretch l start end) pieces run) is c.in_ok-add_pieces.ensures.pieces in
-    IsPut-touched old new items c.exchange.new.runs.items pieces run start end c.first_touched-start.ensures.ordered high above touch below c.requires.runs c.requires.ordered c.requires.apart c.in_ok-add_pieces.ensures.text are c.in_ok-exchange.ensures.ok
+    on_ok_weaker c.exchange.result (λ done. IsPut-touched old new items c.exchange.new.runs.items pieces run start end c.first_touched-start.ensures.ordered high above touch below c.requires.runs c.requires.ordered c.requires.apart c.in_ok-add_pieces.ensures.text are done) c.exchange.ensures.ok
 
 -- what is asked of the runs holds of the slice that they are read from
 pub are_before-requires-clause-ordered : goal.are_before-requires-clause-ordered
@@ -77,6 +89,21 @@ pub first_touched-start-requires-clause-reaches :
     goal.first_touched-start-requires-clause-reaches
 first_touched-start-requires-clause-reaches c = c.begun_by-end.ensures.begun
 
-pub joined-requires-clause-first : goal.joined-requires-clause-first
-joined-requires-clause-first c =
-    subst (λ (l : List Run). All (λ x. IsRun (string_bytes c.args.text.now) x) l) (sym c.as_slice-old.ensures.value) c.requires.runs c.first_touched-start.result none (omega (arith, c.if-end-start-eq1.true, c.begun_by-end.ensures.within))
+pub join-requires-clause-first : goal.join-requires-clause-first
+join-requires-clause-first c =
+    let first = c.index_mut.result.now in
+    let within : c.first_touched-start.result < length c.args.runs.now.items = subst (λ (l : List Run). c.first_touched-start.result < length l) c.as_slice-old.ensures.value (omega (arith, c.if-end-start-eq1.true, c.begun_by-end.ensures.within)) in
+    subst (λ (x : Run). IsRun (string_bytes c.args.text.now) x) (sym c.index_mut.ensures.value) (c.requires.runs c.first_touched-start.result first within)
+
+pub join-requires-clause-goes_on : goal.join-requires-clause-goes_on
+join-requires-clause-goes_on c =
+    let is = c.as_slice-old.ensures.value in
+    let items = c.args.runs.now.items in
+    let start = c.first_touched-start.result in
+    let end = c.begun_by-end.result in
+    let run = c.args.run.now in
+    let first = c.index_mut.result.now in
+    let high : end ≤ length items = subst (λ (l : List Run). end ≤ length l) is c.begun_by-end.ensures.within in
+    let same = ap (λ (l : List Run). get_or l start none) is ∙ get_or_default items start none first (omega (arith, c.if-end-start-eq1.true, high)) ∙ sym c.index_mut.ensures.value in
+    let goes = subst (λ x. GoesOn x run) same (c.goes_on.ensures.yes c.if-goes_on.true) in
+    goes

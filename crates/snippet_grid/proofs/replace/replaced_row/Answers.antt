@@ -1,5 +1,6 @@
 use Rattle.std.proofs.Common.{◌+◌, ◌-◌, arith, ap, sym, subst, slice_index_or, List, length, string_bytes}
 use Rattle.std.proofs.lemmas.List.Elements.{All-nil}
+use Rattle.std.proofs.lemmas.Result.{on_ok_weaker}
 use Rattle.std.specs.Str.{chars}
 use Rattle.snippet_grid.proofs.PieceLemmas.{IsRow-none}
 use Rattle.snippet_grid.proofs.MetRuns.{met_outer}
@@ -23,15 +24,15 @@ returns-clause-ok c =
     let long = sym c.char_count.ensures.value in
     let word = subst (λ n. ShowsSpan (string_bytes c.copy_cells.new.text) (string_bytes c.add_word.new.text) c.copy_cells.new.out.items c.add_word.new.out.items c.args.row c.args.start (c.args.start + n) (λ k. slice_index_or cells (k - c.args.start) SPACE)) long c.in_ok-add_word.ensures.ok in
     let ends = subst (λ n. EndsBy (c.args.start + n) c.add_word.new.out.items) long c.in_ok-add_word.ensures.ends in
-    row_replaced (string_bytes c.args.text.now) (string_bytes c.copy_cells.new.text) (string_bytes c.add_word.new.text) (string_bytes c.copy_cells-2.new.text) c.args.runs.now c.clear.new.self.items c.copy_cells.new.out.items c.add_word.new.out.items c.copy_cells-2.new.out.items c.args.row c.args.start c.args.end (c.args.start + c.char_count.result) _ cells c.requires.some (omega (arith, c.char_count.ensures.value, length-drawn c.args.role (chars c.args.word.now))) (omega arith) c.requires.runs c.in_ok-copy_cells.ensures.text c.in_ok-add_word.ensures.text c.in_ok-copy_cells.ensures.ok word ends c.in_ok-copy_cells-2.ensures.ok
+    on_ok_weaker c.copy_cells-2.result (λ copies. row_replaced (string_bytes c.args.text.now) (string_bytes c.copy_cells.new.text) (string_bytes c.add_word.new.text) (string_bytes c.copy_cells-2.new.text) c.args.runs.now c.clear.new.self.items c.copy_cells.new.out.items c.add_word.new.out.items c.copy_cells-2.new.out.items c.args.row c.args.start c.args.end (c.args.start + c.char_count.result) _ cells c.requires.some (omega (arith, c.char_count.ensures.value, length-drawn c.args.role (chars c.args.word.now))) (omega arith) c.requires.runs c.in_ok-copy_cells.ensures.text c.in_ok-add_word.ensures.text c.in_ok-copy_cells.ensures.ok word ends copies) c.copy_cells-2.ensures.ok
 
 pub returns-clause-ends : goal.returns-clause-ends
 returns-clause-ends c =
-    λ n all k d within. omega (arith, c.in_ok-copy_cells-2.ensures.tight n all k d within, c.char_count.ensures)
+    λ n all. on_ok_weaker c.copy_cells-2.result (λ tight k d within. omega (arith, tight k d within, c.char_count.ensures)) (c.copy_cells-2.ensures.tight n all)
 
 pub returns-clause-count : goal.returns-clause-count
 returns-clause-count c =
-    omega (arith, c.in_ok-copy_cells.ensures.count, c.in_ok-add_word.ensures.count, c.in_ok-copy_cells-2.ensures.count, met_outer (string_bytes c.args.text.now) c.args.row c.args.start c.args.end 18446744073709551615 c.args.runs.now c.requires.some c.requires.runs, ap length c.clear.ensures.items)
+    on_ok_weaker c.copy_cells-2.result (λ count. omega (arith, c.in_ok-copy_cells.ensures.count, c.in_ok-add_word.ensures.count, count, met_outer (string_bytes c.args.text.now) c.args.row c.args.start c.args.end 18446744073709551615 c.args.runs.now c.requires.some c.requires.runs, ap length c.clear.ensures.items)) c.copy_cells-2.ensures.count
 
 -- the row is begun with no runs
 pub copy_cells-requires-clause-out : goal.copy_cells-requires-clause-out
@@ -71,15 +72,7 @@ pub returns-in_err-add_word-clause-text : goal.returns-in_err-add_word-clause-te
 returns-in_err-add_word-clause-text c =
     BeginsWith-trans (string_bytes c.args.text.now) (string_bytes c.copy_cells.new.text) (string_bytes c.add_word.new.text) c.in_ok-copy_cells.ensures.text c.in_err-add_word.ensures.text
 
-pub returns-in_err-copy_cells-2-clause-text : goal.returns-in_err-copy_cells-2-clause-text
-returns-in_err-copy_cells-2-clause-text c =
-    let word = BeginsWith-trans (string_bytes c.args.text.now) (string_bytes c.copy_cells.new.text) (string_bytes c.add_word.new.text) c.in_ok-copy_cells.ensures.text c.in_ok-add_word.ensures.text in
-    BeginsWith-trans (string_bytes c.args.text.now) (string_bytes c.add_word.new.text) (string_bytes c.copy_cells-2.new.text) word c.in_err-copy_cells-2.ensures.text
-
 pub returns-clause-text : goal.returns-clause-text
 returns-clause-text c =
     let word = BeginsWith-trans (string_bytes c.args.text.now) (string_bytes c.copy_cells.new.text) (string_bytes c.add_word.new.text) c.in_ok-copy_cells.ensures.text c.in_ok-add_word.ensures.text in
-    BeginsWith-trans (string_bytes c.args.text.now) (string_bytes c.add_word.new.text) (string_bytes c.copy_cells-2.new.text) word c.in_ok-copy_cells-2.ensures.text
-
-pub returns-clause-row : goal.returns-clause-row
-returns-clause-row c = c.in_ok-copy_cells-2.ensures.row
+    BeginsWith-trans (string_bytes c.args.text.now) (string_bytes c.add_word.new.text) (string_bytes c.copy_cells-2.new.text) word c.copy_cells-2.ensures.text

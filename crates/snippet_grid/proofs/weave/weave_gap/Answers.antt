@@ -1,4 +1,5 @@
 use Rattle.std.proofs.Common.{◌∙◌, ◌++◌, ap, sym, refl, string_bytes, List, ℕ}
+use Rattle.std.proofs.lemmas.Result.{on_ok_weaker}
 use Rattle.snippet_grid.proofs.StretchPrinted.{space_bytes}
 use Rattle.snippet_grid.proofs.WeaveLemmas.{none≢some}
 use Rattle.snippet_grid.proofs.weave.weave_gap.Goals as goal
@@ -6,7 +7,7 @@ use Rattle.snippet_grid.proofs.weave.weave_gap.Goals as goal
 pub returns : goal.returns
 returns c =
     record {
-      text = record {
+      text = on_ok_weaker c.push_spaces.result (λ text. record {
         ended = string_bytes c.end_link.new.out;
         changed = string_bytes c.change_style.new.out;
         begun = string_bytes c.change_style.new.out;
@@ -18,6 +19,6 @@ returns c =
         same_link = λ same. refl;
         no_link = λ none. refl;
         link_begins = λ url is differs. absurd (none≢some is);
-        text_is = c.in_ok-push_spaces.ensures.text ∙ ap (λ (t : List ℕ). string_bytes c.change_style.new.out ++ t) (sym (space_bytes c.args.count));
-      };
+        text_is = text ∙ ap (λ (t : List ℕ). string_bytes c.change_style.new.out ++ t) (sym (space_bytes c.args.count));
+      }) c.push_spaces.ensures.text;
     }

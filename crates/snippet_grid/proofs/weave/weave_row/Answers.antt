@@ -1,6 +1,8 @@
 use Rattle.std.proofs.Common.{◌≡◌, ◌∙◌, ◌≤◌, ◌<◌, ap, subst, arith, get_or, refl, length, None, string_bytes, List, ℕ, ◌++◌}
+use Rattle.std.proofs.lemmas.Result.{on_ok_weaker}
 use Rattle.std.specs.Option.{option_copied}
 use Rattle.std.specs.Str.{chars}
+use Rattle.snippet_grid.proofs.OutcomeLemmas.{on_ok_value}
 use Rattle.snippet_grid.proofs.RunLemmas.{starts_at_boundary, ends_at_boundary}
 use Rattle.snippet_grid.proofs.RowWoven.{WovenTo, woven_start, woven_gap, woven_run, first_ahead}
 use Rattle.snippet_grid.proofs.WeaveLemmas.{row_closed}
@@ -59,5 +61,5 @@ returns c =
           rw (w.out-is, w.style-is, w.link-is) (subst (λ col. WovenTo c.args.sheet.now c.args.level c.args.text.now c.args.runs.now c.args.row n col c.loop-run.style (option_copied c.loop-run.link) (string_bytes c.args.out.now) (string_bytes c.loop-run.out)) here c.loop-run.invariant.woven)
     ] in
     record {
-      text = row_closed c.args.sheet.now c.args.level c.if-col-width.style (option_copied c.if-col-width.link) (cells_to c.args.text.now c.args.runs.now c.args.row c.args.width) (string_bytes c.args.out.now) (string_bytes c.if-col-width.out) (string_bytes c.end_link.new.out) _ c.in_ok-end_link.ensures.none c.in_ok-end_link.ensures.ended (c.in_ok-push_str.ensures.bytes ∙ ap (λ (t : List ℕ). string_bytes c.end_link.new.out ++ t) c.reset_code.ensures.text) last.goes;
+      text = on_ok_weaker c.push_str.result (λ bytes. row_closed c.args.sheet.now c.args.level c.if-col-width.style (option_copied c.if-col-width.link) (cells_to c.args.text.now c.args.runs.now c.args.row c.args.width) (string_bytes c.args.out.now) (string_bytes c.if-col-width.out) (string_bytes c.end_link.new.out) _ c.in_ok-end_link.ensures.none c.in_ok-end_link.ensures.ended (bytes ∙ ap (λ (t : List ℕ). string_bytes c.end_link.new.out ++ t) c.reset_code.ensures.text) last.goes) (on_ok_value c.push_str.result _ _ _ c.push_str.ensures.bytes);
     }

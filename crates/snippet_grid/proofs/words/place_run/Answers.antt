@@ -17,7 +17,7 @@ pub returns-clause-ok : goal.returns-clause-ok
 returns-clause-ok c =
     let text = string_bytes c.args.text.now in
     let widths = c.args.widths.now.items in
-    let run = c.args.run in
+    let run = c.args.run.now in
     let word = run_bytes text run in
     let is : IsWord text run.row run.cell run.role word run = record { is_run = c.requires.run; row_is = refl; cell_is = refl; role_is = refl; unlinked = c.requires.unlinked; chars_are = refl } in
     let end : run.cell + run.count ≡ run.cell + length (chars word) = word_end text run.row run.cell run.role word run is in

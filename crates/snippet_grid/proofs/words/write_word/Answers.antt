@@ -1,4 +1,5 @@
 use Rattle.std.proofs.Common.{◌∙◌, ap, arith, sym, subst, string_bytes, List, ℕ}
+use Rattle.std.proofs.lemmas.Result.{on_ok_weaker, on_err_weaker}
 use Rattle.snippet_grid.specs.Grid.{cells_written}
 use Rattle.snippet_style.specs.Cell.{Cell, drawn}
 use Rattle.snippet_grid.specs.Runs.{BeginsWith, run_chars, grid_shown}
@@ -21,10 +22,10 @@ place_run-requires-clause-grid c =
     let grows : BeginsWith (string_bytes c.args.text.now) (string_bytes c.push_word.new.text) = subst (λ (t : List ℕ). BeginsWith t (string_bytes c.push_word.new.text)) c.make_first_room.ensures.text c.in_ok-run.ensures.text in
     IsGrid-grown (string_bytes c.args.text.now) (string_bytes c.push_word.new.text) c.args.runs.now.items c.make_first_room.new.runs.items c.args.widths.now.items c.make_first_room.new.widths.items grows c.make_first_room.ensures.runs c.make_first_room.ensures.widths c.requires.grid
 
-pub returns-in_err-place_run-clause-err : goal.returns-in_err-place_run-clause-err
-returns-in_err-place_run-clause-err c =
+pub returns-clause-err : goal.returns-clause-err
+returns-clause-err c =
     let grows : BeginsWith (string_bytes c.args.text.now) (string_bytes c.push_word.new.text) = subst (λ (t : List ℕ). BeginsWith t (string_bytes c.push_word.new.text)) c.make_first_room.ensures.text c.in_ok-run.ensures.text in
-    on_err_from c.from_residual-in_err-place_run.result (c.in_err-place_run.ensures.err ∙ grid_grown (string_bytes c.args.text.now) (string_bytes c.push_word.new.text) c.args.runs.now.items c.make_first_room.new.runs.items c.args.widths.now.items c.make_first_room.new.widths.items grows c.make_first_room.ensures.runs c.make_first_room.ensures.widths c.requires.grid)
+    on_err_weaker c.place_run.result (λ same. same ∙ grid_grown (string_bytes c.args.text.now) (string_bytes c.push_word.new.text) c.args.runs.now.items c.make_first_room.new.runs.items c.args.widths.now.items c.make_first_room.new.widths.items grows c.make_first_room.ensures.runs c.make_first_room.ensures.widths c.requires.grid) c.place_run.ensures.err
 
 pub returns-clause-ok : goal.returns-clause-ok
 returns-clause-ok c =
@@ -33,7 +34,7 @@ returns-clause-ok c =
     let is = c.in_ok-run.ensures.ok in
     let seen = run_chars (string_bytes c.push_word.new.text) run in
     let was = grid_shown (string_bytes c.args.text.now) c.args.runs.now.items c.args.widths.now.items in
-    c.in_ok-place_run.ensures.ok ∙ ap (λ (rows : List (List Cell)). cells_written rows run.row run.cell (drawn run.role seen)) (grid_grown (string_bytes c.args.text.now) (string_bytes c.push_word.new.text) c.args.runs.now.items c.make_first_room.new.runs.items c.args.widths.now.items c.make_first_room.new.widths.items grows c.make_first_room.ensures.runs c.make_first_room.ensures.widths c.requires.grid) ∙ ap (λ r. cells_written was r run.cell (drawn run.role seen)) is.row_is ∙ ap (λ at. cells_written was c.args.row at (drawn run.role seen)) is.cell_is ∙ ap (λ role. cells_written was c.args.row c.args.at (drawn role seen)) is.role_is ∙ ap (λ (cs : List ℕ). cells_written was c.args.row c.args.at (drawn c.args.role cs)) is.chars_are
+    on_ok_weaker c.place_run.result (λ written. written ∙ ap (λ (rows : List (List Cell)). cells_written rows run.row run.cell (drawn run.role seen)) (grid_grown (string_bytes c.args.text.now) (string_bytes c.push_word.new.text) c.args.runs.now.items c.make_first_room.new.runs.items c.args.widths.now.items c.make_first_room.new.widths.items grows c.make_first_room.ensures.runs c.make_first_room.ensures.widths c.requires.grid) ∙ ap (λ r. cells_written was r run.cell (drawn run.role seen)) is.row_is ∙ ap (λ at. cells_written was c.args.row at (drawn run.role seen)) is.cell_is ∙ ap (λ role. cells_written was c.args.row c.args.at (drawn role seen)) is.role_is ∙ ap (λ (cs : List ℕ). cells_written was c.args.row c.args.at (drawn c.args.role cs)) is.chars_are) c.place_run.ensures.ok
 
 pub place_run-requires-clause-run : goal.place_run-requires-clause-run
 place_run-requires-clause-run c = c.in_ok-run.ensures.ok.is_run
@@ -51,4 +52,4 @@ returns-in_err-make_first_room-clause-grid c =
     IsGrid-grown text (string_bytes c.make_first_room.new.text) c.args.runs.now.items c.make_first_room.new.runs.items c.args.widths.now.items c.make_first_room.new.widths.items grows c.make_first_room.ensures.runs c.make_first_room.ensures.widths c.requires.grid
 
 pub returns-clause-grid : goal.returns-clause-grid
-returns-clause-grid c = c.in_ok-place_run.ensures.grid
+returns-clause-grid c = c.place_run.ensures.grid

@@ -1,0 +1,22 @@
+-- A result that a function returns as another gave it.
+use Rattle.std.proofs.Common.{◌≡◌, if◌then◌else◌, Result, Ok, Err, OnOk, OnErr}
+use Rattle.std.specs.Result.{is_ok}
+
+-- a fact that holds after either answer
+pub on_either : {T E P : Type 0} (r : Result T E) → OnOk r P → OnErr r P → P
+on_either (Ok x) ok err = ok
+on_either (Err e) ok err = err
+
+-- what follows from two facts of a granted call, and from three
+pub on_ok_two : {T E P Q S : Type 0} (r : Result T E) → (P → Q → S) → OnOk r P → OnOk r Q → OnOk r S
+on_ok_two (Ok x) f p q = f p q
+on_ok_two (Err e) f p q = tt
+
+pub on_ok_three : {T E P Q R S : Type 0} (r : Result T E) → (P → Q → R → S) → OnOk r P → OnOk r Q → OnOk r R → OnOk r S
+on_ok_three (Ok x) f p q s = f p q s
+on_ok_three (Err e) f p q s = tt
+
+-- the value after a granted call
+pub on_ok_value : {T E X : Type 0} (r : Result T E) (x y z : X) → x ≡ (if is_ok r then y else z) → OnOk r (x ≡ y)
+on_ok_value (Ok v) x y z is = is
+on_ok_value (Err e) x y z is = tt
