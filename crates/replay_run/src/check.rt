@@ -1,16 +1,15 @@
 //! Cases and what is expected of them, side by side.
 
-ghost use Rattle.std.specs.Prelude.{◌≡◌, ◌+◌, ◌^◌, ◌<◌, ◌↔◌, if◌then◌else◌, min, true, Some, IsTrue, IfOk, IsOkAnd, OnOk, string_bytes};
-ghost use Rattle.serde_json.specs.Read.{read};
+ghost use Rattle.std.specs.Prelude.{◌≡◌, ◌+◌, ◌^◌, ◌<◌, ◌↔◌, if◌then◌else◌, min, true, IsTrue, IfOk, IsOkAnd, OnOk, string_bytes};
 ghost use Rattle.serde_json.specs.View.{view};
 ghost use Rattle.replay_run.specs.Expected.{IsExpectedOf, IsMet};
 ghost use Rattle.replay_run.specs.Growth.{Grows};
 ghost use Rattle.replay_run.specs.Judged.{CountsLines, JudgesCase, JudgesLine, most};
 
 use crate::expected::{Expected, expected_of, write_wanted};
-use crate::lines::{case_value, numbered_case, value_of, write_line, write_outcome};
+use crate::lines::{numbered_case, value_of, write_line, write_outcome};
 use crate::outcome::{Outcome, outcome_of};
-use crate::trouble::Trouble;
+use crate::trouble::{Line, Trouble};
 use serde_json::Value;
 use std::alloc::Global;
 use std::io;
@@ -102,17 +101,10 @@ fn check_line<W: Write>(
     ensures added { OnOk result (Grows (W.contents out.old) (W.contents out.new)) }
     ensures silent { IfOk result (λ passes. passes ≡ true → out.new ≡ out.old) }
 {
-    let value = answer_value(alloc, answer, number)?;
+    let value = value_of(alloc, Line::Expected(number), answer)?;
     let expected = numbered_answer(alloc, &value, number)?;
     let passes = judge_line(alloc, number, &expected, line, out)?;
     Ok(passes)
-}
-
-/// What the line of this number holds, which is to say what is expected.
-fn answer_value(alloc: Global, line: io::Result<String>, number: u64) -> Result<Value, Trouble>
-    ensures value { IfOk result (λ value. IsOkAnd line (λ line. read (string_bytes line) ≡ Some (view value))) }
-{
-    value_of(alloc, line).map_err(|unread| unread.of_answer(number))
 }
 
 /// What the line of this number says is expected.
@@ -123,7 +115,7 @@ fn numbered_answer<'v>(
 ) -> Result<Expected<'v>, Trouble>
     ensures value { IfOk result (IsExpectedOf (view value.now)) }
 {
-    expected_of(alloc, value).map_err(|fault| Trouble::Expected(number, fault))
+    expected_of(alloc, value).map_err(|fault| Trouble::Fault(Line::Expected(number), fault))
 }
 
 /// Whether the case of a line became what is expected; if not, it is written.
@@ -138,7 +130,7 @@ fn judge_line<W: Write>(
     ensures added { OnOk result (Grows (W.contents out.old) (W.contents out.new)) }
     ensures silent { IfOk result (λ passes. passes ≡ true → out.new ≡ out.old) }
 {
-    let value = case_value(alloc, line, number)?;
+    let value = value_of(alloc, Line::Case(number), line)?;
     let case = numbered_case(alloc, &value, number)?;
     let outcome = outcome_of(alloc, &case)?;
     let passes = judge_case(alloc, expected, case.id, &outcome, out)?;
@@ -162,7 +154,7 @@ pub fn judge_case<W: Write>(
     }
     let name = expected.id;
     let head = format!(in alloc; "{id:?} differs\nexpected of {name:?}:")?;
-    write_difference(head.as_str(), expected, outcome, out).map_err(Trouble::Write)?;
+    write_difference(head.as_str(), expected, outcome, out).map_err(Trouble::write)?;
     Ok(false)
 }
 

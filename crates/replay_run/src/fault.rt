@@ -1,4 +1,4 @@
-//! What is wrong with a line, and where in it.
+//! What is wrong with the value of a line, and where in it.
 
 use crate::shape::{Expectation, Shape};
 use std::alloc::{AllocError, AllocFailed, Global};
@@ -32,21 +32,24 @@ impl fmt::Display for Place<'_> {
     }
 }
 
-/// Why a line gives no case.
+/// Why a value gives no case, and no expected answer.
 #[derive(Drop)]
 pub enum Fault {
-    /// It is no UTF-8.
-    NoText,
-    /// It is no JSON.
-    NoJson(serde_json::Error),
-    /// A field, by its path, isn't what was expected.
-    Unexpected(String, Expectation),
-    /// A field that has to be there isn't.
-    Missing(String, Expectation),
-    /// A field has a name that its object has no field of.
-    Unknown(String, Shape),
+    /// This is wrong at a place in it, which is told by its path.
+    Wrong(String, Wrong),
     /// A growth of memory was refused.
     Memory,
+}
+
+/// What is wrong at a place.
+#[derive(Clone, Copy)]
+pub enum Wrong {
+    /// Something else stands there than what was expected.
+    Unexpected(Expectation),
+    /// Nothing stands there.
+    Missing(Expectation),
+    /// A field stands there that an object of this shape doesn't have.
+    Unknown(Shape),
 }
 
 impl From<AllocError> for Fault {
@@ -62,26 +65,10 @@ impl<T: Drop> From<AllocFailed<T>> for Fault {
 }
 
 impl Fault {
-    /// At `place` stands something else than what was expected.
-    pub fn unexpected(alloc: Global, place: &Place<'_>, expected: Expectation) -> Fault {
+    /// This is wrong at `place`.
+    pub fn at(alloc: Global, place: &Place<'_>, wrong: Wrong) -> Fault {
         match format!(in alloc; "{place}") {
-            Ok(path) => Fault::Unexpected(path, expected),
-            Err(AllocError) => Fault::Memory,
-        }
-    }
-
-    /// At `place` stands nothing.
-    pub fn missing(alloc: Global, place: &Place<'_>, expected: Expectation) -> Fault {
-        match format!(in alloc; "{place}") {
-            Ok(path) => Fault::Missing(path, expected),
-            Err(AllocError) => Fault::Memory,
-        }
-    }
-
-    /// At `place` stands a field that an object of this shape doesn't have.
-    pub fn unknown(alloc: Global, place: &Place<'_>, shape: Shape) -> Fault {
-        match format!(in alloc; "{place}") {
-            Ok(path) => Fault::Unknown(path, shape),
+            Ok(path) => Fault::Wrong(path, wrong),
             Err(AllocError) => Fault::Memory,
         }
     }
@@ -90,18 +77,24 @@ impl Fault {
 impl fmt::Display for Fault {
     fn fmt<W: fmt::Write>(&self, f: &mut fmt::Formatter<W>) -> fmt::Result {
         match self {
-            Fault::NoText => write!(f, "no UTF-8"),
-            Fault::NoJson(error) => write!(f, "no JSON: {error}"),
-            Fault::Unexpected(path, expected) => write!(f, "{path}: expected {expected}"),
-            Fault::Missing(path, expected) => write!(f, "{path}: missing, expected {expected}"),
-            Fault::Unknown(path, shape) => {
-                write!(f, "{path}: unknown, expected only")?;
+            Fault::Wrong(path, wrong) => write!(f, "{path}: {wrong}"),
+            Fault::Memory => write!(f, "out of memory"),
+        }
+    }
+}
+
+impl fmt::Display for Wrong {
+    fn fmt<W: fmt::Write>(&self, f: &mut fmt::Formatter<W>) -> fmt::Result {
+        match self {
+            Wrong::Unexpected(expected) => write!(f, "expected {expected}"),
+            Wrong::Missing(expected) => write!(f, "missing, expected {expected}"),
+            Wrong::Unknown(shape) => {
+                write!(f, "unknown, expected only")?;
                 for name in shape.names() {
                     write!(f, " {name}")?;
                 }
                 Ok(())
             }
-            Fault::Memory => write!(f, "out of memory"),
         }
     }
 }

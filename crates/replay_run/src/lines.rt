@@ -14,10 +14,9 @@ ghost use Rattle.replay_run.specs.Report.{IsCaseOf};
 ghost use Rattle.replay_run.specs.declared.outcome.Outcome.{Outcome};
 
 use crate::case::Case;
-use crate::fault::Fault;
 use crate::outcome::{Outcome, answer_of, outcome_of};
 use crate::read::case_of;
-use crate::trouble::{Trouble, Unread};
+use crate::trouble::{Line, Trouble};
 use serde_json::Value;
 use std::alloc::{AllocError, Global};
 use std::io;
@@ -47,7 +46,7 @@ pub fn answer_lines<B: BufRead + Drop, W: Write>(
     for line in input.lines(alloc) {
         number = number.saturating_add(1);
         answer_line(alloc, line, number, form, *is_first, out)?;
-        out.flush().map_err(Trouble::Write)?;
+        out.flush().map_err(Trouble::write)?;
         *is_first = false;
     }
     Ok(())
@@ -66,17 +65,10 @@ fn answer_line<W: Write>(
         × AnswersLine form is_first (string_bytes line) text
         × Appends (W.contents out.old) (W.contents out.new) text)) }
 {
-    let value = case_value(alloc, line, number)?;
+    let value = value_of(alloc, Line::Case(number), line)?;
     let case = numbered_case(alloc, &value, number)?;
     write_answer(alloc, &case, form, is_first, out)?;
     Ok(())
-}
-
-/// What the line of this number holds, which is to describe a case.
-pub fn case_value(alloc: Global, line: io::Result<String>, number: u64) -> Result<Value, Trouble>
-    ensures value { IfOk result (λ value. IsOkAnd line (λ line. read (string_bytes line) ≡ Some (view value))) }
-{
-    value_of(alloc, line).map_err(|unread| unread.of_case(number))
 }
 
 /// The case that the line of this number describes.
@@ -84,27 +76,25 @@ pub fn numbered_case<'v>(alloc: Global, value: &'v Value, number: u64) -> Result
     ensures value { IfOk result (IsCaseOf (view value.now)) }
     ensures fits { IfOk result (λ case. ReportFits case.groups.items) }
 {
-    case_of(alloc, value).map_err(|fault| Trouble::Case(number, fault))
+    case_of(alloc, value).map_err(|fault| Trouble::Fault(Line::Case(number), fault))
 }
 
-/// What a line holds.
-pub fn value_of(alloc: Global, line: io::Result<String>) -> Result<Value, Unread>
-    ensures value { IfOk result (λ value. IsOkAnd line (λ line. read (string_bytes line) ≡ Some (view value))) }
+/// What this line holds.
+pub fn value_of(alloc: Global, line: Line, text: io::Result<String>) -> Result<Value, Trouble>
+    ensures value { IfOk result (λ value. IsOkAnd text (λ text. read (string_bytes text) ≡ Some (view value))) }
 {
-    match line {
-        Ok(line) => json_of(alloc, line.as_str()).map_err(Unread::Fault),
-        Err(error) if error.kind() == io::ErrorKind::InvalidData => {
-            Err(Unread::Fault(Fault::NoText))
-        }
-        Err(error) => Err(Unread::Io(error)),
+    match text {
+        Ok(text) => json_of(alloc, line, text.as_str()),
+        Err(error) if error.kind() == io::ErrorKind::InvalidData => Err(Trouble::NoText(line)),
+        Err(error) => Err(Trouble::read(error)),
     }
 }
 
-/// The value that a line writes.
-fn json_of(alloc: Global, line: &str) -> Result<Value, Fault>
-    ensures value { IfOk result (λ value. read line.now ≡ Some (view value)) }
+/// The value that this line writes.
+fn json_of(alloc: Global, line: Line, text: &str) -> Result<Value, Trouble>
+    ensures value { IfOk result (λ value. read text.now ≡ Some (view value)) }
 {
-    Value::from_str(alloc, line).map_err(Fault::NoJson)
+    Value::from_str(alloc, text).map_err(|error| Trouble::NoJson(line, error))
 }
 
 /// Writes the answer to a case.
@@ -139,7 +129,7 @@ fn write_json<W: Write>(
         (line_of (compact_text (spec.answer_of id.now outcome)))) }
 {
     let line = json_line(alloc, id, outcome)?;
-    write_line(line.as_str(), out).map_err(Trouble::Write)
+    write_line(line.as_str(), out).map_err(Trouble::write)
 }
 
 /// The answer to the case of this name, as JSON without a line feed.
@@ -156,7 +146,7 @@ fn write_report<W: Write>(outcome: Outcome, is_first: bool, out: &mut W) -> Resu
     ensures text { OnOk result (Appends (W.contents out.old) (W.contents out.new)
         ((if is_first then [] else line_of []) ++ outcome_text outcome)) }
 {
-    write_texts(&outcome, is_first, out).map_err(Trouble::Write)
+    write_texts(&outcome, is_first, out).map_err(Trouble::write)
 }
 
 /// The same, of texts that stay.

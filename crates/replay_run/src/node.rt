@@ -8,7 +8,7 @@ ghost use Rattle.serde_json.specs.Find.{as_bool, as_str, get};
 ghost use Rattle.serde_json.specs.View.{view};
 ghost use Rattle.replay_run.specs.Field.{SaysAt, ListSays, as_whole, flag_at, number_at, text_at};
 
-use crate::fault::{Fault, Place};
+use crate::fault::{Fault, Place, Wrong};
 use crate::shape::{Expectation, Shape};
 use annotate_snippets::text::{CowStr, text_fits};
 use serde_json::Value;
@@ -39,7 +39,7 @@ pub trait Read<'v> {
 impl<'v> Node<'v, '_> {
     /// The fault that something else was expected.
     pub fn unexpected(&self, expected: Expectation) -> Fault {
-        Fault::unexpected(self.alloc, &self.place, expected)
+        Fault::at(self.alloc, &self.place, Wrong::Unexpected(expected))
     }
 
     /// Nothing, if the value is an object and has only fields of this shape.
@@ -50,7 +50,7 @@ impl<'v> Node<'v, '_> {
         for name in fields.keys() {
             if !shape.has(name.as_str()) {
                 let place = Place::Field(&self.place, name.as_str());
-                return Err(Fault::unknown(self.alloc, &place, shape));
+                return Err(Fault::at(self.alloc, &place, Wrong::Unknown(shape)));
             }
         }
         Ok(())
@@ -76,7 +76,7 @@ impl<'v> Node<'v, '_> {
             Some(field) => Ok(field),
             None => {
                 let place = Place::Field(&self.place, name);
-                Err(Fault::missing(self.alloc, &place, expected))
+                Err(Fault::at(self.alloc, &place, Wrong::Missing(expected)))
             }
         }
     }

@@ -1,12 +1,12 @@
 //! How a case is read from the JSON of its line: which fields there are, which of them may be missing, and what they then
 //! are.
 
-ghost use Rattle.std.specs.Prelude.{◌≡◌, Some, IfOk, IfSome, codes};
+ghost use Rattle.std.specs.Prelude.{◌≡◌, Some, IfOk, IfSome, codes, option_and_then, option_map};
 ghost use Rattle.std.specs.Cow.{cow_str_bytes};
-ghost use Rattle.annotate_snippets.specs.Fits.{ReportFits, GroupFits, TitleFits, LevelFits, MessageFits, ElementFits, AnnotationFits, PatchFits, SnippetFits, TextFits};
+ghost use Rattle.annotate_snippets.specs.Fits.{ReportFits, GroupFits, IdFits, TitleFits, LevelFits, MessageFits, ElementFits, AnnotationFits, PatchFits, SnippetFits, TextFits};
 ghost use Rattle.serde_json.specs.Find.{as_str, get};
 ghost use Rattle.serde_json.specs.View.{view};
-ghost use Rattle.replay_run.specs.Field.{OrNull};
+ghost use Rattle.replay_run.specs.Field.{OrNull, text_at};
 ghost use Rattle.replay_run.specs.Report.{IsAnnotationOf, IsCaseOf, IsElementOf, IsGivenName, IsGroupOf, IsLevelOf, IsMessageOf, IsOriginOf, IsPatchOf, IsSnippetOf, IsTitleOf};
 ghost use Rattle.replay_run.specs.Kinds.{NameFits, kind_name, mark_name};
 ghost use Rattle.replay_run.specs.Report as spec;
@@ -18,7 +18,7 @@ use crate::read_style::sheets_of;
 use crate::shape::{Expectation, Shape};
 use annotate_snippets::level::LevelName;
 use annotate_snippets::renderer::parts::LevelInner;
-use annotate_snippets::renderer::{DEFAULT_TERM_WIDTH, DecorStyle, Stylesheet};
+use annotate_snippets::renderer::{DEFAULT_TERM_WIDTH, DecorStyle, Id, Stylesheet};
 use annotate_snippets::text::CowStr;
 use annotate_snippets::{
     Annotation, AnnotationKind, Element, Group, Level, Message, Origin, Padding, Patch, Renderer,
@@ -121,20 +121,25 @@ fn title_of<'v>(node: &Node<'v, '_>) -> Result<Title<'v>, Fault>
     ensures fits { IfOk result TitleFits }
 {
     node.has_only(Shape::Title)?;
-    let level = level_of(&node.needed("level", Expectation::Object)?)?;
-    let text = node.text("text")?;
-    let title = if node.flag("primary")? {
-        level.primary_title_cow(text)
-    } else {
-        level.secondary_title_cow(text)
-    };
-    let title = match node.optional_text("id")? {
-        Some(id) => title.id_cow(id),
-        None => title,
-    };
-    match node.optional_text("url")? {
-        Some(url) => Ok(title.id_url_cow(url)),
-        None => Ok(title),
+    Ok(Title {
+        level: level_of(&node.needed("level", Expectation::Object)?)?,
+        text: node.text("text")?,
+        allows_styling: !node.flag("primary")?,
+        id: id_of(node)?,
+    })
+}
+
+/// The identifier of a title and its address; none where both are missing.
+fn id_of<'v>(title: &Node<'v, '_>) -> Result<Option<Id<'v>>, Fault>
+    ensures id { IfOk result (λ found. text_at (codes "id") (view title.now.value.now)
+        ≡ option_map cow_str_bytes (option_and_then (λ id. id.id) found)) }
+    ensures url { IfOk result (λ found. text_at (codes "url") (view title.now.value.now)
+        ≡ option_map cow_str_bytes (option_and_then (λ id. id.url) found)) }
+    ensures fits { IfOk result (λ found. IfSome found IdFits) }
+{
+    match (title.optional_text("id")?, title.optional_text("url")?) {
+        (None, None) => Ok(None),
+        (id, url) => Ok(Some(Id { id, url })),
     }
 }
 

@@ -3,8 +3,8 @@
 ghost use Rattle.annotate_snippets.specs.Fits.{ReportFits};
 
 use crate::case::Case;
-use crate::lines::{case_value, numbered_case};
-use crate::trouble::Trouble;
+use crate::lines::{numbered_case, value_of};
+use crate::trouble::{Line, Trouble};
 use annotate_snippets::renderer::RenderError;
 use std::alloc::Global;
 use std::io;
@@ -31,7 +31,7 @@ pub fn repeat_lines<K: Clock, B: BufRead + Drop>(
     let mut number = 0u64;
     for line in input.lines(alloc) {
         number = number.saturating_add(1);
-        let value = case_value(alloc, line, number)?;
+        let value = value_of(alloc, Line::Case(number), line)?;
         let case = numbered_case(alloc, &value, number)?;
         *tally = repeat_case(clock, alloc, &case, times, *tally)?;
     }
@@ -48,13 +48,13 @@ fn repeat_case<K: Clock>(
 ) -> Result<Tally, Trouble>
     requires fits { ReportFits case.now.groups.items }
 {
-    let start = Instant::now(clock).map_err(Trouble::Clock)?;
+    let start = Instant::now(clock).map_err(Trouble::clock)?;
     let mut drawn = match draw_often(alloc, case, times, tally) {
         Ok(drawn) => drawn,
         Err(RenderError::Memory(refused)) => return Err(Trouble::from(refused)),
         Err(_) => return Ok(tally),
     };
-    let taken = start.elapsed(clock).map_err(Trouble::Clock)?;
+    let taken = start.elapsed(clock).map_err(Trouble::clock)?;
     drawn.time = drawn.time.saturating_add(taken);
     Ok(drawn)
 }

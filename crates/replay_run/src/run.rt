@@ -87,7 +87,7 @@ pub fn run<R: Files + Input + Clock + AllocGlobal, W: Write, V: Write>(
             Ok(()) => return status,
             Err(error) => Stop {
                 file: OUTPUT,
-                trouble: Trouble::Write(error),
+                trouble: Trouble::write(error),
             },
         },
         Err(stop) => {
@@ -185,8 +185,8 @@ fn opened<R: Files + AllocGlobal>(rt: &R, file: &str) -> Result<BufReader<R::Fil
     ensures bytes { IfOk result (λ reader.
         reader_remaining R.File.remaining reader ≡ R.File.remaining (reader_inner reader)) }
 {
-    let input = fs::open(rt, file).map_err(Trouble::Read)?;
-    BufReader::new(rt.alloc(), input).map_err(Trouble::Read)
+    let input = fs::open(rt, file).map_err(Trouble::read)?;
+    BufReader::new(rt.alloc(), input).map_err(Trouble::read)
 }
 
 /// The bytes of standard input.
@@ -194,7 +194,7 @@ fn opened_input<R: Input + AllocGlobal>(rt: &R) -> Result<BufReader<R::Reader>, 
     ensures bytes { IfOk result (λ reader.
         reader_remaining R.Reader.remaining reader ≡ R.Reader.remaining (reader_inner reader)) }
 {
-    BufReader::new(rt.alloc(), rt.reader()).map_err(Trouble::Read)
+    BufReader::new(rt.alloc(), rt.reader()).map_err(Trouble::read)
 }
 
 /// Answers the cases of standard input.
@@ -249,7 +249,7 @@ fn check<'a, R: Files + AllocGlobal, W: Write>(
             }
         }
     }
-    or_stop(OUTPUT, write_counts(counts, out).map_err(Trouble::Write))?;
+    or_stop(OUTPUT, write_counts(counts, out).map_err(Trouble::write))?;
     Ok(if counts.failed == 0 { DONE } else { DIFFERS })
 }
 
@@ -298,7 +298,7 @@ fn repeat<'a, R: Files + Input + Clock + AllocGlobal, W: Write>(
     for file in files {
         or_stop(file, repeat_file(rt, file, times, &mut tally))?;
     }
-    or_stop(OUTPUT, write_tally(&tally, out).map_err(Trouble::Write))?;
+    or_stop(OUTPUT, write_tally(&tally, out).map_err(Trouble::write))?;
     Ok(DONE)
 }
 

@@ -7,22 +7,54 @@ use std::{fmt, io};
 /// What stops a run.
 #[derive(Drop)]
 pub enum Trouble {
-    /// A line, counted from 1, describes no case.
-    Case(u64, Fault),
-    /// A line of the expected answers, counted from 1, is none.
-    Expected(u64, Fault),
+    /// A line is no UTF-8.
+    NoText(Line),
+    /// A line is no JSON.
+    NoJson(Line, serde_json::Error),
+    /// A line describes no case, or no answer where one is expected.
+    Fault(Line, Fault),
     /// At this line, counted from 1, there is a case or an expected answer, and not both.
     Unpaired(u64),
     /// There are more lines than can be counted.
     TooManyLines,
-    /// Input can't be read.
-    Read(io::Error),
-    /// The clock can't be read.
-    Clock(io::Error),
-    /// Output can't be written.
-    Write(io::Error),
+    /// Input, output or the clock fails.
+    Io(Access, io::Error),
     /// A growth of memory was refused.
     Memory,
+}
+
+/// A line, counted from 1.
+#[derive(Clone, Copy)]
+pub enum Line {
+    /// Of the cases.
+    Case(u64),
+    /// Of the expected answers.
+    Expected(u64),
+}
+
+/// What a run does with the world outside.
+#[derive(Clone, Copy)]
+pub enum Access {
+    Read,
+    Clock,
+    Write,
+}
+
+impl Trouble {
+    /// Input can't be read.
+    pub fn read(error: io::Error) -> Trouble {
+        Trouble::Io(Access::Read, error)
+    }
+
+    /// The clock can't be read.
+    pub fn clock(error: io::Error) -> Trouble {
+        Trouble::Io(Access::Clock, error)
+    }
+
+    /// Output can't be written.
+    pub fn write(error: io::Error) -> Trouble {
+        Trouble::Io(Access::Write, error)
+    }
 }
 
 impl From<AllocError> for Trouble {
@@ -40,8 +72,9 @@ impl<T: Drop> From<AllocFailed<T>> for Trouble {
 impl fmt::Display for Trouble {
     fn fmt<W: fmt::Write>(&self, f: &mut fmt::Formatter<W>) -> fmt::Result {
         match self {
-            Trouble::Case(line, fault) => write!(f, "line {line}: {fault}"),
-            Trouble::Expected(line, fault) => write!(f, "line {line} of what is expected: {fault}"),
+            Trouble::NoText(line) => write!(f, "{line}: no UTF-8"),
+            Trouble::NoJson(line, error) => write!(f, "{line}: no JSON: {error}"),
+            Trouble::Fault(line, fault) => write!(f, "{line}: {fault}"),
             Trouble::Unpaired(line) => {
                 write!(
                     f,
@@ -49,37 +82,27 @@ impl fmt::Display for Trouble {
                 )
             }
             Trouble::TooManyLines => write!(f, "too many lines"),
-            Trouble::Read(error) => write!(f, "cannot read: {error}"),
-            Trouble::Clock(error) => write!(f, "cannot read the clock: {error}"),
-            Trouble::Write(error) => write!(f, "cannot write: {error}"),
+            Trouble::Io(access, error) => write!(f, "cannot {access}: {error}"),
             Trouble::Memory => write!(f, "out of memory"),
         }
     }
 }
 
-/// Why a line gives no JSON.
-#[derive(Drop)]
-pub enum Unread {
-    /// It can be read, and is none.
-    Fault(Fault),
-    /// It can't be read.
-    Io(io::Error),
-}
-
-impl Unread {
-    /// The same of the line of a case, by its number.
-    pub fn of_case(self, number: u64) -> Trouble {
+impl fmt::Display for Line {
+    fn fmt<W: fmt::Write>(&self, f: &mut fmt::Formatter<W>) -> fmt::Result {
         match self {
-            Unread::Fault(fault) => Trouble::Case(number, fault),
-            Unread::Io(error) => Trouble::Read(error),
+            Line::Case(number) => write!(f, "line {number}"),
+            Line::Expected(number) => write!(f, "line {number} of what is expected"),
         }
     }
+}
 
-    /// The same of the line of an expected answer, by its number.
-    pub fn of_answer(self, number: u64) -> Trouble {
-        match self {
-            Unread::Fault(fault) => Trouble::Expected(number, fault),
-            Unread::Io(error) => Trouble::Read(error),
-        }
+impl fmt::Display for Access {
+    fn fmt<W: fmt::Write>(&self, f: &mut fmt::Formatter<W>) -> fmt::Result {
+        f.write_str(match self {
+            Access::Read => "read",
+            Access::Clock => "read the clock",
+            Access::Write => "write",
+        })
     }
 }
