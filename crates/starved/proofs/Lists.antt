@@ -9,11 +9,6 @@ pub array-drained : {A : Type 0} → {n : ℕ} → (xs : List A) → (it : IntoI
 array-drained [] it (u, (t, here, none)) = sym (nil_from_length (array_into_iter_items it) (ap (λ s. length (array_into_iter_items s)) here ∙ none.0))
 array-drained (x ∷ xs) it (u, (t, (j, first, rest), none)) = ap (λ l. x ∷ l) (array-drained xs j (u, (t, rest, none))) ∙ sym first
 
--- what follows for each value holds of the value where there is one
-pub IfOk-then : {X E : Type 0} → {P Q : X → Type 0} → (r : Result X E) → ((x : X) → P x → Q x) → IfOk r P → IfOk r Q
-IfOk-then (Ok x) next held = next x held
-IfOk-then (Err e) next held = held
-
 -- two facts of the value, where there is one
 pub IfOk-both : {X E : Type 0} → (P Q : X → Type 0) → (r : Result X E) → IfOk r P → IfOk r Q → IfOk r (λ x. P x × Q x)
 IfOk-both P Q (Ok x) one other = (one, other)

@@ -13,14 +13,18 @@ use std::io;
 /// Makes the calls, and prints what came out right.
 pub fn print(rt: &(impl Print + AllocGlobal)) -> io::Result<()> {
     print_subject(rt, "names of levels", names())?;
-    print_subject(rt, "titles and messages", headings())?;
+    print_subject(rt, "titles and messages", headings() && shared_headings())?;
     print_subject(rt, "empty groups", groups(rt.alloc()))?;
     print_subject(rt, "settings of snippets", snippets(rt.alloc()))?;
     print_subject(rt, "annotations", annotations())?;
     print_subject(rt, "patches", patches())?;
     print_subject(rt, "origins", origins())?;
-    print_subject(rt, "elements", elements())?;
-    print_subject(rt, "optional texts", optional_texts(rt.alloc()))
+    print_subject(rt, "elements", elements() && snippet_elements(rt.alloc()))?;
+    print_subject(
+        rt,
+        "optional texts",
+        optional_texts(rt.alloc()) && lent_texts(rt.alloc()),
+    )
 }
 
 /// Whether levels have the names that they are given.
@@ -101,7 +105,9 @@ fn patches() -> bool {
 fn origins() -> bool {
     let place = Origin::path("a.rs").line(3).char_column(2);
     let other = Origin::from(CowStr::Borrowed("b.rs"));
-    place.path.as_str() == "a.rs"
+    let shared = Origin::path_cow(CowStr::Borrowed("c.rs"));
+    shared.path.as_str() == "c.rs"
+        && place.path.as_str() == "a.rs"
         && place.line == Some(3)
         && place.char_column == Some(2)
         && other.path.as_str() == "b.rs"
@@ -125,4 +131,37 @@ fn optional_texts(alloc: Global) -> bool {
         && is_text(&OptionCow::from(CowStr::Borrowed("a")).0, "a")
         && is_text(&OptionCow::from(String::new(alloc)).0, "")
         && OptionCow::from(none).0.is_none()
+}
+
+/// Whether titles and messages have the texts that they are given as copies on write, and a title such an id.
+fn shared_headings() -> bool {
+    let title = ERROR
+        .secondary_title_cow(CowStr::Borrowed("t"))
+        .id_cow(CowStr::Borrowed("E1"))
+        .id_url_cow(CowStr::Borrowed("u"));
+    is_heading(&ERROR.secondary_title_cow(CowStr::Borrowed("t")), "t", true)
+        && is_heading(&ERROR.message_cow(CowStr::Borrowed("m")), "m", true)
+        && title.id.is_some()
+}
+
+/// Whether an element is what it is made of: a snippet with annotations, or with patches.
+fn snippet_elements(alloc: Global) -> bool {
+    let source: Snippet<'static, Annotation<'static>> = Snippet::source(alloc, "a");
+    let patched: Snippet<'static, Patch<'static>> = Snippet::source_cow(
+        alloc,
+        CowStr::Borrowed("a"),
+    );
+    let cause = Element::from(source);
+    let suggestion = Element::from(patched);
+    matches!(&cause, Element::Cause(_)) && matches!(&suggestion, Element::Suggestion(_))
+}
+
+/// Whether an optional text is the one that is lent, or is there.
+fn lent_texts(alloc: Global) -> bool {
+    let owned = String::new(alloc);
+    let shared = CowStr::Borrowed("a");
+    is_text(&OptionCow::from(&owned).0, "")
+        && is_text(&OptionCow::from(&shared).0, "a")
+        && is_text(&OptionCow::from(Some(String::new(alloc))).0, "")
+        && is_text(&OptionCow::from(Some(CowStr::Borrowed("a"))).0, "a")
 }

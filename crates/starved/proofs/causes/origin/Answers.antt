@@ -1,12 +1,13 @@
 use Rattle.std.proofs.Common.{rules, ap, sym, subst, ◌∙◌, ◌++◌, All, IfSome}
 use Rattle.annotate_snippets.specs.Fits.{ElementFits, TitleFits}
-use Rattle.starved.proofs.Lists.{array-drained, IfOk-both, IfOk-then}
+use Rattle.std.proofs.lemmas.Result.{IfOk-weaker}
+use Rattle.starved.proofs.Lists.{array-drained, IfOk-both}
 use Rattle.starved.proofs.causes.origin.Goals as goal
 
 pub returns : goal.returns
 returns c =
     record {
-      fits = IfOk-then c.elements.result
+      fits = IfOk-weaker c.elements.result _ _
           (λ g (title, (it, xs, gives, drains, items)). (
             subst (λ t. IfSome t TitleFits) (sym (title ∙ c.with_title.ensures.title)) (search rules),
             subst (All ElementFits) (sym (items ∙ ap (λ l. l ++ xs) c.with_title.ensures.elements ∙ array-drained xs it drains ∙ gives.0)) (search rules),

@@ -1,13 +1,14 @@
 use Rattle.std.proofs.Common.{rules, arith, ap, sym, subst, ◌∙◌, ◌++◌, All, IfSome}
 use Rattle.std.specs.Cow.{cow_str_bytes}
 use Rattle.annotate_snippets.specs.Fits.{PatchFits, TextFits}
-use Rattle.starved.proofs.Lists.{array-drained, IfOk-both, IfOk-then}
+use Rattle.std.proofs.lemmas.Result.{IfOk-weaker}
+use Rattle.starved.proofs.Lists.{array-drained, IfOk-both}
 use Rattle.starved.proofs.suggestions.both_patches.Goals as goal
 
 pub returns : goal.returns
 returns c =
     record {
-      fits = IfOk-then c.patches.result
+      fits = IfOk-weaker c.patches.result _ _
           (λ s ((source, path), (it, xs, gives, drains, items)). (
             subst (λ t. TextFits (cow_str_bytes t)) (sym (source ∙ c.source.ensures.source)) (omega arith),
             subst (λ p. IfSome p (λ t. TextFits (cow_str_bytes t))) (sym (path ∙ c.source.ensures.path)) tt,
