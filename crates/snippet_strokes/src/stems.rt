@@ -3,6 +3,8 @@ ghost use Rattle.std.specs.Prelude.{◌≡◌, ◌+◌, ◌^◌, ◌<◌, ◌≤
 ghost use Rattle.snippet_strokes.specs.Entries.{HasPlace};
 ghost use Rattle.snippet_strokes.specs.Painting.{DrawsFrom, HasRows, MarksStarts, StandsFrom, foot_glyph};
 ghost use Rattle.snippet_strokes.specs.Positions as spec;
+ghost use Rattle.snippet_strokes.specs.Writes.{painted};
+ghost use Rattle.snippet_strokes.specs.Strokes.{stem_of, stems_of};
 
 use crate::layout::Layout;
 use crate::positions::PlacedEntry;
@@ -34,6 +36,7 @@ pub(crate) fn draw_stems(
     requires columns { All (λ e. HasPlace e.entry) placed.now }
     requires small { length buffer.old ≤ 2 ^ 60 }
     requires rows { All (HasRows row (length buffer.old)) placed.now }
+    ensures painted { OnOk result (buffer.new ≡ painted (stems_of layout row placed.now) buffer.old) }
     ensures draws { OnOk result ((from : ℕ) → All (λ e. StandsFrom layout.code from e.entry) placed.now
         → DrawsFrom row from buffer.old buffer.new) }
     ensures starts { OnOk result (MarksStarts layout.code placed.now buffer.old buffer.new) }
@@ -57,10 +60,7 @@ fn draw_stem(
     requires columns { HasPlace placed.now.entry }
     requires small { length buffer.old ≤ 2 ^ 60 }
     requires rows { HasRows row (length buffer.old) placed.now }
-    ensures draws { OnOk result ((from : ℕ) → StandsFrom layout.code from placed.now.entry
-        → DrawsFrom row from buffer.old buffer.new) }
-    ensures starts { OnOk result (MarksStarts layout.code (placed.now ∷ []) buffer.old buffer.new) }
-    ensures none { OnOk result (spec.has_stem placed.now ≡ false → buffer.new ≡ buffer.old) }
+    ensures painted { OnOk result (buffer.new ≡ painted (stem_of layout row placed.now) buffer.old) }
 {
     if !placed.has_stem() {
         return Ok(());

@@ -1,22 +1,44 @@
-use Rattle.std.proofs.Common.{◌≡◌, ◌≢◌, ◌∙◌, ◌+◌, [], false, sym, subst, arith, length, get_or}
-use Rattle.std.proofs.lemmas.List.Elements.{All-cons, All-nil}
+use Rattle.std.proofs.Common.{◌≡◌, ◌∙◌, ◌<◌, List, ℕ, ap, sym, subst, arith, length, take, refl, All}
+use Rattle.std.proofs.lemmas.List.{take_all}
+use Rattle.std.proofs.lemmas.List.Elements.{All-take, All-weaker}
+use Rattle.snippet_style.specs.Cell.{Cell}
+use Rattle.snippet_strokes.specs.declared.layout.Layout.{Layout}
 use Rattle.snippet_strokes.specs.declared.positions.PlacedEntry.{PlacedEntry}
-use Rattle.snippet_strokes.specs.Painting.{HasRows, StandsFrom}
-use Rattle.snippet_strokes.specs.Positions.{has_stem}
-use Rattle.snippet_strokes.proofs.DrawLemmas.{DrawsFrom-more}
+use Rattle.snippet_strokes.specs.Painting.{DrawsFrom, HasRows, MarksStarts}
+use Rattle.snippet_strokes.specs.Writes.{IsWithin, Write, painted}
+use Rattle.snippet_strokes.specs.Strokes.{stem_of, stems_of}
+use Rattle.snippet_strokes.proofs.StemWrites.{stems_none, stems_start, stems_within}
+use Rattle.snippet_strokes.proofs.WriteLaws.{DrawsFrom-painted, painted-count}
+use Rattle.snippet_strokes.proofs.WriteLemmas.{painted_more}
 use Rattle.snippet_strokes.proofs.stems.draw_stems.Goals as goal
 
+-- stems add no row
+count_kept : (layout : Layout) (row i : ℕ) (es : List PlacedEntry) (old mid : List (List Cell)) → mid ≡ painted (stems_of layout row (take i es)) old → All (HasRows row (length old)) es → length mid ≡ length old
+count_kept layout row i es old mid so_far rows =
+    ap length so_far ∙ painted-count (stems_of layout row (take i es)) old (length old) refl (All-weaker (IsWithin row (length old) 0) (λ (w : Write). w.row < length old) (λ w is. is.there) (stems_of layout row (take i es)) (stems_within layout row (length old) 0 (take i es) (All-take (HasRows row (length old)) i es rows) (λ k d within. omega arith)))
+
 pub draw_stem-requires-clause-small : goal.draw_stem-requires-clause-small
-draw_stem-requires-clause-small c = omega (arith, (c.loop-entry.invariant.0 0 (λ k d within. omega arith)).count, c.requires.small)
+draw_stem-requires-clause-small c =
+    omega (arith, count_kept c.args.layout c.args.row c.loop-entry.entry-index c.args.placed.now c.args.buffer.now c.loop-entry.buffer c.loop-entry.invariant c.requires.rows, c.requires.small)
 
 pub draw_stem-requires-clause-rows : goal.draw_stem-requires-clause-rows
 draw_stem-requires-clause-rows c =
-    subst (λ n. HasRows c.args.row n c.entry-item.result) (sym (c.loop-entry.invariant.0 0 (λ k d within. omega arith)).count) (subst (HasRows c.args.row (length c.args.buffer.now)) (sym c.entry-item.is) (c.requires.rows c.loop-entry.entry-index c.entry-item.result c.loop-entry-test.true))
+    subst (λ n. HasRows c.args.row n c.entry-item.result) (sym (count_kept c.args.layout c.args.row c.loop-entry.entry-index c.args.placed.now c.args.buffer.now c.loop-entry.buffer c.loop-entry.invariant c.requires.rows)) (subst (HasRows c.args.row (length c.args.buffer.now)) (sym c.entry-item.is) (c.requires.rows c.loop-entry.entry-index c.entry-item.result c.loop-entry-test.true))
 
 pub loop-entry-preserved : goal.loop-entry-preserved
 loop-entry-preserved c =
+    c.in_ok-draw_stem.ensures.painted ∙ painted_more (stem_of c.args.layout c.args.row) c.args.placed.now c.loop-entry.entry-index c.entry-item.result c.args.buffer.now c.loop-entry.buffer c.loop-entry-test.true c.entry-item.is c.loop-entry.invariant
+
+pub returns : goal.returns
+returns c =
     let es = c.args.placed.now in
-    let i = c.loop-entry.entry-index in
-    let item = c.entry-item.result in
-    let is_item : item ≡ get_or es i item = c.entry-item.is in
-    (λ from all. DrawsFrom-more c.args.row from c.args.buffer.now c.loop-entry.buffer c.draw_stem.new.buffer (c.loop-entry.invariant.0 from all) (c.in_ok-draw_stem.ensures.draws from (subst (λ (x : PlacedEntry). StandsFrom c.args.layout.code from x.entry) (sym is_item) (all i item c.loop-entry-test.true))), λ none. c.in_ok-draw_stem.ensures.none (subst (λ x. has_stem x ≡ false) (sym is_item) (none i item c.loop-entry-test.true)) ∙ c.loop-entry.invariant.1 none, λ r k beside before. c.in_ok-draw_stem.ensures.starts r k (All-cons (λ (x : PlacedEntry). k ≢ c.args.layout.code + x.entry.start.display) item [] (subst (λ (x : PlacedEntry). k ≢ c.args.layout.code + x.entry.start.display) (sym is_item) (beside i item c.loop-entry-test.true)) (All-nil (λ (x : PlacedEntry). k ≢ c.args.layout.code + x.entry.start.display))) (c.loop-entry.invariant.2 r k beside before))
+    let old = c.args.buffer.now in
+    let layout = c.args.layout in
+    let row = c.args.row in
+    let is : c.loop-entry.buffer ≡ painted (stems_of layout row es) old = c.loop-entry.invariant ∙ ap (λ xs. painted (stems_of layout row xs) old) (take_all c.loop-entry.entry-index es (omega (arith, c.loop-entry-test.false))) in
+    record {
+      painted = is;
+      draws = λ from stand. subst (DrawsFrom row from old) (sym is) (DrawsFrom-painted row from (stems_of layout row es) old (stems_within layout row (length old) from es c.requires.rows stand));
+      starts = subst (MarksStarts layout.code es old) (sym is) (stems_start layout row es old);
+      none = λ none. is ∙ ap (λ ws. painted ws old) (stems_none layout row es none);
+    }

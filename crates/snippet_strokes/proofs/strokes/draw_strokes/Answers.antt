@@ -16,7 +16,25 @@ use Rattle.snippet_strokes.proofs.PositionLemmas.{entries_all, row_count_some, p
 use Rattle.snippet_strokes.proofs.BegunLemmas.{rows_begun, rows_ready, wide_entries-permutation}
 use Rattle.snippet_strokes.proofs.StrokeLemmas.{strokes_drawn, strokes_none}
 use Rattle.snippet_strokes.proofs.TextLemmas.{labels_short}
+use Rattle.std.proofs.Common.{get_or, take, drop}
+use Rattle.std.proofs.lemmas.List.{drop_more, length-take-le, take-append-drop}
+use Rattle.snippet_style.specs.Cell.{Cell}
+use Rattle.snippet_strokes.specs.declared.layout.Layout.{Layout}
+use Rattle.snippet_strokes.specs.Positions.{ArePlaced}
+use Rattle.snippet_strokes.specs.Rows.{CutsRows}
+use Rattle.snippet_strokes.specs.Labels.{StandsWhole}
 use Rattle.snippet_strokes.proofs.strokes.draw_strokes.Goals as goal
+
+-- where no entry is wide nothing is cut
+cut_nothing : (layout : Layout) (wide row : ℕ) (old new : List (List Cell)) → wide ≡ 0 → row + 1 < length old → ((above : List (List Cell)) (source marks : List Cell) (below : List (List Cell)) → length above ≡ row → old ≡ above ++ source ∷ marks ∷ below → CutsRows layout wide above source marks below new) → new ≡ old
+cut_nothing layout wide row old new none there cuts =
+    let above = take row old in
+    let source = get_or old row [] in
+    let marks = get_or old (row + 1) [] in
+    let below = drop (row + 1 + 1) old in
+    let is : old ≡ above ++ source ∷ marks ∷ below = sym (take-append-drop row old) ∙ ap (λ xs. above ++ xs) (drop_more old row [] (omega (arith, there)) ∙ ap (λ xs. source ∷ xs) (drop_more old (row + 1) [] there)) in
+    let cut : CutsRows layout wide above source marks below new = cuts above source marks below (length-take-le row old (omega (arith, there))) is in
+    cut.new_is ∙ ap (λ s. above ++ s ∷ cut.marks_now ∷ below) (cut.source_cut.uncut none) ∙ ap (λ m. above ++ source ∷ m ∷ below) (cut.marks_cut.uncut none) ∙ sym is
 
 pub row_count-requires : goal.row_count-requires
 row_count-requires c =
@@ -109,7 +127,7 @@ returns-then-is_empty c =
     let es = map (shifted c.args.dropped) c.args.entries.now in
     let given : length c.args.entries.now ≡ 0 = grind arith in
     let none : length es ≡ 0 = length-map c.args.entries.now (shifted c.args.dropped) ∙ given in
-    record { added = on_ok_weaker c.close_below.result (λ adds above plain old_is bare_rails. strokes_none c.args.layout c.args.room c.args.closes es above plain c.args.buffer.now c.close_below.new.buffer c.requires.place none old_is bare_rails adds) c.close_below.ensures.added }
+    record { added = on_ok_weaker c.close_below.result (λ adds above plain old_is bare_rails. strokes_none c.args.layout c.args.room c.args.closes es above plain c.args.buffer.now c.close_below.new.buffer c.requires.place none old_is bare_rails adds) c.close_below.ensures.added; stand = on_ok_weaker c.close_below.result (λ _ some _. absurd (omega (arith, given, some))) c.close_below.ensures.added }
 
 pub returns : goal.returns
 returns c =
@@ -146,4 +164,19 @@ returns c =
           let marks_row : below ≡ length above + 1 = c.in_ok-below.ensures.row ∙ sym long in
           let begins : begun ≡ (above ++ plain ∷ []) ++ replicate (row_count placed - 1) sep ++ end ∷ [] = c.in_ok-below.ensures.added ∙ ap (λ n. c.args.buffer.now ++ replicate (n - 1) sep ++ end ∷ []) count ∙ ap (λ old. old ++ replicate (row_count placed - 1) sep ++ end ∷ []) old_is in
           strokes_drawn layout c.args.room c.args.closes es placed above plain begun joined barred stemmed labelled new c.requires.place c.in_ok-placed.ensures.placed bare_rails begins (subst (λ n. DrawsFrom n (layout.gutter + 3) begun joined) marks_row c.in_ok-draw_connectors.ensures.draws) c.in_ok-draw_connectors.ensures.rails no_lines (subst (λ n. DrawsRails layout n joined barred) source_row c.in_ok-draw_corners.ensures.draws) no_bars (subst (λ n. (from : ℕ) → All (λ (e : PlacedEntry). StandsFrom layout.code from e.entry) placed → DrawsFrom n from barred stemmed) marks_row stems) no_stems (subst (λ n. (from : ℕ) → All (λ (e : PlacedEntry). StandsFrom layout.code from e.entry) placed → DrawsFrom n from stemmed labelled) marks_row labels) stem_starts c.in_ok-draw_labels.ensures.starts no_labels (subst (λ n. (e : PlacedEntry) → placed ≡ e ∷ [] → e.position ≡ 0 → 0 < e.entry.end.display → has_label e ≡ true → labelled ≡ cells_written stemmed n (layout.code + e.entry.end.display + 1) (drawn (label_role e.entry.kind) (label_text e.entry))) marks_row lone) (subst (λ n. AreMarked layout placed n labelled new) marks_row c.in_ok-draw_marks.ensures.marked) c.cut_wide.new.buffer (wide_entries c.args.room layout.decor (map f c.deref-7.result.now)) some wide (λ up source marks rest same. cut up source marks rest (same ∙ sym source_row))) c.cut_wide.ensures.cut;
+      stand = on_ok_weaker c.cut_wide.result (λ cut _ none.
+          let places : All (λ (e : PlacedEntry). HasPlace e.entry) placed = entries_all HasPlace es placed c.in_ok-placed.ensures.placed.same (shifted_places c.args.dropped c.args.entries.now c.requires.columns) in
+          let written : All (StandsWhole layout below labelled) placed = subst (λ (ps : List PlacedEntry). ArePlaced es ps → All (StandsWhole layout below labelled) ps) c.deref-6.ensures.value (c.in_ok-draw_labels.ensures.stand es) c.in_ok-placed.ensures.placed in
+          let marked : All (StandsWhole layout below new) placed = c.in_ok-draw_marks.ensures.stand es c.in_ok-placed.ensures.placed places written in
+          let uncut : c.cut_wide.new.buffer ≡ new = cut_nothing layout _ c.args.row new c.cut_wide.new.buffer (wide ∙ none) (let count = c.row_count.ensures.value ∙ ap row_count c.deref-2.ensures.value in
+          let begun_long = rows_begun c.args.buffer.now c.begin_rows.new.buffer (separator_row c.args.layout.decor c.args.layout.gutter) (bare_row c.args.layout.decor c.args.layout.gutter c.args.closes) c.row_count.result (omega (arith, count, row_count_some c.in_ok-placed.placed.items)) c.in_ok-below.ensures.added in
+          let long : length c.draw_labels.new.buffer ≡ length c.args.buffer.now + c.row_count.result = (c.in_ok-draw_labels.ensures.draws 0 (λ k d within. omega arith)).count ∙ (c.in_ok-draw_stems.ensures.draws 0 (λ k d within. omega arith)).count ∙ c.in_ok-draw_corners.ensures.draws.draws.count ∙ c.in_ok-draw_connectors.ensures.draws.count ∙ begun_long in
+          let there : c.in_ok-below.below < length c.draw_labels.new.buffer = omega (arith, long, c.in_ok-below.ensures.row, count, row_count_some c.in_ok-placed.placed.items) in
+          omega (arith, c.in_ok-draw_marks.ensures.marked.painted.count there, there, c.in_ok-below.ensures.row, c.requires.last)) cut in
+          let row_is : below ≡ c.args.row + 1 = c.in_ok-below.ensures.row ∙ c.requires.last in
+          record {
+            placed = placed;
+            are = c.in_ok-placed.ensures.placed;
+            stand = subst (λ rows. All (StandsWhole layout (c.args.row + 1) rows) placed) (sym uncut) (subst (λ n. All (StandsWhole layout n new) placed) row_is marked);
+          }) c.cut_wide.ensures.cut;
     }
