@@ -211,6 +211,17 @@ stands_left given es i j d d2 placed before within =
     let column = (placed.from_right i j d.entry (omega (arith, before)) (omega (arith, within, length-map es f))).column in
     omega (arith, column, ap (λ (e : LineAnnotation). e.start.display) first, ap (λ (e : LineAnnotation). e.start.display) second)
 
+-- the labels of two entries of a line share no cell
+pub placed_apart : (layout : Layout) (row : ℕ) (given : List LineAnnotation) (es : List PlacedEntry) (i j : ℕ) (d d2 : PlacedEntry) → ArePlaced given es → All (λ e. HasPlace e.entry) es → i < j → j < length es → has_label (get_or es i d) ≡ true → has_label (get_or es j d2) ≡ true → (r c : ℕ) → Reaches r c (label_write layout row (get_or es i d)) → Reaches r c (label_write layout row (get_or es j d2)) → ⊥
+placed_apart layout row given es i j d d2 placed places before within has has_f r c here there =
+    let e : PlacedEntry = get_or es i d in
+    let f : PlacedEntry = get_or es j d2 in
+    let inside : i < length es = omega (arith, before, within) in
+    let are = labelled_positions given es i d placed inside has in
+    let at_e = position_of es i d are inside in
+    let at_f = position_of es j d2 are within in
+    labels_apart layout row e f (places i d inside) (places j d2 within) (placed.labels j d2 within) has has_f (stands_left given es i j d d2 placed before within) (λ one_row. subst (λ p. crowds p e f ≡ false) (sym at_e) (uncrowded 0 es i j d d2 before within (sym at_e ∙ one_row ∙ at_f))) r c here there
+
 -- each label stands whole once all are written
 pub labels_stand : (layout : Layout) (row : ℕ) (given : List LineAnnotation) (es : List PlacedEntry) (rows : List (List Cell)) → ArePlaced given es → All (λ e. HasPlace e.entry) es → All (StandsWhole layout row (painted (labels_of layout row es) rows)) es
 labels_stand layout row given es rows placed places k d within has n inside =
@@ -220,7 +231,6 @@ labels_stand layout row given es rows placed places k d within has n inside =
     let behind = drop (k + 1) es in
     let r = row + (label_place e).0 in
     let c = layout.code + (label_place e).1 + n in
-    let are = labelled_positions given es k d placed within has in
     let N : Write → Type 0 = λ v. Reaches r c v → ⊥ in
     let here : Reaches r c w = record { row = refl; from = omega arith; to = omega (arith, inside) } in
     let split : es ≡ take k es ++ e ∷ behind = sym (take-append-drop k es) ∙ ap (λ xs. take k es ++ xs) (drop_more es k d within) in
@@ -229,7 +239,7 @@ labels_stand layout row given es rows placed places k d within has n inside =
     let j : ℕ = k + 1 + m in
     let later : j < length es = omega (arith, fits, length-drop (k + 1) es) in
     let same : get_or behind m d2 ≡ get_or es j d2 = get_or-drop (k + 1) es m d2 in
-    subst (λ (x : PlacedEntry). All N (f x)) (sym same) (All-label_of N layout row (get_or es j d2) (λ has_f there. labels_apart layout row e (get_or es j d2) (places k d within) (places j d2 later) (placed.labels j d2 later) has has_f (stands_left given es k j d d2 placed (omega arith) later) (λ one_row. subst (λ p. crowds p e (get_or es j d2) ≡ false) (sym (position_of es k d are within)) (uncrowded 0 es k j d d2 (omega arith) later (sym (position_of es k d are within) ∙ one_row ∙ position_of es j d2 are later))) r c here there))) in
+    subst (λ (x : PlacedEntry). All N (f x)) (sym same) (All-label_of N layout row (get_or es j d2) (λ has_f there. placed_apart layout row given es k j d d2 placed places (omega arith) later has has_f r c here there))) in
     ap (λ ws. cell_at (painted ws rows) r c) parts ∙ painted-last (labels_of layout row (take k es)) (labels_of layout row behind) w rows r c here beside ∙ ap (λ m. unlinked_cell (label_role e.entry.kind) (get_or (label_text e.entry) m 0)) (omega arith)
 
 -- no mark covers a label in the row of the marks: an entry whose mark may stand there ends no farther right, or starts

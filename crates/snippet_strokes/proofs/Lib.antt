@@ -10,6 +10,7 @@ pub mod WriteLaws
 pub mod LabelWrites
 pub mod StemWrites
 pub mod LabelLaw
+pub mod LabelPlaces
 pub mod BarWrites
 pub mod MarkWrites
 pub mod MarkLemmas

@@ -20,7 +20,7 @@ use Rattle.snippet_strokes.specs.Entries.{label_role, label_text}
 use Rattle.snippet_strokes.specs.Painting.{first_glyph, foot_glyph, mark_end}
 use Rattle.snippet_strokes.specs.Positions.{has_label, has_stem, label_place}
 use Rattle.snippet_strokes.specs.Writes.{Write, column_of, glyph_at, painted, stretch_of, written_by}
-use Rattle.snippet_strokes.specs.Strokes.{label_write, label_of, mark_of, stem_write, stem_of, stroke_role}
+use Rattle.snippet_strokes.specs.Strokes.{connectors_of, corners_of, label_write, label_of, labels_of, mark_of, marks_of, stem_write, stem_of, stems_of, stroke_role, strokes_of}
 
 -- one write more, and some more
 pub painted-append : (ws vs : List Write) (rows : List (List Cell)) → painted (ws ++ vs) rows ≡ painted vs (painted ws rows)
@@ -102,3 +102,18 @@ mark_painted layout row e first underline role end old mid new some is_end is_fi
     let line : ℕ = glyph_of layout.decor (is_primary e.entry.kind) 94 45 0x2501 0x2500 in
     let ws : List Write = glyph_at row from (first_glyph layout.decor e) (stroke_role e) ∷ stretch_of row (from + 1) to line (stroke_role e) in
     goes_on ∙ ap (λ n. painted (stretch_of row (from + 1) (layout.code + n) underline role) mid) is_end ∙ ap (λ g. painted (stretch_of row (from + 1) to g role) mid) is_underline ∙ ap (λ r. painted (stretch_of row (from + 1) to line r) mid) is_role ∙ ap (painted (stretch_of row (from + 1) to line (stroke_role e))) (begins ∙ ap (λ g. cells_written old row from (drawn role (g ∷ []))) is_first ∙ ap (λ r. cells_written old row from (drawn r (first_glyph layout.decor e ∷ []))) is_role) ∙ sym (ap (λ b. painted (cond b ws []) old) (less from to (omega (arith, some))))
+
+-- the strokes of a line, painted one list after another
+pub strokes_painted : (layout : Layout) (row below count all : ℕ) (placed order : List PlacedEntry) (rows begun joined barred stemmed labelled new : List (List Cell)) → below ≡ row + 1 → count ≡ all → begun ≡ rows → joined ≡ painted (connectors_of layout below placed) begun → barred ≡ painted (corners_of layout row count placed) joined → stemmed ≡ painted (stems_of layout below placed) barred → labelled ≡ painted (labels_of layout below placed) stemmed → new ≡ painted (marks_of layout below order) labelled → new ≡ painted (strokes_of layout row all placed order) rows
+strokes_painted layout row below count all placed order rows begun joined barred stemmed labelled new is_below is_all is_begun lines bars stems labels marks =
+    let one : List Write = connectors_of layout (row + 1) placed in
+    let two : List Write = corners_of layout row all placed in
+    let three : List Write = stems_of layout (row + 1) placed in
+    let four : List Write = labels_of layout (row + 1) placed in
+    let five : List Write = marks_of layout (row + 1) order in
+    let after_one : joined ≡ painted one rows = lines ∙ ap (λ n. painted (connectors_of layout n placed) begun) is_below ∙ ap (painted one) is_begun in
+    let after_two : barred ≡ painted two (painted one rows) = bars ∙ ap (λ n. painted (corners_of layout row n placed) joined) is_all ∙ ap (painted two) after_one in
+    let after_three : stemmed ≡ painted three (painted two (painted one rows)) = stems ∙ ap (λ n. painted (stems_of layout n placed) barred) is_below ∙ ap (painted three) after_two in
+    let after_four : labelled ≡ painted four (painted three (painted two (painted one rows))) = labels ∙ ap (λ n. painted (labels_of layout n placed) stemmed) is_below ∙ ap (painted four) after_three in
+    let after_five : new ≡ painted five (painted four (painted three (painted two (painted one rows)))) = marks ∙ ap (λ n. painted (marks_of layout n order) labelled) is_below ∙ ap (painted five) after_four in
+    after_five ∙ sym (painted-append (one ++ two ++ three ++ four) five rows ∙ ap (painted five) (painted-append (one ++ two ++ three) four rows ∙ ap (painted four) (painted-append (one ++ two) three rows ∙ ap (painted three) (painted-append one two rows))))

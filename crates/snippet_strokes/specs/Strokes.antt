@@ -1,6 +1,6 @@
 -- What is written for the strokes of a line, as lists of writes: its labels, its stems, its marks, the lines that lead to bars,
 -- and the bars of the spans that begin or end on it.
-use Rattle.std.specs.Prelude.{ℕ, ◌+◌, ◌==◌, nat_lt, List, [], ◌∷◌, ◌++◌, map, if◌then◌else◌}
+use Rattle.std.specs.Prelude.{ℕ, ◌≡◌, ◌+◌, ◌-◌, ◌==◌, nat_lt, Bool, List, [], ◌∷◌, ◌++◌, IsPermutation, length, map, replicate, if◌then◌else◌}
 use Rattle.std.specs.List.{flat_map, range_with_len}
 use Rattle.snippet_style.specs.declared.role.ElementStyle.{ElementStyle}
 use Rattle.snippet_style.specs.Glyphs.{glyph_of, underline_role}
@@ -10,9 +10,13 @@ use Rattle.snippet_model.specs.AnnotationKind.{is_primary}
 use Rattle.snippet_strokes.specs.declared.layout.Layout.{Layout}
 use Rattle.snippet_strokes.specs.declared.positions.PlacedEntry.{PlacedEntry}
 use Rattle.snippet_strokes.specs.Entries.{label_role, label_text}
-use Rattle.snippet_strokes.specs.Painting.{first_glyph, foot_glyph, mark_end}
-use Rattle.snippet_strokes.specs.Positions.{has_label, has_stem, label_place}
-use Rattle.snippet_strokes.specs.Writes.{Write, column_of, glyph_at, stretch_of}
+use Rattle.snippet_view.specs.declared.entries.LineAnnotation.{LineAnnotation}
+use Rattle.snippet_style.specs.Cell.{Cell}
+use Rattle.snippet_style.specs.Separators.{separator_row}
+use Rattle.snippet_strokes.specs.Painting.{IsPaintingOrder, first_glyph, foot_glyph, mark_end}
+use Rattle.snippet_strokes.specs.Positions.{ArePlaced, has_label, has_stem, label_place, row_count}
+use Rattle.snippet_strokes.specs.Rows.{bare_row}
+use Rattle.snippet_strokes.specs.Writes.{Write, column_of, glyph_at, painted, stretch_of}
 
 -- the role of an entry's strokes
 abbrev pub stroke_role : PlacedEntry → ElementStyle
@@ -123,3 +127,14 @@ corners_of layout row count placed = flat_map (corner_of layout row count) place
 abbrev pub strokes_of : Layout → ℕ → ℕ → List PlacedEntry → List PlacedEntry → List Write
 strokes_of layout row count placed order =
     connectors_of layout (row + 1) placed ++ corners_of layout row count placed ++ stems_of layout (row + 1) placed ++ labels_of layout (row + 1) placed ++ marks_of layout (row + 1) order
+
+-- the rows of a line's strokes, below its source row, which is the last of those that were there: separators, with the last row as the
+-- window closes or goes on, and over them all strokes. The entries are placed from right to left, and their marks painted in a
+-- painting order
+pub record StrokesPainted (layout : Layout) (closes : Bool) (es : List LineAnnotation) (old new : List (List Cell)) : Type 0 where
+  pub placed : List PlacedEntry
+  pub are : ArePlaced es placed
+  pub order : List PlacedEntry
+  pub same : IsPermutation placed order
+  pub ordered : IsPaintingOrder (map (λ (e : PlacedEntry). e.entry) order)
+  pub new_is : new ≡ painted (strokes_of layout (length old - 1) (length old + row_count placed) placed order) (old ++ replicate (row_count placed - 1) (separator_row layout.decor layout.gutter) ++ bare_row layout.decor layout.gutter closes ∷ [])

@@ -5,8 +5,8 @@ ghost use Rattle.snippet_view.specs.Measures.{is_bar};
 ghost use Rattle.snippet_style.specs.Cell.{Cell};
 ghost use Rattle.snippet_strokes.specs.Positions as spec;
 ghost use Rattle.snippet_strokes.specs.Rows.{AddsStrokes, HasNoBars};
+ghost use Rattle.snippet_strokes.specs.Strokes.{StrokesPainted};
 ghost use Rattle.snippet_style.specs.Separators.{closing_row};
-ghost use Rattle.snippet_strokes.specs.Labels.{LabelsStand};
 
 use crate::connectors::draw_connectors;
 use crate::corners::draw_corners;
@@ -60,9 +60,9 @@ pub(crate) fn draw_strokes(
     ensures added { OnOk result ((above : List (List Cell)) (plain : List Cell) → buffer.old ≡ above ++ plain ∷ []
         → HasNoBars layout plain
         → AddsStrokes layout room (map (shifted dropped) entries.now) closes above plain buffer.new) }
-    ensures stand { OnOk result (0 < length entries.now
+    ensures painted { OnOk result (0 < length entries.now
         → wide_entries room layout.decor (map (shifted dropped) entries.now) ≡ 0
-        → LabelsStand layout (row + 1) (map (shifted dropped) entries.now) buffer.new) }
+        → StrokesPainted layout closes (map (shifted dropped) entries.now) buffer.old buffer.new) }
 {
     if entries.is_empty() {
         return close_below(buffer, layout, closes);
