@@ -11,6 +11,7 @@ pub mod GroupLemmas
 pub mod GroupShown
 pub mod GutterLemmas
 pub mod HeadingShown
+pub mod LabelLemmas
 pub mod LineLemmas
 pub mod ListLemmas
 pub mod MarkLemmas

@@ -57,11 +57,11 @@ pub record IsEntryOf (s : Source) (k : ℕ) (a : Annotation) (e : LineAnnotation
   pub label : entry.label_chars e.label ≡ shown_label a
 
 -- an entry's label shows what its text does
-label_is : (label : Option (Bor (List ℕ))) → entry.label_chars label ≡ normalized_chars (option_copied label)
+pub label_is : (label : Option (Bor (List ℕ))) → entry.label_chars label ≡ normalized_chars (option_copied label)
 label_is None = refl
 label_is (Some l) = refl
 
-entry_is : (s : Source) (k : ℕ) (a : Annotation) (e : LineAnnotation) → is_marked_on s.text k a ≡ true → is_single_line s.text a ≡ true → seen_entry e ≡ entry_of s a → IsEntryOf s k a e
+pub entry_is : (s : Source) (k : ℕ) (a : Annotation) (e : LineAnnotation) → is_marked_on s.text k a ≡ true → is_single_line s.text a ≡ true → seen_entry e ≡ entry_of s a → IsEntryOf s k a e
 entry_is s k a e marked single same =
     record {
       marked = marked;

@@ -1,12 +1,12 @@
 -- What the page of a report shows.
 use Rattle.snippet_style.specs.Stylesheet.{is_plain_sheet}
-use Rattle.std.specs.Prelude.{◌≡◌, ◌⊎◌, ℕ, ◌+◌, ◌-◌, ◌<◌, ◌≤◌, ◌==◌, ◌&&◌, Bool, true, false, List, [], ◌∷◌, ◌++◌, All, Contains, Option, Some, None, filter, length, map, take, drop, chars, if◌then◌else◌, encode_utf8_all}
+use Rattle.std.specs.Prelude.{◌≡◌, ◌⊎◌, ℕ, ◌+◌, ◌-◌, ◌<◌, ◌≤◌, ◌==◌, ◌&&◌, nat_le, nat_lt, Bool, true, false, List, [], ◌∷◌, ◌++◌, All, Contains, Option, Some, None, filter, length, map, take, drop, chars, if◌then◌else◌, encode_utf8_all}
 use Rattle.std.specs.List.{AllZip, flat_map, count_by, list_any, slice_get, slice_index_or}
 use Rattle.std.specs.Option.{option_map, option_to_list}
 use Rattle.std.specs.Char.{is_ascii_alphanumeric}
 use Rattle.std.specs.Cow.{cow_str_bytes}
-use Rattle.snippet_grid.specs.Grid.{row_at}
-use Rattle.snippet_style.specs.Cell.{Cell, SPACE}
+use Rattle.snippet_grid.specs.Grid.{cell_at, row_at}
+use Rattle.snippet_style.specs.Cell.{Cell, SPACE, unlinked_cell}
 use Rattle.snippet_grid.specs.Print.{row_text}
 use Rattle.snippet_style.specs.declared.glyphs.DecorStyle.{DecorStyle}
 use Rattle.snippet_style.specs.declared.role.LevelInner.{LevelInner}
@@ -41,7 +41,7 @@ use Rattle.snippet_view.specs.declared.named_place.NamedPlace.{NamedPlace}
 use Rattle.snippet_view.specs.Window.{chars_at, stands_whole, IsWindowOf}
 use Rattle.snippet_model.specs.Rows.{HasNoNumber, IsFree}
 use Rattle.snippet_style.specs.Glyphs.{separator_of, closing_of, placeholder_of}
-use Rattle.snippet_strokes.specs.Entries.{IsMarkCell, IsRailCell, has_mark_role}
+use Rattle.snippet_strokes.specs.Entries.{IsMarkCell, IsRailCell, has_mark_role, label_role}
 use Rattle.snippet_strokes.specs.Rows.{IsElisionRow}
 use Rattle.snippet_titles.specs.Heading.{heading_rows}
 use Rattle.snippet_titles.specs.Origin.{origin_text, padding_row}
@@ -56,7 +56,7 @@ use Rattle.annotate_snippets.specs.declared.renderer.surroundings.Next.{Next}
 use Rattle.annotate_snippets.specs.declared.renderer.surroundings.Surroundings.{Surroundings}
 use Rattle.annotate_snippets.specs.Around.{closes_with, drawn_elements, file_of_group, is_end, next_of, path_bytes, place_at, surroundings_at}
 use Rattle.annotate_snippets.specs.Gutter.{frame_of, line_numbers, number_text, numbered_source}
-use Rattle.annotate_snippets.specs.Page.{RowName, SourceRow, Elision, OfferedLine, RemovedLine, Other, NamedRow, lines_named, lines_offered, lines_removed, names_in, names_of_lines, cells_below, cells_of, others, GroupPage, Page, page_text, PrintsPage, IsAscending, page_links}
+use Rattle.annotate_snippets.specs.Page.{RowName, SourceRow, Elision, OfferedLine, RemovedLine, Other, NamedRow, lines_named, lines_offered, lines_removed, names_in, names_of_lines, cells_below, cells_of, rows_below, others, GroupPage, Page, page_text, PrintsPage, IsAscending, page_links}
 use Rattle.annotate_snippets.specs.Rows.{cause_head, message_style, origin_rows, place_found, place_given, rows_behind_cause, rows_behind_title, suggestion_head}
 
 -- the rows show a title or a message, which answers this: level, identifier, text, and whether that is trusted. They are its rows
@@ -149,12 +149,37 @@ pub record ShowsMarksOf (decor : DecorStyle) (frame : Frame) (s : Snippet Annota
   pub spaces : All (λ a. is_marked_on (cow_str_bytes s.source) k a ≡ true → shown_label a ≡ []) s.markers.items → (p : ℕ) → dropped ≤ p → All (λ a. IsMarkedAt (cow_str_bytes s.source) k p a → ⊥) s.markers.items → slice_index_or row (cell_of frame dropped p) SPACE ≡ SPACE
   pub lone : (a : Annotation) → filter (is_marked_on (cow_str_bytes s.source) k) s.markers.items ≡ a ∷ [] → 0 < length (shown_label a) → row_text (drop (cell_of frame dropped (end_column (cow_str_bytes s.source) a)) row) ≡ 32 ∷ shown_label a
 
--- a source row of line k, with the row right below it: it shows the line, and where the line qualifies for the promise
--- on marks the row below has its marks
-pub record ShowsLineAndMarks (r : Renderer) (frame : Frame) (s : Snippet Annotation) (k : ℕ) (row below : List Cell) : Type 0 where
+-- where the label of a span begins: in which of the rows below its line, from 0, and in which cell of it
+pub record SpanLabel : Type 0 where
+  pub span : Annotation
+  pub row : ℕ
+  pub cell : ℕ
+
+-- whether a cell of those rows is one of the label's
+abbrev pub is_in_label : ℕ → ℕ → SpanLabel → Bool
+is_in_label r c l = l.row == r && (nat_le l.cell c && nat_lt c (l.cell + length (shown_label l.span)))
+
+-- the label of a span of one line stands whole in the rows below that, in the role of labels of its kind: in the first of them, that
+-- of the marks, one cell after the span's last; or in a lower one, below the span's first column
+pub record ShowsLabel (frame : Frame) (source : List ℕ) (dropped : ℕ) (rows : List (List Cell)) (l : SpanLabel) : Type 0 where
+  pub whole : (n : ℕ) → n < length (shown_label l.span) → cell_at rows l.row (l.cell + n) ≡ unlinked_cell (label_role l.span.kind) (slice_index_or (shown_label l.span) n 0)
+  pub place : ((l.row ≡ 0) × (l.cell ≡ cell_of frame dropped (end_column source l.span) + 1)) ⊎ ((0 < l.row) × (l.cell ≡ cell_of frame dropped (start_column source l.span)))
+
+-- no label of line k is lost: of the spans that stand on it alone, in their order, each that has a label to show has it in the rows
+-- below the line, whole; and no cell belongs to two labels, so that two of the same words stand twice
+pub record ShowsLabels (frame : Frame) (s : Snippet Annotation) (k dropped : ℕ) (rows : List (List Cell)) : Type 0 where
+  pub labels : List SpanLabel
+  pub spans : map (λ (l : SpanLabel). l.span) labels ≡ filter (is_marked_on (cow_str_bytes s.source) k) s.markers.items
+  pub stand : All (λ l. 0 < length (shown_label l.span) → ShowsLabel frame (cow_str_bytes s.source) dropped rows l) labels
+  pub apart : (r c : ℕ) → count_by (is_in_label r c) labels ≤ 1
+
+-- a source row of line k, with the row right below it, and all rows that belong to it: it shows the line, and where the line
+-- qualifies for the promise on marks the row below has its marks. Where no span is cut for being wide, no label is lost
+pub record ShowsLineAndMarks (r : Renderer) (frame : Frame) (s : Snippet Annotation) (k : ℕ) (row below : List Cell) (rows : List (List Cell)) : Type 0 where
   pub dropped : ℕ
   pub line : ShowsSourceLine r frame s k dropped row
   pub marks : qualifies_for_marks (room_of r frame) (length (placeholder_of r.decor_style)) (cow_str_bytes s.source) s.markers.items k ≡ true → ShowsMarksOf r.decor_style frame s k dropped below
+  pub labels : wide_spans (room_of r frame) (length (placeholder_of r.decor_style)) s k ≡ 0 → ShowsLabels frame s k dropped rows
 
 -- a row has these characters behind the gutter, from the cell on at which separators stand
 abbrev pub HasStroke : ℕ → List ℕ → List Cell → Type 0
@@ -177,7 +202,7 @@ pub record IsElided (decor : DecorStyle) (frame : Frame) (row : List Cell) : Typ
 -- a row of an annotated snippet's lines, with the rows below it, is what its name says; the group's window may close with the
 -- last one
 abbrev pub IsRowOf : Renderer → Frame → Bool → Snippet Annotation → RowName → List Cell → List NamedRow → Type 0
-IsRowOf r frame closes s (SourceRow k) row rows = ShowsLineAndMarks r frame s k row (cells_below rows)
+IsRowOf r frame closes s (SourceRow k) row rows = ShowsLineAndMarks r frame s k row (cells_below rows) (rows_below rows)
 IsRowOf r frame closes s Elision row rows = IsElided r.decor_style frame row
 IsRowOf r frame closes s (OfferedLine j) row rows = ⊥
 IsRowOf r frame closes s (RemovedLine i) row rows = ⊥

@@ -1,6 +1,6 @@
 -- What is written for the strokes of a line, as lists of writes: its labels, its stems, its marks, the lines that lead to bars,
 -- and the bars of the spans that begin or end on it.
-use Rattle.std.specs.Prelude.{ℕ, ◌≡◌, ◌+◌, ◌-◌, ◌==◌, nat_lt, Bool, List, [], ◌∷◌, ◌++◌, IsPermutation, length, map, replicate, if◌then◌else◌}
+use Rattle.std.specs.Prelude.{ℕ, ◌≡◌, ◌+◌, ◌-◌, ◌==◌, ◌&&◌, nat_le, nat_lt, Bool, false, List, [], ◌∷◌, ◌++◌, IsPermutation, length, map, replicate, if◌then◌else◌}
 use Rattle.std.specs.List.{flat_map, range_with_len}
 use Rattle.snippet_style.specs.declared.role.ElementStyle.{ElementStyle}
 use Rattle.snippet_style.specs.Glyphs.{glyph_of, underline_role}
@@ -47,8 +47,17 @@ stem_write layout row e below =
 abbrev pub stem_of : Layout → ℕ → PlacedEntry → List Write
 stem_of layout row e = if has_stem e then map (stem_write layout row e) (range_with_len 0 (e.position + 1)) else []
 
+-- whether the stem of the next of some later entries covers that of an entry: it stands in the same column, and reaches as far down
+abbrev pub is_hidden : PlacedEntry → List PlacedEntry → Bool
+is_hidden e [] = false
+is_hidden e (next ∷ later) =
+    has_stem next && (next.entry.start.display == e.entry.start.display && nat_le e.position next.position)
+
+-- the stems of some entries, but those that the next one's covers
 abbrev pub stems_of : Layout → ℕ → List PlacedEntry → List Write
-stems_of layout row placed = flat_map (stem_of layout row) placed
+stems_of layout row [] = []
+stems_of layout row (e ∷ later) =
+    (if is_hidden e later then [] else stem_of layout row e) ++ stems_of layout row later
 
 -- ---- marks
 

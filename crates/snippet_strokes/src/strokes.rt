@@ -68,7 +68,7 @@ pub(crate) fn draw_strokes(
         return close_below(buffer, layout, closes);
     }
     let mut placed = placed_entries(alloc, dropped, entries)?;
-    let met = overlapping(alloc, &placed)?;
+    let met = overlapping(alloc, layout.decor, room, &placed)?;
     let below = begin_rows(buffer, layout, closes, row_count(&placed))?;
     draw_connectors(alloc, buffer, layout, below, &placed)?;
     draw_corners(buffer, layout, row, &placed)?;

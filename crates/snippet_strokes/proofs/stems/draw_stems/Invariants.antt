@@ -1,9 +1,9 @@
-use Rattle.std.proofs.Common.{◌≡◌, take}
-use Rattle.snippet_strokes.specs.Writes.{painted}
+use Rattle.std.proofs.Common.{◌≡◌, drop, length}
 use Rattle.snippet_strokes.specs.Strokes.{stems_of}
+use Rattle.snippet_strokes.specs.Writes.{painted}
 use Rattle.snippet_strokes.proofs.stems.draw_stems.Given as goal
 
--- the stems so far are written
-abbrev pub invariant-loop-entry : goal.invariant-loop-entry
-invariant-loop-entry l =
-    l.buffer ≡ painted (stems_of l.layout l.row (take l.entry-index l.placed)) l.initial.buffer
+-- with the stems from this entry on all are written; and no row is added
+abbrev pub invariant-loop-i : goal.invariant-loop-i
+invariant-loop-i l =
+    (painted (stems_of l.layout l.row (drop l.i l.placed)) l.buffer ≡ painted (stems_of l.layout l.row l.placed) l.initial.buffer) × (length l.buffer ≡ length l.initial.buffer)
