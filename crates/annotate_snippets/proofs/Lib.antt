@@ -15,6 +15,7 @@ pub mod LabelLemmas
 pub mod LineLemmas
 pub mod ListLemmas
 pub mod MarkLemmas
+pub mod NotLabelled
 pub mod NotOffered
 pub mod NotShown
 pub mod NotWhole
