@@ -50,6 +50,10 @@ label_left_out frame s k dropped rows shows a among some none =
     let own : 0 < length (shown_label l.span) = omega (arith, some, ap (λ (x : Annotation). length (shown_label x)) found.2) in
     false≢true (sym (none l.row l.cell) ∙ begins frame (cow_str_bytes s.source) dropped rows l own (All-contains P shows.labels l shows.stand found.1 own))
 
+-- the label stands, if it has anything to show
+abbrev Stands : Frame → List ℕ → ℕ → List (List Cell) → SpanLabel → Type 0
+Stands frame source dropped rows l = 0 < length (shown_label l.span) → ShowsLabel frame source dropped rows l
+
 -- rows with one such cell alone, below a line on which two spans have a label, be it the same one: the labels stand over one
 -- another:
 --
@@ -59,11 +63,8 @@ pub label_over_another : (frame : Frame) (s : Snippet Annotation) (k dropped : �
 label_over_another frame s k dropped rows shows a b spans some_a some_b row cell alone =
     over shows.labels (shows.spans ∙ spans) shows.stand (shows.apart row cell)
   where
-    abbrev P : SpanLabel → Type 0
-    P l = 0 < length (shown_label l.span) → ShowsLabel frame (cow_str_bytes s.source) dropped rows l
-
     -- each of the two holds that cell
-    holds : (l : SpanLabel) → 0 < length (shown_label l.span) → P l → is_in_label row cell l ≡ true
+    holds : (l : SpanLabel) → 0 < length (shown_label l.span) → Stands frame (cow_str_bytes s.source) dropped rows l → is_in_label row cell l ≡ true
     holds l some stands =
         let at = alone l.row l.cell (begins frame (cow_str_bytes s.source) dropped rows l some (stands some)) in
         inside l.row l.cell row cell (length (shown_label l.span)) at.0 at.1 some
@@ -73,9 +74,11 @@ label_over_another frame s k dropped rows shows a b spans some_a some_b row cell
 
     two : (p q : Bool) → p ≡ true → q ≡ true → cond p 1 0 + (cond q 1 0 + 0) ≤ 1 → ⊥
     two p q first second few =
-        omega (arith, few, ap (λ x. cond x 1 0) first, ap (λ x. cond x 1 0) second)
+        let one : ◌≡◌ {A = ℕ} (cond p 1 0) 1 = ap (λ x. cond x 1 0) first in
+        let other : ◌≡◌ {A = ℕ} (cond q 1 0) 1 = ap (λ x. cond x 1 0) second in
+        omega (arith, few, one, other)
 
-    over : (labels : List SpanLabel) → map (λ (l : SpanLabel). l.span) labels ≡ a ∷ b ∷ [] → All P labels → count_by (is_in_label row cell) labels ≤ 1 → ⊥
+    over : (labels : List SpanLabel) → map (λ (l : SpanLabel). l.span) labels ≡ a ∷ b ∷ [] → All (Stands frame (cow_str_bytes s.source) dropped rows) labels → count_by (is_in_label row cell) labels ≤ 1 → ⊥
     over [] are stand few = cc are
     over (l ∷ []) are stand few = cc are
     over (l ∷ m ∷ []) are stand few =
@@ -84,5 +87,6 @@ label_over_another frame s k dropped rows shows a b spans some_a some_b row cell
         let own : 0 < length (shown_label l.span) = omega (arith, some_a, ap (λ (x : Annotation). length (shown_label x)) first) in
         let its : 0 < length (shown_label m.span) = omega (arith, some_b, ap (λ (x : Annotation). length (shown_label x)) second) in
         let f : SpanLabel → ℕ = λ x. cond (is_in_label row cell x) 1 0 in
+        let P : SpanLabel → Type 0 = Stands frame (cow_str_bytes s.source) dropped rows in
         two (is_in_label row cell l) (is_in_label row cell m) (holds l own (All-head P l (m ∷ []) stand)) (holds m its (All-head P m [] (All-tail P l (m ∷ []) stand))) (omega (arith, few, sum_by-cons f l (m ∷ []), sum_by-cons f m []))
     over (l ∷ m ∷ n ∷ labels) are stand few = cc are
