@@ -1,32 +1,37 @@
 -- The labels of a line's entries are those of its spans.
-use Rattle.std.proofs.Common.{◌≡◌, ◌⊎◌, ℕ, zero, suc, ◌+◌, ◌-◌, ◌<◌, ◌≤◌, ◌==◌, ◌&&◌, ◌||◌, max, cond, Bool, true, false, None, Some, Option, List, [], ◌∷◌, ◌++◌, map, length, take, drop, get_or, count_by, refl, sym, ap, subst, ◌∙◌, arith, inl, inr}
+use Rattle.std.proofs.Common.{◌≡◌, ◌⊎◌, ℕ, zero, suc, ◌+◌, ◌-◌, ◌<◌, ◌≤◌, ◌==◌, ◌&&◌, ◌||◌, max, cond, not, Bool, true, false, None, Some, Option, List, [], ◌∷◌, ◌++◌, map, length, take, drop, get_or, count_by, refl, sym, ap, subst, ◌∙◌, arith, inl, inr}
 use Rattle.std.specs.List.{All, Contains, filter}
 use Rattle.std.specs.Prelude.{nat_le, nat_lt}
 use Rattle.std.proofs.lemmas.Bool.{and_parts}
-use Rattle.std.proofs.lemmas.List.{length-map, take-map, take-append-drop}
-use Rattle.std.proofs.lemmas.List.Elements.{All-cons, All-filter, All-head, All-nil, All-tail, All-take, filter-append, filter_passes}
-use Rattle.std.proofs.lemmas.List.Sums.{sum_by-append, sum_by-cons}
+use Rattle.std.proofs.lemmas.List.{length-map, map-append}
+use Rattle.std.proofs.lemmas.List.Elements.{All-cons, All-filter, All-head, All-map, All-nil, All-tail, filter-append, filter_passes}
+use Rattle.std.proofs.lemmas.List.Sums.{sum_by-cons}
 use Rattle.snippet_grid.specs.Grid.{cell_at}
 use Rattle.snippet_style.specs.Cell.{Cell, unlinked_cell}
 use Rattle.snippet_model.specs.declared.snippet.Annotation.{Annotation}
 use Rattle.snippet_model.specs.declared.snippet.AnnotationKind.{AnnotationKind}
 use Rattle.snippet_lines.specs.Lines.{Source}
-use Rattle.snippet_view.specs.Annotated.{PartEntry, is_long, is_short, long_parts, long_places, long_spans, made_parts, parts_on, seen_part, single_part}
+use Rattle.snippet_view.specs.Annotated.{PartEntry, drawn, end_part, is_long, is_short, long_parts, long_place, long_places, long_spans, made_parts, parts_on, seen_part, single_part, span_parts, stands_among, start_part}
+use Rattle.snippet_view.specs.Depths.{depth_among}
+use Rattle.snippet_view.specs.declared.depths.LongPlace.{LongPlace}
+use Rattle.snippet_model.specs.declared.snippet.Snippet.{Snippet}
+use Rattle.annotate_snippets.specs.Gutter.{numbered_source}
 use Rattle.snippet_view.specs.Mark.{end_column, is_marked_on, is_marking, is_single_line, start_column}
 use Rattle.snippet_view.specs.Marked.{Entry, entry_of, first_line, seen_entry}
 use Rattle.snippet_view.specs.Measures.{is_bar}
 use Rattle.snippet_view.specs.declared.entries.LineAnnotation.{LineAnnotation}
 use Rattle.snippet_view.specs.declared.entries.LineAnnotationType.{LineAnnotationType}
+use Rattle.snippet_view.specs.declared.entries.LineAnnotationType.TheVariants.{Singleline, MultilineEnd}
 use Rattle.snippet_view.proofs.EntryFacts.{singles-on}
-use Rattle.snippet_view.proofs.PartLemmas.{HoldsOfSpan, made-all}
+use Rattle.snippet_view.proofs.PartLemmas.{HoldsOfSpan, filter-none, made-all}
 use Rattle.snippet_view.specs.Annotated.{bar_lines, bar_part, depth_of, long_entry}
 use Rattle.snippet_strokes.specs.Entries.{label_chars, label_role, label_text, shifted}
 use Rattle.snippet_strokes.specs.Labels.{IsLabelledAtEnd, LabelsStand, PlacedLabel, StandsIn, is_cell_of}
 use Rattle.snippet_strokes.specs.Positions.{is_start_part}
 use Rattle.snippet_strokes.specs.declared.layout.Layout.{Layout}
 use Rattle.annotate_snippets.specs.declared.renderer.frame.Frame.{Frame}
-use Rattle.annotate_snippets.specs.Shown.{ShowsLabel, SpanLabel, cell_of, is_in_label, normalized_chars, shown_label}
-use Rattle.annotate_snippets.proofs.MarkLemmas.{IsEntryOf, entry_is, label_is}
+use Rattle.annotate_snippets.specs.Shown.{ShowsLabel, ShowsLabels, ShownLabel, SpanLabel, cell_of, drawn_spans, is_in_label, label_of_end, label_of_span, labels_ending_on, normalized_chars, shown_label}
+use Rattle.annotate_snippets.proofs.MarkLemmas.{end_of_entry, label_is, start_of_entry}
 
 head_same : {X : Type 0} (x y : X) (xs ys : List X) → x ∷ xs ≡ y ∷ ys → x ≡ y
 head_same x y xs ys same = cc
@@ -67,116 +72,171 @@ labelled_at_end s marks k dropped es same =
     each (x ∷ xs) all =
         All-cons IsLabelledAtEnd (shifted dropped x) (map (shifted dropped) xs) (own x (All-head HasNoneBefore (seen_part x) (map seen_part xs) all)) (each xs (All-tail HasNoneBefore (seen_part x) (map seen_part xs) all))
 
--- ---- the labels of spans that stand on the line alone
+-- ---- the labels of the entries at which spans end
 
--- the label of each span, at the place of its entry's
-span_labels : List Annotation → List PlacedLabel → List SpanLabel
-span_labels [] ls = []
-span_labels (a ∷ marked) [] = []
-span_labels (a ∷ marked) (l ∷ ls) = record { span = a; row = l.row; cell = l.cell } ∷ span_labels marked ls
+-- whether an entry is one at which a span ends
+abbrev ends_here : PartEntry → Bool
+ends_here p = not (is_start_part p.part || is_bar p.part)
 
-module _ (s : Source) (k dropped : ℕ) (frame : Frame) (layout : Layout) (code : layout.code ≡ frame.code) (rows : List (List Cell)) where
-  -- one label
-  abbrev IsOwn : Annotation → Type 0
-  IsOwn a = is_marked_on s.text k a ≡ true
+-- the label of an entry
+abbrev label_of_part : PartEntry → SpanLabel
+label_of_part p =
+    record { text = normalized_chars p.entry.label; kind = p.entry.kind; from = p.entry.start.display; to = p.entry.end.display }
 
+-- the labels of those entries, at their places
+abbrev shown_at : LineAnnotation → PlacedLabel → ShownLabel
+shown_at e l = record { label = label_of_part (seen_part e); row = l.row; cell = l.cell }
+
+shown_labels : List LineAnnotation → List PlacedLabel → List ShownLabel
+shown_labels [] ls = []
+shown_labels (e ∷ es) [] = []
+shown_labels (e ∷ es) (l ∷ ls) =
+    cond (ends_here (seen_part e)) (shown_at e l ∷ shown_labels es ls) (shown_labels es ls)
+
+labels_are : (es : List LineAnnotation) (ls : List PlacedLabel) → length ls ≡ length es → map (λ (l : ShownLabel). l.label) (shown_labels es ls) ≡ map label_of_part (filter ends_here (map seen_part es))
+unfolding shown_labels
+labels_are [] ls long = refl
+labels_are (e ∷ es) [] long = absurd (omega (arith, long))
+labels_are (e ∷ es) (l ∷ ls) long =
+    both (ends_here (seen_part e)) (labels_are es ls (omega (arith, long)))
+  where
+    both : (b : Bool) → map (λ (x : ShownLabel). x.label) (shown_labels es ls) ≡ map label_of_part (filter ends_here (map seen_part es)) → map (λ (x : ShownLabel). x.label) (cond b (shown_at e l ∷ shown_labels es ls) (shown_labels es ls)) ≡ map label_of_part (cond b (seen_part e ∷ filter ends_here (map seen_part es)) (filter ends_here (map seen_part es)))
+    both true rest = ap (λ xs. label_of_part (seen_part e) ∷ xs) rest
+    both false rest = rest
+
+module _ (dropped : ℕ) (frame : Frame) (layout : Layout) (code : layout.code ≡ frame.code) (rows : List (List Cell)) where
   abbrev IsClear : LineAnnotation → Type 0
   IsClear e = is_bar e.annotation_type ≡ false → dropped ≤ e.start.display
 
   abbrev Stands : PlacedLabel → Type 0
   Stands l = 0 < length (label_text l.entry) → StandsIn layout rows l
 
-  own_entry : (a : Annotation) (e : LineAnnotation) → IsOwn a → seen_part e ≡ single_part s a → IsEntryOf s k a e
-  own_entry a e marked same =
-      entry_is s k a e marked (and_parts (is_marking a.kind) (is_single_line s.text a) (and_parts (is_marking a.kind && is_single_line s.text a) (first_line s.text a == k) marked).0).1 (ap (λ (p : PartEntry). p.entry) same)
+  abbrev Shows : ShownLabel → Type 0
+  Shows l = 0 < length l.label.text → ShowsLabel frame dropped rows l
 
-  text_is : (a : Annotation) (e : LineAnnotation) (l : PlacedLabel) → IsOwn a → seen_part e ≡ single_part s a → l.entry ≡ shifted dropped e → label_text l.entry ≡ shown_label a
-  text_is a e l marked same entry = ap label_text entry ∙ (own_entry a e marked same).label
+  text_is : (e : LineAnnotation) (l : PlacedLabel) → l.entry ≡ shifted dropped e → label_text l.entry ≡ normalized_chars (seen_part e).entry.label
+  text_is e l entry = ap label_text entry ∙ label_is e.label
 
-  one_label : (a : Annotation) (e : LineAnnotation) (l : PlacedLabel) → IsOwn a → seen_part e ≡ single_part s a → l.entry ≡ shifted dropped e → IsClear e → Stands l → 0 < length (shown_label a) → ShowsLabel frame s.text dropped rows (record { span = a; row = l.row; cell = l.cell })
-  one_label a e l marked same entry clear stands some =
-      let is : IsEntryOf s k a e = own_entry a e marked same in
-      let text : label_text l.entry ≡ shown_label a = text_is a e l marked same entry in
+  one_label : (e : LineAnnotation) (l : PlacedLabel) → l.entry ≡ shifted dropped e → IsClear e → ends_here (seen_part e) ≡ true → Stands l → Shows (shown_at e l)
+  one_label e l entry clear ends stands some =
+      let text = text_is e l entry in
       let there : StandsIn layout rows l = stands (omega (arith, ap length text, some)) in
-      let right : dropped ≤ e.start.display = clear (ap (λ (p : PartEntry). is_bar p.part) same) in
+      let right : dropped ≤ e.start.display = clear (no_bar (is_start_part e.annotation_type) (is_bar e.annotation_type) ends) in
       let start : l.entry.start.display ≡ e.start.display - dropped = ap (λ (x : LineAnnotation). x.start.display) entry in
       let end : l.entry.end.display ≡ e.end.display - dropped = ap (λ (x : LineAnnotation). x.end.display) entry in
-      let kind : l.entry.kind ≡ a.kind = ap (λ (x : LineAnnotation). x.kind) entry ∙ is.kind in
+      let kind : l.entry.kind ≡ e.kind = ap (λ (x : LineAnnotation). x.kind) entry in
       record {
-        whole = λ n within. there.whole n (omega (arith, within, ap length text)) ∙ ap (λ (x : AnnotationKind). unlinked_cell (label_role x) (get_or (label_text l.entry) n 0)) kind ∙ ap (λ (cs : List ℕ). unlinked_cell (label_role a.kind) (get_or cs n 0)) text;
+        whole = λ n within. there.whole n (omega (arith, within, ap length text)) ∙ ap (λ (x : AnnotationKind). unlinked_cell (label_role x) (get_or (label_text l.entry) n 0)) kind ∙ ap (λ (cs : List ℕ). unlinked_cell (label_role e.kind) (get_or cs n 0)) text;
         place = elim there.place [
-          | inl at ↦ inl (at.0, omega (arith, at.1, end, is.end, is.start, right, code))
-          | inr at ↦ inr (at.0, omega (arith, at.1, start, is.start, right, code))
+          | inl at ↦ inl (at.0, at.1 ∙ ap (λ m. layout.code + max m 1 + 1) end ∙ ap (λ m. m + max (e.end.display - dropped) 1 + 1) code)
+          | inr at ↦ inr (at.0, omega (arith, at.1, start, right, code))
         ];
       }
+    where
+      no_bar : (a b : Bool) → not (a || b) ≡ true → b ≡ false
+      no_bar true b is = cc is
+      no_bar false true is = cc is
+      no_bar false false is = refl
 
-  spans_are : (marked : List Annotation) (ls : List PlacedLabel) → length ls ≡ length marked → map (λ (l : SpanLabel). l.span) (span_labels marked ls) ≡ marked
-  unfolding span_labels
-  spans_are [] ls long = refl
-  spans_are (a ∷ marked) [] long = absurd (omega (arith, long))
-  spans_are (a ∷ marked) (l ∷ ls) long = ap (λ xs. a ∷ xs) (spans_are marked ls (omega (arith, long)))
-
-  abbrev Shows : SpanLabel → Type 0
-  Shows l = 0 < length (shown_label l.span) → ShowsLabel frame s.text dropped rows l
-
-  all_shown : (marked : List Annotation) (es : List LineAnnotation) (ls : List PlacedLabel) → All IsOwn marked → map seen_part es ≡ map (single_part s) marked → map (λ (l : PlacedLabel). l.entry) ls ≡ map (shifted dropped) es → All IsClear es → All Stands ls → All Shows (span_labels marked ls)
-  unfolding span_labels
-  all_shown [] es ls own same entries clear stand = All-nil Shows
-  all_shown (a ∷ marked) [] ls own same entries clear stand = cc same
-  all_shown (a ∷ marked) (e ∷ es) [] own same entries clear stand = cc entries
-  all_shown (a ∷ marked) (e ∷ es) (l ∷ ls) own same entries clear stand =
-      let here = head_same (seen_part e) (single_part s a) (map seen_part es) (map (single_part s) marked) same in
-      let rest = tail_same (seen_part e) (single_part s a) (map seen_part es) (map (single_part s) marked) same in
+  all_shown : (es : List LineAnnotation) (ls : List PlacedLabel) → map (λ (l : PlacedLabel). l.entry) ls ≡ map (shifted dropped) es → All IsClear es → All Stands ls → All Shows (shown_labels es ls)
+  unfolding shown_labels
+  all_shown [] ls entries clear stand = All-nil Shows
+  all_shown (e ∷ es) [] entries clear stand = cc entries
+  all_shown (e ∷ es) (l ∷ ls) entries clear stand =
       let entry = head_same l.entry (shifted dropped e) (map (λ (x : PlacedLabel). x.entry) ls) (map (shifted dropped) es) entries in
       let further = tail_same l.entry (shifted dropped e) (map (λ (x : PlacedLabel). x.entry) ls) (map (shifted dropped) es) entries in
-      All-cons Shows (record { span = a; row = l.row; cell = l.cell }) (span_labels marked ls) (one_label a e l (All-head IsOwn a marked own) here entry (All-head IsClear e es clear) (All-head Stands l ls stand)) (all_shown marked es ls (All-tail IsOwn a marked own) rest further (All-tail IsClear e es clear) (All-tail Stands l ls stand))
+      both (ends_here (seen_part e)) (one_label e l entry (All-head IsClear e es clear)) (All-head Stands l ls stand) (all_shown es ls further (All-tail IsClear e es clear) (All-tail Stands l ls stand))
+    where
+      both : (b : Bool) → (b ≡ true → Stands l → Shows (shown_at e l)) → Stands l → All Shows (shown_labels es ls) → All Shows (cond b (shown_at e l ∷ shown_labels es ls) (shown_labels es ls))
+      both true own stands rest = All-cons Shows (shown_at e l) (shown_labels es ls) (own refl stands) rest
+      both false own stands rest = rest
 
-  -- a cell is in as many of these as of the entries' labels
-  cells_same : (r c : ℕ) (marked : List Annotation) (es : List LineAnnotation) (ls : List PlacedLabel) → All IsOwn marked → map seen_part es ≡ map (single_part s) marked → map (λ (l : PlacedLabel). l.entry) ls ≡ map (shifted dropped) es → count_by (is_in_label r c) (span_labels marked ls) ≡ count_by (is_cell_of r c) ls
-  unfolding span_labels
-  cells_same r c [] [] [] own same entries = refl
-  cells_same r c [] [] (l ∷ ls) own same entries = cc entries
-  cells_same r c [] (e ∷ es) ls own same entries = cc same
-  cells_same r c (a ∷ marked) [] ls own same entries = cc same
-  cells_same r c (a ∷ marked) (e ∷ es) [] own same entries = cc entries
-  cells_same r c (a ∷ marked) (e ∷ es) (l ∷ ls) own same entries =
-      let here = head_same (seen_part e) (single_part s a) (map seen_part es) (map (single_part s) marked) same in
-      let rest = tail_same (seen_part e) (single_part s a) (map seen_part es) (map (single_part s) marked) same in
+  -- a cell is in no more of these than of all the entries' labels
+  cells_few : (r c : ℕ) (es : List LineAnnotation) (ls : List PlacedLabel) → map (λ (l : PlacedLabel). l.entry) ls ≡ map (shifted dropped) es → count_by (is_in_label r c) (shown_labels es ls) ≤ count_by (is_cell_of r c) ls
+  unfolding shown_labels
+  cells_few r c [] ls entries = omega arith
+  cells_few r c (e ∷ es) [] entries = omega arith
+  cells_few r c (e ∷ es) (l ∷ ls) entries =
       let entry = head_same l.entry (shifted dropped e) (map (λ (x : PlacedLabel). x.entry) ls) (map (shifted dropped) es) entries in
       let further = tail_same l.entry (shifted dropped e) (map (λ (x : PlacedLabel). x.entry) ls) (map (shifted dropped) es) entries in
-      let first : SpanLabel = record { span = a; row = l.row; cell = l.cell } in
-      let text : label_text l.entry ≡ shown_label a = text_is a e l (All-head IsOwn a marked own) here entry in
-      let one : is_in_label r c first ≡ is_cell_of r c l = ap (λ (n : ℕ). l.row == r && (nat_le l.cell c && nat_lt c (l.cell + n))) (sym (ap length text)) in
-      sum_by-cons (λ x. cond (is_in_label r c x) 1 0) first (span_labels marked ls) ∙ ap (λ b. cond b 1 0 + count_by (is_in_label r c) (span_labels marked ls)) one ∙ ap (λ n. cond (is_cell_of r c l) 1 0 + n) (cells_same r c marked es ls (All-tail IsOwn a marked own) rest further) ∙ sym (sum_by-cons (λ x. cond (is_cell_of r c x) 1 0) l ls)
+      let one : is_in_label r c (shown_at e l) ≡ is_cell_of r c l = ap (λ (n : ℕ). l.row == r && (nat_le l.cell c && nat_lt c (l.cell + n))) (sym (ap length (text_is e l entry))) in
+      both (ends_here (seen_part e)) one (cells_few r c es ls further)
+    where
+      both : (b : Bool) → is_in_label r c (shown_at e l) ≡ is_cell_of r c l → count_by (is_in_label r c) (shown_labels es ls) ≤ count_by (is_cell_of r c) ls → count_by (is_in_label r c) (cond b (shown_at e l ∷ shown_labels es ls) (shown_labels es ls)) ≤ count_by (is_cell_of r c) (l ∷ ls)
+      both true one rest =
+          let f : ShownLabel → ℕ = λ x. cond (is_in_label r c x) 1 0 in
+          let g : PlacedLabel → ℕ = λ x. cond (is_cell_of r c x) 1 0 in
+          let same : f (shown_at e l) ≡ g l = ap (λ b. cond b 1 0) one in
+          omega (arith, rest, same, sum_by-cons f (shown_at e l) (shown_labels es ls), sum_by-cons g l ls)
+      both false one rest =
+          let g : PlacedLabel → ℕ = λ x. cond (is_cell_of r c x) 1 0 in
+          omega (arith, rest, sum_by-cons g l ls)
+
+-- ---- which spans these are
+
+-- of the entries of a span of several lines the last one alone is where it ends
+one_end : (s : Source) (k depth : ℕ) (again : Bool) (e : Entry) → map label_of_part (filter ends_here (filter (λ (p : PartEntry). p.entry.start.line == s.first + k) (span_parts s depth again e))) ≡ map label_of_end (cond (e.end.line == s.first + k) (e ∷ []) [])
+one_end s k depth true e = both (e.end.line == s.first + k)
+  where
+    both : (b : Bool) → map label_of_part (filter ends_here (cond b (end_part e Singleline ∷ []) [])) ≡ map label_of_end (cond b (e ∷ []) [])
+    both true = refl
+    both false = refl
+one_end s k depth false e =
+    let bars : List PartEntry = map (λ n. bar_part e depth (s.first + n)) (bar_lines s.text (e.start.line - s.first) (e.end.line - s.first)) in
+    let rest : List PartEntry = bars ++ end_part e (MultilineEnd depth) ∷ [] in
+    ap (map label_of_part) (first (e.start.line == s.first + k) (filter on_line rest)) ∙ ap (λ ps. map label_of_part (filter ends_here ps)) (filter-append on_line bars (end_part e (MultilineEnd depth) ∷ [])) ∙ ap (map label_of_part) (filter-append ends_here (filter on_line bars) (filter on_line (end_part e (MultilineEnd depth) ∷ []))) ∙ ap (λ ps. map label_of_part (ps ++ filter ends_here (filter on_line (end_part e (MultilineEnd depth) ∷ [])))) (filter-none ends_here (filter on_line bars) (All-filter on_line (λ p. ends_here p ≡ false) bars (All-map (λ p. ends_here p ≡ false) (λ n. bar_part e depth (s.first + n)) (bar_lines s.text (e.start.line - s.first) (e.end.line - s.first)) (λ i d within. refl)))) ∙ both (e.end.line == s.first + k)
+  where
+    on_line : PartEntry → Bool
+    on_line = λ (p : PartEntry). p.entry.start.line == s.first + k
+
+    first : (b : Bool) (ps : List PartEntry) → filter ends_here (cond b (start_part e depth ∷ ps) ps) ≡ filter ends_here ps
+    first true ps = refl
+    first false ps = refl
+
+    both : (b : Bool) → map label_of_part (filter ends_here (cond b (end_part e (MultilineEnd depth) ∷ []) [])) ≡ map label_of_end (cond b (e ∷ []) [])
+    both true = refl
+    both false = refl
+
+long_ends : (s : Source) (k : ℕ) (places : List LongPlace) (before es : List Entry) → map label_of_part (filter ends_here (filter (λ (p : PartEntry). p.entry.start.line == s.first + k) (long_parts s places before es))) ≡ map label_of_end (filter (λ (e : Entry). e.end.line == s.first + k) (drawn_spans before es))
+long_ends s k places before [] = refl
+long_ends s k places before (e ∷ later) =
+    let on_line : PartEntry → Bool = λ (p : PartEntry). p.entry.start.line == s.first + k in
+    let own : List PartEntry = span_parts s (depth_among places (long_place e)) (stands_among e later) (drawn before e) in
+    let others : List PartEntry = long_parts s places (before ++ e ∷ []) later in
+    let ends : Entry → Bool = λ (x : Entry). x.end.line == s.first + k in
+    let rest : List Entry = drawn_spans (before ++ e ∷ []) later in
+    ap (λ ps. map label_of_part (filter ends_here ps)) (filter-append on_line own others) ∙ ap (map label_of_part) (filter-append ends_here (filter on_line own) (filter on_line others)) ∙ map-append label_of_part (filter ends_here (filter on_line own)) (filter ends_here (filter on_line others)) ∙ ap (λ xs. xs ++ map label_of_part (filter ends_here (filter on_line others))) (one_end s k (depth_among places (long_place e)) (stands_among e later) (drawn before e)) ∙ ap (λ xs. map label_of_end (cond (ends (drawn before e)) (drawn before e ∷ []) []) ++ xs) (long_ends s k places (before ++ e ∷ []) later) ∙ both (ends (drawn before e)) (filter ends rest)
+  where
+    both : (b : Bool) (xs : List Entry) → map label_of_end (cond b (drawn before e ∷ []) []) ++ map label_of_end xs ≡ map label_of_end (cond b (drawn before e ∷ xs) xs)
+    both true xs = refl
+    both false xs = refl
+
+-- a span on one line has its entry's label
+single_labels : (s : Source) (k : ℕ) (marked : List Annotation) → All (λ a. is_marked_on s.text k a ≡ true) marked → map label_of_part (filter ends_here (map (single_part s) marked)) ≡ map (label_of_span s.text) marked
+single_labels s k [] own = refl
+single_labels s k (a ∷ marked) own =
+    let O : Annotation → Type 0 = λ x. is_marked_on s.text k x ≡ true in
+    let single : is_single_line s.text a ≡ true = (and_parts (is_marking a.kind) (is_single_line s.text a) (and_parts (is_marking a.kind && is_single_line s.text a) (first_line s.text a == k) (All-head O a marked own)).0).1 in
+    let rest = single_labels s k marked (All-tail O a marked own) in
+    let here : label_of_part (single_part s a) ≡ label_of_span s.text a = ap (λ n. record { text = shown_label a; kind = a.kind; from = n; to = (entry_of s a).end.display }) (start_of_entry s a) ∙ ap (λ n. record { text = shown_label a; kind = a.kind; from = start_column s.text a; to = n }) (end_of_entry s a single) in
+    ap (λ x. x ∷ map label_of_part (filter ends_here (map (single_part s) marked))) here ∙ ap (λ xs. label_of_span s.text a ∷ xs) rest
 
 -- ---- the labels of a line
 
--- a part of what at most one passes
-count_front : {X : Type 0} (q : X → Bool) (n : ℕ) (xs : List X) → count_by q (take n xs) ≤ count_by q xs
-count_front q n xs =
-    omega (arith, ap (count_by q) (take-append-drop n xs), sum_by-append (λ x. cond (q x) 1 0) (take n xs) (drop n xs))
-
--- the labels of the spans that stand on line k alone stand below it, whatever other entries the line has
-pub labels_shown : (s : Source) (marks : List Annotation) (k dropped : ℕ) (frame : Frame) (layout : Layout) (es : List LineAnnotation) (rows : List (List Cell)) → layout.code ≡ frame.code → map seen_part es ≡ parts_on s marks k → All (λ e. is_bar e.annotation_type ≡ false → dropped ≤ e.start.display) es → LabelsStand layout (map (shifted dropped) es) rows → (labels : List SpanLabel) × (map (λ (l : SpanLabel). l.span) labels ≡ filter (is_marked_on s.text k) marks) × All (λ l. 0 < length (shown_label l.span) → ShowsLabel frame s.text dropped rows l) labels × ((r c : ℕ) → count_by (is_in_label r c) labels ≤ 1)
-labels_shown s marks k dropped frame layout es rows code same clear stand =
-    let on_line : PartEntry → Bool = λ p. p.entry.start.line == s.first + k in
+-- the labels of the spans that end on line k stand below it, whatever other entries the line has
+pub labels_shown : (sn : Snippet Annotation) (k dropped : ℕ) (frame : Frame) (layout : Layout) (es : List LineAnnotation) (rows : List (List Cell)) → layout.code ≡ frame.code → map seen_part es ≡ parts_on (numbered_source sn) sn.markers.items k → All (λ e. is_bar e.annotation_type ≡ false → dropped ≤ e.start.display) es → LabelsStand layout (map (shifted dropped) es) rows → ShowsLabels frame sn k dropped rows
+labels_shown sn k dropped frame layout es rows code same clear stand =
+    let s : Source = numbered_source sn in
+    let marks : List Annotation = sn.markers.items in
+    let on_line : PartEntry → Bool = λ (p : PartEntry). p.entry.start.line == s.first + k in
     let marked : List Annotation = filter (is_marked_on s.text k) marks in
-    let n = length marked in
+    let singles : List PartEntry = map (single_part s) marked in
     let longs : List PartEntry = filter on_line (long_parts s (long_places s marks) [] (long_spans s marks)) in
-    let parts : map seen_part es ≡ map (single_part s) marked ++ longs = same ∙ filter-append on_line (map (single_part s) (filter (is_short s.text) marks)) (long_parts s (long_places s marks) [] (long_spans s marks)) ∙ ap (λ ps. ps ++ longs) (singles-on s marks k) in
-    let front : List LineAnnotation = take n es in
-    let front_is : map seen_part front ≡ map (single_part s) marked = sym (take-map seen_part n es) ∙ ap (take n) parts ∙ take_front (map (single_part s) marked) longs n (length-map marked (single_part s)) in
-    let ls : List PlacedLabel = take n stand.labels in
-    let entries : map (λ (l : PlacedLabel). l.entry) ls ≡ map (shifted dropped) front = sym (take-map (λ (l : PlacedLabel). l.entry) n stand.labels) ∙ ap (take n) stand.are ∙ take-map (shifted dropped) n es in
-    let long : length ls ≡ n = sym (length-map ls (λ (l : PlacedLabel). l.entry)) ∙ ap length entries ∙ length-map front (shifted dropped) ∙ sym (length-map front seen_part) ∙ ap length front_is ∙ length-map marked (single_part s) in
-    let own : All (λ a. is_marked_on s.text k a ≡ true) marked = filter_passes (is_marked_on s.text k) marks in
-    let C : LineAnnotation → Type 0 = λ e. is_bar e.annotation_type ≡ false → dropped ≤ e.start.display in
-    let S : PlacedLabel → Type 0 = λ l. 0 < length (label_text l.entry) → StandsIn layout rows l in
-    (span_labels marked ls, spans_are s k dropped frame layout code rows marked ls long, all_shown s k dropped frame layout code rows marked front ls own front_is entries (All-take C n es clear) (All-take S n stand.labels stand.stand), λ r c. omega (arith, cells_same s k dropped frame layout code rows r c marked front ls own front_is entries, count_front (is_cell_of r c) n stand.labels, stand.apart r c))
-  where
-    take_front : (xs ys : List PartEntry) (n : ℕ) → length xs ≡ n → take n (xs ++ ys) ≡ xs
-    take_front xs ys n is = ap (λ m. take m (xs ++ ys)) (sym is) ∙ take_length xs ys
-      where
-        take_length : (xs ys : List PartEntry) → take (length xs) (xs ++ ys) ≡ xs
-        take_length [] ys = refl
-        take_length (x ∷ xs) ys = ap (λ zs. x ∷ zs) (take_length xs ys)
+    let parts : map seen_part es ≡ singles ++ longs = same ∙ filter-append on_line (map (single_part s) (filter (is_short s.text) marks)) (long_parts s (long_places s marks) [] (long_spans s marks)) ∙ ap (λ ps. ps ++ longs) (singles-on s marks k) in
+    let long : length stand.labels ≡ length es = sym (length-map stand.labels (λ (l : PlacedLabel). l.entry)) ∙ ap length stand.are ∙ length-map es (shifted dropped) in
+    record {
+      labels = shown_labels es stand.labels;
+      spans = labels_are es stand.labels long ∙ ap (λ ps. map label_of_part (filter ends_here ps)) parts ∙ ap (map label_of_part) (filter-append ends_here singles longs) ∙ map-append label_of_part (filter ends_here singles) (filter ends_here longs) ∙ ap (λ xs. xs ++ map label_of_part (filter ends_here longs)) (single_labels s k marked (filter_passes (is_marked_on s.text k) marks)) ∙ ap (λ xs. map (label_of_span s.text) marked ++ xs) (long_ends s k (long_places s marks) [] (long_spans s marks));
+      stand = all_shown dropped frame layout code rows es stand.labels stand.are clear stand.stand;
+      apart = λ r c. omega (arith, cells_few dropped frame layout code rows r c es stand.labels stand.are, stand.apart r c);
+    }

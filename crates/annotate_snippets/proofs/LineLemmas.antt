@@ -331,13 +331,12 @@ module _ (r : Renderer) (frame : Frame) (s : Snippet Annotation) (spans : All (�
               ]
             ]
 
-    -- no label of the line's spans is lost, where none of them is cut
+    -- no label of the spans that end on the line is lost, where none of its spans is cut
     pub labels_of_line : wide_spans (room_of r frame) placeholder_width s k ≡ 0 → ShowsLabels frame s k shows.dropped shows.below
     labels_of_line uncut =
         let parts : map seen_part es ≡ parts_on (numbered_source s) s.markers.items k = ap (λ (l : KeptLine). l.parts) seen in
         let stand = shows.strokes.labels (wide_is ∙ uncut) (labelled_at_end (numbered_source s) s.markers.items k shows.dropped es parts) in
-        let found = labels_shown (numbered_source s) s.markers.items k shows.dropped frame (layout_in r frame) es shows.below refl parts shows.clear stand in
-        record { labels = found.0; spans = found.1; stand = found.2; apart = found.3 }
+        labels_shown s k shows.dropped frame (layout_in r frame) es shows.below refl parts shows.clear stand
 
     -- where the line qualifies, its strokes are those of whole spans
     module _ (qualifies : qualifies_for_marks (room_of r frame) placeholder_width (cow_str_bytes s.source) s.markers.items k ≡ true) where

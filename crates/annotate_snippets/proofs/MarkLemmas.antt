@@ -23,7 +23,7 @@ use Rattle.snippet_strokes.proofs.MarkLemmas.{from_map}
 use Rattle.annotate_snippets.proofs.ListLemmas.{Contains-filter, Contains-map, Contains-head, from_any}
 
 -- the start of an entry is its span's
-start_of_entry : (s : Source) (a : Annotation) → (entry_of s a).start.display ≡ start_column s.text a
+pub start_of_entry : (s : Source) (a : Annotation) → (entry_of s a).start.display ≡ start_column s.text a
 unfolding locations_of start_location location_of
 start_of_entry s a = refl
 
@@ -41,7 +41,7 @@ end_of_other s a other single =
     let here : (s.first + first_line s.text a == s.first + last_line s.text a) ≡ true = eq-eqb _ _ (ap (λ k. s.first + k) (sym same)) in
     rw (other, here) (ap (λ n. max n (start_column s.text a + 1)) (omega arith))
 
-end_of_entry : (s : Source) (a : Annotation) → is_single_line s.text a ≡ true → (entry_of s a).end.display ≡ end_column s.text a
+pub end_of_entry : (s : Source) (a : Annotation) → is_single_line s.text a ≡ true → (entry_of s a).end.display ≡ end_column s.text a
 end_of_entry s a single =
     elim (cases_Bool (a.span.start == a.span.end)) [
       | inl empty ↦ end_of_empty s a empty
@@ -61,7 +61,7 @@ pub label_is : (label : Option (Bor (List ℕ))) → entry.label_chars label ≡
 label_is None = refl
 label_is (Some l) = refl
 
-pub entry_is : (s : Source) (k : ℕ) (a : Annotation) (e : LineAnnotation) → is_marked_on s.text k a ≡ true → is_single_line s.text a ≡ true → seen_entry e ≡ entry_of s a → IsEntryOf s k a e
+entry_is : (s : Source) (k : ℕ) (a : Annotation) (e : LineAnnotation) → is_marked_on s.text k a ≡ true → is_single_line s.text a ≡ true → seen_entry e ≡ entry_of s a → IsEntryOf s k a e
 entry_is s k a e marked single same =
     record {
       marked = marked;
