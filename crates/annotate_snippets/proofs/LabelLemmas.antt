@@ -1,36 +1,34 @@
 -- The labels of a line's entries are those of its spans.
-use Rattle.std.proofs.Common.{◌≡◌, ◌⊎◌, ℕ, zero, suc, ◌+◌, ◌-◌, ◌<◌, ◌≤◌, ◌==◌, ◌&&◌, ◌||◌, max, cond, not, Bool, true, false, None, Some, Option, List, [], ◌∷◌, ◌++◌, map, length, take, drop, get_or, count_by, refl, sym, ap, subst, ◌∙◌, arith, inl, inr}
-use Rattle.std.specs.List.{All, Contains, filter}
+use Rattle.std.proofs.Common.{◌≡◌, ℕ, ◌+◌, ◌-◌, ◌<◌, ◌≤◌, ◌==◌, ◌&&◌, ◌||◌, max, cond, not, Bool, true, false, None, Option, List, [], ◌∷◌, ◌++◌, map, length, get_or, count_by, refl, sym, ap, subst, ◌∙◌, arith, inl, inr}
+use Rattle.std.specs.List.{All, filter}
 use Rattle.std.specs.Prelude.{nat_le, nat_lt}
 use Rattle.std.proofs.lemmas.Bool.{and_parts}
 use Rattle.std.proofs.lemmas.List.{length-map, map-append}
 use Rattle.std.proofs.lemmas.List.Elements.{All-cons, All-filter, All-head, All-map, All-nil, All-tail, filter-append, filter_passes}
 use Rattle.std.proofs.lemmas.List.Sums.{sum_by-cons}
-use Rattle.snippet_grid.specs.Grid.{cell_at}
 use Rattle.snippet_style.specs.Cell.{Cell, unlinked_cell}
 use Rattle.snippet_model.specs.declared.snippet.Annotation.{Annotation}
 use Rattle.snippet_model.specs.declared.snippet.AnnotationKind.{AnnotationKind}
 use Rattle.snippet_lines.specs.Lines.{Source}
-use Rattle.snippet_view.specs.Annotated.{PartEntry, drawn, end_part, is_long, is_short, long_parts, long_place, long_places, long_spans, made_parts, parts_on, seen_part, single_part, span_parts, stands_among, start_part}
+use Rattle.snippet_view.specs.Annotated.{PartEntry, drawn, end_part, is_short, long_parts, long_place, long_places, long_spans, made_parts, parts_on, seen_part, single_part, span_parts, stands_among, start_part}
 use Rattle.snippet_view.specs.Depths.{depth_among}
 use Rattle.snippet_view.specs.declared.depths.LongPlace.{LongPlace}
 use Rattle.snippet_model.specs.declared.snippet.Snippet.{Snippet}
 use Rattle.annotate_snippets.specs.Gutter.{numbered_source}
-use Rattle.snippet_view.specs.Mark.{end_column, is_marked_on, is_marking, is_single_line, start_column}
-use Rattle.snippet_view.specs.Marked.{Entry, entry_of, first_line, seen_entry}
+use Rattle.snippet_view.specs.Mark.{is_marked_on, is_marking, is_single_line, start_column}
+use Rattle.snippet_view.specs.Marked.{Entry, entry_of, first_line}
 use Rattle.snippet_view.specs.Measures.{is_bar}
 use Rattle.snippet_view.specs.declared.entries.LineAnnotation.{LineAnnotation}
-use Rattle.snippet_view.specs.declared.entries.LineAnnotationType.{LineAnnotationType}
 use Rattle.snippet_view.specs.declared.entries.LineAnnotationType.TheVariants.{Singleline, MultilineEnd}
 use Rattle.snippet_view.proofs.EntryFacts.{singles-on}
-use Rattle.snippet_view.proofs.PartLemmas.{HoldsOfSpan, filter-none, made-all}
-use Rattle.snippet_view.specs.Annotated.{bar_lines, bar_part, depth_of, long_entry}
-use Rattle.snippet_strokes.specs.Entries.{label_chars, label_role, label_text, shifted}
+use Rattle.snippet_view.proofs.PartLemmas.{filter-none, made-all}
+use Rattle.snippet_view.specs.Annotated.{bar_lines, bar_part, long_entry}
+use Rattle.snippet_strokes.specs.Entries.{label_role, label_text, shifted}
 use Rattle.snippet_strokes.specs.Labels.{IsLabelledAtEnd, LabelsStand, PlacedLabel, StandsIn, is_cell_of}
 use Rattle.snippet_strokes.specs.Positions.{is_start_part}
 use Rattle.snippet_strokes.specs.declared.layout.Layout.{Layout}
 use Rattle.annotate_snippets.specs.declared.renderer.frame.Frame.{Frame}
-use Rattle.annotate_snippets.specs.Shown.{ShowsLabel, ShowsLabels, ShownLabel, SpanLabel, cell_of, drawn_spans, is_in_label, label_of_end, label_of_span, labels_ending_on, normalized_chars, shown_label}
+use Rattle.annotate_snippets.specs.Shown.{ShowsLabel, ShowsLabels, ShownLabel, SpanLabel, drawn_spans, is_in_label, label_of_end, label_of_span, normalized_chars, shown_label}
 use Rattle.annotate_snippets.proofs.MarkLemmas.{end_of_entry, label_is, start_of_entry}
 
 head_same : {X : Type 0} (x y : X) (xs ys : List X) → x ∷ xs ≡ y ∷ ys → x ≡ y

@@ -1,8 +1,6 @@
 -- The writes of the lines that lead to bars, and of bars with their corners.
-use Rattle.std.proofs.Common.{◌≡◌, ℕ, ◌+◌, ◌-◌, ◌<◌, ◌≤◌, nat_lt, cond, true, false, List, [], ◌∷◌, ◌++◌, length, map, max, get_or, replicate, refl, sym, ap, ◌∙◌, subst, arith, inl, inr, All}
+use Rattle.std.proofs.Common.{◌≡◌, ℕ, ◌+◌, ◌-◌, ◌<◌, ◌≤◌, nat_lt, cond, true, false, List, [], ◌∷◌, length, get_or, replicate, refl, sym, ap, ◌∙◌, subst, arith, All}
 use Rattle.std.specs.List.{range_with_len}
-use Rattle.std.proofs.lemmas.Bool.{cases_Bool}
-use Rattle.std.proofs.lemmas.Bool.Decides.{nat_tests}
 use Rattle.std.proofs.lemmas.List.Elements.{All-append, All-cons, All-head, All-map, All-nil, All-replicate, All-tail}
 use Rattle.std.proofs.lemmas.List.FromFn.{get_or-range_with_len, length-range_with_len}
 use Rattle.snippet_grid.specs.Grid.{WritesCells, cells_written}
@@ -21,7 +19,7 @@ use Rattle.snippet_strokes.specs.declared.positions.PlacedEntry.{PlacedEntry}
 use Rattle.snippet_strokes.specs.Entries.{HasRail, HasRailAt, IsRailCell, is_single}
 use Rattle.snippet_strokes.specs.Painting.{DrawsRails, HasRows, KeepsRails}
 use Rattle.snippet_strokes.specs.Strokes.{bar_of, bottom_of, connector_by, connector_of, connectors_of, corner_by, corner_of, corners_of, line_to, stroke_role, top_of}
-use Rattle.snippet_strokes.specs.Writes.{IsWithin, Reaches, Write, cell_of_write, column_of, glyph_at, painted, stretch_of, written_by}
+use Rattle.snippet_strokes.specs.Writes.{IsWithin, Write, column_of, glyph_at, painted, stretch_of, written_by}
 use Rattle.snippet_strokes.proofs.DrawLemmas.{DrawsRails-more, DrawsRails-none, DrawsRails-writes, free_rail, rail_bottom, rail_horizontal, rail_top, rail_vertical}
 use Rattle.snippet_strokes.proofs.WriteLaws.{All-flat_map, flat_map-none, painted-cell}
 use Rattle.snippet_strokes.proofs.WriteLemmas.{column_of-none, column_painted, painted-append}

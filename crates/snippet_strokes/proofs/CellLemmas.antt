@@ -194,11 +194,6 @@ pub ended_cut : (decor : DecorStyle) (end : Option ℕ) (at : ℕ) (above old ne
 ended_cut decor end at above old new row cells r code placeholder some utf8 is writes stays last ends before =
     put_text above old new cells row r code at placeholder LineNumber utf8 ends before last writes stays ∙ ap (λ (cs : List ℕ). above ++ with_cells code (put at cells (drawn LineNumber cs)) row ∷ []) is ∙ ap (λ cs. above ++ with_cells code cs row ∷ []) (put_ended decor at cells) ∙ ap (λ e. above ++ with_cells code (ended_cells decor e cells) row ∷ []) (sym some)
 
--- a row that isn't cut on the right stays
-pub ended_plain : (decor : DecorStyle) (end : Option ℕ) (above old : List (List Cell)) (row cells : List Cell) (code : ℕ) → end ≡ None → old ≡ above ++ with_cells code cells row ∷ [] → old ≡ above ++ with_cells code (ended_cells decor end cells) row ∷ []
-ended_plain decor end above old row cells code none before =
-    before ∙ ap (λ e. above ++ with_cells code (ended_cells decor e cells) row ∷ []) (sym none)
-
 -- the text of a window is no longer than its line
 pub part_few : (left room from right : ℕ) (placeholder text : List ℕ) → length (uncovered_part left placeholder (inner_part room from right text)) ≤ length text
 part_few left room from right placeholder text =

@@ -127,17 +127,6 @@ cells_replaced_here above below source cells row start end here =
     let read : slice_index_or rows row [] ≡ source = grind (arith, places) in
     changed_within_one change row rows [] there ∙ ap (λ r. set rows row (change r)) read ∙ ap (λ n. set rows n (change source)) (sym here) ∙ set-append_seam above source below (change source)
 
--- rows that stay are cut nowhere
-pub CutsRows-none : (layout : Layout) (n : ℕ) (above : List (List Cell)) (source marks : List Cell) (below new : List (List Cell)) → new ≡ above ++ source ∷ marks ∷ below → CutsRows layout n above source marks below new
-CutsRows-none layout n above source marks below new is =
-    record {
-      source_now = source;
-      marks_now = marks;
-      new_is = is;
-      source_cut = IsCut-none layout n source;
-      marks_cut = IsCut-none layout n marks;
-    }
-
 -- the same stretch of both rows gave its place to the placeholder
 pub CutsRows-replaced : (layout : Layout) (row start end : ℕ) (above : List (List Cell)) (source marks : List Cell) (below old new : List (List Cell)) → layout.code ≤ start → length above ≡ row → old ≡ above ++ source ∷ marks ∷ below → new ≡ cells_replaced (cells_replaced old row start end (drawn LineNumber (placeholder_of layout.decor))) (row + 1) start end (drawn LineNumber (placeholder_of layout.decor)) → CutsRows layout 1 above source marks below new
 CutsRows-replaced layout row start end above source marks below old new from here was is =

@@ -1,5 +1,5 @@
 -- Drawing in rows from one on, and in cells from one on.
-use Rattle.std.proofs.Common.{◌≡◌, ◌≢◌, ℕ, ◌+◌, ◌-◌, ◌<◌, ◌≤◌, ◌==◌, ◌||◌, Bool, true, false, List, [], ◌∷◌, length, drop, get_or, refl, sym, ap, ◌∙◌, subst, arith, inl, inr, All}
+use Rattle.std.proofs.Common.{◌≡◌, ℕ, ◌+◌, ◌-◌, ◌<◌, ◌≤◌, ◌==◌, ◌||◌, Bool, true, false, List, [], ◌∷◌, length, drop, get_or, refl, sym, ap, ◌∙◌, subst, arith, inl, inr, All}
 use Rattle.std.proofs.lemmas.Bool.{cases_lt, cases_eq}
 use Rattle.snippet_grid.specs.Grid.{cell_at, row_at, WritesCells}
 use Rattle.snippet_style.specs.Cell.{Cell, SPACE, drawn, unlinked_cell}
@@ -14,7 +14,7 @@ use Rattle.std.proofs.lemmas.List.{length-drop, get_or-drop, ext_get_or}
 use Rattle.std.proofs.lemmas.List.Elements.{All-weaker, All-head, All-tail, All-cons, All-nil}
 use Rattle.snippet_text.specs.Normalized.{is_listed}
 use Rattle.snippet_strokes.specs.declared.layout.Layout.{Layout}
-use Rattle.snippet_strokes.specs.Entries.{has_mark_role, IsRailCell}
+use Rattle.snippet_strokes.specs.Entries.{IsRailCell}
 use Rattle.snippet_model.specs.Rows.{IsFreeCell}
 use Rattle.snippet_strokes.specs.Painting.{DrawsFrom, KeepsRails, DrawsRails}
 use Rattle.snippet_strokes.proofs.TextLemmas.{All-from_none}
@@ -37,16 +37,6 @@ DrawsFrom-more row from old mid new done more =
       left = λ r c before. more.left r c before ∙ done.left r c before;
       free = λ r free. more.free r (done.free r free);
       count = more.count ∙ done.count;
-    }
-
--- what is drawn farther right, or in lower rows, is drawn there too
-pub DrawsFrom-weaker : (row low from right : ℕ) (old new : List (List Cell)) → row ≤ low → from ≤ right → DrawsFrom low right old new → DrawsFrom row from old new
-DrawsFrom-weaker row low from right old new lower righter draws =
-    record {
-      above = λ r high. draws.above r (omega arith);
-      left = λ r c before. draws.left r c (omega arith);
-      free = draws.free;
-      count = draws.count;
     }
 
 -- a cell of the written row
@@ -86,34 +76,6 @@ DrawsFrom-writes row r from at old new cells writes lower within right all =
 pub free_drawn : (role : ElementStyle) (cs : List ℕ) → All (λ c. is_listed c ≡ false) cs → All IsFreeCell (drawn role cs)
 free_drawn role cs free =
     All-drawn IsFreeCell role cs (All-weaker (λ c. is_listed c ≡ false) (λ c. IsFreeCell (unlinked_cell role c)) (λ c is. (is, refl)) cs free)
-
--- a write of cells that aren't in the role of marks brings none
-pub unmarked_writes : (old new : List (List Cell)) (row at : ℕ) (cells : List Cell) → WritesCells old new row at cells → All (λ cell. has_mark_role cell ≡ false) cells → (r c : ℕ) → has_mark_role (cell_at old r c) ≡ false → has_mark_role (cell_at new r c) ≡ false
-unmarked_writes old new row at cells writes all r c before =
-    let P : Cell → Type 0 = λ cell. has_mark_role cell ≡ false in
-    elim (cases_eq r row) [
-      | inl here ↦
-          subst (λ n. P (cell_at new n c)) (sym here) (written_cell P old new row at c cells writes all (subst (λ n. P (cell_at old n c)) here before))
-      | inr other ↦ subst (λ cs. P (get_or cs c SPACE)) (sym (writes.others r other)) before
-    ]
-
--- a write of one cell brings nothing to the cells beside it
-pub unmarked_beside : (old new : List (List Cell)) (row at : ℕ) (cell : Cell) → WritesCells old new row at (cell ∷ []) → (r c : ℕ) → c ≢ at → has_mark_role (cell_at old r c) ≡ false → has_mark_role (cell_at new r c) ≡ false
-unmarked_beside old new row at cell writes r c beside before =
-    let P : Cell → Type 0 = λ cell. has_mark_role cell ≡ false in
-    elim (cases_eq r row) [
-      | inl here ↦ subst (λ n. P (cell_at new n c)) (sym here) (elim (cases_lt c at) [
-        | inl left ↦ subst P (sym (writes.before c left)) (subst (λ n. P (cell_at old n c)) here before)
-        | inr after ↦
-            subst P (sym (writes.behind c (omega (arith, after, beside)))) (subst (λ n. P (cell_at old n c)) here before)
-      ])
-      | inr other ↦ subst (λ cs. P (get_or cs c SPACE)) (sym (writes.others r other)) before
-    ]
-
--- characters drawn in a role that isn't that of marks
-pub unmarked_drawn : (role : ElementStyle) (cs : List ℕ) → has_mark_role (unlinked_cell role 32) ≡ false → All (λ cell. has_mark_role cell ≡ false) (drawn role cs)
-unmarked_drawn role cs unmarked =
-    All-drawn (λ cell. has_mark_role cell ≡ false) role cs (λ k d within. unmarked)
 
 -- what is drawn in cells from the code on is no part of a bar
 pub KeepsRails-none : (layout : Layout) (rows : List (List Cell)) → KeepsRails layout rows rows
@@ -214,15 +176,6 @@ DrawsRails-more layout row old mid new done more =
       rails = KeepsRails-more layout old mid new done.rails more.rails;
       code = λ r. more.code r ∙ done.code r;
       longer = λ r. omega (arith, done.longer r, more.longer r);
-    }
-
-pub DrawsRails-lower : (layout : Layout) (row low : ℕ) (old new : List (List Cell)) → row ≤ low → DrawsRails layout low old new → DrawsRails layout row old new
-DrawsRails-lower layout row low old new lower done =
-    record {
-      draws = DrawsFrom-weaker row low (layout.gutter + 3) (layout.gutter + 3) old new lower (omega arith) done.draws;
-      rails = done.rails;
-      code = done.code;
-      longer = done.longer;
     }
 
 pub DrawsRails-writes : (layout : Layout) (row r at : ℕ) (old new : List (List Cell)) (cell : Cell) → WritesCells old new r at (cell ∷ []) → row ≤ r → r < length old → layout.gutter + 3 ≤ at → at < layout.code → IsRailCell layout.decor cell → DrawsRails layout row old new

@@ -1,17 +1,17 @@
 -- The writes of labels.
-use Rattle.std.proofs.Common.{◌≡◌, ◌≢◌, ℕ, ◌+◌, ◌-◌, ◌<◌, ◌≤◌, cond, true, false, List, [], ◌∷◌, ◌++◌, length, get_or, refl, sym, ap, ◌∙◌, subst, arith, inl, inr, All}
+use Rattle.std.proofs.Common.{◌≡◌, ℕ, ◌+◌, ◌<◌, cond, true, false, List, [], ◌∷◌, ◌++◌, get_or, refl, sym, ap, ◌∙◌, subst, arith, inl, inr, All}
 use Rattle.std.proofs.lemmas.Bool.{cases_Bool}
-use Rattle.std.proofs.lemmas.List.Elements.{All-cons, All-nil, All-weaker}
+use Rattle.std.proofs.lemmas.List.Elements.{All-cons, All-nil}
 use Rattle.snippet_model.specs.declared.snippet.AnnotationKind.{AnnotationKind}
 use Rattle.snippet_model.specs.declared.snippet.AnnotationKind.TheVariants.{Primary, Context, Visible}
 use Rattle.snippet_style.specs.Cell.{Cell, drawn, unlinked_cell}
-use Rattle.snippet_grid.specs.Grid.{cell_at, cells_written}
+use Rattle.snippet_grid.specs.Grid.{cells_written}
 use Rattle.snippet_strokes.specs.declared.layout.Layout.{Layout}
 use Rattle.snippet_strokes.specs.declared.positions.PlacedEntry.{PlacedEntry}
 use Rattle.snippet_strokes.specs.Entries.{HasPlace, has_mark_role, label_role, label_text}
 use Rattle.snippet_strokes.specs.Painting.{HasRows, MarksStarts, StandsFrom}
-use Rattle.snippet_strokes.specs.Positions.{has_label, label_place}
-use Rattle.snippet_strokes.specs.Writes.{Write, Reaches, IsWithin, painted, written_by, cell_of_write}
+use Rattle.snippet_strokes.specs.Positions.{has_label}
+use Rattle.snippet_strokes.specs.Writes.{Write, Reaches, IsWithin, painted, cell_of_write}
 use Rattle.snippet_strokes.specs.Strokes.{label_write, label_of, labels_of}
 use Rattle.snippet_strokes.proofs.PositionLemmas.{label_beside, label_column, label_stands}
 use Rattle.snippet_strokes.proofs.TextLemmas.{free_label_text}

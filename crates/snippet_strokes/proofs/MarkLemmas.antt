@@ -1,5 +1,5 @@
 -- What entries that were painted in order show below each column.
-use Rattle.std.proofs.Common.{◌≡◌, ◌≢◌, ℕ, ◌+◌, ◌<◌, ◌≤◌, Bool, true, false, List, [], ◌∷◌, length, map, get_or, refl, sym, ap, ◌∙◌, subst, arith, inl, inr, All, Contains}
+use Rattle.std.proofs.Common.{◌≡◌, ℕ, ◌+◌, ◌<◌, Bool, true, List, [], ◌∷◌, length, map, get_or, refl, sym, ap, ◌∙◌, subst, arith, inl, inr, All, Contains}
 use Rattle.std.specs.List.Sorted.{IsPermutation}
 use Rattle.std.proofs.lemmas.Bool.{cases_Bool}
 use Rattle.std.proofs.lemmas.List.{get_or-map, length-map}
@@ -76,21 +76,3 @@ mark_shown layout es placed row old new plain same marked p kind mark =
     let top_plain : IsPlainEntry top.entry = subst IsPlainEntry among.2 (plain among.0 top.entry among.1) in
     let alike = drawn_alike es p kind mark top.entry among (covered_painted top p top_plain shows.covers) over in
     same_mark layout.decor kind top.entry.kind (cell_at new row (layout.code + p)) alike (subst (IsMarkCell layout.decor top.entry.kind) (sym shows.holds) (IsMarkCell-mark_cell layout top (layout.code + p) (spaceless top top_plain)))
-
--- a kind that isn't drawn as primary, and is marked, is Context
-context_only : (kind : AnnotationKind) → kind ≢ Visible → is_primary kind ≡ false → kind ≡ Context
-context_only Primary marked context = cc
-context_only Context marked context = refl
-context_only Visible marked context = absurd (marked refl)
-
--- a column's mark among entries that are marked: what is said of ties need be known of context alone
-pub IsEntryMark-from_marked : (es : List LineAnnotation) (p : ℕ) (entry : LineAnnotation) → entry.kind ≢ Visible → Contains es entry → EntryCovers entry p → ((other : LineAnnotation) → Contains es other → EntryCovers other p → entry_width entry ≤ entry_width other) → (entry.kind ≡ Context → (other : LineAnnotation) → Contains es other → EntryCovers other p → other.kind ≡ Primary → entry_width entry < entry_width other) → IsEntryMark es p entry.kind
-IsEntryMark-from_marked es p entry marked among covers least context_loses =
-    record {
-      entry = entry;
-      among = among;
-      covers = covers;
-      is = refl;
-      least = least;
-      primary_wins = λ context. context_loses (context_only entry.kind marked context);
-    }

@@ -2,7 +2,7 @@
 use Rattle.std.proofs.Common.{◌≡◌, ◌⊎◌, ℕ, ◌+◌, ◌-◌, ◌<◌, ◌≤◌, ◌==◌, ◌&&◌, ◌||◌, cond, max, Bool, true, false, List, [], ◌∷◌, ◌++◌, length, replicate, take, get_or, refl, sym, ap, ◌∙◌, subst, arith, inl, inr, All}
 use Rattle.std.proofs.lemmas.Bool.{cases_lt}
 use Rattle.std.proofs.lemmas.Bool.Decides.{nat_tests}
-use Rattle.std.proofs.lemmas.List.{length-replicate, get_or-replicate, length_push, get_or_append_left, get_or_push, take_more, take_all}
+use Rattle.std.proofs.lemmas.List.{length-replicate, get_or-replicate, length_push, get_or_append_left, get_or_push, take_more}
 use Rattle.snippet_model.specs.declared.snippet.AnnotationKind.{AnnotationKind}
 use Rattle.snippet_model.specs.declared.snippet.AnnotationKind.TheVariants.{Primary, Context, Visible}
 use Rattle.snippet_view.specs.declared.entries.LineAnnotation.{LineAnnotation}
@@ -280,11 +280,6 @@ Painted-more layout es e row old mid new done paints =
 pub Painted-next : (layout : Layout) (es : List PlacedEntry) (i : ℕ) (d : PlacedEntry) (row : ℕ) (old mid new : List (List Cell)) → i < length es → Painted layout (take i es) row old mid → Paints mid new row (layout.code + (get_or es i d).entry.start.display) (layout.code + mark_end (get_or es i d)) (mark_cell layout (get_or es i d)) → Painted layout (take (i + 1) es) row old new
 Painted-next layout es i d row old mid new within done paints =
     subst (λ xs. Painted layout xs row old new) (sym (take_more es i d within)) (Painted-more layout (take i es) (get_or es i d) row old mid new done paints)
-
--- all entries are painted
-pub Painted-all : (layout : Layout) (es : List PlacedEntry) (i row : ℕ) (old new : List (List Cell)) → length es ≤ i → Painted layout (take i es) row old new → Painted layout es row old new
-Painted-all layout es i row old new past done =
-    subst (λ xs. Painted layout xs row old new) (take_all i es past) done
 
 -- an entry that stands for a whole span takes no space, and one that covers a column is painted at its columns alone
 abbrev pub IsPlainEntry : LineAnnotation → Type 0

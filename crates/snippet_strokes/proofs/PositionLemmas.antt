@@ -147,13 +147,6 @@ label_column e place =
           rw (above_zero e.position hung) (omega arith, omega (arith, place.ordered, place.near))
     ]
 
--- an entry that has a stem is below the row of the marks
-pub stem_below : (e : PlacedEntry) → has_stem e ≡ true → 0 < e.position
-stem_below e stem = low e.position (and_parts (nat_lt 0 e.position) (has_label e || takes_space e) stem).0
-  where
-    low : (n : ℕ) → nat_lt 0 n ≡ true → 0 < n
-    low n is = grind (arith, nat_tests)
-
 -- an entry without a label has no stem where it takes no space, nor has one at position 0
 pub stemless_bare : (e : PlacedEntry) → has_label e ≡ false → takes_space e ≡ false → has_stem e ≡ false
 stemless_bare e bare flat =

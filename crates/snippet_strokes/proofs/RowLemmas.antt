@@ -8,7 +8,7 @@ use Rattle.std.proofs.lemmas.Str.{chars-nil}
 use Rattle.snippet_style.specs.declared.glyphs.DecorStyle.{DecorStyle}
 use Rattle.snippet_style.specs.declared.glyphs.DecorStyle.TheVariants.{Ascii, Unicode}
 use Rattle.snippet_style.specs.declared.role.ElementStyle.TheVariants.{LineNumber}
-use Rattle.snippet_style.specs.Glyphs.{separator_of, closing_of, file_start_of}
+use Rattle.snippet_style.specs.Glyphs.{separator_of, closing_of}
 use Rattle.snippet_grid.specs.Grid.{cells_written}
 use Rattle.snippet_style.specs.Cell.{Cell, SPACE, drawn, unlinked_cell, written}
 use Rattle.snippet_grid.proofs.GridLemmas.{cells_written_below, cells_written_last}
@@ -19,7 +19,7 @@ use Rattle.snippet_strokes.proofs.DrawLemmas.{free_drawn}
 use Rattle.snippet_strokes.specs.declared.layout.Layout.{Layout}
 use Rattle.snippet_model.specs.Rows.{IsFree}
 use Rattle.snippet_strokes.specs.Rows.{bare_row, IsSourceRow, AddsSourceRow, with_cells}
-use Rattle.snippet_style.specs.Separators.{separator_row, closing_row}
+use Rattle.snippet_style.specs.Separators.{separator_row}
 
 -- writing into an empty row
 written-nil : (at : ℕ) (cells : List Cell) → written SPACE [] at cells ≡ replicate at SPACE ++ cells
@@ -141,25 +141,6 @@ bare_row_right decor gutter closes c right =
 pub free_bare_row : (decor : DecorStyle) (gutter : ℕ) (closes : Bool) → IsFree (bare_row decor gutter closes)
 free_bare_row decor gutter true = free_led (gutter + 1) (closing_of decor) (free_closing decor)
 free_bare_row decor gutter false = free_separator_row decor gutter
-
--- in ASCII it is the separator row either way
-pub bare_row-ascii : (gutter : ℕ) (closes : Bool) → bare_row Ascii gutter closes ≡ separator_row Ascii gutter
-bare_row-ascii gutter true = refl
-bare_row-ascii gutter false = refl
-
-pub closing_row-ascii : (gutter : ℕ) → closing_row Ascii gutter ≡ separator_row Ascii gutter
-closing_row-ascii gutter = refl
-
--- what a snippet begins with is no letter or digit, and not listed
-pub file_start_some : (decor : DecorStyle) (first : Bool) → 0 < length (file_start_of decor first)
-file_start_some Ascii first = omega arith
-file_start_some Unicode true = omega arith
-file_start_some Unicode false = omega arith
-
-pub file_start_short : (decor : DecorStyle) (first : Bool) → length (file_start_of decor first) ≤ 4
-file_start_short Ascii first = omega arith
-file_start_short Unicode true = omega arith
-file_start_short Unicode false = omega arith
 
 -- a write of free cells keeps a row free
 pub free_written : (row : List Cell) (at : ℕ) (cells : List Cell) → IsFree row → IsFree cells → IsFree (written SPACE row at cells)

@@ -1,5 +1,5 @@
 -- The rows of lines, one after another.
-use Rattle.std.proofs.Common.{◌≡◌, ◌≢◌, ℕ, ◌+◌, ◌-◌, ◌<◌, ◌≤◌, ◌^◌, ◌==◌, ◌&&◌, true, false, Bool, None, List, [], ◌∷◌, ◌++◌, length, map, max, get_or, refl, sym, ap, ◌∙◌, subst, arith, inl, inr, All, chars, drop}
+use Rattle.std.proofs.Common.{◌≡◌, ◌≢◌, ℕ, ◌+◌, ◌-◌, ◌<◌, ◌≤◌, ◌==◌, ◌&&◌, true, false, Bool, None, List, [], ◌∷◌, ◌++◌, length, map, max, get_or, refl, sym, ap, ◌∙◌, subst, arith, inl, inr, All, chars, drop}
 use Rattle.std.specs.Prelude.{filter, not, nat_le, nat_lt}
 use Rattle.std.specs.List.{slice_index_or, list_any}
 use Rattle.std.specs.Char.{is_ascii_alphanumeric}
@@ -58,11 +58,6 @@ last_changed old begun new row first last begins count others =
 -- the row that was added last
 pub row_added : (old new : List (List Cell)) (row : List Cell) (r : ℕ) → r ≡ length old → new ≡ old ++ row ∷ [] → row_at new r ≡ row
 row_added old new row r last added = ap (λ rows. row_at rows r) added ∙ get_or_push old row [] r (sym last)
-
--- a source row is short
-pub source_row_short : (layout : Layout) (shown : List ℕ) (cells row : List Cell) → IsSourceRow layout shown cells row → layout.code < 2 ^ 63 + 2 ^ 32 → length cells < 2 ^ 61 + 4 → length row < 2 ^ 63 + 2 ^ 62
-source_row_short layout shown cells row is narrow short =
-    omega (arith, length-drop layout.code row, ap length is.shows.code)
 
 -- highlighting puts no other character into a row
 highlighted_free : (code dropped : ℕ) (es : List LineAnnotation) (plain row : List Cell) → IsHighlighted code dropped es plain row → IsFree plain → IsFree row

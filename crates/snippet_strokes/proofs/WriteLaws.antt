@@ -1,16 +1,14 @@
 -- Laws of rows after writes: what no write reaches stays, the last write of a cell stands, and writes with a property leave
 -- rows with it.
-use Rattle.std.proofs.Common.{◌≡◌, ◌≢◌, ℕ, ◌+◌, ◌-◌, ◌<◌, ◌≤◌, false, List, [], ◌∷◌, ◌++◌, length, get_or, map, max, refl, sym, ap, ◌∙◌, subst, arith, inl, inr, ◌⊎◌, All}
+use Rattle.std.proofs.Common.{◌≡◌, ◌≢◌, ℕ, ◌+◌, ◌-◌, ◌<◌, List, [], ◌∷◌, ◌++◌, length, get_or, refl, sym, ap, ◌∙◌, subst, arith, inl, inr, ◌⊎◌, All}
 use Rattle.std.proofs.lemmas.Bool.{cases_lt, cases_eq}
-use Rattle.std.proofs.lemmas.List.Elements.{All-append, All-head, All-tail, All-cons, All-nil, All-weaker}
+use Rattle.std.proofs.lemmas.List.Elements.{All-append, All-head, All-tail, All-nil, All-weaker}
 use Rattle.std.specs.List.{flat_map}
-use Rattle.snippet_style.specs.Cell.{Cell, SPACE, drawn, unlinked_cell}
-use Rattle.snippet_grid.specs.Grid.{cell_at, row_at, cells_written}
+use Rattle.snippet_style.specs.Cell.{Cell, SPACE, drawn}
+use Rattle.snippet_grid.specs.Grid.{cell_at, row_at}
 use Rattle.snippet_grid.proofs.GridLemmas.{WritesCells-cells_written}
 use Rattle.snippet_style.proofs.CellLemmas.{length-drawn, slice_index_or-drawn}
-use Rattle.snippet_text.specs.Normalized.{is_listed}
 use Rattle.snippet_model.specs.Rows.{IsFreeCell}
-use Rattle.snippet_strokes.specs.Entries.{has_mark_role}
 use Rattle.snippet_strokes.specs.Painting.{DrawsFrom}
 use Rattle.snippet_strokes.specs.Writes.{Write, Reaches, IsWithin, written_by, painted, cell_of_write}
 use Rattle.snippet_strokes.proofs.WriteLemmas.{painted-append}

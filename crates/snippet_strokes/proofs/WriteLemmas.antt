@@ -1,5 +1,5 @@
 -- Rows after writes.
-use Rattle.std.proofs.Common.{◌≡◌, ◌≢◌, ℕ, ◌+◌, ◌-◌, ◌<◌, ◌≤◌, List, [], ◌∷◌, ◌++◌, length, take, get_or, refl, sym, ap, ◌∙◌, subst, arith, inl, inr, All}
+use Rattle.std.proofs.Common.{◌≡◌, ℕ, ◌+◌, ◌-◌, ◌<◌, ◌≤◌, List, [], ◌∷◌, ◌++◌, length, take, get_or, sym, ap, ◌∙◌, arith, inl, inr}
 use Rattle.std.proofs.Common.{cond, true, false, map, nat_lt, replicate, ◌==◌}
 use Rattle.std.proofs.lemmas.Bool.Decides.{nat_tests}
 use Rattle.std.proofs.lemmas.Bool.{cases_Bool}
@@ -18,9 +18,9 @@ use Rattle.snippet_style.specs.Glyphs.{glyph_of, underline_role}
 use Rattle.snippet_model.specs.AnnotationKind.{is_primary}
 use Rattle.snippet_strokes.specs.Entries.{label_role, label_text}
 use Rattle.snippet_strokes.specs.Painting.{first_glyph, foot_glyph, mark_end}
-use Rattle.snippet_strokes.specs.Positions.{has_label, has_stem, label_place}
+use Rattle.snippet_strokes.specs.Positions.{has_label, label_place}
 use Rattle.snippet_strokes.specs.Writes.{Write, column_of, glyph_at, painted, stretch_of, written_by}
-use Rattle.snippet_strokes.specs.Strokes.{connectors_of, corners_of, label_write, label_of, labels_of, mark_of, marks_of, stem_write, stem_of, stems_of, stroke_role, strokes_of}
+use Rattle.snippet_strokes.specs.Strokes.{connectors_of, corners_of, label_write, label_of, labels_of, mark_of, marks_of, stem_write, stems_of, stroke_role, strokes_of}
 
 -- one write more, and some more
 pub painted-append : (ws vs : List Write) (rows : List (List Cell)) → painted (ws ++ vs) rows ≡ painted vs (painted ws rows)

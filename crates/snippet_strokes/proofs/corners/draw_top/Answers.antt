@@ -1,8 +1,6 @@
-use Rattle.std.proofs.Common.{◌≡◌, ◌∙◌, ◌+◌, ap, arith, length}
+use Rattle.std.proofs.Common.{◌≡◌, ◌∙◌, ap, arith, length}
 use Rattle.std.proofs.lemmas.Result.{on_ok_weaker}
-use Rattle.snippet_style.specs.Cell.{drawn}
 use Rattle.snippet_style.specs.Glyphs.{glyph_of, underline_role}
-use Rattle.snippet_grid.proofs.GridLemmas.{WritesCells-cells_written}
 use Rattle.snippet_strokes.proofs.BarWrites.{top_painted}
 use Rattle.snippet_strokes.proofs.corners.draw_top.Goals as goal
 

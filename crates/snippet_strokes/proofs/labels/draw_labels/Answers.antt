@@ -12,7 +12,7 @@ use Rattle.snippet_strokes.specs.Strokes.{label_of, labels_of}
 use Rattle.snippet_strokes.proofs.LabelWrites.{label_lone, labels_none, labels_unmarked, labels_within}
 use Rattle.snippet_strokes.proofs.WriteLaws.{DrawsFrom-painted, painted-count}
 use Rattle.snippet_strokes.proofs.WriteLemmas.{painted_more}
-use Rattle.snippet_strokes.proofs.LabelLaw.{labels_stand, labels_kept}
+use Rattle.snippet_strokes.proofs.LabelLaw.{labels_stand}
 use Rattle.snippet_strokes.proofs.labels.draw_labels.Goals as goal
 
 -- labels add no row
