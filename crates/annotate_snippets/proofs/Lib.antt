@@ -11,9 +11,11 @@ pub mod GroupLemmas
 pub mod GroupShown
 pub mod GutterLemmas
 pub mod HeadingShown
+pub mod LabelLemmas
 pub mod LineLemmas
 pub mod ListLemmas
 pub mod MarkLemmas
+pub mod NotLabelled
 pub mod NotOffered
 pub mod NotShown
 pub mod NotWhole

@@ -25,7 +25,7 @@ use Rattle.snippet_view.specs.declared.entries.LineAnnotation.{LineAnnotation}
 use Rattle.snippet_view.specs.declared.entries.LineAnnotationType.{LineAnnotationType}
 use Rattle.snippet_view.specs.declared.entries.LineAnnotationType.TheVariants.{Singleline, MultilineStart, MultilineEnd, MultilineLine}
 use Rattle.snippet_view.specs.declared.margin.Margin.{Margin}
-use Rattle.snippet_view.specs.Annotated.{KeptLine, PartEntry, kept_line, seen_kept, seen_part, single_part}
+use Rattle.snippet_view.specs.Annotated.{KeptLine, PartEntry, kept_line, parts_on, seen_kept, seen_part, single_part}
 use Rattle.snippet_lines.specs.Lines.{source_lines}
 use Rattle.snippet_view.specs.Margin.{Bounds, bounds_of}
 use Rattle.snippet_view.specs.Mark.{end_column, is_marked_on, is_marking, is_single_line, is_wide, qualifies_for_marks, touches}
@@ -45,7 +45,8 @@ use Rattle.annotate_snippets.specs.declared.renderer.Renderer.{Renderer}
 use Rattle.annotate_snippets.specs.declared.renderer.frame.Frame.{Frame}
 use Rattle.annotate_snippets.specs.Drawn.{layout_in}
 use Rattle.annotate_snippets.specs.Gutter.{line_numbers, number_text, numbered_source}
-use Rattle.annotate_snippets.specs.Shown.{HasStroke, IsRowBelow, ShowsMarksOf, ShowsSourceLine, bounds_in, room_of, shown_label, wide_spans}
+use Rattle.annotate_snippets.specs.Shown.{HasStroke, IsRowBelow, ShowsLabels, ShowsMarksOf, ShowsSourceLine, bounds_in, room_of, shown_label, wide_spans}
+use Rattle.annotate_snippets.proofs.LabelLemmas.{labelled_at_end, labels_shown}
 use Rattle.annotate_snippets.proofs.ListLemmas.{from_any}
 use Rattle.annotate_snippets.proofs.MarkLemmas.{span_of_entry, IsEntryOf, mark_of_entries, unmarked_by_entries, entries_behind, unlabelled_entries, lone_entry, some_entry, shifted_mark, shifted_unmarked, shifted_behind}
 use Rattle.annotate_snippets.proofs.PartsFacts.{stands_left, untouched, wide_on_line}
@@ -329,6 +330,13 @@ module _ (r : Renderer) (frame : Frame) (s : Snippet Annotation) (spans : All (�
                     rail_letter r.decor_style (get_or shows.source c SPACE).ch rail.glyph
               ]
             ]
+
+    -- no label of the spans that end on the line is lost, where none of its spans is cut
+    pub labels_of_line : wide_spans (room_of r frame) placeholder_width s k ≡ 0 → ShowsLabels frame s k shows.dropped shows.below
+    labels_of_line uncut =
+        let parts : map seen_part es ≡ parts_on (numbered_source s) s.markers.items k = ap (λ (l : KeptLine). l.parts) seen in
+        let stand = shows.strokes.labels (wide_is ∙ uncut) (labelled_at_end (numbered_source s) s.markers.items k shows.dropped es parts) in
+        labels_shown s k shows.dropped frame (layout_in r frame) es shows.below refl parts shows.clear stand
 
     -- where the line qualifies, its strokes are those of whole spans
     module _ (qualifies : qualifies_for_marks (room_of r frame) placeholder_width (cow_str_bytes s.source) s.markers.items k ≡ true) where

@@ -23,7 +23,7 @@ use Rattle.snippet_strokes.proofs.MarkLemmas.{from_map}
 use Rattle.annotate_snippets.proofs.ListLemmas.{Contains-filter, Contains-map, Contains-head, from_any}
 
 -- the start of an entry is its span's
-start_of_entry : (s : Source) (a : Annotation) → (entry_of s a).start.display ≡ start_column s.text a
+pub start_of_entry : (s : Source) (a : Annotation) → (entry_of s a).start.display ≡ start_column s.text a
 unfolding locations_of start_location location_of
 start_of_entry s a = refl
 
@@ -41,7 +41,7 @@ end_of_other s a other single =
     let here : (s.first + first_line s.text a == s.first + last_line s.text a) ≡ true = eq-eqb _ _ (ap (λ k. s.first + k) (sym same)) in
     rw (other, here) (ap (λ n. max n (start_column s.text a + 1)) (omega arith))
 
-end_of_entry : (s : Source) (a : Annotation) → is_single_line s.text a ≡ true → (entry_of s a).end.display ≡ end_column s.text a
+pub end_of_entry : (s : Source) (a : Annotation) → is_single_line s.text a ≡ true → (entry_of s a).end.display ≡ end_column s.text a
 end_of_entry s a single =
     elim (cases_Bool (a.span.start == a.span.end)) [
       | inl empty ↦ end_of_empty s a empty
@@ -57,7 +57,7 @@ pub record IsEntryOf (s : Source) (k : ℕ) (a : Annotation) (e : LineAnnotation
   pub label : entry.label_chars e.label ≡ shown_label a
 
 -- an entry's label shows what its text does
-label_is : (label : Option (Bor (List ℕ))) → entry.label_chars label ≡ normalized_chars (option_copied label)
+pub label_is : (label : Option (Bor (List ℕ))) → entry.label_chars label ≡ normalized_chars (option_copied label)
 label_is None = refl
 label_is (Some l) = refl
 

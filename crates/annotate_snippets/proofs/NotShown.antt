@@ -86,7 +86,7 @@ record IsPlainLine (source : List ℕ) (marks : List Annotation) : Type 0 where
 -- and so no source row with this row below it shows the line
 record AreOtherMarks (source : List ℕ) (marks : List Annotation) (cells : List Cell) : Type 0 where
   below : (s : Snippet Annotation) → IsSnippetOf s source marks → ShowsMarksOf Ascii frame s 0 0 (row_below cells) → ⊥
-  above : (s : Snippet Annotation) → IsSnippetOf s source marks → (row : List Cell) → ShowsLineAndMarks plain_settings frame s 0 row (row_below cells) → ⊥
+  above : (s : Snippet Annotation) → IsSnippetOf s source marks → (row : List Cell) (rows : List (List Cell)) → ShowsLineAndMarks plain_settings frame s 0 row (row_below cells) rows → ⊥
 
 -- ---- lines that stand whole
 
@@ -104,7 +104,7 @@ other_marks : (source : List ℕ) (marks : List Annotation) (cells : List Cell) 
 other_marks source marks cells plain wrong =
     record {
       below = wrong;
-      above = λ s is row shown.
+      above = λ s is row rows shown.
           let promised : qualifies (cow_str_bytes s.source) s.markers.items ≡ true = subst (λ text. qualifies text s.markers.items ≡ true) (sym is.source_is) (subst (λ spans. qualifies source spans ≡ true) (sym is.marks_are) plain.qualified) in
           let none : shown.dropped ≡ 0 = (shown.line.whole (whole_line s source marks is plain)).0 in
           wrong s is (subst (λ dropped. ShowsMarksOf Ascii frame s 0 dropped (row_below cells)) none (shown.marks promised));

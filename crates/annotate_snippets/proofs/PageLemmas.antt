@@ -28,9 +28,9 @@ use Rattle.annotate_snippets.specs.declared.renderer.Renderer.{Renderer}
 use Rattle.annotate_snippets.specs.declared.renderer.frame.Frame.{Frame}
 use Rattle.annotate_snippets.specs.Drawn.{layout_in}
 use Rattle.annotate_snippets.specs.Gutter.{line_numbers, numbered_source}
-use Rattle.annotate_snippets.specs.Page.{SourceRow, Elision, NamedRow, lines_named, names_in, names_of_lines, cells_of, cells_below, others}
-use Rattle.annotate_snippets.specs.Shown.{AreRowsOf, IsRowBelow, ShowsLineAndMarks, ShowsMarksOf, bounds_in, room_of}
-use Rattle.annotate_snippets.proofs.LineLemmas.{head_same, marks_of_line, marks_there, row_below, source_line, tail_same}
+use Rattle.annotate_snippets.specs.Page.{SourceRow, Elision, NamedRow, lines_named, names_in, names_of_lines, cells_of, cells_below, others, rows_below}
+use Rattle.annotate_snippets.specs.Shown.{AreRowsOf, IsRowBelow, ShowsLabels, ShowsLineAndMarks, ShowsMarksOf, bounds_in, room_of}
+use Rattle.annotate_snippets.proofs.LineLemmas.{head_same, labels_of_line, marks_of_line, marks_there, row_below, source_line, tail_same}
 
 -- rows that aren't named by a line
 pub cells_of-others : (rows : List (List Cell)) → cells_of (others rows) ≡ rows
@@ -48,6 +48,11 @@ cells_of-append xs ys = map-append (λ (row : NamedRow). row.cells) xs ys
 below-first : (below : List (List Cell)) (more : List NamedRow) → 0 < length below → cells_below (others below ++ more) ≡ row_at below 0
 below-first [] more some = absurd (omega arith)
 below-first (row ∷ below) more some = refl
+
+-- the rows of a line, up to the next
+below-own : (below : List (List Cell)) (more : List NamedRow) → rows_below more ≡ [] → rows_below (others below ++ more) ≡ below
+below-own [] more ends = ends
+below-own (row ∷ below) more ends = ap (λ rs. row ∷ rs) (below-own below more ends)
 
 names_in-others : (rows : List (List Cell)) (more : List NamedRow) → names_in (others rows ++ more) ≡ names_in more
 names_in-others [] more = refl
@@ -77,12 +82,13 @@ module _ (r : Renderer) (frame : Frame) (s : Snippet Annotation) (spans : All (�
   NumberFits info = length (shown_number (line_numbers r s.line_numbering) frame.gutter info.line_index) ≤ frame.gutter + 1
 
   -- the rows of a line show it, with the marks below
-  line_and_marks : (last : Bool) (k : ℕ) (info : AnnotatedLineInfo) (rows : List (List Cell)) (more : List NamedRow) → k < own_lines → seen_kept info ≡ line_of_snippet k → NumberFits info → (shows : strokes.ShowsLine (layout_in r frame) margin (line_numbers r s.line_numbering) last info rows) → ShowsLineAndMarks r frame s k shows.source (cells_below (others shows.below ++ more))
-  line_and_marks last k info rows more within seen fits shows =
+  line_and_marks : (last : Bool) (k : ℕ) (info : AnnotatedLineInfo) (rows : List (List Cell)) (more : List NamedRow) → k < own_lines → seen_kept info ≡ line_of_snippet k → NumberFits info → (shows : strokes.ShowsLine (layout_in r frame) margin (line_numbers r s.line_numbering) last info rows) → rows_below more ≡ [] → ShowsLineAndMarks r frame s k shows.source (cells_below (others shows.below ++ more)) (rows_below (others shows.below ++ more))
+  line_and_marks last k info rows more within seen fits shows ends =
       record {
         dropped = shows.dropped;
         line = source_line r frame s spans margin room bounds ordered last k info rows within seen fits shows;
         marks = λ qualifies. subst (λ row. ShowsMarksOf r.decor_style frame s k shows.dropped row) (sym (below-first shows.below more (marks_there r frame s spans margin room bounds ordered last k info rows within seen fits shows qualifies))) (marks_of_line r frame s spans margin room bounds ordered last k info rows within seen fits shows qualifies);
+        labels = λ uncut. subst (λ lower. ShowsLabels frame s k shows.dropped lower) (sym (below-own shows.below more ends)) (labels_of_line r frame s spans margin room bounds ordered last k info rows within seen fits shows uncut);
       }
 
   -- rows below a line, with the last of which the window closes where no row stands behind
@@ -113,6 +119,7 @@ module _ (r : Renderer) (frame : Frame) (s : Snippet Annotation) (spans : All (�
     pub names : names_in part ≡ names_of_lines ks
     pub are : AreRowsOf r frame closes s part
     pub ends : (length part == 0) ≡ (length ks == 0)
+    pub begins : rows_below part ≡ []
 
   -- the rows between a line and the next: one where lines are left out
   pub record IsGapNamed (j : ℕ) (ks : List ℕ) (rows : List (List Cell)) : Type 0 where
@@ -122,9 +129,10 @@ module _ (r : Renderer) (frame : Frame) (s : Snippet Annotation) (spans : All (�
     pub names : (more : List NamedRow) → names_in more ≡ names_of_lines ks → SourceRow j ∷ names_in (gap ++ more) ≡ names_of_lines (j ∷ ks)
     pub are : (more : List NamedRow) → AreRowsOf r frame closes s more → AreRowsOf r frame closes s (gap ++ more)
     pub ends : (more : List NamedRow) → (length more == 0) ≡ (length ks == 0) → (length (gap ++ more) == 0) ≡ (length ks == 0)
+    pub begins : (more : List NamedRow) → rows_below more ≡ [] → rows_below (gap ++ more) ≡ []
 
   gap_named : (j : ℕ) (ks : List ℕ) (info : AnnotatedLineInfo) (infos : List AnnotatedLineInfo) (rows : List (List Cell)) → seen_kept info ≡ line_of_snippet j → map seen_kept infos ≡ map line_of_snippet ks → strokes.IsGap (layout_in r frame) info.line_index infos rows → IsGapNamed j ks rows
-  gap_named j [] info [] rows here lines gap = record { gap = []; cells = sym gap; lines = λ more. refl; names = λ more none. ap (λ names. SourceRow j ∷ names) none; are = λ more are. are; ends = λ more same. same }
+  gap_named j [] info [] rows here lines gap = record { gap = []; cells = sym gap; lines = λ more. refl; names = λ more none. ap (λ names. SourceRow j ∷ names) none; are = λ more are. are; ends = λ more same. same; begins = λ more none. none }
   gap_named j [] info (next ∷ infos) rows here lines gap = cc
   gap_named j (k ∷ ks) info [] rows here lines gap = cc
   gap_named j (k ∷ ks) info (next ∷ infos) rows here lines gap =
@@ -142,6 +150,7 @@ module _ (r : Renderer) (frame : Frame) (s : Snippet Annotation) (spans : All (�
               names = λ more named. ap (λ names. SourceRow j ∷ Elision ∷ names) named ∙ sym (ap (λ b. cond b (SourceRow j ∷ Elision ∷ names_of_lines (k ∷ ks)) (SourceRow j ∷ names_of_lines (k ∷ ks))) far);
               are = λ more are. (record { unnumbered = λ c left. ap (λ (cell : Cell). is_ascii_alphanumeric cell.ch) (left_out.3.left c (omega arith)) ∙ elision_unnumbered r.decor_style frame.gutter c left; is = left_out.3 }, are);
               ends = λ more same. some_more (length more) (length ks);
+              begins = λ more none. refl;
             }
         | inr next_to ↦
             let near : ltb (j + 1) k ≡ false = le-ltb (j + 1) k (omega (arith, own, its, next_to.0)) in
@@ -152,6 +161,7 @@ module _ (r : Renderer) (frame : Frame) (s : Snippet Annotation) (spans : All (�
               names = λ more named. ap (λ names. SourceRow j ∷ names) named ∙ sym (ap (λ b. cond b (SourceRow j ∷ Elision ∷ names_of_lines (k ∷ ks)) (SourceRow j ∷ names_of_lines (k ∷ ks))) near);
               are = λ more are. are;
               ends = λ more same. same;
+              begins = λ more none. none;
             }
       ]
 
@@ -161,7 +171,7 @@ module _ (r : Renderer) (frame : Frame) (s : Snippet Annotation) (spans : All (�
       ap (λ n. n == 0) (sym (length-map ks line_of_snippet) ∙ sym (ap length same) ∙ length-map infos seen_kept)
 
   pub named_lines : (ks : List ℕ) (infos : List AnnotatedLineInfo) (rows : List (List Cell)) → All (λ k. k < own_lines) ks → map seen_kept infos ≡ map line_of_snippet ks → All NumberFits infos → strokes.AreLinesShown (layout_in r frame) margin (line_numbers r s.line_numbering) closes infos rows → AreNamed ks rows
-  named_lines [] [] rows within lines fit shown = record { part = []; cells = sym shown; lines = refl; names = refl; are = tt; ends = refl }
+  named_lines [] [] rows within lines fit shown = record { part = []; cells = sym shown; lines = refl; names = refl; are = tt; ends = refl; begins = refl }
   named_lines [] (info ∷ infos) rows within lines fit shown = cc
   named_lines (k ∷ ks) [] rows within lines fit shown = cc
   named_lines (k ∷ ks) (info ∷ infos) rows within lines fit shown =
@@ -179,6 +189,7 @@ module _ (r : Renderer) (frame : Frame) (s : Snippet Annotation) (spans : All (�
         cells = ap (λ rs. shows.source ∷ rs) (cells_of-append (others shows.below) behind ∙ ap (λ rs. rs ++ cells_of behind) (cells_of-others shows.below) ∙ ap (λ rs. shows.below ++ rs) (cells_of-append between.gap rest.part ∙ ap (λ rs. rs ++ cells_of rest.part) between.cells ∙ ap (λ rs. shown.1 ++ rs) rest.cells)) ∙ ap (λ rs. rs ++ (shown.1 ++ shown.2)) (sym shows.rows_are) ∙ sym (append_assoc shown.0 shown.1 shown.2) ∙ sym shown.3;
         lines = ap (λ js. k ∷ js) (lines_named-others shows.below behind ∙ between.lines rest.part ∙ rest.lines);
         names = ap (λ names. SourceRow k ∷ names) (names_in-others shows.below behind) ∙ between.names rest.part rest.names;
-        are = (line_and_marks (closes && last) k info shown.0 behind (All-head (λ j. j < own_lines) k ks within) here (All-head NumberFits info infos fit) shows, others_are last shows.below behind ends (λ i inside. row_below r.decor_style frame (closes && last) _ _ shows.below i inside shows.unnumbered (shows.strokes.are i inside)) (between.are rest.part rest.are));
+        are = (line_and_marks (closes && last) k info shown.0 behind (All-head (λ j. j < own_lines) k ks within) here (All-head NumberFits info infos fit) shows (between.begins rest.part rest.begins), others_are last shows.below behind ends (λ i inside. row_below r.decor_style frame (closes && last) _ _ shows.below i inside shows.unnumbered (shows.strokes.are i inside)) (between.are rest.part rest.are));
         ends = some_more (length (others shows.below ++ behind)) (length ks);
+        begins = refl;
       }

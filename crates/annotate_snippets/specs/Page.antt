@@ -85,6 +85,11 @@ abbrev pub cells_below : List NamedRow → List Cell
 cells_below [] = []
 cells_below (row ∷ rows) = row.cells
 
+-- the cells of the rows right below, up to the next that shows a line or that lines are left out: those of the line above them
+abbrev pub rows_below : List NamedRow → List (List Cell)
+rows_below [] = []
+rows_below (row ∷ rows) = if shows_lines row.name then [] else row.cells ∷ rows_below rows
+
 -- the rows of a group: those of its title, of which there are none without a title, and those of each element
 pub record GroupPage : Type 0 where
   pub title : List (List Cell)

@@ -1,12 +1,12 @@
 -- What the page of a report shows.
 use Rattle.snippet_style.specs.Stylesheet.{is_plain_sheet}
-use Rattle.std.specs.Prelude.{◌≡◌, ◌⊎◌, ℕ, ◌+◌, ◌-◌, ◌<◌, ◌≤◌, ◌==◌, ◌&&◌, Bool, true, false, List, [], ◌∷◌, ◌++◌, All, Contains, Option, Some, None, filter, length, map, take, drop, chars, if◌then◌else◌, encode_utf8_all}
+use Rattle.std.specs.Prelude.{◌≡◌, ◌⊎◌, ℕ, ◌+◌, ◌-◌, ◌<◌, ◌≤◌, ◌==◌, ◌&&◌, nat_le, nat_lt, max, Bool, true, false, List, [], ◌∷◌, ◌++◌, All, Contains, Option, Some, None, filter, length, map, take, drop, chars, if◌then◌else◌, encode_utf8_all}
 use Rattle.std.specs.List.{AllZip, flat_map, count_by, list_any, slice_get, slice_index_or}
 use Rattle.std.specs.Option.{option_map, option_to_list}
 use Rattle.std.specs.Char.{is_ascii_alphanumeric}
 use Rattle.std.specs.Cow.{cow_str_bytes}
-use Rattle.snippet_grid.specs.Grid.{row_at}
-use Rattle.snippet_style.specs.Cell.{Cell, SPACE}
+use Rattle.snippet_grid.specs.Grid.{cell_at, row_at}
+use Rattle.snippet_style.specs.Cell.{Cell, SPACE, unlinked_cell}
 use Rattle.snippet_grid.specs.Print.{row_text}
 use Rattle.snippet_style.specs.declared.glyphs.DecorStyle.{DecorStyle}
 use Rattle.snippet_style.specs.declared.role.LevelInner.{LevelInner}
@@ -24,7 +24,7 @@ use Rattle.snippet_model.specs.declared.snippet.Patch.{Patch}
 use Rattle.snippet_model.specs.declared.snippet.AnnotationKind.{AnnotationKind}
 use Rattle.snippet_model.specs.declared.snippet.Element.{Element}
 use Rattle.snippet_model.specs.declared.snippet.Element.TheVariants as element
-use Rattle.snippet_view.specs.Annotated.{is_long}
+use Rattle.snippet_view.specs.Annotated.{drawn, is_long, long_spans}
 use Rattle.snippet_view.specs.Kept.{shown_lines}
 use Rattle.snippet_lines.specs.Lines.{source_lines, text_at}
 use Rattle.snippet_splice.specs.Edits.{patched}
@@ -34,14 +34,14 @@ use Rattle.snippet_suggest.specs.Kind.{is_blank}
 use Rattle.snippet_suggest.specs.Rows.{IsBareRow, IsRemovedRow, IsSign}
 use Rattle.snippet_view.specs.Margin.{Bounds}
 use Rattle.snippet_view.specs.Measures.{margin_of}
-use Rattle.snippet_view.specs.Marked.{first_line, last_line}
+use Rattle.snippet_view.specs.Marked.{Entry, first_line, last_line}
 use Rattle.snippet_view.specs.Mark.{is_marked_on, is_marking, is_wide, qualifies_for_marks, start_column, end_column, IsMarkedAt, IsMarkOf}
 use Rattle.snippet_view.specs.NamedPlace.{IsNamedPlace}
 use Rattle.snippet_view.specs.declared.named_place.NamedPlace.{NamedPlace}
 use Rattle.snippet_view.specs.Window.{chars_at, stands_whole, IsWindowOf}
 use Rattle.snippet_model.specs.Rows.{HasNoNumber, IsFree}
 use Rattle.snippet_style.specs.Glyphs.{separator_of, closing_of, placeholder_of}
-use Rattle.snippet_strokes.specs.Entries.{IsMarkCell, IsRailCell, has_mark_role}
+use Rattle.snippet_strokes.specs.Entries.{IsMarkCell, IsRailCell, has_mark_role, label_role}
 use Rattle.snippet_strokes.specs.Rows.{IsElisionRow}
 use Rattle.snippet_titles.specs.Heading.{heading_rows}
 use Rattle.snippet_titles.specs.Origin.{origin_text, padding_row}
@@ -56,7 +56,7 @@ use Rattle.annotate_snippets.specs.declared.renderer.surroundings.Next.{Next}
 use Rattle.annotate_snippets.specs.declared.renderer.surroundings.Surroundings.{Surroundings}
 use Rattle.annotate_snippets.specs.Around.{closes_with, drawn_elements, file_of_group, is_end, next_of, path_bytes, place_at, surroundings_at}
 use Rattle.annotate_snippets.specs.Gutter.{frame_of, line_numbers, number_text, numbered_source}
-use Rattle.annotate_snippets.specs.Page.{RowName, SourceRow, Elision, OfferedLine, RemovedLine, Other, NamedRow, lines_named, lines_offered, lines_removed, names_in, names_of_lines, cells_below, cells_of, others, GroupPage, Page, page_text, PrintsPage, IsAscending, page_links}
+use Rattle.annotate_snippets.specs.Page.{RowName, SourceRow, Elision, OfferedLine, RemovedLine, Other, NamedRow, lines_named, lines_offered, lines_removed, names_in, names_of_lines, cells_below, cells_of, rows_below, others, GroupPage, Page, page_text, PrintsPage, IsAscending, page_links}
 use Rattle.annotate_snippets.specs.Rows.{cause_head, message_style, origin_rows, place_found, place_given, rows_behind_cause, rows_behind_title, suggestion_head}
 
 -- the rows show a title or a message, which answers this: level, identifier, text, and whether that is trusted. They are its rows
@@ -149,12 +149,66 @@ pub record ShowsMarksOf (decor : DecorStyle) (frame : Frame) (s : Snippet Annota
   pub spaces : All (λ a. is_marked_on (cow_str_bytes s.source) k a ≡ true → shown_label a ≡ []) s.markers.items → (p : ℕ) → dropped ≤ p → All (λ a. IsMarkedAt (cow_str_bytes s.source) k p a → ⊥) s.markers.items → slice_index_or row (cell_of frame dropped p) SPACE ≡ SPACE
   pub lone : (a : Annotation) → filter (is_marked_on (cow_str_bytes s.source) k) s.markers.items ≡ a ∷ [] → 0 < length (shown_label a) → row_text (drop (cell_of frame dropped (end_column (cow_str_bytes s.source) a)) row) ≡ 32 ∷ shown_label a
 
--- a source row of line k, with the row right below it: it shows the line, and where the line qualifies for the promise
--- on marks the row below has its marks
-pub record ShowsLineAndMarks (r : Renderer) (frame : Frame) (s : Snippet Annotation) (k : ℕ) (row below : List Cell) : Type 0 where
+-- a label as it is to be drawn: its characters, the kind whose role it has, and the columns at which its mark begins and ends
+pub record SpanLabel : Type 0 where
+  pub text : List ℕ
+  pub kind : AnnotationKind
+  pub from : ℕ
+  pub to : ℕ
+
+-- the label of a span on one line
+abbrev pub label_of_span : List ℕ → Annotation → SpanLabel
+label_of_span source a =
+    record { text = shown_label a; kind = a.kind; from = start_column source a; to = end_column source a }
+
+-- the label of a span of several lines, below its last column
+abbrev pub label_of_end : Entry → SpanLabel
+label_of_end e =
+    record { text = normalized_chars e.label; kind = e.kind; from = e.end.display - 1; to = e.end.display }
+
+-- spans of several lines as they are drawn, each after those before it: one that has the place of a primary one is primary
+abbrev pub drawn_spans : List Entry → List Entry → List Entry
+drawn_spans before [] = []
+drawn_spans before (e ∷ later) = drawn before e ∷ drawn_spans (before ++ e ∷ []) later
+
+-- the labels of the spans that end on line k: first of those that stand on it alone, as given, and then of those of several lines, in
+-- their order
+abbrev pub labels_ending_on : Snippet Annotation → ℕ → List SpanLabel
+labels_ending_on s k =
+    let source = numbered_source s in
+    map (label_of_span source.text) (filter (is_marked_on source.text k) s.markers.items) ++ map label_of_end (filter (λ (e : Entry). e.end.line == source.first + k) (drawn_spans [] (long_spans source s.markers.items)))
+
+-- where a label stands: in which of the rows below its line, from 0, and from which cell of it on
+pub record ShownLabel : Type 0 where
+  pub label : SpanLabel
+  pub row : ℕ
+  pub cell : ℕ
+
+-- whether a cell of those rows is one of the label's
+abbrev pub is_in_label : ℕ → ℕ → ShownLabel → Bool
+is_in_label r c l = l.row == r && (nat_le l.cell c && nat_lt c (l.cell + length l.label.text))
+
+-- a label stands whole in the rows below its line, in the role of labels of its kind: in the first of them, that of the marks, one
+-- cell after its mark, which takes a column even where it ends at column 0; or in a lower one, below the mark's first column
+pub record ShowsLabel (frame : Frame) (dropped : ℕ) (rows : List (List Cell)) (l : ShownLabel) : Type 0 where
+  pub whole : (n : ℕ) → n < length l.label.text → cell_at rows l.row (l.cell + n) ≡ unlinked_cell (label_role l.label.kind) (slice_index_or l.label.text n 0)
+  pub place : ((l.row ≡ 0) × (l.cell ≡ frame.code + max (l.label.to - dropped) 1 + 1)) ⊎ ((0 < l.row) × (l.cell ≡ cell_of frame dropped l.label.from))
+
+-- no label of line k is lost: of the spans that end on it, each that has a label to show has it in the rows below the line, whole; and
+-- no cell belongs to two labels, so that two of the same words stand twice
+pub record ShowsLabels (frame : Frame) (s : Snippet Annotation) (k dropped : ℕ) (rows : List (List Cell)) : Type 0 where
+  pub labels : List ShownLabel
+  pub spans : map (λ (l : ShownLabel). l.label) labels ≡ labels_ending_on s k
+  pub stand : All (λ l. 0 < length l.label.text → ShowsLabel frame dropped rows l) labels
+  pub apart : (r c : ℕ) → count_by (is_in_label r c) labels ≤ 1
+
+-- a source row of line k, with the row right below it, and all rows that belong to it: it shows the line, and where the line
+-- qualifies for the promise on marks the row below has its marks. Where no span is cut for being wide, no label is lost
+pub record ShowsLineAndMarks (r : Renderer) (frame : Frame) (s : Snippet Annotation) (k : ℕ) (row below : List Cell) (rows : List (List Cell)) : Type 0 where
   pub dropped : ℕ
   pub line : ShowsSourceLine r frame s k dropped row
   pub marks : qualifies_for_marks (room_of r frame) (length (placeholder_of r.decor_style)) (cow_str_bytes s.source) s.markers.items k ≡ true → ShowsMarksOf r.decor_style frame s k dropped below
+  pub labels : wide_spans (room_of r frame) (length (placeholder_of r.decor_style)) s k ≡ 0 → ShowsLabels frame s k dropped rows
 
 -- a row has these characters behind the gutter, from the cell on at which separators stand
 abbrev pub HasStroke : ℕ → List ℕ → List Cell → Type 0
@@ -177,7 +231,7 @@ pub record IsElided (decor : DecorStyle) (frame : Frame) (row : List Cell) : Typ
 -- a row of an annotated snippet's lines, with the rows below it, is what its name says; the group's window may close with the
 -- last one
 abbrev pub IsRowOf : Renderer → Frame → Bool → Snippet Annotation → RowName → List Cell → List NamedRow → Type 0
-IsRowOf r frame closes s (SourceRow k) row rows = ShowsLineAndMarks r frame s k row (cells_below rows)
+IsRowOf r frame closes s (SourceRow k) row rows = ShowsLineAndMarks r frame s k row (cells_below rows) (rows_below rows)
 IsRowOf r frame closes s Elision row rows = IsElided r.decor_style frame row
 IsRowOf r frame closes s (OfferedLine j) row rows = ⊥
 IsRowOf r frame closes s (RemovedLine i) row rows = ⊥

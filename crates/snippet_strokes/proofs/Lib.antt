@@ -5,6 +5,14 @@ pub mod OrderLemmas
 pub mod PositionLemmas
 pub mod CellLemmas
 pub mod DrawLemmas
+pub mod WriteLemmas
+pub mod WriteLaws
+pub mod LabelWrites
+pub mod StemWrites
+pub mod LabelLaw
+pub mod LabelPlaces
+pub mod BarWrites
+pub mod MarkWrites
 pub mod MarkLemmas
 pub mod ShiftLemmas
 pub mod BegunLemmas

@@ -1,6 +1,7 @@
 -- The positions of labels.
-use Rattle.std.proofs.Common.{◌≡◌, ℕ, suc, ◌+◌, ◌-◌, ◌<◌, ◌≤◌, ◌^◌, ◌==◌, ◌&&◌, ◌||◌, cond, max, nat_lt, not, Bool, true, false, List, [], ◌∷◌, ◌++◌, length, map, fold, drop, take, set, get_or, refl, sym, ap, ◌∙◌, subst, arith, inl, inr, All}
+use Rattle.std.proofs.Common.{◌≡◌, ℕ, suc, ◌+◌, ◌-◌, ◌<◌, ◌≤◌, ◌^◌, ◌==◌, ◌&&◌, ◌||◌, cond, max, nat_lt, not, Bool, true, false, List, [], ◌∷◌, ◌++◌, length, map, fold, drop, take, set, get_or, refl, sym, ap, ◌∙◌, subst, arith, inl, inr, All, zero}
 use Rattle.std.specs.List.{list_any}
+use Rattle.std.specs.Cow.{cow_str_bytes}
 use Rattle.std.proofs.lemmas.Bool.{cases_Bool, cases_eq, eq-eqb, and_parts}
 use Rattle.std.proofs.lemmas.Bool.Decides.{nat_tests}
 use Rattle.std.proofs.lemmas.Simd.{map-map}
@@ -12,7 +13,7 @@ use Rattle.std.specs.List.Sorted.{IsPermutation}
 use Rattle.std.proofs.lemmas.List.Sorted.{All-permutation, IsPermutation-map}
 use Rattle.snippet_view.specs.declared.entries.LineAnnotation.{LineAnnotation}
 use Rattle.snippet_strokes.specs.declared.positions.PlacedEntry.{PlacedEntry}
-use Rattle.snippet_strokes.specs.Positions.{ArePlaced, IsFromRight, HasItsLabel, has_label, takes_space, has_stem, is_start, is_start_part, are_starts, crosses, crowds, position_at, position_behind, positions, turned, line_positions, lowest_position, row_count, label_place, unplaced}
+use Rattle.snippet_strokes.specs.Positions.{ArePlaced, IsFromRight, HasItsLabel, asks, do_overlap, ends_no_later, has_label, takes_space, has_stem, is_start, is_start_part, are_starts, crosses, crowds, position_at, position_behind, positions, turned, line_positions, lowest_position, row_count, label_place, unplaced}
 use Rattle.snippet_strokes.specs.Painting.{HasRows}
 use Rattle.snippet_view.specs.Measures.{greatest}
 use Rattle.snippet_strokes.specs.Entries.{HasPlace}
@@ -296,3 +297,34 @@ ArePlaced-from es labelled sorted placed ps entries labels same ordered are got 
 pub positions_of_placed : (es : List LineAnnotation) (placed : List PlacedEntry) → ArePlaced es placed → All (λ e. e.position ≤ length placed) placed
 positions_of_placed es placed is =
     of_positions (λ q. q ≤ length placed) placed (line_positions placed) is.positions_are (line_positions_low (length placed) placed (positions_low 0 (length placed) placed (omega arith)))
+
+-- ---- entries that ask for no row
+
+any_none : {X : Type 0} (q : X → Bool) (xs : List X) → ((k : ℕ) (d : X) → k < length xs → q (get_or xs k d) ≡ false) → list_any q xs ≡ false
+any_none q [] none = refl
+any_none q (x ∷ xs) none =
+    ap (λ b. b || list_any q xs) (none 0 x (omega arith)) ∙ any_none q xs (λ k d within. none (suc k) d (omega (arith, within)))
+
+any_front : {X : Type 0} (q : X → Bool) (n : ℕ) (xs : List X) → ((k : ℕ) (d : X) → n ≤ k → k < length xs → q (get_or xs k d) ≡ false) → list_any q (take n xs) ≡ list_any q xs
+any_front q zero xs none = sym (any_none q xs (λ k d within. none k d (omega arith) within))
+any_front q (suc n) [] none = refl
+any_front q (suc n) (x ∷ xs) none =
+    ap (λ b. q x || b) (any_front q n xs (λ k d past within. none (suc k) d (omega (arith, past)) (omega (arith, within))))
+
+-- an entry that asks for no row crowds no other
+uncrowding : (p : ℕ) (e other : PlacedEntry) → asks other ≡ false → crowds p e other ≡ false
+uncrowding p e other none =
+    by_tests (takes_space e) (has_label e) (has_label other) (takes_space other) (do_overlap other (length (cow_str_bytes other.label) + 2) e) (has_label e || (p == 0 && ends_no_later other e)) none
+  where
+    by_tests : (own_space own_label label space overlap wide : Bool) → (label || space) ≡ false → (((own_space && (label || space)) || (own_label && space)) || (label && overlap && wide)) ≡ false
+    by_tests own_space own_label true space overlap wide is = cc is
+    by_tests own_space own_label false true overlap wide is = cc is
+    by_tests true true false false overlap wide is = refl
+    by_tests true false false false overlap wide is = refl
+    by_tests false true false false overlap wide is = refl
+    by_tests false false false false overlap wide is = refl
+
+-- so only those that ask decide which position is reached
+pub position_behind-front : (p : ℕ) (e : PlacedEntry) (others : List PlacedEntry) (n : ℕ) → ((k : ℕ) (d : PlacedEntry) → n ≤ k → k < length others → asks (get_or others k d) ≡ false) → position_behind p e (take n others) ≡ position_behind p e others
+position_behind-front p e others n none =
+    ap (λ b. cond b (p + 1) p) (any_front (crowds p e) n others (λ k d past within. uncrowding p e (get_or others k d) (none k d past within)))

@@ -20,6 +20,7 @@ use Rattle.snippet_strokes.specs.Entries.{IsRailCell, IsMarkCell, are_plain, has
 use Rattle.snippet_model.specs.Rows.{IsFreeCell}
 use Rattle.snippet_strokes.specs.Rails.{BarsDrawn, DrawsBars, StandsBeside, rail_glyph}
 use Rattle.snippet_strokes.specs.declared.rails.OpenBar.{OpenBar}
+use Rattle.snippet_strokes.proofs.LabelPlaces.{LabelsStand-kept}
 use Rattle.snippet_strokes.specs.Rows.{AddsStrokes, AreStrokes, IsBeside, IsStrokeRow, ShowsMarks}
 
 -- each part of a bar is one of the glyphs that bars are drawn with, and not listed
@@ -234,11 +235,22 @@ AreStrokes-drawn layout room es closes old new is count drawn =
       lone = λ all one. count ∙ is.lone all one;
       bare = λ all labels. omega (arith, count, is.bare all labels);
       marks = λ all. marks (is.marks all);
+      labels = λ uncut ends. LabelsStand-kept layout es old new (is.labels uncut ends) kept;
       are = λ k within.
           let inside : k < length old = omega (arith, within, count) in
           subst (λ n. IsStrokeRow layout plain es (closes && k + 1 == n) (row_at new k)) (sym count) (IsStrokeRow-drawn layout plain es (closes && k + 1 == length old) (row_at old k) (row_at new k) (is.are k inside) (drawn k inside));
     }
   where
+    kept : (r c : ℕ) → layout.code ≤ c → cell_at new r c ≡ cell_at old r c
+    kept r c right =
+        elim (cases_lt r (length old)) [
+          | inl some ↦ drawn_right layout (row_at old r) (row_at new r) (drawn r some) c right
+          | inr none ↦
+              let before : row_at old r ≡ [] = get_or_past old r [] none in
+              let after : row_at new r ≡ [] = get_or_past new r [] (omega (arith, none, count)) in
+              ap (λ cells. slice_index_or cells c SPACE) (after ∙ sym before)
+        ]
+
     marks : ShowsMarks layout.decor layout.code es (row_at old 0) → ShowsMarks layout.decor layout.code es (row_at new 0)
     marks shows =
         elim (cases_lt 0 (length old)) [

@@ -17,7 +17,7 @@ use Rattle.snippet_grid.proofs.GridLemmas.{row_at-cells_written_same}
 use Rattle.snippet_style.proofs.CellLemmas.{length-written}
 use Rattle.snippet_strokes.specs.declared.layout.Layout.{Layout}
 use Rattle.snippet_strokes.specs.declared.positions.PlacedEntry.{PlacedEntry}
-use Rattle.snippet_strokes.specs.Entries.{EntryCovers, IsRailCell, are_plain, is_single, label_text, label_role, has_mark_role, wide_entries}
+use Rattle.snippet_strokes.specs.Entries.{EntryCovers, HasPlace, IsRailCell, are_plain, is_single, label_text, label_role, has_mark_role, wide_entries}
 use Rattle.snippet_model.specs.Rows.{IsFreeCell}
 use Rattle.snippet_strokes.specs.Painting.{IsPaintedAt, DrawsFrom, DrawsRails, KeepsRails, MarksStarts, StandsFrom, AreMarked, mark_end}
 use Rattle.snippet_strokes.specs.Positions.{HasItsLabel, has_label, has_stem, takes_space, positions, line_positions, row_count, ArePlaced}
@@ -25,6 +25,8 @@ use Rattle.snippet_model.specs.Rows.{IsFree}
 use Rattle.snippet_strokes.specs.Rows.{bare_row, CutsRows, IsBeside, IsCut, HasNoBars, IsStrokeRow, AddsStrokes, ShowsMarks}
 use Rattle.snippet_style.specs.Separators.{separator_row, closing_row}
 use Rattle.snippet_strokes.proofs.DrawLemmas.{DrawsFrom-more, rail_space}
+use Rattle.snippet_strokes.specs.Labels.{StandsWhole}
+use Rattle.snippet_strokes.proofs.LabelPlaces.{LabelsStand-none, LabelsStand-placed}
 use Rattle.snippet_strokes.proofs.MarkLemmas.{mark_shown}
 use Rattle.snippet_strokes.proofs.PaintLemmas.{IsPlainEntry, covered_painted, mark_end_plain, spaceless}
 use Rattle.snippet_strokes.proofs.PositionLemmas.{entries_all, line_positions_low, of_positions, positions-unlabelled, positions_sole, row_count_one, row_count_some, stemless_bare, stemless_beside}
@@ -34,6 +36,7 @@ use Rattle.snippet_strokes.proofs.BegunLemmas.{kept_above, begun_row, written_fa
 module _ (layout : Layout) (room : ℕ) (closes : Bool) (es : List LineAnnotation) (placed : List PlacedEntry) (above_rows : List (List Cell)) (plain_row : List Cell) (begun joined barred stemmed labelled new : List (List Cell))
     (place : layout.gutter + 3 ≤ layout.code)
     (is : ArePlaced es placed)
+    (places : All (λ (e : PlacedEntry). HasPlace e.entry) placed)
     (bare_rails : HasNoBars layout plain_row)
     (begins : begun ≡ (above_rows ++ plain_row ∷ []) ++ replicate (row_count placed - 1) (separator_row layout.decor layout.gutter) ++ bare_row layout.decor layout.gutter closes ∷ [])
     (lines : DrawsFrom (length above_rows + 1) (layout.gutter + 3) begun joined)
@@ -48,7 +51,8 @@ module _ (layout : Layout) (room : ℕ) (closes : Bool) (es : List LineAnnotatio
     (label_starts : MarksStarts layout.code [] stemmed labelled)
     (no_labels : All (λ e. has_label e ≡ false) placed → labelled ≡ stemmed)
     (lone_label : (e : PlacedEntry) → placed ≡ e ∷ [] → e.position ≡ 0 → 0 < e.entry.end.display → has_label e ≡ true → labelled ≡ cells_written stemmed (length above_rows + 1) (layout.code + e.entry.end.display + 1) (drawn (label_role e.entry.kind) (label_text e.entry)))
-    (marked : AreMarked layout placed (length above_rows + 1) labelled new) where
+    (marked : AreMarked layout placed (length above_rows + 1) labelled new)
+    (stands : All (StandsWhole layout (length above_rows + 1) new) placed) where
   -- the rows that were there
   abbrev old : List (List Cell)
   old = above_rows ++ plain_row ∷ []
@@ -372,6 +376,11 @@ module _ (layout : Layout) (room : ℕ) (closes : Bool) (es : List LineAnnotatio
   lower_at : (k : ℕ) → row_at lower k ≡ row_at new (row + suc k)
   lower_at k = get_or-drop (row + 1) new k [] ∙ ap (row_at new) (let same : row + 1 + k ≡ row + suc k = omega arith in same)
 
+  -- where the row of the marks isn't cut, these rows are those that were drawn
+  rows_new : (marks_now : List Cell) → marks_now ≡ row_at new row → (r c : ℕ) → cell_at (marks_now ∷ lower) r c ≡ cell_at new (row + r) c
+  rows_new marks_now uncut zero c = ap (λ cells. get_or cells c SPACE) uncut ∙ ap (λ n. cell_at new n c) (let same : row ≡ row + 0 = omega arith in same)
+  rows_new marks_now uncut (suc k) c = ap (λ cells. get_or cells c SPACE) (lower_at k)
+
   -- the rows of a line's strokes are added, once those of the source and of the marks are cut where entries are wide
   pub strokes_added : (final : List (List Cell)) → 0 < length es → CutsRows layout (wide_entries room layout.decor es) above_rows source (row_at new row) lower final → AddsStrokes layout room es closes above_rows plain_row final
   strokes_added final some cuts =
@@ -390,6 +399,7 @@ module _ (layout : Layout) (room : ℕ) (closes : Bool) (es : List LineAnnotatio
           lone = λ flat one. long ∙ one_row_lone one;
           bare = λ flat none. omega (arith, long, one_row_bare flat none);
           marks = λ flat. subst (ShowsMarks layout.decor layout.code es) (sym (cuts.marks_cut.uncut (narrow flat))) (shows_marks flat);
+          labels = λ uncut _. LabelsStand-placed layout row es placed new rows is places stands (rows_new cuts.marks_now (cuts.marks_cut.uncut uncut));
           are = λ k inside. subst (λ n. IsStrokeRow layout plain es (closes && k + 1 == n) (row_at rows k)) (sym long) (stroke_rows wide narrow cuts.marks_now cuts.marks_cut k (omega (arith, inside, long)));
         };
       }
@@ -425,6 +435,7 @@ strokes_none layout room closes es above plain old new place none old_is bare_ra
         some = λ _ some. absurd (omega (arith, some, none));
         lone = λ _ one. absurd (omega (arith, one, none));
         bare = λ _ _. short closes;
+        labels = λ _ _. LabelsStand-none layout es _ (λ k d within. absurd (omega (arith, within, none)));
         marks = λ _. record {
           marks = λ p kind mark. absurd (omega (arith, mark.among.1, none));
           unmarked = λ p none_covers. ap has_mark_role (space closes p);

@@ -1,5 +1,5 @@
 -- Lines that are marked as a whole.
-use Rattle.std.proofs.Common.{inl, ◌≡◌, ℕ, ◌+◌, ◌<◌, ◌∷◌, ◌++◌, ◌&&◌, ◌||◌, [], List, Bool, Option, None, Some, true, false, zero, suc, cond, length, take, map, refl, sym, ap, ◌∙◌, arith}
+use Rattle.std.proofs.Common.{inl, ◌≡◌, ℕ, ◌+◌, ◌<◌, ◌∷◌, ◌++◌, ◌&&◌, ◌||◌, [], List, Bool, Option, None, Some, true, false, zero, suc, cond, length, take, map, refl, sym, ap, ◌∙◌, arith, All}
 use Rattle.std.specs.Char.{is_whitespace}
 use Rattle.std.specs.List.{list_all, position, position_or_len}
 use Rattle.std.specs.Prelude.{not, nat_le, nat_lt}
@@ -15,13 +15,17 @@ use Rattle.snippet_style.specs.declared.glyphs.DecorStyle.{DecorStyle}
 use Rattle.snippet_style.specs.Glyphs.{placeholder_of}
 use Rattle.snippet_style.specs.Cell.{Cell}
 use Rattle.snippet_strokes.specs.declared.layout.Layout.{Layout}
-use Rattle.snippet_strokes.specs.Entries.{are_plain, is_single, shifted, wide_entries}
-use Rattle.snippet_strokes.specs.Rails.{DrawsBars, is_before, is_beside, is_beside_first, is_start, is_whole_line}
+use Rattle.snippet_strokes.specs.Entries.{are_plain, is_single, label_text, shifted, wide_entries}
+use Rattle.snippet_strokes.specs.Labels.{IsLabelledAtEnd}
+use Rattle.snippet_strokes.proofs.LabelPlaces.{LabelsStand-none}
+use Rattle.std.proofs.lemmas.List.Elements.{All-cons, All-head, All-nil, All-tail}
+use Rattle.snippet_strokes.specs.Rails.{DrawsBars, is_before, is_beside, is_beside_first, is_whole_line}
+use Rattle.snippet_strokes.specs.Positions.{is_start_part}
 use Rattle.snippet_strokes.specs.Rows.{AddsStrokes, AreStrokes, HasNoBars, IsBeside}
 use Rattle.snippet_strokes.proofs.RailLemmas.{AddsStrokes-drawn}
 
 -- an entry that is drawn by bars alone isn't a whole span
-not_single : (t : LineAnnotationType) (b : Bool) → (is_bar t || is_start t && b) ≡ true → is_single_part t ≡ false
+not_single : (t : LineAnnotationType) (b : Bool) → (is_bar t || is_start_part t && b) ≡ true → is_single_part t ≡ false
 not_single Singleline b is = absurd (false≢true is)
 not_single (MultilineStart depth) b is = refl
 not_single (MultilineEnd depth) b is = refl
@@ -49,6 +53,30 @@ whole_some : (text : List ℕ) (dropped : ℕ) (es : List LineAnnotation) → is
 whole_some text dropped [] whole none = false≢true whole
 whole_some text dropped (e ∷ es) whole none = omega (arith, ap length none)
 
+-- an entry that is drawn by bars alone is a start or a bar, and so it has no label
+bar_or_start : (t : LineAnnotationType) (b : Bool) → (is_bar t || is_start_part t && b) ≡ true → (is_start_part t || is_bar t) ≡ true
+bar_or_start Singleline b is = absurd (false≢true is)
+bar_or_start (MultilineStart depth) b is = refl
+bar_or_start (MultilineEnd depth) b is = absurd (false≢true is)
+bar_or_start (MultilineLine depth) b is = refl
+
+second_true : (a b : Bool) → (a && b) ≡ true → b ≡ true
+second_true true b is = is
+second_true false b is = absurd (false≢true is)
+
+all_unlabelled : (text : List ℕ) (dropped : ℕ) (es : List LineAnnotation) → list_all (is_beside text) es ≡ true → All IsLabelledAtEnd (map (shifted dropped) es) → All (λ e. label_text e ≡ []) (map (shifted dropped) es)
+all_unlabelled text dropped [] whole ends = All-nil (λ e. label_text e ≡ [])
+all_unlabelled text dropped (e ∷ es) whole ends =
+    let beside : is_beside text e ≡ true = first_true (is_beside text e) (list_all (is_beside text) es) whole in
+    let rest : list_all (is_beside text) es ≡ true = second_true (is_beside text e) (list_all (is_beside text) es) whole in
+    let first : LineAnnotation = shifted dropped e in
+    let others : List LineAnnotation = map (shifted dropped) es in
+    All-cons (λ x. label_text x ≡ []) first others (All-head IsLabelledAtEnd first others ends (bar_or_start e.annotation_type (list_all is_whitespace (take e.start.display text)) beside)) (all_unlabelled text dropped es rest (All-tail IsLabelledAtEnd first others ends))
+
+beside_unlabelled : (text : List ℕ) (dropped : ℕ) (es : List LineAnnotation) → is_whole_line text es ≡ true → All IsLabelledAtEnd (map (shifted dropped) es) → All (λ e. label_text e ≡ []) (map (shifted dropped) es)
+beside_unlabelled text dropped [] whole ends = absurd (false≢true whole)
+beside_unlabelled text dropped (e ∷ es) whole ends = all_unlabelled text dropped (e ∷ es) whole ends
+
 -- no rows of strokes
 AreStrokes-whole : (layout : Layout) (text : List ℕ) (room dropped : ℕ) (closes : Bool) (es : List LineAnnotation) → is_whole_line text es ≡ true → AreStrokes layout room (map (shifted dropped) es) closes []
 AreStrokes-whole layout text room dropped closes es whole =
@@ -59,6 +87,7 @@ AreStrokes-whole layout text room dropped closes es whole =
       lone = λ plain one. absurd (none plain);
       bare = λ plain labels. absurd (none plain);
       marks = λ plain. absurd (none plain);
+      labels = λ _ ends. LabelsStand-none layout (map (shifted dropped) es) [] (beside_unlabelled text dropped es whole ends);
       are = λ k within. absurd (omega (arith, within));
     }
 
@@ -125,7 +154,7 @@ all_agree p q same (e ∷ es) =
 -- so the test by that place is the one that reads the text
 pub beside_first : (text : List ℕ) (e : LineAnnotation) → is_beside_first (position (λ c. not (is_whitespace c)) text) e ≡ is_beside text e
 beside_first text e =
-    ap (λ b. is_bar e.annotation_type || is_start e.annotation_type && b) (blank_before text e.start.display)
+    ap (λ b. is_bar e.annotation_type || is_start_part e.annotation_type && b) (blank_before text e.start.display)
 
 pub whole_line_is : (text : List ℕ) (first : Option ℕ) (es : List LineAnnotation) → 0 < length es → first ≡ position (λ c. not (is_whitespace c)) text → list_all (is_beside_first first) es ≡ is_whole_line text es
 whole_line_is text first [] some is = absurd (omega (arith, some))

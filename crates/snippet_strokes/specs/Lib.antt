@@ -1,5 +1,8 @@
 pub mod Entries
 pub mod Positions
+pub mod Writes
+pub mod Strokes
+pub mod Labels
 pub mod Painting
 pub mod Rows
 pub mod Snippet

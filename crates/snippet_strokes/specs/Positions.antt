@@ -60,6 +60,14 @@ reaches p e other =
 abbrev pub crowds : ℕ → PlacedEntry → PlacedEntry → Bool
 crowds p e other = blocks e other || reaches p e other
 
+-- whether an entry may need a row of its own at all: it has a label, or a line to a bar
+abbrev pub asks : PlacedEntry → Bool
+asks e = has_label e || takes_space e
+
+-- no entry from this place on does
+abbrev pub AsksBefore : ℕ → List PlacedEntry → Type 0
+AsksBefore end es = (k : ℕ) (d : PlacedEntry) → end ≤ k → k < length es → asks (slice_index_or es k d) ≡ false
+
 -- the position of an entry in front of others, where p is the one reached: position 0 isn't taken where a mark stands in
 -- the way
 abbrev pub position_at : ℕ → PlacedEntry → List PlacedEntry → ℕ

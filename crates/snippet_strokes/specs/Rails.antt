@@ -17,6 +17,7 @@ use Rattle.snippet_strokes.specs.declared.rails.RailStroke.TheVariants.{Top, Sol
 use Rattle.snippet_strokes.specs.Entries.{IsRailCell}
 use Rattle.snippet_model.specs.AnnotationKind.{is_primary}
 use Rattle.snippet_model.specs.Rows.{IsFree}
+use Rattle.snippet_strokes.specs.Positions.{is_start_part}
 use Rattle.snippet_strokes.specs.Rows.{IsElisionRow}
 use Rattle.snippet_strokes.specs.Snippet.{IsGap}
 use Rattle.snippet_view.specs.declared.entries.AnnotatedLineInfo.{AnnotatedLineInfo}
@@ -64,17 +65,10 @@ rail_glyph Top decor primary = glyph_of decor primary 47 47 0x250F 0x250C
 rail_glyph Solid decor primary = glyph_of decor primary 124 124 0x2503 0x2502
 rail_glyph Dotted decor primary = glyph_of decor primary 124 124 0x2507 0x2506
 
--- whether an entry is the start of a span of several lines
-abbrev pub is_start : LineAnnotationType → Bool
-is_start Singleline = false
-is_start (MultilineStart depth) = true
-is_start (MultilineEnd depth) = false
-is_start (MultilineLine depth) = false
-
 -- whether an entry of this line is drawn by bars alone: it is a bar, or a start with nothing but whitespace before it
 abbrev pub is_beside : List ℕ → LineAnnotation → Bool
 is_beside text e =
-    is_bar e.annotation_type || is_start e.annotation_type && list_all is_whitespace (take e.start.display text)
+    is_bar e.annotation_type || is_start_part e.annotation_type && list_all is_whitespace (take e.start.display text)
 
 -- whether so many characters stand before this place, if it is one
 abbrev pub is_before : ℕ → Option ℕ → Bool
@@ -84,7 +78,7 @@ is_before n (Some at) = nat_le n at
 -- the same, where the first character of the line that is no whitespace stands at this place, if there is one
 abbrev pub is_beside_first : Option ℕ → LineAnnotation → Bool
 is_beside_first first e =
-    is_bar e.annotation_type || is_start e.annotation_type && is_before e.start.display first
+    is_bar e.annotation_type || is_start_part e.annotation_type && is_before e.start.display first
 
 -- whether a line is marked as a whole: it has entries, and each is drawn by bars alone
 abbrev pub is_whole_line : List ℕ → List LineAnnotation → Bool

@@ -19,6 +19,7 @@ use Rattle.snippet_strokes.specs.declared.layout.Layout.{Layout}
 use Rattle.snippet_strokes.specs.Entries.{EntryCovers, IsEntryMark, IsMarkCell, IsRailCell, are_plain, has_mark_role, label_text, label_role, wide_entries}
 use Rattle.snippet_model.specs.AnnotationKind.{is_primary}
 use Rattle.snippet_model.specs.Rows.{IsFree}
+use Rattle.snippet_strokes.specs.Labels.{IsLabelledAtEnd, LabelsStand}
 use Rattle.snippet_strokes.specs.Painting.{StandsFrom}
 
 -- a row of strokes before any stroke is drawn: the closing row where the window closes with it, else the separator row
@@ -89,13 +90,14 @@ pub record IsStrokeRow (layout : Layout) (plain : Bool) (es : List LineAnnotatio
 
 -- the rows of a line's strokes: none if it has no entries, but a closing row where the window closes with the line. On a
 -- plain line that has some, first that of its marks, which is the only one where the line has one entry, or no label that
--- shows anything. It is with the last row that the window closes
+-- shows anything. It is with the last row that the window closes. Where no entry is wide, no label is lost
 pub record AreStrokes (layout : Layout) (room : ℕ) (es : List LineAnnotation) (closes : Bool) (rows : List (List Cell)) : Type 0 where
   pub none : es ≡ [] → length rows ≡ (if closes then 1 else 0)
   pub some : are_plain room layout.decor es ≡ true → 0 < length es → 0 < length rows
   pub lone : are_plain room layout.decor es ≡ true → length es ≡ 1 → length rows ≡ 1
   pub bare : are_plain room layout.decor es ≡ true → All (λ e. label_text e ≡ []) es → length rows ≤ 1
   pub marks : are_plain room layout.decor es ≡ true → ShowsMarks layout.decor layout.code es (row_at rows 0)
+  pub labels : wide_entries room layout.decor es ≡ 0 → All IsLabelledAtEnd es → LabelsStand layout es rows
   pub are : (k : ℕ) → k < length rows → IsStrokeRow layout (are_plain room layout.decor es) es (closes && k + 1 == length rows) (row_at rows k)
 
 -- a row of which, from the code's cell on, at most so many stretches gave their place to the placeholder, one for each

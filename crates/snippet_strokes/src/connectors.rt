@@ -2,6 +2,8 @@
 ghost use Rattle.std.specs.Prelude.{◌≡◌, ◌+◌, ◌^◌, ◌<◌, ◌≤◌, All, OnOk, length, true};
 ghost use Rattle.snippet_strokes.specs.Entries.{HasPlace, HasRail, is_single};
 ghost use Rattle.snippet_strokes.specs.Painting.{DrawsFrom, HasRows, KeepsRails};
+ghost use Rattle.snippet_strokes.specs.Strokes.{connector_of, connectors_of, line_to};
+ghost use Rattle.snippet_strokes.specs.Writes.{painted};
 
 use crate::layout::Layout;
 use crate::lines::draw_stretch;
@@ -35,6 +37,7 @@ pub(crate) fn draw_connectors(
     requires rails { All (λ e. HasRail layout e.entry) placed.now }
     requires small { length buffer.old ≤ 2 ^ 60 }
     requires rows { All (HasRows row (length buffer.old)) placed.now }
+    ensures painted { OnOk result (buffer.new ≡ painted (connectors_of layout row placed.now) buffer.old) }
     ensures draws { OnOk result (DrawsFrom row (layout.gutter + 3) buffer.old buffer.new) }
     ensures rails { OnOk result (KeepsRails layout buffer.old buffer.new) }
     ensures none { OnOk result (All (λ e. is_single e.entry ≡ true) placed.now → buffer.new ≡ buffer.old) }
@@ -58,9 +61,7 @@ fn draw_connector(
     requires rail { HasRail layout placed.now.entry }
     requires small { length buffer.old ≤ 2 ^ 60 }
     requires rows { HasRows row (length buffer.old) placed.now }
-    ensures draws { OnOk result (DrawsFrom row (layout.gutter + 3) buffer.old buffer.new) }
-    ensures rails { OnOk result (KeepsRails layout buffer.old buffer.new) }
-    ensures none { OnOk result (is_single placed.now.entry ≡ true → buffer.new ≡ buffer.old) }
+    ensures painted { OnOk result (buffer.new ≡ painted (connector_of layout row placed.now) buffer.old) }
 {
     match placed.entry.annotation_type {
         LineAnnotationType::MultilineStart(depth) | LineAnnotationType::MultilineEnd(depth) => {
@@ -84,8 +85,7 @@ fn draw_line_to(
     requires depth { layout.gutter + 3 + depth < layout.code }
     requires small { length buffer.old ≤ 2 ^ 60 }
     requires rows { HasRows row (length buffer.old) placed.now }
-    ensures draws { OnOk result (DrawsFrom row (layout.gutter + 3) buffer.old buffer.new) }
-    ensures rails { OnOk result (KeepsRails layout buffer.old buffer.new) }
+    ensures painted { OnOk result (buffer.new ≡ painted (line_to layout row placed.now depth) buffer.old) }
 {
     let strokes = layout.decor.underline(is_primary(placed.entry.kind));
     let start = layout.code + placed.entry.start.display;

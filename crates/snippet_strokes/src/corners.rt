@@ -2,6 +2,8 @@
 ghost use Rattle.std.specs.Prelude.{◌≡◌, ◌+◌, ◌^◌, ◌<◌, ◌≤◌, All, OnOk, length, true};
 ghost use Rattle.snippet_strokes.specs.Entries.{HasRail, is_single};
 ghost use Rattle.snippet_strokes.specs.Painting.{DrawsRails, HasRows};
+ghost use Rattle.snippet_strokes.specs.Strokes.{bar_of, bottom_of, corner_of, corners_of, top_of};
+ghost use Rattle.snippet_strokes.specs.Writes.{painted};
 
 use crate::layout::Layout;
 use crate::positions::PlacedEntry;
@@ -33,6 +35,7 @@ pub(crate) fn draw_corners(
     requires rails { All (λ e. HasRail layout e.entry) placed.now }
     requires small { length buffer.old ≤ 2 ^ 60 }
     requires rows { All (HasRows (row + 1) (length buffer.old)) placed.now }
+    ensures painted { OnOk result (buffer.new ≡ painted (corners_of layout row (length buffer.old) placed.now) buffer.old) }
     ensures draws { OnOk result (DrawsRails layout row buffer.old buffer.new) }
     ensures none { OnOk result (All (λ e. is_single e.entry ≡ true) placed.now → buffer.new ≡ buffer.old) }
 {
@@ -53,8 +56,7 @@ fn draw_corner(
     requires rail { HasRail layout placed.now.entry }
     requires small { length buffer.old ≤ 2 ^ 60 }
     requires rows { HasRows (row + 1) (length buffer.old) placed.now }
-    ensures draws { OnOk result (DrawsRails layout row buffer.old buffer.new) }
-    ensures none { OnOk result (is_single placed.now.entry ≡ true → buffer.new ≡ buffer.old) }
+    ensures painted { OnOk result (buffer.new ≡ painted (corner_of layout row (length buffer.old) placed.now) buffer.old) }
 {
     match placed.entry.annotation_type {
         LineAnnotationType::MultilineStart(depth) => draw_top(buffer, layout, row, depth, placed),
@@ -76,7 +78,7 @@ fn draw_top(
     requires depth { layout.gutter + 3 + depth < layout.code }
     requires small { length buffer.old ≤ 2 ^ 60 }
     requires rows { HasRows (row + 1) (length buffer.old) placed.now }
-    ensures draws { OnOk result (DrawsRails layout row buffer.old buffer.new) }
+    ensures painted { OnOk result (buffer.new ≡ painted (top_of layout row (length buffer.old) placed.now depth) buffer.old) }
 {
     let strokes = layout.decor.underline(is_primary(placed.entry.kind));
     let corner = row + 1 + placed.position;
@@ -100,7 +102,7 @@ fn draw_bottom(
     requires depth { layout.gutter + 3 + depth < layout.code }
     requires small { length buffer.old ≤ 2 ^ 60 }
     requires rows { HasRows (row + 1) (length buffer.old) placed.now }
-    ensures draws { OnOk result (DrawsRails layout row buffer.old buffer.new) }
+    ensures painted { OnOk result (buffer.new ≡ painted (bottom_of layout row placed.now depth) buffer.old) }
 {
     let strokes = layout.decor.underline(is_primary(placed.entry.kind));
     let corner = row + 1 + placed.position;
@@ -123,7 +125,8 @@ fn draw_bar(
     requires depth { layout.gutter + 3 + depth < layout.code }
     requires small { length buffer.old ≤ 2 ^ 60 }
     requires rows { end ≤ length buffer.old }
-    ensures draws { OnOk result (DrawsRails layout start buffer.old buffer.new) }
+    requires ordered { start ≤ end }
+    ensures painted { OnOk result (buffer.new ≡ painted (bar_of layout placed.now depth start end) buffer.old) }
 {
     let strokes = layout.decor.underline(is_primary(placed.entry.kind));
     let cell = layout.gutter + 2 + depth;

@@ -19,7 +19,8 @@ use std::alloc::{AllocError, Global};
 const LEAST_END: usize = 5;
 
 /// For each entry of a line, from right to left, whether its columns overlap those of an entry that was looked at while the
-/// place of a label was sought. The two entries farthest right count for no one, and any other counts for itself too.
+/// place of a label was sought. The two entries farthest right count for no one, and any other counts for itself too. Only wide
+/// entries ask for it: where none is, nothing is looked at.
 ///
 /// ```text
 ///       |          ^^^^^    the first and the second entry aren't met, though they overlap
@@ -30,11 +31,19 @@ const LEAST_END: usize = 5;
 /// # Errors
 ///
 /// There is no memory for the list.
-pub(crate) fn overlapping(alloc: Global, placed: &[PlacedEntry]) -> Result<Vec<bool>, AllocError>
+pub(crate) fn overlapping(
+    alloc: Global,
+    decor: DecorStyle,
+    room: usize,
+    placed: &[PlacedEntry],
+) -> Result<Vec<bool>, AllocError>
     requires columns { All (λ e. HasPlace e.entry) placed.now }
     ensures count { IfOk result (λ met. length met.items ≡ length placed.now) }
 {
     let mut met = vec![in alloc; false; placed.len()]?;
+    if !has_wide(room, decor, placed) {
+        return Ok(met);
+    }
     let mut reached = 0;
     for i in 0..placed.len() {
         let end = walk_end(placed, i, reached);
@@ -44,6 +53,13 @@ pub(crate) fn overlapping(alloc: Global, placed: &[PlacedEntry]) -> Result<Vec<b
         }
     }
     Ok(met)
+}
+
+/// Whether one of these entries is wide, in a room of so many columns.
+fn has_wide(room: usize, decor: DecorStyle, placed: &[PlacedEntry]) -> bool
+    requires columns { All (λ e. HasPlace e.entry) placed.now }
+{
+    placed.iter().any(|p| is_wide(room, decor, &p.entry))
 }
 
 /// The position that is reached behind entry i, where position 0 was reached before it.

@@ -1,11 +1,15 @@
 //! The labels of marks.
-ghost use Rattle.std.specs.Prelude.{◌≡◌, ◌+◌, ◌^◌, ◌<◌, ◌≤◌, ◌∷◌, [], All, OnOk, false, true, length, ℕ};
+ghost use Rattle.std.specs.Prelude.{◌≡◌, ◌+◌, ◌^◌, ◌<◌, ◌≤◌, ◌∷◌, [], All, List, OnOk, false, true, length, ℕ};
+ghost use Rattle.snippet_view.specs.declared.entries.LineAnnotation.{LineAnnotation};
 ghost use Rattle.snippet_grid.specs.Grid.{cells_written};
 ghost use Rattle.snippet_style.specs.Cell.{drawn};
 ghost use Rattle.snippet_strokes.specs.Entries.{HasPlace, label_role, label_text};
 ghost use Rattle.snippet_strokes.specs.Painting.{DrawsFrom, HasRows, MarksStarts, StandsFrom};
 ghost use Rattle.snippet_strokes.specs.Positions as spec;
-ghost use Rattle.snippet_strokes.specs.Positions.{HasItsLabel};
+ghost use Rattle.snippet_strokes.specs.Positions.{ArePlaced, HasItsLabel};
+ghost use Rattle.snippet_strokes.specs.Labels.{StandsWhole};
+ghost use Rattle.snippet_strokes.specs.Strokes.{label_of, labels_of};
+ghost use Rattle.snippet_strokes.specs.Writes.{painted};
 ghost use Rattle.snippet_strokes.specs.declared.positions.PlacedEntry.{PlacedEntry};
 
 use crate::layout::Layout;
@@ -37,6 +41,9 @@ pub(crate) fn draw_labels(
     requires rows { All (HasRows row (length buffer.old)) placed.now }
     requires labels { All HasItsLabel placed.now }
     requires short { All (λ e. length (label_text e.entry) < 2 ^ 60) placed.now }
+    ensures painted { OnOk result (buffer.new ≡ painted (labels_of layout row placed.now) buffer.old) }
+    ensures stand { OnOk result ((es : List LineAnnotation) → ArePlaced es placed.now
+        → All (StandsWhole layout row buffer.new) placed.now) }
     ensures draws { OnOk result ((from : ℕ) → All (λ e. StandsFrom layout.code from e.entry) placed.now
         → DrawsFrom row from buffer.old buffer.new) }
     ensures starts { OnOk result (MarksStarts layout.code [] buffer.old buffer.new) }
@@ -64,13 +71,7 @@ fn draw_label(
     requires rows { HasRows row (length buffer.old) placed.now }
     requires label { HasItsLabel placed.now }
     requires short { length (label_text placed.now.entry) < 2 ^ 60 }
-    ensures draws { OnOk result ((from : ℕ) → StandsFrom layout.code from placed.now.entry
-        → DrawsFrom row from buffer.old buffer.new) }
-    ensures starts { OnOk result (MarksStarts layout.code [] buffer.old buffer.new) }
-    ensures none { OnOk result (spec.has_label placed.now ≡ false → buffer.new ≡ buffer.old) }
-    ensures behind { OnOk result (placed.now.position ≡ 0 → 0 < placed.now.entry.end.display → spec.has_label placed.now ≡ true
-        → buffer.new ≡ cells_written buffer.old row (layout.code + placed.now.entry.end.display + 1)
-        (drawn (label_role placed.now.entry.kind) (label_text placed.now.entry))) }
+    ensures painted { OnOk result (buffer.new ≡ painted (label_of layout row placed.now) buffer.old) }
 {
     let (below, column) = label_place(placed);
     buffer.puts(

@@ -1,8 +1,7 @@
 //! Glyphs that stand side by side in a row.
-ghost use Rattle.std.specs.Prelude.{◌≡◌, ◌+◌, ◌-◌, ◌^◌, ◌<◌, ◌≤◌, IfOk, OnOk, replicate, string_bytes};
+ghost use Rattle.std.specs.Prelude.{◌≡◌, ◌+◌, ◌^◌, ◌<◌, IfOk, OnOk, replicate, string_bytes};
 ghost use Rattle.std.specs.Str.{chars};
-ghost use Rattle.snippet_grid.specs.Grid.{WritesCells};
-ghost use Rattle.snippet_style.specs.Cell.{unlinked_cell};
+ghost use Rattle.snippet_strokes.specs.Writes.{painted, stretch_of};
 
 use snippet_grid::StyledBuffer;
 use snippet_style::ElementStyle;
@@ -40,9 +39,7 @@ pub(crate) fn draw_stretch(
     role: ElementStyle,
 ) -> Result<(), AllocError>
     requires row { row + 1 < 2 ^ 64 }
-    ensures some { OnOk result (from < to
-        → WritesCells buffer.old buffer.new row from (replicate (to - from) (unlinked_cell role glyph))) }
-    ensures none { OnOk result (to ≤ from → buffer.new ≡ buffer.old) }
+    ensures painted { OnOk result (buffer.new ≡ painted (stretch_of row from to glyph role) buffer.old) }
 {
     if to <= from {
         return Ok(());

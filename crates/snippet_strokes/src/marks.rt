@@ -1,7 +1,13 @@
 //! The marks below a line of the source.
-ghost use Rattle.std.specs.Prelude.{◌≡◌, ◌+◌, ◌^◌, ◌<◌, ◌==◌, ◌&&◌, All, OnOk, IsPermutation, map};
+ghost use Rattle.std.specs.Prelude.{◌≡◌, ◌+◌, ◌^◌, ◌<◌, ◌==◌, ◌&&◌, All, List, OnOk, IsPermutation, map};
 ghost use Rattle.snippet_strokes.specs.Entries as spec;
-ghost use Rattle.snippet_strokes.specs.Painting.{AreMarked, IsPaintingOrder, Painted, Paints, first_glyph, mark_cell, mark_end};
+ghost use Rattle.snippet_view.specs.declared.entries.LineAnnotation.{LineAnnotation};
+ghost use Rattle.snippet_strokes.specs.Entries.{HasPlace};
+ghost use Rattle.snippet_strokes.specs.Positions.{ArePlaced};
+ghost use Rattle.snippet_strokes.specs.Labels.{StandsWhole};
+ghost use Rattle.snippet_strokes.specs.Painting.{AreMarked, IsPaintingOrder, first_glyph, mark_end};
+ghost use Rattle.snippet_strokes.specs.Strokes.{mark_of, marks_of};
+ghost use Rattle.snippet_strokes.specs.Writes.{painted};
 
 use crate::layout::Layout;
 use crate::lines::draw_stretch;
@@ -32,7 +38,12 @@ pub(crate) fn draw_marks(
     requires row { row + 1 < 2 ^ 64 }
     requires narrow { layout.code < 2 ^ 63 + 2 ^ 32 }
     requires columns { All (λ e. e.entry.end.display < 2 ^ 60) placed.old.items }
+    ensures painted { OnOk result (buffer.new ≡ painted (marks_of layout row placed.new.items) buffer.old) }
+    ensures ordered { OnOk result (IsPaintingOrder (map (λ e. e.entry) placed.new.items)) }
     ensures marked { OnOk result (AreMarked layout placed.old.items row buffer.old buffer.new) }
+    ensures stand { OnOk result ((es : List LineAnnotation) → ArePlaced es placed.old.items
+        → All (λ e. HasPlace e.entry) placed.old.items → All (StandsWhole layout row buffer.old) placed.old.items
+        → All (StandsWhole layout row buffer.new) placed.old.items) }
     ensures same { OnOk result (IsPermutation placed.old.items placed.new.items) }
 {
     sort_for_painting(placed)?;
@@ -70,7 +81,7 @@ fn paint_entries(
     requires row { row + 1 < 2 ^ 64 }
     requires narrow { layout.code < 2 ^ 63 + 2 ^ 32 }
     requires columns { All (λ e. e.entry.end.display < 2 ^ 60) placed.now }
-    ensures painted { OnOk result (Painted layout placed.now row buffer.old buffer.new) }
+    ensures painted { OnOk result (buffer.new ≡ painted (marks_of layout row placed.now) buffer.old) }
 {
     for entry in placed {
         paint_entry(alloc, buffer, layout, row, entry)?;
@@ -93,8 +104,7 @@ fn paint_entry(
     requires row { row + 1 < 2 ^ 64 }
     requires narrow { layout.code < 2 ^ 63 + 2 ^ 32 }
     requires columns { placed.now.entry.end.display < 2 ^ 60 }
-    ensures painted { OnOk result (Paints buffer.old buffer.new row (layout.code + placed.now.entry.start.display)
-        (layout.code + mark_end placed.now) (mark_cell layout placed.now)) }
+    ensures painted { OnOk result (buffer.new ≡ painted (mark_of layout row placed.now) buffer.old) }
 {
     let strokes = layout.decor.underline(is_primary(placed.entry.kind));
     let (start, end) = (placed.entry.start.display, mark_end(placed));

@@ -1,9 +1,9 @@
 //! Where the labels of a line stand: how far below the row of its marks each hangs.
-ghost use Rattle.std.specs.Prelude.{◌≡◌, ◌+◌, ◌^◌, ◌<◌, ◌&&◌, All, IfOk, chars, length, map};
+ghost use Rattle.std.specs.Prelude.{◌≡◌, ◌+◌, ◌^◌, ◌<◌, ◌≤◌, ◌&&◌, ◌||◌, All, IfOk, chars, length, map};
 ghost use Rattle.std.specs.List.{list_any};
 ghost use Rattle.std.specs.Cow.{cow_str_bytes};
 ghost use Rattle.snippet_strokes.specs.Positions as spec;
-ghost use Rattle.snippet_strokes.specs.Positions.{ArePlaced, HasItsLabel};
+ghost use Rattle.snippet_strokes.specs.Positions.{ArePlaced, AsksBefore, HasItsLabel};
 ghost use Rattle.snippet_strokes.specs.Entries.{label_text, shifted};
 ghost use Rattle.snippet_view.specs.Measures.{greatest};
 
@@ -215,15 +215,36 @@ fn label_positions(alloc: Global, entries: &[PlacedEntry]) -> Result<Vec<usize>,
     ensures value { IfOk result (λ positions. positions.items ≡ spec.positions 0 entries.now) }
 {
     let mut positions = Vec::new(alloc);
+    let end = askers_end(entries);
     let mut reached = 0;
     for i in 0..entries.len() {
         let entry = &entries[i];
-        let others = &entries[i + 1..];
-        let position = position_at(reached, entry, others);
+        let position = position_at(reached, entry, &entries[i + 1..]);
         positions.push(position)?;
-        reached = position_behind(position, entry, others);
+        reached = position_behind(position, entry, &entries[i + 1..end.max(i + 1)]);
     }
     Ok(positions)
+}
+
+/// Where the last of these entries ends that may ask for a row of its own: none after it does.
+fn askers_end(entries: &[PlacedEntry]) -> usize
+    ensures within { result ≤ length entries.now }
+    ensures none { AsksBefore result entries.now }
+{
+    let mut end = 0;
+    for i in 0..entries.len() {
+        if asks(&entries[i]) {
+            end = i + 1;
+        }
+    }
+    end
+}
+
+/// Whether an entry may ask for a row of its own: it has a label, or a line to a bar.
+fn asks(placed: &PlacedEntry) -> bool
+    ensures value { result ≡ spec.asks placed.now }
+{
+    placed.has_label() || placed.takes_space()
 }
 
 /// The position of an entry in front of others, where this one is reached.

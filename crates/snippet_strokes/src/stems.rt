@@ -3,6 +3,8 @@ ghost use Rattle.std.specs.Prelude.{◌≡◌, ◌+◌, ◌^◌, ◌<◌, ◌≤
 ghost use Rattle.snippet_strokes.specs.Entries.{HasPlace};
 ghost use Rattle.snippet_strokes.specs.Painting.{DrawsFrom, HasRows, MarksStarts, StandsFrom, foot_glyph};
 ghost use Rattle.snippet_strokes.specs.Positions as spec;
+ghost use Rattle.snippet_strokes.specs.Writes.{painted};
+ghost use Rattle.snippet_strokes.specs.Strokes.{is_hidden, stem_of, stems_of};
 
 use crate::layout::Layout;
 use crate::positions::PlacedEntry;
@@ -34,15 +36,34 @@ pub(crate) fn draw_stems(
     requires columns { All (λ e. HasPlace e.entry) placed.now }
     requires small { length buffer.old ≤ 2 ^ 60 }
     requires rows { All (HasRows row (length buffer.old)) placed.now }
+    ensures painted { OnOk result (buffer.new ≡ painted (stems_of layout row placed.now) buffer.old) }
     ensures draws { OnOk result ((from : ℕ) → All (λ e. StandsFrom layout.code from e.entry) placed.now
         → DrawsFrom row from buffer.old buffer.new) }
     ensures starts { OnOk result (MarksStarts layout.code placed.now buffer.old buffer.new) }
     ensures none { OnOk result (All (λ e. spec.has_stem e ≡ false) placed.now → buffer.new ≡ buffer.old) }
 {
-    for entry in placed {
-        draw_stem(buffer, layout, row, entry)?;
+    for i in 0..placed.len() {
+        let entry = &placed[i];
+        if !is_hidden(entry, &placed[i + 1..]) {
+            draw_stem(buffer, layout, row, entry)?;
+        }
     }
     Ok(())
+}
+
+/// Whether the stem of the next of some later entries covers that of an entry: it stands in the same column, and reaches as far
+/// down. So of many labels below one column the lowest alone has a stem.
+fn is_hidden(placed: &PlacedEntry, later: &[PlacedEntry]) -> bool
+    ensures value { result ≡ is_hidden placed.now later.now }
+{
+    match later {
+        [next, ..] => {
+            next.has_stem()
+                && next.entry.start.display == placed.entry.start.display
+                && placed.position <= next.position
+        }
+        [] => false,
+    }
 }
 
 /// Draws the stem of an entry, if it has one: below its first column, as far as the row of its line to the bar, or the row
@@ -57,10 +78,7 @@ fn draw_stem(
     requires columns { HasPlace placed.now.entry }
     requires small { length buffer.old ≤ 2 ^ 60 }
     requires rows { HasRows row (length buffer.old) placed.now }
-    ensures draws { OnOk result ((from : ℕ) → StandsFrom layout.code from placed.now.entry
-        → DrawsFrom row from buffer.old buffer.new) }
-    ensures starts { OnOk result (MarksStarts layout.code (placed.now ∷ []) buffer.old buffer.new) }
-    ensures none { OnOk result (spec.has_stem placed.now ≡ false → buffer.new ≡ buffer.old) }
+    ensures painted { OnOk result (buffer.new ≡ painted (stem_of layout row placed.now) buffer.old) }
 {
     if !placed.has_stem() {
         return Ok(());

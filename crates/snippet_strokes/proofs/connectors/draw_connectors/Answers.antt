@@ -1,27 +1,47 @@
-use Rattle.std.proofs.Common.{◌≡◌, ◌∙◌, ◌+◌, All, true, refl, sym, subst, arith, length}
+use Rattle.std.proofs.Common.{◌≡◌, ◌∙◌, ◌+◌, ◌<◌, List, ℕ, ap, refl, sym, subst, arith, length, take, All}
+use Rattle.std.proofs.lemmas.List.{take_all}
+use Rattle.std.proofs.lemmas.List.Elements.{All-take, All-weaker}
+use Rattle.snippet_style.specs.Cell.{Cell}
+use Rattle.snippet_strokes.specs.declared.layout.Layout.{Layout}
 use Rattle.snippet_strokes.specs.declared.positions.PlacedEntry.{PlacedEntry}
-use Rattle.snippet_strokes.specs.Entries.{is_single}
-use Rattle.snippet_strokes.specs.Painting.{HasRows}
-use Rattle.snippet_strokes.proofs.DrawLemmas.{DrawsFrom-none, DrawsFrom-more, KeepsRails-none, KeepsRails-more}
+use Rattle.snippet_strokes.specs.Painting.{DrawsFrom, HasRows, KeepsRails}
+use Rattle.snippet_strokes.specs.Strokes.{connector_of, connectors_of}
+use Rattle.snippet_strokes.specs.Writes.{IsWithin, Write, painted}
+use Rattle.snippet_strokes.proofs.BarWrites.{KeepsRails-painted, connectors_none, connectors_rails, connectors_within}
+use Rattle.snippet_strokes.proofs.WriteLaws.{DrawsFrom-painted, painted-count}
+use Rattle.snippet_strokes.proofs.WriteLemmas.{painted_more}
 use Rattle.snippet_strokes.proofs.connectors.draw_connectors.Goals as goal
 
-pub loop-entry-init : goal.loop-entry-init
-loop-entry-init c =
-    (DrawsFrom-none c.args.row (c.args.layout.gutter + 3) c.args.buffer.now, KeepsRails-none c.args.layout c.args.buffer.now, λ none. refl)
+-- lines to bars add no row
+count_kept : (layout : Layout) (row i : ℕ) (es : List PlacedEntry) (old mid : List (List Cell)) → mid ≡ painted (connectors_of layout row (take i es)) old → All (HasRows row (length old)) es → length mid ≡ length old
+count_kept layout row i es old mid so_far rows =
+    let n = length old in
+    let ws : List Write = connectors_of layout row (take i es) in
+    ap length so_far ∙ painted-count ws old n refl (All-weaker (IsWithin row n (layout.gutter + 3)) (λ (w : Write). w.row < n) (λ w is. is.there) ws (connectors_within layout row n (take i es) (All-take (HasRows row n) i es rows)))
 
 pub draw_connector-requires-clause-small : goal.draw_connector-requires-clause-small
-draw_connector-requires-clause-small c = omega (arith, c.loop-entry.invariant.0.count, c.requires.small)
+draw_connector-requires-clause-small c =
+    omega (arith, count_kept c.args.layout c.args.row c.loop-entry.entry-index c.args.placed.now c.args.buffer.now c.loop-entry.buffer c.loop-entry.invariant c.requires.rows, c.requires.small)
 
 pub draw_connector-requires-clause-rows : goal.draw_connector-requires-clause-rows
 draw_connector-requires-clause-rows c =
-    subst (λ n. HasRows c.args.row n c.entry-item.result) (sym c.loop-entry.invariant.0.count) (subst (HasRows c.args.row (length c.args.buffer.now)) (sym c.entry-item.is) (c.requires.rows c.loop-entry.entry-index c.entry-item.result c.loop-entry-test.true))
+    subst (λ n. HasRows c.args.row n c.entry-item.result) (sym (count_kept c.args.layout c.args.row c.loop-entry.entry-index c.args.placed.now c.args.buffer.now c.loop-entry.buffer c.loop-entry.invariant c.requires.rows)) (subst (HasRows c.args.row (length c.args.buffer.now)) (sym c.entry-item.is) (c.requires.rows c.loop-entry.entry-index c.entry-item.result c.loop-entry-test.true))
 
 pub loop-entry-preserved : goal.loop-entry-preserved
 loop-entry-preserved c =
-    let layout = c.args.layout in
+    c.in_ok-draw_connector.ensures.painted ∙ painted_more (connector_of c.args.layout c.args.row) c.args.placed.now c.loop-entry.entry-index c.entry-item.result c.args.buffer.now c.loop-entry.buffer c.loop-entry-test.true c.entry-item.is c.loop-entry.invariant
+
+pub returns : goal.returns
+returns c =
+    let es = c.args.placed.now in
     let old = c.args.buffer.now in
-    let mid = c.loop-entry.buffer in
-    let new = c.draw_connector.new.buffer in
-    let item = c.entry-item.result in
-    let single : All (λ (e : PlacedEntry). is_single e.entry ≡ true) c.args.placed.now → is_single item.entry ≡ true = λ none. subst (λ (x : PlacedEntry). is_single x.entry ≡ true) (sym c.entry-item.is) (none c.loop-entry.entry-index item c.loop-entry-test.true) in
-    (DrawsFrom-more c.args.row (layout.gutter + 3) old mid new c.loop-entry.invariant.0 c.in_ok-draw_connector.ensures.draws, KeepsRails-more layout old mid new c.loop-entry.invariant.1 c.in_ok-draw_connector.ensures.rails, λ none. c.in_ok-draw_connector.ensures.none (single none) ∙ c.loop-entry.invariant.2 none)
+    let layout = c.args.layout in
+    let row = c.args.row in
+    let ws : List Write = connectors_of layout row es in
+    let is : c.loop-entry.buffer ≡ painted ws old = c.loop-entry.invariant ∙ ap (λ xs. painted (connectors_of layout row xs) old) (take_all c.loop-entry.entry-index es (omega (arith, c.loop-entry-test.false))) in
+    record {
+      painted = is;
+      draws = subst (DrawsFrom row (layout.gutter + 3) old) (sym is) (DrawsFrom-painted row (layout.gutter + 3) ws old (connectors_within layout row (length old) es c.requires.rows));
+      rails = subst (KeepsRails layout old) (sym is) (KeepsRails-painted layout ws old (connectors_rails layout row es));
+      none = λ none. is ∙ ap (λ xs. painted xs old) (connectors_none layout row es none);
+    }

@@ -1,9 +1,9 @@
-use Rattle.std.proofs.Common.{◌≡◌, All, true}
-use Rattle.snippet_strokes.specs.Entries.{is_single}
-use Rattle.snippet_strokes.specs.Painting.{DrawsRails}
+use Rattle.std.proofs.Common.{◌≡◌, length, take}
+use Rattle.snippet_strokes.specs.Strokes.{corners_of}
+use Rattle.snippet_strokes.specs.Writes.{painted}
 use Rattle.snippet_strokes.proofs.corners.draw_corners.Given as goal
 
 -- the bars so far are drawn
 abbrev pub invariant-loop-entry : goal.invariant-loop-entry
 invariant-loop-entry l =
-    DrawsRails l.layout l.row l.initial.buffer l.buffer × (All (λ e. is_single e.entry ≡ true) l.placed → l.buffer ≡ l.initial.buffer)
+    l.buffer ≡ painted (corners_of l.layout l.row (length l.initial.buffer) (take l.entry-index l.placed)) l.initial.buffer

@@ -1,38 +1,49 @@
-use Rattle.std.proofs.Common.{◌≡◌, ◌∙◌, ◌+◌, [], ◌∷◌, List, false, ap, sym, subst, arith, length, get_or}
-use Rattle.snippet_grid.specs.Grid.{cells_written}
-use Rattle.snippet_style.specs.Cell.{drawn}
-use Rattle.snippet_strokes.specs.Entries.{label_role, label_text}
+use Rattle.std.proofs.Common.{◌≡◌, ◌∙◌, ◌<◌, [], ap, sym, subst, arith, length, take, refl, All, ℕ, List}
+use Rattle.std.proofs.lemmas.List.{take_all}
+use Rattle.std.proofs.lemmas.List.Elements.{All-take, All-weaker}
+use Rattle.snippet_style.specs.Cell.{Cell}
+use Rattle.snippet_strokes.specs.declared.layout.Layout.{Layout}
 use Rattle.snippet_strokes.specs.declared.positions.PlacedEntry.{PlacedEntry}
-use Rattle.snippet_strokes.specs.Painting.{HasRows, StandsFrom}
-use Rattle.snippet_strokes.specs.Positions.{has_label}
-use Rattle.snippet_strokes.proofs.DrawLemmas.{DrawsFrom-more}
+use Rattle.snippet_strokes.specs.Entries.{HasPlace}
+use Rattle.snippet_strokes.specs.Painting.{DrawsFrom, HasRows, MarksStarts}
+use Rattle.snippet_strokes.specs.Writes.{IsWithin, Write, painted}
+use Rattle.snippet_strokes.specs.Labels.{StandsWhole}
+use Rattle.snippet_strokes.specs.Strokes.{label_of, labels_of}
+use Rattle.snippet_strokes.proofs.LabelWrites.{label_lone, labels_none, labels_unmarked, labels_within}
+use Rattle.snippet_strokes.proofs.WriteLaws.{DrawsFrom-painted, painted-count}
+use Rattle.snippet_strokes.proofs.WriteLemmas.{painted_more}
+use Rattle.snippet_strokes.proofs.LabelLaw.{labels_stand, labels_kept}
 use Rattle.snippet_strokes.proofs.labels.draw_labels.Goals as goal
 
+-- labels add no row
+count_kept : (layout : Layout) (row i : ℕ) (es : List PlacedEntry) (old mid : List (List Cell)) → mid ≡ painted (labels_of layout row (take i es)) old → All (λ e. HasPlace e.entry) es → All (HasRows row (length old)) es → length mid ≡ length old
+count_kept layout row i es old mid so_far places rows =
+    ap length so_far ∙ painted-count (labels_of layout row (take i es)) old (length old) refl (All-weaker (IsWithin row (length old) 0) (λ (w : Write). w.row < length old) (λ w is. is.there) (labels_of layout row (take i es)) (labels_within layout row (length old) 0 (take i es) (All-take (λ (e : PlacedEntry). HasPlace e.entry) i es places) (All-take (HasRows row (length old)) i es rows) (λ k d within. omega arith)))
+
 pub draw_label-requires-clause-small : goal.draw_label-requires-clause-small
-draw_label-requires-clause-small c = omega (arith, (c.loop-entry.invariant.0 0 (λ k d within. omega arith)).count, c.requires.small)
+draw_label-requires-clause-small c =
+    omega (arith, count_kept c.args.layout c.args.row c.loop-entry.entry-index c.args.placed.now c.args.buffer.now c.loop-entry.buffer c.loop-entry.invariant c.requires.columns c.requires.rows, c.requires.small)
 
 pub draw_label-requires-clause-rows : goal.draw_label-requires-clause-rows
 draw_label-requires-clause-rows c =
-    subst (λ n. HasRows c.args.row n c.entry-item.result) (sym (c.loop-entry.invariant.0 0 (λ k d within. omega arith)).count) (subst (HasRows c.args.row (length c.args.buffer.now)) (sym c.entry-item.is) (c.requires.rows c.loop-entry.entry-index c.entry-item.result c.loop-entry-test.true))
+    subst (λ n. HasRows c.args.row n c.entry-item.result) (sym (count_kept c.args.layout c.args.row c.loop-entry.entry-index c.args.placed.now c.args.buffer.now c.loop-entry.buffer c.loop-entry.invariant c.requires.columns c.requires.rows)) (subst (HasRows c.args.row (length c.args.buffer.now)) (sym c.entry-item.is) (c.requires.rows c.loop-entry.entry-index c.entry-item.result c.loop-entry-test.true))
 
 pub loop-entry-preserved : goal.loop-entry-preserved
 loop-entry-preserved c =
+    c.in_ok-draw_label.ensures.painted ∙ painted_more (label_of c.args.layout c.args.row) c.args.placed.now c.loop-entry.entry-index c.entry-item.result c.args.buffer.now c.loop-entry.buffer c.loop-entry-test.true c.entry-item.is c.loop-entry.invariant
+
+pub returns : goal.returns
+returns c =
     let es = c.args.placed.now in
-    let i = c.loop-entry.entry-index in
-    let item = c.entry-item.result in
     let old = c.args.buffer.now in
-    let mid = c.loop-entry.buffer in
-    let new = c.draw_label.new.buffer in
-    let code = c.args.layout.code in
-    let is_item : item ≡ get_or es i item = c.entry-item.is in (
-      λ from all. DrawsFrom-more c.args.row from old mid new (c.loop-entry.invariant.0 from all) (c.in_ok-draw_label.ensures.draws from (subst (λ (x : PlacedEntry). StandsFrom code from x.entry) (sym is_item) (all i item c.loop-entry-test.true))),
-      λ none. c.in_ok-draw_label.ensures.none (subst (λ x. has_label x ≡ false) (sym is_item) (none i item c.loop-entry-test.true)) ∙ c.loop-entry.invariant.1 none,
-      λ never. absurd (omega (arith, never)),
-      λ r k beside before. c.in_ok-draw_label.ensures.starts r k beside (c.loop-entry.invariant.3 r k beside before),
-      λ e one zero some shown first.
-          let start : i ≡ 0 = omega (arith, first) in
-          let same : item ≡ e = is_item ∙ ap (λ xs. get_or xs i item) one ∙ ap (λ n. get_or (e ∷ []) n item) start in
-          let was : mid ≡ old = c.loop-entry.invariant.2 start in
-          let write : List (List _) → PlacedEntry → List (List _) = λ rows x. cells_written rows c.args.row (code + x.entry.end.display + 1) (drawn (label_role x.entry.kind) (label_text x.entry)) in
-          c.in_ok-draw_label.ensures.behind (ap (λ (x : PlacedEntry). x.position) same ∙ zero) (omega (arith, some, ap (λ (x : PlacedEntry). x.entry.end.display) same)) (ap has_label same ∙ shown) ∙ ap (λ rows. write rows item) was ∙ ap (write old) same,
-    )
+    let layout = c.args.layout in
+    let row = c.args.row in
+    let is : c.loop-entry.buffer ≡ painted (labels_of layout row es) old = c.loop-entry.invariant ∙ ap (λ xs. painted (labels_of layout row xs) old) (take_all c.loop-entry.entry-index es (omega (arith, c.loop-entry-test.false))) in
+    record {
+      painted = is;
+      stand = λ given are. subst (λ rows. All (StandsWhole layout row rows) es) (sym is) (labels_stand layout row given es old are c.requires.columns);
+      draws = λ from stand. subst (DrawsFrom row from old) (sym is) (DrawsFrom-painted row from (labels_of layout row es) old (labels_within layout row (length old) from es c.requires.columns c.requires.rows stand));
+      starts = subst (MarksStarts layout.code [] old) (sym is) (labels_unmarked layout row es old);
+      none = λ none. is ∙ ap (λ ws. painted ws old) (labels_none layout row es none);
+      lone = λ e one zero some has. is ∙ ap (λ xs. painted (labels_of layout row xs) old) one ∙ label_lone layout row e old zero some has;
+    }

@@ -1,21 +1,16 @@
-use Rattle.std.proofs.Common.{◌+◌, subst}
-use Rattle.snippet_strokes.specs.declared.positions.PlacedEntry.{PlacedEntry}
-use Rattle.snippet_strokes.specs.Painting.{Paints, mark_cell, mark_end}
-use Rattle.snippet_strokes.proofs.PaintLemmas.{Painted-none, Painted-next, Painted-all}
+use Rattle.std.proofs.Common.{◌∙◌, ap, arith}
+use Rattle.std.proofs.lemmas.List.{take_all}
+use Rattle.snippet_strokes.specs.Strokes.{mark_of, marks_of}
+use Rattle.snippet_strokes.specs.Writes.{painted}
+use Rattle.snippet_strokes.proofs.WriteLemmas.{painted_more}
 use Rattle.snippet_strokes.proofs.marks.paint_entries.Goals as goal
-
-pub loop-entry-init : goal.loop-entry-init
-loop-entry-init c = Painted-none c.args.layout c.args.row c.args.buffer.now
 
 pub loop-entry-preserved : goal.loop-entry-preserved
 loop-entry-preserved c =
-    let i = c.loop-entry.entry-index in
-    let item = c.entry-item.result in
-    let paints = subst (λ (x : PlacedEntry). Paints c.loop-entry.buffer c.paint_entry.new.buffer c.args.row (c.args.layout.code + x.entry.start.display) (c.args.layout.code + mark_end x) (mark_cell c.args.layout x)) c.entry-item.is c.in_ok-paint_entry.ensures.painted in
-    Painted-next c.args.layout c.args.placed.now i item c.args.row c.args.buffer.now c.loop-entry.buffer c.paint_entry.new.buffer c.loop-entry-test.true c.loop-entry.invariant paints
+    c.in_ok-paint_entry.ensures.painted ∙ painted_more (mark_of c.args.layout c.args.row) c.args.placed.now c.loop-entry.entry-index c.entry-item.result c.args.buffer.now c.loop-entry.buffer c.loop-entry-test.true c.entry-item.is c.loop-entry.invariant
 
 pub returns : goal.returns
 returns c =
     record {
-      painted = Painted-all c.args.layout c.args.placed.now c.loop-entry.entry-index c.args.row c.args.buffer.now c.loop-entry.buffer c.loop-entry-test.false c.loop-entry.invariant;
+      painted = c.loop-entry.invariant ∙ ap (λ xs. painted (marks_of c.args.layout c.args.row xs) c.args.buffer.now) (take_all c.loop-entry.entry-index c.args.placed.now (omega (arith, c.loop-entry-test.false)));
     }

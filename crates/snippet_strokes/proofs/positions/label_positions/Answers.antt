@@ -1,7 +1,7 @@
-use Rattle.std.proofs.Common.{◌≡◌, ◌∙◌, ◌+◌, ◌-◌, ◌≤◌, ◌++◌, ◌∷◌, [], sym, ap, subst, take, drop, length, arith}
-use Rattle.std.proofs.lemmas.List.{take_all, length-drop}
-use Rattle.snippet_strokes.specs.Positions.{position_at, position_behind, positions}
-use Rattle.snippet_strokes.proofs.PositionLemmas.{positions_more, reached_low}
+use Rattle.std.proofs.Common.{◌≡◌, ◌∙◌, ◌+◌, ◌-◌, ◌≤◌, ◌++◌, ◌∷◌, [], rules, sym, ap, subst, take, drop, length, arith}
+use Rattle.std.proofs.lemmas.List.{take_all, get_or-drop, length-drop}
+use Rattle.snippet_strokes.specs.Positions.{asks, position_at, position_behind, positions}
+use Rattle.snippet_strokes.proofs.PositionLemmas.{position_behind-front, positions_more, reached_low}
 use Rattle.snippet_strokes.proofs.positions.label_positions.Goals as goal
 
 pub loop-i-preserved : goal.loop-i-preserved
@@ -16,6 +16,9 @@ loop-i-preserved c =
     let q = c.position_behind-reached.result in
     let whole : take (length es - (i + 1)) others ≡ others = take_all (length es - (i + 1)) others (omega (arith, length-drop (i + 1) es)) in
     let here : p ≡ position_at reached e others = c.position_at-position.ensures.value ∙ ap (position_at reached e) whole in
-    let behind : q ≡ position_behind (position_at reached e others) e others = c.position_behind-reached.ensures.value ∙ ap (position_behind p e) whole ∙ ap (λ x. position_behind x e others) here in
+    let n = c.max.result - (i + 1) in
+    let high : c.askers_end-end.result ≤ c.max.result = search rules in
+    let front : position_behind p e (take n others) ≡ position_behind p e others = position_behind-front p e others n (λ k d past within. ap asks (get_or-drop (i + 1) es k d) ∙ c.askers_end-end.ensures.none (i + 1 + k) d (omega (arith, past, high)) (omega (arith, within, length-drop (i + 1) es))) in
+    let behind : q ≡ position_behind (position_at reached e others) e others = c.position_behind-reached.ensures.value ∙ front ∙ ap (λ x. position_behind x e others) here in
     let more = subst (λ x. (done ++ position_at reached x others ∷ []) ++ positions (position_behind (position_at reached x others) x others) others ≡ positions 0 es) (sym c.index-entries-i.is) (positions_more done es (positions 0 es) i reached e c.loop-i-test.true c.loop-i.invariant.0) in
     (ap (λ xs. xs ++ positions q others) c.in_ok-push.ensures.items ∙ ap (λ x. (done ++ x ∷ []) ++ positions q others) here ∙ ap (λ y. (done ++ position_at reached e others ∷ []) ++ positions y others) behind ∙ more, subst (λ y. y ≤ i + 1 + 1) (sym behind) (reached_low reached i e others c.loop-i.invariant.1))

@@ -1,8 +1,10 @@
-use Rattle.std.proofs.Common.{ℕ, ◌≤◌, ◌∷◌, []}
-use Rattle.snippet_strokes.specs.Painting.{DrawsFrom, MarksStarts}
+use Rattle.std.proofs.Common.{◌≡◌, map}
+use Rattle.std.specs.List.{range_with_len}
+use Rattle.snippet_strokes.specs.Writes.{painted}
+use Rattle.snippet_strokes.specs.Strokes.{stem_write}
 use Rattle.snippet_strokes.proofs.stems.draw_stem.Given as goal
 
 -- the stem is drawn down to this row
 abbrev pub invariant-loop-below : goal.invariant-loop-below
 invariant-loop-below l =
-    ((from : ℕ) → from ≤ l.cell → DrawsFrom l.row from l.initial.buffer l.buffer) × MarksStarts l.fn.layout.code (l.placed ∷ []) l.initial.buffer l.buffer
+    l.buffer ≡ painted (map (stem_write l.fn.layout l.fn.row l.placed) (range_with_len 0 l.below)) l.initial.buffer

@@ -1,22 +1,50 @@
-use Rattle.std.proofs.Common.{◌≡◌, ◌≢◌, ◌∙◌, ◌+◌, [], false, sym, subst, arith, length, get_or}
-use Rattle.std.proofs.lemmas.List.Elements.{All-cons, All-nil}
+use Rattle.std.proofs.Common.{◌≡◌, ◌∙◌, ◌+◌, ◌-◌, ◌∷◌, ◌<◌, List, ℕ, false, true, ap, sym, subst, arith, drop, length, take, All}
+use Rattle.std.proofs.lemmas.List.{drop_more, drop_all, length-drop, take_all}
+use Rattle.snippet_style.specs.Cell.{Cell}
+use Rattle.snippet_strokes.specs.declared.layout.Layout.{Layout}
 use Rattle.snippet_strokes.specs.declared.positions.PlacedEntry.{PlacedEntry}
-use Rattle.snippet_strokes.specs.Painting.{HasRows, StandsFrom}
-use Rattle.snippet_strokes.specs.Positions.{has_stem}
-use Rattle.snippet_strokes.proofs.DrawLemmas.{DrawsFrom-more}
+use Rattle.snippet_strokes.specs.Painting.{DrawsFrom, HasRows, MarksStarts}
+use Rattle.snippet_strokes.specs.Strokes.{is_hidden, stems_of}
+use Rattle.snippet_strokes.specs.Writes.{painted}
+use Rattle.snippet_strokes.proofs.StemWrites.{stem_count, stems_next, stems_none, stems_skip, stems_start, stems_within}
+use Rattle.snippet_strokes.proofs.WriteLaws.{DrawsFrom-painted}
+use Rattle.snippet_strokes.proofs.stems.draw_stems.Goals.{then-not-is_hidden+in_ok-draw_stem, else-not-is_hidden}
 use Rattle.snippet_strokes.proofs.stems.draw_stems.Goals as goal
 
-pub draw_stem-requires-clause-small : goal.draw_stem-requires-clause-small
-draw_stem-requires-clause-small c = omega (arith, (c.loop-entry.invariant.0 0 (λ k d within. omega arith)).count, c.requires.small)
-
-pub draw_stem-requires-clause-rows : goal.draw_stem-requires-clause-rows
-draw_stem-requires-clause-rows c =
-    subst (λ n. HasRows c.args.row n c.entry-item.result) (sym (c.loop-entry.invariant.0 0 (λ k d within. omega arith)).count) (subst (HasRows c.args.row (length c.args.buffer.now)) (sym c.entry-item.is) (c.requires.rows c.loop-entry.entry-index c.entry-item.result c.loop-entry-test.true))
-
-pub loop-entry-preserved : goal.loop-entry-preserved
-loop-entry-preserved c =
+pub loop-i-preserved : goal.loop-i-preserved
+loop-i-preserved c =
+    let layout = c.args.layout in
+    let row = c.args.row in
     let es = c.args.placed.now in
-    let i = c.loop-entry.entry-index in
-    let item = c.entry-item.result in
-    let is_item : item ≡ get_or es i item = c.entry-item.is in
-    (λ from all. DrawsFrom-more c.args.row from c.args.buffer.now c.loop-entry.buffer c.draw_stem.new.buffer (c.loop-entry.invariant.0 from all) (c.in_ok-draw_stem.ensures.draws from (subst (λ (x : PlacedEntry). StandsFrom c.args.layout.code from x.entry) (sym is_item) (all i item c.loop-entry-test.true))), λ none. c.in_ok-draw_stem.ensures.none (subst (λ x. has_stem x ≡ false) (sym is_item) (none i item c.loop-entry-test.true)) ∙ c.loop-entry.invariant.1 none, λ r k beside before. c.in_ok-draw_stem.ensures.starts r k (All-cons (λ (x : PlacedEntry). k ≢ c.args.layout.code + x.entry.start.display) item [] (subst (λ (x : PlacedEntry). k ≢ c.args.layout.code + x.entry.start.display) (sym is_item) (beside i item c.loop-entry-test.true)) (All-nil (λ (x : PlacedEntry). k ≢ c.args.layout.code + x.entry.start.display))) (c.loop-entry.invariant.2 r k beside before))
+    let i = c.loop-i.i in
+    let e = c.index-placed-i.result in
+    let later = drop (i + 1) es in
+    let mid = c.loop-i.buffer in
+    let whole : take (length es - (i + 1)) later ≡ later = take_all (length es - (i + 1)) later (omega (arith, length-drop (i + 1) es)) in
+    let hidden : c.is_hidden.result ≡ is_hidden e later = c.is_hidden.ensures.value ∙ ap (is_hidden e) whole in
+    let rest : drop i es ≡ e ∷ later = drop_more es i e c.loop-i-test.true ∙ ap (λ x. x ∷ later) (sym c.index-placed-i.is) in
+    let so_far = sym (ap (λ xs. painted (stems_of layout row xs) mid) rest) ∙ c.loop-i.invariant.0 in
+    let has : HasRows row (length mid) e = subst (λ n. HasRows row n e) (sym c.loop-i.invariant.1) (subst (HasRows row (length c.args.buffer.now)) (sym c.index-placed-i.is) (c.requires.rows i e c.loop-i-test.true)) in
+    elim c.if-not-is_hidden.branch [
+      | then-not-is_hidden+in_ok-draw_stem w ↦
+          let shown : is_hidden e later ≡ false = sym hidden ∙ cc in
+          (ap (painted (stems_of layout row later)) w.buffer-is ∙ stems_next layout row e later mid w.draw_stem.new.buffer shown (cc w.in_ok-draw_stem.ensures.painted) ∙ so_far, ap length w.buffer-is ∙ ap length (cc w.in_ok-draw_stem.ensures.painted) ∙ stem_count layout row e mid has ∙ c.loop-i.invariant.1)
+      | else-not-is_hidden w ↦
+          let covered : is_hidden e later ≡ true = sym hidden ∙ cc in
+          (ap (painted (stems_of layout row later)) w.buffer-is ∙ stems_skip layout row e later mid covered ∙ so_far, ap length w.buffer-is ∙ c.loop-i.invariant.1)
+    ]
+
+pub returns : goal.returns
+returns c =
+    let es = c.args.placed.now in
+    let old = c.args.buffer.now in
+    let layout = c.args.layout in
+    let row = c.args.row in
+    let none = drop_all c.loop-i.i es (omega (arith, c.loop-i-test.false)) in
+    let is : c.loop-i.buffer ≡ painted (stems_of layout row es) old = sym (ap (λ xs. painted (stems_of layout row xs) c.loop-i.buffer) none) ∙ c.loop-i.invariant.0 in
+    record {
+      painted = is;
+      draws = λ from stand. subst (DrawsFrom row from old) (sym is) (DrawsFrom-painted row from (stems_of layout row es) old (stems_within layout row (length old) from es c.requires.rows stand));
+      starts = subst (MarksStarts layout.code es old) (sym is) (stems_start layout row es old);
+      none = λ none. is ∙ ap (λ ws. painted ws old) (stems_none layout row es none);
+    }

@@ -1,9 +1,9 @@
-use Rattle.std.proofs.Common.{◌≡◌, ℕ, All, false}
-use Rattle.snippet_strokes.specs.Painting.{DrawsFrom, MarksStarts, StandsFrom}
-use Rattle.snippet_strokes.specs.Positions.{has_stem}
+use Rattle.std.proofs.Common.{◌≡◌, drop, length}
+use Rattle.snippet_strokes.specs.Strokes.{stems_of}
+use Rattle.snippet_strokes.specs.Writes.{painted}
 use Rattle.snippet_strokes.proofs.stems.draw_stems.Given as goal
 
--- the stems so far are drawn
-abbrev pub invariant-loop-entry : goal.invariant-loop-entry
-invariant-loop-entry l =
-    ((from : ℕ) → All (λ e. StandsFrom l.layout.code from e.entry) l.placed → DrawsFrom l.row from l.initial.buffer l.buffer) × (All (λ e. has_stem e ≡ false) l.placed → l.buffer ≡ l.initial.buffer) × MarksStarts l.layout.code l.placed l.initial.buffer l.buffer
+-- with the stems from this entry on all are written; and no row is added
+abbrev pub invariant-loop-i : goal.invariant-loop-i
+invariant-loop-i l =
+    (painted (stems_of l.layout l.row (drop l.i l.placed)) l.buffer ≡ painted (stems_of l.layout l.row l.placed) l.initial.buffer) × (length l.buffer ≡ length l.initial.buffer)

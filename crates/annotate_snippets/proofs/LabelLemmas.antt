@@ -1,0 +1,242 @@
+-- The labels of a line's entries are those of its spans.
+use Rattle.std.proofs.Common.{◌≡◌, ◌⊎◌, ℕ, zero, suc, ◌+◌, ◌-◌, ◌<◌, ◌≤◌, ◌==◌, ◌&&◌, ◌||◌, max, cond, not, Bool, true, false, None, Some, Option, List, [], ◌∷◌, ◌++◌, map, length, take, drop, get_or, count_by, refl, sym, ap, subst, ◌∙◌, arith, inl, inr}
+use Rattle.std.specs.List.{All, Contains, filter}
+use Rattle.std.specs.Prelude.{nat_le, nat_lt}
+use Rattle.std.proofs.lemmas.Bool.{and_parts}
+use Rattle.std.proofs.lemmas.List.{length-map, map-append}
+use Rattle.std.proofs.lemmas.List.Elements.{All-cons, All-filter, All-head, All-map, All-nil, All-tail, filter-append, filter_passes}
+use Rattle.std.proofs.lemmas.List.Sums.{sum_by-cons}
+use Rattle.snippet_grid.specs.Grid.{cell_at}
+use Rattle.snippet_style.specs.Cell.{Cell, unlinked_cell}
+use Rattle.snippet_model.specs.declared.snippet.Annotation.{Annotation}
+use Rattle.snippet_model.specs.declared.snippet.AnnotationKind.{AnnotationKind}
+use Rattle.snippet_lines.specs.Lines.{Source}
+use Rattle.snippet_view.specs.Annotated.{PartEntry, drawn, end_part, is_long, is_short, long_parts, long_place, long_places, long_spans, made_parts, parts_on, seen_part, single_part, span_parts, stands_among, start_part}
+use Rattle.snippet_view.specs.Depths.{depth_among}
+use Rattle.snippet_view.specs.declared.depths.LongPlace.{LongPlace}
+use Rattle.snippet_model.specs.declared.snippet.Snippet.{Snippet}
+use Rattle.annotate_snippets.specs.Gutter.{numbered_source}
+use Rattle.snippet_view.specs.Mark.{end_column, is_marked_on, is_marking, is_single_line, start_column}
+use Rattle.snippet_view.specs.Marked.{Entry, entry_of, first_line, seen_entry}
+use Rattle.snippet_view.specs.Measures.{is_bar}
+use Rattle.snippet_view.specs.declared.entries.LineAnnotation.{LineAnnotation}
+use Rattle.snippet_view.specs.declared.entries.LineAnnotationType.{LineAnnotationType}
+use Rattle.snippet_view.specs.declared.entries.LineAnnotationType.TheVariants.{Singleline, MultilineEnd}
+use Rattle.snippet_view.proofs.EntryFacts.{singles-on}
+use Rattle.snippet_view.proofs.PartLemmas.{HoldsOfSpan, filter-none, made-all}
+use Rattle.snippet_view.specs.Annotated.{bar_lines, bar_part, depth_of, long_entry}
+use Rattle.snippet_strokes.specs.Entries.{label_chars, label_role, label_text, shifted}
+use Rattle.snippet_strokes.specs.Labels.{IsLabelledAtEnd, LabelsStand, PlacedLabel, StandsIn, is_cell_of}
+use Rattle.snippet_strokes.specs.Positions.{is_start_part}
+use Rattle.snippet_strokes.specs.declared.layout.Layout.{Layout}
+use Rattle.annotate_snippets.specs.declared.renderer.frame.Frame.{Frame}
+use Rattle.annotate_snippets.specs.Shown.{ShowsLabel, ShowsLabels, ShownLabel, SpanLabel, cell_of, drawn_spans, is_in_label, label_of_end, label_of_span, labels_ending_on, normalized_chars, shown_label}
+use Rattle.annotate_snippets.proofs.MarkLemmas.{end_of_entry, label_is, start_of_entry}
+
+head_same : {X : Type 0} (x y : X) (xs ys : List X) → x ∷ xs ≡ y ∷ ys → x ≡ y
+head_same x y xs ys same = cc
+
+tail_same : {X : Type 0} (x y : X) (xs ys : List X) → x ∷ xs ≡ y ∷ ys → xs ≡ ys
+tail_same x y xs ys same = cc
+
+-- ---- which entries have labels
+
+-- the start of a span of several lines, and a bar, have none
+abbrev HasNoneBefore : PartEntry → Type 0
+HasNoneBefore p = (is_start_part p.part || is_bar p.part) ≡ true → p.entry.label ≡ None
+
+none_before : (s : Source) (marks : List Annotation) → All HasNoneBefore (made_parts s marks)
+none_before s marks =
+    made-all HasNoneBefore s marks (λ a among short wrong. cc wrong) (λ a among long kind.
+    let e : Entry = record (long_entry s a) { kind = kind } in
+    record {
+      start = λ _. refl;
+      bars = λ i d within _. refl;
+      end = λ wrong. cc wrong;
+      again = λ wrong. cc wrong;
+    })
+
+-- so an entry of a line has a label only where a span ends
+pub labelled_at_end : (s : Source) (marks : List Annotation) (k dropped : ℕ) (es : List LineAnnotation) → map seen_part es ≡ parts_on s marks k → All IsLabelledAtEnd (map (shifted dropped) es)
+labelled_at_end s marks k dropped es same =
+    each es (subst (All HasNoneBefore) (sym same) (All-filter (λ (p : PartEntry). p.entry.start.line == s.first + k) HasNoneBefore (made_parts s marks) (none_before s marks)))
+  where
+    own : (e : LineAnnotation) → HasNoneBefore (seen_part e) → IsLabelledAtEnd (shifted dropped e)
+    own e none before = label_is e.label ∙ no_text (none before)
+      where
+        no_text : {o : Option (List ℕ)} → o ≡ None → normalized_chars o ≡ []
+        no_text is = ap normalized_chars is
+
+    each : (xs : List LineAnnotation) → All HasNoneBefore (map seen_part xs) → All IsLabelledAtEnd (map (shifted dropped) xs)
+    each [] all = All-nil IsLabelledAtEnd
+    each (x ∷ xs) all =
+        All-cons IsLabelledAtEnd (shifted dropped x) (map (shifted dropped) xs) (own x (All-head HasNoneBefore (seen_part x) (map seen_part xs) all)) (each xs (All-tail HasNoneBefore (seen_part x) (map seen_part xs) all))
+
+-- ---- the labels of the entries at which spans end
+
+-- whether an entry is one at which a span ends
+abbrev ends_here : PartEntry → Bool
+ends_here p = not (is_start_part p.part || is_bar p.part)
+
+-- the label of an entry
+abbrev label_of_part : PartEntry → SpanLabel
+label_of_part p =
+    record { text = normalized_chars p.entry.label; kind = p.entry.kind; from = p.entry.start.display; to = p.entry.end.display }
+
+-- the labels of those entries, at their places
+abbrev shown_at : LineAnnotation → PlacedLabel → ShownLabel
+shown_at e l = record { label = label_of_part (seen_part e); row = l.row; cell = l.cell }
+
+shown_labels : List LineAnnotation → List PlacedLabel → List ShownLabel
+shown_labels [] ls = []
+shown_labels (e ∷ es) [] = []
+shown_labels (e ∷ es) (l ∷ ls) =
+    cond (ends_here (seen_part e)) (shown_at e l ∷ shown_labels es ls) (shown_labels es ls)
+
+labels_are : (es : List LineAnnotation) (ls : List PlacedLabel) → length ls ≡ length es → map (λ (l : ShownLabel). l.label) (shown_labels es ls) ≡ map label_of_part (filter ends_here (map seen_part es))
+unfolding shown_labels
+labels_are [] ls long = refl
+labels_are (e ∷ es) [] long = absurd (omega (arith, long))
+labels_are (e ∷ es) (l ∷ ls) long =
+    both (ends_here (seen_part e)) (labels_are es ls (omega (arith, long)))
+  where
+    both : (b : Bool) → map (λ (x : ShownLabel). x.label) (shown_labels es ls) ≡ map label_of_part (filter ends_here (map seen_part es)) → map (λ (x : ShownLabel). x.label) (cond b (shown_at e l ∷ shown_labels es ls) (shown_labels es ls)) ≡ map label_of_part (cond b (seen_part e ∷ filter ends_here (map seen_part es)) (filter ends_here (map seen_part es)))
+    both true rest = ap (λ xs. label_of_part (seen_part e) ∷ xs) rest
+    both false rest = rest
+
+module _ (dropped : ℕ) (frame : Frame) (layout : Layout) (code : layout.code ≡ frame.code) (rows : List (List Cell)) where
+  abbrev IsClear : LineAnnotation → Type 0
+  IsClear e = is_bar e.annotation_type ≡ false → dropped ≤ e.start.display
+
+  abbrev Stands : PlacedLabel → Type 0
+  Stands l = 0 < length (label_text l.entry) → StandsIn layout rows l
+
+  abbrev Shows : ShownLabel → Type 0
+  Shows l = 0 < length l.label.text → ShowsLabel frame dropped rows l
+
+  text_is : (e : LineAnnotation) (l : PlacedLabel) → l.entry ≡ shifted dropped e → label_text l.entry ≡ normalized_chars (seen_part e).entry.label
+  text_is e l entry = ap label_text entry ∙ label_is e.label
+
+  one_label : (e : LineAnnotation) (l : PlacedLabel) → l.entry ≡ shifted dropped e → IsClear e → ends_here (seen_part e) ≡ true → Stands l → Shows (shown_at e l)
+  one_label e l entry clear ends stands some =
+      let text = text_is e l entry in
+      let there : StandsIn layout rows l = stands (omega (arith, ap length text, some)) in
+      let right : dropped ≤ e.start.display = clear (no_bar (is_start_part e.annotation_type) (is_bar e.annotation_type) ends) in
+      let start : l.entry.start.display ≡ e.start.display - dropped = ap (λ (x : LineAnnotation). x.start.display) entry in
+      let end : l.entry.end.display ≡ e.end.display - dropped = ap (λ (x : LineAnnotation). x.end.display) entry in
+      let kind : l.entry.kind ≡ e.kind = ap (λ (x : LineAnnotation). x.kind) entry in
+      record {
+        whole = λ n within. there.whole n (omega (arith, within, ap length text)) ∙ ap (λ (x : AnnotationKind). unlinked_cell (label_role x) (get_or (label_text l.entry) n 0)) kind ∙ ap (λ (cs : List ℕ). unlinked_cell (label_role e.kind) (get_or cs n 0)) text;
+        place = elim there.place [
+          | inl at ↦ inl (at.0, at.1 ∙ ap (λ m. layout.code + max m 1 + 1) end ∙ ap (λ m. m + max (e.end.display - dropped) 1 + 1) code)
+          | inr at ↦ inr (at.0, omega (arith, at.1, start, right, code))
+        ];
+      }
+    where
+      no_bar : (a b : Bool) → not (a || b) ≡ true → b ≡ false
+      no_bar true b is = cc is
+      no_bar false true is = cc is
+      no_bar false false is = refl
+
+  all_shown : (es : List LineAnnotation) (ls : List PlacedLabel) → map (λ (l : PlacedLabel). l.entry) ls ≡ map (shifted dropped) es → All IsClear es → All Stands ls → All Shows (shown_labels es ls)
+  unfolding shown_labels
+  all_shown [] ls entries clear stand = All-nil Shows
+  all_shown (e ∷ es) [] entries clear stand = cc entries
+  all_shown (e ∷ es) (l ∷ ls) entries clear stand =
+      let entry = head_same l.entry (shifted dropped e) (map (λ (x : PlacedLabel). x.entry) ls) (map (shifted dropped) es) entries in
+      let further = tail_same l.entry (shifted dropped e) (map (λ (x : PlacedLabel). x.entry) ls) (map (shifted dropped) es) entries in
+      both (ends_here (seen_part e)) (one_label e l entry (All-head IsClear e es clear)) (All-head Stands l ls stand) (all_shown es ls further (All-tail IsClear e es clear) (All-tail Stands l ls stand))
+    where
+      both : (b : Bool) → (b ≡ true → Stands l → Shows (shown_at e l)) → Stands l → All Shows (shown_labels es ls) → All Shows (cond b (shown_at e l ∷ shown_labels es ls) (shown_labels es ls))
+      both true own stands rest = All-cons Shows (shown_at e l) (shown_labels es ls) (own refl stands) rest
+      both false own stands rest = rest
+
+  -- a cell is in no more of these than of all the entries' labels
+  cells_few : (r c : ℕ) (es : List LineAnnotation) (ls : List PlacedLabel) → map (λ (l : PlacedLabel). l.entry) ls ≡ map (shifted dropped) es → count_by (is_in_label r c) (shown_labels es ls) ≤ count_by (is_cell_of r c) ls
+  unfolding shown_labels
+  cells_few r c [] ls entries = omega arith
+  cells_few r c (e ∷ es) [] entries = omega arith
+  cells_few r c (e ∷ es) (l ∷ ls) entries =
+      let entry = head_same l.entry (shifted dropped e) (map (λ (x : PlacedLabel). x.entry) ls) (map (shifted dropped) es) entries in
+      let further = tail_same l.entry (shifted dropped e) (map (λ (x : PlacedLabel). x.entry) ls) (map (shifted dropped) es) entries in
+      let one : is_in_label r c (shown_at e l) ≡ is_cell_of r c l = ap (λ (n : ℕ). l.row == r && (nat_le l.cell c && nat_lt c (l.cell + n))) (sym (ap length (text_is e l entry))) in
+      both (ends_here (seen_part e)) one (cells_few r c es ls further)
+    where
+      both : (b : Bool) → is_in_label r c (shown_at e l) ≡ is_cell_of r c l → count_by (is_in_label r c) (shown_labels es ls) ≤ count_by (is_cell_of r c) ls → count_by (is_in_label r c) (cond b (shown_at e l ∷ shown_labels es ls) (shown_labels es ls)) ≤ count_by (is_cell_of r c) (l ∷ ls)
+      both true one rest =
+          let f : ShownLabel → ℕ = λ x. cond (is_in_label r c x) 1 0 in
+          let g : PlacedLabel → ℕ = λ x. cond (is_cell_of r c x) 1 0 in
+          let same : f (shown_at e l) ≡ g l = ap (λ b. cond b 1 0) one in
+          omega (arith, rest, same, sum_by-cons f (shown_at e l) (shown_labels es ls), sum_by-cons g l ls)
+      both false one rest =
+          let g : PlacedLabel → ℕ = λ x. cond (is_cell_of r c x) 1 0 in
+          omega (arith, rest, sum_by-cons g l ls)
+
+-- ---- which spans these are
+
+-- of the entries of a span of several lines the last one alone is where it ends
+one_end : (s : Source) (k depth : ℕ) (again : Bool) (e : Entry) → map label_of_part (filter ends_here (filter (λ (p : PartEntry). p.entry.start.line == s.first + k) (span_parts s depth again e))) ≡ map label_of_end (cond (e.end.line == s.first + k) (e ∷ []) [])
+one_end s k depth true e = both (e.end.line == s.first + k)
+  where
+    both : (b : Bool) → map label_of_part (filter ends_here (cond b (end_part e Singleline ∷ []) [])) ≡ map label_of_end (cond b (e ∷ []) [])
+    both true = refl
+    both false = refl
+one_end s k depth false e =
+    let bars : List PartEntry = map (λ n. bar_part e depth (s.first + n)) (bar_lines s.text (e.start.line - s.first) (e.end.line - s.first)) in
+    let rest : List PartEntry = bars ++ end_part e (MultilineEnd depth) ∷ [] in
+    ap (map label_of_part) (first (e.start.line == s.first + k) (filter on_line rest)) ∙ ap (λ ps. map label_of_part (filter ends_here ps)) (filter-append on_line bars (end_part e (MultilineEnd depth) ∷ [])) ∙ ap (map label_of_part) (filter-append ends_here (filter on_line bars) (filter on_line (end_part e (MultilineEnd depth) ∷ []))) ∙ ap (λ ps. map label_of_part (ps ++ filter ends_here (filter on_line (end_part e (MultilineEnd depth) ∷ [])))) (filter-none ends_here (filter on_line bars) (All-filter on_line (λ p. ends_here p ≡ false) bars (All-map (λ p. ends_here p ≡ false) (λ n. bar_part e depth (s.first + n)) (bar_lines s.text (e.start.line - s.first) (e.end.line - s.first)) (λ i d within. refl)))) ∙ both (e.end.line == s.first + k)
+  where
+    on_line : PartEntry → Bool
+    on_line = λ (p : PartEntry). p.entry.start.line == s.first + k
+
+    first : (b : Bool) (ps : List PartEntry) → filter ends_here (cond b (start_part e depth ∷ ps) ps) ≡ filter ends_here ps
+    first true ps = refl
+    first false ps = refl
+
+    both : (b : Bool) → map label_of_part (filter ends_here (cond b (end_part e (MultilineEnd depth) ∷ []) [])) ≡ map label_of_end (cond b (e ∷ []) [])
+    both true = refl
+    both false = refl
+
+long_ends : (s : Source) (k : ℕ) (places : List LongPlace) (before es : List Entry) → map label_of_part (filter ends_here (filter (λ (p : PartEntry). p.entry.start.line == s.first + k) (long_parts s places before es))) ≡ map label_of_end (filter (λ (e : Entry). e.end.line == s.first + k) (drawn_spans before es))
+long_ends s k places before [] = refl
+long_ends s k places before (e ∷ later) =
+    let on_line : PartEntry → Bool = λ (p : PartEntry). p.entry.start.line == s.first + k in
+    let own : List PartEntry = span_parts s (depth_among places (long_place e)) (stands_among e later) (drawn before e) in
+    let others : List PartEntry = long_parts s places (before ++ e ∷ []) later in
+    let ends : Entry → Bool = λ (x : Entry). x.end.line == s.first + k in
+    let rest : List Entry = drawn_spans (before ++ e ∷ []) later in
+    ap (λ ps. map label_of_part (filter ends_here ps)) (filter-append on_line own others) ∙ ap (map label_of_part) (filter-append ends_here (filter on_line own) (filter on_line others)) ∙ map-append label_of_part (filter ends_here (filter on_line own)) (filter ends_here (filter on_line others)) ∙ ap (λ xs. xs ++ map label_of_part (filter ends_here (filter on_line others))) (one_end s k (depth_among places (long_place e)) (stands_among e later) (drawn before e)) ∙ ap (λ xs. map label_of_end (cond (ends (drawn before e)) (drawn before e ∷ []) []) ++ xs) (long_ends s k places (before ++ e ∷ []) later) ∙ both (ends (drawn before e)) (filter ends rest)
+  where
+    both : (b : Bool) (xs : List Entry) → map label_of_end (cond b (drawn before e ∷ []) []) ++ map label_of_end xs ≡ map label_of_end (cond b (drawn before e ∷ xs) xs)
+    both true xs = refl
+    both false xs = refl
+
+-- a span on one line has its entry's label
+single_labels : (s : Source) (k : ℕ) (marked : List Annotation) → All (λ a. is_marked_on s.text k a ≡ true) marked → map label_of_part (filter ends_here (map (single_part s) marked)) ≡ map (label_of_span s.text) marked
+single_labels s k [] own = refl
+single_labels s k (a ∷ marked) own =
+    let O : Annotation → Type 0 = λ x. is_marked_on s.text k x ≡ true in
+    let single : is_single_line s.text a ≡ true = (and_parts (is_marking a.kind) (is_single_line s.text a) (and_parts (is_marking a.kind && is_single_line s.text a) (first_line s.text a == k) (All-head O a marked own)).0).1 in
+    let rest = single_labels s k marked (All-tail O a marked own) in
+    let here : label_of_part (single_part s a) ≡ label_of_span s.text a = ap (λ n. record { text = shown_label a; kind = a.kind; from = n; to = (entry_of s a).end.display }) (start_of_entry s a) ∙ ap (λ n. record { text = shown_label a; kind = a.kind; from = start_column s.text a; to = n }) (end_of_entry s a single) in
+    ap (λ x. x ∷ map label_of_part (filter ends_here (map (single_part s) marked))) here ∙ ap (λ xs. label_of_span s.text a ∷ xs) rest
+
+-- ---- the labels of a line
+
+-- the labels of the spans that end on line k stand below it, whatever other entries the line has
+pub labels_shown : (sn : Snippet Annotation) (k dropped : ℕ) (frame : Frame) (layout : Layout) (es : List LineAnnotation) (rows : List (List Cell)) → layout.code ≡ frame.code → map seen_part es ≡ parts_on (numbered_source sn) sn.markers.items k → All (λ e. is_bar e.annotation_type ≡ false → dropped ≤ e.start.display) es → LabelsStand layout (map (shifted dropped) es) rows → ShowsLabels frame sn k dropped rows
+labels_shown sn k dropped frame layout es rows code same clear stand =
+    let s : Source = numbered_source sn in
+    let marks : List Annotation = sn.markers.items in
+    let on_line : PartEntry → Bool = λ (p : PartEntry). p.entry.start.line == s.first + k in
+    let marked : List Annotation = filter (is_marked_on s.text k) marks in
+    let singles : List PartEntry = map (single_part s) marked in
+    let longs : List PartEntry = filter on_line (long_parts s (long_places s marks) [] (long_spans s marks)) in
+    let parts : map seen_part es ≡ singles ++ longs = same ∙ filter-append on_line (map (single_part s) (filter (is_short s.text) marks)) (long_parts s (long_places s marks) [] (long_spans s marks)) ∙ ap (λ ps. ps ++ longs) (singles-on s marks k) in
+    let long : length stand.labels ≡ length es = sym (length-map stand.labels (λ (l : PlacedLabel). l.entry)) ∙ ap length stand.are ∙ length-map es (shifted dropped) in
+    record {
+      labels = shown_labels es stand.labels;
+      spans = labels_are es stand.labels long ∙ ap (λ ps. map label_of_part (filter ends_here ps)) parts ∙ ap (map label_of_part) (filter-append ends_here singles longs) ∙ map-append label_of_part (filter ends_here singles) (filter ends_here longs) ∙ ap (λ xs. xs ++ map label_of_part (filter ends_here longs)) (single_labels s k marked (filter_passes (is_marked_on s.text k) marks)) ∙ ap (λ xs. map (label_of_span s.text) marked ++ xs) (long_ends s k (long_places s marks) [] (long_spans s marks));
+      stand = all_shown dropped frame layout code rows es stand.labels stand.are clear stand.stand;
+      apart = λ r c. omega (arith, cells_few dropped frame layout code rows r c es stand.labels stand.are, stand.apart r c);
+    }

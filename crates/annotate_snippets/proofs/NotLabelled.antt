@@ -1,0 +1,92 @@
+-- Rows in which a label is lost: each contradicts what is shown of labels.
+use Rattle.std.proofs.Common.{◌≡◌, ℕ, suc, ◌+◌, ◌<◌, ◌≤◌, ◌==◌, ◌&&◌, cond, Bool, true, false, List, [], ◌∷◌, map, length, get_or, count_by, refl, sym, ap, subst, ◌∙◌, arith}
+use Rattle.std.specs.List.{All, Contains, filter}
+use Rattle.std.specs.Prelude.{nat_le, nat_lt}
+use Rattle.std.specs.Cow.{cow_str_bytes}
+use Rattle.std.proofs.lemmas.Bool.{false≢true}
+use Rattle.std.proofs.lemmas.Bool.Decides.{nat_tests}
+use Rattle.std.proofs.lemmas.List.Elements.{All-contains, All-head, All-tail}
+use Rattle.std.proofs.lemmas.List.Sums.{sum_by-cons}
+use Rattle.snippet_grid.specs.Grid.{cell_at}
+use Rattle.snippet_style.specs.Cell.{Cell}
+use Rattle.snippet_style.specs.declared.role.ElementStyle.{ElementStyle}
+use Rattle.snippet_style.specs.declared.role.ElementStyle.TheVariants.{LabelPrimary, LabelSecondary}
+use Rattle.snippet_model.specs.declared.snippet.Annotation.{Annotation}
+use Rattle.snippet_model.specs.declared.snippet.AnnotationKind.{AnnotationKind}
+use Rattle.snippet_model.specs.declared.snippet.AnnotationKind.TheVariants.{Primary, Context, Visible}
+use Rattle.snippet_model.specs.declared.snippet.Snippet.{Snippet}
+use Rattle.snippet_view.specs.Mark.{is_marked_on}
+use Rattle.snippet_strokes.proofs.MarkLemmas.{from_map}
+use Rattle.snippet_strokes.specs.Entries.{label_role}
+use Rattle.annotate_snippets.specs.declared.renderer.frame.Frame.{Frame}
+use Rattle.annotate_snippets.specs.Shown.{ShowsLabel, ShowsLabels, ShownLabel, SpanLabel, is_in_label, labels_ending_on}
+
+-- whether a role is that of labels
+abbrev pub is_label_role : ElementStyle → Bool
+is_label_role LabelPrimary = true
+is_label_role LabelSecondary = true
+is_label_role other = false
+
+label_role_is : (kind : AnnotationKind) → is_label_role (label_role kind) ≡ true
+label_role_is Primary = refl
+label_role_is Context = refl
+label_role_is Visible = refl
+
+-- a label that stands begins with a cell in such a role
+begins : (frame : Frame) (dropped : ℕ) (rows : List (List Cell)) (l : ShownLabel) → 0 < length l.label.text → ShowsLabel frame dropped rows l → is_label_role (cell_at rows l.row l.cell).role ≡ true
+begins frame dropped rows l some shows =
+    let first : l.cell + 0 ≡ l.cell = omega arith in
+    ap (λ c. is_label_role (cell_at rows l.row c).role) (sym first) ∙ ap (λ (cell : Cell). is_label_role cell.role) (shows.whole 0 some) ∙ label_role_is l.label.kind
+
+-- rows without any cell in the role of labels, below a line on which a span ends that has a label:
+--
+--     1 | ab cd
+--       | ^^ --
+pub label_left_out : (frame : Frame) (s : Snippet Annotation) (k dropped : ℕ) (rows : List (List Cell)) → ShowsLabels frame s k dropped rows → (a : SpanLabel) → Contains (labels_ending_on s k) a → 0 < length a.text → ((r c : ℕ) → is_label_role (cell_at rows r c).role ≡ false) → ⊥
+label_left_out frame s k dropped rows shows a among some none =
+    let P : ShownLabel → Type 0 = λ l. 0 < length l.label.text → ShowsLabel frame dropped rows l in
+    let found = from_map (λ (l : ShownLabel). l.label) shows.labels a (subst (λ spans. Contains spans a) (sym shows.spans) among) in
+    let l : ShownLabel = found.0 in
+    let own : 0 < length l.label.text = omega (arith, some, ap (λ (x : SpanLabel). length x.text) found.2) in
+    false≢true (sym (none l.row l.cell) ∙ begins frame dropped rows l own (All-contains P shows.labels l shows.stand found.1 own))
+
+-- the label stands, if it has anything to show
+abbrev Stands : Frame → ℕ → List (List Cell) → ShownLabel → Type 0
+Stands frame dropped rows l = 0 < length l.label.text → ShowsLabel frame dropped rows l
+
+-- rows with one such cell alone, below a line on which two spans end that have a label, be it the same one: the labels stand over one
+-- another:
+--
+--     1 | ab cd
+--       | ^^ -- x
+pub label_over_another : (frame : Frame) (s : Snippet Annotation) (k dropped : ℕ) (rows : List (List Cell)) → ShowsLabels frame s k dropped rows → (a b : SpanLabel) → labels_ending_on s k ≡ a ∷ b ∷ [] → 0 < length a.text → 0 < length b.text → (row cell : ℕ) → ((r c : ℕ) → is_label_role (cell_at rows r c).role ≡ true → (r ≡ row) × (c ≡ cell)) → ⊥
+label_over_another frame s k dropped rows shows a b spans some_a some_b row cell alone =
+    over shows.labels (shows.spans ∙ spans) shows.stand (shows.apart row cell)
+  where
+    -- each of the two holds that cell
+    holds : (l : ShownLabel) → 0 < length l.label.text → Stands frame dropped rows l → is_in_label row cell l ≡ true
+    holds l some stands =
+        let at = alone l.row l.cell (begins frame dropped rows l some (stands some)) in
+        inside l.row l.cell row cell (length l.label.text) at.0 at.1 some
+      where
+        inside : (r c row cell n : ℕ) → r ≡ row → c ≡ cell → 0 < n → (r == row && (nat_le c cell && nat_lt cell (c + n))) ≡ true
+        inside r c row cell n one two some = grind (arith, nat_tests, one, two, some)
+
+    two : (p q : Bool) → p ≡ true → q ≡ true → cond p 1 0 + (cond q 1 0 + 0) ≤ 1 → ⊥
+    two p q first second few =
+        let one : ◌≡◌ {A = ℕ} (cond p 1 0) 1 = ap (λ x. cond x 1 0) first in
+        let other : ◌≡◌ {A = ℕ} (cond q 1 0) 1 = ap (λ x. cond x 1 0) second in
+        omega (arith, few, one, other)
+
+    over : (labels : List ShownLabel) → map (λ (l : ShownLabel). l.label) labels ≡ a ∷ b ∷ [] → All (Stands frame dropped rows) labels → count_by (is_in_label row cell) labels ≤ 1 → ⊥
+    over [] are stand few = cc are
+    over (l ∷ []) are stand few = cc are
+    over (l ∷ m ∷ []) are stand few =
+        let first : l.label ≡ a = cc are in
+        let second : m.label ≡ b = cc are in
+        let own : 0 < length l.label.text = omega (arith, some_a, ap (λ (x : SpanLabel). length x.text) first) in
+        let its : 0 < length m.label.text = omega (arith, some_b, ap (λ (x : SpanLabel). length x.text) second) in
+        let f : ShownLabel → ℕ = λ x. cond (is_in_label row cell x) 1 0 in
+        let P : ShownLabel → Type 0 = Stands frame dropped rows in
+        two (is_in_label row cell l) (is_in_label row cell m) (holds l own (All-head P l (m ∷ []) stand)) (holds m its (All-head P m [] (All-tail P l (m ∷ []) stand))) (omega (arith, few, sum_by-cons f l (m ∷ []), sum_by-cons f m []))
+    over (l ∷ m ∷ n ∷ labels) are stand few = cc are

@@ -1,0 +1,201 @@
+-- The labels of entries, in the order in which the entries are given.
+use Rattle.std.proofs.Common.{◌≡◌, ℕ, zero, suc, ◌+◌, ◌-◌, ◌<◌, ◌≤◌, ◌==◌, ◌&&◌, nat_le, nat_lt, not, max, cond, Bool, true, false, List, [], ◌∷◌, length, map, get_or, set, refl, sym, ap, ◌∙◌, subst, arith, inl, inr, ◌⊎◌, All, chars, count_by}
+use Rattle.std.specs.List.{swap}
+use Rattle.std.specs.List.Sorted.{IsPermutation}
+use Rattle.std.specs.Cow.{cow_str_bytes}
+use Rattle.std.proofs.lemmas.Bool.{and_parts, cases_Bool, cases_eq, eq-eqb}
+use Rattle.std.proofs.lemmas.Bool.Decides.{nat_tests}
+use Rattle.std.proofs.lemmas.List.{get_or-map, map-set}
+use Rattle.std.proofs.lemmas.List.Elements.{All-head, All-map, All-nil, All-tail}
+use Rattle.std.proofs.lemmas.List.Sorted.{All-permutation, IsPermutation-keeps, IsPermutation-refl, IsPermutation-swap, IsPermutation-sym, IsPermutation-trans, sum_by-IsPermutation}
+use Rattle.std.proofs.lemmas.List.Sums.{sum_by-cons}
+use Rattle.snippet_grid.specs.Grid.{cell_at}
+use Rattle.snippet_style.specs.Cell.{Cell, unlinked_cell}
+use Rattle.snippet_view.specs.declared.entries.LineAnnotation.{LineAnnotation}
+use Rattle.snippet_strokes.specs.declared.layout.Layout.{Layout}
+use Rattle.snippet_strokes.specs.declared.positions.PlacedEntry.{PlacedEntry}
+use Rattle.snippet_strokes.specs.Entries.{HasPlace, label_role, label_text}
+use Rattle.snippet_strokes.specs.Labels.{LabelsStand, PlacedLabel, StandsIn, StandsWhole, is_cell_of}
+use Rattle.snippet_strokes.specs.Positions.{ArePlaced, HasItsLabel, has_label, label_place}
+use Rattle.snippet_strokes.specs.Strokes.{label_write}
+use Rattle.snippet_strokes.specs.Writes.{Reaches}
+use Rattle.snippet_strokes.proofs.LabelLaw.{label_parts, placed_apart}
+
+-- ---- what a rule gives for things in another order
+
+map-swap : {X Y : Type 0} (f : X → Y) (xs : List X) (i j : ℕ) → i < length xs → j < length xs → map f (swap xs i j) ≡ swap (map f xs) i j
+map-swap f [] i j first second = refl
+map-swap f (d ∷ ys) i j first second =
+    let xs = d ∷ ys in
+    map-set f (set xs i (get_or xs j d)) j (get_or xs i d) ∙ ap (λ l. set l j (f (get_or xs i d))) (map-set f xs i (get_or xs j d)) ∙ ap (λ y. set (set (map f xs) i y) j (f (get_or xs i d))) (sym (get_or-map f xs j d (f d) second)) ∙ ap (λ y. set (set (map f xs) i (get_or (map f xs) j (f d))) j y) (sym (get_or-map f xs i d (f d) first))
+
+-- things whose values were put in another order, in that order
+pub record Reordered {X Y : Type 0} (f : X → Y) (xs : List X) (ys : List Y) : Type 0 where
+  pub order : List X
+  pub are : map f order ≡ ys
+  pub same : IsPermutation xs order
+
+pub reordered : {X Y : Type 0} (f : X → Y) (xs : List X) (ys : List Y) → IsPermutation (map f xs) ys → Reordered f xs ys
+reordered f xs ys moved =
+    IsPermutation-keeps (map f xs) (Reordered f xs) (record { order = xs; are = refl; same = IsPermutation-refl xs }) (λ l i j first second before.
+    let order = before.order in
+    let long : length order ≡ length l = sym (length_map f order) ∙ ap length before.are in
+    let inside_i : i < length order = omega (arith, first, long) in
+    let inside_j : j < length order = omega (arith, second, long) in
+    record {
+      order = swap order i j;
+      are = map-swap f order i j inside_i inside_j ∙ ap (λ zs. swap zs i j) before.are;
+      same = IsPermutation-trans xs order (swap order i j) before.same (IsPermutation-swap order (swap order i j) i j inside_i inside_j refl);
+    }) ys moved
+  where
+    length_map : {X Y : Type 0} (f : X → Y) (xs : List X) → length (map f xs) ≡ length xs
+    length_map f [] = refl
+    length_map f (x ∷ xs) = ap suc (length_map f xs)
+
+-- ---- a test that at most one passes
+
+none_pass : {X : Type 0} (q : X → Bool) (xs : List X) → ((j : ℕ) (d : X) → j < length xs → q (get_or xs j d) ≡ false) → count_by q xs ≡ 0
+none_pass q [] none = refl
+none_pass q (x ∷ xs) none =
+    let here : ◌≡◌ {A = ℕ} (cond (q x) 1 0) 0 = ap (λ b. cond b 1 0) (none 0 x (omega arith)) in
+    omega (arith, sum_by-cons (λ y. cond (q y) 1 0) x xs, here, none_pass q xs (λ j d within. none (suc j) d (omega (arith, within))))
+
+one_passes : {X : Type 0} (q : X → Bool) (xs : List X) → ((i j : ℕ) (d d2 : X) → i < j → j < length xs → q (get_or xs i d) ≡ true → q (get_or xs j d2) ≡ true → ⊥) → count_by q xs ≤ 1
+one_passes q [] apart = omega arith
+one_passes q (x ∷ xs) apart =
+    elim (cases_Bool (q x)) [
+      | inl passes ↦
+          let rest : count_by q xs ≡ 0 = none_pass q xs (λ j d within. elim (cases_Bool (q (get_or xs j d))) [
+            | inl other ↦ absurd (apart 0 (suc j) x d (omega arith) (omega (arith, within)) passes other)
+            | inr fails ↦ fails
+          ]) in
+          let here : ◌≡◌ {A = ℕ} (cond (q x) 1 0) 1 = ap (λ b. cond b 1 0) passes in
+          omega (arith, sum_by-cons (λ y. cond (q y) 1 0) x xs, here, rest)
+      | inr fails ↦
+          let here : ◌≡◌ {A = ℕ} (cond (q x) 1 0) 0 = ap (λ b. cond b 1 0) fails in
+          omega (arith, sum_by-cons (λ y. cond (q y) 1 0) x xs, here, one_passes q xs (λ i j d d2 before within. apart (suc i) (suc j) d d2 (omega (arith, before)) (omega (arith, within))))
+    ]
+
+count-map : {X Y : Type 0} (q : Y → Bool) (f : X → Y) (xs : List X) → count_by q (map f xs) ≡ count_by (λ x. q (f x)) xs
+count-map q f [] = refl
+count-map q f (x ∷ xs) =
+    sum_by-cons (λ y. cond (q y) 1 0) (f x) (map f xs) ∙ ap (λ n. cond (q (f x)) 1 0 + n) (count-map q f xs) ∙ sym (sum_by-cons (λ y. cond (q (f y)) 1 0) x xs)
+
+-- ---- labels
+
+-- the label of an entry that has its place
+abbrev pub placed_label : Layout → PlacedEntry → PlacedLabel
+placed_label layout e =
+    record { entry = e.entry; row = (label_place e).0; cell = layout.code + (label_place e).1 }
+
+-- a label that shows anything is one
+pub shows_label : (e : PlacedEntry) → HasItsLabel e → 0 < length (label_text e.entry) → has_label e ≡ true
+shows_label e has some = by_length (length (chars (cow_str_bytes e.label))) (omega (arith, ap length has, some))
+  where
+    by_length : (n : ℕ) → 0 < n → not (n == 0) ≡ true
+    by_length n is = grind (arith, nat_tests, is)
+
+-- where a label begins
+stands_at : (layout : Layout) (e : PlacedEntry) → let l = placed_label layout e in ((l.row ≡ 0) × (l.cell ≡ layout.code + max e.entry.end.display 1 + 1)) ⊎ ((0 < l.row) × (l.cell ≡ layout.code + e.entry.start.display))
+stands_at layout e =
+    elim (label_parts e) [
+      | inl at ↦
+          let place : label_place e ≡ (0, cond (e.entry.end.display == 0) 2 (e.entry.end.display + 1)) = ap (λ b. cond b (0, cond (e.entry.end.display == 0) 2 (e.entry.end.display + 1)) (e.position + 1, e.entry.start.display)) (eq-eqb e.position 0 at.position) in
+          let column : (label_place e).1 ≡ cond (e.entry.end.display == 0) 2 (e.entry.end.display + 1) = ap (λ (x : ℕ × ℕ). x.1) place in
+          inl (at.row, omega (arith, column, after e.entry.end.display))
+      | inr at ↦ inr (omega (arith, at.row), omega (arith, at.column))
+    ]
+  where
+    after : (n : ℕ) → cond (n == 0) 2 (n + 1) ≡ max n 1 + 1
+    after n = grind (arith, nat_tests)
+
+-- the cell is reached by the label's write
+reached : (layout : Layout) (e : PlacedEntry) (r c : ℕ) → is_cell_of r c (placed_label layout e) ≡ true → Reaches r c (label_write layout 0 e)
+reached layout e r c is =
+    let outer = and_parts ((label_place e).0 == r) (nat_le (layout.code + (label_place e).1) c && nat_lt c (layout.code + (label_place e).1 + length (label_text e.entry))) is in
+    let inner = and_parts (nat_le (layout.code + (label_place e).1) c) (nat_lt c (layout.code + (label_place e).1 + length (label_text e.entry))) outer.1 in
+    record {
+      row = omega (arith, same (label_place e).0 r outer.0);
+      from = le (layout.code + (label_place e).1) c inner.0;
+      to = lt c (layout.code + (label_place e).1 + length (label_text e.entry)) inner.1;
+    }
+  where
+    same : (a b : ℕ) → (a == b) ≡ true → a ≡ b
+    same a b is = grind (arith, nat_tests, is)
+
+    le : (a b : ℕ) → nat_le a b ≡ true → a ≤ b
+    le a b is = grind (arith, nat_tests, is)
+
+    lt : (a b : ℕ) → nat_lt a b ≡ true → a < b
+    lt a b is = grind (arith, nat_tests, is)
+
+-- labels that stand whole in the rows from `row` on stand so in those rows alone, for each entry as it is given
+pub LabelsStand-placed : (layout : Layout) (row : ℕ) (es : List LineAnnotation) (placed : List PlacedEntry) (rows below : List (List Cell)) → ArePlaced es placed → All (λ (e : PlacedEntry). HasPlace e.entry) placed → All (StandsWhole layout row rows) placed → ((r c : ℕ) → cell_at below r c ≡ cell_at rows (row + r) c) → LabelsStand layout es below
+LabelsStand-placed layout row es placed rows below is places stands same =
+    let f : PlacedEntry → LineAnnotation = λ e. e.entry in
+    let moved : Reordered f placed es = reordered f placed es (IsPermutation-sym es (map f placed) is.same) in
+    let order : List PlacedEntry = moved.order in
+    let g : PlacedEntry → PlacedLabel = placed_label layout in
+    let has : All HasItsLabel order = All-permutation HasItsLabel placed order moved.same is.labels in
+    let stand : All (StandsWhole layout row rows) order = All-permutation (StandsWhole layout row rows) placed order moved.same stands in
+    record {
+      labels = map g order;
+      are = entries order ∙ moved.are;
+      stand = All-map (λ (l : PlacedLabel). 0 < length (label_text l.entry) → StandsIn layout below l) g order (λ k d within some.
+          let e : PlacedEntry = get_or order k d in
+          record {
+            whole = λ n inside. same (label_place e).0 (layout.code + (label_place e).1 + n) ∙ stand k d within (shows_label e (has k d within) some) n inside;
+            place = stands_at layout e;
+          });
+      apart = λ r c.
+          let q : PlacedEntry → Bool = λ e. is_cell_of r c (g e) in
+          let few : count_by q placed ≤ 1 = one_passes q placed (λ i j d d2 before within one other.
+          let here = reached layout (get_or placed i d) r c one in
+          let there = reached layout (get_or placed j d2) r c other in
+          placed_apart layout 0 es placed i j d d2 is places before within (shows_label (get_or placed i d) (is.labels i d (omega (arith, before, within))) (omega (arith, here.from, here.to))) (shows_label (get_or placed j d2) (is.labels j d2 within) (omega (arith, there.from, there.to))) r c here there) in
+          let kept : count_by q order ≡ count_by q placed = sum_by-IsPermutation (λ e. cond (q e) 1 0) placed order moved.same in
+          omega (arith, few, kept, count-map (is_cell_of r c) g order);
+    }
+  where
+    entries : (xs : List PlacedEntry) → map (λ (l : PlacedLabel). l.entry) (map (placed_label layout) xs) ≡ map (λ (e : PlacedEntry). e.entry) xs
+    entries [] = refl
+    entries (x ∷ xs) = ap (λ es. x.entry ∷ es) (entries xs)
+
+-- where no entry has a label to show, none stands anywhere
+pub LabelsStand-none : (layout : Layout) (es : List LineAnnotation) (rows : List (List Cell)) → All (λ e. label_text e ≡ []) es → LabelsStand layout es rows
+LabelsStand-none layout es rows none =
+    let g : LineAnnotation → PlacedLabel = λ e. record { entry = e; row = 0; cell = 0 } in
+    record {
+      labels = map g es;
+      are = entries es;
+      stand = All-map (λ (l : PlacedLabel). 0 < length (label_text l.entry) → StandsIn layout rows l) g es (λ k d within some. absurd (omega (arith, some, ap length (none k d within))));
+      apart = λ r c.
+          let empty : count_by (λ e. is_cell_of r c (g e)) es ≡ 0 = none_pass (λ e. is_cell_of r c (g e)) es (λ j d within. no_cell r c (length (label_text (get_or es j d))) (ap length (none j d within))) in
+          omega (arith, empty, count-map (is_cell_of r c) g es);
+    }
+  where
+    entries : (xs : List LineAnnotation) → map (λ (l : PlacedLabel). l.entry) (map (λ e. record { entry = e; row = 0; cell = 0 }) xs) ≡ xs
+    entries [] = refl
+    entries (x ∷ xs) = ap (λ es. x ∷ es) (entries xs)
+
+    no_cell : (r c n : ℕ) → n ≡ 0 → (0 == r && (nat_le 0 c && nat_lt c (0 + n))) ≡ false
+    no_cell r c n is = grind (arith, nat_tests, is)
+
+-- labels that stand in some rows stand in others, whose cells from the code on are the same
+pub LabelsStand-kept : (layout : Layout) (es : List LineAnnotation) (old new : List (List Cell)) → LabelsStand layout es old → ((r c : ℕ) → layout.code ≤ c → cell_at new r c ≡ cell_at old r c) → LabelsStand layout es new
+LabelsStand-kept layout es old new is same =
+    record {
+      labels = is.labels;
+      are = is.are;
+      stand = λ k d within some.
+          let stands : StandsIn layout old (get_or is.labels k d) = is.stand k d within some in
+          record {
+            whole = λ n inside. same (get_or is.labels k d).row ((get_or is.labels k d).cell + n) (right (get_or is.labels k d) n stands.place) ∙ stands.whole n inside;
+            place = stands.place;
+          };
+      apart = is.apart;
+    }
+  where
+    right : (l : PlacedLabel) (n : ℕ) → ((l.row ≡ 0) × (l.cell ≡ layout.code + max l.entry.end.display 1 + 1)) ⊎ ((0 < l.row) × (l.cell ≡ layout.code + l.entry.start.display)) → layout.code ≤ l.cell + n
+    right l n (inl at) = omega (arith, at.1)
+    right l n (inr at) = omega (arith, at.1)

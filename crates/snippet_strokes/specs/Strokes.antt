@@ -1,0 +1,149 @@
+-- What is written for the strokes of a line, as lists of writes: its labels, its stems, its marks, the lines that lead to bars,
+-- and the bars of the spans that begin or end on it.
+use Rattle.std.specs.Prelude.{ℕ, ◌≡◌, ◌+◌, ◌-◌, ◌==◌, ◌&&◌, nat_le, nat_lt, Bool, false, List, [], ◌∷◌, ◌++◌, IsPermutation, length, map, replicate, if◌then◌else◌}
+use Rattle.std.specs.List.{flat_map, range_with_len}
+use Rattle.snippet_style.specs.declared.role.ElementStyle.{ElementStyle}
+use Rattle.snippet_style.specs.Glyphs.{glyph_of, underline_role}
+use Rattle.snippet_view.specs.declared.entries.LineAnnotationType.{LineAnnotationType}
+use Rattle.snippet_view.specs.declared.entries.LineAnnotationType.TheVariants.{Singleline, MultilineStart, MultilineEnd, MultilineLine}
+use Rattle.snippet_model.specs.AnnotationKind.{is_primary}
+use Rattle.snippet_strokes.specs.declared.layout.Layout.{Layout}
+use Rattle.snippet_strokes.specs.declared.positions.PlacedEntry.{PlacedEntry}
+use Rattle.snippet_strokes.specs.Entries.{label_role, label_text}
+use Rattle.snippet_view.specs.declared.entries.LineAnnotation.{LineAnnotation}
+use Rattle.snippet_style.specs.Cell.{Cell}
+use Rattle.snippet_style.specs.Separators.{separator_row}
+use Rattle.snippet_strokes.specs.Painting.{IsPaintingOrder, first_glyph, foot_glyph, mark_end}
+use Rattle.snippet_strokes.specs.Positions.{ArePlaced, has_label, has_stem, label_place, row_count}
+use Rattle.snippet_strokes.specs.Rows.{bare_row}
+use Rattle.snippet_strokes.specs.Writes.{Write, column_of, glyph_at, painted, stretch_of}
+
+-- the role of an entry's strokes
+abbrev pub stroke_role : PlacedEntry → ElementStyle
+stroke_role e = underline_role (is_primary e.entry.kind)
+
+-- ---- labels
+
+-- the label of an entry, if it has one, at its place below the row of the marks
+abbrev pub label_write : Layout → ℕ → PlacedEntry → Write
+label_write layout row e =
+    record { row = row + (label_place e).0; cell = layout.code + (label_place e).1; text = label_text e.entry; role = label_role e.entry.kind }
+
+abbrev pub label_of : Layout → ℕ → PlacedEntry → List Write
+label_of layout row e = if has_label e then label_write layout row e ∷ [] else []
+
+-- the labels of some entries, the first row of which is `row`, that of the marks
+abbrev pub labels_of : Layout → ℕ → List PlacedEntry → List Write
+labels_of layout row placed = flat_map (label_of layout row) placed
+
+-- ---- stems
+
+-- the stem of an entry, so many rows below the row of the marks: at its foot another glyph
+abbrev pub stem_write : Layout → ℕ → PlacedEntry → ℕ → Write
+stem_write layout row e below =
+    glyph_at (row + below) (layout.code + e.entry.start.display) (if below == e.position then foot_glyph layout.decor e else glyph_of layout.decor (is_primary e.entry.kind) 124 124 0x2502 0x2502) (stroke_role e)
+
+-- the stem of an entry, if it has one, from the row of the marks down
+abbrev pub stem_of : Layout → ℕ → PlacedEntry → List Write
+stem_of layout row e = if has_stem e then map (stem_write layout row e) (range_with_len 0 (e.position + 1)) else []
+
+-- whether the stem of the next of some later entries covers that of an entry: it stands in the same column, and reaches as far down
+abbrev pub is_hidden : PlacedEntry → List PlacedEntry → Bool
+is_hidden e [] = false
+is_hidden e (next ∷ later) =
+    has_stem next && (next.entry.start.display == e.entry.start.display && nat_le e.position next.position)
+
+-- the stems of some entries, but those that the next one's covers
+abbrev pub stems_of : Layout → ℕ → List PlacedEntry → List Write
+stems_of layout row [] = []
+stems_of layout row (e ∷ later) =
+    (if is_hidden e later then [] else stem_of layout row e) ++ stems_of layout row later
+
+-- ---- marks
+
+-- the mark of an entry, if it takes any cell: its first glyph, and the underline behind it
+abbrev pub mark_of : Layout → ℕ → PlacedEntry → List Write
+mark_of layout row e =
+    let from = layout.code + e.entry.start.display in
+    let to = layout.code + mark_end e in
+    if nat_lt from to then glyph_at row from (first_glyph layout.decor e) (stroke_role e) ∷ stretch_of row (from + 1) to (glyph_of layout.decor (is_primary e.entry.kind) 94 45 0x2501 0x2500) (stroke_role e) else []
+
+-- the marks of some entries, in the order in which they are painted
+abbrev pub marks_of : Layout → ℕ → List PlacedEntry → List Write
+marks_of layout row order = flat_map (mark_of layout row) order
+
+-- ---- lines to bars
+
+-- the line from the bar of this depth to before the start of an entry, in the row of its position
+abbrev pub line_to : Layout → ℕ → PlacedEntry → ℕ → List Write
+line_to layout row e depth =
+    stretch_of (row + e.position) (layout.gutter + 3 + depth) (layout.code + e.entry.start.display) (glyph_of layout.decor (is_primary e.entry.kind) 95 95 0x2501 0x2500) (stroke_role e)
+
+-- the line to the bar of an entry that stands for this part of a span: a start or an end has one
+abbrev pub connector_by : Layout → ℕ → PlacedEntry → LineAnnotationType → List Write
+connector_by layout row e Singleline = []
+connector_by layout row e (MultilineStart depth) = line_to layout row e depth
+connector_by layout row e (MultilineEnd depth) = line_to layout row e depth
+connector_by layout row e (MultilineLine depth) = []
+
+abbrev pub connector_of : Layout → ℕ → PlacedEntry → List Write
+connector_of layout row e = connector_by layout row e e.entry.annotation_type
+
+abbrev pub connectors_of : Layout → ℕ → List PlacedEntry → List Write
+connectors_of layout row placed = flat_map (connector_of layout row) placed
+
+-- ---- bars with their corners
+
+-- the cell in which a bar of this depth stands
+abbrev pub bar_cell : Layout → ℕ → ℕ
+bar_cell layout depth = layout.gutter + 2 + depth
+
+-- a bar in the rows from one to before another
+abbrev pub bar_of : Layout → PlacedEntry → ℕ → ℕ → ℕ → List Write
+bar_of layout e depth start end =
+    column_of start end (bar_cell layout depth) (glyph_of layout.decor (is_primary e.entry.kind) 124 124 0x2503 0x2502) (stroke_role e)
+
+-- the top of a start's bar: the corner in the row of its position, and the bar in all rows below it, of which there are `count`
+-- in all; the line's source row is `row`
+abbrev pub top_of : Layout → ℕ → ℕ → PlacedEntry → ℕ → List Write
+top_of layout row count e depth =
+    let corner = row + 1 + e.position in
+    glyph_at corner (bar_cell layout depth) (glyph_of layout.decor (is_primary e.entry.kind) 32 32 0x250F 0x250C) (stroke_role e) ∷ bar_of layout e depth (corner + 1) count
+
+-- the bottom of an end's bar: the bar in all rows from the source row down to that of its position, and the corner there
+abbrev pub bottom_of : Layout → ℕ → PlacedEntry → ℕ → List Write
+bottom_of layout row e depth =
+    let corner = row + 1 + e.position in
+    bar_of layout e depth row corner ++ glyph_at corner (bar_cell layout depth) (glyph_of layout.decor (is_primary e.entry.kind) 124 124 0x2517 0x2514) (stroke_role e) ∷ []
+
+-- the bar of an entry that stands for this part of a span: a start or an end has one
+abbrev pub corner_by : Layout → ℕ → ℕ → PlacedEntry → LineAnnotationType → List Write
+corner_by layout row count e Singleline = []
+corner_by layout row count e (MultilineStart depth) = top_of layout row count e depth
+corner_by layout row count e (MultilineEnd depth) = bottom_of layout row e depth
+corner_by layout row count e (MultilineLine depth) = []
+
+abbrev pub corner_of : Layout → ℕ → ℕ → PlacedEntry → List Write
+corner_of layout row count e = corner_by layout row count e e.entry.annotation_type
+
+abbrev pub corners_of : Layout → ℕ → ℕ → List PlacedEntry → List Write
+corners_of layout row count placed = flat_map (corner_of layout row count) placed
+
+-- ---- all of them
+
+-- all strokes of a line, of which the source row is `row`, and below it come as many rows that there are `count` in all: the lines
+-- to bars, the bars, the stems, the labels, and the marks in the order in which they are painted
+abbrev pub strokes_of : Layout → ℕ → ℕ → List PlacedEntry → List PlacedEntry → List Write
+strokes_of layout row count placed order =
+    connectors_of layout (row + 1) placed ++ corners_of layout row count placed ++ stems_of layout (row + 1) placed ++ labels_of layout (row + 1) placed ++ marks_of layout (row + 1) order
+
+-- the rows of a line's strokes, below its source row, which is the last of those that were there: separators, with the last row as the
+-- window closes or goes on, and over them all strokes. The entries are placed from right to left, and their marks painted in a
+-- painting order
+pub record StrokesPainted (layout : Layout) (closes : Bool) (es : List LineAnnotation) (old new : List (List Cell)) : Type 0 where
+  pub placed : List PlacedEntry
+  pub are : ArePlaced es placed
+  pub order : List PlacedEntry
+  pub same : IsPermutation placed order
+  pub ordered : IsPaintingOrder (map (λ (e : PlacedEntry). e.entry) order)
+  pub new_is : new ≡ painted (strokes_of layout (length old - 1) (length old + row_count placed) placed order) (old ++ replicate (row_count placed - 1) (separator_row layout.decor layout.gutter) ++ bare_row layout.decor layout.gutter closes ∷ [])
