@@ -10,8 +10,8 @@ ghost use Rattle.replay_read.specs.Field.{SaysAt, ListSays, as_whole, flag_at, n
 
 use crate::fault::{Fault, Place, Wrong};
 use crate::shape::{Expectation, Shape};
-use snippet_text::{CowStr, text_fits};
 use serde_json::Value;
+use snippet_text::{CowStr, text_fits};
 use std::alloc::Global;
 
 /// A value of JSON, and where it stands in its line.

@@ -15,8 +15,8 @@ use crate::scalars::lent;
 use crate::shape::{Expectation, Shape};
 use snippet_model::level::LevelName;
 use snippet_model::{
-    Annotation, AnnotationKind, Element, Group, Id, Level, Message, Origin, Padding, Patch, Snippet,
-    Title,
+    Annotation, AnnotationKind, Element, Group, Id, Level, Message, Origin, Padding, Patch,
+    Snippet, Title,
 };
 use snippet_style::LevelInner;
 use snippet_text::CowStr;

@@ -5,10 +5,10 @@ ghost use Rattle.serde_json.specs.View.{view};
 ghost use Rattle.replay_run.specs.Expected.{IsExpectedOf, IsMet, IsWanted, IsWantedOf, texts_at};
 ghost use Rattle.replay_run.specs.Growth.{Grows};
 
-use replay_read::fault::{Fault, Place};
 use crate::lines::write_line;
-use replay_read::node::Node;
 use crate::outcome::Outcome;
+use replay_read::fault::{Fault, Place};
+use replay_read::node::Node;
 use replay_read::shape::Shape;
 use serde_json::Value;
 use std::alloc::Global;
@@ -79,9 +79,7 @@ fn is_wanted(wanted: &Wanted<'_>, outcome: &Outcome) -> bool
         },
         Outcome::Refused(name, text) => match wanted {
             Wanted::Texts(_) => false,
-            Wanted::Refused(wanted, words) => {
-                *wanted == *name && *words == text.as_str()
-            }
+            Wanted::Refused(wanted, words) => { *wanted == *name && *words == text.as_str() }
         },
     }
 }
@@ -94,7 +92,7 @@ fn are_equal(wanted: &[&str], texts: &[String]) -> bool
         return false;
     }
     for i in 0..texts.len() {
-        if !is_text(wanted[i], &texts[i]) {
+        if !is_text(&wanted[i], &texts[i]) {
             return false;
         }
     }
@@ -102,10 +100,10 @@ fn are_equal(wanted: &[&str], texts: &[String]) -> bool
 }
 
 /// Whether a text is the wanted one.
-fn is_text(wanted: &str, text: &String) -> bool
-    ensures value { IsTrue result ↔ (wanted.now ≡ string_bytes text.now) }
+fn is_text(wanted: &&str, text: &String) -> bool
+    ensures value { IsTrue result ↔ (wanted.now.now ≡ string_bytes text.now) }
 {
-    wanted == text.as_str()
+    *wanted == text.as_str()
 }
 
 /// Writes each text, or what the refusal prints.

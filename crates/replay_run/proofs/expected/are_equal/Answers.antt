@@ -10,6 +10,10 @@ loop-i-init c = refl
 abbrev text_of : Bor (List ℕ) → List ℕ
 text_of text = text.now
 
+-- what is read past the end
+abbrev no_text : Bor (List ℕ)
+no_text = record { ref_ptr = (0, 0); now = [] }
+
 never_true : false ≡ true → ⊥
 never_true same = cc
 
@@ -27,7 +31,7 @@ returns-then-not-is_text c =
     let wanted = c.args.wanted.now in
     let texts = c.args.texts.now in
     let there : i < length wanted = omega (arith, c.loop-i-test.true, c.if-wanted-texts.false) in
-    let never : texts_at wanted ≡ map string_bytes texts → ⊥ = λ same. denied c.is_text.result c.is_text.ensures.value c.if-not-is_text.true (ap text_of c.index-wanted-i.is ∙ sym (get_or-map text_of wanted i c.index-wanted-i.result [] there) ∙ ap (λ xs. get_or xs i []) same ∙ get_or-map string_bytes texts i c.index-texts-i.result [] c.loop-i-test.true ∙ sym (ap string_bytes c.index-texts-i.is)) in
+    let never : texts_at wanted ≡ map string_bytes texts → ⊥ = λ same. denied c.is_text.result c.is_text.ensures.value c.if-not-is_text.true (sym (get_or-map text_of wanted i no_text [] there) ∙ ap (λ xs. get_or xs i []) same ∙ get_or-map string_bytes texts i c.index-texts-i.result [] c.loop-i-test.true ∙ sym (ap string_bytes c.index-texts-i.is)) in
     record { equal = (λ no. cc, λ same. absurd (never same)) }
 
 pub loop-i-preserved : goal.loop-i-preserved
@@ -37,8 +41,8 @@ loop-i-preserved c =
     let texts = c.args.texts.now in
     let there : i < length wanted = omega (arith, c.loop-i-test.true, c.if-wanted-texts.false) in
     let same = told c.is_text.result c.is_text.ensures.value c.if-not-is_text.false in
-    let here = sym (ap text_of c.index-wanted-i.is) ∙ same ∙ ap string_bytes c.index-texts-i.is in
-    map_more text_of wanted i c.index-wanted-i.result there ∙ ap (λ xs. xs ++ text_of (get_or wanted i c.index-wanted-i.result) ∷ []) c.loop-i.invariant ∙ ap (λ x. map string_bytes (take i texts) ++ x ∷ []) here ∙ sym (map_more string_bytes texts i c.index-texts-i.result c.loop-i-test.true)
+    let here = same ∙ ap string_bytes c.index-texts-i.is in
+    map_more text_of wanted i no_text there ∙ ap (λ xs. xs ++ text_of (get_or wanted i no_text) ∷ []) c.loop-i.invariant ∙ ap (λ x. map string_bytes (take i texts) ++ x ∷ []) here ∙ sym (map_more string_bytes texts i c.index-texts-i.result c.loop-i-test.true)
 
 pub returns : goal.returns
 returns c =
