@@ -5,4 +5,3 @@ pub mod Commands
 pub mod Ending
 pub mod Growing
 pub mod Judging
-pub mod Listing

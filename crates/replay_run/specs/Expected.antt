@@ -1,23 +1,27 @@
 -- When a case became what is expected of it.
 use Rattle.std.specs.Prelude.{◌≡◌, ℕ, List, Some, codes, map, string_bytes}
-use Rattle.std.specs.Cow.{cow_str_bytes}
+use Rattle.std.specs.Borrow.{Bor}
 use Rattle.serde_json.specs.Data.{Data}
 use Rattle.serde_json.specs.Find.{as_str}
-use Rattle.replay_run.specs.Field.{ListSays, SaysAt, text_at}
+use Rattle.replay_read.specs.Field.{ListSays, SaysAt, text_at}
 use Rattle.replay_run.specs.declared.expected.Expected.{Expected}
 use Rattle.replay_run.specs.declared.expected.Wanted.{Wanted}
 use Rattle.replay_run.specs.declared.expected.Wanted.TheVariants as wanted
 use Rattle.replay_run.specs.declared.outcome.Outcome.{Outcome}
 use Rattle.replay_run.specs.declared.outcome.Outcome.TheVariants as outcome
 
+-- the texts that a list of references leads to
+abbrev pub texts_at : List (Bor (List ℕ)) → List (List ℕ)
+texts_at refs = map (λ (text : Bor (List ℕ)). text.now) refs
+
 -- the outcome is the wanted one: the same texts in the same order, or a refusal of the same name and words
 abbrev pub IsWanted : Wanted → Outcome → Type 0
 IsWanted (wanted.Texts texts) (outcome.Texts drawn) =
-    map cow_str_bytes texts.items ≡ map string_bytes drawn.items
+    texts_at texts.items ≡ map string_bytes drawn.items
 IsWanted (wanted.Texts texts) (outcome.Refused name words) = ⊥
 IsWanted (wanted.Refused name words) (outcome.Texts drawn) = ⊥
 IsWanted (wanted.Refused name words) (outcome.Refused drawn_name drawn_words) =
-    (cow_str_bytes name ≡ drawn_name.now) × (cow_str_bytes words ≡ string_bytes drawn_words)
+    (name.now ≡ drawn_name.now) × (words.now ≡ string_bytes drawn_words)
 
 -- the case of this name became what is expected: of this very case, and the wanted outcome
 abbrev pub IsMet : Expected → List ℕ → Outcome → Type 0
@@ -26,9 +30,9 @@ IsMet expected id became = (expected.id.now ≡ id) × IsWanted expected.wanted 
 -- what a line of JSON expects: texts, or a refusal by its name and words
 abbrev pub IsWantedOf : Data → Wanted → Type 0
 IsWantedOf d (wanted.Texts texts) =
-    SaysAt (ListSays (λ e text. as_str e ≡ Some (cow_str_bytes text))) (codes "ok") d texts.items
+    SaysAt (ListSays (λ e (text : Bor (List ℕ)). as_str e ≡ Some text.now)) (codes "ok") d texts.items
 IsWantedOf d (wanted.Refused name words) =
-    (text_at (codes "refused") d ≡ Some (cow_str_bytes name)) × (text_at (codes "text") d ≡ Some (cow_str_bytes words))
+    (text_at (codes "refused") d ≡ Some name.now) × (text_at (codes "text") d ≡ Some words.now)
 
 -- what a line of JSON expects, and of which case
 pub record IsExpectedOf (d : Data) (expected : Expected) : Type 0 where

@@ -1,12 +1,9 @@
 pub mod Answer
 pub mod Answered
+pub mod Case
 pub mod Compared
 pub mod Expected
-pub mod Field
 pub mod Growth
 pub mod Judged
-pub mod Kinds
 pub mod Outcome
-pub mod Report
-pub mod Sheet
 pub mod Words

@@ -6,7 +6,7 @@ use Rattle.annotate_snippets.specs.Fault.{first_refusal}
 use Rattle.annotate_snippets.specs.Forms.{TextsShown}
 use Rattle.annotate_snippets.specs.declared.renderer.RenderError.{RenderError}
 use Rattle.annotate_snippets.specs.declared.renderer.RenderError.TheVariants.{NoGroup, NoTitle, SpanReversed, SpanPastEnd, SpanOffBoundary, PatchesOverlap, LineNumberTooLarge, Memory}
-use Rattle.replay_run.specs.Report.{IsCaseOf}
+use Rattle.replay_run.specs.Case.{IsCaseOf}
 use Rattle.replay_run.specs.declared.case.Case.{Case}
 use Rattle.replay_run.specs.declared.outcome.Outcome.{Outcome}
 use Rattle.replay_run.specs.declared.outcome.Outcome.TheVariants.{Texts, Refused}

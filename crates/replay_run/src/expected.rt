@@ -1,17 +1,15 @@
 //! What is expected of a case, as a line of JSON says it.
 
 ghost use Rattle.std.specs.Prelude.{◌≡◌, ◌↔◌, IsTrue, IfOk, OnOk, map, string_bytes};
-ghost use Rattle.std.specs.Cow.{cow_str_bytes};
 ghost use Rattle.serde_json.specs.View.{view};
-ghost use Rattle.replay_run.specs.Expected.{IsExpectedOf, IsMet, IsWanted, IsWantedOf};
+ghost use Rattle.replay_run.specs.Expected.{IsExpectedOf, IsMet, IsWanted, IsWantedOf, texts_at};
 ghost use Rattle.replay_run.specs.Growth.{Grows};
 
-use crate::fault::{Fault, Place};
 use crate::lines::write_line;
-use crate::node::Node;
 use crate::outcome::Outcome;
-use crate::shape::{Expectation, Shape};
-use annotate_snippets::text::CowStr;
+use replay_read::fault::{Fault, Place};
+use replay_read::node::Node;
+use replay_read::shape::Shape;
 use serde_json::Value;
 use std::alloc::Global;
 use std::io;
@@ -29,9 +27,9 @@ pub struct Expected<'v> {
 #[derive(Drop)]
 pub enum Wanted<'v> {
     /// These texts, in order.
-    Texts(Vec<CowStr<'v>>),
+    Texts(Vec<&'v str>),
     /// A refusal of this name, which prints this.
-    Refused(CowStr<'v>, CowStr<'v>),
+    Refused(&'v str, &'v str),
 }
 
 /// The answer that a line expects.
@@ -44,7 +42,7 @@ pub fn expected_of<'v>(alloc: Global, line: &'v Value) -> Result<Expected<'v>, F
         place: Place::Line,
     };
     Ok(Expected {
-        id: answer.needed("id", Expectation::Text)?.as_text()?,
+        id: answer.text("id")?,
         wanted: wanted_of(&answer)?,
     })
 }
@@ -81,16 +79,14 @@ fn is_wanted(wanted: &Wanted<'_>, outcome: &Outcome) -> bool
         },
         Outcome::Refused(name, text) => match wanted {
             Wanted::Texts(_) => false,
-            Wanted::Refused(wanted, words) => {
-                wanted.as_str() == *name && words.as_str() == text.as_str()
-            }
+            Wanted::Refused(wanted, words) => { *wanted == *name && *words == text.as_str() }
         },
     }
 }
 
 /// Whether the texts are equal, one by one.
-fn are_equal(wanted: &[CowStr<'_>], texts: &[String]) -> bool
-    ensures equal { IsTrue result ↔ (map cow_str_bytes wanted.now ≡ map string_bytes texts.now) }
+fn are_equal(wanted: &[&str], texts: &[String]) -> bool
+    ensures equal { IsTrue result ↔ (texts_at wanted.now ≡ map string_bytes texts.now) }
 {
     if wanted.len() != texts.len() {
         return false;
@@ -104,10 +100,10 @@ fn are_equal(wanted: &[CowStr<'_>], texts: &[String]) -> bool
 }
 
 /// Whether a text is the wanted one.
-fn is_text(wanted: &CowStr<'_>, text: &String) -> bool
-    ensures value { IsTrue result ↔ (cow_str_bytes wanted.now ≡ string_bytes text.now) }
+fn is_text(wanted: &&str, text: &String) -> bool
+    ensures value { IsTrue result ↔ (wanted.now.now ≡ string_bytes text.now) }
 {
-    wanted.as_str() == text.as_str()
+    *wanted == text.as_str()
 }
 
 /// Writes each text, or what the refusal prints.
@@ -117,10 +113,10 @@ pub fn write_wanted<W: Write>(wanted: &Wanted<'_>, out: &mut W) -> io::Result<()
     match wanted {
         Wanted::Texts(texts) => {
             for text in texts {
-                write_line(text.as_str(), out)?;
+                write_line(text, out)?;
             }
         }
-        Wanted::Refused(_, text) => write_line(text.as_str(), out)?,
+        Wanted::Refused(_, text) => write_line(text, out)?,
     }
     Ok(())
 }

@@ -4,16 +4,10 @@
 pub mod case;
 pub mod check;
 pub mod command;
-pub mod effect;
 pub mod expected;
-pub mod fault;
 pub mod lines;
-pub mod node;
 pub mod outcome;
 pub mod read;
-pub mod read_style;
 pub mod repeat;
 pub mod run;
-pub mod scalars;
-pub mod shape;
 pub mod trouble;

@@ -10,7 +10,7 @@ ghost use Rattle.replay_run.specs.Answer as spec;
 ghost use Rattle.replay_run.specs.Answer.{AnswersLine, answer_text, line_of, outcome_text};
 ghost use Rattle.replay_run.specs.Answered.{AnswersReader};
 ghost use Rattle.replay_run.specs.Outcome.{IsOutcomeOf};
-ghost use Rattle.replay_run.specs.Report.{IsCaseOf};
+ghost use Rattle.replay_run.specs.Case.{IsCaseOf};
 ghost use Rattle.replay_run.specs.declared.outcome.Outcome.{Outcome};
 
 use crate::case::Case;

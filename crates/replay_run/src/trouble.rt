@@ -1,6 +1,6 @@
 //! What stops a run.
 
-use crate::fault::Fault;
+use replay_read::fault::Fault;
 use std::alloc::{AllocError, AllocFailed};
 use std::{fmt, io};
 

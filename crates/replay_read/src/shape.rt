@@ -87,6 +87,15 @@ impl Shape {
         }
     }
 
+    /// Writes that only these names are expected.
+    pub fn write_only<W: fmt::Write>(self, f: &mut fmt::Formatter<W>) -> fmt::Result {
+        f.write_str("unknown, expected only")?;
+        for name in self.names() {
+            write!(f, " {name}")?;
+        }
+        Ok(())
+    }
+
     /// Whether it has a field of this name.
     pub fn has(self, name: &str) -> bool {
         for known in self.names() {

@@ -1,17 +1,18 @@
 //! How sheets and their styles are read.
 
-ghost use Rattle.std.specs.Prelude.{◌≡◌, [], ◌∷◌, Some, IfOk, codes};
-ghost use Rattle.serde_json.specs.Find.{as_str, get};
-ghost use Rattle.serde_json.specs.View.{view};
-ghost use Rattle.replay_run.specs.Field.{MaySayAt};
-ghost use Rattle.replay_run.specs.Sheet.{AreBytes, AreEffectsOf, AreSheetsOf, IsColorOf, IsOwnSheetOf, IsSheetOf, IsStyleOf, MayBeEffects, MayBeStyle};
-ghost use Rattle.replay_run.specs.Sheet as spec;
+ghost use Rattle.std.specs.Prelude.{◌≡◌, [], ◌∷◌, Some, IfOk, codes, map};
+ghost use Rattle.serde_json.specs.Find.{as_array, as_str, get};
+ghost use Rattle.serde_json.specs.View.{items_of, view};
+ghost use Rattle.replay_read.specs.Field.{MaySayAt};
+ghost use Rattle.replay_read.specs.Sheet.{AreBytes, AreEffectsOf, AreSheetsOf, IsColorOf, IsOwnSheetOf, IsSheetOf, IsStyleOf, MayBeEffects, MayBeStyle};
+ghost use Rattle.replay_read.specs.Sheet as spec;
 
 use crate::effect::{EFFECTS, EffectName};
 use crate::fault::Fault;
 use crate::node::{Node, Read};
 use crate::shape::{Expectation, Shape};
-use annotate_snippets::renderer::{AnsiColor, Color, Effects, Style, Stylesheet};
+use serde_json::Value;
+use snippet_style::{AnsiColor, Color, Effects, Style, Stylesheet};
 
 /// The sheets of a case: the plain one where the field is missing.
 pub fn sheets_of(case: &Node<'_, '_>) -> Result<Vec<Stylesheet>, Fault>
@@ -46,18 +47,54 @@ fn own_sheet(node: &Node<'_, '_>) -> Result<Stylesheet, Fault>
         return Err(node.unexpected(Expectation::Sheet));
     }
     node.has_only(Shape::Sheet)?;
+    let levels = level_styles(node)?;
+    let parts = part_styles(node)?;
     Ok(Stylesheet {
-        error: style_at(node, "error")?,
-        warning: style_at(node, "warning")?,
-        info: style_at(node, "info")?,
-        note: style_at(node, "note")?,
-        help: style_at(node, "help")?,
-        line_num: style_at(node, "line_num")?,
-        emphasis: style_at(node, "emphasis")?,
-        none: style_at(node, "none")?,
-        context: style_at(node, "context")?,
-        addition: style_at(node, "addition")?,
-        removal: style_at(node, "removal")?,
+        line_num: parts.line_num,
+        emphasis: parts.emphasis,
+        none: parts.none,
+        context: parts.context,
+        addition: parts.addition,
+        removal: parts.removal,
+        ..levels
+    })
+}
+
+/// The sheet of the styles of levels, plain in all else.
+fn level_styles(sheet: &Node<'_, '_>) -> Result<Stylesheet, Fault>
+    ensures error { IfOk result (λ styles. MayBeStyle (get (codes "error") (view sheet.now.value.now)) styles.error) }
+    ensures warning { IfOk result (λ styles. MayBeStyle (get (codes "warning") (view sheet.now.value.now)) styles.warning) }
+    ensures info { IfOk result (λ styles. MayBeStyle (get (codes "info") (view sheet.now.value.now)) styles.info) }
+    ensures note { IfOk result (λ styles. MayBeStyle (get (codes "note") (view sheet.now.value.now)) styles.note) }
+    ensures help { IfOk result (λ styles. MayBeStyle (get (codes "help") (view sheet.now.value.now)) styles.help) }
+{
+    Ok(Stylesheet {
+        error: style_at(sheet, "error")?,
+        warning: style_at(sheet, "warning")?,
+        info: style_at(sheet, "info")?,
+        note: style_at(sheet, "note")?,
+        help: style_at(sheet, "help")?,
+        ..Stylesheet::plain()
+    })
+}
+
+/// The sheet of the other styles, plain in all else.
+fn part_styles(sheet: &Node<'_, '_>) -> Result<Stylesheet, Fault>
+    ensures line_num { IfOk result (λ styles. MayBeStyle (get (codes "line_num") (view sheet.now.value.now)) styles.line_num) }
+    ensures emphasis { IfOk result (λ styles. MayBeStyle (get (codes "emphasis") (view sheet.now.value.now)) styles.emphasis) }
+    ensures none { IfOk result (λ styles. MayBeStyle (get (codes "none") (view sheet.now.value.now)) styles.none) }
+    ensures context { IfOk result (λ styles. MayBeStyle (get (codes "context") (view sheet.now.value.now)) styles.context) }
+    ensures addition { IfOk result (λ styles. MayBeStyle (get (codes "addition") (view sheet.now.value.now)) styles.addition) }
+    ensures removal { IfOk result (λ styles. MayBeStyle (get (codes "removal") (view sheet.now.value.now)) styles.removal) }
+{
+    Ok(Stylesheet {
+        line_num: style_at(sheet, "line_num")?,
+        emphasis: style_at(sheet, "emphasis")?,
+        none: style_at(sheet, "none")?,
+        context: style_at(sheet, "context")?,
+        addition: style_at(sheet, "addition")?,
+        removal: style_at(sheet, "removal")?,
+        ..Stylesheet::plain()
     })
 }
 
@@ -136,16 +173,38 @@ fn color_of(node: &Node<'_, '_>) -> Result<Color, Fault>
     ensures value { IfOk result (IsColorOf (view node.now.value.now)) }
 {
     if node.value.is_string() {
-        return Ok(Color::Ansi(named_color(node)?));
+        return named_color(node);
     }
-    match node.value.as_object() {
-        Some(fields) if fields.len() == 1 => {}
-        _ => return Err(node.unexpected(Expectation::Color)),
+    if !node.has_one_field() {
+        return Err(node.unexpected(Expectation::Color));
     }
     node.has_only(Shape::Color)?;
-    if let Some(index) = node.optional("ansi256") {
-        return Ok(Color::Ansi256(index.as_byte()?));
+    numbered_color(node)
+}
+
+/// The colour that the field of an object tells by numbers.
+fn numbered_color(node: &Node<'_, '_>) -> Result<Color, Fault>
+    ensures value { IfOk result (IsColorOf (view node.now.value.now)) }
+{
+    if node.has("ansi256") {
+        indexed_color(node)
+    } else {
+        rgb_color(node)
     }
+}
+
+/// The colour of the index that stands there.
+fn indexed_color(node: &Node<'_, '_>) -> Result<Color, Fault>
+    ensures value { IfOk result (IsColorOf (view node.now.value.now)) }
+{
+    let index = node.needed("ansi256", Expectation::Byte)?.as_byte()?;
+    Ok(Color::Ansi256(index))
+}
+
+/// The colour of the red, green and blue that stand there.
+fn rgb_color(node: &Node<'_, '_>) -> Result<Color, Fault>
+    ensures value { IfOk result (IsColorOf (view node.now.value.now)) }
+{
     let (red, green, blue) = rgb_of(&node.needed("rgb", Expectation::Rgb)?)?;
     Ok(Color::Rgb(red, green, blue))
 }
@@ -171,13 +230,13 @@ const COLORS: [AnsiColor; 16] = [
 ];
 
 /// The colour of this name.
-fn named_color(node: &Node<'_, '_>) -> Result<AnsiColor, Fault>
-    ensures value { IfOk result (λ color. as_str (view node.now.value.now) ≡ Some (spec.color_name color)) }
+fn named_color(node: &Node<'_, '_>) -> Result<Color, Fault>
+    ensures value { IfOk result (IsColorOf (view node.now.value.now)) }
 {
     let name = node.value.as_str();
     for color in &COLORS {
         if name == Some(color_name(*color)) {
-            return Ok(*color);
+            return Ok(Color::Ansi(*color));
         }
     }
     Err(node.unexpected(Expectation::Color))
@@ -217,7 +276,15 @@ fn rgb_of(node: &Node<'_, '_>) -> Result<(u8, u8, u8), Fault>
     for (index, value) in values.iter().enumerate() {
         node.item(index, value).as_byte()?;
     }
-    match values.as_slice() {
+    three_bytes(node, values)
+}
+
+/// The bytes of a list of three.
+fn three_bytes(node: &Node<'_, '_>, values: &[Value]) -> Result<(u8, u8, u8), Fault>
+    requires items { as_array (view node.now.value.now) ≡ Some (items_of (map view values.now)) }
+    ensures value { IfOk result (λ rgb. AreBytes (view node.now.value.now) (rgb.0 ∷ rgb.1 ∷ rgb.2 ∷ [])) }
+{
+    match values {
         [red, green, blue] => {
             let red = node.item(0, red).as_byte()?;
             let green = node.item(1, green).as_byte()?;

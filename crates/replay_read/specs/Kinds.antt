@@ -1,13 +1,13 @@
 -- The names of kinds, as the format writes them.
 use Rattle.std.specs.Prelude.{ℕ, List, codes}
 use Rattle.std.specs.Cow.{cow_str_bytes}
-use Rattle.annotate_snippets.specs.Fits.{TextFits}
-use Rattle.annotate_snippets.specs.declared.level.LevelName.{LevelName}
-use Rattle.annotate_snippets.specs.declared.level.LevelName.TheVariants.{Standard, Hidden, Own}
-use Rattle.annotate_snippets.specs.declared.renderer.parts.LevelInner.{LevelInner}
-use Rattle.annotate_snippets.specs.declared.renderer.parts.LevelInner.TheVariants.{Error, Warning, Info, Note, Help}
-use Rattle.annotate_snippets.specs.declared.snippet.AnnotationKind.{AnnotationKind}
-use Rattle.annotate_snippets.specs.declared.snippet.AnnotationKind.TheVariants.{Primary, Context, Visible}
+use Rattle.snippet_model.specs.Fits.{TextFits}
+use Rattle.snippet_model.specs.declared.level.LevelName.{LevelName}
+use Rattle.snippet_model.specs.declared.level.LevelName.TheVariants.{Standard, Hidden, Own}
+use Rattle.snippet_style.specs.declared.role.LevelInner.{LevelInner}
+use Rattle.snippet_style.specs.declared.role.LevelInner.TheVariants.{Error, Warning, Info, Note, Help}
+use Rattle.snippet_model.specs.declared.snippet.AnnotationKind.{AnnotationKind}
+use Rattle.snippet_model.specs.declared.snippet.AnnotationKind.TheVariants.{Primary, Context, Visible}
 
 -- the name of a kind of level
 abbrev pub kind_name : LevelInner → List ℕ

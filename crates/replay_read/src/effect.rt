@@ -1,9 +1,9 @@
 //! The effects of a style, by their names.
 
 ghost use Rattle.std.specs.Prelude.{◌≡◌};
-ghost use Rattle.replay_run.specs.Sheet as spec;
+ghost use Rattle.replay_read.specs.Sheet as spec;
 
-use annotate_snippets::renderer::Effects;
+use snippet_style::Effects;
 
 /// Which effect is meant.
 #[derive(Clone, Copy)]

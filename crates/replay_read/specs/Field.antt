@@ -1,5 +1,6 @@
 -- What values of JSON, and the fields of an object, say.
-use Rattle.std.specs.Prelude.{◌≡◌, ℕ, Bool, List, Option, Some, None, is_some, true, option_and_then, MatchOption}
+use Rattle.std.specs.Prelude.{◌≡◌, ℕ, Bool, List, Option, Some, None, is_some, true, option_and_then, option_map, MatchOption}
+use Rattle.std.specs.Borrow.{Bor}
 use Rattle.std.specs.List.{AllZip}
 use Rattle.serde_json.specs.Data.{Data}
 use Rattle.serde_json.specs.Find.{as_array, as_bool, as_null, as_number, as_str, as_u64, get}
@@ -18,6 +19,10 @@ number_at name d = option_and_then as_whole (get name d)
 
 abbrev pub flag_at : List ℕ → Data → Option Bool
 flag_at name d = option_and_then as_bool (get name d)
+
+-- the text that is lent, if there is one
+abbrev pub lent_text : Option (Bor (List ℕ)) → Option (List ℕ)
+lent_text found = option_map (λ (text : Bor (List ℕ)). text.now) found
 
 -- what stands under a name says x, where Says tells what a value says
 abbrev pub SaysAt : {X : Type 0} → (Data → X → Type 0) → List ℕ → Data → X → Type 0

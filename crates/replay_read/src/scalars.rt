@@ -2,15 +2,15 @@
 
 ghost use Rattle.std.specs.Prelude.{◌≡◌, ◌<◌, Some, IfOk, IfSome, option_map, unwrap_or};
 ghost use Rattle.std.specs.Cow.{cow_str_bytes};
-ghost use Rattle.annotate_snippets.specs.Fits.{TextFits};
+ghost use Rattle.snippet_model.specs.Fits.{TextFits};
 ghost use Rattle.serde_json.specs.Find.{as_bool, as_str};
 ghost use Rattle.serde_json.specs.View.{view};
-ghost use Rattle.replay_run.specs.Field.{as_whole, flag_at, number_at, text_at};
+ghost use Rattle.replay_read.specs.Field.{as_whole, flag_at, lent_text, number_at, text_at};
 
 use crate::fault::Fault;
 use crate::node::{Node, Read};
 use crate::shape::Expectation;
-use annotate_snippets::text::{CowStr, text_fits};
+use snippet_text::{CowStr, text_fits};
 
 impl<'v> Node<'v, '_> {
     /// The text, which is within the library's limit.
@@ -25,21 +25,20 @@ impl<'v> Node<'v, '_> {
     }
 
     /// The text in the field of this name.
-    pub fn text(&self, name: &str) -> Result<CowStr<'v>, Fault>
-        ensures value { IfOk result (λ text. text_at name.now (view self.now.value.now) ≡ Some (cow_str_bytes text)) }
-        ensures fits { IfOk result (λ text. TextFits (cow_str_bytes text)) }
+    pub fn text(&self, name: &str) -> Result<&'v str, Fault>
+        ensures value { IfOk result (λ text. text_at name.now (view self.now.value.now) ≡ Some text.now) }
+        ensures fits { IfOk result (λ text. TextFits text.now) }
     {
-        let text = self.needed(name, Expectation::Text)?.as_text()?;
-        Ok(CowStr::Borrowed(text))
+        self.needed(name, Expectation::Text)?.as_text()
     }
 
     /// The text in the field of this name, if there is that field.
-    pub fn optional_text(&self, name: &str) -> Result<Option<CowStr<'v>>, Fault>
-        ensures value { IfOk result (λ found. text_at name.now (view self.now.value.now) ≡ option_map cow_str_bytes found) }
-        ensures fits { IfOk result (λ found. IfSome found (λ text. TextFits (cow_str_bytes text))) }
+    pub fn optional_text(&self, name: &str) -> Result<Option<&'v str>, Fault>
+        ensures value { IfOk result (λ found. text_at name.now (view self.now.value.now) ≡ lent_text found) }
+        ensures fits { IfOk result (λ found. IfSome found (λ text. TextFits text.now)) }
     {
         match self.optional(name) {
-            Some(field) => Ok(Some(CowStr::Borrowed(field.as_text()?))),
+            Some(field) => Ok(Some(field.as_text()?)),
             None => Ok(None),
         }
     }
@@ -116,13 +115,25 @@ impl<'v> Node<'v, '_> {
     }
 }
 
-/// A text that the library takes.
-impl<'v> Read<'v> for CowStr<'v> {
-    ghost says = { λ d text. as_str d ≡ Some (cow_str_bytes text) };
+/// A text within the library's limit.
+impl<'v> Read<'v> for &'v str {
+    ghost says = { λ d text. as_str d ≡ Some text.now };
 
-    ghost fits = { λ text. TextFits (cow_str_bytes text) };
+    ghost fits = { λ text. TextFits text.now };
 
     fn read(node: &Node<'v, '_>) -> Result<Self, Fault> {
-        Ok(CowStr::Borrowed(node.as_text()?))
+        node.as_text()
+    }
+}
+
+/// The text as the library takes it, if there is one.
+pub fn lent<'v>(text: Option<&'v str>) -> Option<CowStr<'v>>
+    requires fits { IfSome text (λ text. TextFits text.now) }
+    ensures value { option_map cow_str_bytes result ≡ lent_text text.entry }
+    ensures fits { IfSome result (λ text. TextFits (cow_str_bytes text)) }
+{
+    match text {
+        Some(text) => Some(CowStr::Borrowed(text)),
+        None => None,
     }
 }

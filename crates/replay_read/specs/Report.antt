@@ -1,51 +1,23 @@
--- The case that a value of JSON describes: what each part of it is, by the fields of the value.
-use Rattle.std.specs.Prelude.{◌≡◌, ℕ, Bool, true, false, not, List, Option, Some, None, codes, is_some, if◌then◌else◌, option_and_then, option_map, unwrap_or}
+-- The groups that a value of JSON describes: what each part of them is, by the fields of the value.
+use Rattle.std.specs.Prelude.{◌≡◌, ℕ, Bool, true, false, not, List, Option, Some, None, codes, is_some, option_and_then, option_map, unwrap_or}
 use Rattle.std.specs.Cow.{cow_str_bytes}
-use Rattle.annotate_snippets.specs.Settings.{plain_settings}
-use Rattle.annotate_snippets.specs.declared.level.LevelName.{LevelName}
-use Rattle.annotate_snippets.specs.declared.level.LevelName.TheVariants.{Standard, Hidden, Own}
-use Rattle.annotate_snippets.specs.declared.level.Level.{Level}
-use Rattle.annotate_snippets.specs.declared.renderer.DecorStyle.{DecorStyle}
-use Rattle.annotate_snippets.specs.declared.renderer.DecorStyle.TheVariants.{Ascii, Unicode}
-use Rattle.annotate_snippets.specs.declared.renderer.Renderer.{Renderer}
-use Rattle.annotate_snippets.specs.declared.renderer.parts.LevelInner.{LevelInner}
-use Rattle.annotate_snippets.specs.declared.snippet.Annotation.{Annotation}
-use Rattle.annotate_snippets.specs.declared.snippet.Element.{Element}
-use Rattle.annotate_snippets.specs.declared.snippet.Element.TheVariants as element
-use Rattle.annotate_snippets.specs.declared.snippet.Group.{Group}
-use Rattle.annotate_snippets.specs.declared.snippet.Message.{Message}
-use Rattle.annotate_snippets.specs.declared.snippet.Origin.{Origin}
-use Rattle.annotate_snippets.specs.declared.snippet.Patch.{Patch}
-use Rattle.annotate_snippets.specs.declared.snippet.Snippet.{Snippet}
-use Rattle.annotate_snippets.specs.declared.snippet.Title.{Title}
+use Rattle.snippet_model.specs.declared.level.LevelName.{LevelName}
+use Rattle.snippet_model.specs.declared.level.LevelName.TheVariants.{Standard, Hidden, Own}
+use Rattle.snippet_model.specs.declared.level.Level.{Level}
+use Rattle.snippet_style.specs.declared.role.LevelInner.{LevelInner}
+use Rattle.snippet_model.specs.declared.snippet.Annotation.{Annotation}
+use Rattle.snippet_model.specs.declared.snippet.Element.{Element}
+use Rattle.snippet_model.specs.declared.snippet.Element.TheVariants as element
+use Rattle.snippet_model.specs.declared.snippet.Group.{Group}
+use Rattle.snippet_model.specs.declared.snippet.Message.{Message}
+use Rattle.snippet_model.specs.declared.snippet.Origin.{Origin}
+use Rattle.snippet_model.specs.declared.snippet.Patch.{Patch}
+use Rattle.snippet_model.specs.declared.snippet.Snippet.{Snippet}
+use Rattle.snippet_model.specs.declared.snippet.Title.{Title}
 use Rattle.serde_json.specs.Data.{Data}
 use Rattle.serde_json.specs.Find.{as_null, as_str, get}
-use Rattle.replay_run.specs.Field.{SaysAt, OrNull, ListSays, flag_at, number_at, text_at}
-use Rattle.replay_run.specs.Kinds.{kind_name, mark_name}
-use Rattle.replay_run.specs.Sheet.{AreSheetsOf}
-use Rattle.replay_run.specs.declared.case.Case.{Case}
-
--- the strokes, by whether the Unicode ones are asked for
-abbrev pub decor_of : Bool → DecorStyle
-decor_of unicode = if unicode then Unicode else Ascii
-
--- the renderer of an object of settings: the plain one, but for the fields that are there
-abbrev pub settings_of : Data → Renderer
-settings_of d =
-    record plain_settings {
-      no_graphics = unwrap_or (flag_at (codes "no_graphics") d) false;
-      short_message = unwrap_or (flag_at (codes "short_message") d) false;
-      term_width = unwrap_or (number_at (codes "term_width") d) 140;
-      decor_style = decor_of (unwrap_or (flag_at (codes "unicode") d) false);
-      anonymized_snippet_line_numbers = unwrap_or (flag_at (codes "anonymized_snippet") d) false;
-      anonymized_origin_line_numbers = unwrap_or (flag_at (codes "anonymized_origin") d) false;
-      hyperlink = unwrap_or (flag_at (codes "hyperlink") d) false;
-    }
-
--- the renderer where the settings may be missing
-abbrev pub renderer_of : Option Data → Renderer
-renderer_of None = plain_settings
-renderer_of (Some d) = settings_of d
+use Rattle.replay_read.specs.Field.{SaysAt, OrNull, ListSays, flag_at, number_at, text_at}
+use Rattle.replay_read.specs.Kinds.{kind_name, mark_name}
 
 -- the name of a level: that of its kind where none is given, hidden where it is `null`, else an own one
 abbrev pub IsGivenName : Data → LevelName → Type 0
@@ -118,10 +90,3 @@ pub record IsGroupOf (d : Data) (group : Group) : Type 0 where
   pub title : SaysAt (OrNull IsTitleOf) (codes "title") d group.title
   pub level : IsKindOf d group.title group.level
   pub elements : SaysAt (ListSays IsElementOf) (codes "elements") d group.elements.items
-
--- the case that is described
-pub record IsCaseOf (d : Data) (case : Case) : Type 0 where
-  pub id : text_at (codes "id") d ≡ Some case.id.now
-  pub renderer : case.renderer ≡ renderer_of (get (codes "settings") d)
-  pub sheets : AreSheetsOf (get (codes "sheets") d) case.sheets.items
-  pub groups : SaysAt (ListSays IsGroupOf) (codes "groups") d case.groups.items

@@ -88,13 +88,7 @@ impl fmt::Display for Wrong {
         match self {
             Wrong::Unexpected(expected) => write!(f, "expected {expected}"),
             Wrong::Missing(expected) => write!(f, "missing, expected {expected}"),
-            Wrong::Unknown(shape) => {
-                write!(f, "unknown, expected only")?;
-                for name in shape.names() {
-                    write!(f, " {name}")?;
-                }
-                Ok(())
-            }
+            Wrong::Unknown(shape) => shape.write_only(f),
         }
     }
 }

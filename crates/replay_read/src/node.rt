@@ -2,16 +2,16 @@
 
 ghost use Rattle.std.specs.Prelude.{◌≡◌, Some, IfOk, IfSome, All, option_map, unwrap_or};
 ghost use Rattle.std.specs.Cow.{cow_str_bytes};
-ghost use Rattle.annotate_snippets.specs.Fits.{TextFits};
+ghost use Rattle.snippet_model.specs.Fits.{TextFits};
 ghost use Rattle.serde_json.specs.Data.{Data};
 ghost use Rattle.serde_json.specs.Find.{as_bool, as_str, get};
 ghost use Rattle.serde_json.specs.View.{view};
-ghost use Rattle.replay_run.specs.Field.{SaysAt, ListSays, as_whole, flag_at, number_at, text_at};
+ghost use Rattle.replay_read.specs.Field.{SaysAt, ListSays, as_whole, flag_at, number_at, text_at};
 
 use crate::fault::{Fault, Place, Wrong};
 use crate::shape::{Expectation, Shape};
-use annotate_snippets::text::{CowStr, text_fits};
 use serde_json::Value;
+use snippet_text::{CowStr, text_fits};
 use std::alloc::Global;
 
 /// A value of JSON, and where it stands in its line.
@@ -60,12 +60,34 @@ impl<'v> Node<'v, '_> {
     pub fn optional<'n>(&'n self, name: &'n str) -> Option<Node<'v, 'n>>
         ensures value { option_map (λ field. view field.value.now) result ≡ get name.now (view self.now.value.now) }
     {
-        let value = self.value.get(name)?;
-        Some(Node {
+        match self.value.get(name) {
+            Some(value) => Some(self.field(name, value)),
+            None => None,
+        }
+    }
+
+    /// The field of this name, which holds this value.
+    fn field<'n>(&'n self, name: &'n str, value: &'v Value) -> Node<'v, 'n>
+        ensures value { result.value.now ≡ value.now }
+    {
+        Node {
             alloc: self.alloc,
             value,
             place: Place::Field(&self.place, name),
-        })
+        }
+    }
+
+    /// Whether there is a field of this name.
+    pub fn has(&self, name: &str) -> bool {
+        self.value.get(name).is_some()
+    }
+
+    /// Whether the value is an object with one field.
+    pub fn has_one_field(&self) -> bool {
+        match self.value.as_object() {
+            Some(fields) => fields.len() == 1,
+            None => false,
+        }
     }
 
     /// The field of this name, which has to be there and hold this.

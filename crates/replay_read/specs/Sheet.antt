@@ -1,25 +1,18 @@
 -- The sheets that a value of JSON describes.
 use Rattle.std.specs.Prelude.{◌≡◌, ◌⊎◌, ℕ, ◌||◌, true, false, List, [], ◌∷◌, Option, Some, None, codes, fold}
-use Rattle.annotate_snippets.specs.declared.renderer.style.AnsiColor.{AnsiColor}
-use Rattle.annotate_snippets.specs.declared.renderer.style.AnsiColor.TheVariants.{Black, Red, Green, Yellow, Blue, Magenta, Cyan, White, BrightBlack, BrightRed, BrightGreen, BrightYellow, BrightBlue, BrightMagenta, BrightCyan, BrightWhite}
-use Rattle.annotate_snippets.specs.declared.renderer.style.Color.{Color}
-use Rattle.annotate_snippets.specs.declared.renderer.style.Color.TheVariants.{Ansi, Ansi256, Rgb}
-use Rattle.annotate_snippets.specs.declared.renderer.style.Effects.{Effects}
-use Rattle.annotate_snippets.specs.declared.renderer.style.Style.{Style}
-use Rattle.annotate_snippets.specs.declared.renderer.style.Stylesheet.{Stylesheet}
-use Rattle.annotate_snippets.specs.Settings.{plain_settings, styled_settings}
+use Rattle.snippet_style.specs.declared.style.AnsiColor.{AnsiColor}
+use Rattle.snippet_style.specs.declared.style.AnsiColor.TheVariants.{Black, Red, Green, Yellow, Blue, Magenta, Cyan, White, BrightBlack, BrightRed, BrightGreen, BrightYellow, BrightBlue, BrightMagenta, BrightCyan, BrightWhite}
+use Rattle.snippet_style.specs.declared.style.Color.{Color}
+use Rattle.snippet_style.specs.declared.style.Color.TheVariants.{Ansi, Ansi256, Rgb}
+use Rattle.snippet_style.specs.declared.style.Effects.{Effects}
+use Rattle.snippet_style.specs.declared.style.Style.{Style}
+use Rattle.snippet_style.specs.declared.stylesheet.Stylesheet.{Stylesheet}
+use Rattle.snippet_style.specs.Stylesheet.{plain_sheet, default_sheet}
 use Rattle.serde_json.specs.Data.{Data}
 use Rattle.serde_json.specs.Find.{as_str, get}
-use Rattle.replay_run.specs.Field.{SaysAt, MaySayAt, ListSays, as_whole, number_at}
-use Rattle.replay_run.specs.declared.effect.EffectName.{EffectName}
-use Rattle.replay_run.specs.declared.effect.EffectName.TheVariants as effect
-
--- the plain sheet and the default one
-abbrev pub plain_sheet : Stylesheet
-plain_sheet = plain_settings.stylesheet
-
-abbrev pub default_sheet : Stylesheet
-default_sheet = styled_settings.stylesheet
+use Rattle.replay_read.specs.Field.{SaysAt, MaySayAt, ListSays, as_whole, number_at}
+use Rattle.replay_read.specs.declared.effect.EffectName.{EffectName}
+use Rattle.replay_read.specs.declared.effect.EffectName.TheVariants as effect
 
 -- no effect, and a style without colours or effects
 abbrev pub no_effects : Effects

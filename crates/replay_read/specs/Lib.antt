@@ -1,0 +1,4 @@
+pub mod Field
+pub mod Kinds
+pub mod Report
+pub mod Sheet

@@ -1,0 +1,379 @@
+//! How groups are read: which fields there are, which of them may be missing, and what they then are.
+
+ghost use Rattle.std.specs.Prelude.{◌≡◌, All, Some, None, IfOk, IfSome, codes, option_and_then, option_map};
+ghost use Rattle.std.specs.Cow.{cow_str_bytes};
+ghost use Rattle.snippet_model.specs.Fits.{GroupFits, IdFits, TitleFits, LevelFits, MessageFits, ElementFits, AnnotationFits, PatchFits, SnippetFits, TextFits};
+ghost use Rattle.serde_json.specs.Find.{as_str, get};
+ghost use Rattle.serde_json.specs.View.{view};
+ghost use Rattle.replay_read.specs.Field.{ListSays, OrNull, SaysAt, flag_at, lent_text, text_at};
+ghost use Rattle.replay_read.specs.Report.{IsAnnotationOf, IsElementOf, IsGivenName, IsGroupOf, IsKindOf, IsLevelOf, IsMessageOf, IsNameOf, IsOriginOf, IsPatchOf, IsSnippetOf, IsTitleOf};
+ghost use Rattle.replay_read.specs.Kinds.{NameFits, kind_name, mark_name};
+
+use crate::fault::Fault;
+use crate::node::{Node, Read};
+use crate::scalars::lent;
+use crate::shape::{Expectation, Shape};
+use snippet_model::level::LevelName;
+use snippet_model::{
+    Annotation, AnnotationKind, Element, Group, Id, Level, Message, Origin, Padding, Patch,
+    Snippet, Title,
+};
+use snippet_style::LevelInner;
+use snippet_text::CowStr;
+
+impl<'v> Read<'v> for Group<'v> {
+    ghost says = { IsGroupOf };
+
+    ghost fits = { GroupFits };
+
+    fn read(node: &Node<'v, '_>) -> Result<Self, Fault> {
+        node.has_only(Shape::Group)?;
+        let title = title_in(node)?;
+        let (level, elements) = beside_title(node, &title)?;
+        Ok(Group {
+            level,
+            title,
+            elements,
+        })
+    }
+}
+
+/// The title of a group; none where `null` stands there.
+fn title_in<'v>(group: &Node<'v, '_>) -> Result<Option<Title<'v>>, Fault>
+    ensures value { IfOk result (SaysAt (OrNull IsTitleOf) (codes "title") (view group.now.value.now)) }
+    ensures fits { IfOk result (λ title. IfSome title TitleFits) }
+{
+    title_or_null(&group.needed("title", Expectation::ObjectOrNull)?)
+}
+
+/// What a group has beside this title: the kind of its level, and its elements.
+fn beside_title<'v>(
+    group: &Node<'v, '_>,
+    title: &Option<Title<'v>>,
+) -> Result<(LevelInner, Vec<Element<'v>>), Fault>
+    ensures level { IfOk result (λ parts. IsKindOf (view group.now.value.now) title.now parts.0) }
+    ensures elements { IfOk result (λ parts. SaysAt (ListSays IsElementOf) (codes "elements") (view group.now.value.now) parts.1.items) }
+    ensures fits { IfOk result (λ parts. All ElementFits parts.1.items) }
+{
+    let level = match title {
+        Some(title) => title.level.kind,
+        None => kind_in(group)?,
+    };
+    Ok((level, group.list("elements")?))
+}
+
+/// The title; none where `null` stands there.
+fn title_or_null<'v>(node: &Node<'v, '_>) -> Result<Option<Title<'v>>, Fault>
+    ensures value { IfOk result (OrNull IsTitleOf (view node.now.value.now)) }
+    ensures fits { IfOk result (λ title. IfSome title TitleFits) }
+{
+    if node.value.is_null() {
+        return Ok(None);
+    }
+    Ok(Some(title_of(node)?))
+}
+
+/// The title that is described.
+fn title_of<'v>(node: &Node<'v, '_>) -> Result<Title<'v>, Fault>
+    ensures value { IfOk result (IsTitleOf (view node.now.value.now)) }
+    ensures fits { IfOk result TitleFits }
+{
+    node.has_only(Shape::Title)?;
+    let level = level_in(node)?;
+    let words = words_of(node)?;
+    Ok(Title {
+        level,
+        text: CowStr::Borrowed(words.text),
+        allows_styling: !words.primary,
+        id: id_of(words.id, words.url),
+    })
+}
+
+/// What a title has beside its level.
+#[derive(Clone, Copy)]
+struct Words<'v> {
+    text: &'v str,
+    /// Whether the text isn't trusted.
+    primary: bool,
+    id: Option<&'v str>,
+    url: Option<&'v str>,
+}
+
+/// What a title has beside its level.
+fn words_of<'v>(title: &Node<'v, '_>) -> Result<Words<'v>, Fault>
+    ensures text { IfOk result (λ words. text_at (codes "text") (view title.now.value.now) ≡ Some words.text.now) }
+    ensures primary { IfOk result (λ words. flag_at (codes "primary") (view title.now.value.now) ≡ Some words.primary) }
+    ensures id { IfOk result (λ words. text_at (codes "id") (view title.now.value.now) ≡ lent_text words.id) }
+    ensures url { IfOk result (λ words. text_at (codes "url") (view title.now.value.now) ≡ lent_text words.url) }
+    ensures fits { IfOk result (λ words. TextFits words.text.now) }
+    ensures id_fits { IfOk result (λ words. IfSome words.id (λ text. TextFits text.now)) }
+    ensures url_fits { IfOk result (λ words. IfSome words.url (λ text. TextFits text.now)) }
+{
+    Ok(Words {
+        text: title.text("text")?,
+        primary: title.flag("primary")?,
+        id: title.optional_text("id")?,
+        url: title.optional_text("url")?,
+    })
+}
+
+/// The identifier of a title and its address; none where both are missing.
+fn id_of<'v>(id: Option<&'v str>, url: Option<&'v str>) -> Option<Id<'v>>
+    requires id_fits { IfSome id (λ text. TextFits text.now) }
+    requires url_fits { IfSome url (λ text. TextFits text.now) }
+    ensures id { option_map cow_str_bytes (option_and_then (λ id. id.id) result) ≡ lent_text id.entry }
+    ensures url { option_map cow_str_bytes (option_and_then (λ id. id.url) result) ≡ lent_text url.entry }
+    ensures fits { IfSome result IdFits }
+{
+    if id.is_none() && url.is_none() {
+        return None;
+    }
+    Some(Id {
+        id: lent(id),
+        url: lent(url),
+    })
+}
+
+/// The level in the field of that name.
+fn level_in<'v>(node: &Node<'v, '_>) -> Result<Level<'v>, Fault>
+    ensures value { IfOk result (SaysAt IsLevelOf (codes "level") (view node.now.value.now)) }
+    ensures fits { IfOk result LevelFits }
+{
+    level_of(&node.needed("level", Expectation::Object)?)
+}
+
+/// The kind of that level.
+fn kind_in(node: &Node<'_, '_>) -> Result<LevelInner, Fault>
+    ensures value { IfOk result (IsKindOf (view node.now.value.now) None) }
+{
+    let level = level_in(node)?;
+    Ok(level.kind)
+}
+
+/// The level that is described.
+fn level_of<'v>(node: &Node<'v, '_>) -> Result<Level<'v>, Fault>
+    ensures value { IfOk result (IsLevelOf (view node.now.value.now)) }
+    ensures fits { IfOk result LevelFits }
+{
+    node.has_only(Shape::Level)?;
+    let kind = kind_of(&node.needed("kind", Expectation::LevelKind)?)?;
+    let name = name_in(node)?;
+    Ok(Level { name, kind })
+}
+
+/// The name of a level, that of its kind where none is given.
+fn name_in<'v>(level: &Node<'v, '_>) -> Result<LevelName<'v>, Fault>
+    ensures value { IfOk result (IsNameOf (get (codes "name") (view level.now.value.now))) }
+    ensures fits { IfOk result NameFits }
+{
+    match level.optional("name") {
+        None => Ok(LevelName::Standard),
+        Some(name) => name_of(&name),
+    }
+}
+
+/// The name of a level that is given; hidden where `null` stands there.
+fn name_of<'v>(node: &Node<'v, '_>) -> Result<LevelName<'v>, Fault>
+    ensures value { IfOk result (IsGivenName (view node.now.value.now)) }
+    ensures fits { IfOk result NameFits }
+{
+    if node.value.is_null() {
+        return Ok(LevelName::Hidden);
+    }
+    Ok(LevelName::Own(CowStr::Borrowed(node.as_text()?)))
+}
+
+/// The kind of level of this name.
+fn kind_of(node: &Node<'_, '_>) -> Result<LevelInner, Fault>
+    ensures value { IfOk result (λ kind. as_str (view node.now.value.now) ≡ Some (kind_name kind)) }
+{
+    match node.value.as_str() {
+        Some("error") => Ok(LevelInner::Error),
+        Some("warning") => Ok(LevelInner::Warning),
+        Some("info") => Ok(LevelInner::Info),
+        Some("note") => Ok(LevelInner::Note),
+        Some("help") => Ok(LevelInner::Help),
+        _ => Err(node.unexpected(Expectation::LevelKind)),
+    }
+}
+
+impl<'v> Read<'v> for Element<'v> {
+    ghost says = { IsElementOf };
+
+    ghost fits = { ElementFits };
+
+    fn read(node: &Node<'v, '_>) -> Result<Self, Fault> {
+        node.has_only(Shape::Element)?;
+        if node.has_one_field() {
+            element_of(node)
+        } else {
+            Err(node.unexpected(Expectation::Element))
+        }
+    }
+}
+
+/// The element that the field of an object makes.
+fn element_of<'v>(node: &Node<'v, '_>) -> Result<Element<'v>, Fault>
+    ensures value { IfOk result (IsElementOf (view node.now.value.now)) }
+    ensures fits { IfOk result ElementFits }
+{
+    if node.has("message") {
+        message_in(node)
+    } else if node.has("cause") {
+        cause_in(node)
+    } else if node.has("suggestion") {
+        suggestion_in(node)
+    } else if node.has("origin") {
+        origin_in(node)
+    } else {
+        padding_in(node)
+    }
+}
+
+/// The message in the field of that name, as an element; the next four in the same way.
+fn message_in<'v>(node: &Node<'v, '_>) -> Result<Element<'v>, Fault>
+    ensures value { IfOk result (IsElementOf (view node.now.value.now)) }
+    ensures fits { IfOk result ElementFits }
+{
+    let message = message_of(&node.needed("message", Expectation::Object)?)?;
+    Ok(Element::Message(message))
+}
+
+fn cause_in<'v>(node: &Node<'v, '_>) -> Result<Element<'v>, Fault>
+    ensures value { IfOk result (IsElementOf (view node.now.value.now)) }
+    ensures fits { IfOk result ElementFits }
+{
+    let cause = node.needed("cause", Expectation::Object)?;
+    Ok(Element::Cause(snippet_of(&cause, Shape::Cause, "annotations")?))
+}
+
+fn suggestion_in<'v>(node: &Node<'v, '_>) -> Result<Element<'v>, Fault>
+    ensures value { IfOk result (IsElementOf (view node.now.value.now)) }
+    ensures fits { IfOk result ElementFits }
+{
+    let suggestion = node.needed("suggestion", Expectation::Object)?;
+    Ok(Element::Suggestion(snippet_of(&suggestion, Shape::Suggestion, "patches")?))
+}
+
+fn origin_in<'v>(node: &Node<'v, '_>) -> Result<Element<'v>, Fault>
+    ensures value { IfOk result (IsElementOf (view node.now.value.now)) }
+    ensures fits { IfOk result ElementFits }
+{
+    let origin = origin_of(&node.needed("origin", Expectation::Object)?)?;
+    Ok(Element::Origin(origin))
+}
+
+fn padding_in<'v>(node: &Node<'v, '_>) -> Result<Element<'v>, Fault>
+    ensures value { IfOk result (IsElementOf (view node.now.value.now)) }
+    ensures fits { IfOk result ElementFits }
+{
+    let padding = node.needed("padding", Expectation::Object)?;
+    padding.has_only(Shape::Padding)?;
+    Ok(Element::Padding(Padding))
+}
+
+/// The message that is described.
+fn message_of<'v>(node: &Node<'v, '_>) -> Result<Message<'v>, Fault>
+    ensures value { IfOk result (IsMessageOf (view node.now.value.now)) }
+    ensures fits { IfOk result MessageFits }
+{
+    node.has_only(Shape::Message)?;
+    let level = level_in(node)?;
+    let text = node.text("text")?;
+    Ok(Message {
+        level,
+        text: CowStr::Borrowed(text),
+    })
+}
+
+/// The snippet of this shape that is described, with the markers in the field of this name.
+fn snippet_of<'v, T: Read<'v> + Drop>(
+    node: &Node<'v, '_>,
+    shape: Shape,
+    markers: &str,
+) -> Result<Snippet<'v, T>, Fault>
+    ensures value { IfOk result (IsSnippetOf T.says markers.now (view node.now.value.now)) }
+    ensures fits { IfOk result (SnippetFits T.fits) }
+{
+    node.has_only(shape)?;
+    let source = node.text("source")?;
+    let path = node.optional_text("path")?;
+    let line_start = node.number_or("line_start", 1)?;
+    let line_numbering = node.flag_or("line_numbering", true)?;
+    let fold = node.flag_or("fold", true)?;
+    let markers = node.list(markers)?;
+    Ok(Snippet {
+        source: CowStr::Borrowed(source),
+        path: lent(path),
+        line_start,
+        line_numbering,
+        fold,
+        markers,
+    })
+}
+
+impl<'v> Read<'v> for Annotation<'v> {
+    ghost says = { IsAnnotationOf };
+
+    ghost fits = { AnnotationFits };
+
+    fn read(node: &Node<'v, '_>) -> Result<Self, Fault> {
+        node.has_only(Shape::Annotation)?;
+        let kind = mark_of(&node.needed("kind", Expectation::AnnotationKind)?)?;
+        let start = node.number("start")?;
+        let end = node.number("end")?;
+        let label = node.optional_text("label")?;
+        let highlight_source = node.flag_or("highlight_source", false)?;
+        Ok(Annotation {
+            span: start..end,
+            label: lent(label),
+            kind,
+            highlight_source,
+        })
+    }
+}
+
+/// The kind of annotation of this name.
+fn mark_of(node: &Node<'_, '_>) -> Result<AnnotationKind, Fault>
+    ensures value { IfOk result (λ kind. as_str (view node.now.value.now) ≡ Some (mark_name kind)) }
+{
+    match node.value.as_str() {
+        Some("primary") => Ok(AnnotationKind::Primary),
+        Some("context") => Ok(AnnotationKind::Context),
+        Some("visible") => Ok(AnnotationKind::Visible),
+        _ => Err(node.unexpected(Expectation::AnnotationKind)),
+    }
+}
+
+impl<'v> Read<'v> for Patch<'v> {
+    ghost says = { IsPatchOf };
+
+    ghost fits = { PatchFits };
+
+    fn read(node: &Node<'v, '_>) -> Result<Self, Fault> {
+        node.has_only(Shape::Patch)?;
+        let start = node.number("start")?;
+        let end = node.number("end")?;
+        let text = node.text("text")?;
+        Ok(Patch {
+            span: start..end,
+            replacement: CowStr::Borrowed(text),
+        })
+    }
+}
+
+/// The origin that is described.
+fn origin_of<'v>(node: &Node<'v, '_>) -> Result<Origin<'v>, Fault>
+    ensures value { IfOk result (IsOriginOf (view node.now.value.now)) }
+    ensures fits { IfOk result (λ origin. TextFits (cow_str_bytes origin.path)) }
+{
+    node.has_only(Shape::Origin)?;
+    let path = node.text("path")?;
+    let line = node.optional_number("line")?;
+    let char_column = node.optional_number("column")?;
+    Ok(Origin {
+        path: CowStr::Borrowed(path),
+        line,
+        char_column,
+    })
+}
