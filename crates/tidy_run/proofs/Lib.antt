@@ -6,3 +6,4 @@ pub mod RunLemmas
 pub mod BlankLemmas
 pub mod EndLemmas
 mod Examples
+mod ToldLemmas

@@ -1,2 +1,3 @@
 pub mod Findings
+pub mod Report
 pub mod Rules

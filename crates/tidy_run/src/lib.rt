@@ -3,6 +3,7 @@
 
 pub mod final_line;
 pub mod lint;
+pub mod report;
 pub mod rule;
 pub mod tabs;
 pub mod trailing_blanks;
