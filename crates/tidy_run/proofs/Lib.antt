@@ -7,3 +7,4 @@ pub mod BlankLemmas
 pub mod EndLemmas
 mod Examples
 mod ToldLemmas
+mod WithinLemmas

@@ -4,10 +4,10 @@ use Rattle.std.specs.declared.alloc.AllocError.{AllocError}
 use Rattle.std.specs.Cow.{cow_str_bytes}
 use Rattle.std.specs.List.{AllZip, flat_map}
 use Rattle.std.proofs.Math.Seq.{take-suc}
-use Rattle.snippet_model.specs.declared.level.Level.{Level}
-use Rattle.snippet_model.specs.declared.snippet.Element.{Element}
-use Rattle.snippet_model.specs.declared.snippet.Group.{Group}
-use Rattle.snippet_model.specs.declared.snippet.Title.{Title}
+use Rattle.annotate_snippets.specs.declared.level.Level.{Level}
+use Rattle.annotate_snippets.specs.declared.snippet.Element.{Element}
+use Rattle.annotate_snippets.specs.declared.snippet.Group.{Group}
+use Rattle.annotate_snippets.specs.declared.snippet.Title.{Title}
 use Rattle.tidy_run.specs.Report.{IsGroupOf, IsReportOf, Tells, Told}
 
 -- a group of a title and an element, where there is memory for it

@@ -3,23 +3,17 @@ use Rattle.std.specs.Prelude.{◌≡◌, ℕ, Bool, true, false, List, [], ◌�
 use Rattle.std.specs.Cow.{cow_str_bytes}
 use Rattle.std.specs.List.{AllZip}
 use Rattle.std.specs.Option.{option_map}
-use Rattle.snippet_style.specs.declared.role.LevelInner.TheVariants as kind
-use Rattle.snippet_model.specs.declared.level.Level.{Level}
-use Rattle.snippet_model.specs.declared.level.LevelName.TheVariants.{Standard}
-use Rattle.snippet_model.specs.declared.snippet.Annotation.{Annotation}
-use Rattle.snippet_model.specs.declared.snippet.AnnotationKind.TheVariants.{Primary}
-use Rattle.snippet_model.specs.declared.snippet.Element.{Element}
-use Rattle.snippet_model.specs.declared.snippet.Element.TheVariants.{Cause, Suggestion}
-use Rattle.snippet_model.specs.declared.snippet.Group.{Group}
-use Rattle.snippet_model.specs.declared.snippet.Patch.{Patch}
-use Rattle.snippet_model.specs.declared.snippet.Snippet.{Snippet}
-use Rattle.snippet_model.specs.declared.snippet.Title.{Title}
+use Rattle.annotate_snippets.specs.declared.level.Level.{Level}
+use Rattle.annotate_snippets.specs.Levels.{help_level, warning_level}
+use Rattle.annotate_snippets.specs.declared.snippet.Annotation.{Annotation}
+use Rattle.annotate_snippets.specs.declared.snippet.AnnotationKind.TheVariants.{Primary}
+use Rattle.annotate_snippets.specs.declared.snippet.Element.{Element}
+use Rattle.annotate_snippets.specs.declared.snippet.Element.TheVariants.{Cause, Suggestion}
+use Rattle.annotate_snippets.specs.declared.snippet.Group.{Group}
+use Rattle.annotate_snippets.specs.declared.snippet.Patch.{Patch}
+use Rattle.annotate_snippets.specs.declared.snippet.Snippet.{Snippet}
+use Rattle.annotate_snippets.specs.declared.snippet.Title.{Title}
 use Rattle.tidy_run.specs.Findings.{Finding}
-
-abbrev pub warning_level : Level
-warning_level = record { name = Standard; kind = kind.Warning }
-abbrev pub help_level : Level
-help_level = record { name = Standard; kind = kind.Help }
 
 -- the mark of a finding: a primary one of its bytes, without a label
 abbrev pub mark_of : Finding → Annotation

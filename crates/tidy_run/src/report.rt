@@ -1,14 +1,17 @@
 //! The report of what rules found in a file, and of how to mend it.
-ghost use Rattle.std.specs.Prelude.{◌≡◌, List, ◌++◌, IfOk, map};
+ghost use Rattle.std.specs.Prelude.{◌≡◌, All, List, ◌++◌, IfOk, map};
 ghost use Rattle.std.specs.List.{flat_map};
 ghost use Rattle.std.specs.Result.{OnOk};
-ghost use Rattle.snippet_model.specs.declared.snippet.Group.{Group};
-ghost use Rattle.tidy_run.specs.Findings.{IsTitle, finding_of, findings_of};
+ghost use Rattle.annotate_snippets.specs.declared.snippet.Group.{Group};
+ghost use Rattle.annotate_snippets.specs.Fault.{IsWithinBounds};
+ghost use Rattle.annotate_snippets.specs.Fits.{TextFits};
+ghost use Rattle.annotate_snippets.specs.Settings.{plain_settings};
+ghost use Rattle.tidy_run.specs.Findings.{AreInside, IsTitle, finding_of, findings_of};
 ghost use Rattle.tidy_run.specs.Report.{IsHelp, IsOfFile, IsReportOf, IsWarning, mark_of, mended_by, told_of};
 
 use crate::rule::{Edit, Rule};
-use snippet_model::level::{HELP, WARNING};
-use snippet_model::{Annotation, AnnotationKind, Element, Group, OptionCow, Patch, Snippet};
+use annotate_snippets::level::{HELP, WARNING};
+use annotate_snippets::{Annotation, AnnotationKind, Element, Group, OptionCow, Patch, Snippet};
 use std::alloc::{AllocError, Global};
 
 /// The file with a mark at each edit.
@@ -115,8 +118,12 @@ pub fn report<'a>(
 ) -> Result<Vec<Group<'a>>, AllocError>
     requires findings { map (λ edits. map finding_of edits.items) findings.now
         ≡ map (λ rule. findings_of (finds rule source.now) source.now) rules.now }
+    requires inside { All (λ edits. AreInside source.now 0 (map finding_of edits.items)) findings.now }
+    requires path { TextFits path.now }
+    requires source { TextFits source.now }
     ensures told { IfOk result (λ groups. IsReportOf path.now source.now
         (flat_map (λ rule. told_of (title_of rule) (findings_of (finds rule source.now) source.now)) rules.now) groups.items) }
+    ensures bounds { IfOk result (λ groups. IsWithinBounds plain_settings groups.items) }
 {
     let mut groups = Vec::new(alloc);
     for (i, rule) in rules.iter().enumerate() {

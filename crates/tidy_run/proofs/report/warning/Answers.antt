@@ -1,10 +1,11 @@
 use Rattle.std.proofs.Common.{false, ◌≡◌, List, ℕ, map, ap, refl, ◌∙◌, subst}
 use Rattle.std.specs.Cow.{cow_str_bytes}
 use Rattle.std.proofs.lemmas.Result.{IfOk-weaker}
-use Rattle.snippet_model.specs.declared.snippet.Element.{Element}
-use Rattle.snippet_model.specs.declared.snippet.Element.TheVariants.{Cause}
+use Rattle.annotate_snippets.specs.declared.snippet.Element.{Element}
+use Rattle.annotate_snippets.specs.declared.snippet.Element.TheVariants.{Cause}
 use Rattle.tidy_run.specs.Findings.{finding_of}
-use Rattle.tidy_run.specs.Report.{IsGroupOf, IsWarning, warning_level}
+use Rattle.tidy_run.specs.Report.{IsGroupOf, IsWarning}
+use Rattle.annotate_snippets.specs.Levels.{warning_level}
 use Rattle.tidy_run.proofs.ToldLemmas.{group-of}
 use Rattle.tidy_run.proofs.report.warning.Goals as goal
 
