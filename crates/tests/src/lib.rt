@@ -8,3 +8,5 @@ mod replay;
 mod report;
 #[cfg(test)]
 mod snip;
+#[cfg(test)]
+mod tidy;

@@ -8,3 +8,4 @@ pub mod EndLemmas
 mod Examples
 mod ToldLemmas
 mod WithinLemmas
+mod FileLemmas

@@ -8,6 +8,8 @@ use Rattle.annotate_snippets.specs.Forms.{TextsShown}
 use Rattle.annotate_snippets.specs.Settings.{plain_settings, styled_settings}
 use Rattle.tidy_run.specs.Report.{IsReportOf, Told}
 use Rattle.tidy_run.specs.Words.{Word}
+use Rattle.tidy_run.specs.declared.run.Written.{Written}
+use Rattle.tidy_run.specs.declared.run.Written.TheVariants.{Nothing, All, Unlogged, Unprinted}
 
 -- what a file has to hold so that it is looked through: UTF-8 within the library's limit
 abbrev pub IsSource : List ℕ → Type 0
@@ -41,3 +43,11 @@ pub record IsWritten (path source : List ℕ) (told : List Told) (log : Option W
   pub texts : List (List ℕ)
   pub shows : ShowsTold path source told (sheets_for log) texts
   pub written : AreWritten log Printed Logged texts
+
+-- what became of texts: there are none, and nothing is written; all are written; LOG couldn't be written, and nothing is printed;
+-- or the first text couldn't be printed. Where there is no LOG, nothing is written to it
+abbrev pub Becomes : Written → Option Word → List (List ℕ) → (List ℕ → Type 0) → (List ℕ → Type 0) → Type 0 → Type 0 → Type 0
+Becomes Nothing log texts Printed Logged OutSame LogSame = (texts ≡ []) × OutSame × LogSame
+Becomes All log texts Printed Logged OutSame LogSame = AreWritten log Printed Logged texts × (log ≡ None → LogSame)
+Becomes (Unlogged name) log texts Printed Logged OutSame LogSame = OutSame × (log ≡ None → LogSame)
+Becomes Unprinted log texts Printed Logged OutSame LogSame = log ≡ None → LogSame

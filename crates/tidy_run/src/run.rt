@@ -1,5 +1,5 @@
 //! A run of the program, over the bytes of a file and three writers.
-ghost use Rattle.std.specs.Prelude.{◌≡◌, ◌≢◌, ℕ, ◌≤◌, ◌⊎◌, List, [], ◌∷◌, ◌++◌, None, IsOk, IsNone, IfOk, IfSome, IsSomeAnd, MatchOption, SomeIff, map, string_bytes};
+ghost use Rattle.std.specs.Prelude.{◌≡◌, ◌≢◌, ℕ, ◌≤◌, ◌⊎◌, List, [], ◌∷◌, ◌++◌, None, IsOk, IsNone, IfOk, IfSome, IsSomeAnd, MatchOption, SomeIff, length, map, string_bytes};
 ghost use Rattle.std.specs.Bool.{OnTrue};
 ghost use Rattle.std.specs.Io.KnownBytes.{Appends};
 ghost use Rattle.std.specs.List.{flat_map};
@@ -10,7 +10,7 @@ ghost use Rattle.annotate_snippets.specs.Forms.{TextsShown};
 ghost use Rattle.annotate_snippets.specs.Settings.{plain_settings};
 ghost use Rattle.tidy_run.specs.Findings.{findings_of};
 ghost use Rattle.tidy_run.specs.Report.{told_of};
-ghost use Rattle.tidy_run.specs.Run.{AreTextsOf, AreWritten, IsSource, IsWritten, sheets_for};
+ghost use Rattle.tidy_run.specs.Run.{AreTextsOf, Becomes, IsSource, IsWritten, sheets_for};
 ghost use Rattle.tidy_run.specs.Words.{line_of, said, words_at};
 
 use crate::lint::lint;
@@ -87,13 +87,13 @@ fn source_of(file: Option<&[u8]>) -> Option<&str>
 /// The texts of a report within bounds, one under each sheet; none where there are no groups.
 fn drawn(
     alloc: Global,
-    groups: &[Group<'_>],
+    groups: &Vec<Group<'_>>,
     sheets: &[Stylesheet],
 ) -> Result<Vec<String>, AllocError>
-    requires bounds { IsWithinBounds plain_settings groups.now }
-    ensures none { groups.now ≡ [] → IfOk result (λ texts. texts.items ≡ []) }
-    ensures shows { groups.now ≢ [] → IfOk result (λ texts.
-        TextsShown plain_settings groups.now sheets.now (map string_bytes texts.items)) }
+    requires bounds { IsWithinBounds plain_settings groups.now.items }
+    ensures none { groups.now.items ≡ [] → IfOk result (λ texts. texts.items ≡ []) }
+    ensures shows { groups.now.items ≢ [] → IfOk result (λ texts.
+        TextsShown plain_settings groups.now.items sheets.now (map string_bytes texts.items)) }
 {
     if groups.is_empty() {
         return Ok(Vec::new(alloc));
@@ -124,6 +124,28 @@ fn rendered<'a>(
     drawn(alloc, &groups, sheets)
 }
 
+/// The same under the sheets that the command asks for: with LOG there are two.
+fn rendered_for<'a>(
+    alloc: Global,
+    rules: &[Box<dyn Rule>],
+    command: &Command<'a>,
+    source: &'a str,
+) -> Result<Vec<String>, AllocError>
+    requires path { TextFits command.now.file.now }
+    requires source { TextFits source.now }
+    ensures shows { IfOk result (λ texts. AreTextsOf command.now.file.now source.now
+        (flat_map (λ rule. told_of (title_of rule) (findings_of (finds rule source.now) source.now)) rules.now)
+        (sheets_for (said command.now).log) (map string_bytes texts.items)) }
+{
+    match command.log {
+        Some(_) => {
+            let sheets = [Stylesheet::styled(), Stylesheet::plain()];
+            rendered(alloc, rules, command.file, source, &sheets)
+        }
+        None => rendered(alloc, rules, command.file, source, &[Stylesheet::plain()]),
+    }
+}
+
 /// The texts that the command asks for.
 fn texts_of<'a>(
     alloc: Global,
@@ -143,13 +165,7 @@ fn texts_of<'a>(
     if !text_fits(command.file) {
         return Err(unreadable(alloc, command.file));
     }
-    let texts = if command.log.is_some() {
-        let sheets = [Stylesheet::styled(), Stylesheet::plain()];
-        rendered(alloc, rules, command.file, source, &sheets)
-    } else {
-        rendered(alloc, rules, command.file, source, &[Stylesheet::plain()])
-    };
-    texts.map_err(|_| Failure::Memory)
+    rendered_for(alloc, rules, command, source).map_err(|_| Failure::Memory)
 }
 
 /// Prints a line, and says whether all of it was written.
@@ -158,4 +174,109 @@ fn print_line<W: Write, D: fmt::Display + Drop>(out: &mut W, line: D) -> bool
         (λ text. Appends (W.contents out.old) (W.contents out.new) (text ++ LINE_FEED ∷ []))) }
 {
     out.writeln(line).is_ok() && out.flush().is_ok()
+}
+
+/// What became of a command's texts.
+#[derive(Clone, Copy, Debug, PartialEq, Eq)]
+enum Written<'a> {
+    /// There are none.
+    Nothing,
+    /// They were written.
+    All,
+    /// LOG of this name couldn't be written, and nothing was printed.
+    Unlogged(&'a str),
+    /// What was to be printed couldn't be.
+    Unprinted,
+}
+
+/// Writes a command's texts: the last to LOG where there is one, and then the first to `out`.
+fn write_texts<'a, W: Write, L: Write>(
+    command: &Command<'a>,
+    texts: &[String],
+    out: &mut W,
+    log: &mut L,
+) -> Written<'a>
+    requires count { (texts.now ≡ []) ⊎ (length texts.now ≡ length (sheets_for (said command.now).log)) }
+    ensures written { Becomes result (said command.now).log (map string_bytes texts.now)
+        (λ text. Appends (W.contents out.old) (W.contents out.new) (text ++ LINE_FEED ∷ []))
+        (λ text. Appends (L.contents log.old) (L.contents log.new) (text ++ LINE_FEED ∷ []))
+        (out.new ≡ out.old) (log.new ≡ log.old) }
+{
+    let (Some(shown), Some(plain)) = (texts.first(), texts.last()) else {
+        return Written::Nothing;
+    };
+    if let Some(name) = command.log {
+        if !print_line(log, plain.as_str()) {
+            return Written::Unlogged(name);
+        }
+    }
+    if print_line(out, shown.as_str()) {
+        Written::All
+    } else {
+        Written::Unprinted
+    }
+}
+
+/// Looks through a file by rules and prints what they find, as the words ask for, and answers the status to end with.
+///
+/// `file` is what FILE holds, or `None` where it can't be read; `log` writes to LOG, and isn't written to where the words
+/// name none. The status is 0 where the rules find nothing, 1 where what they find was printed, else 2. With LOG the
+/// report is printed in colours, once it stands in LOG without.
+///
+/// | Status | `out` | `log` | `err` |
+/// |---|---|---|---|
+/// | 0 | as it was | as it was | as it was |
+/// | 1 | the report and a line feed more | with LOG the report and a line feed more | as it was |
+/// | 2, what was in the way of the report | as it was | as it was | a message more, if it can be written |
+/// | 2, LOG couldn't be written | as it was | a part of the report more | the same |
+/// | 2, the report couldn't be printed | a part of it more | with LOG the report and a line feed more | as it was |
+pub fn run<W: Write, V: Write, L: Write>(
+    alloc: Global,
+    rules: &[Box<dyn Rule>],
+    words: &[&str],
+    file: Option<&[u8]>,
+    out: &mut W,
+    err: &mut V,
+    log: &mut L,
+) -> u8
+    ensures status { result ≤ 2 }
+    ensures usage { line_of (words_at words.now) ≡ None → result ≡ 2 }
+    ensures read { result ≤ 1 → IsSomeAnd (option_copied file.entry) IsSource }
+    // Nothing is told of the file, and nothing is written.
+    ensures clean { result ≡ 0 → (out.new ≡ out.old) × (err.new ≡ err.old) × (log.new ≡ log.old)
+        × IfSome (option_copied file.entry) (λ source.
+            flat_map (λ rule. told_of (title_of rule) (findings_of (finds rule source) source)) rules.now ≡ []) }
+    // What is told of the file is printed, and with LOG written to that.
+    ensures printed { result ≡ 1 → IfSome (line_of (words_at words.now)) (λ line. IfSome (option_copied file.entry) (λ source.
+        IsWritten line.file source
+        (flat_map (λ rule. told_of (title_of rule) (findings_of (finds rule source) source)) rules.now) line.log
+        (λ text. Appends (W.contents out.old) (W.contents out.new) (text ++ LINE_FEED ∷ []))
+        (λ text. Appends (L.contents log.old) (L.contents log.new) (text ++ LINE_FEED ∷ [])))) }
+    ensures no_fault { result ≡ 1 → err.new ≡ err.old }
+    ensures unlogged { IfSome (line_of (words_at words.now)) (λ line. line.log ≡ None → log.new ≡ log.old) }
+    // Either `out` is as it was; or there was a report that couldn't be printed, and `err` is as it was.
+    ensures failed { result ≡ 2 → (out.new ≡ out.old)
+        ⊎ ((err.new ≡ err.old) × IsSomeAnd (option_copied file.entry) IsSource) }
+{
+    let Some(command) = command_of(words) else {
+        print_line(err, USAGE);
+        return FAILED;
+    };
+    let texts = match texts_of(alloc, rules, &command, file) {
+        Ok(texts) => texts,
+        Err(failure) => {
+            print_line(err, format_args!("tidy: {failure}"));
+            return FAILED;
+        }
+    };
+    match write_texts(&command, &texts, out, log) {
+        Written::Nothing => CLEAN,
+        Written::All => FOUND,
+        Written::Unlogged(name) => {
+            let failure = unwritable(alloc, name);
+            print_line(err, format_args!("tidy: {failure}"));
+            FAILED
+        }
+        Written::Unprinted => FAILED,
+    }
 }
