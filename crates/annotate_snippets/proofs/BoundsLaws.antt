@@ -33,10 +33,13 @@ border-between source b between = by_cases (cases_lt b (length source))
   where
     border : is_character_border source b ≡ true → is_span_border source b ≡ true
     border is = ap (λ t. t || b == length source + 1) is
+
     low : b ≤ length source → slice_index source b < 128 → is_character_border source b ≡ true
     low within small = grind (arith, nat_tests)
+
     high : b ≤ length source → 192 ≤ slice_index source b → is_character_border source b ≡ true
     high within great = grind (arith, nat_tests)
+
     by_cases : (b < length source) ⊎ (length source ≤ b) → is_span_border source b ≡ true
     by_cases (inl inside) = elim (cases_lt (slice_index source b) 128) [
       | inl small ↦ border (low between.0 small)

@@ -13,28 +13,36 @@ use tidy_run::trailing_blanks::TrailingBlanks;
 type Run<'a> = (&'a [&'a str], Option<&'a [u8]>, u8, &'a str, &'a str);
 
 /// Blanks at the end of a line.
-const BLANKS: &str = "warning: trailing blanks\n --> a.rs:1:2\n  |\n1 | x  \n  |  ^^\n  |\nhelp: apply this\n  |\n1 | x\n  |\n";
+const BLANKS: &str =
+    "warning: trailing blanks\n --> a.rs:1:2\n  |\n1 | x  \n  |  ^^\n  |\nhelp: apply this\n  |\n1 | x\n  |\n";
 
 /// A tab before a letter.
-const TAB: &str = "warning: tab\n --> a.rs:1:1\n  |\n1 |     y\n  | ^^^^\n  |\nhelp: apply this\n  |\n1 |     y\n  | ++++\n";
+const TAB: &str =
+    "warning: tab\n --> a.rs:1:1\n  |\n1 |     y\n  | ^^^^\n  |\nhelp: apply this\n  |\n1 |     y\n  | ++++\n";
 
 /// No line feed at the end.
-const NO_END: &str = "warning: no final line end\n --> a.rs:1:2\n  |\n1 | z\n  |  ^\n  |\nhelp: apply this\n  |\n1 | z\n  |  +\n";
+const NO_END: &str =
+    "warning: no final line end\n --> a.rs:1:2\n  |\n1 | z\n  |  ^\n  |\nhelp: apply this\n  |\n1 | z\n  |  +\n";
 
 /// Two lines, each with a fault of its own.
-const TWO_LINES: &str = "warning: trailing blanks\n --> a.rs:1:2\n  |\n1 | x  \n  |  ^^\n  |\nhelp: apply this\n  |\n1 | x\n  |\nwarning: tab\n --> a.rs:2:1\n  |\n2 |     y\n  | ^^^^\nhelp: apply this\n  |\n2 |     y\n  | ++++\n";
+const TWO_LINES: &str =
+    "warning: trailing blanks\n --> a.rs:1:2\n  |\n1 | x  \n  |  ^^\n  |\nhelp: apply this\n  |\n1 | x\n  |\nwarning: tab\n --> a.rs:2:1\n  |\n2 |     y\n  | ^^^^\nhelp: apply this\n  |\n2 |     y\n  | ++++\n";
 
 /// All three rules find something in one line.
-const THREE_RULES: &str = "warning: trailing blanks\n --> a.rs:1:3\n  |\n1 |     x \n  |      ^\n  |\nhelp: apply this\n  |\n1 |     x\n  |\nwarning: tab\n --> a.rs:1:1\n  |\n1 |     x \n  | ^^^^\nhelp: apply this\n  |\n1 |     x \n  | ++++\nwarning: no final line end\n --> a.rs:1:4\n  |\n1 |     x \n  |       ^\nhelp: apply this\n  |\n1 |     x \n  |       +\n";
+const THREE_RULES: &str =
+    "warning: trailing blanks\n --> a.rs:1:3\n  |\n1 |     x \n  |      ^\n  |\nhelp: apply this\n  |\n1 |     x\n  |\nwarning: tab\n --> a.rs:1:1\n  |\n1 |     x \n  | ^^^^\nhelp: apply this\n  |\n1 |     x \n  | ++++\nwarning: no final line end\n --> a.rs:1:4\n  |\n1 |     x \n  |       ^\nhelp: apply this\n  |\n1 |     x \n  |       +\n";
 
 /// A blank before CR LF.
-const BEFORE_CR: &str = "warning: trailing blanks\n --> a.rs:1:2\n  |\n1 | x \n  |  ^\n  |\nhelp: apply this\n  |\n1 | x\n  |\n";
+const BEFORE_CR: &str =
+    "warning: trailing blanks\n --> a.rs:1:2\n  |\n1 | x \n  |  ^\n  |\nhelp: apply this\n  |\n1 | x\n  |\n";
 
 /// Nothing but tabs, and a line feed.
-const ONLY_TABS: &str = "warning: trailing blanks\n --> a.rs:1:1\n  |\n1 |         \n  | ^^^^^^^^\n  |\nhelp: apply this\n1 -         \n  |\nwarning: tab\n --> a.rs:1:1\n  |\n1 |         \n  | ^^^^^^^^\nhelp: apply this\n  |\n1 |         \n  | ++++++++\n";
+const ONLY_TABS: &str =
+    "warning: trailing blanks\n --> a.rs:1:1\n  |\n1 |         \n  | ^^^^^^^^\n  |\nhelp: apply this\n1 -         \n  |\nwarning: tab\n --> a.rs:1:1\n  |\n1 |         \n  | ^^^^^^^^\nhelp: apply this\n  |\n1 |         \n  | ++++++++\n";
 
 /// A tab at the end of a line, which two rules find.
-const LAST_TAB: &str = "warning: trailing blanks\n --> a.rs:1:2\n  |\n1 | x    \n  |  ^^^^\n  |\nhelp: apply this\n  |\n1 | x\n  |\nwarning: tab\n --> a.rs:1:2\n  |\n1 | x    \n  |  ^^^^\nhelp: apply this\n  |\n1 | x    \n  |  ++++\n";
+const LAST_TAB: &str =
+    "warning: trailing blanks\n --> a.rs:1:2\n  |\n1 | x    \n  |  ^^^^\n  |\nhelp: apply this\n  |\n1 | x\n  |\nwarning: tab\n --> a.rs:1:2\n  |\n1 | x    \n  |  ^^^^\nhelp: apply this\n  |\n1 | x    \n  |  ++++\n";
 
 const USAGE: &str = "usage: tidy [--log LOG] FILE\n";
 
@@ -58,7 +66,13 @@ const RUNS: [Run<'static>; 20] = [
     // What is in the way.
     (&["a.rs"], None, 2, "", NO_FILE),
     (&["--log", "l", "a.rs"], Some(b"\xff"), 2, "", NO_FILE),
-    (&["a\t\x1b"], None, 2, "", "tidy: cannot read a    \u{241b}\n"),
+    (
+        &["a\t\x1b"],
+        None,
+        2,
+        "",
+        "tidy: cannot read a    \u{241b}\n",
+    ),
     (&[], Some(b"z"), 2, "", USAGE),
     (&["--log"], Some(b"z"), 2, "", USAGE),
     (&["--log", "a.rs"], Some(b"z"), 2, "", USAGE),
@@ -106,11 +120,18 @@ fn does(alloc: Global, wanted: Run<'_>) -> Result<bool, AllocError> {
     let answer = status_of(alloc, words, file, &mut out, &mut err, &mut log)?;
     let logs = words.len() == 3 && status == 1;
     let plain = unstyled(alloc, &out)?;
-    Ok(answer == status
-        && err.as_slice() == told.as_bytes()
-        && plain.as_slice() == printed.as_bytes()
-        && log.as_slice() == (if logs { printed.as_bytes() } else { b"".as_slice() })
-        && (logs || plain.len() == out.len()))
+    Ok(
+        answer == status
+            && err.as_slice() == told.as_bytes()
+            && plain.as_slice() == printed.as_bytes()
+            && log.as_slice()
+                == (if logs {
+                    printed.as_bytes()
+                } else {
+                    b"".as_slice()
+                })
+            && (logs || plain.len() == out.len()),
+    )
 }
 
 #[test]
@@ -167,13 +188,29 @@ fn tells_of_a_log_and_not_of_a_failed_print(rt: HostRuntime) -> Result<(), Fail>
     let mut log = Vec::new(alloc);
     let source = Some(b"z".as_slice());
     let logged = ["--log", "l\x1b", "a.rs"];
-    assert_eq!(rt; status_of(alloc, &logged, source, &mut out, &mut err, &mut Full)?, 2);
+    assert_eq!(rt;
+        status_of(alloc, &logged, source, &mut out, &mut err, &mut Full)?,
+        2
+    );
     assert_eq!(rt; err.as_slice(), "tidy: cannot write l\u{241b}\n".as_bytes());
     assert!(rt; out.is_empty());
     err.clear();
-    assert_eq!(rt; status_of(alloc, &logged, source, &mut Full, &mut err, &mut log)?, 2);
+    assert_eq!(rt;
+        status_of(alloc, &logged, source, &mut Full, &mut err, &mut log)?,
+        2
+    );
     assert_eq!(rt; log.as_slice(), NO_END.as_bytes());
     assert!(rt; err.is_empty());
-    assert_eq!(rt; status_of(alloc, &["a.rs"], Some(b"ok\n"), &mut Full, &mut err, &mut Full)?, 0);
+    assert_eq!(rt;
+        status_of(
+            alloc,
+            &["a.rs"],
+            Some(b"ok\n"),
+            &mut Full,
+            &mut err,
+            &mut Full
+        )?,
+        0
+    );
     Ok(())
 }

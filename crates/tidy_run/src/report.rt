@@ -127,7 +127,14 @@ pub fn report<'a>(
 {
     let mut groups = Vec::new(alloc);
     for (i, rule) in rules.iter().enumerate() {
-        tell(alloc, &mut groups, box_title(rule), path, source, &findings[i])?;
+        tell(
+            alloc,
+            &mut groups,
+            box_title(rule),
+            path,
+            source,
+            &findings[i],
+        )?;
     }
     Ok(groups)
 }

@@ -17,10 +17,10 @@ use crate::lint::lint;
 use crate::report::report;
 use crate::rule::Rule;
 use crate::words::{Command, command_of};
-use annotate_snippets::{Group, Renderer};
 use annotate_snippets::renderer::RenderError;
 use annotate_snippets::renderer::style::Stylesheet;
 use annotate_snippets::text::{normalize_untrusted_str, text_fits};
+use annotate_snippets::{Group, Renderer};
 use std::alloc::{AllocError, Global};
 use std::io::Write;
 use std::{fmt, str};
@@ -245,7 +245,7 @@ pub fn run<W: Write, V: Write, L: Write>(
     // Nothing is told of the file, and nothing is written.
     ensures clean { result ≡ 0 → (out.new ≡ out.old) × (err.new ≡ err.old) × (log.new ≡ log.old)
         × IfSome (option_copied file.entry) (λ source.
-            flat_map (λ rule. told_of (title_of rule) (findings_of (finds rule source) source)) rules.now ≡ []) }
+        flat_map (λ rule. told_of (title_of rule) (findings_of (finds rule source) source)) rules.now ≡ []) }
     // What is told of the file is printed, and with LOG written to that.
     ensures printed { result ≡ 1 → IfSome (line_of (words_at words.now)) (λ line. IfSome (option_copied file.entry) (λ source.
         IsWritten line.file source

@@ -17,10 +17,10 @@ returns c =
     c.element.ensures.title c.element.ensures.level c.element.ensures.elements title.level (ap cow_str_bytes title.text) title.id title.trusted in
     record {
       told = IfOk-weaker c.element.result (IsGroupOf help_level (codes "apply this") true c.from.result) (IsHelp c.args.path.now c.args.source.now (map finding_of c.args.edits.now))
-      (λ g of. record {
-        snippet = snippet;
-        of_file = c.in_ok-snippet.ensures.of_file;
-        patches = c.in_ok-snippet.ensures.patches;
-        is = subst (λ (e : Element). IsGroupOf help_level (codes "apply this") true e g) c.from.ensures of;
-      }) is;
+          (λ g of. record {
+            snippet = snippet;
+            of_file = c.in_ok-snippet.ensures.of_file;
+            patches = c.in_ok-snippet.ensures.patches;
+            is = subst (λ (e : Element). IsGroupOf help_level (codes "apply this") true e g) c.from.ensures of;
+          }) is;
     }
