@@ -8,5 +8,3 @@ mod replay;
 mod report;
 #[cfg(test)]
 mod snip;
-#[cfg(test)]
-mod tidy;

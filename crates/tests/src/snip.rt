@@ -176,7 +176,7 @@ fn does_what_its_words_ask_for(rt: HostRuntime) {
 
 /// A writer that takes nothing.
 #[derive(Drop)]
-pub struct Full;
+struct Full;
 
 impl Write for Full {
     fn write(&mut self, _buf: &[u8]) -> io::Result<usize> {

@@ -1,6 +1,6 @@
 //! Runs of `tidy`, by words, the bytes of a file and three writers.
-use crate::snip::Full;
 use std::alloc::{AllocError, Global};
+use std::io;
 use std::io::Write;
 use std::test::Fail;
 use tidy_run::final_line::FinalLine;
@@ -140,6 +140,20 @@ fn tells_what_its_rules_find(rt: HostRuntime) -> Result<(), Fail> {
         assert!(rt; does(rt.alloc(), wanted)?, "{wanted:?}");
     }
     Ok(())
+}
+
+/// A writer that takes nothing.
+#[derive(Drop)]
+struct Full;
+
+impl Write for Full {
+    fn write(&mut self, _buf: &[u8]) -> io::Result<usize> {
+        Err(io::Error::from(io::ErrorKind::Other))
+    }
+
+    fn flush(&mut self) -> io::Result<()> {
+        Ok(())
+    }
 }
 
 /// What is told of so many lines, each an `x` and a blank; there are 10,000 to 99,999 of them.
