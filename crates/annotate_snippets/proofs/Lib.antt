@@ -1,4 +1,5 @@
 pub mod AroundLaws
+pub mod BoundsLaws
 pub mod CauseShown
 pub mod DisjointLemmas
 pub mod ElementRows

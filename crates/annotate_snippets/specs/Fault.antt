@@ -7,7 +7,7 @@ use Rattle.snippet_model.specs.declared.snippet.Group.{Group}
 use Rattle.snippet_model.specs.declared.snippet.Patch.{Patch}
 use Rattle.snippet_model.specs.declared.snippet.Element.{Element}
 use Rattle.snippet_model.specs.declared.snippet.Element.TheVariants.{Message, Cause, Suggestion, Origin, Padding}
-use Rattle.snippet_model.specs.Fits.{ReportFits}
+use Rattle.snippet_model.specs.Fits.{GroupFits, ReportFits}
 use Rattle.snippet_lines.specs.Lines.{source_lines}
 use Rattle.snippet_lines.specs.Span.{span_fault}
 use Rattle.snippet_lines.specs.declared.span.SpanFault.{SpanFault}
@@ -104,3 +104,8 @@ first_refusal r groups = refusal_in (form_of r) groups
 pub record IsWithinBounds (r : Renderer) (groups : List Group) : Type 0 where
   pub faultless : first_refusal r groups ≡ None
   pub fits : ReportFits groups
+
+-- a group that is within bounds wherever it stands: none of its elements has a fault, and each of its texts fits
+pub record IsGroupWithinBounds (g : Group) : Type 0 where
+  pub faultless : (n : ℕ) → group_faults n g ≡ []
+  pub fits : GroupFits g

@@ -14,3 +14,5 @@ pub mod TextForm
 pub use Rattle.snippet_model.specs.Fits
 pub use Rattle.snippet_model.specs.Level
 pub use Rattle.snippet_model.specs.Trusted
+pub use Rattle.snippet_lines.specs.Span
+pub use Rattle.snippet_splice.specs.Edits

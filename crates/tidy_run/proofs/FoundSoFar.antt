@@ -1,8 +1,39 @@
 -- The findings so far, while a source is looked through.
-use Rattle.std.proofs.Common.{◌≡◌, refl, sym, ap, arith, ◌∙◌, ℕ, zero, suc, ◌+◌, ◌<◌, ◌≤◌, Option, Some, None, List, [], ◌∷◌, ◌++◌, length, if◌then◌else◌}
+use Rattle.std.proofs.Common.{◌≡◌, refl, sym, subst, ap, arith, ◌∙◌, ℕ, zero, suc, ◌+◌, ◌<◌, ◌≤◌, Option, Some, None, List, [], ◌∷◌, ◌++◌, length, if◌then◌else◌}
 use Rattle.std.proofs.lemmas.Bool.{lt-ltb, le-ltb}
 use Rattle.std.proofs.lemmas.List.{append-nil, append_assoc}
-use Rattle.tidy_run.specs.Findings.{Finding, IsFinding, findings_from, findings_of, with_rest}
+use Rattle.tidy_run.specs.Findings.{AreInside, Finding, IsFinding, findings_from, findings_of, with_rest}
+
+-- the byte at which findings from byte `at` on end
+abbrev pub reached : ℕ → List Finding → ℕ
+reached at [] = at
+reached at (f ∷ fs) = reached f.end fs
+
+reached-push : (at : ℕ) → (fs : List Finding) → (f : Finding) → reached at (fs ++ f ∷ []) ≡ f.end
+reached-push at [] f = refl
+reached-push at (g ∷ fs) f = reached-push g.end fs f
+
+-- one more finding
+inside-push : (source : List ℕ) → (at : ℕ) → (fs : List Finding) → (f : Finding) → AreInside source at fs → IsFinding source (reached at fs) f
+    → AreInside source at (fs ++ f ∷ [])
+inside-push source at [] f are is = (is, tt)
+inside-push source at (g ∷ fs) f are is = (are.0, inside-push source g.end fs f are.1 is)
+
+-- the findings so far are inside the source, and reach to a byte
+pub record ReachesTo (source : List ℕ) (found : List Finding) (from : ℕ) : Type 0 where
+  pub inside : AreInside source 0 found
+  pub reach : reached 0 found ≡ from
+
+pub reaches-none-yet : (source : List ℕ) → ReachesTo source [] 0
+reaches-none-yet source = record { inside = tt; reach = refl }
+
+pub reaches-next : (source : List ℕ) → (found : List Finding) → (from : ℕ) → (f : Finding) → ReachesTo source found from → IsFinding source from f
+    → ReachesTo source (found ++ f ∷ []) f.end
+reaches-next source found from f so_far is =
+    record {
+      inside = inside-push source 0 found f so_far.inside (subst (λ at. IsFinding source at f) (sym so_far.reach) is);
+      reach = reached-push 0 found f;
+    }
 
 -- what is found so far, up to byte `from`, where the rest comes after it: `fuel` is more than the bytes that are left
 pub record FoundSoFar (find : ℕ → Option Finding) (source : List ℕ) (found : List Finding) (from : ℕ) : Type 0 where

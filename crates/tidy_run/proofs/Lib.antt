@@ -6,3 +6,6 @@ pub mod RunLemmas
 pub mod BlankLemmas
 pub mod EndLemmas
 mod Examples
+mod ToldLemmas
+mod WithinLemmas
+mod FileLemmas

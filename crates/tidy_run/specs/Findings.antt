@@ -45,6 +45,11 @@ findings_from find (suc more) from = with_rest (findings_from find more) (find f
 unfoldable pub findings_of : (ℕ → Option Finding) → List ℕ → List Finding
 findings_of find source = findings_from find (length source + 1) 0
 
+-- findings of a source that come one after another from byte `at` on
+abbrev pub AreInside : List ℕ → ℕ → List Finding → Type 0
+AreInside source at [] = Unit {0}
+AreInside source at (f ∷ fs) = IsFinding source at f × AreInside source f.end fs
+
 -- a finding of ASCII characters, one or more, that begins at byte `at`: it ends at the source's end, or before one that is ASCII too
 pub record IsRunAt (source : List ℕ) (at : ℕ) (f : Finding) : Type 0 where
   pub begins : f.start ≡ at

@@ -1,2 +1,5 @@
 pub mod Findings
+pub mod Report
 pub mod Rules
+pub mod Run
+pub mod Words

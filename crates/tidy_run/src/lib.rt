@@ -3,6 +3,9 @@
 
 pub mod final_line;
 pub mod lint;
+pub mod report;
 pub mod rule;
+pub mod run;
 pub mod tabs;
 pub mod trailing_blanks;
+pub mod words;

@@ -1,7 +1,7 @@
 //! Looking through a source by rules.
 
-ghost use Rattle.std.specs.Prelude.{◌≡◌, ◌<◌, ◌≤◌, IfOk, map};
-ghost use Rattle.tidy_run.specs.Findings.{finding_of, findings_of};
+ghost use Rattle.std.specs.Prelude.{◌≡◌, ◌<◌, ◌≤◌, All, IfOk, map};
+ghost use Rattle.tidy_run.specs.Findings.{AreInside, finding_of, findings_of};
 
 use crate::rule::{Edit, Rule};
 use std::alloc::{AllocError, Global};
@@ -9,6 +9,7 @@ use std::alloc::{AllocError, Global};
 /// What a rule finds in a source.
 fn findings(alloc: Global, rule: &dyn Rule, source: &str) -> Result<Vec<Edit>, AllocError>
     ensures value { IfOk result (λ found. map finding_of found.items ≡ findings_of (finds rule.now source.now) source.now) }
+    ensures inside { IfOk result (λ found. AreInside source.now 0 (map finding_of found.items)) }
 {
     let mut found = Vec::new(alloc);
     let mut from = 0;
@@ -31,6 +32,8 @@ pub fn lint(
 ) -> Result<Vec<Vec<Edit>>, AllocError>
     ensures value { IfOk result (λ all. map (λ edits. map finding_of edits.items) all.items
         ≡ map (λ rule. findings_of (finds rule source.now) source.now) rules.now) }
+    // Each is inside the source, and none begins before the end of the one before it.
+    ensures inside { IfOk result (λ all. All (λ edits. AreInside source.now 0 (map finding_of edits.items)) all.items) }
 {
     let mut all = Vec::new(alloc);
     for rule in rules {
@@ -42,6 +45,7 @@ pub fn lint(
 /// What a rule in a box finds in a source.
 fn box_findings(alloc: Global, rule: &Box<dyn Rule>, source: &str) -> Result<Vec<Edit>, AllocError>
     ensures value { IfOk result (λ found. map finding_of found.items ≡ findings_of (finds rule.now source.now) source.now) }
+    ensures inside { IfOk result (λ found. AreInside source.now 0 (map finding_of found.items)) }
 {
     findings(alloc, rule.as_ref(), source)
 }

@@ -1,0 +1,155 @@
+-- When a report is within bounds: laws for those who make one.
+use Rattle.std.proofs.Common.{◌≡◌, ◌⊎◌, ℕ, suc, ◌+◌, ◌^◌, ◌<◌, ◌≤◌, ◌&&◌, ◌||◌, ◌==◌, nat_lt, Bool, true, false, List, [], ◌∷◌, ◌++◌, Option, Some, None, All, length, map, slice_index, refl, ap, ◌∙◌, arith, inl, inr, if◌then◌else◌}
+use Rattle.std.specs.Cow.{cow_str_bytes}
+use Rattle.std.specs.List.{count_by, position_from, sum_by}
+use Rattle.std.specs.Option.{option_map, option_or, option_to_list}
+use Rattle.std.specs.Str.{IsCharBoundary}
+use Rattle.std.specs.declared.ops.Range.{Range}
+use Rattle.std.proofs.lemmas.Bool.{cases_lt, le-ltb, lt-ltb}
+use Rattle.std.proofs.lemmas.Bool.Decides.{nat_tests}
+use Rattle.std.proofs.lemmas.List.{get_or_past}
+use Rattle.std.proofs.lemmas.List.Elements.{All-head, All-tail, All-weaker}
+use Rattle.std.proofs.lemmas.List.Sums.{count_by-le-length, sum_by-le-sum_by}
+use Rattle.snippet_lines.specs.declared.lines.EndLine.TheVariants.{Lf}
+use Rattle.snippet_lines.specs.declared.span.SpanFault.TheVariants.{Reversed, PastEnd, OffBoundary}
+use Rattle.snippet_lines.specs.Lines.{Line, lines_of, source_lines, with_first_byte}
+use Rattle.snippet_lines.specs.Span.{is_span_border, is_character_border, span_fault}
+use Rattle.snippet_model.specs.declared.snippet.Annotation.{Annotation}
+use Rattle.snippet_model.specs.declared.snippet.Element.TheVariants.{Cause, Suggestion}
+use Rattle.snippet_model.specs.declared.snippet.Group.{Group}
+use Rattle.snippet_model.specs.declared.snippet.Patch.{Patch}
+use Rattle.snippet_model.specs.declared.snippet.Snippet.{Snippet}
+use Rattle.snippet_model.specs.Fits.{GroupFits}
+use Rattle.snippet_splice.specs.Edits.{AreApart, Edit, edit_of, precedes}
+use Rattle.snippet_splice.specs.Overlap.{first_overlap, first_overlap_from, overlap}
+use Rattle.annotate_snippets.specs.Fault.{IsGroupWithinBounds, IsWithinBounds, added_lines, element_faults, faults_from, first_fault, first_of, group_faults, number_behind, number_faults, overlap_faults, refusal_of, span_faults}
+use Rattle.annotate_snippets.specs.Settings.{plain_settings}
+use Rattle.annotate_snippets.specs.declared.renderer.error.RenderError.{RenderError}
+use Rattle.annotate_snippets.specs.declared.renderer.error.RenderError.TheVariants.{LineNumberTooLarge, PatchesOverlap}
+
+-- a place between characters of a source is a border of spans
+border-between : (source : List ℕ) (b : ℕ) → IsCharBoundary source b → is_span_border source b ≡ true
+border-between source b between = by_cases (cases_lt b (length source))
+  where
+    border : is_character_border source b ≡ true → is_span_border source b ≡ true
+    border is = ap (λ t. t || b == length source + 1) is
+
+    low : b ≤ length source → slice_index source b < 128 → is_character_border source b ≡ true
+    low within small = grind (arith, nat_tests)
+
+    high : b ≤ length source → 192 ≤ slice_index source b → is_character_border source b ≡ true
+    high within great = grind (arith, nat_tests)
+
+    by_cases : (b < length source) ⊎ (length source ≤ b) → is_span_border source b ≡ true
+    by_cases (inl inside) = elim (cases_lt (slice_index source b) 128) [
+      | inl small ↦ border (low between.0 small)
+      | inr great ↦ border (high between.0 (between.1 inside great))
+    ]
+    by_cases (inr past) =
+        border (low between.0 (let none : slice_index source b ≡ 0 = get_or_past source b 0 past in omega (arith, none)))
+
+-- a part of a source that starts and ends between characters is a span without a fault
+pub span-faultless : (source : List ℕ) (start end : ℕ) → start ≤ end → IsCharBoundary source start → IsCharBoundary source end → span_fault source start end ≡ None
+unfolding span_fault
+span-faultless source start end ordered starts ends =
+    let forward : nat_lt end start ≡ false = le-ltb end start ordered in
+    let inside : nat_lt (length source + 1) end ≡ false = le-ltb (length source + 1) end (omega (arith, ends.0)) in
+    ap (λ t. if t then Some Reversed else if nat_lt (length source + 1) end then Some PastEnd else if is_span_border source start && is_span_border source end then None else Some OffBoundary) forward
+    ∙ ap (λ t. if t then Some PastEnd else if is_span_border source start && is_span_border source end then None else Some OffBoundary) inside
+    ∙ ap (λ t. if t && is_span_border source end then None else Some OffBoundary) (border-between source start starts)
+    ∙ ap (λ t. if t then None else Some OffBoundary) (border-between source end ends)
+
+-- an edit and one after it don't overlap
+overlap-apart : (d e : Edit) → d.start ≤ d.end → d.end ≤ e.start → e.start ≤ e.end → overlap d e ≡ false
+overlap-apart d e first apart second =
+    let before : nat_lt e.start d.start ≡ false = le-ltb e.start d.start (omega arith) in
+    let short : (e.start == d.start && nat_lt e.end d.end) ≡ false = grind (arith, nat_tests) in
+    let after : precedes e d ≡ false = ap (λ t. t || (e.start == d.start && nat_lt e.end d.end)) before ∙ short in
+    ap (λ t. if t then nat_lt d.start e.end else nat_lt e.start d.end) after ∙ le-ltb e.start d.end apart
+
+-- nor does it with any of those after it
+clear-after : (d : Edit) (at n : ℕ) (es : List Edit) → d.start ≤ d.end → d.end ≤ at → AreApart at es → position_from (overlap d) n es ≡ None
+clear-after d at n [] first before apart = refl
+clear-after d at n (e ∷ es) first before apart =
+    ap (λ t. if t then Some n else position_from (overlap d) (n + 1) es) (overlap-apart d e first (omega (arith, apart.0)) apart.1)
+    ∙ clear-after d e.end (n + 1) es first (omega (arith, apart.0, apart.1)) apart.2
+
+-- edits one after the other don't overlap
+first-clear : (at n : ℕ) (es : List Edit) → AreApart at es → first_overlap_from n es ≡ None
+first-clear at n [] apart = refl
+first-clear at n (e ∷ es) apart =
+    ap (λ p. option_or (option_map (λ k. (n, k)) p) (first_overlap_from (n + 1) es)) (clear-after e e.end (n + 1) es apart.1 (omega arith) apart.2)
+    ∙ first-clear e.end (n + 1) es apart.2
+
+pub apart-clear : (at : ℕ) (es : List Edit) → AreApart at es → first_overlap es ≡ None
+unfolding first_overlap
+apart-clear at es apart = first-clear at 0 es apart
+
+-- a text has no more lines than bytes
+one-more : (b : ℕ) (ls : List Line) → length (with_first_byte b ls) ≤ length ls + 1
+one-more b [] = omega arith
+one-more b (l ∷ ls) = omega arith
+
+with-first : (t : Bool) (b : ℕ) (ls : List Line) (n : ℕ) → length ls ≤ n → length (if t then ([], Lf) ∷ ls else with_first_byte b ls) ≤ suc n
+with-first true b ls n few = omega (arith, few)
+with-first false b ls n few = omega (arith, few, one-more b ls)
+
+lines-few : (text : List ℕ) → length (lines_of text) ≤ length text
+lines-few [] = omega arith
+lines-few (b ∷ bs) = with-first (b == 10) b (lines_of bs) (length bs) (lines-few bs)
+
+-- a source has at most one line more than bytes
+pub source_lines-few : (source : List ℕ) → length (source_lines source) ≤ length source + 1
+source_lines-few [] = omega arith
+source_lines-few (b ∷ bs) = omega (arith, lines-few (b ∷ bs))
+
+-- things none of which has a fault
+none-clear : {X : Type 0} (f : ℕ → X → List RenderError) (n : ℕ) (xs : List X) → All (λ x. (m : ℕ) → f m x ≡ []) xs → faults_from f n xs ≡ []
+none-clear f n [] all = refl
+none-clear f n (x ∷ xs) all =
+    ap (λ l. l ++ faults_from f (n + 1) xs) (All-head (λ y. (m : ℕ) → f m y ≡ []) x xs all n)
+    ∙ none-clear f (n + 1) xs (All-tail (λ y. (m : ℕ) → f m y ≡ []) x xs all)
+
+-- markers none of whose spans has a fault
+spans-clear : {X : Type 0} (span_of : X → Range ℕ) (group element : ℕ) (source : List ℕ) (marks : List X) → All (λ x. span_fault source (span_of x).start (span_of x).end ≡ None) marks → faults_from (λ m x. span_faults group element source m (span_of x)) 0 marks ≡ []
+spans-clear span_of group element source marks all =
+    none-clear (λ m x. span_faults group element source m (span_of x)) 0 marks
+    (All-weaker (λ x. span_fault source (span_of x).start (span_of x).end ≡ None) (λ x. (m : ℕ) → span_faults group element source m (span_of x) ≡ [])
+    (λ x none m. ap (λ f. option_to_list (option_map (refusal_of group element m) f)) none) marks all)
+
+number-clear : (group element number : ℕ) → number < 2 ^ 64 → number_faults group element number ≡ []
+number-clear group element number fits = ap (λ t. if t then [] else LineNumberTooLarge group element ∷ []) (lt-ltb number (2 ^ 64) fits)
+
+-- an annotated snippet without a fault: none of its spans has one, and the numbers of so many lines as it has bytes fit
+pub cause-clear : (group element : ℕ) (s : Snippet Annotation) → All (λ (a : Annotation). span_fault (cow_str_bytes s.source) a.span.start a.span.end ≡ None) s.markers.items
+    → s.line_start + (length (cow_str_bytes s.source) + 1) < 2 ^ 64 → element_faults group element (Cause s) ≡ []
+cause-clear group element s spans numbers =
+    let few = source_lines-few (cow_str_bytes s.source) in
+    let fits : number_behind s.line_start (cow_str_bytes s.source) < 2 ^ 64 = omega (arith, few, numbers) in
+    ap (λ l. l ++ number_faults group element (number_behind s.line_start (cow_str_bytes s.source))) (spans-clear (λ (a : Annotation). a.span) group element (cow_str_bytes s.source) s.markers.items spans)
+    ∙ number-clear group element _ fits
+
+-- a suggestion without a fault: none of its spans has one, its patches stand one after the other, and the numbers of so many
+-- lines fit as it and they have bytes
+pub suggestion-clear : (group element : ℕ) (s : Snippet Patch) → All (λ (p : Patch). span_fault (cow_str_bytes s.source) p.span.start p.span.end ≡ None) s.markers.items
+    → AreApart 0 (map edit_of s.markers.items)
+    → s.line_start + (length (cow_str_bytes s.source) + 1) + sum_by (λ (p : Patch). length (cow_str_bytes p.replacement)) s.markers.items < 2 ^ 64
+    → element_faults group element (Suggestion s) ≡ []
+suggestion-clear group element s spans apart numbers =
+    let few = source_lines-few (cow_str_bytes s.source) in
+    let feeds : added_lines s.markers.items ≤ sum_by (λ (p : Patch). length (cow_str_bytes p.replacement)) s.markers.items =
+    sum_by-le-sum_by (λ (p : Patch). count_by (λ b. b == 10) (cow_str_bytes p.replacement)) (λ (p : Patch). length (cow_str_bytes p.replacement)) s.markers.items (λ p. count_by-le-length (λ b. b == 10) (cow_str_bytes p.replacement)) in
+    let last = number_behind s.line_start (cow_str_bytes s.source) + added_lines s.markers.items in
+    let fits : last < 2 ^ 64 = omega (arith, few, feeds, numbers) in
+    ap (λ l. l ++ overlap_faults group element s.markers.items ++ number_faults group element last) (spans-clear (λ (p : Patch). p.span) group element (cow_str_bytes s.source) s.markers.items spans)
+    ∙ ap (λ p. option_to_list (option_map (λ pair. PatchesOverlap group element pair.0 pair.1) p) ++ number_faults group element last) (apart-clear 0 (map edit_of s.markers.items) apart)
+    ∙ number-clear group element last fits
+
+-- a report of groups that are within bounds, in the graphic form
+pub within-bounds : (groups : List Group) → All IsGroupWithinBounds groups → IsWithinBounds plain_settings groups
+unfolding first_fault
+within-bounds groups all =
+    record {
+      faultless = ap first_of (none-clear group_faults 0 groups (All-weaker IsGroupWithinBounds (λ g. (n : ℕ) → group_faults n g ≡ []) (λ g within. within.faultless) groups all));
+      fits = All-weaker IsGroupWithinBounds GroupFits (λ g within. within.fits) groups all;
+    }

@@ -1,0 +1,56 @@
+//! The words of the command line, without the program's name.
+ghost use Rattle.std.specs.Prelude.{◌≡◌};
+ghost use Rattle.std.specs.Option.{option_and_then, option_map};
+ghost use Rattle.tidy_run.specs.Words.{line_of, said, words_at};
+
+/// The word before LOG.
+const LOG_OPTION: &str = "--log";
+
+/// What a command line asks for.
+#[derive(Clone, Copy, Debug, PartialEq, Eq)]
+pub struct Command<'a> {
+    /// The path of the file that the plain text is written to, where one is given.
+    pub log: Option<&'a str>,
+    /// The path of the file that is looked through.
+    pub file: &'a str,
+}
+
+/// The command that the words ask for: `--log LOG FILE` or `FILE`; `None` where they aren't of the form.
+pub fn command_of<'a>(words: &[&'a str]) -> Option<Command<'a>>
+    ensures command { option_map said result ≡ line_of (words_at words.now) }
+{
+    match *words {
+        [file] => {
+            if file == LOG_OPTION {
+                None
+            } else {
+                Some(Command { log: None, file })
+            }
+        }
+        [option, log, file] => {
+            if option == LOG_OPTION {
+                Some(Command {
+                    log: Some(log),
+                    file,
+                })
+            } else {
+                None
+            }
+        }
+        _ => None,
+    }
+}
+
+/// The word that names FILE; `None` where the words aren't of the form.
+pub fn file_word<'a>(words: &[&'a str]) -> Option<&'a str>
+    ensures file { option_map (λ file. file.now) result ≡ option_map (λ line. line.file) (line_of (words_at words.now)) }
+{
+    command_of(words).map(|command| command.file)
+}
+
+/// The word that names LOG; `None` where there is none, or the words aren't of the form.
+pub fn log_word<'a>(words: &[&'a str]) -> Option<&'a str>
+    ensures log { option_map (λ log. log.now) result ≡ option_and_then (λ line. line.log) (line_of (words_at words.now)) }
+{
+    command_of(words).and_then(|command| command.log)
+}
