@@ -114,7 +114,7 @@ ascending p (e ∷ others) (suc i) zero before within = absurd (omega (arith, be
 ascending p (e ∷ others) (suc i) (suc j) before within =
     ascending (position_behind (position_at p e others) e others) others i j (omega (arith, before)) (omega (arith, within))
 
--- where the label of an entry stands: behind its mark in the row of the marks, or at its start in a row farther down
+-- where the label of an entry stands: after its mark in the row of the marks, or at its start in a row farther down
 pub record StandsBehind (e : PlacedEntry) : Type 0 where
   pub position : e.position ≡ 0
   pub row : (label_place e).0 ≡ 0
@@ -243,7 +243,7 @@ labels_stand layout row given es rows placed places k d within has n inside =
     ap (λ ws. cell_at (painted ws rows) r c) parts ∙ painted-last (labels_of layout row (take k es)) (labels_of layout row behind) w rows r c here beside ∙ ap (λ m. unlinked_cell (label_role e.entry.kind) (get_or (label_text e.entry) m 0)) (omega arith)
 
 -- no mark covers a label in the row of the marks: an entry whose mark may stand there ends no farther right, or starts
--- behind the label
+-- after the label
 pub record IsClear (e f : PlacedEntry) : Type 0 where
   pub clear : (f.entry.end.display ≤ e.entry.end.display) ⊎ (e.entry.end.display + (length (cow_str_bytes e.label) + 2) ≤ f.entry.start.display)
 

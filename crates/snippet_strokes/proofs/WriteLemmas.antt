@@ -94,7 +94,7 @@ mark_of-none layout row e past =
     let ws : List Write = glyph_at row from (first_glyph layout.decor e) (stroke_role e) ∷ stretch_of row (from + 1) to (glyph_of layout.decor (is_primary e.entry.kind) 94 45 0x2501 0x2500) (stroke_role e) in
     ap (λ b. cond b ws []) (not_less from to (omega (arith, past)))
 
--- a mark is its first glyph, and the underline behind it
+-- a mark is its first glyph, and the underline after it
 pub mark_painted : (layout : Layout) (row : ℕ) (e : PlacedEntry) (first underline : ℕ) (role : ElementStyle) (end : ℕ) (old mid new : List (List Cell)) → e.entry.start.display < mark_end e → end ≡ mark_end e → first ≡ first_glyph layout.decor e → underline ≡ glyph_of layout.decor (is_primary e.entry.kind) 94 45 0x2501 0x2500 → role ≡ stroke_role e → mid ≡ cells_written old row (layout.code + e.entry.start.display) (drawn role (first ∷ [])) → new ≡ painted (stretch_of row (layout.code + e.entry.start.display + 1) (layout.code + end) underline role) mid → new ≡ painted (mark_of layout row e) old
 mark_painted layout row e first underline role end old mid new some is_end is_first is_underline is_role begins goes_on =
     let from = layout.code + e.entry.start.display in

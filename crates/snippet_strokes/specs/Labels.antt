@@ -24,7 +24,7 @@ pub record PlacedLabel : Type 0 where
 abbrev pub is_cell_of : ℕ → ℕ → PlacedLabel → Bool
 is_cell_of r c l = l.row == r && (nat_le l.cell c && nat_lt c (l.cell + length (label_text l.entry)))
 
--- the label stands whole in these rows, in the role of labels of its kind: in the row of the marks one cell behind its mark, which
+-- the label stands whole in these rows, in the role of labels of its kind: in the row of the marks one cell after its mark, which
 -- takes column 0 even where it ends there; or in a row below, at the mark's first column
 pub record StandsIn (layout : Layout) (rows : List (List Cell)) (l : PlacedLabel) : Type 0 where
   pub whole : (n : ℕ) → n < length (label_text l.entry) → cell_at rows l.row (l.cell + n) ≡ unlinked_cell (label_role l.entry.kind) (slice_index_or (label_text l.entry) n 0)

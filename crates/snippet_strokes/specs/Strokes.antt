@@ -61,7 +61,7 @@ stems_of layout row (e ∷ later) =
 
 -- ---- marks
 
--- the mark of an entry, if it takes any cell: its first glyph, and the underline behind it
+-- the mark of an entry, if it takes any cell: its first glyph, and the underline after it
 abbrev pub mark_of : Layout → ℕ → PlacedEntry → List Write
 mark_of layout row e =
     let from = layout.code + e.entry.start.display in
