@@ -20,7 +20,8 @@ use Rattle.snippet_model.specs.declared.snippet.Group.{Group}
 use Rattle.snippet_model.specs.declared.snippet.Patch.{Patch}
 use Rattle.snippet_model.specs.declared.snippet.Snippet.{Snippet}
 use Rattle.snippet_model.specs.Fits.{GroupFits}
-use Rattle.snippet_splice.specs.Edits.{AreApart, Edit, edit_of, precedes}
+use Rattle.snippet_lines.specs.Order.{put_in}
+use Rattle.snippet_splice.specs.Edits.{AreApart, Edit, edit_of, in_order, precedes}
 use Rattle.snippet_splice.specs.Overlap.{first_overlap, first_overlap_from, overlap}
 use Rattle.annotate_snippets.specs.Fault.{IsGroupWithinBounds, IsWithinBounds, added_lines, element_faults, faults_from, first_fault, first_of, group_faults, number_behind, number_faults, overlap_faults, refusal_of, span_faults}
 use Rattle.annotate_snippets.specs.Settings.{plain_settings}
@@ -153,3 +154,22 @@ within-bounds groups all =
       faultless = ap first_of (none-clear group_faults 0 groups (All-weaker IsGroupWithinBounds (λ g. (n : ℕ) → group_faults n g ≡ []) (λ g within. within.faultless) groups all));
       fits = All-weaker IsGroupWithinBounds GroupFits (λ g within. within.fits) groups all;
     }
+
+-- an edit doesn't precede one that ends before it
+not-before : (d e : Edit) → d.start ≤ d.end → d.end ≤ e.start → e.start ≤ e.end → precedes e d ≡ false
+not-before d e first apart second =
+    let before : nat_lt e.start d.start ≡ false = le-ltb e.start d.start (omega arith) in
+    let short : (e.start == d.start && nat_lt e.end d.end) ≡ false = grind (arith, nat_tests) in
+    ap (λ t. t || (e.start == d.start && nat_lt e.end d.end)) before ∙ short
+
+-- so it is put before those that come after it
+first-in : (d : Edit) (es : List Edit) → d.start ≤ d.end → AreApart d.end es → put_in precedes d es ≡ d ∷ es
+first-in d [] ordered apart = refl
+first-in d (e ∷ es) ordered apart =
+    ap (λ t. if t then e ∷ put_in precedes d es else d ∷ e ∷ es) (not-before d e ordered apart.0 apart.1)
+
+-- edits one after the other are in order
+pub in_order-apart : (at : ℕ) (es : List Edit) → AreApart at es → in_order es ≡ es
+in_order-apart at [] apart = refl
+in_order-apart at (e ∷ es) apart =
+    ap (put_in precedes e) (in_order-apart e.end es apart.2) ∙ first-in e es apart.1 apart.2

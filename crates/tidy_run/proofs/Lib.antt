@@ -9,3 +9,4 @@ mod Examples
 mod ToldLemmas
 mod WithinLemmas
 mod FileLemmas
+pub mod OfferLaws

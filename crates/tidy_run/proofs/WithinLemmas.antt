@@ -61,7 +61,7 @@ of-each P f (x ∷ xs) all =
     All-cons (λ y. P (f y)) x xs (All-head P (f x) (map f xs) all) (of-each P f xs (All-tail P (f x) (map f xs) all))
 
 -- the patches stand one after the other
-patches-apart : (source : List ℕ) → (at : ℕ) → (ps : List Patch) → AreInside source at (map mended_by ps) → AreApart at (map edit_of ps)
+pub patches-apart : (source : List ℕ) → (at : ℕ) → (ps : List Patch) → AreInside source at (map mended_by ps) → AreApart at (map edit_of ps)
 patches-apart source at [] are = tt
 patches-apart source at (p ∷ ps) are = (are.0.after, are.0.ordered, patches-apart source p.span.end ps are.1)
 

@@ -1,4 +1,5 @@
 pub mod Findings
+pub mod Mended
 pub mod Report
 pub mod Rules
 pub mod Run
