@@ -13,7 +13,9 @@ use Rattle.annotate_snippets.specs.declared.snippet.Group.{Group}
 use Rattle.annotate_snippets.specs.declared.snippet.Patch.{Patch}
 use Rattle.annotate_snippets.specs.declared.snippet.Snippet.{Snippet}
 use Rattle.annotate_snippets.specs.declared.snippet.Title.{Title}
+use Rattle.annotate_snippets.specs.Edits.{edit_of, patched}
 use Rattle.tidy_run.specs.Findings.{Finding}
+use Rattle.tidy_run.specs.Mended.{mended}
 
 -- the mark of a finding: a primary one of its bytes, without a label
 abbrev pub mark_of : Finding → Annotation
@@ -50,11 +52,13 @@ pub record IsWarning (path source title : List ℕ) (found : List Finding) (grou
   pub marks : snippet.markers.items ≡ map mark_of found
   pub is : IsGroupOf warning_level title false (Cause snippet) group
 
--- the help to it: a secondary title, and the file with a patch for each finding
+-- the help to it: a secondary title, and the file with a patch for each finding; so the patched source, whose lines are offered, is
+-- the file with all of the findings mended
 pub record IsHelp (path source : List ℕ) (found : List Finding) (group : Group) : Type 0 where
   pub snippet : Snippet Patch
   pub of_file : IsOfFile path source snippet
   pub patches : map mended_by snippet.markers.items ≡ found
+  pub mends : patched source (map edit_of snippet.markers.items) ≡ mended source 0 found
   pub is : IsGroupOf help_level (codes "apply this") true (Suggestion snippet) group
 
 -- what a report tells: of a rule's findings, or how to mend them

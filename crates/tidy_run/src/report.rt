@@ -73,6 +73,7 @@ fn help<'a>(
     source: &'a str,
     edits: &[Edit],
 ) -> Result<Group<'a>, AllocError>
+    requires inside { AreInside source.now 0 (map finding_of edits.now) }
     ensures told { IfOk result (IsHelp path.now source.now (map finding_of edits.now)) }
 {
     let snippet = patched(alloc, path, source, edits)?;
@@ -97,6 +98,7 @@ fn tell<'a>(
     source: &'a str,
     edits: &[Edit],
 ) -> Result<(), AllocError>
+    requires inside { AreInside source.now 0 (map finding_of edits.now) }
     ensures told { OnOk result ((more : List Group) × (groups.new.items ≡ groups.old.items ++ more)
         × IsReportOf path.now source.now (told_of title.now (map finding_of edits.now)) more) }
 {

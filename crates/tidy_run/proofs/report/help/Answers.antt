@@ -6,6 +6,7 @@ use Rattle.annotate_snippets.specs.declared.snippet.Element.TheVariants.{Suggest
 use Rattle.tidy_run.specs.Findings.{finding_of}
 use Rattle.tidy_run.specs.Report.{IsGroupOf, IsHelp}
 use Rattle.annotate_snippets.specs.Levels.{help_level}
+use Rattle.tidy_run.proofs.OfferLaws.{patched-mended}
 use Rattle.tidy_run.proofs.ToldLemmas.{group-of}
 use Rattle.tidy_run.proofs.report.help.Goals as goal
 
@@ -21,6 +22,7 @@ returns c =
             snippet = snippet;
             of_file = c.in_ok-snippet.ensures.of_file;
             patches = c.in_ok-snippet.ensures.patches;
+            mends = patched-mended c.args.source.now (map finding_of c.args.edits.now) snippet.markers.items c.in_ok-snippet.ensures.patches c.requires.inside;
             is = subst (λ (e : Element). IsGroupOf help_level (codes "apply this") true e g) c.from.ensures of;
           }) is;
     }

@@ -41,6 +41,16 @@ loop-i-preserved g c =
           (record { inside = inside; few = count; path_fits = c.requires.path; source_fits = c.requires.source })));
     }
 
+pub tell-requires : goal.tell-requires
+tell-requires g c =
+    let source = c.args.source.now in
+    let edits = c.index-findings-i.result in
+    record {
+      inside = subst (λ (l : List Edit). AreInside source 0 (map finding_of l)) (sym c.deref.ensures.value)
+          (subst (λ (v : Vec Edit Global). AreInside source 0 (map finding_of v.items)) (sym c.index-findings-i.is)
+          (c.requires.inside c.loop-i.i edits (omega (arith, mapped-length (λ (v : Vec Edit Global). map finding_of v.items) _ c.args.findings.now c.args.rules.now c.requires.findings, c.loop-i-test.true))));
+    }
+
 pub loop-i-init : goal.loop-i-init
 loop-i-init g c =
     record {
