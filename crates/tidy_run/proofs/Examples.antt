@@ -1,6 +1,6 @@
 -- What the rules find in small sources.
-use Rattle.std.proofs.Common.{◌≡◌, refl, List, [], ◌∷◌, ◌++◌, codes}
-use Rattle.tidy_run.specs.Findings.{Finding, findings_of}
+use Rattle.std.proofs.Common.{◌≡◌, refl, [], ◌∷◌, ◌++◌, codes}
+use Rattle.tidy_run.specs.Findings.{findings_of}
 use Rattle.tidy_run.specs.Rules.{first_from, missing_end_at, tab_at, trailing_blanks_at}
 
 -- two spaces at a line's end

@@ -2,13 +2,13 @@
 use Rattle.std.proofs.Common.{◌≡◌, ℕ, suc, arith, ◌+◌, ◌<◌, Bool, List, [], ◌∷◌, ◌++◌, Some, None, Ok, Err, Result, IfOk, length, slice_index_or, take, refl, sym, ap, ◌∙◌, subst, append_assoc}
 use Rattle.std.specs.declared.alloc.AllocError.{AllocError}
 use Rattle.std.specs.Cow.{cow_str_bytes}
-use Rattle.std.specs.List.{AllZip, flat_map}
+use Rattle.std.specs.List.{flat_map}
 use Rattle.std.proofs.Math.Seq.{take-suc}
 use Rattle.annotate_snippets.specs.declared.level.Level.{Level}
 use Rattle.annotate_snippets.specs.declared.snippet.Element.{Element}
 use Rattle.annotate_snippets.specs.declared.snippet.Group.{Group}
 use Rattle.annotate_snippets.specs.declared.snippet.Title.{Title}
-use Rattle.tidy_run.specs.Report.{IsGroupOf, IsReportOf, Tells, Told}
+use Rattle.tidy_run.specs.Report.{IsGroupOf, IsReportOf, Told}
 
 -- a group of a title and an element, where there is memory for it
 pub group-of : (r : Result Group AllocError) (level : Level) (text : List ℕ) (trusted : Bool) (title : Title) (element : Element)

@@ -1,5 +1,5 @@
 -- The groups that tell of findings are within the library's bounds.
-use Rattle.std.proofs.Common.{true, false, Global, ◌≡◌, ℕ, zero, suc, ◌+◌, ◌*◌, ◌^◌, ◌<◌, ◌≤◌, ◌++◌, Bool, List, [], ◌∷◌, Option, Some, None, All, IfSome, length, map, nat_lt, refl, sym, ap, ◌∙◌, subst, arith, lit<, codes, if◌then◌else◌}
+use Rattle.std.proofs.Common.{true, false, Global, ◌≡◌, ℕ, zero, suc, ◌+◌, ◌*◌, ◌^◌, ◌<◌, ◌≤◌, ◌++◌, Bool, List, [], ◌∷◌, Option, Some, None, All, IfSome, length, map, nat_lt, sym, ap, ◌∙◌, subst, arith, lit<, codes, if◌then◌else◌}
 use Rattle.std.specs.Cow.{cow_str_bytes}
 use Rattle.std.specs.declared.borrow.CowStr.{CowStr}
 use Rattle.std.specs.List.{sum_by}
@@ -14,15 +14,14 @@ use Rattle.annotate_snippets.specs.declared.snippet.Element.TheVariants.{Cause, 
 use Rattle.annotate_snippets.specs.declared.snippet.Group.{Group}
 use Rattle.annotate_snippets.specs.declared.snippet.Patch.{Patch}
 use Rattle.annotate_snippets.specs.declared.snippet.Snippet.{Snippet}
-use Rattle.annotate_snippets.specs.declared.snippet.Title.{Title}
-use Rattle.annotate_snippets.specs.Edits.{AreApart, Edit, edit_of}
+use Rattle.annotate_snippets.specs.Edits.{AreApart, edit_of}
 use Rattle.annotate_snippets.specs.Fault.{IsGroupWithinBounds, element_faults, faults_from}
 use Rattle.annotate_snippets.specs.Fits.{AnnotationFits, ElementFits, IdFits, LevelFits, PatchFits, TextFits, TitleFits}
 use Rattle.annotate_snippets.specs.Levels.{help_level, warning_level}
 use Rattle.annotate_snippets.specs.Span.{span_fault}
 use Rattle.annotate_snippets.proofs.BoundsLaws.{cause-clear, span-faultless, suggestion-clear}
-use Rattle.tidy_run.specs.Findings.{AreInside, Finding, IsFinding, IsTitle, findings_from, findings_of, with_rest}
-use Rattle.tidy_run.specs.Report.{IsGroupOf, IsHelp, IsOfFile, IsReportOf, IsWarning, Tells, Told, mark_of, mended_by, told_of}
+use Rattle.tidy_run.specs.Findings.{AreInside, Finding, IsTitle, findings_from, findings_of, with_rest}
+use Rattle.tidy_run.specs.Report.{IsGroupOf, IsHelp, IsOfFile, IsReportOf, IsWarning, mark_of, mended_by, told_of}
 
 -- a rule finds at most one more than there are bytes
 few-rest : (t : Bool) (l : List Finding) (f : Finding) (n : ℕ) → length l ≤ n → length (f ∷ (if t then l else [])) ≤ suc n

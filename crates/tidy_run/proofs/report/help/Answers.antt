@@ -1,8 +1,7 @@
-use Rattle.std.proofs.Common.{true, codes, ◌≡◌, List, ℕ, map, ap, refl, ◌∙◌, subst}
+use Rattle.std.proofs.Common.{true, codes, map, ap, subst}
 use Rattle.std.specs.Cow.{cow_str_bytes}
 use Rattle.std.proofs.lemmas.Result.{IfOk-weaker}
 use Rattle.annotate_snippets.specs.declared.snippet.Element.{Element}
-use Rattle.annotate_snippets.specs.declared.snippet.Element.TheVariants.{Suggestion}
 use Rattle.tidy_run.specs.Findings.{finding_of}
 use Rattle.tidy_run.specs.Report.{IsGroupOf, IsHelp}
 use Rattle.annotate_snippets.specs.Levels.{help_level}

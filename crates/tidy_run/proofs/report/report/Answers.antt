@@ -1,4 +1,4 @@
-use Rattle.std.proofs.Common.{All, [], ◌≤◌, ◌+◌, length, arith, ◌≡◌, ℕ, List, ap, map, sym, subst, ◌∙◌, Vec, Global}
+use Rattle.std.proofs.Common.{All, [], ◌≤◌, ◌+◌, length, arith, ◌≡◌, List, ap, map, sym, subst, ◌∙◌, Vec, Global}
 use Rattle.tidy_run.specs.Findings.{AreInside, Finding, finding_of, findings_of}
 use Rattle.tidy_run.specs.Report.{IsReportOf, told_of}
 use Rattle.tidy_run.specs.declared.rule.Edit.{Edit}

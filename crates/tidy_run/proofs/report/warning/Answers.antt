@@ -1,8 +1,7 @@
-use Rattle.std.proofs.Common.{false, ◌≡◌, List, ℕ, map, ap, refl, ◌∙◌, subst}
+use Rattle.std.proofs.Common.{false, map, ap, subst}
 use Rattle.std.specs.Cow.{cow_str_bytes}
 use Rattle.std.proofs.lemmas.Result.{IfOk-weaker}
 use Rattle.annotate_snippets.specs.declared.snippet.Element.{Element}
-use Rattle.annotate_snippets.specs.declared.snippet.Element.TheVariants.{Cause}
 use Rattle.tidy_run.specs.Findings.{finding_of}
 use Rattle.tidy_run.specs.Report.{IsGroupOf, IsWarning}
 use Rattle.annotate_snippets.specs.Levels.{warning_level}
