@@ -4,6 +4,7 @@ ghost use Rattle.std.specs.Cow.{cow_str_bytes};
 ghost use Rattle.snippet_text.specs.Normalized as spec;
 ghost use Rattle.snippet_text.specs.Width.{width_of};
 
+use crate::plain::is_plain;
 use std::alloc::{AllocError, Global};
 use std::borrow::CowStr;
 
@@ -26,6 +27,9 @@ fn is_listed(c: char) -> bool
 fn has_listed(text: &str) -> bool
     ensures value { result ≡ list_any spec.is_listed (chars text.now) }
 {
+    if is_plain(text) {
+        return false;
+    }
     text.chars().any(|c| is_listed(c))
 }
 
