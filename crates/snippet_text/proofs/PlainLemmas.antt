@@ -1,5 +1,5 @@
 -- A text of printable ASCII alone is as wide as it is long, and shown as it is.
-use Rattle.std.proofs.Common.{◌≡◌, ℕ, ◌<◌, List, [], ◌∷◌, All, false, length, chars, refl, arith}
+use Rattle.std.proofs.Common.{◌≡◌, ℕ, ◌<◌, List, [], ◌∷◌, All, false, length, chars, refl, arith, ◌++◌, sym, ap, ◌∙◌}
 use Rattle.std.proofs.lemmas.Bool.Decides.{nat_tests}
 use Rattle.std.proofs.lemmas.List.Elements.{All-head, All-tail, All-weaker}
 use Rattle.std.proofs.lemmas.List.Folds.{list_any_none}
@@ -8,7 +8,8 @@ use Rattle.std.proofs.lemmas.Str.{chars-IsAscii}
 use Rattle.std.proofs.lemmas.Str.Ascii.{IsAscii-from_all}
 use Rattle.std.specs.List.{list_any}
 use Rattle.unicode_width.specs.Width as unicode
-use Rattle.snippet_text.specs.Normalized.{is_listed}
+use Rattle.snippet_text.proofs.NormLemmas.{norm-unlisted}
+use Rattle.snippet_text.specs.Normalized.{is_listed, norm}
 use Rattle.snippet_text.specs.Plain.{IsPlain}
 use Rattle.snippet_text.specs.Width.{char_width, width_of}
 
@@ -38,3 +39,7 @@ width_of-plain bs all = rw (chars-plain bs all, width_of-all_plain bs all) refl
 -- none of its characters is listed
 pub list_any-plain : (bs : List ℕ) → All IsPlain bs → list_any is_listed (chars bs) ≡ false
 list_any-plain bs all = rw (chars-plain bs all) (list_any_none is_listed bs (All-weaker IsPlain (λ c. is_listed c ≡ false) is_listed-plain bs all))
+
+-- a copy of it is the normalised text
+pub norm-plain : (bs copy : List ℕ) → All IsPlain bs → copy ≡ [] ++ bs → chars copy ≡ norm (chars bs)
+norm-plain bs copy all same = ap chars same ∙ sym (norm-unlisted (chars bs) (list_any-plain bs all))

@@ -60,6 +60,10 @@ pub fn normalize_untrusted_str(alloc: Global, text: &str) -> Result<String, Allo
     ensures width_kept { IfOk result (λ t. width_of (chars (string_bytes t)) ≡ width_of (chars text.now)) }
 {
     let mut out = String::new(alloc);
+    if is_plain(text) {
+        out.push_str(text)?;
+        return Ok(out);
+    }
     for c in text.chars() {
         push_shown(&mut out, c)?;
     }
