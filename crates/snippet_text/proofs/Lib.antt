@@ -1,3 +1,4 @@
 pub mod NormLemmas
+pub mod PlainLemmas
 pub mod WidthBounds
 pub mod WidthLemmas

@@ -5,6 +5,7 @@
 mod limit;
 mod normalize;
 mod one_line;
+mod plain;
 mod width;
 
 pub use limit::text_fits;

@@ -4,6 +4,7 @@ ghost use Rattle.std.specs.Cow.{cow_str_bytes};
 ghost use Rattle.snippet_text.specs.Normalized as spec;
 ghost use Rattle.snippet_text.specs.Width.{width_of};
 
+use crate::plain::is_plain;
 use std::alloc::{AllocError, Global};
 use std::borrow::CowStr;
 
@@ -26,6 +27,9 @@ fn is_listed(c: char) -> bool
 fn has_listed(text: &str) -> bool
     ensures value { result ≡ list_any spec.is_listed (chars text.now) }
 {
+    if is_plain(text) {
+        return false;
+    }
     text.chars().any(|c| is_listed(c))
 }
 
@@ -56,6 +60,10 @@ pub fn normalize_untrusted_str(alloc: Global, text: &str) -> Result<String, Allo
     ensures width_kept { IfOk result (λ t. width_of (chars (string_bytes t)) ≡ width_of (chars text.now)) }
 {
     let mut out = String::new(alloc);
+    if is_plain(text) {
+        out.push_str(text)?;
+        return Ok(out);
+    }
     for c in text.chars() {
         push_shown(&mut out, c)?;
     }

@@ -1,6 +1,7 @@
 ghost use Rattle.std.specs.Prelude.{◌≡◌, ◌<◌, ◌≤◌, ◌^◌, ◌*◌, length, chars};
 ghost use Rattle.snippet_text.specs.Width as spec;
 
+use crate::plain::is_plain;
 use unicode_width::UnicodeWidthChar;
 
 /// The number of columns that a character takes: 4 for a tab, 1 for a character that is shown as one other, 0 for the
@@ -32,6 +33,9 @@ pub fn str_width(text: &str) -> usize
     ensures value { result ≡ spec.width_of (chars text.now) }
     ensures bound { result ≤ 4 * length text.now }
 {
+    if is_plain(text) {
+        return text.len();
+    }
     let mut columns = 0;
     for c in text.chars() {
         columns += char_width(c);

@@ -2,7 +2,7 @@
 ghost use Rattle.std.specs.Prelude.{◌≡◌, ◌+◌, ◌<◌, ◌^◌};
 ghost use Rattle.std.specs.Option.{SomeIff};
 ghost use Rattle.snippet_model.specs.declared.snippet.Element.TheVariants.{Cause, Suggestion};
-ghost use Rattle.annotate_snippets.specs.Fault.{refusal_of, span_faults, number_behind, added_lines, element_faults, end_faults, faults_from, first_of};
+ghost use Rattle.annotate_snippets.specs.Fault.{refusal_of, span_faults, number_behind, added_lines, element_faults, end_faults, faults_from, first_of, number_faults};
 ghost use Rattle.annotate_snippets.specs.Fault as spec;
 
 use crate::renderer::error::RenderError;
@@ -84,7 +84,7 @@ fn first_of_cause(
     if let Some(fault) = first_of_spans(group, element, source, &snippet.markers) {
         return Some(fault);
     }
-    missing_number(group, element, end_number(snippet.line_start, source))
+    end_fault(group, element, snippet.line_start, source)
 }
 
 /// The first fault of a suggested edit.
@@ -110,6 +110,17 @@ fn first_of_suggestion(
     }
     let end = patched_end_number(snippet.line_start, source, patches);
     missing_number(group, element, end)
+}
+
+/// The fault that the number behind that of a source's last line doesn't fit.
+fn end_fault(group: usize, element: usize, line_start: usize, source: &str) -> Option<RenderError>
+    ensures value { result ≡ first_of (number_faults group element (number_behind line_start source.now)) }
+{
+    // A source has at most one line more than bytes. Where so many fit, they needn't be counted.
+    if source.len() < usize::MAX - line_start {
+        return None;
+    }
+    missing_number(group, element, end_number(line_start, source))
 }
 
 /// The fault that the number behind that of a snippet's last line is missing, since it doesn't fit.
