@@ -6,8 +6,8 @@ use Rattle.std.proofs.lemmas.Bool.Decides.{nat_tests}
 use Rattle.snippet_model.specs.declared.snippet.Element.{Element}
 use Rattle.snippet_model.specs.declared.snippet.Element.TheVariants.{Cause, Message, Origin, Padding, Suggestion}
 use Rattle.snippet_suggest.specs.declared.SuggestionStart.TheVariants.{Next, Opening, Path}
-use Rattle.annotate_snippets.specs.Around.{CanStandIn, begins_in_row_above, first_two_share, is_next_start, is_other_file, path_bytes, share_file, surroundings_at}
-use Rattle.annotate_snippets.specs.declared.renderer.surroundings.GroupPlace.{GroupPlace}
+use Rattle.annotate_snippets.specs.Around.{CanStandIn, begins_in_row_above, first_two_share, is_next_start, is_other_file, path_bytes, share_file, context_at}
+use Rattle.annotate_snippets.specs.declared.renderer.element_context.GroupPosition.{GroupPosition}
 
 -- whether the element of this number begins in the last row of the one before
 abbrev pub shares_before : List Element → ℕ → Bool
@@ -40,7 +40,7 @@ shares_none (Suggestion snippet) (Padding padding) other = refl
 shares_none (Origin origin) e other = refl
 shares_none (Padding padding) e other = refl
 
--- so it shares no row with the one behind it
+-- so it shares no row with the one after it
 first_alone : (e : Element) (rest : List Element) → ((d : Element) → share_file e d ≡ false) → first_two_share (e ∷ rest) ≡ false
 first_alone e [] never = refl
 first_alone e (d ∷ rest) never = never d
@@ -69,7 +69,7 @@ before_alone es (suc k) e is other =
     let at : suc k - 1 ≡ k = omega arith in
     and_false (not (nat_eq (suc k) 0)) (first_two_share (drop (suc k - 1) es)) (ap (λ j. first_two_share (drop j es)) at ∙ pair_not es k e is other)
 
--- behind the last element there is none to share a row
+-- after the last element there is none to share a row
 last_not : (es : List Element) (k : ℕ) → length es ≡ suc k → first_two_share (drop k es) ≡ false
 last_not [] k is = absurd (omega arith)
 last_not (d ∷ []) zero is = refl
@@ -100,7 +100,7 @@ path_start false true file path is starts = other_has file path is
 path_start false false file path is starts = absurd (cc)
 
 -- each element can stand in what is around it
-pub can_stand : (place : GroupPlace) (file : Option (List ℕ)) (es : List Element) (i : ℕ) (e : Element) → slice_get es i ≡ Some e → CanStandIn (surroundings_at place file es i e) e
+pub can_stand : (place : GroupPosition) (file : Option (List ℕ)) (es : List Element) (i : ℕ) (e : Element) → slice_get es i ≡ Some e → CanStandIn (context_at place file es i e) e
 can_stand place file es i (Message message) is = (refl, shared_not es i (Message message) is (λ d. refl))
 can_stand place file es i (Cause snippet) is = (refl, shared_not es i (Cause snippet) is (λ d. refl))
 can_stand place file es i (Suggestion snippet) is = λ starts. path_start (shares_before es i) (is_other_file file (path_bytes snippet.path)) file (path_bytes snippet.path) refl starts
@@ -113,7 +113,7 @@ next_start true other = refl
 next_start false true = refl
 next_start false false = refl
 
-pub begins_is : (place : GroupPlace) (file : Option (List ℕ)) (es : List Element) (i : ℕ) (e : Element) → slice_get es i ≡ Some e → begins_in_row_above (surroundings_at place file es i e) ≡ shares_before es i
+pub begins_is : (place : GroupPosition) (file : Option (List ℕ)) (es : List Element) (i : ℕ) (e : Element) → slice_get es i ≡ Some e → begins_in_row_above (context_at place file es i e) ≡ shares_before es i
 begins_is place file es i (Message message) is = sym (before_alone es i (Message message) is refl)
 begins_is place file es i (Cause snippet) is = sym (before_alone es i (Cause snippet) is refl)
 begins_is place file es i (Suggestion snippet) is = next_start (shares_before es i) (is_other_file file (path_bytes snippet.path))

@@ -23,7 +23,7 @@ use Rattle.snippet_model.specs.Fits.{GroupFits}
 use Rattle.snippet_lines.specs.Order.{put_in}
 use Rattle.snippet_splice.specs.Edits.{AreApart, Edit, edit_of, in_order, precedes}
 use Rattle.snippet_splice.specs.Overlap.{first_overlap, first_overlap_from, overlap}
-use Rattle.annotate_snippets.specs.Fault.{IsGroupWithinBounds, IsWithinBounds, added_lines, element_faults, faults_from, first_fault, first_of, group_faults, number_behind, number_faults, overlap_faults, refusal_of, span_faults}
+use Rattle.annotate_snippets.specs.Fault.{IsGroupWithinBounds, IsWithinBounds, added_lines, element_faults, faults_from, first_fault, first_of, group_faults, number_after_lines, number_faults, overlap_faults, refusal_of, span_faults}
 use Rattle.annotate_snippets.specs.Settings.{plain_settings}
 use Rattle.annotate_snippets.specs.declared.renderer.error.RenderError.{RenderError}
 use Rattle.annotate_snippets.specs.declared.renderer.error.RenderError.TheVariants.{LineNumberTooLarge, PatchesOverlap}
@@ -126,8 +126,8 @@ pub cause-clear : (group element : ℕ) (s : Snippet Annotation) → All (λ (a 
     → s.line_start + (length (cow_str_bytes s.source) + 1) < 2 ^ 64 → element_faults group element (Cause s) ≡ []
 cause-clear group element s spans numbers =
     let few = source_lines-few (cow_str_bytes s.source) in
-    let fits : number_behind s.line_start (cow_str_bytes s.source) < 2 ^ 64 = omega (arith, few, numbers) in
-    ap (λ l. l ++ number_faults group element (number_behind s.line_start (cow_str_bytes s.source))) (spans-clear (λ (a : Annotation). a.span) group element (cow_str_bytes s.source) s.markers.items spans)
+    let fits : number_after_lines s.line_start (cow_str_bytes s.source) < 2 ^ 64 = omega (arith, few, numbers) in
+    ap (λ l. l ++ number_faults group element (number_after_lines s.line_start (cow_str_bytes s.source))) (spans-clear (λ (a : Annotation). a.span) group element (cow_str_bytes s.source) s.markers.items spans)
     ∙ number-clear group element _ fits
 
 -- a suggestion without a fault: none of its spans has one, its patches stand one after the other, and the numbers of so many
@@ -140,7 +140,7 @@ suggestion-clear group element s spans apart numbers =
     let few = source_lines-few (cow_str_bytes s.source) in
     let feeds : added_lines s.markers.items ≤ sum_by (λ (p : Patch). length (cow_str_bytes p.replacement)) s.markers.items =
     sum_by-le-sum_by (λ (p : Patch). count_by (λ b. b == 10) (cow_str_bytes p.replacement)) (λ (p : Patch). length (cow_str_bytes p.replacement)) s.markers.items (λ p. count_by-le-length (λ b. b == 10) (cow_str_bytes p.replacement)) in
-    let last = number_behind s.line_start (cow_str_bytes s.source) + added_lines s.markers.items in
+    let last = number_after_lines s.line_start (cow_str_bytes s.source) + added_lines s.markers.items in
     let fits : last < 2 ^ 64 = omega (arith, few, feeds, numbers) in
     ap (λ l. l ++ overlap_faults group element s.markers.items ++ number_faults group element last) (spans-clear (λ (p : Patch). p.span) group element (cow_str_bytes s.source) s.markers.items spans)
     ∙ ap (λ p. option_to_list (option_map (λ pair. PatchesOverlap group element pair.0 pair.1) p) ++ number_faults group element last) (apart-clear 0 (map edit_of s.markers.items) apart)

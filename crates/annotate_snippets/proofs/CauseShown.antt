@@ -16,34 +16,34 @@ use Rattle.snippet_view.specs.Annotated.{KeptLine, annotated_lines, is_long}
 use Rattle.snippet_view.specs.Kept.{shown_lines}
 use Rattle.snippet_view.specs.Mark.{is_marking}
 use Rattle.snippet_view.specs.Marked.{first_line, last_line}
-use Rattle.snippet_view.specs.NamedPlace.{IsNamedPlace, primary_place}
+use Rattle.snippet_view.specs.Location.{IsLocation, primary_place}
 use Rattle.snippet_model.specs.Rows.{IsFree}
 use Rattle.snippet_view.specs.declared.entries.AnnotatedLineInfo.{AnnotatedLineInfo}
-use Rattle.snippet_view.specs.declared.named_place.NamedPlace.{NamedPlace}
-use Rattle.snippet_view.proofs.NamedPlaceLaws.{place-named}
+use Rattle.snippet_view.specs.declared.location.Location.{Location}
+use Rattle.snippet_view.proofs.LocationLaws.{place-named}
 use Rattle.snippet_strokes.proofs.SnippetLemmas.{free_from_AreLinesShown}
 use Rattle.snippet_titles.specs.Origin.{origin_row, origin_text, primary_start, snippet_head}
 use Rattle.snippet_titles.specs.declared.origin.OriginLayout.{OriginLayout}
-use Rattle.snippet_titles.specs.declared.origin.OriginPlace.{OriginPlace}
+use Rattle.snippet_titles.specs.declared.origin.OriginLocation.{OriginLocation}
 use Rattle.snippet_titles.proofs.HeadFacts.{origin_row-text, snippet_head-free}
 use Rattle.snippet_titles.proofs.OriginFree.{closing_row-free, separator_row-free}
 use Rattle.annotate_snippets.specs.declared.renderer.Renderer.{Renderer}
 use Rattle.annotate_snippets.specs.declared.renderer.frame.Frame.{Frame}
-use Rattle.annotate_snippets.specs.declared.renderer.surroundings.Surroundings.{Surroundings}
-use Rattle.annotate_snippets.specs.Around.{closes_behind, closes_with, is_before_message, is_first_group, path_bytes}
+use Rattle.annotate_snippets.specs.declared.renderer.element_context.ElementContext.{ElementContext}
+use Rattle.annotate_snippets.specs.Around.{closes_after, closes_with, is_before_message, is_first_group, path_bytes}
 use Rattle.annotate_snippets.specs.Drawn.{AreCauseRows, HasRoomFor, IsCauseDrawn, layout_in}
 use Rattle.annotate_snippets.specs.Gutter.{line_numbers, numbered_source}
 use Rattle.annotate_snippets.specs.Page.{IsAscending, NamedRow, cells_of, others}
 use Rattle.annotate_snippets.specs.Prepared.{IsDrawable}
-use Rattle.annotate_snippets.specs.Rows.{cause_head, closing_rows, origin_layout, place_found, place_named, rows_behind_cause, separator_rows}
-use Rattle.annotate_snippets.specs.Shown.{NamesPlace}
+use Rattle.annotate_snippets.specs.Rows.{cause_head, closing_rows, origin_layout, place_found, place_named, rows_after_cause, separator_rows}
+use Rattle.annotate_snippets.specs.Shown.{NamesLocation}
 use Rattle.annotate_snippets.proofs.ElementShown.{ElementShown}
 use Rattle.annotate_snippets.proofs.GutterLemmas.{numbers_fit}
 use Rattle.annotate_snippets.proofs.PageLemmas.{cells_of-append, cells_of-others, named_lines}
 use Rattle.annotate_snippets.proofs.PartsFacts.{ends_shown, shown_ascending, shown_within}
 
 -- where a snippet of the group's primary file has a path, its first row is that of the path
-path_first : (layout : OriginLayout) (primary first : Bool) (named : Option (List ℕ)) (place : OriginPlace) (more : List NamedRow) (path : List ℕ) → primary ≡ true → named ≡ Some path → row_at (cells_of (others (snippet_head layout primary first named place) ++ more)) 0 ≡ origin_row layout (primary_start first) path place
+path_first : (layout : OriginLayout) (primary first : Bool) (named : Option (List ℕ)) (place : OriginLocation) (more : List NamedRow) (path : List ℕ) → primary ≡ true → named ≡ Some path → row_at (cells_of (others (snippet_head layout primary first named place) ++ more)) 0 ≡ origin_row layout (primary_start first) path place
 path_first layout true first None place more path is has = cc
 path_first layout true first (Some other) place more path is has =
     ap (λ own. origin_row layout (primary_start first) own place) (same_path other path has)
@@ -58,7 +58,7 @@ place_of_primary true lines is = refl
 place_of_primary false lines is = cc
 
 -- a place that has a property, where there is one
-pub place_known : (o : Option NamedPlace) (P : NamedPlace → Type 0) → IsSomeAnd o P → (place : NamedPlace) × (o ≡ Some place) × P place
+pub place_known : (o : Option Location) (P : Location → Type 0) → IsSomeAnd o P → (place : Location) × (o ≡ Some place) × P place
 place_known None P known = absurd known
 place_known (Some place) P known = (place, refl, known)
 
@@ -68,10 +68,10 @@ free_named [] free = All-nil (λ (row : NamedRow). IsFree row.cells)
 free_named (row ∷ part) free =
     All-cons (λ (r : NamedRow). IsFree r.cells) row part (All-head IsFree row.cells (cells_of part) free) (free_named part (All-tail IsFree row.cells (cells_of part) free))
 
-module _ (r : Renderer) (frame : Frame) (around : Surroundings) (s : Snippet Annotation) where
+module _ (r : Renderer) (frame : Frame) (around : ElementContext) (s : Snippet Annotation) where
   -- no row that stands below the lines holds a listed character, or a link
-  behind_free : All IsFree (rows_behind_cause r frame around)
-  behind_free = either (is_first_group around.place && is_before_message around.next) (closes_behind around)
+  after_free : All IsFree (rows_after_cause r frame around)
+  after_free = either (is_first_group around.place && is_before_message around.next) (closes_after around)
     where
       one : (row : List Cell) → IsFree row → All IsFree (row ∷ [])
       one row free = All-cons IsFree row [] free (All-nil IsFree)
@@ -86,10 +86,10 @@ module _ (r : Renderer) (frame : Frame) (around : Surroundings) (s : Snippet Ann
       snippet_head-free (origin_layout r frame) around.primary around.first (path_bytes s.path) (place_named around.primary (annotated_lines s.fold (numbered_source s) s.markers.items))
 
   -- the first row names the first place of the snippet's spans
-  names_place : All (λ a. IsSpan (cow_str_bytes s.source) a.span.start a.span.end) s.markers.items → (more : List NamedRow) → around.primary ≡ true → (path : List ℕ) → path_bytes s.path ≡ Some path → list_any (λ a. is_marking a.kind) s.markers.items ≡ true → All (λ a. is_long (cow_str_bytes s.source) a ≡ false) s.markers.items → NamesPlace r frame s path (row_at (cells_of (others (cause_head r frame around s) ++ more)) 0)
+  names_place : All (λ a. IsSpan (cow_str_bytes s.source) a.span.start a.span.end) s.markers.items → (more : List NamedRow) → around.primary ≡ true → (path : List ℕ) → path_bytes s.path ≡ Some path → list_any (λ a. is_marking a.kind) s.markers.items ≡ true → All (λ a. is_long (cow_str_bytes s.source) a ≡ false) s.markers.items → NamesLocation r frame s path (row_at (cells_of (others (cause_head r frame around s) ++ more)) 0)
   names_place spans more primary path has some none =
       let lines : List KeptLine = annotated_lines s.fold (numbered_source s) s.markers.items in
-      let found = place_known (primary_place lines) (IsNamedPlace (numbered_source s) s.markers.items) (place-named s.fold (numbered_source s) s.markers.items lines spans refl some none) in
+      let found = place_known (primary_place lines) (IsLocation (numbered_source s) s.markers.items) (place-named s.fold (numbered_source s) s.markers.items lines spans refl some none) in
       let named : place_named around.primary lines ≡ place_found (Some found.0) = place_of_primary around.primary lines primary ∙ ap place_found found.1 in
       let first = path_first (origin_layout r frame) around.primary around.first (path_bytes s.path) (place_named around.primary lines) more path primary has in
       record {
@@ -99,7 +99,7 @@ module _ (r : Renderer) (frame : Frame) (around : Surroundings) (s : Snippet Ann
       }
 
 -- the rows of a snippet, with their names, show it
-pub cause_shown : (r : Renderer) (frame : Frame) (around : Surroundings) (s : Snippet Annotation) (rows : List (List Cell)) → IsDrawable s → HasRoomFor r frame (Cause s) → IsCauseDrawn r frame around s rows → ElementShown r frame around (Cause s) rows
+pub cause_shown : (r : Renderer) (frame : Frame) (around : ElementContext) (s : Snippet Annotation) (rows : List (List Cell)) → IsDrawable s → HasRoomFor r frame (Cause s) → IsCauseDrawn r frame around s rows → ElementShown r frame around (Cause s) rows
 cause_shown r frame around s rows drawable room drawn =
     let src = numbered_source s in
     let are : AreCauseRows r frame (closes_with around) s drawn.lines = drawn.are in
@@ -107,16 +107,16 @@ cause_shown r frame around s rows drawable room drawn =
     let fit : All (λ (info : AnnotatedLineInfo). length (shown_number (line_numbers r s.line_numbering) frame.gutter info.line_index) ≤ frame.gutter + 1) are.infos = numbers_fit r frame s are.infos room drawable are.lines in
     let named = named_lines r frame s drawable.spans are.margin are.room are.bounds are.ordered (closes_with around) ks are.infos drawn.lines (shown_within src s.markers.items drawable.spans s.fold) are.lines fit are.shown in
     let head : List (List Cell) = cause_head r frame around s in
-    let tail : List (List Cell) = rows_behind_cause r frame around in
+    let tail : List (List Cell) = rows_after_cause r frame around in
     let part : List NamedRow = others head ++ (named.part ++ others tail) in
     let cells : cells_of part ≡ rows = cells_of-append (others head) (named.part ++ others tail) ∙ ap (λ rs. rs ++ cells_of (named.part ++ others tail)) (cells_of-others head) ∙ ap (λ rs. head ++ rs) (cells_of-append named.part (others tail) ∙ ap (λ rs. rs ++ cells_of (others tail)) named.cells ∙ ap (λ rs. drawn.lines ++ rs) (cells_of-others tail)) ∙ sym drawn.rows_are in
     let lines_free : All IsFree drawn.lines = free_from_AreLinesShown (layout_in r frame) are.margin (line_numbers r s.line_numbering) (closes_with around) are.infos drawn.lines are.shown in
-    let all_free : All IsFree (head ++ (drawn.lines ++ tail)) = All-append IsFree head (drawn.lines ++ tail) (head_free r frame around s) (All-append IsFree drawn.lines tail lines_free (behind_free r frame around s)) in
+    let all_free : All IsFree (head ++ (drawn.lines ++ tail)) = All-append IsFree head (drawn.lines ++ tail) (head_free r frame around s) (All-append IsFree drawn.lines tail lines_free (after_free r frame around s)) in
     record {
       part = part;
       cells = cells;
       shows = record {
-        behind = named.part;
+        after = named.part;
         rows_are = refl;
         origin = names_place r frame around s drawable.spans (named.part ++ others tail);
         lines = named.lines;

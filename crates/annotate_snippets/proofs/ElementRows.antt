@@ -9,27 +9,27 @@ use Rattle.std.proofs.lemmas.Option.{slice_get-get_or, slice_get_within}
 use Rattle.snippet_style.specs.Cell.{Cell}
 use Rattle.snippet_model.specs.declared.snippet.Element.{Element}
 use Rattle.snippet_suggest.specs.Rows.{IsTail}
-use Rattle.annotate_snippets.specs.Around.{CanStandIn, begins_in_row_above, surroundings_at}
+use Rattle.annotate_snippets.specs.Around.{CanStandIn, begins_in_row_above, context_at}
 use Rattle.annotate_snippets.specs.Drawn.{AddsElement, AddsElements, IsElementDrawn}
 use Rattle.annotate_snippets.specs.declared.renderer.Renderer.{Renderer}
 use Rattle.annotate_snippets.specs.declared.renderer.frame.Frame.{Frame}
 use Rattle.annotate_snippets.specs.Prepared.{AreAround, element_of}
 use Rattle.annotate_snippets.specs.declared.renderer.preprocess.PreparedElement.{PreparedElement}
-use Rattle.annotate_snippets.specs.declared.renderer.surroundings.GroupPlace.{GroupPlace}
-use Rattle.annotate_snippets.specs.declared.renderer.surroundings.Surroundings.{Surroundings}
+use Rattle.annotate_snippets.specs.declared.renderer.element_context.GroupPosition.{GroupPosition}
+use Rattle.annotate_snippets.specs.declared.renderer.element_context.ElementContext.{ElementContext}
 use Rattle.annotate_snippets.proofs.AroundLaws.{begins_is, can_stand, shares_after, shares_before, shares_end}
 
 -- the rows of the first so many of these elements stand below some rows, and nothing else, but the row in which the next one begins,
 -- where it shares that
-pub record DrawnSoFar (r : Renderer) (frame : Frame) (place : GroupPlace) (file : Option (List ℕ)) (es : List Element) (n : ℕ) (old new : List (List Cell)) : Type 0 where
+pub record DrawnSoFar (r : Renderer) (frame : Frame) (place : GroupPosition) (file : Option (List ℕ)) (es : List Element) (n : ℕ) (old new : List (List Cell)) : Type 0 where
   pub parts : List (List (List Cell))
   pub tail : List (List Cell)
   pub added : new ≡ (old ++ flat_map (λ part. part) parts) ++ tail
   pub count : length parts ≡ n
-  pub each : (i : ℕ) (e : Element) → i < n → slice_get es i ≡ Some e → IsElementDrawn r frame (surroundings_at place file es i e) e (slice_index_or parts i [])
+  pub each : (i : ℕ) (e : Element) → i < n → slice_get es i ≡ Some e → IsElementDrawn r frame (context_at place file es i e) e (slice_index_or parts i [])
   pub ends : IsTail r.decor_style frame.gutter (shares_before es n) tail
 
-pub drawn_none : (r : Renderer) (frame : Frame) (place : GroupPlace) (file : Option (List ℕ)) (es : List Element) (old : List (List Cell)) → DrawnSoFar r frame place file es 0 old old
+pub drawn_none : (r : Renderer) (frame : Frame) (place : GroupPosition) (file : Option (List ℕ)) (es : List Element) (old : List (List Cell)) → DrawnSoFar r frame place file es 0 old old
 drawn_none r frame place file es old =
     record {
       parts = [];
@@ -41,11 +41,11 @@ drawn_none r frame place file es old =
     }
 
 -- one more
-pub drawn_more : (r : Renderer) (frame : Frame) (place : GroupPlace) (file : Option (List ℕ)) (es : List Element) (n : ℕ) (e : Element) (old mid new : List (List Cell)) (before : DrawnSoFar r frame place file es n old mid) → slice_get es n ≡ Some e → AddsElement r frame (surroundings_at place file es n e) e (old ++ flat_map (λ part. part) before.parts) new → DrawnSoFar r frame place file es (n + 1) old new
+pub drawn_more : (r : Renderer) (frame : Frame) (place : GroupPosition) (file : Option (List ℕ)) (es : List Element) (n : ℕ) (e : Element) (old mid new : List (List Cell)) (before : DrawnSoFar r frame place file es n old mid) → slice_get es n ≡ Some e → AddsElement r frame (context_at place file es n e) e (old ++ flat_map (λ part. part) before.parts) new → DrawnSoFar r frame place file es (n + 1) old new
 drawn_more r frame place file es n e old mid new before here adds =
     let Part : Type 0 = List (List Cell) in
     let parts : List Part = before.parts ++ adds.rows ∷ [] in
-    let Holds : ℕ → Element → Type 0 = λ j y. IsElementDrawn r frame (surroundings_at place file es j y) y (slice_index_or parts j []) in
+    let Holds : ℕ → Element → Type 0 = λ j y. IsElementDrawn r frame (context_at place file es j y) y (slice_index_or parts j []) in
     let joined : flat_map (λ (part : Part). part) parts ≡ flat_map (λ (part : Part). part) before.parts ++ adds.rows = flat_map-append (λ (part : Part). part) before.parts (adds.rows ∷ []) ∙ ap (λ rows. flat_map (λ (part : Part). part) before.parts ++ rows) (append-nil adds.rows) in
     let last : slice_index_or parts n [] ≡ adds.rows = last_part before.parts adds.rows n before.count in
     record {
@@ -55,11 +55,11 @@ drawn_more r frame place file es n e old mid new before here adds =
       count = omega (arith, length-append before.parts (adds.rows ∷ []), before.count);
       each = λ i x within is.
           elim (cases_lt i n) [
-            | inl below ↦ subst (λ part. IsElementDrawn r frame (surroundings_at place file es i x) x part) (sym (early_part before.parts adds.rows i (omega (arith, below, before.count)))) (before.each i x below is)
+            | inl below ↦ subst (λ part. IsElementDrawn r frame (context_at place file es i x) x part) (sym (early_part before.parts adds.rows i (omega (arith, below, before.count)))) (before.each i x below is)
             | inr past ↦
                 let at : n ≡ i = omega (arith, past, within) in
                 let same : e ≡ x = same_element es n i e x at here is in
-                subst (λ j. Holds j x) at (subst (λ y. Holds n y) same (subst (λ part. IsElementDrawn r frame (surroundings_at place file es n e) e part) (sym last) adds.is))
+                subst (λ j. Holds j x) at (subst (λ y. Holds n y) same (subst (λ part. IsElementDrawn r frame (context_at place file es n e) e part) (sym last) adds.is))
           ];
       ends = subst (λ b. IsTail r.decor_style frame.gutter b adds.tail) (sym (shares_after es n)) adds.ends;
     }
@@ -76,7 +76,7 @@ drawn_more r frame place file es n e old mid new before here adds =
         cc
 
 -- all of them
-pub drawn_all : (r : Renderer) (frame : Frame) (place : GroupPlace) (file : Option (List ℕ)) (es : List Element) (n : ℕ) (old new : List (List Cell)) → n ≡ length es → DrawnSoFar r frame place file es n old new → AddsElements r frame place file es old new
+pub drawn_all : (r : Renderer) (frame : Frame) (place : GroupPosition) (file : Option (List ℕ)) (es : List Element) (n : ℕ) (old new : List (List Cell)) → n ≡ length es → DrawnSoFar r frame place file es n old new → AddsElements r frame place file es old new
 drawn_all r frame place file es n old new all drawn =
     let none : drawn.tail ≡ [] = subst (λ b. IsTail r.decor_style frame.gutter b drawn.tail) (ap (shares_before es) all ∙ shares_end es) drawn.ends in
     record {
@@ -107,34 +107,34 @@ get-mapped f (y ∷ xs) zero x is =
 get-mapped f (y ∷ xs) (suc n) x is = get-mapped f xs n x is
 
 -- what stands around the next element
-turn_around : (place : GroupPlace) (file : Option (List ℕ)) (ps : List PreparedElement) (around : List Surroundings) (n i : ℕ) (p : PreparedElement) (at : Surroundings) → AreAround place file (map element_of ps) around → (n < length (enumerate_from 0 ps)) × ((i, p) ≡ get_or (enumerate_from 0 ps) n (i, p)) → at ≡ slice_index_or around i at → at ≡ surroundings_at place file (map element_of ps) n (element_of p)
+turn_around : (place : GroupPosition) (file : Option (List ℕ)) (ps : List PreparedElement) (around : List ElementContext) (n i : ℕ) (p : PreparedElement) (at : ElementContext) → AreAround place file (map element_of ps) around → (n < length (enumerate_from 0 ps)) × ((i, p) ≡ get_or (enumerate_from 0 ps) n (i, p)) → at ≡ slice_index_or around i at → at ≡ context_at place file (map element_of ps) n (element_of p)
 turn_around place file ps around n i p at are turn is =
     let item = turn_item ps n i p turn in
-    let there : slice_get around n ≡ Some (surroundings_at place file (map element_of ps) n (element_of p)) = are.each n (element_of p) (get-mapped element_of ps n p item.1) in
-    let found : slice_get around n ≡ Some (slice_index_or around n at) = slice_get-get_or around n at (slice_get_within around n (surroundings_at place file (map element_of ps) n (element_of p)) there) in
-    let same : Some (slice_index_or around n at) ≡ Some (surroundings_at place file (map element_of ps) n (element_of p)) = sym found ∙ there in
-    let equal : slice_index_or around n at ≡ surroundings_at place file (map element_of ps) n (element_of p) = cc in
+    let there : slice_get around n ≡ Some (context_at place file (map element_of ps) n (element_of p)) = are.each n (element_of p) (get-mapped element_of ps n p item.1) in
+    let found : slice_get around n ≡ Some (slice_index_or around n at) = slice_get-get_or around n at (slice_get_within around n (context_at place file (map element_of ps) n (element_of p)) there) in
+    let same : Some (slice_index_or around n at) ≡ Some (context_at place file (map element_of ps) n (element_of p)) = sym found ∙ there in
+    let equal : slice_index_or around n at ≡ context_at place file (map element_of ps) n (element_of p) = cc in
     is ∙ ap (λ j. slice_index_or around j at) item.0 ∙ equal
 
 -- the next element can stand there
-pub turn_stands : (place : GroupPlace) (file : Option (List ℕ)) (ps : List PreparedElement) (around : List Surroundings) (n i : ℕ) (p : PreparedElement) (at : Surroundings) → AreAround place file (map element_of ps) around → (n < length (enumerate_from 0 ps)) × ((i, p) ≡ get_or (enumerate_from 0 ps) n (i, p)) → at ≡ slice_index_or around i at → CanStandIn at (element_of p)
+pub turn_stands : (place : GroupPosition) (file : Option (List ℕ)) (ps : List PreparedElement) (around : List ElementContext) (n i : ℕ) (p : PreparedElement) (at : ElementContext) → AreAround place file (map element_of ps) around → (n < length (enumerate_from 0 ps)) × ((i, p) ≡ get_or (enumerate_from 0 ps) n (i, p)) → at ≡ slice_index_or around i at → CanStandIn at (element_of p)
 turn_stands place file ps around n i p at are turn is =
     let item = turn_item ps n i p turn in
     subst (λ a. CanStandIn a (element_of p)) (sym (turn_around place file ps around n i p at are turn is)) (can_stand place file (map element_of ps) n (element_of p) (get-mapped element_of ps n p item.1))
 
 -- its rows stand below those before it
-pub turn_drawn : (r : Renderer) (frame : Frame) (place : GroupPlace) (file : Option (List ℕ)) (ps : List PreparedElement) (around : List Surroundings) (n m i : ℕ) (p : PreparedElement) (at : Surroundings) (old mid new : List (List Cell)) → AreAround place file (map element_of ps) around → (n < length (enumerate_from 0 ps)) × ((i, p) ≡ get_or (enumerate_from 0 ps) n (i, p)) → at ≡ slice_index_or around i at → m ≡ n + 1 → DrawnSoFar r frame place file (map element_of ps) n old mid → ((above tail : List (List Cell)) → mid ≡ above ++ tail → IsTail r.decor_style frame.gutter (begins_in_row_above at) tail → AddsElement r frame at (element_of p) above new) → DrawnSoFar r frame place file (map element_of ps) m old new
+pub turn_drawn : (r : Renderer) (frame : Frame) (place : GroupPosition) (file : Option (List ℕ)) (ps : List PreparedElement) (around : List ElementContext) (n m i : ℕ) (p : PreparedElement) (at : ElementContext) (old mid new : List (List Cell)) → AreAround place file (map element_of ps) around → (n < length (enumerate_from 0 ps)) × ((i, p) ≡ get_or (enumerate_from 0 ps) n (i, p)) → at ≡ slice_index_or around i at → m ≡ n + 1 → DrawnSoFar r frame place file (map element_of ps) n old mid → ((above tail : List (List Cell)) → mid ≡ above ++ tail → IsTail r.decor_style frame.gutter (begins_in_row_above at) tail → AddsElement r frame at (element_of p) above new) → DrawnSoFar r frame place file (map element_of ps) m old new
 turn_drawn r frame place file ps around n m i p at old mid new are turn is next before adds =
     let es : List Element = map element_of ps in
     let e : Element = element_of p in
     let here : slice_get es n ≡ Some e = get-mapped element_of ps n p (turn_item ps n i p turn).1 in
-    let at_is : at ≡ surroundings_at place file es n e = turn_around place file ps around n i p at are turn is in
+    let at_is : at ≡ context_at place file es n e = turn_around place file ps around n i p at are turn is in
     let begins : begins_in_row_above at ≡ shares_before es n = ap begins_in_row_above at_is ∙ begins_is place file es n e here in
     let above : List (List Cell) = old ++ flat_map (λ part. part) before.parts in
     let added : AddsElement r frame at e above new = adds above before.tail before.added (subst (λ b. IsTail r.decor_style frame.gutter b before.tail) (sym begins) before.ends) in
     subst (λ k. DrawnSoFar r frame place file es k old new) (sym next) (drawn_more r frame place file es n e old mid new before here (subst (λ a. AddsElement r frame a e above new) at_is added))
 
--- behind the last all are drawn
-pub turns_all : (r : Renderer) (frame : Frame) (place : GroupPlace) (file : Option (List ℕ)) (ps : List PreparedElement) (n : ℕ) (old new : List (List Cell)) → n ≡ length (enumerate_from 0 ps) → DrawnSoFar r frame place file (map element_of ps) n old new → AddsElements r frame place file (map element_of ps) old new
+-- after the last all are drawn
+pub turns_all : (r : Renderer) (frame : Frame) (place : GroupPosition) (file : Option (List ℕ)) (ps : List PreparedElement) (n : ℕ) (old new : List (List Cell)) → n ≡ length (enumerate_from 0 ps) → DrawnSoFar r frame place file (map element_of ps) n old new → AddsElements r frame place file (map element_of ps) old new
 turns_all r frame place file ps n old new all drawn =
     drawn_all r frame place file (map element_of ps) n old new (omega (arith, all, length-enumerate_from 0 ps, length-map ps element_of)) drawn

@@ -6,10 +6,10 @@ use Rattle.annotate_snippets.specs.Page.{NamedRow, cells_of}
 use Rattle.annotate_snippets.specs.Shown.{IsFreeElement, ShowsElement}
 use Rattle.annotate_snippets.specs.declared.renderer.Renderer.{Renderer}
 use Rattle.annotate_snippets.specs.declared.renderer.frame.Frame.{Frame}
-use Rattle.annotate_snippets.specs.declared.renderer.surroundings.Surroundings.{Surroundings}
+use Rattle.annotate_snippets.specs.declared.renderer.element_context.ElementContext.{ElementContext}
 
 -- rows that show an element once they have names, and hold no listed character but a message's own
-pub record ElementShown (r : Renderer) (frame : Frame) (around : Surroundings) (e : Element) (rows : List (List Cell)) : Type 0 where
+pub record ElementShown (r : Renderer) (frame : Frame) (around : ElementContext) (e : Element) (rows : List (List Cell)) : Type 0 where
   pub part : List NamedRow
   pub cells : cells_of part ≡ rows
   pub shows : ShowsElement r frame around e part

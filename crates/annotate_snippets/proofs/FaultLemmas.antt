@@ -18,7 +18,7 @@ use Rattle.snippet_lines.specs.declared.span.SpanFault.TheVariants.{Reversed, Pa
 use Rattle.snippet_lines.specs.Span.{IsSpan, IsSpanBorder, is_span_border, is_character_border, span_fault}
 use Rattle.snippet_splice.specs.Edits.{edit_of}
 use Rattle.snippet_splice.specs.Overlap.{first_overlap}
-use Rattle.annotate_snippets.specs.Fault.{added_lines, faults_from, missing_title, number_behind, first_of, span_faults, overlap_faults, group_faults, element_faults, first_fault, refusal_of, number_faults}
+use Rattle.annotate_snippets.specs.Fault.{added_lines, faults_from, missing_title, number_after_lines, first_of, span_faults, overlap_faults, group_faults, element_faults, first_fault, refusal_of, number_faults}
 use Rattle.snippet_suggest.specs.Prepared.{IsSuggestible}
 use Rattle.annotate_snippets.specs.Prepared.{IsDrawable, IsElementDrawable, IsGroupDrawable}
 use Rattle.annotate_snippets.proofs.DisjointLemmas.{first_overlap-clear}
@@ -105,10 +105,10 @@ spans-faultless span_of group element n source [] none =
 spans-faultless span_of group element n source (x ∷ marks) none =
     All-cons (λ y. IsSpan source (span_of y).start (span_of y).end) x marks (IsSpan-faultless source (span_of x).start (span_of x).end (no_refusal group element n (span_fault source (span_of x).start (span_of x).end) (front_none _ _ none))) (spans-faultless span_of group element (n + 1) source marks (back_none _ _ none))
 
--- the first refusal of patches of which two overlap, behind no refusal of their spans
-pub overlap-first : (spans behind : List RenderError) (group element : ℕ) (patches : List Patch) (m n : ℕ) → spans ≡ [] → first_overlap (map edit_of patches) ≡ Some (m, n) → Some (PatchesOverlap group element m n) ≡ first_of (spans ++ overlap_faults group element patches ++ behind)
-overlap-first spans behind group element patches m n none pair =
-    sym (ap (λ faults. first_of (faults ++ overlap_faults group element patches ++ behind)) none ∙ ap (λ (p : Option (ℕ × ℕ)). first_of (option_to_list (option_map (λ t. PatchesOverlap group element t.0 t.1) p) ++ behind)) pair)
+-- the first refusal of patches of which two overlap, after no refusal of their spans
+pub overlap-first : (spans after : List RenderError) (group element : ℕ) (patches : List Patch) (m n : ℕ) → spans ≡ [] → first_overlap (map edit_of patches) ≡ Some (m, n) → Some (PatchesOverlap group element m n) ≡ first_of (spans ++ overlap_faults group element patches ++ after)
+overlap-first spans after group element patches m n none pair =
+    sym (ap (λ faults. first_of (faults ++ overlap_faults group element patches ++ after)) none ∙ ap (λ (p : Option (ℕ × ℕ)). first_of (option_to_list (option_map (λ t. PatchesOverlap group element t.0 t.1) p) ++ after)) pair)
 
 -- a number without a fault fits
 number-faultless : (group element number : ℕ) → number_faults group element number ≡ [] → number < 2 ^ 64
@@ -139,7 +139,7 @@ without_more number more fits = omega arith
 -- so can a snippet of patches
 suggestion-drawable : (group element : ℕ) (s : Snippet Patch) → element_faults group element (Suggestion s) ≡ [] → ElementFits (Suggestion s) → IsSuggestible s
 suggestion-drawable group element s none fits =
-    let last : ℕ = number_behind s.line_start (cow_str_bytes s.source) in
+    let last : ℕ = number_after_lines s.line_start (cow_str_bytes s.source) in
     let all = number-faultless group element (last + added_lines s.markers.items) (back_none _ _ none) in
     let spans = spans-faultless (λ (p : Patch). p.span) group element 0 (cow_str_bytes s.source) s.markers.items (front_none _ _ (front_none _ _ none)) in
     let disjoint = first_overlap-clear (map edit_of s.markers.items) (no_overlap group element (first_overlap (map edit_of s.markers.items)) (back_none _ _ (front_none _ _ none))) in

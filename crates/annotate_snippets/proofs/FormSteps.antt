@@ -15,24 +15,24 @@ use Rattle.snippet_text_form.specs.Form.{FormPiece}
 use Rattle.snippet_text_form.specs.Heading.{heading_form}
 use Rattle.snippet_text_form.specs.declared.heading.HeadingKind.TheVariants as kind
 use Rattle.annotate_snippets.specs.Around.{drawn_elements, file_of_group, first_two_share, is_same_file, path_bytes}
-use Rattle.annotate_snippets.specs.TextForm.{Before, before_next, before_seen, element_form, elements_form, group_form, number_behind}
+use Rattle.annotate_snippets.specs.TextForm.{PreviousSuggestion, before_next, before_seen, element_form, elements_form, group_form, option_number}
 use Rattle.annotate_snippets.specs.declared.renderer.Renderer.{Renderer}
 use Rattle.annotate_snippets.specs.declared.renderer.preprocess.PreparedGroup.{PreparedGroup}
-use Rattle.annotate_snippets.specs.declared.renderer.text_form.Before as code
+use Rattle.annotate_snippets.specs.declared.renderer.text_form.PreviousSuggestion as code
 use Rattle.annotate_snippets.proofs.PreparedLemmas.{group_of}
 
--- the elements before this one were added: with those that are left, the form is what all are behind the old one. The suggestion
+-- the elements before this one were added: with those that are left, the form is what all are after the old one. The suggestion
 -- right before has at most as large a number as there are elements before
-pub record ElementsSoFar (r : Renderer) (file : Option (List ℕ)) (es : List Element) (i : ℕ) (old form : List FormPiece) (before : Option Before) : Type 0 where
+pub record ElementsSoFar (r : Renderer) (file : Option (List ℕ)) (es : List Element) (i : ℕ) (old form : List FormPiece) (before : Option PreviousSuggestion) : Type 0 where
   pub left : form ++ elements_form r file before (drop i es) ≡ old ++ elements_form r file None es
-  pub numbered : IfSome before (λ (b : Before). b.number ≤ i)
+  pub numbered : IfSome before (λ (b : PreviousSuggestion). b.number ≤ i)
 
 -- none of them
 pub none_added : (r : Renderer) (file : Option (List ℕ)) (es : List Element) (old : List FormPiece) → ElementsSoFar r file es 0 old old None
 none_added r file es old = record { left = refl; numbered = tt }
 
--- the number behind a suggestion
-number_within : (before : Option Before) (path : Option (List ℕ)) (i : ℕ) → IfSome before (λ (b : Before). b.number ≤ i) → number_behind before path ≤ i + 1
+-- the number after a suggestion
+number_within : (before : Option PreviousSuggestion) (path : Option (List ℕ)) (i : ℕ) → IfSome before (λ (b : PreviousSuggestion). b.number ≤ i) → option_number before path ≤ i + 1
 number_within None path i small = omega arith
 number_within (Some before) path i small = by (is_same_file before.path path)
   where
@@ -40,7 +40,7 @@ number_within (Some before) path i small = by (is_same_file before.path path)
     by true = omega (arith, small)
     by false = omega arith
 
-next_within : (before : Option Before) (e : Element) (i : ℕ) → IfSome before (λ (b : Before). b.number ≤ i) → IfSome (before_next before e) (λ (b : Before). b.number ≤ i + 1)
+next_within : (before : Option PreviousSuggestion) (e : Element) (i : ℕ) → IfSome before (λ (b : PreviousSuggestion). b.number ≤ i) → IfSome (before_next before e) (λ (b : PreviousSuggestion). b.number ≤ i + 1)
 next_within before (Message m) i small = tt
 next_within before (Cause s) i small = tt
 next_within before (Suggestion s) i small = number_within before (path_bytes s.path) i small
@@ -48,24 +48,24 @@ next_within before (Origin o) i small = tt
 next_within before (Padding p) i small = tt
 
 -- one more of them
-pub element_added : (r : Renderer) (file : Option (List ℕ)) (es : List Element) (i : ℕ) (e : Element) (old form new : List FormPiece) (before after : Option Before) (followed : Bool) → slice_get es i ≡ Some e → followed ≡ first_two_share (drop i es) → new ≡ form ++ element_form r file before followed e → after ≡ before_next before e → ElementsSoFar r file es i old form before → ElementsSoFar r file es (i + 1) old new after
+pub element_added : (r : Renderer) (file : Option (List ℕ)) (es : List Element) (i : ℕ) (e : Element) (old form new : List FormPiece) (before after : Option PreviousSuggestion) (followed : Bool) → slice_get es i ≡ Some e → followed ≡ first_two_share (drop i es) → new ≡ form ++ element_form r file before followed e → after ≡ before_next before e → ElementsSoFar r file es i old form before → ElementsSoFar r file es (i + 1) old new after
 element_added r file es i e old form new before after followed at shares added follows so_far =
     let next : suc i ≡ i + 1 = omega arith in
     let rest : drop i es ≡ e ∷ drop (i + 1) es = drop-cons es i e (slice_get_within es i e at) ∙ ap (λ (x : Element). x ∷ drop (suc i) es) (get_or_from_slice_get es i e e at) ∙ ap (λ n. e ∷ drop n es) next in
     let later : List FormPiece = elements_form r file (before_next before e) (drop (i + 1) es) in
     let own : element_form r file before followed e ≡ element_form r file before (first_two_share (e ∷ drop (i + 1) es)) e = ap (λ b. element_form r file before b e) (shares ∙ ap first_two_share rest) in
     record {
-      left = ap (λ (b : Option Before). new ++ elements_form r file b (drop (i + 1) es)) follows ∙ ap (λ (x : List FormPiece). x ++ later) (added ∙ ap (λ (x : List FormPiece). form ++ x) own) ∙ append_assoc form (element_form r file before (first_two_share (e ∷ drop (i + 1) es)) e) later ∙ ap (λ (xs : List Element). form ++ elements_form r file before xs) (sym rest) ∙ so_far.left;
-      numbered = subst (λ (b : Option Before). IfSome b (λ (x : Before). x.number ≤ i + 1)) (sym follows) (next_within before e i so_far.numbered);
+      left = ap (λ (b : Option PreviousSuggestion). new ++ elements_form r file b (drop (i + 1) es)) follows ∙ ap (λ (x : List FormPiece). x ++ later) (added ∙ ap (λ (x : List FormPiece). form ++ x) own) ∙ append_assoc form (element_form r file before (first_two_share (e ∷ drop (i + 1) es)) e) later ∙ ap (λ (xs : List Element). form ++ elements_form r file before xs) (sym rest) ∙ so_far.left;
+      numbered = subst (λ (b : Option PreviousSuggestion). IfSome b (λ (x : PreviousSuggestion). x.number ≤ i + 1)) (sym follows) (next_within before e i so_far.numbered);
     }
 
 -- all of them
-pub all_added : (r : Renderer) (file : Option (List ℕ)) (es : List Element) (i : ℕ) (old form : List FormPiece) (before : Option Before) → length es ≤ i → ElementsSoFar r file es i old form before → form ≡ old ++ elements_form r file None es
+pub all_added : (r : Renderer) (file : Option (List ℕ)) (es : List Element) (i : ℕ) (old form : List FormPiece) (before : Option PreviousSuggestion) → length es ≤ i → ElementsSoFar r file es i old form before → form ≡ old ++ elements_form r file None es
 all_added r file es i old form before past so_far =
     sym (append-nil form) ∙ ap (λ (xs : List Element). form ++ elements_form r file before xs) (sym (drop_all i es past)) ∙ so_far.left
 
 -- so the number of the suggestion right before is small
-pub number_small : (before : Option code.Before) (i count : ℕ) → IfSome (before_seen before) (λ (b : Before). b.number ≤ i) → i < count → count < 2 ^ 64 → IfSome before (λ b. b.number + 1 < 2 ^ 64)
+pub number_small : (before : Option code.PreviousSuggestion) (i count : ℕ) → IfSome (before_seen before) (λ (b : PreviousSuggestion). b.number ≤ i) → i < count → count < 2 ^ 64 → IfSome before (λ b. b.number + 1 < 2 ^ 64)
 number_small None i count small within room = tt
 number_small (Some before) i count small within room = omega (arith, small, within, room)
 
@@ -83,7 +83,7 @@ pub no_title_added : (r : Renderer) (title : Option Title) (old new : List FormP
 no_title_added r title old new is same =
     same ∙ sym (append-nil old) ∙ ap (λ (x : Option Title). old ++ title_form r x) (sym is)
 
--- a group is added: behind its title its elements
+-- a group is added: after its title its elements
 pub group_added : (r : Renderer) (groups : List Group) (g : Group) (file : Option (List ℕ)) (es : List Element) (old titled new : List FormPiece) → file ≡ file_of_group groups g → es ≡ drawn_elements g → titled ≡ old ++ title_form r g.title → new ≡ titled ++ elements_form r file None es → new ≡ old ++ group_form r groups g
 group_added r groups g file es old titled new of drawn title added =
     added ∙ ap (λ (x : List FormPiece). x ++ elements_form r file None es) title ∙ append_assoc old (title_form r g.title) (elements_form r file None es) ∙ ap (λ (f : Option (List ℕ)). old ++ (title_form r g.title ++ elements_form r f None es)) of ∙ ap (λ (xs : List Element). old ++ (title_form r g.title ++ elements_form r (file_of_group groups g) None xs)) drawn

@@ -11,13 +11,13 @@ use Rattle.snippet_view.proofs.PartLemmas.{All-unmapped}
 use Rattle.snippet_suggest.proofs.DrawnLemmas.{next_of}
 use Rattle.annotate_snippets.specs.Around.{drawn_elements, file_of_group, place_at}
 use Rattle.annotate_snippets.specs.Drawn.{AreGridsOf, HasRoomFor, IsGroupGrid}
-use Rattle.annotate_snippets.specs.Gutter.{code_behind, depth_of_group, frame_of, gutter_of_report}
+use Rattle.annotate_snippets.specs.Gutter.{code_after, depth_of_group, frame_of, gutter_of_report}
 use Rattle.annotate_snippets.specs.Prepared.{IsGroupDrawable, IsGroupPrepared, element_of}
 use Rattle.annotate_snippets.specs.declared.renderer.Renderer.{Renderer}
 use Rattle.annotate_snippets.specs.declared.renderer.frame.Frame.{Frame}
 use Rattle.annotate_snippets.specs.declared.renderer.graphic.GroupGrid.{GroupGrid}
 use Rattle.annotate_snippets.specs.declared.renderer.preprocess.PreparedGroup.{PreparedGroup}
-use Rattle.annotate_snippets.specs.declared.renderer.surroundings.GroupPlace.{GroupPlace}
+use Rattle.annotate_snippets.specs.declared.renderer.element_context.GroupPosition.{GroupPosition}
 use Rattle.annotate_snippets.proofs.ElementRows.{get-mapped, turn_item}
 use Rattle.annotate_snippets.proofs.PreparedLemmas.{group_of}
 use Rattle.annotate_snippets.proofs.RoomLemmas.{room_in_report}
@@ -49,12 +49,12 @@ abbrev framed : ℕ → ℕ → Frame
 framed gutter code = record { gutter = gutter; code = code }
 
 -- the frame is the one that the report gives the group
-pub frame_is : (r : Renderer) (groups gs : List Group) (g : Group) (frame : Frame) (gutter depth : ℕ) → gs ≡ groups → gutter ≡ gutter_of_report r gs → depth ≡ depth_of_group g → frame.gutter ≡ gutter → frame.code ≡ code_behind gutter depth → frame ≡ frame_of r groups g
+pub frame_is : (r : Renderer) (groups gs : List Group) (g : Group) (frame : Frame) (gutter depth : ℕ) → gs ≡ groups → gutter ≡ gutter_of_report r gs → depth ≡ depth_of_group g → frame.gutter ≡ gutter → frame.code ≡ code_after gutter depth → frame ≡ frame_of r groups g
 frame_is r groups gs g frame gutter depth same wide deep left code =
     let wanted : gutter ≡ gutter_of_report r groups = wide ∙ ap (gutter_of_report r) same in
-    let behind : frame.code ≡ code_behind (gutter_of_report r groups) (depth_of_group g) = code ∙ ap (λ w. code_behind w depth) wanted ∙ ap (code_behind (gutter_of_report r groups)) deep in
+    let after : frame.code ≡ code_after (gutter_of_report r groups) (depth_of_group g) = code ∙ ap (λ w. code_after w depth) wanted ∙ ap (code_after (gutter_of_report r groups)) deep in
     let first : ◌≡◌ {A = Frame} frame (record { gutter = gutter_of_report r groups; code = frame.code }) = ap (λ w. framed w frame.code) (left ∙ wanted) in
-    first ∙ ap (framed (gutter_of_report r groups)) behind
+    first ∙ ap (framed (gutter_of_report r groups)) after
 
 -- an iteration's group is the next of the report
 pub turn_group : (groups : List Group) (ps : List PreparedGroup) (n i : ℕ) (p : PreparedGroup) → map group_of ps ≡ groups → (n < length (enumerate_from 0 ps)) × ((i, p) ≡ get_or (enumerate_from 0 ps) n (i, p)) → slice_get groups n ≡ Some p.group.now
@@ -76,7 +76,7 @@ turn_room r groups ps n i p frame drawable prepared same turn is =
     All-unmapped (HasRoomFor r frame) element_of p.elements.items (subst (λ es. All (HasRoomFor r frame) es) (sym prepared.elements_are) (subst (λ f. All (HasRoomFor r f) (drawn_elements p.group.now)) (sym is) (room_in_report r groups drawable n p.group.now (turn_group groups ps n i p same turn))))
 
 -- one more grid
-pub turn_grid : (r : Renderer) (groups : List Group) (ps : List PreparedGroup) (n m i : ℕ) (p : PreparedGroup) (frame : Frame) (place : GroupPlace) (file : Option (List ℕ)) (grid : GroupGrid) (grids new : List GroupGrid) → map group_of ps ≡ groups → (n < length (enumerate_from 0 ps)) × ((i, p) ≡ get_or (enumerate_from 0 ps) n (i, p)) → frame ≡ frame_of r groups p.group.now → place ≡ place_at (length groups) i → file ≡ file_of_group groups p.group.now → grid.level ≡ p.group.now.level → IsGroupGrid r frame place file p.group.now grid.buffer → new ≡ grids ++ grid ∷ [] → m ≡ n + 1 → GridsSoFar r groups n grids → GridsSoFar r groups m new
+pub turn_grid : (r : Renderer) (groups : List Group) (ps : List PreparedGroup) (n m i : ℕ) (p : PreparedGroup) (frame : Frame) (place : GroupPosition) (file : Option (List ℕ)) (grid : GroupGrid) (grids new : List GroupGrid) → map group_of ps ≡ groups → (n < length (enumerate_from 0 ps)) × ((i, p) ≡ get_or (enumerate_from 0 ps) n (i, p)) → frame ≡ frame_of r groups p.group.now → place ≡ place_at (length groups) i → file ≡ file_of_group groups p.group.now → grid.level ≡ p.group.now.level → IsGroupGrid r frame place file p.group.now grid.buffer → new ≡ grids ++ grid ∷ [] → m ≡ n + 1 → GridsSoFar r groups n grids → GridsSoFar r groups m new
 turn_grid r groups ps n m i p frame place file grid grids new same turn frame_here place_here file_here level drawn pushed next before =
     let g : Group = p.group.now in
     let at : i ≡ n = (turn_item ps n i p turn).0 in

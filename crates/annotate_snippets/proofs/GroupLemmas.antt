@@ -10,7 +10,7 @@ use Rattle.std.proofs.lemmas.List.Folds.{flat_map-map}
 use Rattle.std.proofs.lemmas.Option.{get_or_from_slice_get, slice_get_cases, slice_get_within}
 use Rattle.snippet_style.specs.Cell.{Cell, SPACE}
 use Rattle.snippet_grid.specs.Print.{plain_text}
-use Rattle.snippet_grid.specs.Woven.{links_behind, links_of}
+use Rattle.snippet_grid.specs.Woven.{links_after, links_of}
 use Rattle.snippet_grid.proofs.WovenLemmas.{links_of-unlinked}
 use Rattle.snippet_model.specs.Heading.{heading_of_message}
 use Rattle.snippet_model.specs.Trusted.{trusted_of_element, trusted_of_title}
@@ -23,26 +23,26 @@ use Rattle.snippet_model.specs.Rows.{IsFree, IsFreeCell}
 use Rattle.snippet_titles.specs.Title.{id_links, title_rows}
 use Rattle.snippet_titles.proofs.HeadFacts.{message_rows-unlinked}
 use Rattle.snippet_titles.proofs.LinkLemmas.{title_rows-links}
-use Rattle.annotate_snippets.specs.Around.{drawn_elements, is_drawn, is_end, next_of, surroundings_at}
+use Rattle.annotate_snippets.specs.Around.{drawn_elements, is_drawn, is_end, next_of, context_at}
 use Rattle.annotate_snippets.specs.Drawn.{AreElementsDrawn, HasRoomFor, IsElementDrawn, IsGroupGrid}
 use Rattle.annotate_snippets.specs.Page.{NamedRow, cells_of}
 use Rattle.annotate_snippets.specs.Prepared.{IsElementDrawable, IsGroupDrawable}
-use Rattle.annotate_snippets.specs.Rows.{rows_behind_title, title_part}
+use Rattle.annotate_snippets.specs.Rows.{rows_after_title, title_part}
 use Rattle.annotate_snippets.specs.Shown.{IsFreeBut, IsFreeElement, ShowsElement}
 use Rattle.annotate_snippets.specs.declared.renderer.Renderer.{Renderer}
 use Rattle.annotate_snippets.specs.declared.renderer.frame.Frame.{Frame}
-use Rattle.annotate_snippets.specs.declared.renderer.surroundings.GroupPlace.{GroupPlace}
-use Rattle.annotate_snippets.specs.declared.renderer.surroundings.Next.{Next}
-use Rattle.annotate_snippets.specs.declared.renderer.surroundings.Surroundings.{Surroundings}
+use Rattle.annotate_snippets.specs.declared.renderer.element_context.GroupPosition.{GroupPosition}
+use Rattle.annotate_snippets.specs.declared.renderer.element_context.Next.{Next}
+use Rattle.annotate_snippets.specs.declared.renderer.element_context.ElementContext.{ElementContext}
 use Rattle.annotate_snippets.proofs.CauseShown.{cause_shown}
 use Rattle.annotate_snippets.proofs.ElementShown.{ElementShown}
 use Rattle.annotate_snippets.proofs.GroupShown.{GroupShown}
 use Rattle.annotate_snippets.proofs.HeadingShown.{message_shown, origin_shown, padding_shown, title_shown}
 use Rattle.annotate_snippets.proofs.SuggestionShown.{suggestion_shown}
-use Rattle.annotate_snippets.proofs.TrustedLemmas.{AreTextsAmong, IsFreeRow, behind_title-free, element-free, free_text, texts_among, title_part-free}
+use Rattle.annotate_snippets.proofs.TrustedLemmas.{AreTextsAmong, IsFreeRow, after_title-free, element-free, free_text, texts_among, title_part-free}
 
 -- the rows of an element that is drawn show it
-pub element_shown : (r : Renderer) (frame : Frame) (around : Surroundings) (e : Element) (rows : List (List Cell)) → IsElementDrawable e → is_drawn e ≡ true → HasRoomFor r frame e → IsElementDrawn r frame around e rows → ElementShown r frame around e rows
+pub element_shown : (r : Renderer) (frame : Frame) (around : ElementContext) (e : Element) (rows : List (List Cell)) → IsElementDrawable e → is_drawn e ≡ true → HasRoomFor r frame e → IsElementDrawn r frame around e rows → ElementShown r frame around e rows
 element_shown r frame around (Message message) rows drawable drawn room is = message_shown r frame around message rows is
 element_shown r frame around (Cause snippet) rows drawable drawn room is = cause_shown r frame around snippet rows drawable room is
 element_shown r frame around (Suggestion snippet) rows drawable drawn room is =
@@ -96,7 +96,7 @@ no_links rows none =
         ]
 
 -- the rows of an element link to nothing
-element-unlinked : (r : Renderer) (frame : Frame) (around : Surroundings) (e : Element) (part : List NamedRow) → ShowsElement r frame around e part → IsFreeElement e part → All IsUnlinked (cells_of part)
+element-unlinked : (r : Renderer) (frame : Frame) (around : ElementContext) (e : Element) (part : List NamedRow) → ShowsElement r frame around e part → IsFreeElement e part → All IsUnlinked (cells_of part)
 element-unlinked r frame around (Message message) part shows free =
     subst (All IsUnlinked) (sym shows.shows.rows_are) (message_rows-unlinked r.hyperlink (record { gutter = frame.gutter; decor = r.decor_style; followed = not (is_end around.next) }) (heading_of_message message) refl)
 element-unlinked r frame around (Cause snippet) part shows free =
@@ -111,20 +111,20 @@ element-unlinked r frame around (Padding padding) part shows free =
 -- what stands below rows that link to nothing doesn't link
 links-append : (xs ys : List (List Cell)) → All IsUnlinked ys → links_of (xs ++ ys) ≡ links_of xs
 links-append xs ys none =
-    flat_map-append (λ row. links_behind None row) xs ys ∙ ap (λ urls. links_of xs ++ urls) (no_links ys none) ∙ append-nil (links_of xs)
+    flat_map-append (λ row. links_after None row) xs ys ∙ ap (λ urls. links_of xs ++ urls) (no_links ys none) ∙ append-nil (links_of xs)
 
 -- a title's part of a group links to what the title's id links to
-title_part-links : (r : Renderer) (frame : Frame) (place : GroupPlace) (follows : Next) (title : Option Title) → links_of (title_part r frame place follows title) ≡ flat_map (λ (t : Title). id_links r.hyperlink t.id) (option_to_list title)
+title_part-links : (r : Renderer) (frame : Frame) (place : GroupPosition) (follows : Next) (title : Option Title) → links_of (title_part r frame place follows title) ≡ flat_map (λ (t : Title). id_links r.hyperlink t.id) (option_to_list title)
 title_part-links r frame place follows None = refl
 title_part-links r frame place follows (Some title) =
-    let behind : List (List Cell) = rows_behind_title r frame place follows title.allows_styling in
-    links-append (title_rows r.hyperlink title) behind (free_unlinked behind (behind_title-free r frame place follows title.allows_styling)) ∙ title_rows-links r.hyperlink title ∙ sym (append-nil (id_links r.hyperlink title.id))
+    let after : List (List Cell) = rows_after_title r frame place follows title.allows_styling in
+    links-append (title_rows r.hyperlink title) after (free_unlinked after (after_title-free r frame place follows title.allows_styling)) ∙ title_rows-links r.hyperlink title ∙ sym (append-nil (id_links r.hyperlink title.id))
 
-module _ (r : Renderer) (frame : Frame) (place : GroupPlace) (file : Option (List ℕ)) (es : List Element) (parts : List (List (List Cell))) where
+module _ (r : Renderer) (frame : Frame) (place : GroupPosition) (file : Option (List ℕ)) (es : List Element) (parts : List (List (List Cell))) where
   -- rows with names that show element i, and are part i without them
   record IsPartShown (i : ℕ) (e : Element) (part : List NamedRow) : Type 0 where
     cells : cells_of part ≡ get_or parts i []
-    shows : ShowsElement r frame (surroundings_at place file es i e) e part
+    shows : ShowsElement r frame (context_at place file es i e) e part
     free : IsFreeElement e part
 
   -- the parts with names
@@ -139,7 +139,7 @@ module _ (r : Renderer) (frame : Frame) (place : GroupPlace) (file : Option (Lis
     part_shown i e is =
         let within : i < length es = slice_get_within es i e is in
         let own : get_or es i e ≡ e = get_or_from_slice_get es i e e is in
-        let shown = element_shown r frame (surroundings_at place file es i e) e (get_or parts i []) (subst IsElementDrawable own (All-get_or IsElementDrawable es i e within drawable)) (subst (λ x. is_drawn x ≡ true) own (All-get_or (λ x. is_drawn x ≡ true) es i e within drawn)) (subst (HasRoomFor r frame) own (All-get_or (HasRoomFor r frame) es i e within room)) (are.each i e is) in
+        let shown = element_shown r frame (context_at place file es i e) e (get_or parts i []) (subst IsElementDrawable own (All-get_or IsElementDrawable es i e within drawable)) (subst (λ x. is_drawn x ≡ true) own (All-get_or (λ x. is_drawn x ≡ true) es i e within drawn)) (subst (HasRoomFor r frame) own (All-get_or (HasRoomFor r frame) es i e within room)) (are.each i e is) in
         (shown.part, record { cells = shown.cells; shows = shown.shows; free = shown.free })
 
     named_parts : AreNamed
@@ -175,7 +175,7 @@ module _ (r : Renderer) (frame : Frame) (place : GroupPlace) (file : Option (Lis
       each i within =
           let e = element_at names i within in
           let part = names.each i e.0 e.1 in
-          element-unlinked r frame (surroundings_at place file es i e.0) e.0 (get_or names.named i []) part.shows part.free
+          element-unlinked r frame (context_at place file es i e.0) e.0 (get_or names.named i []) part.shows part.free
 
   -- and hold no listed character but those of trusted texts
   parts-free : (trusted : List (List ℕ)) → All (λ e. AreTextsAmong trusted (trusted_of_element e)) es → (names : AreNamed) → All (IsFreeRow trusted) (flat_map cells_of names.named)
@@ -189,7 +189,7 @@ module _ (r : Renderer) (frame : Frame) (place : GroupPlace) (file : Option (Lis
           element-free trusted e.0 (get_or names.named i []) texts (names.each i e.0 e.1).free
 
 -- the rows of a group show it: each part that is drawn shows its element
-pub group_shown : (r : Renderer) (frame : Frame) (place : GroupPlace) (file : Option (List ℕ)) (g : Group) (rows : List (List Cell)) → IsGroupDrawable g → All (HasRoomFor r frame) (drawn_elements g) → IsGroupGrid r frame place file g rows → GroupShown r frame place file g rows
+pub group_shown : (r : Renderer) (frame : Frame) (place : GroupPosition) (file : Option (List ℕ)) (g : Group) (rows : List (List Cell)) → IsGroupDrawable g → All (HasRoomFor r frame) (drawn_elements g) → IsGroupGrid r frame place file g rows → GroupShown r frame place file g rows
 group_shown r frame place file g rows drawable room grid =
     let es : List Element = drawn_elements g in
     let parts : List (List (List Cell)) = grid.parts in

@@ -13,11 +13,11 @@ use Rattle.annotate_snippets.specs.Page.{GroupPage, group_rows}
 use Rattle.annotate_snippets.specs.Shown.{IsFreeBut, ShowsGroup}
 use Rattle.annotate_snippets.specs.declared.renderer.Renderer.{Renderer}
 use Rattle.annotate_snippets.specs.declared.renderer.frame.Frame.{Frame}
-use Rattle.annotate_snippets.specs.declared.renderer.surroundings.GroupPlace.{GroupPlace}
+use Rattle.annotate_snippets.specs.declared.renderer.element_context.GroupPosition.{GroupPosition}
 
 -- rows that show a group once they have names: they link to what its title links to, and each listed character of them is one of
 -- its trusted texts
-pub record GroupShown (r : Renderer) (frame : Frame) (place : GroupPlace) (file : Option (List ℕ)) (g : Group) (rows : List (List Cell)) : Type 0 where
+pub record GroupShown (r : Renderer) (frame : Frame) (place : GroupPosition) (file : Option (List ℕ)) (g : Group) (rows : List (List Cell)) : Type 0 where
   pub page : GroupPage
   pub rows_are : rows ≡ group_rows page
   pub shows : ShowsGroup r frame place file g page

@@ -145,12 +145,12 @@ between-counted n (j ∷ []) low = low
 between-counted n (j ∷ k ∷ ks) low =
     let here : j ≤ n = All-head (λ i. i ≤ n) j (k ∷ ks) low in
     let rest : All (λ i. i ≤ n) (k ∷ ks) = All-tail (λ i. i ≤ n) j (k ∷ ks) low in
-    let behind : All (λ i. i ≤ n) (with_between (k ∷ ks)) = between-counted n (k ∷ ks) rest in
+    let after : All (λ i. i ≤ n) (with_between (k ∷ ks)) = between-counted n (k ∷ ks) rest in
     elim (cases_Bool (k == j + 2)) [
       | inl one ↦
           let middle : j + 1 ≤ n = omega (arith, All-head (λ i. i ≤ n) k ks rest, eqb-true k (j + 2) one) in
-          All-same (λ i. i ≤ n) (with_between (j ∷ k ∷ ks)) (j ∷ (j + 1) ∷ with_between (k ∷ ks)) (cond-true (k == j + 2) (j ∷ (j + 1) ∷ with_between (k ∷ ks)) (j ∷ with_between (k ∷ ks)) one) (All-cons (λ i. i ≤ n) j ((j + 1) ∷ with_between (k ∷ ks)) here (All-cons (λ i. i ≤ n) (j + 1) (with_between (k ∷ ks)) middle behind))
-      | inr other ↦ All-same (λ i. i ≤ n) (with_between (j ∷ k ∷ ks)) (j ∷ with_between (k ∷ ks)) (cond-false (k == j + 2) (j ∷ (j + 1) ∷ with_between (k ∷ ks)) (j ∷ with_between (k ∷ ks)) other) (All-cons (λ i. i ≤ n) j (with_between (k ∷ ks)) here behind)
+          All-same (λ i. i ≤ n) (with_between (j ∷ k ∷ ks)) (j ∷ (j + 1) ∷ with_between (k ∷ ks)) (cond-true (k == j + 2) (j ∷ (j + 1) ∷ with_between (k ∷ ks)) (j ∷ with_between (k ∷ ks)) one) (All-cons (λ i. i ≤ n) j ((j + 1) ∷ with_between (k ∷ ks)) here (All-cons (λ i. i ≤ n) (j + 1) (with_between (k ∷ ks)) middle after))
+      | inr other ↦ All-same (λ i. i ≤ n) (with_between (j ∷ k ∷ ks)) (j ∷ with_between (k ∷ ks)) (cond-false (k == j + 2) (j ∷ (j + 1) ∷ with_between (k ∷ ks)) (j ∷ with_between (k ∷ ks)) other) (All-cons (λ i. i ≤ n) j (with_between (k ∷ ks)) here after)
     ]
 
 -- what holds of lines holds of what is seen of them

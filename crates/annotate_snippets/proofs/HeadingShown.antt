@@ -25,15 +25,15 @@ use Rattle.snippet_titles.proofs.HeadFacts.{origin_row-text}
 use Rattle.snippet_titles.proofs.OriginFree.{closing_row-free, origin_row-free, padding_row-free}
 use Rattle.snippet_titles.proofs.PlaceLemmas.{heading_rows-places}
 use Rattle.snippet_titles.proofs.TextLemmas.{heading_rows-texts}
-use Rattle.annotate_snippets.specs.Around.{closes_behind, is_end}
+use Rattle.annotate_snippets.specs.Around.{closes_after, is_end}
 use Rattle.annotate_snippets.specs.Page.{NamedRow, cells_of, others}
 use Rattle.annotate_snippets.specs.Rows.{closing_rows, message_rows, message_style, origin_layout, origin_rows, origin_start, place_given, title_part}
 use Rattle.annotate_snippets.specs.Shown.{ShowsHeading, ShowsTitlePart}
 use Rattle.annotate_snippets.specs.declared.renderer.Renderer.{Renderer}
 use Rattle.annotate_snippets.specs.declared.renderer.frame.Frame.{Frame}
-use Rattle.annotate_snippets.specs.declared.renderer.surroundings.GroupPlace.{GroupPlace}
-use Rattle.annotate_snippets.specs.declared.renderer.surroundings.Next.{Next}
-use Rattle.annotate_snippets.specs.declared.renderer.surroundings.Surroundings.{Surroundings}
+use Rattle.annotate_snippets.specs.declared.renderer.element_context.GroupPosition.{GroupPosition}
+use Rattle.annotate_snippets.specs.declared.renderer.element_context.Next.{Next}
+use Rattle.annotate_snippets.specs.declared.renderer.element_context.ElementContext.{ElementContext}
 use Rattle.annotate_snippets.proofs.ElementShown.{ElementShown}
 
 -- rows that show no line keep their cells
@@ -57,7 +57,7 @@ heading_shown hyperlink place heading =
     }
 
 -- so do those of a message
-pub message_shown : (r : Renderer) (frame : Frame) (around : Surroundings) (message : the_message.Message) (rows : List (List Cell)) → rows ≡ message_rows r frame around message → ElementShown r frame around (Message message) rows
+pub message_shown : (r : Renderer) (frame : Frame) (around : ElementContext) (message : the_message.Message) (rows : List (List Cell)) → rows ≡ message_rows r frame around message → ElementShown r frame around (Message message) rows
 message_shown r frame around message rows are =
     let heading : Heading = heading_of_message message in
     let shows : ShowsHeading r.hyperlink (message_style r frame around) heading rows = subst (ShowsHeading r.hyperlink (message_style r frame around) heading) (sym are) (heading_shown r.hyperlink (message_style r frame around) heading) in
@@ -76,11 +76,11 @@ closing-free : (r : Renderer) (frame : Frame) (closes : Bool) → All IsFree (if
 closing-free r frame true = All-cons IsFree _ [] (closing_row-free r.decor_style frame.gutter) (All-nil IsFree)
 closing-free r frame false = All-nil IsFree
 
-pub origin_shown : (r : Renderer) (frame : Frame) (around : Surroundings) (origin : the_origin.Origin) (rows : List (List Cell)) → rows ≡ origin_rows r frame around origin → ElementShown r frame around (Origin origin) rows
+pub origin_shown : (r : Renderer) (frame : Frame) (around : ElementContext) (origin : the_origin.Origin) (rows : List (List Cell)) → rows ≡ origin_rows r frame around origin → ElementShown r frame around (Origin origin) rows
 origin_shown r frame around origin rows are =
     let path : List ℕ = cow_str_bytes origin.path in
     let row : List Cell = origin_row (origin_layout r frame) (origin_start around) path (place_given origin) in
-    let free : All IsFree (origin_rows r frame around origin) = All-cons IsFree row _ (origin_row-free (origin_layout r frame) (origin_start around) path (place_given origin)) (closing-free r frame (closes_behind around)) in
+    let free : All IsFree (origin_rows r frame around origin) = All-cons IsFree row _ (origin_row-free (origin_layout r frame) (origin_start around) path (place_given origin)) (closing-free r frame (closes_after around)) in
     record {
       part = others rows;
       cells = others-cells rows;
@@ -92,7 +92,7 @@ origin_shown r frame around origin rows are =
     }
 
 -- and that of a padding
-pub padding_shown : (r : Renderer) (frame : Frame) (around : Surroundings) (padding : the_padding.Padding) (rows : List (List Cell)) → rows ≡ padding_row r.decor_style frame.gutter (is_end around.next) ∷ [] → ElementShown r frame around (Padding padding) rows
+pub padding_shown : (r : Renderer) (frame : Frame) (around : ElementContext) (padding : the_padding.Padding) (rows : List (List Cell)) → rows ≡ padding_row r.decor_style frame.gutter (is_end around.next) ∷ [] → ElementShown r frame around (Padding padding) rows
 padding_shown r frame around padding rows are =
     let row : List Cell = padding_row r.decor_style frame.gutter (is_end around.next) in
     let free : All IsFree (row ∷ []) = All-cons IsFree row [] (padding_row-free r.decor_style frame.gutter (is_end around.next)) (All-nil IsFree) in
@@ -104,7 +104,7 @@ padding_shown r frame around padding rows are =
     }
 
 -- the title's part of a group shows the title
-pub title_shown : (r : Renderer) (frame : Frame) (place : GroupPlace) (follows : Next) (title : Option Title) → ShowsTitlePart r frame place follows title (title_part r frame place follows title)
+pub title_shown : (r : Renderer) (frame : Frame) (place : GroupPosition) (follows : Next) (title : Option Title) → ShowsTitlePart r frame place follows title (title_part r frame place follows title)
 title_shown r frame place follows None = refl
 title_shown r frame place follows (Some title) =
     record {

@@ -10,9 +10,9 @@ use Rattle.snippet_style.specs.Cell.{Cell, unlinked_cell}
 use Rattle.snippet_model.specs.declared.snippet.Annotation.{Annotation}
 use Rattle.snippet_model.specs.declared.snippet.AnnotationKind.{AnnotationKind}
 use Rattle.snippet_lines.specs.Lines.{Source}
-use Rattle.snippet_view.specs.Annotated.{PartEntry, drawn, end_part, is_short, long_parts, long_place, long_places, long_spans, made_parts, parts_on, seen_part, single_part, span_parts, stands_among, start_part}
+use Rattle.snippet_view.specs.Annotated.{PartEntry, promoted, end_part, is_short, long_parts, long_place, long_places, long_spans, made_parts, parts_on, seen_part, single_part, span_parts, stands_among, start_part}
 use Rattle.snippet_view.specs.Depths.{depth_among}
-use Rattle.snippet_view.specs.declared.depths.LongPlace.{LongPlace}
+use Rattle.snippet_view.specs.declared.depths.LongExtent.{LongExtent}
 use Rattle.snippet_model.specs.declared.snippet.Snippet.{Snippet}
 use Rattle.annotate_snippets.specs.Gutter.{numbered_source}
 use Rattle.snippet_view.specs.Mark.{is_marked_on, is_marking, is_single_line, start_column}
@@ -28,7 +28,7 @@ use Rattle.snippet_strokes.specs.Labels.{IsLabelledAtEnd, LabelsStand, PlacedLab
 use Rattle.snippet_strokes.specs.Positions.{is_start_part}
 use Rattle.snippet_strokes.specs.declared.layout.Layout.{Layout}
 use Rattle.annotate_snippets.specs.declared.renderer.frame.Frame.{Frame}
-use Rattle.annotate_snippets.specs.Shown.{ShowsLabel, ShowsLabels, ShownLabel, SpanLabel, drawn_spans, is_in_label, label_of_end, label_of_span, normalized_chars, shown_label}
+use Rattle.annotate_snippets.specs.Shown.{ShowsLabel, ShowsLabels, ShownLabel, SpanLabel, promoted_spans, is_in_label, label_of_end, label_of_span, normalized_chars, shown_label}
 use Rattle.annotate_snippets.proofs.MarkLemmas.{end_of_entry, label_is, start_of_entry}
 
 head_same : {X : Type 0} (x y : X) (xs ys : List X) → x ∷ xs ≡ y ∷ ys → x ≡ y
@@ -195,17 +195,17 @@ one_end s k depth false e =
     both true = refl
     both false = refl
 
-long_ends : (s : Source) (k : ℕ) (places : List LongPlace) (before es : List Entry) → map label_of_part (filter ends_here (filter (λ (p : PartEntry). p.entry.start.line == s.first + k) (long_parts s places before es))) ≡ map label_of_end (filter (λ (e : Entry). e.end.line == s.first + k) (drawn_spans before es))
+long_ends : (s : Source) (k : ℕ) (places : List LongExtent) (before es : List Entry) → map label_of_part (filter ends_here (filter (λ (p : PartEntry). p.entry.start.line == s.first + k) (long_parts s places before es))) ≡ map label_of_end (filter (λ (e : Entry). e.end.line == s.first + k) (promoted_spans before es))
 long_ends s k places before [] = refl
 long_ends s k places before (e ∷ later) =
     let on_line : PartEntry → Bool = λ (p : PartEntry). p.entry.start.line == s.first + k in
-    let own : List PartEntry = span_parts s (depth_among places (long_place e)) (stands_among e later) (drawn before e) in
+    let own : List PartEntry = span_parts s (depth_among places (long_place e)) (stands_among e later) (promoted before e) in
     let others : List PartEntry = long_parts s places (before ++ e ∷ []) later in
     let ends : Entry → Bool = λ (x : Entry). x.end.line == s.first + k in
-    let rest : List Entry = drawn_spans (before ++ e ∷ []) later in
-    ap (λ ps. map label_of_part (filter ends_here ps)) (filter-append on_line own others) ∙ ap (map label_of_part) (filter-append ends_here (filter on_line own) (filter on_line others)) ∙ map-append label_of_part (filter ends_here (filter on_line own)) (filter ends_here (filter on_line others)) ∙ ap (λ xs. xs ++ map label_of_part (filter ends_here (filter on_line others))) (one_end s k (depth_among places (long_place e)) (stands_among e later) (drawn before e)) ∙ ap (λ xs. map label_of_end (cond (ends (drawn before e)) (drawn before e ∷ []) []) ++ xs) (long_ends s k places (before ++ e ∷ []) later) ∙ both (ends (drawn before e)) (filter ends rest)
+    let rest : List Entry = promoted_spans (before ++ e ∷ []) later in
+    ap (λ ps. map label_of_part (filter ends_here ps)) (filter-append on_line own others) ∙ ap (map label_of_part) (filter-append ends_here (filter on_line own) (filter on_line others)) ∙ map-append label_of_part (filter ends_here (filter on_line own)) (filter ends_here (filter on_line others)) ∙ ap (λ xs. xs ++ map label_of_part (filter ends_here (filter on_line others))) (one_end s k (depth_among places (long_place e)) (stands_among e later) (promoted before e)) ∙ ap (λ xs. map label_of_end (cond (ends (promoted before e)) (promoted before e ∷ []) []) ++ xs) (long_ends s k places (before ++ e ∷ []) later) ∙ both (ends (promoted before e)) (filter ends rest)
   where
-    both : (b : Bool) (xs : List Entry) → map label_of_end (cond b (drawn before e ∷ []) []) ++ map label_of_end xs ≡ map label_of_end (cond b (drawn before e ∷ xs) xs)
+    both : (b : Bool) (xs : List Entry) → map label_of_end (cond b (promoted before e ∷ []) []) ++ map label_of_end xs ≡ map label_of_end (cond b (promoted before e ∷ xs) xs)
     both true xs = refl
     both false xs = refl
 

@@ -34,7 +34,7 @@ pub mod ShortLemmas
 pub mod ShortShown
 pub mod SuggestionLemmas
 pub mod SuggestionShown
-pub mod SurroundingLemmas
+pub mod ContextLemmas
 pub mod TextShown
 pub mod TrustedLemmas
 pub mod WalkLemmas

@@ -11,9 +11,9 @@ use Rattle.std.proofs.lemmas.List.Sums.{AllPass-from_list_all, list_all-from_All
 use Rattle.snippet_model.specs.declared.snippet.Annotation.{Annotation}
 use Rattle.snippet_model.specs.declared.snippet.Snippet.{Snippet}
 use Rattle.snippet_grid.specs.Grid.{row_at}
-use Rattle.snippet_style.specs.Cell.{Cell, SPACE, drawn, unlinked_cell}
+use Rattle.snippet_style.specs.Cell.{Cell, SPACE, text_cells, unlinked_cell}
 use Rattle.snippet_grid.specs.Print.{row_text}
-use Rattle.snippet_style.specs.Glyphs.{separator_of, closing_of, placeholder_of, rail_glyphs}
+use Rattle.snippet_style.specs.Glyphs.{separator_of, closing_of, placeholder_of, bar_glyphs}
 use Rattle.snippet_style.specs.declared.glyphs.DecorStyle.{DecorStyle}
 use Rattle.snippet_style.specs.declared.glyphs.DecorStyle.TheVariants.{Ascii, Unicode}
 use Rattle.snippet_style.specs.declared.role.ElementStyle.TheVariants.{LineNumber, Quotation}
@@ -33,14 +33,14 @@ use Rattle.snippet_view.specs.Marked.{seen_entry, entry_of}
 use Rattle.snippet_view.specs.Measures.{is_bar, is_single_part, is_wide_entry}
 use Rattle.snippet_lines.specs.Span.{IsSpan}
 use Rattle.snippet_view.specs.Window.{AreReplaced, chars_at, dropped_part, stands_whole, window}
-use Rattle.snippet_strokes.specs.Entries.{IsEntryMark, IsMarkCell, IsRailCell, are_plain, has_column, has_mark_role, is_single, label_role, label_text, shifted, wide_entries}
+use Rattle.snippet_strokes.specs.Entries.{IsEntryMark, IsMarkCell, IsBarCell, are_plain, has_column, has_mark_role, is_single, label_role, label_text, shifted, wide_entries}
 use Rattle.snippet_lines.specs.Number.{shown_number}
 use Rattle.snippet_model.specs.Rows.{HasNoNumber}
 use Rattle.snippet_strokes.specs.Rows.{bare_row, IsSourceRow, IsStrokeRow, ShowsMarks}
 use Rattle.snippet_strokes.specs.Snippet as strokes
 use Rattle.snippet_strokes.specs.declared.layout.Layout.{Layout}
 use Rattle.snippet_strokes.proofs.SnippetLemmas.{highlighted_left, highlighted_text}
-use Rattle.snippet_titles.proofs.TextLemmas.{row_text-drawn}
+use Rattle.snippet_titles.proofs.TextLemmas.{row_text-text_cells}
 use Rattle.annotate_snippets.specs.declared.renderer.Renderer.{Renderer}
 use Rattle.annotate_snippets.specs.declared.renderer.frame.Frame.{Frame}
 use Rattle.annotate_snippets.specs.Drawn.{layout_in}
@@ -48,7 +48,7 @@ use Rattle.annotate_snippets.specs.Gutter.{line_numbers, number_text, numbered_s
 use Rattle.annotate_snippets.specs.Shown.{HasStroke, IsRowBelow, ShowsLabels, ShowsMarksOf, ShowsSourceLine, bounds_in, room_of, shown_label, wide_spans}
 use Rattle.annotate_snippets.proofs.LabelLemmas.{labelled_at_end, labels_shown}
 use Rattle.annotate_snippets.proofs.ListLemmas.{from_any}
-use Rattle.annotate_snippets.proofs.MarkLemmas.{span_of_entry, IsEntryOf, mark_of_entries, unmarked_by_entries, entries_behind, unlabelled_entries, lone_entry, some_entry, shifted_mark, shifted_unmarked, shifted_behind}
+use Rattle.annotate_snippets.proofs.MarkLemmas.{span_of_entry, IsEntryOf, mark_of_entries, unmarked_by_entries, entries_after, unlabelled_entries, lone_entry, some_entry, shifted_mark, shifted_unmarked, shifted_after}
 use Rattle.annotate_snippets.proofs.PartsFacts.{stands_left, untouched, wide_on_line}
 use Rattle.annotate_snippets.proofs.WindowLemmas.{dropped-none}
 
@@ -71,7 +71,7 @@ beside_number layout shown cells row c is right left =
     no_letter Unicode = refl
 
 -- no cell of what the gutter shows, of the separator, and of the spaces beside it is in the role of marks
-drawn_unmarked : (shown : List ℕ) (c : ℕ) → has_mark_role (get_or (drawn LineNumber shown) c SPACE) ≡ false
+drawn_unmarked : (shown : List ℕ) (c : ℕ) → has_mark_role (get_or (text_cells LineNumber shown) c SPACE) ≡ false
 drawn_unmarked [] c = refl
 drawn_unmarked (ch ∷ shown) zero = refl
 drawn_unmarked (ch ∷ shown) (suc c) = drawn_unmarked shown c
@@ -92,10 +92,10 @@ char_at [] c = refl
 char_at (x ∷ row) zero = refl
 char_at (x ∷ row) (suc c) = char_at row c
 
--- the characters that a row begins with behind some spaces
-led_by : (n : ℕ) (cs : List ℕ) (c : ℕ) → c < length cs → (get_or (replicate n SPACE ++ drawn LineNumber cs) (n + c) SPACE).ch ≡ get_or cs c 32
+-- the characters that a row begins with after some spaces
+led_by : (n : ℕ) (cs : List ℕ) (c : ℕ) → c < length cs → (get_or (replicate n SPACE ++ text_cells LineNumber cs) (n + c) SPACE).ch ≡ get_or cs c 32
 led_by n cs c within =
-    ap (λ (cell : Cell). cell.ch) (get_or-append_right (replicate n SPACE) (drawn LineNumber cs) n (n + c) SPACE (length-replicate n SPACE) (omega arith) ∙ ap (λ i. get_or (drawn LineNumber cs) i SPACE) (let back : n + c - n ≡ c = omega arith in back)) ∙ ap (λ (cell : Cell). cell.ch) (get_or-map (λ ch. unlinked_cell LineNumber ch) cs c 32 SPACE within)
+    ap (λ (cell : Cell). cell.ch) (get_or-append_right (replicate n SPACE) (text_cells LineNumber cs) n (n + c) SPACE (length-replicate n SPACE) (omega arith) ∙ ap (λ i. get_or (text_cells LineNumber cs) i SPACE) (let back : n + c - n ≡ c = omega arith in back)) ∙ ap (λ (cell : Cell). cell.ch) (get_or-map (λ ch. unlinked_cell LineNumber ch) cs c 32 SPACE within)
 
 -- a row that is as a bare one left of the bars has its stroke
 bare_stroke : (decor : DecorStyle) (gutter : ℕ) (closed : Bool) (row : List Cell) → ((c : ℕ) → c < gutter + 3 → get_or row c SPACE ≡ get_or (bare_row decor gutter closed) c SPACE) → HasStroke gutter (cond closed (closing_of decor) (separator_of decor ∷ [])) row
@@ -120,9 +120,9 @@ no_letters gs ch none among =
     negated true is = cc
     negated false is = refl
 
-rail_letter : (decor : DecorStyle) (ch : ℕ) → list_any (λ g. ch == g) (rail_glyphs decor) ≡ true → is_ascii_alphanumeric ch ≡ false
-rail_letter Ascii ch among = no_letters (rail_glyphs Ascii) ch refl among
-rail_letter Unicode ch among = no_letters (rail_glyphs Unicode) ch refl among
+bar_letter : (decor : DecorStyle) (ch : ℕ) → list_any (λ g. ch == g) (bar_glyphs decor) ≡ true → is_ascii_alphanumeric ch ≡ false
+bar_letter Ascii ch among = no_letters (bar_glyphs Ascii) ch refl among
+bar_letter Unicode ch among = no_letters (bar_glyphs Unicode) ch refl among
 
 -- a row that is as a bare one left of the bars is a row below a line
 pub row_below : (decor : DecorStyle) (frame : Frame) (closes plain : Bool) (es : List LineAnnotation) (rows : List (List Cell)) (i : ℕ) → i < length rows → All (HasNoNumber frame.gutter) rows → IsStrokeRow (record { gutter = frame.gutter; code = frame.code; decor = decor }) plain es (closes && i + 1 == length rows) (row_at rows i) → IsRowBelow decor frame (closes && i + 1 == length rows) (row_at rows i)
@@ -130,7 +130,7 @@ row_below decor frame closes plain es rows i within unnumbered is =
     record {
       unnumbered = All-get_or (HasNoNumber frame.gutter) rows i [] within unnumbered;
       stroke = bare_stroke decor frame.gutter (closes && i + 1 == length rows) (row_at rows i) is.left;
-      bars = is.rails;
+      bars = is.bar_cells;
     }
 
 -- a wide entry stays one, however many columns are dropped left of it
@@ -266,8 +266,8 @@ module _ (r : Renderer) (frame : Frame) (s : Snippet Annotation) (spans : All (�
         kept =
             elim (cases_lt c (frame.gutter + 2)) [
               | inl front ↦ sym (get_or-take (frame.gutter + 2) shows.source c SPACE front) ∙ ap (λ cs. get_or cs c SPACE) shows.beside.front ∙ get_or-take (frame.gutter + 2) shows.highlighted c SPACE front
-              | inr behind ↦
-                  let at : c ≡ frame.gutter + 2 = omega (arith, behind, beside) in
+              | inr after ↦
+                  let at : c ≡ frame.gutter + 2 = omega (arith, after, beside) in
                   ap (λ n. get_or shows.source n SPACE) at ∙ shows.beside.gap ∙ ap (λ n. get_or shows.highlighted n SPACE) (sym at)
             ]
 
@@ -295,7 +295,7 @@ module _ (r : Renderer) (frame : Frame) (s : Snippet Annotation) (spans : All (�
         let at_left : (bounds_of margin).left ≡ 0 = ap (λ (b : Bounds). b.left) bounds ∙ left in
         let uncut : drop frame.code shows.source ≡ drop frame.code shows.highlighted = shows.beside.uncut (wide_is ∙ none) in
         let narrow_text : width_of (norm (chars info.line.now)) ≤ margin.term_width = omega (arith, room, own_fits, ap width_of line_text, width_of-norm (chars_at (cow_str_bytes s.source) k)) in
-        let all : row_text (drop frame.code shows.plain) ≡ text = ap row_text (shows.whole at_left narrow_text) ∙ row_text-drawn Quotation (norm (chars info.line.now)) ∙ line_text in
+        let all : row_text (drop frame.code shows.plain) ≡ text = ap row_text (shows.whole at_left narrow_text) ∙ row_text-text_cells Quotation (norm (chars info.line.now)) ∙ line_text in
         (dropped_here ∙ ap (λ n. width_of (dropped_part n text)) left ∙ dropped-none text, ap row_text uncut ∙ sym (drop-map (λ (cell : Cell). cell.ch) frame.code shows.highlighted) ∙ ap (drop frame.code) (highlighted_text frame.code shows.dropped _ shows.plain shows.highlighted shows.highlights) ∙ drop-map (λ (cell : Cell). cell.ch) frame.code shows.plain ∙ all)
 
     -- the source row shows its line
@@ -303,13 +303,13 @@ module _ (r : Renderer) (frame : Frame) (s : Snippet Annotation) (spans : All (�
     source_line =
         let is = shows.shows in
         let near : length shown ≤ frame.gutter + 2 = omega (arith, fits) in
-        let number_row : row_text (take (length shown) shows.source) ≡ shown = ap row_text (sym (take-take (length shown) (frame.gutter + 2) shows.source near)) ∙ sym (take-map (λ (cell : Cell). cell.ch) (length shown) (take (frame.gutter + 2) shows.source)) ∙ ap (take (length shown)) front_text ∙ take-map (λ (cell : Cell). cell.ch) (length shown) (take (frame.gutter + 2) shows.plain) ∙ ap row_text (take-take (length shown) (frame.gutter + 2) shows.plain near) ∙ ap row_text is.shows.number ∙ row_text-drawn LineNumber shown in
+        let number_row : row_text (take (length shown) shows.source) ≡ shown = ap row_text (sym (take-take (length shown) (frame.gutter + 2) shows.source near)) ∙ sym (take-map (λ (cell : Cell). cell.ch) (length shown) (take (frame.gutter + 2) shows.source)) ∙ ap (take (length shown)) front_text ∙ take-map (λ (cell : Cell). cell.ch) (length shown) (take (frame.gutter + 2) shows.plain) ∙ ap row_text (take-take (length shown) (frame.gutter + 2) shows.plain near) ∙ ap row_text is.shows.number ∙ row_text-text_cells LineNumber shown in
         record {
           within = within;
           number = subst (λ cs. row_text (take (length cs) shows.source) ≡ cs) same_number number_row;
           separator = front_cell (frame.gutter + 1) (omega arith) ∙ ap (λ (cell : Cell). cell.ch) is.separator;
           beside = λ c right left. beside_is c (omega (arith, ap length same_number, right)) left;
-          bars = shows.beside.rails;
+          bars = shows.beside.bar_cells;
           unmarked = λ c beside left. ap has_mark_role (left_cell c beside left) ∙ unmarked_left (layout_in r frame) _ _ shows.plain c is left;
           window = record {
             ordered = omega (arith, ordered, ap (λ (b : Bounds). b.left) bounds, ap (λ (b : Bounds). b.right) bounds);
@@ -323,11 +323,11 @@ module _ (r : Renderer) (frame : Frame) (s : Snippet Annotation) (spans : All (�
         beside_is c right left =
             elim (cases_lt c (frame.gutter + 2)) [
               | inl front ↦ ap is_ascii_alphanumeric (front_cell c front) ∙ beside_number (layout_in r frame) _ _ shows.plain c shows.shows right left
-              | inr behind ↦ elim (cases_eq c (frame.gutter + 2)) [
+              | inr after ↦ elim (cases_eq c (frame.gutter + 2)) [
                 | inl at ↦ ap (λ n. is_ascii_alphanumeric (get_or shows.source n SPACE).ch) at ∙ ap is_ascii_alphanumeric gap_cell ∙ beside_number (layout_in r frame) _ _ shows.plain (frame.gutter + 2) shows.shows (omega (arith, right, at)) (omega (arith, left, at))
                 | inr other ↦
-                    let rail : IsRailCell r.decor_style (get_or shows.source c SPACE) = shows.beside.rails c (omega (arith, behind, other)) left in
-                    rail_letter r.decor_style (get_or shows.source c SPACE).ch rail.glyph
+                    let bar_cell : IsBarCell r.decor_style (get_or shows.source c SPACE) = shows.beside.bar_cells c (omega (arith, after, other)) left in
+                    bar_letter r.decor_style (get_or shows.source c SPACE).ch bar_cell.glyph
               ]
             ]
 
@@ -395,13 +395,13 @@ module _ (r : Renderer) (frame : Frame) (s : Snippet Annotation) (spans : All (�
                 let right : d ≤ p = omega (arith, All-contains (λ (e : LineAnnotation). d ≤ e.start.display) es own.entry clear own.among, own.covers.0) in
                 subst (λ c. IsMarkCell r.decor_style kind (get_or row c SPACE)) (omega (arith, right)) (marks_are.marks (p - d) kind (shifted_mark d es clear p kind own));
             unmarked = λ p right none. subst (λ c. has_mark_role (get_or row c SPACE) ≡ false) (omega (arith, right)) (marks_are.unmarked (p - d) (shifted_unmarked d es clear p right (unmarked_by_entries (numbered_source s) s.markers.items k es same p none)));
-            before = λ p right left. subst (λ c. get_or row c SPACE ≡ SPACE) (omega (arith, right)) (strokes_row.before plain (frame.code + (p - d)) (frame.code + (p - d) + 1) (omega arith) (omega arith) (shifted_behind d es clear frame.code p right (entries_behind (numbered_source s) s.markers.items k es same frame.code p left)));
+            before = λ p right left. subst (λ c. get_or row c SPACE ≡ SPACE) (omega (arith, right)) (strokes_row.before plain (frame.code + (p - d)) (frame.code + (p - d) + 1) (omega arith) (omega arith) (shifted_after d es clear frame.code p right (entries_after (numbered_source s) s.markers.items k es same frame.code p left)));
             spaces = λ unlabelled p right none. subst (λ c. get_or row c SPACE ≡ SPACE) (omega (arith, right)) (marks_are.spaces (All-map (λ (e : LineAnnotation). label_text e ≡ []) (shifted d) es (unlabelled_entries (numbered_source s) s.markers.items k es same unlabelled)) (p - d) (shifted_unmarked d es clear p right (unmarked_by_entries (numbered_source s) s.markers.items k es same p none)));
             lone = λ a alone label.
                 let own = lone_entry (numbered_source s) s.markers.items k es same a alone in
                 let e : LineAnnotation = own.0 in
                 let is : IsEntryOf (numbered_source s) k a e = own.2 in
                 let right : d ≤ e.start.display = All-head (λ (x : LineAnnotation). d ≤ x.start.display) e [] (subst (All (λ (x : LineAnnotation). d ≤ x.start.display)) own.1 clear) in
-                let behind = marks_are.lone (shifted d e) (ap (map (shifted d)) own.1) (omega (arith, is.start, is.end, right)) (omega (arith, label, ap length is.label)) in
-                subst (λ c. row_text (drop c row) ≡ 32 ∷ shown_label a) (let at : frame.code + (e.end.display - d) ≡ frame.code + end_column (cow_str_bytes s.source) a - d = omega (arith, is.end, is.start, right) in at) (ap row_text behind ∙ ap (λ cs. 32 ∷ cs) (row_text-drawn (label_role e.kind) (label_text e) ∙ is.label));
+                let after = marks_are.lone (shifted d e) (ap (map (shifted d)) own.1) (omega (arith, is.start, is.end, right)) (omega (arith, label, ap length is.label)) in
+                subst (λ c. row_text (drop c row) ≡ 32 ∷ shown_label a) (let at : frame.code + (e.end.display - d) ≡ frame.code + end_column (cow_str_bytes s.source) a - d = omega (arith, is.end, is.start, right) in at) (ap row_text after ∙ ap (λ cs. 32 ∷ cs) (row_text-text_cells (label_role e.kind) (label_text e) ∙ is.label));
           }

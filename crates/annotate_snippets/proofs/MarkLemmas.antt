@@ -134,15 +134,15 @@ module _ (s : Source) (marks : List Annotation) (k : ℕ) (es : List LineAnnotat
       let isb : IsEntryOf s k b (get_or es i d) = theirs.2 in
       All-contains (λ a. IsMarkedAt s.text k p a → ⊥) marks b none theirs.1 (isb.marked, (omega (arith, isb.start, covers.0), omega (arith, isb.end, covers.1)))
 
-  -- where a column stands left of all spans of the line, every entry starts behind it
-  pub entries_behind : (code p : ℕ) → All (λ a. is_marked_on s.text k a ≡ true → p < start_column s.text a) marks → All (StandsFrom code (code + p + 1)) es
-  entries_behind code p right =
+  -- where a column stands left of all spans of the line, every entry starts after it
+  pub entries_after : (code p : ℕ) → All (λ a. is_marked_on s.text k a ≡ true → p < start_column s.text a) marks → All (StandsFrom code (code + p + 1)) es
+  entries_after code p right =
       λ i d within.
       let theirs = span_of_entry (get_or es i d) (Contains-get_or es i d within) in
       let b : Annotation = theirs.0 in
       let isb : IsEntryOf s k b (get_or es i d) = theirs.2 in
-      let behind : p < start_column s.text b = All-contains (λ a. is_marked_on s.text k a ≡ true → p < start_column s.text a) marks b right theirs.1 isb.marked in
-      omega (arith, isb.start, behind)
+      let after : p < start_column s.text b = All-contains (λ a. is_marked_on s.text k a ≡ true → p < start_column s.text a) marks b right theirs.1 isb.marked in
+      omega (arith, isb.start, after)
 
   -- a line that qualifies has an entry
   pub some_entry : list_any (is_marked_on s.text k) marks ≡ true → 0 < length es
@@ -222,7 +222,7 @@ module _ (dropped : ℕ) (es : List LineAnnotation) (clear : All (λ e. dropped 
   shifted_unmarked p right none =
       All-map (λ (e : LineAnnotation). EntryCovers e (p - dropped) → ⊥) (shifted dropped) es (λ i d within covers. none i d within (omega (arith, clear i d within, right, covers.0), omega (arith, clear i d within, right, covers.1)))
 
-  -- entries that stand behind a column stand behind it
-  pub shifted_behind : (code p : ℕ) → dropped ≤ p → All (StandsFrom code (code + p + 1)) es → All (StandsFrom code (code + (p - dropped) + 1)) (map (shifted dropped) es)
-  shifted_behind code p right behind =
-      All-map (StandsFrom code (code + (p - dropped) + 1)) (shifted dropped) es (λ i d within. omega (arith, clear i d within, behind i d within, right))
+  -- entries that stand after a column stand after it
+  pub shifted_after : (code p : ℕ) → dropped ≤ p → All (StandsFrom code (code + p + 1)) es → All (StandsFrom code (code + (p - dropped) + 1)) (map (shifted dropped) es)
+  shifted_after code p right after =
+      All-map (StandsFrom code (code + (p - dropped) + 1)) (shifted dropped) es (λ i d within. omega (arith, clear i d within, after i d within, right))

@@ -8,7 +8,7 @@ use Rattle.std.proofs.lemmas.Bool.{eq-eqb}
 use Rattle.std.proofs.lemmas.List.{append_cancel_left}
 use Rattle.std.proofs.lemmas.List.Elements.{All-nil, All-cons, All-head, All-tail, All-weaker, filter_map-append}
 use Rattle.std.proofs.lemmas.List.Sums.{AllPass-from_list_all}
-use Rattle.snippet_style.specs.Cell.{Cell, SPACE, drawn}
+use Rattle.snippet_style.specs.Cell.{Cell, SPACE, text_cells}
 use Rattle.snippet_style.specs.declared.glyphs.DecorStyle.TheVariants.{Ascii}
 use Rattle.snippet_style.specs.declared.role.ElementStyle.TheVariants.{Addition, LineNumber, Quotation}
 use Rattle.snippet_text.specs.Normalized.{norm}
@@ -29,7 +29,7 @@ use Rattle.annotate_snippets.specs.Page.{Elision, NamedRow, OfferedLine, Removed
 use Rattle.annotate_snippets.specs.Rows.{suggestion_head}
 use Rattle.annotate_snippets.specs.Settings.{plain_settings}
 use Rattle.annotate_snippets.specs.declared.renderer.frame.Frame.{Frame}
-use Rattle.annotate_snippets.specs.declared.renderer.surroundings.Surroundings.{Surroundings}
+use Rattle.annotate_snippets.specs.declared.renderer.element_context.ElementContext.{ElementContext}
 use Rattle.annotate_snippets.specs.Shown.{IsOfferedRow, IsSuggestionRow, ShowsSuggestion}
 use Rattle.annotate_snippets.proofs.NotShown.{two_of_one}
 
@@ -37,7 +37,7 @@ use Rattle.annotate_snippets.proofs.NotShown.{two_of_one}
 
 -- a row that offers the first line of a source, with this code, as in `1 + code`
 abbrev offering_row : List ℕ → List Cell
-offering_row code = drawn LineNumber (codes "1") ++ SPACE ∷ drawn Addition (codes "+") ++ SPACE ∷ drawn Quotation code
+offering_row code = text_cells LineNumber (codes "1") ++ SPACE ∷ text_cells Addition (codes "+") ++ SPACE ∷ text_cells Quotation code
 
 -- the bytes from one to another are replaced by a text
 abbrev replaced : ℕ → ℕ → List ℕ → Edit
@@ -83,7 +83,7 @@ unfolding line_of
 from_first true = refl
 from_first false = refl
 
--- a row `1 + ac` can only be named as that of the first line of `ac`: it has a digit in the gutter, and `+` behind it
+-- a row `1 + ac` can only be named as that of the first line of `ac`: it has a digit in the gutter, and `+` after it
 named_first : (s : Snippet Patch) → IsSnippetOf s (codes "ab") one_edit → (name : RowName) (cells : List Cell) → cells ≡ offering_row (codes "ac") → IsSuggestionRow plain_settings 1 s name cells → name ≡ OfferedLine 0
 named_first s is (SourceRow k) cells same shows = absurd shows
 named_first s is Elision cells same shows = absurd shows
@@ -100,12 +100,12 @@ named_first s is Other cells same shows =
     let digit : false ≡ true = (subst (IsBareRow Ascii 1) same shows).strokes 0 (omega arith) in
     cc
 
--- a row behind others is what its name says, if all are, and so are those behind it
-row_named : (s : Snippet Patch) (before : List NamedRow) (row : NamedRow) (behind : List NamedRow) → All (λ r. IsSuggestionRow plain_settings 1 s r.name r.cells) (before ++ (row ∷ behind)) → IsSuggestionRow plain_settings 1 s row.name row.cells × All (λ r. IsSuggestionRow plain_settings 1 s r.name r.cells) behind
-row_named s [] row behind named =
-    (All-head (λ r. IsSuggestionRow plain_settings 1 s r.name r.cells) row behind named, All-tail (λ r. IsSuggestionRow plain_settings 1 s r.name r.cells) row behind named)
-row_named s (first ∷ before) row behind named =
-    row_named s before row behind (All-tail (λ r. IsSuggestionRow plain_settings 1 s r.name r.cells) first (before ++ (row ∷ behind)) named)
+-- a row after others is what its name says, if all are, and so are those after it
+row_named : (s : Snippet Patch) (before : List NamedRow) (row : NamedRow) (after : List NamedRow) → All (λ r. IsSuggestionRow plain_settings 1 s r.name r.cells) (before ++ (row ∷ after)) → IsSuggestionRow plain_settings 1 s row.name row.cells × All (λ r. IsSuggestionRow plain_settings 1 s r.name r.cells) after
+row_named s [] row after named =
+    (All-head (λ r. IsSuggestionRow plain_settings 1 s r.name r.cells) row after named, All-tail (λ r. IsSuggestionRow plain_settings 1 s r.name r.cells) row after named)
+row_named s (first ∷ before) row after named =
+    row_named s before row after (All-tail (λ r. IsSuggestionRow plain_settings 1 s r.name r.cells) first (before ++ (row ∷ after)) named)
 
 -- the row `1 + ab` is none of a suggestion that gives `ac`, whatever it is named
 old_row_named : (s : Snippet Patch) → IsSnippetOf s (codes "ab") one_edit → (name : RowName) (cells : List Cell) → cells ≡ offering_row (codes "ab") → IsSuggestionRow plain_settings 1 s name cells → ⊥
@@ -125,28 +125,28 @@ old_row_named s is Other cells same shows =
 --
 --     1 - ab
 --     1 + ab
-old_lines_repeated : (s : Snippet Patch) → IsSnippetOf s (codes "ab") one_edit → (frame : Frame) → frame.gutter ≡ 1 → (around : Surroundings) (row : NamedRow) (before behind : List NamedRow) → row.cells ≡ offering_row (codes "ab") → ShowsSuggestion plain_settings frame around s (others (suggestion_head plain_settings frame around s) ++ (before ++ (row ∷ behind))) → ⊥
-old_lines_repeated s is frame narrow around row before behind row_is shown =
-    let rows : List NamedRow = before ++ (row ∷ behind) in
-    let same : shown.behind ≡ rows = append_cancel_left (others (suggestion_head plain_settings frame around s)) shown.behind rows (sym shown.rows_are) in
+old_lines_repeated : (s : Snippet Patch) → IsSnippetOf s (codes "ab") one_edit → (frame : Frame) → frame.gutter ≡ 1 → (around : ElementContext) (row : NamedRow) (before after : List NamedRow) → row.cells ≡ offering_row (codes "ab") → ShowsSuggestion plain_settings frame around s (others (suggestion_head plain_settings frame around s) ++ (before ++ (row ∷ after))) → ⊥
+old_lines_repeated s is frame narrow around row before after row_is shown =
+    let rows : List NamedRow = before ++ (row ∷ after) in
+    let same : shown.after ≡ rows = append_cancel_left (others (suggestion_head plain_settings frame around s)) shown.after rows (sym shown.rows_are) in
     let named : All (λ r. IsSuggestionRow plain_settings 1 s r.name r.cells) rows = subst (λ gutter. All (λ r. IsSuggestionRow plain_settings gutter s r.name r.cells) rows) narrow (subst (All (λ r. IsSuggestionRow plain_settings frame.gutter s r.name r.cells)) same shown.named) in
-    old_row_named s is row.name row.cells row_is (row_named s before row behind named).0
+    old_row_named s is row.name row.cells row_is (row_named s before row after named).0
 
--- so no rows that offer it twice show the suggestion, behind the row of its path, where that is named:
+-- so no rows that offer it twice show the suggestion, after the row of its path, where that is named:
 --
 --     1 + ac
 --     1 + ac
-second_copy_offered : (s : Snippet Patch) → IsSnippetOf s (codes "ab") one_edit → (frame : Frame) → frame.gutter ≡ 1 → (around : Surroundings) (row copy : NamedRow) (before between behind : List NamedRow) → row.cells ≡ offering_row (codes "ac") → copy.cells ≡ offering_row (codes "ac") → ShowsSuggestion plain_settings frame around s (others (suggestion_head plain_settings frame around s) ++ (before ++ (row ∷ (between ++ (copy ∷ behind))))) → ⊥
-second_copy_offered s is frame narrow around row copy before between behind row_is copy_is shown =
-    let rows : List NamedRow = before ++ (row ∷ (between ++ (copy ∷ behind))) in
-    let same : shown.behind ≡ rows = append_cancel_left (others (suggestion_head plain_settings frame around s)) shown.behind rows (sym shown.rows_are) in
+second_copy_offered : (s : Snippet Patch) → IsSnippetOf s (codes "ab") one_edit → (frame : Frame) → frame.gutter ≡ 1 → (around : ElementContext) (row copy : NamedRow) (before between after : List NamedRow) → row.cells ≡ offering_row (codes "ac") → copy.cells ≡ offering_row (codes "ac") → ShowsSuggestion plain_settings frame around s (others (suggestion_head plain_settings frame around s) ++ (before ++ (row ∷ (between ++ (copy ∷ after))))) → ⊥
+second_copy_offered s is frame narrow around row copy before between after row_is copy_is shown =
+    let rows : List NamedRow = before ++ (row ∷ (between ++ (copy ∷ after))) in
+    let same : shown.after ≡ rows = append_cancel_left (others (suggestion_head plain_settings frame around s)) shown.after rows (sym shown.rows_are) in
     let named : All (λ r. IsSuggestionRow plain_settings 1 s r.name r.cells) rows = subst (λ gutter. All (λ r. IsSuggestionRow plain_settings gutter s r.name r.cells) rows) narrow (subst (All (λ r. IsSuggestionRow plain_settings frame.gutter s r.name r.cells)) same shown.named) in
     let ordered : IsAscending (lines_offered rows) = subst (λ all. IsAscending (lines_offered all)) same shown.ordered in
-    let first = row_named s before row (between ++ (copy ∷ behind)) named in
-    let second = row_named s between copy behind first.1 in
+    let first = row_named s before row (between ++ (copy ∷ after)) named in
+    let second = row_named s between copy after first.1 in
     let row_named : row.name ≡ OfferedLine 0 = named_first s is row.name row.cells row_is first.0 in
     let copy_named : copy.name ≡ OfferedLine 0 = named_first s is copy.name copy.cells copy_is second.0 in
-    two_of_one 0 (lines_offered before) (lines_offered between) (lines_offered behind) (simp (filter_map-append, row_named, copy_named) at ordered)
+    two_of_one 0 (lines_offered before) (lines_offered between) (lines_offered after) (simp (filter_map-append, row_named, copy_named) at ordered)
 
 -- ---- a touched line that is left out
 
@@ -201,12 +201,12 @@ unfolding spliced_text trimmed_edit sandwich kept_before start_of line_of
 two_spliced true = refl
 two_spliced false = refl
 
--- so no rows show it that don't offer its second line, as where the text is cut off behind the first:
+-- so no rows show it that don't offer its second line, as where the text is cut off after the first:
 --
 --     1 ~ x
-touched_left_out : (s : Snippet Patch) → IsSnippetOf s two_lines two_edits → (frame : Frame) (around : Surroundings) (rows : List NamedRow) → (Contains (lines_offered rows) 1 → ⊥) → ShowsSuggestion plain_settings frame around s (others (suggestion_head plain_settings frame around s) ++ rows) → ⊥
+touched_left_out : (s : Snippet Patch) → IsSnippetOf s two_lines two_edits → (frame : Frame) (around : ElementContext) (rows : List NamedRow) → (Contains (lines_offered rows) 1 → ⊥) → ShowsSuggestion plain_settings frame around s (others (suggestion_head plain_settings frame around s) ++ rows) → ⊥
 touched_left_out s is frame around rows out shown =
-    let same : shown.behind ≡ rows = append_cancel_left (others (suggestion_head plain_settings frame around s)) shown.behind rows (sym shown.rows_are) in
+    let same : shown.after ≡ rows = append_cancel_left (others (suggestion_head plain_settings frame around s)) shown.after rows (sym shown.rows_are) in
     let touched : IsTouched (cow_str_bytes s.source) (edits_of s) 1 = subst (λ text. IsTouched text (edits_of s) 1) (sym is.source_is) (subst (λ es. IsTouched two_lines es 1) (sym is.edits_are) second_touched) in
     let visible : is_blank (text_at (source_lines (patched (cow_str_bytes s.source) (edits_of s))) 1) ≡ false = ap (λ text. is_blank (text_at (source_lines (patched text (edits_of s))) 1)) is.source_is ∙ ap (λ es. is_blank (text_at (source_lines (patched two_lines es)) 1)) is.edits_are ∙ second_visible in
     elim (shown.offered (offerable s is) 1 touched visible) [ inl as_it_was ↦ changed as_it_was | inr among ↦ out (subst (λ all. Contains (lines_offered all) 1) same among) ]
@@ -257,12 +257,12 @@ unfolding spliced_text trimmed_edit sandwich kept_before start_of line_of
 rest_spliced true = refl
 rest_spliced false = refl
 
--- so no rows show it that don't offer its second line, as where the text is cut off behind the line feed with which it ends so far:
+-- so no rows show it that don't offer its second line, as where the text is cut off after the line feed with which it ends so far:
 --
 --     1 ~ xa
-line_lost : (s : Snippet Patch) → IsSnippetOf s lines_of_three put_in_and_deleted → (frame : Frame) (around : Surroundings) (rows : List NamedRow) → (Contains (lines_offered rows) 1 → ⊥) → ShowsSuggestion plain_settings frame around s (others (suggestion_head plain_settings frame around s) ++ rows) → ⊥
+line_lost : (s : Snippet Patch) → IsSnippetOf s lines_of_three put_in_and_deleted → (frame : Frame) (around : ElementContext) (rows : List NamedRow) → (Contains (lines_offered rows) 1 → ⊥) → ShowsSuggestion plain_settings frame around s (others (suggestion_head plain_settings frame around s) ++ rows) → ⊥
 line_lost s is frame around rows out shown =
-    let same : shown.behind ≡ rows = append_cancel_left (others (suggestion_head plain_settings frame around s)) shown.behind rows (sym shown.rows_are) in
+    let same : shown.after ≡ rows = append_cancel_left (others (suggestion_head plain_settings frame around s)) shown.after rows (sym shown.rows_are) in
     let touched : IsTouched (cow_str_bytes s.source) (edits_of s) 1 = subst (λ text. IsTouched text (edits_of s) 1) (sym is.source_is) (subst (λ es. IsTouched lines_of_three es 1) (sym is.edits_are) rest_touched) in
     let visible : is_blank (text_at (source_lines (patched (cow_str_bytes s.source) (edits_of s))) 1) ≡ false = ap (λ text. is_blank (text_at (source_lines (patched text (edits_of s))) 1)) is.source_is ∙ ap (λ es. is_blank (text_at (source_lines (patched lines_of_three es)) 1)) is.edits_are ∙ rest_visible in
     elim (shown.offered (deleted_offerable s is) 1 touched visible) [ inl as_it_was ↦ changed as_it_was | inr among ↦ out (subst (λ all. Contains (lines_offered all) 1) same among) ]
@@ -283,7 +283,7 @@ unfolding shown_text trimmed_edit sandwich kept_before start_of line_of
 gives_xb true = refl
 gives_xb false = refl
 
--- so no row offers a line in which the replacement stands first, and what it replaced again behind what is put in:
+-- so no row offers a line in which the replacement stands first, and what it replaced again after what is put in:
 --
 --     1 + bxa
 replacement_first : (s : Snippet Patch) → IsSnippetOf s (codes "a") replaced_and_put_in → (j : ℕ) → IsOfferedRow plain_settings 1 s j (offering_row (codes "bxa")) → ⊥

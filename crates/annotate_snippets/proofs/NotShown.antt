@@ -10,7 +10,7 @@ use Rattle.std.specs.declared.alloc.Global.{Global}
 use Rattle.std.proofs.lemmas.Bool.{eq-eqb}
 use Rattle.std.proofs.lemmas.List.{append_cancel_left, append_cancel_right, length-append}
 use Rattle.std.proofs.lemmas.List.Elements.{All-nil, All-cons, filter_map-append}
-use Rattle.snippet_style.specs.Cell.{Cell, SPACE, drawn}
+use Rattle.snippet_style.specs.Cell.{Cell, SPACE, text_cells}
 use Rattle.snippet_grid.specs.Print.{row_text}
 use Rattle.snippet_style.specs.declared.glyphs.DecorStyle.TheVariants.{Ascii}
 use Rattle.snippet_style.specs.declared.role.ElementStyle.TheVariants.{LabelPrimary, LineNumber, Quotation, UnderlinePrimary, UnderlineSecondary}
@@ -30,10 +30,10 @@ use Rattle.snippet_strokes.specs.Entries.{IsMarkCell, has_mark_role}
 use Rattle.snippet_style.specs.Separators.{separator_row}
 use Rattle.annotate_snippets.specs.Page.{Elision, RowName, OfferedLine, RemovedLine, SourceRow, Other, NamedRow, lines_named, others, IsAscending}
 use Rattle.annotate_snippets.specs.Around.{closes_with}
-use Rattle.annotate_snippets.specs.Rows.{cause_head, rows_behind_cause}
+use Rattle.annotate_snippets.specs.Rows.{cause_head, rows_after_cause}
 use Rattle.annotate_snippets.specs.Settings.{plain_settings}
 use Rattle.annotate_snippets.specs.declared.renderer.frame.Frame.{Frame}
-use Rattle.annotate_snippets.specs.declared.renderer.surroundings.Surroundings.{Surroundings}
+use Rattle.annotate_snippets.specs.declared.renderer.element_context.ElementContext.{ElementContext}
 use Rattle.snippet_style.specs.Glyphs.{placeholder_of}
 use Rattle.annotate_snippets.specs.Shown.{cell_of, room_of, normalized_chars, shown_label, ShowsSourceLine, ShowsMarksOf, ShowsLineAndMarks, IsRowBelow, IsRowOf, AreRowsOf, ShowsSnippet}
 use Rattle.annotate_snippets.proofs.ListLemmas.{Contains-head, Contains-tail, Contains-cons_cases, Contains-nil}
@@ -46,7 +46,7 @@ frame = record { gutter = 1; code = 4 }
 
 -- a source row of line 1, with this code
 abbrev source_row : List ℕ → List Cell
-source_row code = drawn LineNumber (codes "1") ++ SPACE ∷ drawn LineNumber (codes "|") ++ SPACE ∷ drawn Quotation code
+source_row code = text_cells LineNumber (codes "1") ++ SPACE ∷ text_cells LineNumber (codes "|") ++ SPACE ∷ text_cells Quotation code
 
 -- a row below it, with these cells from the code's on
 abbrev pub row_below : List Cell → List Cell
@@ -171,14 +171,14 @@ module _ {s : Snippet Annotation} {source : List ℕ} {marks : List Annotation} 
   no_mark_role p none =
       shown.unmarked p (omega arith) (subst (λ text. All (λ a. IsMarkedAt text 0 p a → ⊥) s.markers.items) (sym is.source_is) (subst (All (λ a. IsMarkedAt source 0 p a → ⊥)) (sym is.marks_are) none))
 
-  -- behind the mark of a lone span stands its label
-  label_behind : (a : Annotation) → filter (is_marked_on source 0) marks ≡ a ∷ [] → 0 < length (shown_label a) → row_text (drop (cell_of frame 0 (end_column source a)) row) ≡ 32 ∷ shown_label a
-  label_behind a alone some =
+  -- after the mark of a lone span stands its label
+  label_after : (a : Annotation) → filter (is_marked_on source 0) marks ≡ a ∷ [] → 0 < length (shown_label a) → row_text (drop (cell_of frame 0 (end_column source a)) row) ≡ 32 ∷ shown_label a
+  label_after a alone some =
       subst (λ text. row_text (drop (cell_of frame 0 (end_column text a)) row) ≡ 32 ∷ shown_label a) is.source_is (shown.lone a (subst (λ text. filter (is_marked_on text 0) s.markers.items ≡ a ∷ []) (sym is.source_is) (subst (λ spans. filter (is_marked_on source 0) spans ≡ a ∷ []) (sym is.marks_are) alone)) some)
 
 -- ---- numbers that ascend
 
--- numbers behind others ascend as they do
+-- numbers after others ascend as they do
 rest_ascends : (j : ℕ) (js : List ℕ) → IsAscending (j ∷ js) → IsAscending js
 rest_ascends j [] ascending = tt
 rest_ascends j (i ∷ js) ascending = ascending.1
@@ -191,19 +191,19 @@ greater i j (l ∷ js) ks ascending =
     omega (arith, ascending.0)
 
 -- so none stands there twice
-pub two_of_one : (k : ℕ) (before between behind : List ℕ) → IsAscending (before ++ (k ∷ (between ++ (k ∷ behind)))) → ⊥
-two_of_one k [] between behind ascending =
-    let less : k < k = greater k k between behind ascending in
+pub two_of_one : (k : ℕ) (before between after : List ℕ) → IsAscending (before ++ (k ∷ (between ++ (k ∷ after)))) → ⊥
+two_of_one k [] between after ascending =
+    let less : k < k = greater k k between after ascending in
     absurd (omega arith)
-two_of_one k (j ∷ before) between behind ascending =
-    two_of_one k before between behind (rest_ascends j (before ++ (k ∷ (between ++ (k ∷ behind)))) ascending)
+two_of_one k (j ∷ before) between after ascending =
+    two_of_one k before between after (rest_ascends j (before ++ (k ∷ (between ++ (k ∷ after)))) ascending)
 
 -- ---- rows and their names
 
--- rows behind others are what their names say, if all are
-rows_behind : (closes : Bool) (s : Snippet Annotation) (rows more : List NamedRow) → AreRowsOf plain_settings frame closes s (rows ++ more) → AreRowsOf plain_settings frame closes s more
-rows_behind closes s [] more named = named
-rows_behind closes s (row ∷ rows) more named = rows_behind closes s rows more named.1
+-- rows after others are what their names say, if all are
+rows_after : (closes : Bool) (s : Snippet Annotation) (rows more : List NamedRow) → AreRowsOf plain_settings frame closes s (rows ++ more) → AreRowsOf plain_settings frame closes s more
+rows_after closes s [] more named = named
+rows_after closes s (row ∷ rows) more named = rows_after closes s rows more named.1
 
 -- a row `1 | a` can only be named as that of the first line of `a`
 named_first : (closes : Bool) (s : Snippet Annotation) → cow_str_bytes s.source ≡ codes "a" → (name : RowName) (cells : List Cell) (rows : List NamedRow) → cells ≡ source_row (codes "a") → IsRowOf plain_settings frame closes s name cells rows → name ≡ SourceRow 0
@@ -233,39 +233,39 @@ elided_row s is dropped shown =
     cc
 
 -- a separator in the role of marks, as a highlight that begins left of the code would leave it
-coloured_separator : (s : Snippet Annotation) (k dropped : ℕ) → ShowsSourceLine plain_settings frame s k dropped (drawn LineNumber (codes "1") ++ SPACE ∷ drawn UnderlinePrimary (codes "|") ++ SPACE ∷ drawn Quotation (codes "ab")) → ⊥
+coloured_separator : (s : Snippet Annotation) (k dropped : ℕ) → ShowsSourceLine plain_settings frame s k dropped (text_cells LineNumber (codes "1") ++ SPACE ∷ text_cells UnderlinePrimary (codes "|") ++ SPACE ∷ text_cells Quotation (codes "ab")) → ⊥
 coloured_separator s k dropped shown =
     let marked : true ≡ false = shown.unmarked 2 (omega arith) (omega arith) in
     cc
 
 -- a second copy of a line, here of `a`, whatever it is named: two rows that are named by one line don't ascend, whatever
--- stands before, between and behind them, and the copy is no row below a line's, as it has a digit in the gutter
+-- stands before, between and after them, and the copy is no row below a line's, as it has a digit in the gutter
 --
 --     1 | a
 --     1 | a
-second_copy : (k : ℕ) (row copy : NamedRow) (before between behind : List NamedRow) (closes : Bool) → row.name ≡ SourceRow k → copy.name ≡ SourceRow k → (IsAscending (lines_named (before ++ (row ∷ (between ++ (copy ∷ behind))))) → ⊥) × (IsRowBelow Ascii frame closes (source_row (codes "a")) → ⊥)
-second_copy k row copy before between behind closes row_is copy_is =
-    (λ ascending. two_of_one k (lines_named before) (lines_named between) (lines_named behind) (simp (filter_map-append, row_is, copy_is) at ascending), λ below. let digit : true ≡ false = below.unnumbered 0 (omega arith) in cc)
+second_copy : (k : ℕ) (row copy : NamedRow) (before between after : List NamedRow) (closes : Bool) → row.name ≡ SourceRow k → copy.name ≡ SourceRow k → (IsAscending (lines_named (before ++ (row ∷ (between ++ (copy ∷ after))))) → ⊥) × (IsRowBelow Ascii frame closes (source_row (codes "a")) → ⊥)
+second_copy k row copy before between after closes row_is copy_is =
+    (λ ascending. two_of_one k (lines_named before) (lines_named between) (lines_named after) (simp (filter_map-append, row_is, copy_is) at ascending), λ below. let digit : true ≡ false = below.unnumbered 0 (omega arith) in cc)
 
--- so no rows in which it stands twice show the snippet, wherever that stands: neither behind those that it begins with nor
+-- so no rows in which it stands twice show the snippet, wherever that stands: neither after those that it begins with nor
 -- before those below its lines
-second_copy_on_page : (s : Snippet Annotation) → cow_str_bytes s.source ≡ codes "a" → (around : Surroundings) (row copy : NamedRow) (before between behind : List NamedRow) → row.cells ≡ source_row (codes "a") → copy.cells ≡ source_row (codes "a") → ShowsSnippet plain_settings frame around s (others (cause_head plain_settings frame around s) ++ ((before ++ (row ∷ (between ++ (copy ∷ behind)))) ++ others (rows_behind_cause plain_settings frame around))) → ⊥
-second_copy_on_page s is around row copy before between behind row_is copy_is shown =
-    let rows : List NamedRow = before ++ (row ∷ (between ++ (copy ∷ behind))) in
-    let tail : List NamedRow = others (rows_behind_cause plain_settings frame around) in
+second_copy_on_page : (s : Snippet Annotation) → cow_str_bytes s.source ≡ codes "a" → (around : ElementContext) (row copy : NamedRow) (before between after : List NamedRow) → row.cells ≡ source_row (codes "a") → copy.cells ≡ source_row (codes "a") → ShowsSnippet plain_settings frame around s (others (cause_head plain_settings frame around s) ++ ((before ++ (row ∷ (between ++ (copy ∷ after)))) ++ others (rows_after_cause plain_settings frame around))) → ⊥
+second_copy_on_page s is around row copy before between after row_is copy_is shown =
+    let rows : List NamedRow = before ++ (row ∷ (between ++ (copy ∷ after))) in
+    let tail : List NamedRow = others (rows_after_cause plain_settings frame around) in
     let closes : Bool = closes_with around in
-    let same : shown.behind ≡ rows = append_cancel_right shown.behind rows tail (sym (append_cancel_left (others (cause_head plain_settings frame around s)) (rows ++ tail) (shown.behind ++ tail) shown.rows_are)) in
-    let from_row : AreRowsOf plain_settings frame closes s (row ∷ (between ++ (copy ∷ behind))) = rows_behind closes s before (row ∷ (between ++ (copy ∷ behind))) (subst (AreRowsOf plain_settings frame closes s) same shown.named) in
-    let from_copy : AreRowsOf plain_settings frame closes s (copy ∷ behind) = rows_behind closes s between (copy ∷ behind) from_row.1 in
-    let row_named : row.name ≡ SourceRow 0 = named_first closes s is row.name row.cells (between ++ (copy ∷ behind)) row_is from_row.0 in
-    let copy_named : copy.name ≡ SourceRow 0 = named_first closes s is copy.name copy.cells behind copy_is from_copy.0 in
-    (second_copy 0 row copy before between behind closes row_named copy_named).0 (subst (λ all. IsAscending (lines_named all)) same shown.ordered)
+    let same : shown.after ≡ rows = append_cancel_right shown.after rows tail (sym (append_cancel_left (others (cause_head plain_settings frame around s)) (rows ++ tail) (shown.after ++ tail) shown.rows_are)) in
+    let from_row : AreRowsOf plain_settings frame closes s (row ∷ (between ++ (copy ∷ after))) = rows_after closes s before (row ∷ (between ++ (copy ∷ after))) (subst (AreRowsOf plain_settings frame closes s) same shown.named) in
+    let from_copy : AreRowsOf plain_settings frame closes s (copy ∷ after) = rows_after closes s between (copy ∷ after) from_row.1 in
+    let row_named : row.name ≡ SourceRow 0 = named_first closes s is row.name row.cells (between ++ (copy ∷ after)) row_is from_row.0 in
+    let copy_named : copy.name ≡ SourceRow 0 = named_first closes s is copy.name copy.cells after copy_is from_copy.0 in
+    (second_copy 0 row copy before between after closes row_named copy_named).0 (subst (λ all. IsAscending (lines_named all)) same shown.ordered)
 
 -- the marks of a wider span below a narrower primary one, here of all of `abcdef` below `cd`:
 --
 --     1 | abcdef
 --       | ------
-narrower_underneath : AreOtherMarks (codes "abcdef") (span_of Context 0 6 ∷ span_of Primary 2 4 ∷ []) (drawn UnderlineSecondary (codes "------"))
+narrower_underneath : AreOtherMarks (codes "abcdef") (span_of Context 0 6 ∷ span_of Primary 2 4 ∷ []) (text_cells UnderlineSecondary (codes "------"))
 unfolding place_of line_of start_of chars char_width unicode_width
 narrower_underneath =
     let source : List ℕ = codes "abcdef" in
@@ -273,13 +273,13 @@ narrower_underneath =
     let narrow : Annotation = span_of Primary 2 4 in
     let at : IsMarkedAt source 0 2 narrow = is_marked_at source narrow 2 4 (record { marked = refl; start_is = refl; end_is = refl }) 2 (omega arith) (omega arith) in
     let mark : IsMarkOf source (wide ∷ narrow ∷ []) 0 2 Primary = mark_of_primary source 0 2 wide narrow at refl (omega arith) in
-    other_marks source (wide ∷ narrow ∷ []) (drawn UnderlineSecondary (codes "------")) (record { folded = refl; unfolded = refl; qualified = refl }) (λ s is shown. primary_missing is shown 2 mark refl)
+    other_marks source (wide ∷ narrow ∷ []) (text_cells UnderlineSecondary (codes "------")) (record { folded = refl; unfolded = refl; qualified = refl }) (λ s is shown. primary_missing is shown 2 mark refl)
 
 -- the marks for context below a primary span of the same width, here of `ab`:
 --
 --     1 | abcd
 --       | --
-context_wins : AreOtherMarks (codes "abcd") (span_of Context 0 2 ∷ span_of Primary 0 2 ∷ []) (drawn UnderlineSecondary (codes "--"))
+context_wins : AreOtherMarks (codes "abcd") (span_of Context 0 2 ∷ span_of Primary 0 2 ∷ []) (text_cells UnderlineSecondary (codes "--"))
 unfolding place_of line_of start_of chars char_width unicode_width
 context_wins =
     let source : List ℕ = codes "abcd" in
@@ -287,89 +287,89 @@ context_wins =
     let primary : Annotation = span_of Primary 0 2 in
     let at : IsMarkedAt source 0 0 primary = is_marked_at source primary 0 2 (record { marked = refl; start_is = refl; end_is = refl }) 0 (omega arith) (omega arith) in
     let mark : IsMarkOf source (context ∷ primary ∷ []) 0 0 Primary = mark_of_primary source 0 0 context primary at refl (omega arith) in
-    other_marks source (context ∷ primary ∷ []) (drawn UnderlineSecondary (codes "--")) (record { folded = refl; unfolded = refl; qualified = refl }) (λ s is shown. primary_missing is shown 0 mark refl)
+    other_marks source (context ∷ primary ∷ []) (text_cells UnderlineSecondary (codes "--")) (record { folded = refl; unfolded = refl; qualified = refl }) (λ s is shown. primary_missing is shown 0 mark refl)
 
 -- marks at the columns of a span's bytes, here below the second character of `日本`, which has the bytes 3 to 5 and stands
 -- at columns 2 and 3:
 --
 --     1 | 日本
 --       |    ^^^
-marks_by_bytes : AreOtherMarks (encode_utf8_all (codes "日本")) (span_of Primary 3 6 ∷ []) (replicate 3 SPACE ++ drawn UnderlinePrimary (codes "^^^"))
+marks_by_bytes : AreOtherMarks (encode_utf8_all (codes "日本")) (span_of Primary 3 6 ∷ []) (replicate 3 SPACE ++ text_cells UnderlinePrimary (codes "^^^"))
 unfolding place_of line_of start_of chars char_width unicode_width lib.Utf8.encode
 marks_by_bytes =
     let source : List ℕ = encode_utf8_all (codes "日本") in
     let span : Annotation = span_of Primary 3 6 in
     let at : IsMarkedAt source 0 2 span = is_marked_at source span 2 4 (record { marked = refl; start_is = refl; end_is = refl }) 2 (omega arith) (omega arith) in
     let mark : IsMarkOf source (span ∷ []) 0 2 Primary = mark_of_one source 0 2 span at in
-    other_marks source (span ∷ []) (replicate 3 SPACE ++ drawn UnderlinePrimary (codes "^^^")) (record { folded = refl; unfolded = refl; qualified = refl }) (λ s is shown. primary_missing is shown 2 mark refl)
+    other_marks source (span ∷ []) (replicate 3 SPACE ++ text_cells UnderlinePrimary (codes "^^^")) (record { folded = refl; unfolded = refl; qualified = refl }) (λ s is shown. primary_missing is shown 2 mark refl)
 
--- a mark at the column of a span's character, here below the `x` behind a tab, which is character 1 and stands at column 4:
+-- a mark at the column of a span's character, here below the `x` after a tab, which is character 1 and stands at column 4:
 --
 --     1 |     x
 --       |  ^
-marks_by_characters : AreOtherMarks (9 ∷ codes "x") (span_of Primary 1 2 ∷ []) (SPACE ∷ drawn UnderlinePrimary (codes "^"))
+marks_by_characters : AreOtherMarks (9 ∷ codes "x") (span_of Primary 1 2 ∷ []) (SPACE ∷ text_cells UnderlinePrimary (codes "^"))
 unfolding place_of line_of start_of chars char_width unicode_width norm
 marks_by_characters =
     let source : List ℕ = 9 ∷ codes "x" in
     let span : Annotation = span_of Primary 1 2 in
     let at : IsMarkedAt source 0 4 span = is_marked_at source span 4 5 (record { marked = refl; start_is = refl; end_is = refl }) 4 (omega arith) (omega arith) in
     let mark : IsMarkOf source (span ∷ []) 0 4 Primary = mark_of_one source 0 4 span at in
-    other_marks source (span ∷ []) (SPACE ∷ drawn UnderlinePrimary (codes "^")) (record { folded = refl; unfolded = refl; qualified = refl }) (λ s is shown. primary_missing is shown 4 mark refl)
+    other_marks source (span ∷ []) (SPACE ∷ text_cells UnderlinePrimary (codes "^")) (record { folded = refl; unfolded = refl; qualified = refl }) (λ s is shown. primary_missing is shown 4 mark refl)
 
 -- marks below columns that no span covers, here below all of `ab cd`, of which a span covers `a` alone:
 --
 --     1 | ab cd
 --       | ^^^^^
-every_column_marked : AreOtherMarks (codes "ab cd") (span_of Primary 0 1 ∷ []) (drawn UnderlinePrimary (codes "^^^^^"))
+every_column_marked : AreOtherMarks (codes "ab cd") (span_of Primary 0 1 ∷ []) (text_cells UnderlinePrimary (codes "^^^^^"))
 unfolding place_of line_of start_of chars char_width unicode_width
 every_column_marked =
     let span : Annotation = span_of Primary 0 1 in
     let IsFreeOf : Annotation → Type 0 = λ a. IsMarkedAt (codes "ab cd") 0 1 a → ⊥ in
     let free : All IsFreeOf (span ∷ []) = All-cons IsFreeOf span [] (λ at. absurd (omega (arith, at.1.1))) (All-nil IsFreeOf) in
-    other_marks (codes "ab cd") (span ∷ []) (drawn UnderlinePrimary (codes "^^^^^")) (record { folded = refl; unfolded = refl; qualified = refl }) (λ s is shown. let role : true ≡ false = no_mark_role is shown 1 free in cc)
+    other_marks (codes "ab cd") (span ∷ []) (text_cells UnderlinePrimary (codes "^^^^^")) (record { folded = refl; unfolded = refl; qualified = refl }) (λ s is shown. let role : true ≡ false = no_mark_role is shown 1 free in cc)
 
 -- a mark without its span's label, here `x`, where no other span is on the line:
 --
 --     1 | ab
 --       | ^
-label_left_out : (label : Option (CowStr Global)) → option_map cow_str_bytes label ≡ Some (codes "x") → AreOtherMarks (codes "ab") (labelled_span label Primary 0 1 ∷ []) (drawn UnderlinePrimary (codes "^"))
+label_left_out : (label : Option (CowStr Global)) → option_map cow_str_bytes label ≡ Some (codes "x") → AreOtherMarks (codes "ab") (labelled_span label Primary 0 1 ∷ []) (text_cells UnderlinePrimary (codes "^"))
 unfolding place_of line_of start_of chars char_width unicode_width norm
 label_left_out label label_is =
     let span : Annotation = labelled_span label Primary 0 1 in
     let text : shown_label span ≡ codes "x" = ap normalized_chars label_is in
     let some : 0 < length (shown_label span) = omega (arith, ap length text) in
-    other_marks (codes "ab") (span ∷ []) (drawn UnderlinePrimary (codes "^")) (record { folded = refl; unfolded = refl; qualified = refl }) (λ s is shown. let behind : [] ≡ 32 ∷ shown_label span = label_behind is shown span refl some in cc)
+    other_marks (codes "ab") (span ∷ []) (text_cells UnderlinePrimary (codes "^")) (record { folded = refl; unfolded = refl; qualified = refl }) (λ s is shown. let after : [] ≡ 32 ∷ shown_label span = label_after is shown span refl some in cc)
 
--- the label of the one span on a line elsewhere than one cell behind its mark, here two cells:
+-- the label of the one span on a line elsewhere than one cell after its mark, here two cells:
 --
 --     1 | ab
 --       | ^  x
-label_elsewhere : (label : Option (CowStr Global)) → option_map cow_str_bytes label ≡ Some (codes "x") → AreOtherMarks (codes "ab") (labelled_span label Primary 0 1 ∷ []) (drawn UnderlinePrimary (codes "^") ++ SPACE ∷ SPACE ∷ drawn LabelPrimary (codes "x"))
+label_elsewhere : (label : Option (CowStr Global)) → option_map cow_str_bytes label ≡ Some (codes "x") → AreOtherMarks (codes "ab") (labelled_span label Primary 0 1 ∷ []) (text_cells UnderlinePrimary (codes "^") ++ SPACE ∷ SPACE ∷ text_cells LabelPrimary (codes "x"))
 unfolding place_of line_of start_of chars char_width unicode_width norm
 label_elsewhere label label_is =
     let span : Annotation = labelled_span label Primary 0 1 in
     let text : shown_label span ≡ codes "x" = ap normalized_chars label_is in
     let some : 0 < length (shown_label span) = omega (arith, ap length text) in
-    other_marks (codes "ab") (span ∷ []) (drawn UnderlinePrimary (codes "^") ++ SPACE ∷ SPACE ∷ drawn LabelPrimary (codes "x")) (record { folded = refl; unfolded = refl; qualified = refl }) (λ s is shown. let behind : 32 ∷ 32 ∷ codes "x" ≡ 32 ∷ shown_label span = label_behind is shown span refl some in absurd (omega (arith, ap length behind, ap length text)))
+    other_marks (codes "ab") (span ∷ []) (text_cells UnderlinePrimary (codes "^") ++ SPACE ∷ SPACE ∷ text_cells LabelPrimary (codes "x")) (record { folded = refl; unfolded = refl; qualified = refl }) (λ s is shown. let after : 32 ∷ 32 ∷ codes "x" ≡ 32 ∷ shown_label span = label_after is shown span refl some in absurd (omega (arith, ap length after, ap length text)))
 
 -- a label that is drawn as it is given, here U+001B, which is shown as U+241B:
 --
 --     1 | ab
 --       | ^ <U+001B>
-label_raw : (label : Option (CowStr Global)) → option_map cow_str_bytes label ≡ Some (27 ∷ []) → AreOtherMarks (codes "ab") (labelled_span label Primary 0 1 ∷ []) (drawn UnderlinePrimary (codes "^") ++ SPACE ∷ drawn LabelPrimary (27 ∷ []))
+label_raw : (label : Option (CowStr Global)) → option_map cow_str_bytes label ≡ Some (27 ∷ []) → AreOtherMarks (codes "ab") (labelled_span label Primary 0 1 ∷ []) (text_cells UnderlinePrimary (codes "^") ++ SPACE ∷ text_cells LabelPrimary (27 ∷ []))
 unfolding place_of line_of start_of chars char_width unicode_width norm
 label_raw label label_is =
     let span : Annotation = labelled_span label Primary 0 1 in
     let text : shown_label span ≡ 0x241B ∷ [] = ap normalized_chars label_is in
     let some : 0 < length (shown_label span) = omega (arith, ap length text) in
-    other_marks (codes "ab") (span ∷ []) (drawn UnderlinePrimary (codes "^") ++ SPACE ∷ drawn LabelPrimary (27 ∷ [])) (record { folded = refl; unfolded = refl; qualified = refl }) (λ s is shown. let behind : 32 ∷ 27 ∷ [] ≡ 32 ∷ shown_label span = label_behind is shown span refl some in let letter : ◌≡◌ {A = ℕ} 27 0x241B = ap (λ (cs : List ℕ). slice_index_or cs 1 0) behind ∙ ap (λ (cs : List ℕ). slice_index_or cs 0 0) text in absurd (omega (arith, letter)))
+    other_marks (codes "ab") (span ∷ []) (text_cells UnderlinePrimary (codes "^") ++ SPACE ∷ text_cells LabelPrimary (27 ∷ [])) (record { folded = refl; unfolded = refl; qualified = refl }) (λ s is shown. let after : 32 ∷ 27 ∷ [] ≡ 32 ∷ shown_label span = label_after is shown span refl some in let letter : ◌≡◌ {A = ℕ} 27 0x241B = ap (λ (cs : List ℕ). slice_index_or cs 1 0) after ∙ ap (λ (cs : List ℕ). slice_index_or cs 0 0) text in absurd (omega (arith, letter)))
 
 -- a mark that stays where it would stand in the whole line, here of the third column of `abcd`, where two columns of the line are
 -- dropped:
 --
 --     1 | ...
 --       |   ^
-marks_not_shifted : (s : Snippet Annotation) → IsSnippetOf s (codes "abcd") (span_of Primary 2 3 ∷ []) → ShowsMarksOf Ascii frame s 0 2 (row_below (SPACE ∷ SPACE ∷ drawn UnderlinePrimary (codes "^"))) → ⊥
+marks_not_shifted : (s : Snippet Annotation) → IsSnippetOf s (codes "abcd") (span_of Primary 2 3 ∷ []) → ShowsMarksOf Ascii frame s 0 2 (row_below (SPACE ∷ SPACE ∷ text_cells UnderlinePrimary (codes "^"))) → ⊥
 unfolding place_of line_of start_of chars char_width unicode_width
 marks_not_shifted s is shown =
     let source : List ℕ = codes "abcd" in
@@ -387,7 +387,7 @@ abbrev two_lines : List ℕ
 two_lines = codes "a" ++ 10 ∷ codes "b"
 
 abbrev row_of_second : List Cell
-row_of_second = drawn LineNumber (codes "2") ++ SPACE ∷ drawn LineNumber (codes "|") ++ SPACE ∷ drawn Quotation (codes "b")
+row_of_second = text_cells LineNumber (codes "2") ++ SPACE ∷ text_cells LineNumber (codes "|") ++ SPACE ∷ text_cells Quotation (codes "b")
 
 -- the first line stands whole
 first_whole : (fold : Bool) → is_whole fold two_lines (span_of Primary 0 1 ∷ []) ≡ true
@@ -417,12 +417,12 @@ named_second closes s is Other cells rows same shows =
     cc
 
 -- a list of one number holds no other
-other_number : (before behind : List ℕ) → before ++ (1 ∷ behind) ≡ 0 ∷ [] → ⊥
-other_number [] behind same =
+other_number : (before after : List ℕ) → before ++ (1 ∷ after) ≡ 0 ∷ [] → ⊥
+other_number [] after same =
     let one : ◌≡◌ {A = ℕ} 1 0 = ap (λ (ks : List ℕ). slice_index_or ks 0 0) same in
     absurd (omega (arith, one))
-other_number (k ∷ before) behind same =
-    absurd (omega (arith, ap length same, length-append before (1 ∷ behind)))
+other_number (k ∷ before) after same =
+    absurd (omega (arith, ap length same, length-append before (1 ∷ after)))
 
 -- the lines that are shown where lines are folded
 first_alone : shown_lines true two_lines (span_of Primary 0 1 ∷ []) ≡ 0 ∷ []
@@ -434,13 +434,13 @@ first_alone = refl
 --     1 | a
 --       | ^
 --     2 | b
-fold_ignored : (s : Snippet Annotation) → IsSnippetOf s two_lines (span_of Primary 0 1 ∷ []) → s.fold ≡ true → (around : Surroundings) (row : NamedRow) (before behind : List NamedRow) → row.cells ≡ row_of_second → ShowsSnippet plain_settings frame around s (others (cause_head plain_settings frame around s) ++ ((before ++ (row ∷ behind)) ++ others (rows_behind_cause plain_settings frame around))) → ⊥
-fold_ignored s is folds around row before behind row_is shown =
-    let rows : List NamedRow = before ++ (row ∷ behind) in
-    let tail : List NamedRow = others (rows_behind_cause plain_settings frame around) in
+fold_ignored : (s : Snippet Annotation) → IsSnippetOf s two_lines (span_of Primary 0 1 ∷ []) → s.fold ≡ true → (around : ElementContext) (row : NamedRow) (before after : List NamedRow) → row.cells ≡ row_of_second → ShowsSnippet plain_settings frame around s (others (cause_head plain_settings frame around s) ++ ((before ++ (row ∷ after)) ++ others (rows_after_cause plain_settings frame around))) → ⊥
+fold_ignored s is folds around row before after row_is shown =
+    let rows : List NamedRow = before ++ (row ∷ after) in
+    let tail : List NamedRow = others (rows_after_cause plain_settings frame around) in
     let closes : Bool = closes_with around in
-    let same : shown.behind ≡ rows = append_cancel_right shown.behind rows tail (sym (append_cancel_left (others (cause_head plain_settings frame around s)) (rows ++ tail) (shown.behind ++ tail) shown.rows_are)) in
-    let from_row : AreRowsOf plain_settings frame closes s (row ∷ behind) = rows_behind closes s before (row ∷ behind) (subst (AreRowsOf plain_settings frame closes s) same shown.named) in
-    let named : row.name ≡ SourceRow 1 = named_second closes s is row.name row.cells behind row_is from_row.0 in
+    let same : shown.after ≡ rows = append_cancel_right shown.after rows tail (sym (append_cancel_left (others (cause_head plain_settings frame around s)) (rows ++ tail) (shown.after ++ tail) shown.rows_are)) in
+    let from_row : AreRowsOf plain_settings frame closes s (row ∷ after) = rows_after closes s before (row ∷ after) (subst (AreRowsOf plain_settings frame closes s) same shown.named) in
+    let named : row.name ≡ SourceRow 1 = named_second closes s is row.name row.cells after row_is from_row.0 in
     let kept : lines_named rows ≡ 0 ∷ [] = ap lines_named (sym same) ∙ shown.lines ∙ ap (λ fold. shown_lines fold (cow_str_bytes s.source) s.markers.items) folds ∙ ap (λ text. shown_lines true text s.markers.items) is.source_is ∙ ap (shown_lines true two_lines) is.marks_are ∙ first_alone in
-    other_number (lines_named before) (lines_named behind) (simp (filter_map-append, named) at kept)
+    other_number (lines_named before) (lines_named after) (simp (filter_map-append, named) at kept)

@@ -11,7 +11,7 @@ use Rattle.std.specs.declared.borrow.CowStr.{CowStr}
 use Rattle.std.proofs.lemmas.List.{length-append}
 use Rattle.std.proofs.lemmas.List.Elements.{All-nil, All-cons, All-head, All-tail}
 use Rattle.snippet_grid.specs.Grid.{cell_at, row_at}
-use Rattle.snippet_style.specs.Cell.{Cell, SPACE, drawn}
+use Rattle.snippet_style.specs.Cell.{Cell, SPACE, text_cells}
 use Rattle.snippet_grid.specs.Print.{row_text}
 use Rattle.snippet_style.specs.declared.role.ElementStyle.TheVariants.{LineNumber, MainHeaderMsg, NoStyle, UnderlinePrimary}
 use Rattle.snippet_text.specs.Normalized.{norm}
@@ -23,32 +23,32 @@ use Rattle.snippet_model.specs.declared.snippet.Message as message
 use Rattle.snippet_model.specs.declared.snippet.Snippet.{Snippet}
 use Rattle.snippet_model.specs.declared.snippet.Title.{Title}
 use Rattle.snippet_lines.specs.Lines.{Source, source_lines, start_of}
-use Rattle.snippet_lines.specs.Place.{line_of, location_of, place_of, start_location, steps_behind_text}
+use Rattle.snippet_lines.specs.Place.{line_of, location_of, place_of, start_location, steps_after_text}
 use Rattle.snippet_view.specs.Marked.{first_line}
 use Rattle.snippet_view.specs.Kept.{shown_lines}
 use Rattle.snippet_view.proofs.PartLemmas.{All-unmapped}
-use Rattle.snippet_view.specs.NamedPlace.{IsNamedPlace, start_at}
+use Rattle.snippet_view.specs.Location.{IsLocation, start_at}
 use Rattle.snippet_model.specs.Rows.{HasNoNumber}
-use Rattle.snippet_view.specs.declared.named_place.NamedPlace.{NamedPlace}
+use Rattle.snippet_view.specs.declared.location.Location.{Location}
 use Rattle.snippet_titles.specs.Origin.{origin_text}
 use Rattle.snippet_style.specs.Separators.{closing_row, separator_row}
 use Rattle.snippet_style.specs.declared.glyphs.DecorStyle.{DecorStyle}
 use Rattle.snippet_style.specs.declared.glyphs.DecorStyle.TheVariants.{Ascii}
 use Rattle.snippet_titles.specs.Shown.{heading_texts}
 use Rattle.snippet_titles.specs.declared.style.TitleStyle.TheVariants as style
-use Rattle.annotate_snippets.specs.Around.{closes_with, is_before_message, is_end, is_first_of_several, surroundings_at}
+use Rattle.annotate_snippets.specs.Around.{closes_with, is_before_message, is_end, is_first_of_several, context_at}
 use Rattle.annotate_snippets.specs.Gutter.{number_text}
 use Rattle.annotate_snippets.specs.Levels.{error_level}
 use Rattle.annotate_snippets.specs.Page.{Elision, NamedRow, OfferedLine, Other, RemovedLine, RowName, SourceRow, cells_of, line_named, lines_named, others}
-use Rattle.annotate_snippets.specs.Rows.{cause_head, rows_behind_cause, rows_behind_title}
+use Rattle.annotate_snippets.specs.Rows.{cause_head, rows_after_cause, rows_after_title}
 use Rattle.annotate_snippets.specs.Settings.{plain_settings}
-use Rattle.annotate_snippets.specs.Shown.{AreElementsShown, AreRowsOf, IsRowOf, NamesPlace, ShowsSnippet, ShowsTitle}
+use Rattle.annotate_snippets.specs.Shown.{AreElementsShown, AreRowsOf, IsRowOf, NamesLocation, ShowsSnippet, ShowsTitle}
 use Rattle.annotate_snippets.specs.declared.renderer.Renderer.{Renderer}
-use Rattle.annotate_snippets.specs.declared.renderer.surroundings.GroupPlace.{GroupPlace}
-use Rattle.annotate_snippets.specs.declared.renderer.surroundings.GroupPlace.TheVariants as place
-use Rattle.annotate_snippets.specs.declared.renderer.surroundings.Next.{Next}
-use Rattle.annotate_snippets.specs.declared.renderer.surroundings.Next.TheVariants as next
-use Rattle.annotate_snippets.specs.declared.renderer.surroundings.Surroundings.{Surroundings}
+use Rattle.annotate_snippets.specs.declared.renderer.element_context.GroupPosition.{GroupPosition}
+use Rattle.annotate_snippets.specs.declared.renderer.element_context.GroupPosition.TheVariants as place
+use Rattle.annotate_snippets.specs.declared.renderer.element_context.Next.{Next}
+use Rattle.annotate_snippets.specs.declared.renderer.element_context.Next.TheVariants as next
+use Rattle.annotate_snippets.specs.declared.renderer.element_context.ElementContext.{ElementContext}
 use Rattle.annotate_snippets.proofs.ListLemmas.{Contains-head, Contains-tail, Contains-cons_cases, Contains-nil}
 use Rattle.annotate_snippets.proofs.NotShown.{IsSnippetOf, frame, row_below, span_of}
 
@@ -57,7 +57,7 @@ use Rattle.annotate_snippets.proofs.NotShown.{IsSnippetOf, frame, row_below, spa
 -- the row of a message, `  = note: m`
 abbrev note_row : List Cell
 note_row =
-    replicate 2 SPACE ++ drawn LineNumber (codes "= ") ++ drawn MainHeaderMsg (codes "note") ++ drawn NoStyle (codes ": m")
+    replicate 2 SPACE ++ text_cells LineNumber (codes "= ") ++ text_cells MainHeaderMsg (codes "note") ++ text_cells NoStyle (codes ": m")
 
 note_unnumbered : HasNoNumber 1 note_row
 note_unnumbered zero within = refl
@@ -103,10 +103,10 @@ none_named closes s is (row ∷ rows) none named =
     simp (head, rest)
 
 -- rows without numbers among others
-unnumbered_behind : (rows more : List NamedRow) → All (λ row. HasNoNumber 1 row.cells) (rows ++ more) → All (λ row. HasNoNumber 1 row.cells) more
-unnumbered_behind [] more all = all
-unnumbered_behind (row ∷ rows) more all =
-    unnumbered_behind rows more (All-tail (λ r. HasNoNumber 1 r.cells) row (rows ++ more) all)
+unnumbered_after : (rows more : List NamedRow) → All (λ row. HasNoNumber 1 row.cells) (rows ++ more) → All (λ row. HasNoNumber 1 row.cells) more
+unnumbered_after [] more all = all
+unnumbered_after (row ∷ rows) more all =
+    unnumbered_after rows more (All-tail (λ r. HasNoNumber 1 r.cells) row (rows ++ more) all)
 
 unnumbered_before : (rows more : List NamedRow) → All (λ row. HasNoNumber 1 row.cells) (rows ++ more) → All (λ row. HasNoNumber 1 row.cells) rows
 unnumbered_before [] more all = All-nil (λ row. HasNoNumber 1 row.cells)
@@ -114,12 +114,12 @@ unnumbered_before (row ∷ rows) more all =
     All-cons (λ r. HasNoNumber 1 r.cells) row rows (All-head (λ r. HasNoNumber 1 r.cells) row (rows ++ more) all) (unnumbered_before rows more (All-tail (λ r. HasNoNumber 1 r.cells) row (rows ++ more) all))
 
 -- so rows without a number show no snippet of a line that has one, whatever they are named
-line_left_out : (s : Snippet Annotation) → IsLineA s → (around : Surroundings) (rows : List NamedRow) → All (λ row. HasNoNumber 1 row.cells) rows → ShowsSnippet plain_settings frame around s rows → ⊥
+line_left_out : (s : Snippet Annotation) → IsLineA s → (around : ElementContext) (rows : List NamedRow) → All (λ row. HasNoNumber 1 row.cells) rows → ShowsSnippet plain_settings frame around s rows → ⊥
 unfolding line_of start_of
 line_left_out s is around rows none shown =
-    let tail : List NamedRow = others (rows_behind_cause plain_settings frame around) in
-    let behind : All (λ row. HasNoNumber 1 row.cells) shown.behind = unnumbered_before shown.behind tail (unnumbered_behind (others (cause_head plain_settings frame around s)) (shown.behind ++ tail) (subst (All (λ row. HasNoNumber 1 row.cells)) shown.rows_are none)) in
-    let empty : lines_named shown.behind ≡ [] = none_named (closes_with around) s is shown.behind behind shown.named in
+    let tail : List NamedRow = others (rows_after_cause plain_settings frame around) in
+    let after : All (λ row. HasNoNumber 1 row.cells) shown.after = unnumbered_before shown.after tail (unnumbered_after (others (cause_head plain_settings frame around s)) (shown.after ++ tail) (subst (All (λ row. HasNoNumber 1 row.cells)) shown.rows_are none)) in
+    let empty : lines_named shown.after ≡ [] = none_named (closes_with around) s is shown.after after shown.named in
     let one : shown_lines s.fold (codes "a") (span_of Primary 0 1 ∷ []) ≡ [] = ap (λ marks. shown_lines s.fold (codes "a") marks) (sym is.is.marks_are) ∙ ap (λ source. shown_lines s.fold source s.markers.items) (sym is.is.source_is) ∙ sym shown.lines ∙ empty in
     some s.fold one
   where
@@ -132,9 +132,9 @@ line_left_out s is around rows none shown =
 --       = note: m
 --     1 | a
 --       | ^
-exchanged : (s : Snippet Annotation) → IsLineA s → (m : message.Message) (place : GroupPlace) (file : Option (List ℕ)) (rows : List NamedRow) (parts : List (List NamedRow)) → cells_of rows ≡ note_row ∷ [] → AreElementsShown plain_settings frame place file (element.Cause s ∷ element.Message m ∷ []) (rows ∷ parts) → ⊥
+exchanged : (s : Snippet Annotation) → IsLineA s → (m : message.Message) (place : GroupPosition) (file : Option (List ℕ)) (rows : List NamedRow) (parts : List (List NamedRow)) → cells_of rows ≡ note_row ∷ [] → AreElementsShown plain_settings frame place file (element.Cause s ∷ element.Message m ∷ []) (rows ∷ parts) → ⊥
 exchanged s is m place file rows parts cells shown =
-    line_left_out s is (surroundings_at place file (element.Cause s ∷ element.Message m ∷ []) 0 (element.Cause s)) rows (All-unmapped (HasNoNumber 1) (λ row. row.cells) rows (subst (All (HasNoNumber 1)) (sym cells) (All-cons (HasNoNumber 1) note_row [] note_unnumbered (All-nil (HasNoNumber 1))))) (shown.each 0 (element.Cause s) refl)
+    line_left_out s is (context_at place file (element.Cause s ∷ element.Message m ∷ []) 0 (element.Cause s)) rows (All-unmapped (HasNoNumber 1) (λ row. row.cells) rows (subst (All (HasNoNumber 1)) (sym cells) (All-cons (HasNoNumber 1) note_row [] note_unnumbered (All-nil (HasNoNumber 1))))) (shown.each 0 (element.Cause s) refl)
 
 -- ---- a title that is trusted, and normalised anyhow
 
@@ -145,12 +145,12 @@ trusted_title text = record { level = error_level; id = None; text = text; allow
 -- a trusted code stays as it is, and isn't shown as a picture of its escape:
 --
 --     error: ␛[1mx
-normalised_away : (text : CowStr Global) → cow_str_bytes text ≡ 27 ∷ codes "[1mx" → (place : GroupPlace) (follows : Next) (rows : List (List Cell)) → row_text (row_at rows 0) ≡ codes "error: " ++ 9243 ∷ codes "[1mx" → ShowsTitle plain_settings frame place follows (trusted_title text) rows → ⊥
+normalised_away : (text : CowStr Global) → cow_str_bytes text ≡ 27 ∷ codes "[1mx" → (place : GroupPosition) (follows : Next) (rows : List (List Cell)) → row_text (row_at rows 0) ≡ codes "error: " ++ 9243 ∷ codes "[1mx" → ShowsTitle plain_settings frame place follows (trusted_title text) rows → ⊥
 unfolding chars norm
 normalised_away text is place follows rows wrong shown =
     in_own shown.own shown.rows_are (shown.shows.texts 0 ∙ ap (λ bytes. slice_index_or (heading_texts style.Title (record { level = error_level; id = None; text = bytes; allows_styling = true })) 0 []) is)
   where
-    in_own : (own : List (List Cell)) → rows ≡ own ++ rows_behind_title plain_settings frame place follows true → row_text (row_at own 0) ≡ codes "error: " ++ 27 ∷ codes "[1mx" → ⊥
+    in_own : (own : List (List Cell)) → rows ≡ own ++ rows_after_title plain_settings frame place follows true → row_text (row_at own 0) ≡ codes "error: " ++ 27 ∷ codes "[1mx" → ⊥
     in_own [] same right = cc
     in_own (row ∷ own) same right =
         let both : codes "error: " ++ 9243 ∷ codes "[1mx" ≡ codes "error: " ++ 27 ∷ codes "[1mx" = sym wrong ∙ ap (λ all. row_text (row_at all 0)) same ∙ right in
@@ -163,7 +163,7 @@ normalised_away text is place follows rows wrong shown =
 --
 --     error[E1]: e
 --     ^ links
-linked_elsewhere : (r : Renderer) (text : CowStr Global) (id : Option Id) (trusted : Bool) (place : GroupPlace) (follows : Next) (rows : List (List Cell)) (url : List ℕ) → (cell_at rows 0 0).link ≡ Some url → ShowsTitle r frame place follows (record { level = error_level; id = id; text = text; allows_styling = trusted }) rows → ⊥
+linked_elsewhere : (r : Renderer) (text : CowStr Global) (id : Option Id) (trusted : Bool) (place : GroupPosition) (follows : Next) (rows : List (List Cell)) (url : List ℕ) → (cell_at rows 0 0).link ≡ Some url → ShowsTitle r frame place follows (record { level = error_level; id = id; text = text; allows_styling = trusted }) rows → ⊥
 unfolding chars norm
 linked_elsewhere r text id trusted place follows rows url wrong shown =
     in_own shown.own shown.rows_are (shown.shows.links 0 0)
@@ -173,7 +173,7 @@ linked_elsewhere r text id trusted place follows rows url wrong shown =
     below decor false true = refl
     below decor false false = refl
 
-    in_own : (own : List (List Cell)) → rows ≡ own ++ rows_behind_title r frame place follows trusted → (cell_at own 0 0).link ≡ None → ⊥
+    in_own : (own : List (List Cell)) → rows ≡ own ++ rows_after_title r frame place follows trusted → (cell_at own 0 0).link ≡ None → ⊥
     in_own [] same none =
         let both : ◌≡◌ {A = Option (List ℕ)} (Some url) None = sym wrong ∙ ap (λ all. (cell_at all 0 0).link) same ∙ below r.decor_style (is_before_message follows) (is_end follows && is_first_of_several place && not trusted) in
         cc
@@ -194,8 +194,8 @@ abbrev source_ab : Source
 source_ab = record { text = codes "ab"; first = 1 }
 
 -- the place that they name is at line 1 and column 1
-at_first : (place : NamedPlace) → IsNamedPlace source_ab both_spans place → (place.line ≡ 1) × (place.column ≡ Some 1)
-unfolding start_location location_of steps_behind_text place_of line_of start_of chars
+at_first : (place : Location) → IsLocation source_ab both_spans place → (place.line ≡ 1) × (place.column ≡ Some 1)
+unfolding start_location location_of steps_after_text place_of line_of start_of chars
 at_first place is =
     elim (Contains-cons_cases second is.span (first ∷ []) is.naming.0) [
       | inl same ↦ absurd (not_second same)
@@ -220,11 +220,11 @@ at_first place is =
         (is.line ∙ ap (λ a. 1 + first_line (codes "ab") a) (sym same), is.column ∙ ap (λ a. Some (start_at source_ab a)) (sym same))
     by_first (inr rest) = absurd (Contains-nil is.span rest)
 
-later_column : (s : Snippet Annotation) → IsSnippetOf s (codes "ab") both_spans → s.line_start ≡ 1 → (row : List Cell) → row_text (drop 5 row) ≡ codes "f:1:2" → NamesPlace plain_settings frame s (codes "f") row → ⊥
+later_column : (s : Snippet Annotation) → IsSnippetOf s (codes "ab") both_spans → s.line_start ≡ 1 → (row : List Cell) → row_text (drop 5 row) ≡ codes "f:1:2" → NamesLocation plain_settings frame s (codes "f") row → ⊥
 unfolding origin_text digits norm chars
 later_column s is first row wrong named =
-    let Names : List ℕ → ℕ → List Annotation → Type 0 = λ text line marks. IsNamedPlace (record { text = text; first = line }) marks named.place in
-    let there : IsNamedPlace source_ab both_spans named.place = subst (λ marks. Names (codes "ab") 1 marks) is.marks_are (subst (λ line. Names (codes "ab") line s.markers.items) first (subst (λ text. Names text s.line_start s.markers.items) is.source_is named.is)) in
+    let Names : List ℕ → ℕ → List Annotation → Type 0 = λ text line marks. IsLocation (record { text = text; first = line }) marks named.place in
+    let there : IsLocation source_ab both_spans named.place = subst (λ marks. Names (codes "ab") 1 marks) is.marks_are (subst (λ line. Names (codes "ab") line s.markers.items) first (subst (λ text. Names text s.line_start s.markers.items) is.source_is named.is)) in
     let at : (named.place.line ≡ 1) × (named.place.column ≡ Some 1) = at_first named.place there in
     let right : row_text (drop 5 row) ≡ codes "f:1:1" = named.text ∙ ap (λ line. origin_text false (codes "f") (record { line = Some line; column = named.place.column })) at.0 ∙ ap (λ column. origin_text false (codes "f") (record { line = Some 1; column = column })) at.1 in
     let digit : ◌≡◌ {A = ℕ} 50 49 = ap (λ (cs : List ℕ). slice_index_or cs 4 0) (sym wrong ∙ right) in
@@ -232,7 +232,7 @@ later_column s is first row wrong named =
 
 -- ---- a closing row that is missing
 
--- behind other rows one alone is the last
+-- after other rows one alone is the last
 last_row : (rows more : List NamedRow) (row other : NamedRow) → rows ++ row ∷ [] ≡ more ++ other ∷ [] → row ≡ other
 last_row [] [] row other same = cc
 last_row [] (m ∷ more) row other same = absurd (omega (arith, ap length same, length-append more (other ∷ [])))
@@ -244,11 +244,11 @@ last_row (r ∷ rows) (m ∷ more) row other same = last_row rows more row other
 --     1 | a
 --       | ^
 --     note: n
-closing_left_out : (s : Snippet Annotation) (around : Surroundings) → around.place ≡ place.First → around.next ≡ next.Nothing → (rows : List NamedRow) (row : NamedRow) → row.cells ≡ row_below (drawn UnderlinePrimary (codes "^")) → ShowsSnippet plain_settings frame around s (rows ++ row ∷ []) → ⊥
+closing_left_out : (s : Snippet Annotation) (around : ElementContext) → around.place ≡ place.First → around.next ≡ next.Nothing → (rows : List NamedRow) (row : NamedRow) → row.cells ≡ row_below (text_cells UnderlinePrimary (codes "^")) → ShowsSnippet plain_settings frame around s (rows ++ row ∷ []) → ⊥
 closing_left_out s around first last rows row cells shown =
     let closing : NamedRow = record { name = Other; cells = closing_row Ascii 1 } in
     let head : List NamedRow = others (cause_head plain_settings frame around s) in
-    let closes : rows_behind_cause plain_settings frame around ≡ closing_row Ascii 1 ∷ [] = ap (λ p. rows_behind_cause plain_settings frame (record around { place = p })) first ∙ ap (λ n. rows_behind_cause plain_settings frame (record around { place = place.First; next = n })) last in
-    let same : rows ++ row ∷ [] ≡ (head ++ shown.behind) ++ closing ∷ [] = shown.rows_are ∙ ap (λ tail. head ++ (shown.behind ++ others tail)) closes ∙ sym (append_assoc head shown.behind (closing ∷ [])) in
-    let is : row.cells ≡ closing_row Ascii 1 = ap (λ (r : NamedRow). r.cells) (last_row rows (head ++ shown.behind) row closing same) in
+    let closes : rows_after_cause plain_settings frame around ≡ closing_row Ascii 1 ∷ [] = ap (λ p. rows_after_cause plain_settings frame (record around { place = p })) first ∙ ap (λ n. rows_after_cause plain_settings frame (record around { place = place.First; next = n })) last in
+    let same : rows ++ row ∷ [] ≡ (head ++ shown.after) ++ closing ∷ [] = shown.rows_are ∙ ap (λ tail. head ++ (shown.after ++ others tail)) closes ∙ sym (append_assoc head shown.after (closing ∷ [])) in
+    let is : row.cells ≡ closing_row Ascii 1 = ap (λ (r : NamedRow). r.cells) (last_row rows (head ++ shown.after) row closing same) in
     absurd (omega (arith, ap length (sym cells ∙ is)))

@@ -10,7 +10,7 @@ use Rattle.std.proofs.lemmas.List.Elements.{All-head, All-tail}
 use Rattle.snippet_model.specs.declared.snippet.Annotation.{Annotation}
 use Rattle.snippet_model.specs.declared.snippet.Snippet.{Snippet}
 use Rattle.snippet_grid.specs.Grid.{row_at}
-use Rattle.snippet_style.specs.Cell.{Cell, SPACE, drawn}
+use Rattle.snippet_style.specs.Cell.{Cell, SPACE, text_cells}
 use Rattle.snippet_style.specs.Glyphs.{elision_of}
 use Rattle.snippet_style.specs.declared.role.ElementStyle.TheVariants.{LineNumber}
 use Rattle.snippet_style.specs.declared.glyphs.DecorStyle.{DecorStyle}
@@ -69,7 +69,7 @@ elision_unnumbered Ascii gutter (suc zero) left = refl
 elision_unnumbered Ascii gutter (suc (suc zero)) left = refl
 elision_unnumbered Ascii gutter (suc (suc (suc c))) left = refl
 elision_unnumbered Unicode gutter c left =
-    ap (λ (cell : Cell). is_ascii_alphanumeric cell.ch) (get_or_append_left (replicate (gutter + 1) SPACE) (drawn LineNumber (elision_of Unicode)) SPACE c (omega (arith, left, length-replicate (gutter + 1) SPACE)) ∙ get_or-replicate (gutter + 1) c SPACE SPACE (omega (arith, left)))
+    ap (λ (cell : Cell). is_ascii_alphanumeric cell.ch) (get_or_append_left (replicate (gutter + 1) SPACE) (text_cells LineNumber (elision_of Unicode)) SPACE c (omega (arith, left, length-replicate (gutter + 1) SPACE)) ∙ get_or-replicate (gutter + 1) c SPACE SPACE (omega (arith, left)))
 
 module _ (r : Renderer) (frame : Frame) (s : Snippet Annotation) (spans : All (λ a. IsSpan (cow_str_bytes s.source) a.span.start a.span.end) s.markers.items) (margin : Margin) (room : margin.term_width ≡ room_of r frame) (bounds : bounds_of margin ≡ bounds_in r frame s) (ordered : (bounds_of margin).left ≤ (bounds_of margin).right) (closes : Bool) where
   abbrev own_lines : ℕ
@@ -91,7 +91,7 @@ module _ (r : Renderer) (frame : Frame) (s : Snippet Annotation) (spans : All (�
         labels = λ uncut. subst (λ lower. ShowsLabels frame s k shows.dropped lower) (sym (below-own shows.below more ends)) (labels_of_line r frame s spans margin room bounds ordered last k info rows within seen fits shows uncut);
       }
 
-  -- rows below a line, with the last of which the window closes where no row stands behind
+  -- rows below a line, with the last of which the window closes where no row stands after
   others_are : (last : Bool) (rows : List (List Cell)) (more : List NamedRow) → (length more == 0) ≡ last → ((i : ℕ) → i < length rows → IsRowBelow r.decor_style frame ((closes && last) && i + 1 == length rows) (row_at rows i)) → AreRowsOf r frame closes s more → AreRowsOf r frame closes s (others rows ++ more)
   others_are last [] more ends below are = are
   others_are last (row ∷ rows) more ends below are =
@@ -182,14 +182,14 @@ module _ (r : Renderer) (frame : Frame) (s : Snippet Annotation) (spans : All (�
       let shows : strokes.ShowsLine (layout_in r frame) margin (line_numbers r s.line_numbering) (closes && last) info shown.0 = shown.4 in
       let source_row : NamedRow = record { name = SourceRow k; cells = shows.source } in
       let between : IsGapNamed k ks shown.1 = gap_named k ks info infos shown.1 here further shown.5 in
-      let behind : List NamedRow = between.gap ++ rest.part in
-      let ends : (length behind == 0) ≡ last = between.ends rest.part rest.ends ∙ none_left ks infos further in
+      let after : List NamedRow = between.gap ++ rest.part in
+      let ends : (length after == 0) ≡ last = between.ends rest.part rest.ends ∙ none_left ks infos further in
       record {
-        part = source_row ∷ (others shows.below ++ behind);
-        cells = ap (λ rs. shows.source ∷ rs) (cells_of-append (others shows.below) behind ∙ ap (λ rs. rs ++ cells_of behind) (cells_of-others shows.below) ∙ ap (λ rs. shows.below ++ rs) (cells_of-append between.gap rest.part ∙ ap (λ rs. rs ++ cells_of rest.part) between.cells ∙ ap (λ rs. shown.1 ++ rs) rest.cells)) ∙ ap (λ rs. rs ++ (shown.1 ++ shown.2)) (sym shows.rows_are) ∙ sym (append_assoc shown.0 shown.1 shown.2) ∙ sym shown.3;
-        lines = ap (λ js. k ∷ js) (lines_named-others shows.below behind ∙ between.lines rest.part ∙ rest.lines);
-        names = ap (λ names. SourceRow k ∷ names) (names_in-others shows.below behind) ∙ between.names rest.part rest.names;
-        are = (line_and_marks (closes && last) k info shown.0 behind (All-head (λ j. j < own_lines) k ks within) here (All-head NumberFits info infos fit) shows (between.begins rest.part rest.begins), others_are last shows.below behind ends (λ i inside. row_below r.decor_style frame (closes && last) _ _ shows.below i inside shows.unnumbered (shows.strokes.are i inside)) (between.are rest.part rest.are));
-        ends = some_more (length (others shows.below ++ behind)) (length ks);
+        part = source_row ∷ (others shows.below ++ after);
+        cells = ap (λ rs. shows.source ∷ rs) (cells_of-append (others shows.below) after ∙ ap (λ rs. rs ++ cells_of after) (cells_of-others shows.below) ∙ ap (λ rs. shows.below ++ rs) (cells_of-append between.gap rest.part ∙ ap (λ rs. rs ++ cells_of rest.part) between.cells ∙ ap (λ rs. shown.1 ++ rs) rest.cells)) ∙ ap (λ rs. rs ++ (shown.1 ++ shown.2)) (sym shows.rows_are) ∙ sym (append_assoc shown.0 shown.1 shown.2) ∙ sym shown.3;
+        lines = ap (λ js. k ∷ js) (lines_named-others shows.below after ∙ between.lines rest.part ∙ rest.lines);
+        names = ap (λ names. SourceRow k ∷ names) (names_in-others shows.below after) ∙ between.names rest.part rest.names;
+        are = (line_and_marks (closes && last) k info shown.0 after (All-head (λ j. j < own_lines) k ks within) here (All-head NumberFits info infos fit) shows (between.begins rest.part rest.begins), others_are last shows.below after ends (λ i inside. row_below r.decor_style frame (closes && last) _ _ shows.below i inside shows.unnumbered (shows.strokes.are i inside)) (between.are rest.part rest.are));
+        ends = some_more (length (others shows.below ++ after)) (length ks);
         begins = refl;
       }

@@ -18,7 +18,7 @@ use Rattle.annotate_snippets.proofs.ListLemmas.{Contains-filter, Contains-map}
 use Rattle.std.proofs.lemmas.List.{length-map}
 use Rattle.std.proofs.lemmas.List.Sums.{count_by-le-length, length-filter}
 use Rattle.snippet_model.specs.Fits.{AnnotationFits}
-use Rattle.snippet_view.specs.declared.depths.LongPlace.{LongPlace}
+use Rattle.snippet_view.specs.declared.depths.LongExtent.{LongExtent}
 use Rattle.snippet_view.specs.declared.entries.LineAnnotation.{LineAnnotation}
 use Rattle.snippet_view.specs.declared.entries.LineAnnotationType.{LineAnnotationType}
 use Rattle.snippet_view.specs.declared.entries.LineAnnotationType.TheVariants.{Singleline, MultilineStart, MultilineEnd, MultilineLine}
@@ -35,9 +35,9 @@ use Rattle.snippet_lines.specs.Lines.{Source, source_lines}
 use Rattle.snippet_view.specs.Mark.{is_marked_on, is_marking, is_single_line, is_wide, touches}
 use Rattle.snippet_view.specs.Marked.{first_line, last_line}
 use Rattle.snippet_view.specs.Measures.{StandsClear, bounds_of_lines, is_wide_entry, margin_of}
-use Rattle.snippet_strokes.specs.Entries.{HasPlace, HasRail, HasRailAt}
+use Rattle.snippet_strokes.specs.Entries.{HasPlace, HasBarCell, HasBarCellAt}
 use Rattle.snippet_strokes.specs.declared.layout.Layout.{Layout}
-use Rattle.annotate_snippets.specs.Gutter.{code_behind}
+use Rattle.annotate_snippets.specs.Gutter.{code_after}
 use Rattle.snippet_lines.specs.Span.{IsSpan}
 use Rattle.snippet_view.specs.Window.{stands_whole}
 use Rattle.annotate_snippets.specs.Page.{IsAscending}
@@ -71,20 +71,20 @@ module _ (s : Source) (marks : List Annotation) (spans : All (λ a. IsSpan s.tex
   stands_left room placeholder_width fold k whole = margin_whole room placeholder_width fold s marks k whole
 
 -- where the code leaves room for the greatest depth, a bar of a depth that is no greater has a cell
-rail : (layout : Layout) (deepest : ℕ) → code_behind layout.gutter deepest ≤ layout.code → (part : LineAnnotationType) → HasDepthWithin deepest part → HasRailAt layout part
-rail layout deepest code part depth = by part depth
+bar_cell : (layout : Layout) (deepest : ℕ) → code_after layout.gutter deepest ≤ layout.code → (part : LineAnnotationType) → HasDepthWithin deepest part → HasBarCellAt layout part
+bar_cell layout deepest code part depth = by part depth
   where
-    behind : (depth : ℕ) → 0 < depth → depth ≤ deepest → layout.gutter + 3 + depth < layout.code
-    behind depth some low =
+    after : (depth : ℕ) → 0 < depth → depth ≤ deepest → layout.gutter + 3 + depth < layout.code
+    after depth some low =
         let more : (deepest == 0) ≡ false = grind (arith, nat_tests, some, low) in
-        let wide : code_behind layout.gutter deepest ≡ layout.gutter + 3 + deepest + 1 = ap (λ b. cond b (layout.gutter + 3) (layout.gutter + 3 + deepest + 1)) more in
+        let wide : code_after layout.gutter deepest ≡ layout.gutter + 3 + deepest + 1 = ap (λ b. cond b (layout.gutter + 3) (layout.gutter + 3 + deepest + 1)) more in
         omega (arith, code, wide, low)
 
-    by : (part : LineAnnotationType) → HasDepthWithin deepest part → HasRailAt layout part
+    by : (part : LineAnnotationType) → HasDepthWithin deepest part → HasBarCellAt layout part
     by Singleline depth = tt
-    by (MultilineStart n) depth = (depth.0, behind n depth.0 depth.1)
-    by (MultilineEnd n) depth = (depth.0, behind n depth.0 depth.1)
-    by (MultilineLine n) depth = (depth.0, behind n depth.0 depth.1)
+    by (MultilineStart n) depth = (depth.0, after n depth.0 depth.1)
+    by (MultilineEnd n) depth = (depth.0, after n depth.0 depth.1)
+    by (MultilineLine n) depth = (depth.0, after n depth.0 depth.1)
 
 -- ---- what drawing asks of the lines
 
@@ -98,10 +98,10 @@ module _ (s : Source) (marks : List Annotation) (spans : All (λ a. IsSpan s.tex
   pub lines_places : length s.text < 2 ^ 56 → All (λ info. All HasPlace info.annotations.items) infos
   lines_places short = All-weaker (λ (info : AnnotatedLineInfo). All HasRoom info.annotations.items) (λ info. All HasPlace info.annotations.items) (λ info places. All-weaker HasRoom HasPlace (λ e room. record { ordered = room.0; near = room.1 }) info.annotations.items places) infos (places-fit s marks ks infos same short)
 
-  pub lines_rails : (layout : Layout) → code_behind layout.gutter (deepest s marks) ≤ layout.code → All (λ info. All (HasRail layout) info.annotations.items) infos
-  lines_rails layout code =
+  pub lines_bar_cells : (layout : Layout) → code_after layout.gutter (deepest s marks) ≤ layout.code → All (λ info. All (HasBarCell layout) info.annotations.items) infos
+  lines_bar_cells layout code =
       let Within : LineAnnotation → Type 0 = λ e. HasDepthWithin (deepest s marks) e.annotation_type in
-      All-weaker (λ (info : AnnotatedLineInfo). All Within info.annotations.items) (λ info. All (HasRail layout) info.annotations.items) (λ info depths. All-weaker Within (HasRail layout) (λ e depth. rail layout (deepest s marks) code e.annotation_type depth) info.annotations.items depths) infos (depths-fit s marks ks infos same)
+      All-weaker (λ (info : AnnotatedLineInfo). All Within info.annotations.items) (λ info. All (HasBarCell layout) info.annotations.items) (λ info depths. All-weaker Within (HasBarCell layout) (λ e depth. bar_cell layout (deepest s marks) code e.annotation_type depth) info.annotations.items depths) infos (depths-fit s marks ks infos same)
 
 -- an entry stands clear where one that is seen as it does
 clear_seen : (margin : Margin) (d e : LineAnnotation) → seen_part d ≡ seen_part e → StandsClear margin d → StandsClear margin e
@@ -155,7 +155,7 @@ bounds_of_kept room fold s marks infos spans lines = margin_of_kept room fold s 
 
 -- ---- how deep bars stand
 
-raw_few : (p : LongPlace) (later : List LongPlace) → raw_depth p later ≤ length later + 1
+raw_few : (p : LongExtent) (later : List LongExtent) → raw_depth p later ≤ length later + 1
 raw_few p [] = omega arith
 raw_few p (q ∷ later) =
     elim (cases_Bool (share_line p q)) [
@@ -163,11 +163,11 @@ raw_few p (q ∷ later) =
       | inr apart ↦ omega (arith, raw_few p later, ap (λ b. cond b (raw_depth q later + 1) 1) apart)
     ]
 
-greatest_few : (ps : List LongPlace) → greatest_raw_depth ps ≤ length ps
+greatest_few : (ps : List LongExtent) → greatest_raw_depth ps ≤ length ps
 greatest_few [] = omega arith
 greatest_few (p ∷ later) = omega (arith, raw_few p later, greatest_few later)
 
-places_few : (ps : List LongPlace) → length (places_of ps) ≤ length ps
+places_few : (ps : List LongExtent) → length (places_of ps) ≤ length ps
 places_few [] = omega arith
 places_few (p ∷ ps) =
     elim (cases_Bool (list_any (same_place p) ps)) [

@@ -36,7 +36,7 @@ use Rattle.annotate_snippets.specs.Gutter.{line_numbers}
 use Rattle.annotate_snippets.specs.Rows.{path_head, path_row, separator_rows, suggestion_head, suggestion_head_at}
 use Rattle.annotate_snippets.specs.declared.renderer.Renderer.{Renderer}
 use Rattle.annotate_snippets.specs.declared.renderer.frame.Frame.{Frame}
-use Rattle.annotate_snippets.specs.declared.renderer.surroundings.Surroundings.{Surroundings}
+use Rattle.annotate_snippets.specs.declared.renderer.element_context.ElementContext.{ElementContext}
 
 -- the separator row shows no line
 pub separator_bare : (decor : DecorStyle) (gutter : ℕ) → IsBareRow decor gutter (separator_row decor gutter)
@@ -84,7 +84,7 @@ begun_below r frame Path first s above tail old mid is tail_is path headed same 
     (separator_rows r frame, headed refl ∙ ap (λ rows. rows ++ path_head r frame first s) old_is ∙ ap (λ rows. above ++ rows) head_is ∙ sym (append_assoc above head (separator_rows r frame)), (separator_row r.decor_style frame.gutter, refl, separator_bare r.decor_style frame.gutter))
 
 -- the rows of a suggestion below those that it begins with are the element's: its last row is its own, or the next one begins in it
-pub suggestion_added : (r : Renderer) (frame : Frame) (around : Surroundings) (s : Snippet Patch) (above new : List (List Cell)) → AddsSuggestion (suggestion_layout r frame s) s (above ++ suggestion_head r frame around s) new → AddsElement r frame around (Suggestion s) above new
+pub suggestion_added : (r : Renderer) (frame : Frame) (around : ElementContext) (s : Snippet Patch) (above new : List (List Cell)) → AddsSuggestion (suggestion_layout r frame s) s (above ++ suggestion_head r frame around s) new → AddsElement r frame around (Suggestion s) above new
 suggestion_added r frame around s above new adds = at around.shared refl
   where
     at : (b : Bool) → around.shared ≡ b → AddsElement r frame around (Suggestion s) above new
@@ -132,7 +132,7 @@ DrawsBelow s at mid new result layout =
     HasGutter layout s → (above tail : List (List Cell)) → mid ≡ above ++ tail → IsStart layout at tail → OnOk result (AddsSuggestion layout s above new)
 
 -- the rows of a suggestion stand below what is there
-pub patches_added : (r : Renderer) (frame : Frame) (around : Surroundings) (s : Snippet Patch) (above tail old mid new : List (List Cell)) (numbers : LineNumbers) (result : Result (Unit {0}) AllocError) → numbers ≡ line_numbers r s.line_numbering → s.markers.items ≢ [] → HasRoomFor r frame (Suggestion s) → old ≡ above ++ tail → IsTail r.decor_style frame.gutter (begins_in_row_above around) tail → HasPathFor around.start s → (around.start ≡ Path → mid ≡ old ++ path_head r frame around.first s) → ((around.start ≡ Path → ⊥) → mid ≡ old) → DrawsBelow s around.start mid new result (layout_with r frame numbers) → OnOk result (AddsElement r frame around (Suggestion s) above new)
+pub patches_added : (r : Renderer) (frame : Frame) (around : ElementContext) (s : Snippet Patch) (above tail old mid new : List (List Cell)) (numbers : LineNumbers) (result : Result (Unit {0}) AllocError) → numbers ≡ line_numbers r s.line_numbering → s.markers.items ≢ [] → HasRoomFor r frame (Suggestion s) → old ≡ above ++ tail → IsTail r.decor_style frame.gutter (begins_in_row_above around) tail → HasPathFor around.start s → (around.start ≡ Path → mid ≡ old ++ path_head r frame around.first s) → ((around.start ≡ Path → ⊥) → mid ≡ old) → DrawsBelow s around.start mid new result (layout_with r frame numbers) → OnOk result (AddsElement r frame around (Suggestion s) above new)
 patches_added r frame around s above tail old mid new numbers result numbers_are some room is tail_is path headed same draws =
     let begun = begun_below r frame around.start around.first s above tail old mid is tail_is path headed same in
     let drawn : DrawsBelow s around.start mid new result (suggestion_layout r frame s) = subst (λ n. DrawsBelow s around.start mid new result (layout_with r frame n)) numbers_are draws in

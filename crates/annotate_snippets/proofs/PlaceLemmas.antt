@@ -15,7 +15,7 @@ use Rattle.snippet_suggest.specs.Given.{edits_of, source_of, trimmed_of}
 use Rattle.snippet_suggest.specs.Prepared.{IsPrepared}
 use Rattle.snippet_suggest.proofs.PreparedLemmas.{some-left}
 use Rattle.snippet_suggest.proofs.SpanLemmas.{trimmed_spans}
-use Rattle.snippet_titles.specs.declared.origin.OriginPlace.{OriginPlace}
+use Rattle.snippet_titles.specs.declared.origin.OriginLocation.{OriginLocation}
 use Rattle.annotate_snippets.specs.Rows.{patch_place}
 
 -- the first of some patches starts where the first edit does
@@ -49,14 +49,14 @@ first-span p t h is =
     subst (λ (m : Source). IsSpan m.text t.span.start t.span.end) (sym h.lines) (first-all (λ u. IsSpan source u.span.start u.span.end) p.splice.patches.items t (trimmed_spans source (edits_of p.snippet.now) p.splice.patches.items spans h.edits) is)
 
 -- where it starts is the place that the path names
-abbrev place_from : Loc → OriginPlace
+abbrev place_from : Loc → OriginLocation
 place_from at = record { line = Some at.line; column = Some (at.char + 1) }
 
 start-location : (m : Source) (start end : ℕ) → (locations_of m start end).0 ≡ start_location m start
 unfolding locations_of
 start-location m start end = refl
 
-pub first-place : (p : PreparedSuggestion) (t : TrimmedPatch) (at : Loc × Loc) → IsPrepared p → slice_get p.splice.patches.items 0 ≡ Some t → at ≡ locations_of p.map t.span.start t.span.end → ◌≡◌ {A = OriginPlace} (record { line = Some at.0.line; column = Some (at.0.char + 1) }) (patch_place p.snippet.now)
+pub first-place : (p : PreparedSuggestion) (t : TrimmedPatch) (at : Loc × Loc) → IsPrepared p → slice_get p.splice.patches.items 0 ≡ Some t → at ≡ locations_of p.map t.span.start t.span.end → ◌≡◌ {A = OriginLocation} (record { line = Some at.0.line; column = Some (at.0.char + 1) }) (patch_place p.snippet.now)
 first-place p t at h is located =
     let first : t.span.start ≡ first_start (trimmed_of p.snippet.now) = first_start-of p.splice.patches.items t is ∙ ap first_start h.edits in
     ap (λ (l : Loc × Loc). place_from l.0) located ∙ ap place_from (start-location p.map t.span.start t.span.end) ∙ ap (λ m. place_from (start_location m t.span.start)) h.lines ∙ ap (λ b. place_from (start_location (source_of p.snippet.now) b)) first

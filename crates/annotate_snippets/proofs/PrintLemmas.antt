@@ -1,4 +1,4 @@
--- A text that prints grids, one behind the other.
+-- A text that prints grids, one after the other.
 use Rattle.std.proofs.Common.{◌≡◌, ℕ, zero, suc, ◌+◌, ◌<◌, List, [], ◌∷◌, ◌++◌, length, take, get_or, refl, sym, ap, subst, ◌∙◌, arith}
 use Rattle.std.specs.List.{AllZip, join_with_byte}
 use Rattle.std.proofs.Math.Seq.{take-suc}
@@ -16,7 +16,7 @@ AllZip-weaker P Q weaker (x ∷ xs) [] holds = absurd holds
 AllZip-weaker P Q weaker (x ∷ xs) (y ∷ ys) holds =
     (weaker x y holds.0, AllZip-weaker P Q weaker xs ys holds.1)
 
--- one more of both: the next item of the first list, and an item behind the second
+-- one more of both: the next item of the first list, and an item after the second
 pub AllZip-last : {A B : Type 0} (P : A → B → Type 0) (xs : List A) (ys : List B) (x : A) (y : B) → AllZip P xs ys → P x y → AllZip P (xs ++ x ∷ []) (ys ++ y ∷ [])
 AllZip-last P [] [] x y before last = (last, tt)
 AllZip-last P [] (z ∷ ys) x y before last = absurd before
@@ -32,7 +32,7 @@ pub AllZip-push : {A B : Type 0} (P : A → B → Type 0) (xs : List A) (i : ℕ
 AllZip-push P xs i d within ys new y pushed before last =
     subst (λ zs. AllZip P zs new) (sym (take-next xs i d within)) (subst (λ zs. AllZip P (take i xs ++ get_or xs i d ∷ []) zs) (sym pushed) (AllZip-last P (take i xs) ys (get_or xs i d) y before last))
 
--- one more part behind some that are joined
+-- one more part after some that are joined
 join-last : (x : List ℕ) (xs : List (List ℕ)) (part : List ℕ) → join_with_byte 10 ((x ∷ xs) ++ part ∷ []) ≡ join_with_byte 10 (x ∷ xs) ++ 10 ∷ part
 join-last x [] part = refl
 join-last x (y ∷ xs) part =
@@ -57,17 +57,17 @@ PrintsGrids-first sheet (grid ∷ grids) zero d old new part none within before 
     no_text [] printed joined = joined
     no_text (x ∷ parts) printed joined = absurd printed
 
--- a further one, behind a line feed
+-- a further one, after a line feed
 pub PrintsGrids-next : (sheet : Stylesheet) (grids : List GroupGrid) (i : ℕ) (d : GroupGrid) (old new part : List ℕ) → 0 < i → i < length grids → PrintsGrids sheet (take i grids) old → IsPart sheet (get_or grids i d) part → new ≡ old ++ 10 ∷ part → PrintsGrids sheet (take (i + 1) grids) new
 PrintsGrids-next sheet [] i d old new part later within before prints added = absurd (omega (arith, within))
 PrintsGrids-next sheet (grid ∷ grids) (suc i) d old new part later within before prints added =
     record {
       parts = before.parts ++ part ∷ [];
       printed = AllZip-push (IsPart sheet) (grid ∷ grids) (suc i) d within before.parts (before.parts ++ part ∷ []) part refl before.printed prints;
-      joined = added ∙ ap (λ text. text ++ 10 ∷ part) before.joined ∙ behind before.parts before.printed;
+      joined = added ∙ ap (λ text. text ++ 10 ∷ part) before.joined ∙ after before.parts before.printed;
     }
   where
-    behind : (parts : List (List ℕ)) → AllZip (IsPart sheet) (grid ∷ take i grids) parts → join_with_byte 10 parts ++ 10 ∷ part ≡ join_with_byte 10 (parts ++ part ∷ [])
-    behind [] printed = absurd printed
-    behind (x ∷ parts) printed = sym (join-last x parts part)
+    after : (parts : List (List ℕ)) → AllZip (IsPart sheet) (grid ∷ take i grids) parts → join_with_byte 10 parts ++ 10 ∷ part ≡ join_with_byte 10 (parts ++ part ∷ [])
+    after [] printed = absurd printed
+    after (x ∷ parts) printed = sym (join-last x parts part)
 PrintsGrids-next sheet (grid ∷ grids) zero d old new part later within before prints added = absurd (omega (arith, later))

@@ -24,7 +24,7 @@ use Rattle.snippet_suggest.specs.Prepared.{IsSuggestible}
 use Rattle.snippet_suggest.proofs.PreparedLemmas.{last-fits}
 use Rattle.annotate_snippets.specs.Around.{drawn_elements, is_drawn}
 use Rattle.annotate_snippets.specs.Drawn.{HasRoomFor}
-use Rattle.annotate_snippets.specs.Gutter.{code_behind, depth_of_element, depth_of_group, frame_of, greatest_wanted, gutter_of_report, width_wanted}
+use Rattle.annotate_snippets.specs.Gutter.{code_after, depth_of_element, depth_of_group, frame_of, greatest_wanted, gutter_of_report, width_wanted}
 use Rattle.annotate_snippets.specs.Prepared.{IsElementDrawable, IsGroupDrawable}
 use Rattle.annotate_snippets.specs.declared.renderer.Renderer.{Renderer}
 use Rattle.annotate_snippets.proofs.GutterLemmas.{counted-small}
@@ -112,7 +112,7 @@ gutter-small r groups drawable =
 -- ---- and the frame has room
 
 -- more bars push the code no less far
-code-monotone : (gutter depth more : ℕ) → depth ≤ more → code_behind gutter depth ≤ code_behind gutter more
+code-monotone : (gutter depth more : ℕ) → depth ≤ more → code_after gutter depth ≤ code_after gutter more
 code-monotone gutter depth more low = by (depth == 0) (more == 0) refl refl
   where
     by : (none all : Bool) → (depth == 0) ≡ none → (more == 0) ≡ all → cond none (gutter + 3) (gutter + 3 + depth + 1) ≤ cond all (gutter + 3) (gutter + 3 + more + 1)

@@ -1,4 +1,4 @@
--- The parts of the short form: a group's first annotated snippet, the place before the title, and the labels behind it.
+-- The parts of the short form: a group's first annotated snippet, the place before the title, and the labels after it.
 use Rattle.std.proofs.Common.{◌≡◌, ◌≢◌, ℕ, ◌+◌, ◌*◌, ◌<◌, ◌≤◌, ◌^◌, ◌==◌, ◌∙◌, Bool, true, false, not, Option, None, Some, Result, Ok, Err, IfSome, List, [], ◌∷◌, ◌++◌, All, chars, cond, filter, get_or, if◌then◌else◌, length, take, suc, arith, ap, refl, sym}
 use Rattle.std.specs.Char.{is_whitespace}
 use Rattle.std.specs.Cow.{cow_str_bytes}
@@ -28,7 +28,7 @@ use Rattle.snippet_style.proofs.CellLemmas.{length-chars_le}
 use Rattle.snippet_text.specs.Normalized.{norm}
 use Rattle.snippet_text.proofs.NormLemmas.{length-norm}
 use Rattle.snippet_titles.specs.Origin.{column_text, line_name, line_text, origin_text, place_text}
-use Rattle.snippet_titles.specs.declared.origin.OriginPlace.{OriginPlace}
+use Rattle.snippet_titles.specs.declared.origin.OriginLocation.{OriginLocation}
 use Rattle.annotate_snippets.specs.Around.{path_bytes}
 use Rattle.annotate_snippets.specs.Gutter.{numbered_source}
 use Rattle.annotate_snippets.specs.Prepared.{IsDrawable, IsElementDrawable, IsGroupDrawable}
@@ -39,7 +39,7 @@ use Rattle.annotate_snippets.specs.declared.renderer.Renderer.{Renderer}
 
 -- ---- labels
 
--- those of some spans, and of others behind them
+-- those of some spans, and of others after them
 pub primary_labels-append : (xs ys : List Annotation) → primary_labels (xs ++ ys) ≡ primary_labels xs ++ primary_labels ys
 primary_labels-append xs ys =
     let labelled = λ (zs : List (List ℕ)). filter (λ label. not (list_all is_whitespace label)) zs in
@@ -98,7 +98,7 @@ digits : (n : ℕ) → n < 2 ^ 64 → length (decimal n) ≤ 20
 digits n small = length-decimal-le 20 n (omega arith) (omega (arith, small)) small
 
 -- the numbers of a place fit
-abbrev pub PlaceFits : OriginPlace → Type 0
+abbrev pub PlaceFits : OriginLocation → Type 0
 PlaceFits place = IfSome place.line (λ n. n < 2 ^ 64) × IfSome place.column (λ n. n < 2 ^ 64)
 
 line_name-short : (anonymized : Bool) (line : ℕ) → line < 2 ^ 64 → length (line_name anonymized line) ≤ 20
@@ -114,22 +114,22 @@ line_text-short anonymized None column line_small column_small = omega arith
 line_text-short anonymized (Some line) column line_small column_small =
     omega (arith, length-append (line_name anonymized line) (column_text column), line_name-short anonymized line line_small, column_text-short column column_small)
 
-origin_text-short : (anonymized : Bool) (path : List ℕ) (place : OriginPlace) → PlaceFits place → length (origin_text anonymized path place) ≤ 4 * length path + 42
+origin_text-short : (anonymized : Bool) (path : List ℕ) (place : OriginLocation) → PlaceFits place → length (origin_text anonymized path place) ≤ 4 * length path + 42
 unfolding origin_text
 origin_text-short anonymized path place fits =
     omega (arith, length-append (norm (chars path)) (place_text anonymized place), length-norm (chars path), length-chars_le path, line_text-short anonymized place.line place.column fits.0 fits.1)
 
--- a path with a place, and a colon behind it
+-- a path with a place, and a colon after it
 pub place-added : (text new shown : List ℕ) → IsUtf8 text → chars text ≡ shown → new ≡ text ++ 58 ∷ 32 ∷ [] → chars new ≡ shown ++ 58 ∷ 32 ∷ []
 place-added text new shown utf8 is added =
     ap chars added ∙ chars-append text (58 ∷ 32 ∷ []) utf8 ∙ ap (λ cs. cs ++ chars (58 ∷ 32 ∷ [])) is ∙ ap (λ cs. shown ++ cs) (lead-chars true)
 
-pub place-short : (anonymized : Bool) (path : List ℕ) (place : OriginPlace) (new : List ℕ) → length path < 2 ^ 56 → PlaceFits place → chars new ≡ origin_text anonymized path place ++ 58 ∷ 32 ∷ [] → length (chars new) < 2 ^ 59
+pub place-short : (anonymized : Bool) (path : List ℕ) (place : OriginLocation) (new : List ℕ) → length path < 2 ^ 56 → PlaceFits place → chars new ≡ origin_text anonymized path place ++ 58 ∷ 32 ∷ [] → length (chars new) < 2 ^ 59
 place-short anonymized path place new short fits is =
     omega (arith, short, ap length is, length-append (origin_text anonymized path place) (58 ∷ 32 ∷ []), origin_text-short anonymized path place fits)
 
 -- it is the place of its snippet
-pub place-of_path : (r : Renderer) (s : Snippet Annotation) (path : List ℕ) (place : OriginPlace) → path_bytes s.path ≡ Some path → place ≡ place_named true (annotated_lines s.fold (numbered_source s) s.markers.items) → origin_text r.anonymized_origin_line_numbers path place ++ 58 ∷ 32 ∷ [] ≡ place_of_cause r (Some s)
+pub place-of_path : (r : Renderer) (s : Snippet Annotation) (path : List ℕ) (place : OriginLocation) → path_bytes s.path ≡ Some path → place ≡ place_named true (annotated_lines s.fold (numbered_source s) s.markers.items) → origin_text r.anonymized_origin_line_numbers path place ++ 58 ∷ 32 ∷ [] ≡ place_of_cause r (Some s)
 place-of_path r s path place has is =
     ap (λ p. origin_text r.anonymized_origin_line_numbers path p ++ 58 ∷ 32 ∷ []) is ∙ sym (ap (place_of_path r s) has)
 

@@ -20,8 +20,8 @@ use Rattle.snippet_model.specs.declared.snippet.Snippet.{Snippet}
 use Rattle.snippet_model.specs.declared.snippet.Title.{Title}
 use Rattle.snippet_view.specs.Annotated.{KeptLine, annotated_lines, is_long}
 use Rattle.snippet_view.specs.Mark.{is_marking}
-use Rattle.snippet_view.specs.NamedPlace.{IsNamedPlace, primary_place}
-use Rattle.snippet_view.proofs.NamedPlaceLaws.{place-named}
+use Rattle.snippet_view.specs.Location.{IsLocation, primary_place}
+use Rattle.snippet_view.proofs.LocationLaws.{place-named}
 use Rattle.snippet_grid.specs.Grid.{row_at}
 use Rattle.snippet_style.specs.Cell.{Cell}
 use Rattle.snippet_grid.specs.Print.{plain_text, row_text}
@@ -33,13 +33,13 @@ use Rattle.snippet_grid.proofs.WovenLemmas.{IsWoven-from_prints, plain_woven}
 use Rattle.snippet_text.specs.Normalized.{is_listed, norm}
 use Rattle.snippet_text.proofs.NormLemmas.{list_any-norm}
 use Rattle.snippet_titles.proofs.ShortLaws.{short-free, short-links, short-texts}
-use Rattle.snippet_titles.specs.Heading.{drawn_text, heading_lines, indent_cells, label_text, label_width}
+use Rattle.snippet_titles.specs.Heading.{shown_text, heading_lines, indent_cells, label_text, label_width}
 use Rattle.snippet_titles.specs.Origin.{origin_text, place_text}
 use Rattle.snippet_titles.specs.Short.{with_end}
 use Rattle.snippet_titles.specs.Shown.{IsFreeButText, texts_below}
 use Rattle.snippet_titles.specs.Title.{id_links, text_links}
 use Rattle.snippet_titles.specs.declared.style.TitleStyle.TheVariants as style
-use Rattle.snippet_titles.specs.declared.origin.OriginPlace.{OriginPlace}
+use Rattle.snippet_titles.specs.declared.origin.OriginLocation.{OriginLocation}
 use Rattle.snippet_titles.proofs.DigitLemmas.{IsDigit}
 use Rattle.snippet_titles.proofs.OriginText.{place_text-each}
 use Rattle.snippet_titles.proofs.OriginFree.{each-fails}
@@ -50,7 +50,7 @@ use Rattle.annotate_snippets.specs.Gutter.{numbered_source}
 use Rattle.annotate_snippets.specs.Page.{PrintsGrids}
 use Rattle.annotate_snippets.specs.Prepared.{IsDrawable, IsGroupDrawable}
 use Rattle.annotate_snippets.specs.Rows.{place_found, place_named}
-use Rattle.annotate_snippets.specs.Short.{before_title, behind_title, first_cause, joined_labels, label_of, labels_of_cause, place_of_cause, place_of_path, primary_labels, short_form}
+use Rattle.annotate_snippets.specs.Short.{before_title, after_title, first_cause, joined_labels, label_of, labels_of_cause, place_of_cause, place_of_path, primary_labels, short_form}
 use Rattle.snippet_model.specs.AnnotationKind.{is_primary}
 use Rattle.annotate_snippets.specs.declared.renderer.Renderer.{Renderer}
 use Rattle.annotate_snippets.specs.declared.renderer.graphic.GroupGrid.{GroupGrid}
@@ -59,7 +59,7 @@ use Rattle.annotate_snippets.proofs.PrintLemmas.{AllZip-weaker}
 use Rattle.annotate_snippets.proofs.ShortLemmas.{first_cause-drawable}
 use Rattle.annotate_snippets.proofs.TrustedLemmas.{IsFreeRow, free_text, own_row}
 
--- ---- no character before the title or behind it is listed
+-- ---- no character before the title or after it is listed
 
 abbrev IsUnlisted : ℕ → Type 0
 IsUnlisted c = is_listed c ≡ false
@@ -67,7 +67,7 @@ IsUnlisted c = is_listed c ≡ false
 norm-free : (cs : List ℕ) → All IsUnlisted (norm cs)
 norm-free cs = each-fails is_listed (norm cs) (list_any-norm cs)
 
--- what leads to a label, or stands behind a path
+-- what leads to a label, or stands after a path
 sep-free : (c : ℕ) → is_listed c ≡ false → All IsUnlisted (c ∷ 32 ∷ [])
 sep-free c free = All-cons IsUnlisted c (32 ∷ []) free (All-cons IsUnlisted 32 [] refl (All-nil IsUnlisted))
 
@@ -96,14 +96,14 @@ joined-free [] free = All-nil IsUnlisted
 joined-free (label ∷ labels) free =
     All-append IsUnlisted (codes ": ") (label ++ flat_map (λ l. codes ", " ++ l) labels) (sep-free 58 refl) (All-append IsUnlisted label (flat_map (λ l. codes ", " ++ l) labels) (All-head (All IsUnlisted) label labels free) (further-free labels (All-tail (All IsUnlisted) label labels free)))
 
-behind-free : (cause : Option (Snippet Annotation)) → All IsUnlisted (labels_of_cause cause)
-behind-free None = All-nil IsUnlisted
-behind-free (Some s) = joined-free (primary_labels s.markers.items) (primary-free s.markers.items)
+after-free : (cause : Option (Snippet Annotation)) → All IsUnlisted (labels_of_cause cause)
+after-free None = All-nil IsUnlisted
+after-free (Some s) = joined-free (primary_labels s.markers.items) (primary-free s.markers.items)
 
 digit-free : (c : ℕ) → IsDigit c → is_listed c ≡ false
 digit-free c is = grind (arith, nat_tests)
 
-origin-free : (anonymized : Bool) (path : List ℕ) (place : OriginPlace) → All IsUnlisted (origin_text anonymized path place)
+origin-free : (anonymized : Bool) (path : List ℕ) (place : OriginLocation) → All IsUnlisted (origin_text anonymized path place)
 unfolding origin_text
 origin-free anonymized path place =
     All-append IsUnlisted (norm (chars path)) (place_text anonymized place) (norm-free (chars path)) (place_text-each IsUnlisted digit-free refl refl anonymized place)
@@ -120,10 +120,10 @@ before-free r (Some s) = path-free r s (path_bytes s.path)
 
 -- ---- the first text begins with the text before the title
 
-first-text : (before label further behind : List ℕ) (lines : List (List ℕ)) → 0 < length lines → (rest : List ℕ) × (slice_index_or (with_end behind (texts_below (before ++ label) further lines)) 0 [] ≡ before ++ rest)
-first-text before label further behind [] some = absurd (omega (arith, some))
-first-text before label further behind (line ∷ lines) some =
-    (label ++ (line ++ behind), ap (λ t. t ++ behind) (append_assoc before label line) ∙ append_assoc before (label ++ line) behind ∙ ap (λ t. before ++ t) (append_assoc label line behind))
+first-text : (before label further after : List ℕ) (lines : List (List ℕ)) → 0 < length lines → (rest : List ℕ) × (slice_index_or (with_end after (texts_below (before ++ label) further lines)) 0 [] ≡ before ++ rest)
+first-text before label further after [] some = absurd (omega (arith, some))
+first-text before label further after (line ∷ lines) some =
+    (label ++ (line ++ after), ap (λ t. t ++ after) (append_assoc before label line) ∙ append_assoc before (label ++ line) after ∙ ap (λ t. before ++ t) (append_assoc label line after))
 
 -- ---- what a title links to
 
@@ -175,16 +175,16 @@ begins : (r : Renderer) (g : Group) (title : Title) (rows : List (List Cell)) �
 begins r g title rows are drawable s first path has some none =
     let lines : List KeptLine = annotated_lines s.fold (numbered_source s) s.markers.items in
     let can : IsDrawable s = subst (λ cause. IfSome cause IsDrawable) first (first_cause-drawable g drawable) in
-    let found = place_known (primary_place lines) (IsNamedPlace (numbered_source s) s.markers.items) (place-named s.fold (numbered_source s) s.markers.items lines can.spans refl some none) in
+    let found = place_known (primary_place lines) (IsLocation (numbered_source s) s.markers.items) (place-named s.fold (numbered_source s) s.markers.items lines can.spans refl some none) in
     let heading : Heading = heading_of_title title in
     let before : List ℕ = before_title r g in
-    let text = first-text before (label_text heading) (row_text (indent_cells style.Short (label_width heading))) (behind_title g) (heading_lines heading) (omega (arith, length-slice_split (λ c. c == 10) (drawn_text heading))) in
+    let text = first-text before (label_text heading) (row_text (indent_cells style.Short (label_width heading))) (after_title g) (heading_lines heading) (omega (arith, length-slice_split (λ c. c == 10) (shown_text heading))) in
     let named : before ≡ origin_text r.anonymized_origin_line_numbers path (place_found (Some found.0)) ++ codes ": " = ap (place_of_cause r) first ∙ ap (place_of_path r s) has ∙ ap (λ o. origin_text r.anonymized_origin_line_numbers path (place_found o) ++ codes ": ") found.1 in
     record {
       place = found.0;
       is = found.2;
       rest = text.0;
-      text = ap (λ (rs : List (List Cell)). row_text (row_at rs 0)) are ∙ short-texts r.hyperlink before (behind_title g) heading 0 ∙ text.1 ∙ ap (λ cs. cs ++ text.0) named ∙ append_assoc (origin_text r.anonymized_origin_line_numbers path (place_found (Some found.0))) (codes ": ") text.0;
+      text = ap (λ (rs : List (List Cell)). row_text (row_at rs 0)) are ∙ short-texts r.hyperlink before (after_title g) heading 0 ∙ text.1 ∙ ap (λ cs. cs ++ text.0) named ∙ append_assoc (origin_text r.anonymized_origin_line_numbers path (place_found (Some found.0))) (codes ": ") text.0;
     }
 
 -- the rows show the first group
@@ -193,9 +193,9 @@ rows-shown r g title rows are drawable =
     let heading : Heading = heading_of_title title in
     record {
       rows_are = are;
-      texts = λ i. ap (λ (rs : List (List Cell)). row_text (row_at rs i)) are ∙ short-texts r.hyperlink (before_title r g) (behind_title g) heading i;
+      texts = λ i. ap (λ (rs : List (List Cell)). row_text (row_at rs i)) are ∙ short-texts r.hyperlink (before_title r g) (after_title g) heading i;
       origin = begins r g title rows are drawable;
-      free = subst (All (IsFreeButText heading)) (sym are) (short-free r.hyperlink (before_title r g) (behind_title g) heading (before-free r (first_cause g.elements.items)) (behind-free (first_cause g.elements.items)));
+      free = subst (All (IsFreeButText heading)) (sym are) (short-free r.hyperlink (before_title r g) (after_title g) heading (before-free r (first_cause g.elements.items)) (after-free (first_cause g.elements.items)));
     }
 
 -- a text that prints the one grid
@@ -217,7 +217,7 @@ short-shown r groups grids sheets texts drawable page prints =
     let rows : List (List Cell) = page.grid.buffer in
     let can : IsGroupDrawable g = subst IsGroupDrawable (get_or_from_slice_get groups 0 g g page.first) (All-get_or IsGroupDrawable groups 0 g (slice_get_within groups 0 g page.first) drawable) in
     let shows : ShowsShort r g title rows = rows-shown r g title rows page.rows can in
-    let links : links_of rows ≡ short_links r groups = ap links_of page.rows ∙ short-links r.hyperlink (before_title r g) (behind_title g) heading ∙ first-links r groups g title page.first page.titled in
+    let links : links_of rows ≡ short_links r groups = ap links_of page.rows ∙ short-links r.hyperlink (before_title r g) (after_title g) heading ∙ first-links r groups g title page.first page.titled in
     let each : (sheet : Stylesheet) (text : List ℕ) → PrintsGrids sheet grids text → Prints sheet g.level rows text = λ sheet text given. prints-first sheet page.grid g.level text page.level (subst (λ gs. PrintsGrids sheet gs text) page.grids_are given) in
     record {
       group = g;

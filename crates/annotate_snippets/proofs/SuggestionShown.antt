@@ -26,7 +26,7 @@ use Rattle.annotate_snippets.specs.Rows.{origin_layout, patch_place, path_row, s
 use Rattle.annotate_snippets.specs.Shown.{ShowsSuggestion}
 use Rattle.annotate_snippets.specs.declared.renderer.Renderer.{Renderer}
 use Rattle.annotate_snippets.specs.declared.renderer.frame.Frame.{Frame}
-use Rattle.annotate_snippets.specs.declared.renderer.surroundings.Surroundings.{Surroundings}
+use Rattle.annotate_snippets.specs.declared.renderer.element_context.ElementContext.{ElementContext}
 use Rattle.annotate_snippets.proofs.ElementShown.{ElementShown}
 use Rattle.annotate_snippets.proofs.HeadingShown.{others-cells}
 use Rattle.annotate_snippets.proofs.SuggestionLemmas.{cells_of-named, lines_free, lines_offered-named, lines_removed-named, named_rows, rising_ascends, rows_named, source_text}
@@ -42,21 +42,21 @@ suggestion_head-free r frame start.Opening first s = All-nil IsFree
 suggestion_head-free r frame start.Next first s = All-nil IsFree
 suggestion_head-free r frame start.Path first s = path_row-free r frame first s (path_bytes s.path)
 
--- the rows of a suggestion show it, once they have names: behind the row of its path those of its lines
-pub suggestion_shown : (r : Renderer) (frame : Frame) (around : Surroundings) (s : Snippet Patch) (rows : List (List Cell)) → IsSuggestible s → s.markers.items ≢ [] → HasRoomFor r frame (Suggestion s) → IsSuggestionDrawn r frame around s rows → ElementShown r frame around (Suggestion s) rows
+-- the rows of a suggestion show it, once they have names: after the row of its path those of its lines
+pub suggestion_shown : (r : Renderer) (frame : Frame) (around : ElementContext) (s : Snippet Patch) (rows : List (List Cell)) → IsSuggestible s → s.markers.items ≢ [] → HasRoomFor r frame (Suggestion s) → IsSuggestionDrawn r frame around s rows → ElementShown r frame around (Suggestion s) rows
 suggestion_shown r frame around s rows suggestible some room drawn =
     let IsShown : SuggestionRow → List Cell → Type 0 = Shows (suggestion_layout r frame s) (s.line_start + first_given s) (given_lines s) in
     let own : AreSuggestionRows (suggestion_layout r frame s) s drawn.lines = drawn.are in
     let head : List (List Cell) = suggestion_head r frame around s in
     let removed : List ℕ = removed_lines s in
-    let behind : List NamedRow = named_rows (first_given s) own.shown removed drawn.lines in
+    let after : List NamedRow = named_rows (first_given s) own.shown removed drawn.lines in
     let same : map (λ k. first_given s + k) (numbers_offered own.shown) ≡ offered_lines s = ap (map (λ k. first_given s + k)) own.numbers in
-    let lines : lines_offered behind ≡ offered_lines s = lines_offered-named IsShown (first_given s) own.shown removed drawn.lines own.are ∙ same in
+    let lines : lines_offered after ≡ offered_lines s = lines_offered-named IsShown (first_given s) own.shown removed drawn.lines own.are ∙ same in
     let end : ℕ = first_given s + length (given_lines s) in
-    let cells : cells_of (others head ++ behind) ≡ rows = map-append (λ (row : NamedRow). row.cells) (others head) behind ∙ ap (λ rs. rs ++ cells_of behind) (others-cells head) ∙ ap (λ rs. head ++ rs) (cells_of-named IsShown (first_given s) own.shown removed drawn.lines own.are) ∙ sym drawn.rows_are in
+    let cells : cells_of (others head ++ after) ≡ rows = map-append (λ (row : NamedRow). row.cells) (others head) after ∙ ap (λ rs. rs ++ cells_of after) (others-cells head) ∙ ap (λ rs. head ++ rs) (cells_of-named IsShown (first_given s) own.shown removed drawn.lines own.are) ∙ sym drawn.rows_are in
     let free : All IsFree rows = subst (All IsFree) (sym drawn.rows_are) (All-append IsFree head drawn.lines (suggestion_head-free r frame around.start around.first s) (lines_free r frame s own.shown drawn.lines own.are)) in
-    let shows : ShowsSuggestion r frame around s (others head ++ behind) = record {
-      behind = behind;
+    let shows : ShowsSuggestion r frame around s (others head ++ after) = record {
+      after = after;
       rows_are = refl;
       offered = λ offerable j touched visible. elim (touched-offered s suggestible.spans suggestible.disjoint offerable j touched visible) [
         | inl as_it_was ↦ inl as_it_was
@@ -68,8 +68,8 @@ suggestion_shown r frame around s rows suggestible some room drawn =
       named = rows_named r frame s suggestible some (first_given s) own.shown removed drawn.lines (subst (AreRising (first_given s) end) (sym same) (offered-ascends s)) own.removed own.are;
     } in
     record {
-      part = others head ++ behind;
+      part = others head ++ after;
       cells = cells;
       shows = shows;
-      free = All-unmapped IsFree (λ (row : NamedRow). row.cells) (others head ++ behind) (subst (All IsFree) (sym cells) free);
+      free = All-unmapped IsFree (λ (row : NamedRow). row.cells) (others head ++ after) (subst (All IsFree) (sym cells) free);
     }

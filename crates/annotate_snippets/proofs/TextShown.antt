@@ -15,10 +15,10 @@ use Rattle.snippet_model.specs.declared.snippet.Element.{Element}
 use Rattle.snippet_model.specs.declared.snippet.Element.TheVariants.{Message, Cause, Suggestion, Origin, Padding}
 use Rattle.snippet_model.specs.declared.snippet.Group.{Group}
 use Rattle.snippet_model.specs.declared.snippet.Title.{Title}
-use Rattle.snippet_titles.specs.Heading.{drawn_text}
+use Rattle.snippet_titles.specs.Heading.{shown_text}
 use Rattle.snippet_titles.specs.Title.{id_links}
 use Rattle.snippet_text_form.specs.Cause.{cause_form}
-use Rattle.snippet_text_form.specs.Form.{FormPiece, begun_behind, form_bytes, form_links, form_text, piece_links, plain_from}
+use Rattle.snippet_text_form.specs.Form.{FormPiece, begun_after, form_bytes, form_links, form_text, piece_links, plain_from}
 use Rattle.snippet_text_form.specs.Heading.{heading_form}
 use Rattle.snippet_text_form.specs.Order.{StandInOrder}
 use Rattle.snippet_text_form.specs.Suggestion.{origin_form, suggestion_form}
@@ -30,7 +30,7 @@ use Rattle.snippet_text_form.proofs.OrderLaws.{cause-holds, heading-holds, plain
 use Rattle.annotate_snippets.specs.Around.{drawn_elements, file_of_group, first_two_share, is_drawn}
 use Rattle.annotate_snippets.specs.Forms.{TextShown}
 use Rattle.annotate_snippets.specs.Shown.{IsFreeBut, report_links}
-use Rattle.annotate_snippets.specs.TextForm.{Before, before_next, element_form, element_texts, elements_form, group_form, group_texts, report_texts, suggestion_place, text_form, whole_text}
+use Rattle.annotate_snippets.specs.TextForm.{PreviousSuggestion, before_next, element_form, element_texts, elements_form, group_form, group_texts, report_texts, suggestion_place, text_form, whole_text}
 use Rattle.annotate_snippets.specs.declared.renderer.Renderer.{Renderer}
 use Rattle.annotate_snippets.proofs.FormSteps.{title_form}
 use Rattle.annotate_snippets.proofs.PrintLemmas.{AllZip-weaker}
@@ -50,20 +50,20 @@ drawn_texts (Suggestion s ∷ es) = by (is_drawn (Suggestion s)) ∙ drawn_texts
 drawn_texts (Origin o ∷ es) = drawn_texts es
 drawn_texts (Padding p ∷ es) = drawn_texts es
 
--- the plain characters of two text forms, one behind the other, have what both have
-behind : (P : List ℕ → Type 0) (begun : Bool) (a b : List FormPiece) → P (plain_from begun a ++ plain_from (begun_behind begun (plain_from begun a)) b) → P (plain_from begun (a ++ b))
-behind P begun a b holds = subst P (sym (plain-append begun a b)) holds
+-- the plain characters of two text forms, one after the other, have what both have
+after : (P : List ℕ → Type 0) (begun : Bool) (a b : List FormPiece) → P (plain_from begun a ++ plain_from (begun_after begun (plain_from begun a)) b) → P (plain_from begun (a ++ b))
+after P begun a b holds = subst P (sym (plain-append begun a b)) holds
 
 both_hold : (ps qs : List (List ℕ)) (begun : Bool) (a b : List FormPiece) → ((begun : Bool) → StandInOrder ps (plain_from begun a)) → ((begun : Bool) → StandInOrder qs (plain_from begun b)) → StandInOrder (ps ++ qs) (plain_from begun (a ++ b))
 both_hold ps qs begun a b first second =
-    behind (StandInOrder (ps ++ qs)) begun a b (stand-append ps qs (plain_from begun a) (plain_from (begun_behind begun (plain_from begun a)) b) (first begun) (second (begun_behind begun (plain_from begun a))))
+    after (StandInOrder (ps ++ qs)) begun a b (stand-append ps qs (plain_from begun a) (plain_from (begun_after begun (plain_from begun a)) b) (first begun) (second (begun_after begun (plain_from begun a))))
 
 both_free : (trusted : List (List ℕ)) (begun : Bool) (a b : List FormPiece) → ((begun : Bool) → IsFreeBut trusted (plain_from begun a)) → ((begun : Bool) → IsFreeBut trusted (plain_from begun b)) → IsFreeBut trusted (plain_from begun (a ++ b))
 both_free trusted begun a b first second =
-    behind (IsFreeBut trusted) begun a b (All-append (IsTrusted trusted) (plain_from begun a) (plain_from (begun_behind begun (plain_from begun a)) b) (first begun) (second (begun_behind begun (plain_from begun a))))
+    after (IsFreeBut trusted) begun a b (All-append (IsTrusted trusted) (plain_from begun a) (plain_from (begun_after begun (plain_from begun a)) b) (first begun) (second (begun_after begun (plain_from begun a))))
 
 -- the links of an element, of elements and of a group
-element_links : (r : Renderer) (file : Option (List ℕ)) (before : Option Before) (followed : Bool) (e : Element) → form_links (element_form r file before followed e) ≡ []
+element_links : (r : Renderer) (file : Option (List ℕ)) (before : Option PreviousSuggestion) (followed : Bool) (e : Element) → form_links (element_form r file before followed e) ≡ []
 element_links r file before followed (Message m) =
     heading-links r.hyperlink kind.Message (heading_of_message m)
 element_links r file before followed (Cause s) = cause-links r.anonymized_origin_line_numbers s
@@ -72,7 +72,7 @@ element_links r file before followed (Suggestion s) =
 element_links r file before followed (Origin o) = origin-links r.anonymized_origin_line_numbers o
 element_links r file before followed (Padding p) = refl
 
-elements_links : (r : Renderer) (file : Option (List ℕ)) (before : Option Before) (es : List Element) → form_links (elements_form r file before es) ≡ []
+elements_links : (r : Renderer) (file : Option (List ℕ)) (before : Option PreviousSuggestion) (es : List Element) → form_links (elements_form r file before es) ≡ []
 elements_links r file before [] = refl
 elements_links r file before (e ∷ es) =
     let own : List FormPiece = element_form r file before (first_two_share (e ∷ es)) e in
@@ -99,13 +99,13 @@ groups_links r groups (g ∷ gs) =
 
 -- which texts stand in a heading, in an element, in elements and in a group
 heading_holds : (begun hyperlink : Bool) (of : HeadingKind) (heading : Heading) → StandInOrder (whole_text heading) (plain_from begun (heading_form hyperlink of heading))
-heading_holds begun hyperlink of heading = by (list_any (λ c. c == 10) (drawn_text heading)) refl
+heading_holds begun hyperlink of heading = by (list_any (λ c. c == 10) (shown_text heading)) refl
   where
-    by : (fed : Bool) → list_any (λ c. c == 10) (drawn_text heading) ≡ fed → StandInOrder (if not fed then drawn_text heading ∷ [] else []) (plain_from begun (heading_form hyperlink of heading))
+    by : (fed : Bool) → list_any (λ c. c == 10) (shown_text heading) ≡ fed → StandInOrder (if not fed then shown_text heading ∷ [] else []) (plain_from begun (heading_form hyperlink of heading))
     by true is = tt
     by false is = heading-holds begun hyperlink of heading is
 
-element_holds : (r : Renderer) (file : Option (List ℕ)) (before : Option Before) (followed : Bool) (e : Element) (begun : Bool) → StandInOrder (element_texts e) (plain_from begun (element_form r file before followed e))
+element_holds : (r : Renderer) (file : Option (List ℕ)) (before : Option PreviousSuggestion) (followed : Bool) (e : Element) (begun : Bool) → StandInOrder (element_texts e) (plain_from begun (element_form r file before followed e))
 element_holds r file before followed (Message m) begun =
     heading_holds begun r.hyperlink kind.Message (heading_of_message m)
 element_holds r file before followed (Cause s) begun =
@@ -114,7 +114,7 @@ element_holds r file before followed (Suggestion s) begun = tt
 element_holds r file before followed (Origin o) begun = tt
 element_holds r file before followed (Padding p) begun = tt
 
-elements_hold : (r : Renderer) (file : Option (List ℕ)) (before : Option Before) (es : List Element) (begun : Bool) → StandInOrder (flat_map element_texts es) (plain_from begun (elements_form r file before es))
+elements_hold : (r : Renderer) (file : Option (List ℕ)) (before : Option PreviousSuggestion) (es : List Element) (begun : Bool) → StandInOrder (flat_map element_texts es) (plain_from begun (elements_form r file before es))
 elements_hold r file before [] begun = tt
 elements_hold r file before (e ∷ es) begun =
     both_hold (element_texts e) (flat_map element_texts es) begun (element_form r file before (first_two_share (e ∷ es)) e) (elements_form r file (before_next before e) es) (element_holds r file before (first_two_share (e ∷ es)) e) (elements_hold r file (before_next before e) es)
@@ -134,7 +134,7 @@ groups_hold r groups (g ∷ gs) begun =
     both_hold (group_texts g) (report_texts gs) begun (group_form r groups g) (flat_map (group_form r groups) gs) (group_holds r groups g) (groups_hold r groups gs)
 
 -- each listed character of an element, of elements and of a group is one of a trusted text
-element_free : (trusted : List (List ℕ)) (r : Renderer) (file : Option (List ℕ)) (before : Option Before) (followed : Bool) (e : Element) → AreTextsAmong trusted (trusted_of_element e) → (begun : Bool) → IsFreeBut trusted (plain_from begun (element_form r file before followed e))
+element_free : (trusted : List (List ℕ)) (r : Renderer) (file : Option (List ℕ)) (before : Option PreviousSuggestion) (followed : Bool) (e : Element) → AreTextsAmong trusted (trusted_of_element e) → (begun : Bool) → IsFreeBut trusted (plain_from begun (element_form r file before followed e))
 element_free trusted r file before followed (Message m) among begun =
     own_text trusted (heading_of_message m) (λ styled. message_among trusted m among) (plain_from begun (heading_form r.hyperlink kind.Message (heading_of_message m))) (heading-free begun r.hyperlink kind.Message (heading_of_message m))
 element_free trusted r file before followed (Cause s) among begun =
@@ -145,7 +145,7 @@ element_free trusted r file before followed (Origin o) among begun =
     unlisted_text trusted (plain_from begun (origin_form r.anonymized_origin_line_numbers o)) (origin-free begun r.anonymized_origin_line_numbers o)
 element_free trusted r file before followed (Padding p) among begun = All-nil (IsTrusted trusted)
 
-elements_free : (trusted : List (List ℕ)) (r : Renderer) (file : Option (List ℕ)) (before : Option Before) (es : List Element) → All (λ e. AreTextsAmong trusted (trusted_of_element e)) es → (begun : Bool) → IsFreeBut trusted (plain_from begun (elements_form r file before es))
+elements_free : (trusted : List (List ℕ)) (r : Renderer) (file : Option (List ℕ)) (before : Option PreviousSuggestion) (es : List Element) → All (λ e. AreTextsAmong trusted (trusted_of_element e)) es → (begun : Bool) → IsFreeBut trusted (plain_from begun (elements_form r file before es))
 elements_free trusted r file before [] among begun = All-nil (IsTrusted trusted)
 elements_free trusted r file before (e ∷ es) among begun =
     let Among : Element → Type 0 = λ x. AreTextsAmong trusted (trusted_of_element x) in

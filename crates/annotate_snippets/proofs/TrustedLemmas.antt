@@ -22,12 +22,12 @@ use Rattle.snippet_titles.proofs.FreeLemmas.{heading_rows-free}
 use Rattle.snippet_titles.proofs.OriginFree.{closing_row-free, separator_row-free}
 use Rattle.annotate_snippets.specs.Around.{is_before_message}
 use Rattle.annotate_snippets.specs.Page.{NamedRow, cells_of}
-use Rattle.annotate_snippets.specs.Rows.{closing_rows, rows_behind_title, separator_rows, title_part}
+use Rattle.annotate_snippets.specs.Rows.{closing_rows, rows_after_title, separator_rows, title_part}
 use Rattle.annotate_snippets.specs.Shown.{IsFreeBut, IsFreeElement}
 use Rattle.annotate_snippets.specs.declared.renderer.Renderer.{Renderer}
 use Rattle.annotate_snippets.specs.declared.renderer.frame.Frame.{Frame}
-use Rattle.annotate_snippets.specs.declared.renderer.surroundings.GroupPlace.{GroupPlace}
-use Rattle.annotate_snippets.specs.declared.renderer.surroundings.Next.{Next}
+use Rattle.annotate_snippets.specs.declared.renderer.element_context.GroupPosition.{GroupPosition}
+use Rattle.annotate_snippets.specs.declared.renderer.element_context.Next.{Next}
 
 -- a character that isn't listed, or is one of a trusted text
 abbrev pub IsTrusted : List (List ℕ) → ℕ → Type 0
@@ -89,8 +89,8 @@ pub message_among : (trusted : List (List ℕ)) (message : MessageGiven) → Are
 message_among trusted message among c is = among c (Contains-append_left (chars (cow_str_bytes message.text)) [] c is)
 
 -- the rows below a title
-pub behind_title-free : (r : Renderer) (frame : Frame) (place : GroupPlace) (follows : Next) (trusted : Bool) → All IsFree (rows_behind_title r frame place follows trusted)
-behind_title-free r frame place follows trusted = by (is_before_message follows) _
+pub after_title-free : (r : Renderer) (frame : Frame) (place : GroupPosition) (follows : Next) (trusted : Bool) → All IsFree (rows_after_title r frame place follows trusted)
+after_title-free r frame place follows trusted = by (is_before_message follows) _
   where
     closing : (closes : Bool) → All IsFree (if closes then closing_rows r frame else [])
     closing true = All-cons IsFree _ [] (closing_row-free r.decor_style frame.gutter) (All-nil IsFree)
@@ -101,13 +101,13 @@ behind_title-free r frame place follows trusted = by (is_before_message follows)
     by false closes = closing closes
 
 -- the listed characters of a title's part of a group are of its trusted text
-pub title_part-free : (r : Renderer) (frame : Frame) (place : GroupPlace) (follows : Next) (title : Option Title) (more : List (List ℕ)) → All (IsFreeRow (flat_map trusted_of_title (option_to_list title) ++ more)) (title_part r frame place follows title)
+pub title_part-free : (r : Renderer) (frame : Frame) (place : GroupPosition) (follows : Next) (title : Option Title) (more : List (List ℕ)) → All (IsFreeRow (flat_map trusted_of_title (option_to_list title) ++ more)) (title_part r frame place follows title)
 title_part-free r frame place follows None more = All-nil (IsFreeRow more)
 title_part-free r frame place follows (Some title) more =
     let trusted : List (List ℕ) = flat_map trusted_of_title (title ∷ []) ++ more in
     let own : List (List Cell) = title_rows r.hyperlink title in
-    let behind : List (List Cell) = rows_behind_title r frame place follows title.allows_styling in
-    All-append (IsFreeRow trusted) own behind (All-weaker (IsFreeButText (heading_of_title title)) (IsFreeRow trusted) (own_row trusted (heading_of_title title) (title_among title more)) own (heading_rows-free r.hyperlink style.Title (heading_of_title title))) (free_rows trusted behind (behind_title-free r frame place follows title.allows_styling))
+    let after : List (List Cell) = rows_after_title r frame place follows title.allows_styling in
+    All-append (IsFreeRow trusted) own after (All-weaker (IsFreeButText (heading_of_title title)) (IsFreeRow trusted) (own_row trusted (heading_of_title title) (title_among title more)) own (heading_rows-free r.hyperlink style.Title (heading_of_title title))) (free_rows trusted after (after_title-free r frame place follows title.allows_styling))
 
 -- so are those of the rows of an element whose trusted texts are among these
 pub element-free : (trusted : List (List ℕ)) (e : Element) (part : List NamedRow) → AreTextsAmong trusted (trusted_of_element e) → IsFreeElement e part → All (IsFreeRow trusted) (cells_of part)
@@ -125,10 +125,10 @@ element-free trusted (Padding padding) part among free =
 -- the trusted texts of each of some elements are among those of all
 pub texts_among : (titles : List (List ℕ)) (es : List Element) → All (λ e. AreTextsAmong (titles ++ flat_map trusted_of_element es) (trusted_of_element e)) es
 texts_among titles es =
-    All-weaker (λ e. AreTextsAmong (flat_map trusted_of_element es) (trusted_of_element e)) (λ e. AreTextsAmong (titles ++ flat_map trusted_of_element es) (trusted_of_element e)) (λ e among c is. behind c (among c is)) es (each es)
+    All-weaker (λ e. AreTextsAmong (flat_map trusted_of_element es) (trusted_of_element e)) (λ e. AreTextsAmong (titles ++ flat_map trusted_of_element es) (trusted_of_element e)) (λ e among c is. after c (among c is)) es (each es)
   where
-    behind : (c : ℕ) → Contains (flat_map chars (flat_map trusted_of_element es)) c → Contains (flat_map chars (titles ++ flat_map trusted_of_element es)) c
-    behind c is =
+    after : (c : ℕ) → Contains (flat_map chars (flat_map trusted_of_element es)) c → Contains (flat_map chars (titles ++ flat_map trusted_of_element es)) c
+    after c is =
         subst (λ cs. Contains cs c) (sym (flat_map-append chars titles (flat_map trusted_of_element es))) (Contains-append_right (flat_map chars titles) (flat_map chars (flat_map trusted_of_element es)) c is)
 
     each : (xs : List Element) → All (λ e. AreTextsAmong (flat_map trusted_of_element xs) (trusted_of_element e)) xs

@@ -13,11 +13,11 @@ use Rattle.snippet_model.specs.declared.snippet.Patch.{Patch}
 use Rattle.snippet_model.specs.declared.snippet.Snippet.{Snippet}
 use Rattle.snippet_suggest.specs.declared.SuggestionStart.{SuggestionStart}
 use Rattle.snippet_suggest.specs.declared.SuggestionStart.TheVariants as start
-use Rattle.annotate_snippets.specs.declared.renderer.surroundings.GroupPlace.{GroupPlace}
-use Rattle.annotate_snippets.specs.declared.renderer.surroundings.GroupPlace.TheVariants as place
-use Rattle.annotate_snippets.specs.declared.renderer.surroundings.Next.{Next}
-use Rattle.annotate_snippets.specs.declared.renderer.surroundings.Next.TheVariants as next
-use Rattle.annotate_snippets.specs.declared.renderer.surroundings.Surroundings.{Surroundings}
+use Rattle.annotate_snippets.specs.declared.renderer.element_context.GroupPosition.{GroupPosition}
+use Rattle.annotate_snippets.specs.declared.renderer.element_context.GroupPosition.TheVariants as place
+use Rattle.annotate_snippets.specs.declared.renderer.element_context.Next.{Next}
+use Rattle.annotate_snippets.specs.declared.renderer.element_context.Next.TheVariants as next
+use Rattle.annotate_snippets.specs.declared.renderer.element_context.ElementContext.{ElementContext}
 
 -- whether an element is drawn: a snippet of patches without patches is left out, as if it weren't there
 abbrev pub is_drawn : Element → Bool
@@ -102,14 +102,14 @@ start_of file shares (Suggestion s) =
     if shares then start.Next else (if is_other_file file (path_bytes s.path) then start.Path else start.Opening)
 start_of file shares other = start.Opening
 
--- what follows, given the elements behind: nothing, a message, or another element
+-- what follows, given the elements after it: nothing, a message, or another element
 abbrev pub next_of : List Element → Next
 next_of [] = next.Nothing
 next_of (e ∷ es) = if is_message e then next.Message else next.Other
 
 -- what stands around an element that is drawn, element i of these, in a group that stands there and whose file this is
-abbrev pub surroundings_at : GroupPlace → Option (List ℕ) → List Element → ℕ → Element → Surroundings
-surroundings_at place file es i e =
+abbrev pub context_at : GroupPosition → Option (List ℕ) → List Element → ℕ → Element → ElementContext
+context_at place file es i e =
     record {
       place = place;
       first = i == 0;
@@ -120,16 +120,16 @@ surroundings_at place file es i e =
     }
 
 -- where group i of so many stands
-abbrev pub place_at : ℕ → ℕ → GroupPlace
+abbrev pub place_at : ℕ → ℕ → GroupPosition
 place_at count i = if count == 1 then place.Only else (if i == 0 then place.First else place.Later)
 
 -- whether a group is its report's first, and whether it is the first of several
-abbrev pub is_first_group : GroupPlace → Bool
+abbrev pub is_first_group : GroupPosition → Bool
 is_first_group place.Only = true
 is_first_group place.First = true
 is_first_group place.Later = false
 
-abbrev pub is_first_of_several : GroupPlace → Bool
+abbrev pub is_first_of_several : GroupPosition → Bool
 is_first_of_several place.Only = false
 is_first_of_several place.First = true
 is_first_of_several place.Later = false
@@ -145,13 +145,13 @@ is_before_message next.Nothing = false
 is_before_message next.Message = true
 is_before_message next.Other = false
 
--- whether the group's window closes with the last row of an element's lines; and whether it closes behind its rows, since
+-- whether the group's window closes with the last row of an element's lines; and whether it closes after its rows, since
 -- another group follows, below which it doesn't go on
-abbrev pub closes_with : Surroundings → Bool
+abbrev pub closes_with : ElementContext → Bool
 closes_with around = is_end around.next && not (is_first_of_several around.place)
 
-abbrev pub closes_behind : Surroundings → Bool
-closes_behind around = is_end around.next && is_first_of_several around.place
+abbrev pub closes_after : ElementContext → Bool
+closes_after around = is_end around.next && is_first_of_several around.place
 
 -- whether an element begins in the last row of the one before it
 abbrev pub is_next_start : SuggestionStart → Bool
@@ -159,7 +159,7 @@ is_next_start start.Opening = false
 is_next_start start.Next = true
 is_next_start start.Path = false
 
-abbrev pub begins_in_row_above : Surroundings → Bool
+abbrev pub begins_in_row_above : ElementContext → Bool
 begins_in_row_above around = is_next_start around.start
 
 -- a suggestion that begins below its path has one
@@ -168,6 +168,6 @@ HasPathFor at s = at ≡ start.Path → is_some (path_bytes s.path) ≡ true
 
 -- what stands around an element is such that it can be drawn there: no element but a suggestion begins in the row above it, or has
 -- the next one begin in its last row
-abbrev pub CanStandIn : Surroundings → Element → Type 0
+abbrev pub CanStandIn : ElementContext → Element → Type 0
 CanStandIn around (Suggestion s) = HasPathFor around.start s
 CanStandIn around other = (begins_in_row_above around ≡ false) × (around.shared ≡ false)

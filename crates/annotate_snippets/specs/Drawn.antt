@@ -24,11 +24,11 @@ use Rattle.snippet_titles.specs.Origin.{padding_row}
 use Rattle.annotate_snippets.specs.declared.renderer.Renderer.{Renderer}
 use Rattle.annotate_snippets.specs.declared.renderer.frame.Frame.{Frame}
 use Rattle.annotate_snippets.specs.declared.renderer.graphic.GroupGrid.{GroupGrid}
-use Rattle.annotate_snippets.specs.declared.renderer.surroundings.GroupPlace.{GroupPlace}
-use Rattle.annotate_snippets.specs.declared.renderer.surroundings.Surroundings.{Surroundings}
-use Rattle.annotate_snippets.specs.Around.{closes_with, drawn_elements, file_of_group, is_end, next_of, place_at, surroundings_at}
-use Rattle.annotate_snippets.specs.Gutter.{code_behind, depth_of_element, frame_of, line_numbers, numbered_source, width_wanted}
-use Rattle.annotate_snippets.specs.Rows.{cause_head, message_rows, origin_rows, rows_behind_cause, suggestion_head, title_part}
+use Rattle.annotate_snippets.specs.declared.renderer.element_context.GroupPosition.{GroupPosition}
+use Rattle.annotate_snippets.specs.declared.renderer.element_context.ElementContext.{ElementContext}
+use Rattle.annotate_snippets.specs.Around.{closes_with, drawn_elements, file_of_group, is_end, next_of, place_at, context_at}
+use Rattle.annotate_snippets.specs.Gutter.{code_after, depth_of_element, frame_of, line_numbers, numbered_source, width_wanted}
+use Rattle.annotate_snippets.specs.Rows.{cause_head, message_rows, origin_rows, rows_after_cause, suggestion_head, title_part}
 use Rattle.snippet_model.specs.declared.snippet.Title.{Title}
 use Rattle.snippet_grid.specs.Woven.{IsWoven}
 use Rattle.snippet_style.specs.declared.stylesheet.Stylesheet.{Stylesheet}
@@ -64,12 +64,12 @@ pub record AddsCauseLines (r : Renderer) (frame : Frame) (closes : Bool) (s : Sn
   pub are : AreCauseRows r frame closes s rows
 
 -- the rows of an annotated snippet: those that it begins with, those of its lines, and what stands below
-pub record IsCauseDrawn (r : Renderer) (frame : Frame) (around : Surroundings) (s : Snippet Annotation) (rows : List (List Cell)) : Type 0 where
+pub record IsCauseDrawn (r : Renderer) (frame : Frame) (around : ElementContext) (s : Snippet Annotation) (rows : List (List Cell)) : Type 0 where
   pub lines : List (List Cell)
-  pub rows_are : rows ≡ cause_head r frame around s ++ (lines ++ rows_behind_cause r frame around)
+  pub rows_are : rows ≡ cause_head r frame around s ++ (lines ++ rows_after_cause r frame around)
   pub are : AreCauseRows r frame (closes_with around) s lines
 
-pub record AddsCause (r : Renderer) (frame : Frame) (around : Surroundings) (s : Snippet Annotation) (old new : List (List Cell)) : Type 0 where
+pub record AddsCause (r : Renderer) (frame : Frame) (around : ElementContext) (s : Snippet Annotation) (old new : List (List Cell)) : Type 0 where
   pub rows : List (List Cell)
   pub added : new ≡ old ++ rows
   pub is : IsCauseDrawn r frame around s rows
@@ -88,13 +88,13 @@ pub record AreSuggestionRows (layout : SuggestionLayout) (s : Snippet Patch) (ro
   pub removed : texts_removed shown ≡ removed_texts s
 
 -- the rows of a suggestion: that of its path, where it names that, and those of its lines
-pub record IsSuggestionDrawn (r : Renderer) (frame : Frame) (around : Surroundings) (s : Snippet Patch) (rows : List (List Cell)) : Type 0 where
+pub record IsSuggestionDrawn (r : Renderer) (frame : Frame) (around : ElementContext) (s : Snippet Patch) (rows : List (List Cell)) : Type 0 where
   pub lines : List (List Cell)
   pub rows_are : rows ≡ suggestion_head r frame around s ++ lines
   pub are : AreSuggestionRows (suggestion_layout r frame s) s lines
 
 -- the rows of an element
-abbrev pub IsElementDrawn : Renderer → Frame → Surroundings → Element → List (List Cell) → Type 0
+abbrev pub IsElementDrawn : Renderer → Frame → ElementContext → Element → List (List Cell) → Type 0
 IsElementDrawn r frame around (Message message) rows = rows ≡ message_rows r frame around message
 IsElementDrawn r frame around (Cause snippet) rows = IsCauseDrawn r frame around snippet rows
 IsElementDrawn r frame around (Suggestion snippet) rows = IsSuggestionDrawn r frame around snippet rows
@@ -103,7 +103,7 @@ IsElementDrawn r frame around (Padding padding) rows =
     rows ≡ padding_row r.decor_style frame.gutter (is_end around.next) ∷ []
 
 -- the rows of an element stand below some rows, and nothing else, but the row in which the next one begins, where it shares that
-pub record AddsElement (r : Renderer) (frame : Frame) (around : Surroundings) (e : Element) (above new : List (List Cell)) : Type 0 where
+pub record AddsElement (r : Renderer) (frame : Frame) (around : ElementContext) (e : Element) (above new : List (List Cell)) : Type 0 where
   pub rows : List (List Cell)
   pub tail : List (List Cell)
   pub added : new ≡ above ++ (rows ++ tail)
@@ -111,25 +111,25 @@ pub record AddsElement (r : Renderer) (frame : Frame) (around : Surroundings) (e
   pub ends : IsTail r.decor_style frame.gutter around.shared tail
 
 -- each of these parts is the rows of one of these elements, which are all that a group draws, in order
-pub record AreElementsDrawn (r : Renderer) (frame : Frame) (place : GroupPlace) (file : Option (List ℕ)) (es : List Element) (parts : List (List (List Cell))) : Type 0 where
+pub record AreElementsDrawn (r : Renderer) (frame : Frame) (place : GroupPosition) (file : Option (List ℕ)) (es : List Element) (parts : List (List (List Cell))) : Type 0 where
   pub count : length parts ≡ length es
-  pub each : (i : ℕ) (e : Element) → slice_get es i ≡ Some e → IsElementDrawn r frame (surroundings_at place file es i e) e (slice_index_or parts i [])
+  pub each : (i : ℕ) (e : Element) → slice_get es i ≡ Some e → IsElementDrawn r frame (context_at place file es i e) e (slice_index_or parts i [])
 
 -- the rows of these elements stand below some rows, and nothing else
-pub record AddsElements (r : Renderer) (frame : Frame) (place : GroupPlace) (file : Option (List ℕ)) (es : List Element) (old new : List (List Cell)) : Type 0 where
+pub record AddsElements (r : Renderer) (frame : Frame) (place : GroupPosition) (file : Option (List ℕ)) (es : List Element) (old new : List (List Cell)) : Type 0 where
   pub parts : List (List (List Cell))
   pub added : new ≡ old ++ flat_map (λ part. part) parts
   pub are : AreElementsDrawn r frame place file es parts
 
--- the frame has room for an element: its gutter for the number that it counts, and the part behind the gutter for its bars
+-- the frame has room for an element: its gutter for the number that it counts, and the part after the gutter for its bars
 pub record HasRoomFor (r : Renderer) (frame : Frame) (e : Element) : Type 0 where
   pub small : frame.gutter ≤ 20
   pub anonymized : r.anonymized_snippet_line_numbers ≡ true → 2 ≤ frame.gutter
   pub numbers : r.anonymized_snippet_line_numbers ≡ false → width_wanted e ≤ frame.gutter
-  pub bars : code_behind frame.gutter (depth_of_element e) ≤ frame.code
+  pub bars : code_after frame.gutter (depth_of_element e) ≤ frame.code
 
 -- the grid of a group: its title, and its elements below it
-pub record IsGroupGrid (r : Renderer) (frame : Frame) (place : GroupPlace) (file : Option (List ℕ)) (g : Group) (rows : List (List Cell)) : Type 0 where
+pub record IsGroupGrid (r : Renderer) (frame : Frame) (place : GroupPosition) (file : Option (List ℕ)) (g : Group) (rows : List (List Cell)) : Type 0 where
   pub parts : List (List (List Cell))
   pub rows_are : rows ≡ title_part r frame place (next_of (drawn_elements g)) g.title ++ flat_map (λ part. part) parts
   pub are : AreElementsDrawn r frame place file (drawn_elements g) parts

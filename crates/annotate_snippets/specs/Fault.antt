@@ -45,9 +45,9 @@ number_faults group element number =
 abbrev pub end_faults : ℕ → ℕ → Option ℕ → List RenderError
 end_faults group element end = if is_some end then [] else LineNumberTooLarge group element ∷ []
 
--- the number behind that of a source's last line
-abbrev pub number_behind : ℕ → List ℕ → ℕ
-number_behind line_start source = line_start + length (source_lines source)
+-- the number after that of a source's last line
+abbrev pub number_after_lines : ℕ → List ℕ → ℕ
+number_after_lines line_start source = line_start + length (source_lines source)
 
 -- how many lines some patches may add: the line feeds of their replacements
 abbrev pub added_lines : List Patch → ℕ
@@ -61,9 +61,9 @@ overlap_faults group element patches =
 -- the refusals of an element: those of its spans in order, then that of patches that overlap, then that of its line numbers
 abbrev pub element_faults : ℕ → ℕ → Element → List RenderError
 element_faults group element (Cause snippet) =
-    faults_from (λ n a. span_faults group element (cow_str_bytes snippet.source) n a.span) 0 snippet.markers.items ++ number_faults group element (number_behind snippet.line_start (cow_str_bytes snippet.source))
+    faults_from (λ n a. span_faults group element (cow_str_bytes snippet.source) n a.span) 0 snippet.markers.items ++ number_faults group element (number_after_lines snippet.line_start (cow_str_bytes snippet.source))
 element_faults group element (Suggestion snippet) =
-    faults_from (λ n p. span_faults group element (cow_str_bytes snippet.source) n p.span) 0 snippet.markers.items ++ overlap_faults group element snippet.markers.items ++ number_faults group element (number_behind snippet.line_start (cow_str_bytes snippet.source) + added_lines snippet.markers.items)
+    faults_from (λ n p. span_faults group element (cow_str_bytes snippet.source) n p.span) 0 snippet.markers.items ++ overlap_faults group element snippet.markers.items ++ number_faults group element (number_after_lines snippet.line_start (cow_str_bytes snippet.source) + added_lines snippet.markers.items)
 element_faults group element (Message message) = []
 element_faults group element (Origin origin) = []
 element_faults group element (Padding padding) = []

@@ -10,8 +10,8 @@ use Rattle.snippet_model.specs.declared.snippet.Snippet.{Snippet}
 use Rattle.snippet_model.specs.declared.snippet.Title.{Title}
 use Rattle.snippet_view.specs.Annotated.{is_long}
 use Rattle.snippet_view.specs.Mark.{is_marking}
-use Rattle.snippet_view.specs.NamedPlace.{IsNamedPlace}
-use Rattle.snippet_view.specs.declared.named_place.NamedPlace.{NamedPlace}
+use Rattle.snippet_view.specs.Location.{IsLocation}
+use Rattle.snippet_view.specs.declared.location.Location.{Location}
 use Rattle.snippet_grid.specs.Grid.{row_at}
 use Rattle.snippet_style.specs.Cell.{Cell}
 use Rattle.snippet_grid.specs.Print.{plain_text, row_text}
@@ -27,7 +27,7 @@ use Rattle.annotate_snippets.specs.Around.{path_bytes}
 use Rattle.annotate_snippets.specs.Fault.{form_of}
 use Rattle.annotate_snippets.specs.Gutter.{numbered_source}
 use Rattle.annotate_snippets.specs.Rows.{place_found}
-use Rattle.annotate_snippets.specs.Short.{before_title, behind_title, first_cause, short_form}
+use Rattle.annotate_snippets.specs.Short.{before_title, after_title, first_cause, short_form}
 use Rattle.annotate_snippets.specs.Shown.{IsFreeBut, SheetsShown, report_links}
 use Rattle.annotate_snippets.specs.TextForm.{report_texts, text_form}
 use Rattle.annotate_snippets.specs.declared.renderer.Renderer.{Renderer}
@@ -39,20 +39,20 @@ abbrev pub ArePlainUnderPlain : List (List ℕ) → List ℕ → List Stylesheet
 ArePlainUnderPlain links plain sheets texts =
     links ≡ [] → AllZip (λ sheet text. is_plain_sheet sheet ≡ true → text ≡ encode_utf8_all plain) sheets texts
 
--- a row begins with the place of a snippet's spans, behind its path: the first line on which a span of the kind that names it starts,
+-- a row begins with the place of a snippet's spans, after its path: the first line on which a span of the kind that names it starts,
 -- and the least column there, counted in characters from 1
 pub record BeginsWithPlace (r : Renderer) (s : Snippet Annotation) (path : List ℕ) (row : List Cell) : Type 0 where
-  pub place : NamedPlace
-  pub is : IsNamedPlace (numbered_source s) s.markers.items place
+  pub place : Location
+  pub is : IsLocation (numbered_source s) s.markers.items place
   pub rest : List ℕ
   pub text : row_text row ≡ origin_text r.anonymized_origin_line_numbers path (place_found (Some place)) ++ (codes ": " ++ rest)
 
 -- the rows show a group in the short form: they are its rows cell by cell; so the text of each is that of a line of the title, the
--- first behind the place of its first annotated snippet and the label, and before the labels of that. Where that snippet has a path
+-- first after the place of its first annotated snippet and the label, and before the labels of that. Where that snippet has a path
 -- and spans that are marked, none of several lines, the first row begins with the first of their places
 pub record ShowsShort (r : Renderer) (g : Group) (title : Title) (rows : List (List Cell)) : Type 0 where
   pub rows_are : rows ≡ short_form r g title
-  pub texts : (i : ℕ) → row_text (row_at rows i) ≡ slice_index_or (short_texts (before_title r g) (behind_title g) (heading_of_title title)) i []
+  pub texts : (i : ℕ) → row_text (row_at rows i) ≡ slice_index_or (short_texts (before_title r g) (after_title g) (heading_of_title title)) i []
   pub origin : (s : Snippet Annotation) → first_cause g.elements.items ≡ Some s → (path : List ℕ) → path_bytes s.path ≡ Some path → list_any (λ a. is_marking a.kind) s.markers.items ≡ true → All (λ a. is_long (cow_str_bytes s.source) a ≡ false) s.markers.items → BeginsWithPlace r s path (row_at rows 0)
   pub free : All (IsFreeButText (heading_of_title title)) rows
 
@@ -73,7 +73,7 @@ pub record ShortShown (r : Renderer) (groups : List Group) (sheets : List Styles
   pub links : links_of rows ≡ short_links r groups
   pub plain : ArePlainUnderPlain (short_links r groups) (plain_text rows) sheets texts
 
--- the texts are the text form of a report: all are woven of it, each under its sheet. In its plain text stand, one behind the
+-- the texts are the text form of a report: all are woven of it, each under its sheet. In its plain text stand, one after the
 -- other, the texts of titles and messages and the labels of spans
 pub record TextShown (r : Renderer) (groups : List Group) (sheets : List Stylesheet) (texts : List (List ℕ)) : Type 0 where
   pub are : AllZip (λ sheet text. text ≡ form_bytes sheet (text_form r groups)) sheets texts

@@ -70,11 +70,11 @@ depth_of_element (Padding padding) = 0
 abbrev pub depth_of_group : Group → ℕ
 depth_of_group g = fold (λ depth e. max (depth_of_element e) depth) 0 g.elements.items
 
--- the cell at which code begins: three behind the gutter, and where bars stand between, as many more, and one
-abbrev pub code_behind : ℕ → ℕ → ℕ
-code_behind gutter depth = if depth == 0 then gutter + 3 else gutter + 3 + depth + 1
+-- the cell at which code begins: three after the gutter, and where bars stand between, as many more, and one
+abbrev pub code_after : ℕ → ℕ → ℕ
+code_after gutter depth = if depth == 0 then gutter + 3 else gutter + 3 + depth + 1
 
 -- the frame of a group: the gutter is the report's
 abbrev pub frame_of : Renderer → List Group → Group → Frame
 frame_of r groups g =
-    record { gutter = gutter_of_report r groups; code = code_behind (gutter_of_report r groups) (depth_of_group g) }
+    record { gutter = gutter_of_report r groups; code = code_after (gutter_of_report r groups) (depth_of_group g) }

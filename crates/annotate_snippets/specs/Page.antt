@@ -80,7 +80,7 @@ names_of_lines (j ∷ k ∷ ks) =
 abbrev pub cells_of : List NamedRow → List (List Cell)
 cells_of rows = map (λ row. row.cells) rows
 
--- the cells of the row right below, which are none behind the last row
+-- the cells of the row right below, which are none after the last row
 abbrev pub cells_below : List NamedRow → List Cell
 cells_below [] = []
 cells_below (row ∷ rows) = row.cells

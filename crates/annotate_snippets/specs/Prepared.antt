@@ -16,9 +16,9 @@ use Rattle.annotate_snippets.specs.declared.renderer.preprocess.PreparedCause.{P
 use Rattle.annotate_snippets.specs.declared.renderer.preprocess.PreparedElement.{PreparedElement}
 use Rattle.annotate_snippets.specs.declared.renderer.preprocess.PreparedElement.TheVariants.{Message, Cause, Suggestion, Origin, Padding}
 use Rattle.annotate_snippets.specs.declared.renderer.preprocess.PreparedGroup.{PreparedGroup}
-use Rattle.annotate_snippets.specs.declared.renderer.surroundings.GroupPlace.{GroupPlace}
-use Rattle.annotate_snippets.specs.declared.renderer.surroundings.Surroundings.{Surroundings}
-use Rattle.annotate_snippets.specs.Around.{drawn_elements, surroundings_at}
+use Rattle.annotate_snippets.specs.declared.renderer.element_context.GroupPosition.{GroupPosition}
+use Rattle.annotate_snippets.specs.declared.renderer.element_context.ElementContext.{ElementContext}
+use Rattle.annotate_snippets.specs.Around.{drawn_elements, context_at}
 use Rattle.annotate_snippets.specs.Gutter.{numbered_source}
 
 -- what drawing a snippet asks of it: that its texts and its line numbers fit, and that each of its spans is one
@@ -71,6 +71,6 @@ pub record IsGroupPrepared (p : PreparedGroup) : Type 0 where
   pub prepared : All IsElementPrepared p.elements.items
 
 -- what stands around each of these elements, in order
-pub record AreAround (place : GroupPlace) (file : Option (List ℕ)) (es : List Element) (around : List Surroundings) : Type 0 where
+pub record AreAround (place : GroupPosition) (file : Option (List ℕ)) (es : List Element) (around : List ElementContext) : Type 0 where
   pub count : length around ≡ length es
-  pub each : (i : ℕ) (e : Element) → slice_get es i ≡ Some e → slice_get around i ≡ Some (surroundings_at place file es i e)
+  pub each : (i : ℕ) (e : Element) → slice_get es i ≡ Some e → slice_get around i ≡ Some (context_at place file es i e)

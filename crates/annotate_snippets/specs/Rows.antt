@@ -13,8 +13,8 @@ use Rattle.snippet_model.specs.Heading.{heading_of_message}
 use Rattle.snippet_style.specs.Cell.{Cell}
 use Rattle.snippet_lines.specs.Place.{start_location}
 use Rattle.snippet_view.specs.Annotated.{KeptLine, annotated_lines}
-use Rattle.snippet_view.specs.NamedPlace.{primary_place, secondary_place}
-use Rattle.snippet_view.specs.declared.named_place.NamedPlace.{NamedPlace}
+use Rattle.snippet_view.specs.Location.{primary_place, secondary_place}
+use Rattle.snippet_view.specs.declared.location.Location.{Location}
 use Rattle.snippet_splice.specs.Shown.{first_start}
 use Rattle.snippet_suggest.specs.Given.{source_of, trimmed_of}
 use Rattle.snippet_suggest.specs.declared.SuggestionStart.{SuggestionStart}
@@ -26,16 +26,16 @@ use Rattle.snippet_titles.specs.Title.{title_rows}
 use Rattle.snippet_titles.specs.declared.origin.FileStart.{FileStart}
 use Rattle.snippet_titles.specs.declared.origin.FileStart.TheVariants.{Alone, Secondary}
 use Rattle.snippet_titles.specs.declared.origin.OriginLayout.{OriginLayout}
-use Rattle.snippet_titles.specs.declared.origin.OriginPlace.{OriginPlace}
+use Rattle.snippet_titles.specs.declared.origin.OriginLocation.{OriginLocation}
 use Rattle.snippet_titles.specs.declared.style.TitleStyle.{TitleStyle}
 use Rattle.snippet_titles.specs.declared.style.TitleStyle.TheVariants as style
-use Rattle.annotate_snippets.specs.Around.{closes_behind, is_before_message, is_end, is_first_group, is_first_of_several, path_bytes}
+use Rattle.annotate_snippets.specs.Around.{closes_after, is_before_message, is_end, is_first_group, is_first_of_several, path_bytes}
 use Rattle.annotate_snippets.specs.Gutter.{numbered_source}
 use Rattle.annotate_snippets.specs.declared.renderer.Renderer.{Renderer}
 use Rattle.annotate_snippets.specs.declared.renderer.frame.Frame.{Frame}
-use Rattle.annotate_snippets.specs.declared.renderer.surroundings.GroupPlace.{GroupPlace}
-use Rattle.annotate_snippets.specs.declared.renderer.surroundings.Next.{Next}
-use Rattle.annotate_snippets.specs.declared.renderer.surroundings.Surroundings.{Surroundings}
+use Rattle.annotate_snippets.specs.declared.renderer.element_context.GroupPosition.{GroupPosition}
+use Rattle.annotate_snippets.specs.declared.renderer.element_context.Next.{Next}
+use Rattle.annotate_snippets.specs.declared.renderer.element_context.ElementContext.{ElementContext}
 
 -- the rows that set off and close, where they stand in this frame
 abbrev pub separator_rows : Renderer → Frame → List (List Cell)
@@ -46,24 +46,24 @@ closing_rows r frame = closing_row r.decor_style frame.gutter ∷ []
 
 -- what stands below a title: a separator row before a message; and a closing row where nothing follows in the first of several
 -- groups, but not below a trusted title
-abbrev pub rows_behind_title : Renderer → Frame → GroupPlace → Next → Bool → List (List Cell)
-rows_behind_title r frame place next trusted =
+abbrev pub rows_after_title : Renderer → Frame → GroupPosition → Next → Bool → List (List Cell)
+rows_after_title r frame place next trusted =
     if is_before_message next then separator_rows r frame
     else (if is_end next && is_first_of_several place && not trusted then closing_rows r frame else [])
 
 -- what stands below the lines of an annotated snippet: in the first group a separator row before a message, and a closing row
 -- where nothing follows in the first of several groups
-abbrev pub rows_behind_cause : Renderer → Frame → Surroundings → List (List Cell)
-rows_behind_cause r frame around =
+abbrev pub rows_after_cause : Renderer → Frame → ElementContext → List (List Cell)
+rows_after_cause r frame around =
     if is_first_group around.place && is_before_message around.next then separator_rows r frame
-    else (if closes_behind around then closing_rows r frame else [])
+    else (if closes_after around then closing_rows r frame else [])
 
 -- where a message stands, and its rows
-abbrev pub message_style : Renderer → Frame → Surroundings → TitleStyle
+abbrev pub message_style : Renderer → Frame → ElementContext → TitleStyle
 message_style r frame around =
     style.Message (record { gutter = frame.gutter; decor = r.decor_style; followed = not (is_end around.next) })
 
-abbrev pub message_rows : Renderer → Frame → Surroundings → Message → List (List Cell)
+abbrev pub message_rows : Renderer → Frame → ElementContext → Message → List (List Cell)
 message_rows r frame around message =
     heading_rows r.hyperlink (message_style r frame around) (heading_of_message message)
 
@@ -74,35 +74,35 @@ origin_layout r frame =
 
 -- what leads to the path of an origin: whether it is all that the group shows, or of the group's first element, or a later one,
 -- or of another file than the primary one
-abbrev pub origin_start : Surroundings → FileStart
+abbrev pub origin_start : ElementContext → FileStart
 origin_start around =
     if around.primary then (if around.first && is_end around.next then Alone else primary_start around.first) else Secondary
 
 -- the place that an origin gives
-abbrev pub place_given : Origin → OriginPlace
+abbrev pub place_given : Origin → OriginLocation
 place_given origin = record { line = origin.line; column = origin.char_column }
 
 -- its rows: that of its path, and a closing row where nothing follows in the first of several groups
-abbrev pub origin_rows : Renderer → Frame → Surroundings → Origin → List (List Cell)
+abbrev pub origin_rows : Renderer → Frame → ElementContext → Origin → List (List Cell)
 origin_rows r frame around origin =
-    origin_row (origin_layout r frame) (origin_start around) (cow_str_bytes origin.path) (place_given origin) ∷ (if closes_behind around then closing_rows r frame else [])
+    origin_row (origin_layout r frame) (origin_start around) (cow_str_bytes origin.path) (place_given origin) ∷ (if closes_after around then closing_rows r frame else [])
 
 -- a place that is found in a source
-abbrev pub place_found : Option NamedPlace → OriginPlace
+abbrev pub place_found : Option Location → OriginLocation
 place_found None = record { line = None; column = None }
 place_found (Some place) = record { line = Some place.line; column = place.column }
 
 -- the place that the head of an annotated snippet names, given its lines that are kept, and whether it is primary
-abbrev pub place_named : Bool → List KeptLine → OriginPlace
+abbrev pub place_named : Bool → List KeptLine → OriginLocation
 place_named primary lines = place_found (if primary then primary_place lines else secondary_place lines)
 
 -- what an annotated snippet begins with
-abbrev pub cause_head : Renderer → Frame → Surroundings → Snippet Annotation → List (List Cell)
+abbrev pub cause_head : Renderer → Frame → ElementContext → Snippet Annotation → List (List Cell)
 cause_head r frame around s =
     snippet_head (origin_layout r frame) around.primary around.first (path_bytes s.path) (place_named around.primary (annotated_lines s.fold (numbered_source s) s.markers.items))
 
 -- the place at which the first patch of a snippet starts, trimmed as it is
-abbrev pub patch_place : Snippet Patch → OriginPlace
+abbrev pub patch_place : Snippet Patch → OriginLocation
 patch_place s =
     let at = start_location (source_of s) (first_start (trimmed_of s)) in
     record { line = Some at.line; column = Some (at.char + 1) }
@@ -120,7 +120,7 @@ suggestion_head_at start.Opening r frame first s = []
 suggestion_head_at start.Next r frame first s = []
 suggestion_head_at start.Path r frame first s = path_row r frame first s (path_bytes s.path)
 
-abbrev pub suggestion_head : Renderer → Frame → Surroundings → Snippet Patch → List (List Cell)
+abbrev pub suggestion_head : Renderer → Frame → ElementContext → Snippet Patch → List (List Cell)
 suggestion_head r frame around s = suggestion_head_at around.start r frame around.first s
 
 -- the row of its path, and the separator row below it
@@ -129,7 +129,7 @@ path_head r frame first s =
     flat_map (λ path. path_row r frame first s (Some path) ++ separator_rows r frame) (option_to_list (path_bytes s.path))
 
 -- the rows of a group's title, and what stands below them, given what follows; none where there is no title
-abbrev pub title_part : Renderer → Frame → GroupPlace → Next → Option Title → List (List Cell)
+abbrev pub title_part : Renderer → Frame → GroupPosition → Next → Option Title → List (List Cell)
 title_part r frame place next None = []
 title_part r frame place next (Some title) =
-    title_rows r.hyperlink title ++ rows_behind_title r frame place next title.allows_styling
+    title_rows r.hyperlink title ++ rows_after_title r frame place next title.allows_styling

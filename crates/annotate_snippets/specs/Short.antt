@@ -1,4 +1,4 @@
--- The short form of a report: what stands before the title of its first group, and behind that title's first row.
+-- The short form of a report: what stands before the title of its first group, and after that title's first row.
 use Rattle.std.specs.Prelude.{ℕ, not, true, List, [], ◌∷◌, ◌++◌, Option, None, Some, chars, codes, filter}
 use Rattle.std.specs.Char.{is_whitespace}
 use Rattle.std.specs.Cow.{cow_str_bytes}
@@ -31,7 +31,7 @@ first_cause (element.Suggestion snippet ∷ es) = first_cause es
 first_cause (element.Origin origin ∷ es) = first_cause es
 first_cause (element.Padding padding ∷ es) = first_cause es
 
--- the place of a snippet's spans in its file, behind its path: that which the head of the group's primary snippet names
+-- the place of a snippet's spans in its file, after its path: that which the head of the group's primary snippet names
 abbrev pub place_of_path : Renderer → Snippet Annotation → Option (List ℕ) → List ℕ
 place_of_path r s None = []
 place_of_path r s (Some path) =
@@ -50,7 +50,7 @@ abbrev pub primary_labels : List Annotation → List (List ℕ)
 primary_labels marks =
     filter (λ label. not (list_all is_whitespace label)) (filter_map label_of (filter (λ a. is_primary a.kind) marks))
 
--- these labels in a row, behind a colon: `: a, b`; nothing where there are none
+-- these labels in a row, after a colon: `: a, b`; nothing where there are none
 abbrev pub joined_labels : List (List ℕ) → List ℕ
 joined_labels [] = []
 joined_labels (label ∷ labels) = codes ": " ++ label ++ flat_map (λ l. codes ", " ++ l) labels
@@ -59,13 +59,13 @@ abbrev pub labels_of_cause : Option (Snippet Annotation) → List ℕ
 labels_of_cause None = []
 labels_of_cause (Some s) = joined_labels (primary_labels s.markers.items)
 
--- what stands before the title of a group's short form, and behind its first row
+-- what stands before the title of a group's short form, and after its first row
 abbrev pub before_title : Renderer → Group → List ℕ
 before_title r g = place_of_cause r (first_cause g.elements.items)
 
-abbrev pub behind_title : Group → List ℕ
-behind_title g = labels_of_cause (first_cause g.elements.items)
+abbrev pub after_title : Group → List ℕ
+after_title g = labels_of_cause (first_cause g.elements.items)
 
 -- the rows of a group's short form
 abbrev pub short_form : Renderer → Group → Title → List (List Cell)
-short_form r g title = short_rows r.hyperlink (before_title r g) (behind_title g) (heading_of_title title)
+short_form r g title = short_rows r.hyperlink (before_title r g) (after_title g) (heading_of_title title)

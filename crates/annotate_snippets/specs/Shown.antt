@@ -24,7 +24,7 @@ use Rattle.snippet_model.specs.declared.snippet.Patch.{Patch}
 use Rattle.snippet_model.specs.declared.snippet.AnnotationKind.{AnnotationKind}
 use Rattle.snippet_model.specs.declared.snippet.Element.{Element}
 use Rattle.snippet_model.specs.declared.snippet.Element.TheVariants as element
-use Rattle.snippet_view.specs.Annotated.{drawn, is_long, long_spans}
+use Rattle.snippet_view.specs.Annotated.{promoted, is_long, long_spans}
 use Rattle.snippet_view.specs.Kept.{shown_lines}
 use Rattle.snippet_lines.specs.Lines.{source_lines, text_at}
 use Rattle.snippet_splice.specs.Edits.{patched}
@@ -36,12 +36,12 @@ use Rattle.snippet_view.specs.Margin.{Bounds}
 use Rattle.snippet_view.specs.Measures.{margin_of}
 use Rattle.snippet_view.specs.Marked.{Entry, first_line, last_line}
 use Rattle.snippet_view.specs.Mark.{is_marked_on, is_marking, is_wide, qualifies_for_marks, start_column, end_column, IsMarkedAt, IsMarkOf}
-use Rattle.snippet_view.specs.NamedPlace.{IsNamedPlace}
-use Rattle.snippet_view.specs.declared.named_place.NamedPlace.{NamedPlace}
+use Rattle.snippet_view.specs.Location.{IsLocation}
+use Rattle.snippet_view.specs.declared.location.Location.{Location}
 use Rattle.snippet_view.specs.Window.{chars_at, stands_whole, IsWindowOf}
 use Rattle.snippet_model.specs.Rows.{HasNoNumber, IsFree}
 use Rattle.snippet_style.specs.Glyphs.{separator_of, closing_of, placeholder_of}
-use Rattle.snippet_strokes.specs.Entries.{IsMarkCell, IsRailCell, has_mark_role, label_role}
+use Rattle.snippet_strokes.specs.Entries.{IsMarkCell, IsBarCell, has_mark_role, label_role}
 use Rattle.snippet_strokes.specs.Rows.{IsElisionRow}
 use Rattle.snippet_titles.specs.Heading.{heading_rows}
 use Rattle.snippet_titles.specs.Origin.{origin_text, padding_row}
@@ -51,16 +51,16 @@ use Rattle.snippet_titles.specs.declared.style.TitleStyle.{TitleStyle}
 use Rattle.snippet_titles.specs.declared.style.TitleStyle.TheVariants as style
 use Rattle.annotate_snippets.specs.declared.renderer.Renderer.{Renderer}
 use Rattle.annotate_snippets.specs.declared.renderer.frame.Frame.{Frame}
-use Rattle.annotate_snippets.specs.declared.renderer.surroundings.GroupPlace.{GroupPlace}
-use Rattle.annotate_snippets.specs.declared.renderer.surroundings.Next.{Next}
-use Rattle.annotate_snippets.specs.declared.renderer.surroundings.Surroundings.{Surroundings}
-use Rattle.annotate_snippets.specs.Around.{closes_with, drawn_elements, file_of_group, is_end, next_of, path_bytes, place_at, surroundings_at}
+use Rattle.annotate_snippets.specs.declared.renderer.element_context.GroupPosition.{GroupPosition}
+use Rattle.annotate_snippets.specs.declared.renderer.element_context.Next.{Next}
+use Rattle.annotate_snippets.specs.declared.renderer.element_context.ElementContext.{ElementContext}
+use Rattle.annotate_snippets.specs.Around.{closes_with, drawn_elements, file_of_group, is_end, next_of, path_bytes, place_at, context_at}
 use Rattle.annotate_snippets.specs.Gutter.{frame_of, line_numbers, number_text, numbered_source}
 use Rattle.annotate_snippets.specs.Page.{RowName, SourceRow, Elision, OfferedLine, RemovedLine, Other, NamedRow, lines_named, lines_offered, lines_removed, names_in, names_of_lines, cells_below, cells_of, rows_below, others, GroupPage, Page, page_text, PrintsPage, IsAscending, page_links}
-use Rattle.annotate_snippets.specs.Rows.{cause_head, message_style, origin_rows, place_found, place_given, rows_behind_cause, rows_behind_title, suggestion_head}
+use Rattle.annotate_snippets.specs.Rows.{cause_head, message_style, origin_rows, place_found, place_given, rows_after_cause, rows_after_title, suggestion_head}
 
 -- the rows show a title or a message, which answers this: level, identifier, text, and whether that is trusted. They are its rows
--- cell by cell; so the row of each line of its text is the text of that line as it is drawn, the first behind the label; the text of
+-- cell by cell; so the row of each line of its text is the text of that line as it is drawn, the first after the label; the text of
 -- its id links to the id's address where links are on and it has one, and nothing else links; and each listed character is one
 -- of its own text, which is trusted
 pub record ShowsHeading (hyperlink : Bool) (place : TitleStyle) (heading : Heading) (rows : List (List Cell)) : Type 0 where
@@ -69,25 +69,25 @@ pub record ShowsHeading (hyperlink : Bool) (place : TitleStyle) (heading : Headi
   pub links : LinksId hyperlink place heading rows
   pub free : All (IsFreeButText heading) rows
 
--- the rows show a group's title, if it has one: behind its own rows stands what sets off a message that follows, or closes the
+-- the rows show a group's title, if it has one: after its own rows stands what sets off a message that follows, or closes the
 -- group
-pub record ShowsTitle (r : Renderer) (frame : Frame) (place : GroupPlace) (follows : Next) (title : Title) (rows : List (List Cell)) : Type 0 where
+pub record ShowsTitle (r : Renderer) (frame : Frame) (place : GroupPosition) (follows : Next) (title : Title) (rows : List (List Cell)) : Type 0 where
   pub own : List (List Cell)
-  pub rows_are : rows ≡ own ++ rows_behind_title r frame place follows title.allows_styling
+  pub rows_are : rows ≡ own ++ rows_after_title r frame place follows title.allows_styling
   pub shows : ShowsHeading r.hyperlink style.Title (heading_of_title title) own
 
-abbrev pub ShowsTitlePart : Renderer → Frame → GroupPlace → Next → Option Title → List (List Cell) → Type 0
+abbrev pub ShowsTitlePart : Renderer → Frame → GroupPosition → Next → Option Title → List (List Cell) → Type 0
 ShowsTitlePart r frame place follows None rows = rows ≡ []
 ShowsTitlePart r frame place follows (Some title) rows = ShowsTitle r frame place follows title rows
 
 -- the rows show a message
-pub record ShowsMessage (r : Renderer) (frame : Frame) (around : Surroundings) (m : message.Message) (rows : List NamedRow) : Type 0 where
+pub record ShowsMessage (r : Renderer) (frame : Frame) (around : ElementContext) (m : message.Message) (rows : List NamedRow) : Type 0 where
   pub named : rows ≡ others (cells_of rows)
   pub shows : ShowsHeading r.hyperlink (message_style r frame around) (heading_of_message m) (cells_of rows)
 
--- the rows show an origin: they are its rows, cell by cell; so the first of them holds, four cells behind the gutter, its path,
+-- the rows show an origin: they are its rows, cell by cell; so the first of them holds, four cells after the gutter, its path,
 -- normalised, and the place that it gives
-pub record ShowsOrigin (r : Renderer) (frame : Frame) (around : Surroundings) (o : origin.Origin) (rows : List NamedRow) : Type 0 where
+pub record ShowsOrigin (r : Renderer) (frame : Frame) (around : ElementContext) (o : origin.Origin) (rows : List NamedRow) : Type 0 where
   pub rows_are : rows ≡ others (origin_rows r frame around o)
   pub text : row_text (drop (frame.gutter + 4) (row_at (cells_of rows) 0)) ≡ origin_text r.anonymized_origin_line_numbers (cow_str_bytes o.path) (place_given o)
 
@@ -118,12 +118,12 @@ shown_label a = normalized_chars (option_map cow_str_bytes a.label)
 abbrev pub cell_of : Frame → ℕ → ℕ → ℕ
 cell_of frame dropped p = frame.code + p - dropped
 
--- behind the separator and the space after it, the cells of a row left of the code hold nothing but bars and their corners
+-- after the separator and the space after it, the cells of a row left of the code hold nothing but bars and their corners
 abbrev pub HasBarsAlone : DecorStyle → Frame → List Cell → Type 0
 HasBarsAlone decor frame row =
-    (c : ℕ) → frame.gutter + 3 ≤ c → c < frame.code → IsRailCell decor (slice_index_or row c SPACE)
+    (c : ℕ) → frame.gutter + 3 ≤ c → c < frame.code → IsBarCell decor (slice_index_or row c SPACE)
 
--- the row shows line k: its number in the gutter, the separator behind it and no letter or digit between them and the code,
+-- the row shows line k: its number in the gutter, the separator after it and no letter or digit between them and the code,
 -- where nothing but bars stands, left of which no cell is in the role of marks; and from the code's cell to its end the window
 -- of the line's normalised text between the snippet's bounds, left of which so many columns are dropped; where the line stands
 -- whole, all of it
@@ -140,7 +140,7 @@ pub record ShowsSourceLine (r : Renderer) (frame : Frame) (s : Snippet Annotatio
 -- the row has the marks of line k: below each column that has a mark it holds a glyph of the mark's kind, as the decor draws
 -- it, in the role of its strokes; below any other column no cell is in the role of marks, and left of all spans of the line
 -- stand spaces. Where no span on the line has a label that shows anything, every cell that is no mark is a space, from the
--- code's cell on. Where the line has one span alone and it has such a label, the row goes on behind the span's last column
+-- code's cell on. Where the line has one span alone and it has such a label, the row goes on after the span's last column
 -- with a space and the label, and ends
 pub record ShowsMarksOf (decor : DecorStyle) (frame : Frame) (s : Snippet Annotation) (k dropped : ℕ) (row : List Cell) : Type 0 where
   pub marks : (p : ℕ) (kind : AnnotationKind) → IsMarkOf (cow_str_bytes s.source) s.markers.items k p kind → IsMarkCell decor kind (slice_index_or row (cell_of frame dropped p) SPACE)
@@ -167,16 +167,16 @@ label_of_end e =
     record { text = normalized_chars e.label; kind = e.kind; from = e.end.display - 1; to = e.end.display }
 
 -- spans of several lines as they are drawn, each after those before it: one that has the place of a primary one is primary
-abbrev pub drawn_spans : List Entry → List Entry → List Entry
-drawn_spans before [] = []
-drawn_spans before (e ∷ later) = drawn before e ∷ drawn_spans (before ++ e ∷ []) later
+abbrev pub promoted_spans : List Entry → List Entry → List Entry
+promoted_spans before [] = []
+promoted_spans before (e ∷ later) = promoted before e ∷ promoted_spans (before ++ e ∷ []) later
 
 -- the labels of the spans that end on line k: first of those that stand on it alone, as given, and then of those of several lines, in
 -- their order
 abbrev pub labels_ending_on : Snippet Annotation → ℕ → List SpanLabel
 labels_ending_on s k =
     let source = numbered_source s in
-    map (label_of_span source.text) (filter (is_marked_on source.text k) s.markers.items) ++ map label_of_end (filter (λ (e : Entry). e.end.line == source.first + k) (drawn_spans [] (long_spans source s.markers.items)))
+    map (label_of_span source.text) (filter (is_marked_on source.text k) s.markers.items) ++ map label_of_end (filter (λ (e : Entry). e.end.line == source.first + k) (promoted_spans [] (long_spans source s.markers.items)))
 
 -- where a label stands: in which of the rows below its line, from 0, and from which cell of it on
 pub record ShownLabel : Type 0 where
@@ -210,12 +210,12 @@ pub record ShowsLineAndMarks (r : Renderer) (frame : Frame) (s : Snippet Annotat
   pub marks : qualifies_for_marks (room_of r frame) (length (placeholder_of r.decor_style)) (cow_str_bytes s.source) s.markers.items k ≡ true → ShowsMarksOf r.decor_style frame s k dropped below
   pub labels : wide_spans (room_of r frame) (length (placeholder_of r.decor_style)) s k ≡ 0 → ShowsLabels frame s k dropped rows
 
--- a row has these characters behind the gutter, from the cell on at which separators stand
+-- a row has these characters after the gutter, from the cell on at which separators stand
 abbrev pub HasStroke : ℕ → List ℕ → List Cell → Type 0
 HasStroke gutter text row =
     (c : ℕ) → c < length text → (slice_index_or row (gutter + 1 + c) SPACE).ch ≡ slice_index_or text c 32
 
--- a row below that of a line: no letter or digit in the gutter, so that it can't be taken for the row of a line, and behind it
+-- a row below that of a line: no letter or digit in the gutter, so that it can't be taken for the row of a line, and after it
 -- the separator, or where the group's window closes with the row the closing glyph; between that and the code nothing but bars
 pub record IsRowBelow (decor : DecorStyle) (frame : Frame) (closes : Bool) (row : List Cell) : Type 0 where
   pub unnumbered : HasNoNumber frame.gutter row
@@ -243,30 +243,30 @@ AreRowsOf r frame closes s [] = Unit {0}
 AreRowsOf r frame closes s (row ∷ rows) =
     IsRowOf r frame closes s row.name row.cells rows × AreRowsOf r frame closes s rows
 
--- a row names the place of a snippet's spans behind its path: the first line on which a span of the kind that names it starts,
+-- a row names the place of a snippet's spans after its path: the first line on which a span of the kind that names it starts,
 -- and the least column there, counted in characters from 1
-pub record NamesPlace (r : Renderer) (frame : Frame) (s : Snippet Annotation) (path : List ℕ) (row : List Cell) : Type 0 where
-  pub place : NamedPlace
-  pub is : IsNamedPlace (numbered_source s) s.markers.items place
+pub record NamesLocation (r : Renderer) (frame : Frame) (s : Snippet Annotation) (path : List ℕ) (row : List Cell) : Type 0 where
+  pub place : Location
+  pub is : IsLocation (numbered_source s) s.markers.items place
   pub text : row_text (drop (frame.gutter + 4) row) ≡ origin_text r.anonymized_origin_line_numbers path (place_found (Some place))
 
--- the rows show an annotated snippet: behind the rows that it begins with stand the source rows of the lines that are shown,
+-- the rows show an annotated snippet: after the rows that it begins with stand the source rows of the lines that are shown,
 -- each once and in order, those that are kept and each single line between two of them, with a row between where lines are
 -- left out, and each row is what its name says; and below them what sets off a message, or closes the group. So each line on which
 -- a span begins or ends has one source row, and source rows of greater lines stand lower. Where the snippet is of the group's
 -- primary file and has a path and spans that are marked, none of several lines, the first row names the first of their places
-pub record ShowsSnippet (r : Renderer) (frame : Frame) (around : Surroundings) (s : Snippet Annotation) (rows : List NamedRow) : Type 0 where
-  pub behind : List NamedRow
-  pub rows_are : rows ≡ others (cause_head r frame around s) ++ (behind ++ others (rows_behind_cause r frame around))
-  pub origin : around.primary ≡ true → (path : List ℕ) → path_bytes s.path ≡ Some path → list_any (λ a. is_marking a.kind) s.markers.items ≡ true → All (λ a. is_long (cow_str_bytes s.source) a ≡ false) s.markers.items → NamesPlace r frame s path (row_at (cells_of rows) 0)
-  pub lines : lines_named behind ≡ shown_lines s.fold (cow_str_bytes s.source) s.markers.items
-  pub elided : names_in behind ≡ names_of_lines (shown_lines s.fold (cow_str_bytes s.source) s.markers.items)
-  pub ends : All (λ a. Contains (lines_named behind) (first_line (cow_str_bytes s.source) a) × Contains (lines_named behind) (last_line (cow_str_bytes s.source) a)) s.markers.items
-  pub ordered : IsAscending (lines_named behind)
-  pub named : AreRowsOf r frame (closes_with around) s behind
+pub record ShowsSnippet (r : Renderer) (frame : Frame) (around : ElementContext) (s : Snippet Annotation) (rows : List NamedRow) : Type 0 where
+  pub after : List NamedRow
+  pub rows_are : rows ≡ others (cause_head r frame around s) ++ (after ++ others (rows_after_cause r frame around))
+  pub origin : around.primary ≡ true → (path : List ℕ) → path_bytes s.path ≡ Some path → list_any (λ a. is_marking a.kind) s.markers.items ≡ true → All (λ a. is_long (cow_str_bytes s.source) a ≡ false) s.markers.items → NamesLocation r frame s path (row_at (cells_of rows) 0)
+  pub lines : lines_named after ≡ shown_lines s.fold (cow_str_bytes s.source) s.markers.items
+  pub elided : names_in after ≡ names_of_lines (shown_lines s.fold (cow_str_bytes s.source) s.markers.items)
+  pub ends : All (λ a. Contains (lines_named after) (first_line (cow_str_bytes s.source) a) × Contains (lines_named after) (last_line (cow_str_bytes s.source) a)) s.markers.items
+  pub ordered : IsAscending (lines_named after)
+  pub named : AreRowsOf r frame (closes_with around) s after
 
--- the row offers line j of the patched source: its number in the gutter, a separator, `+` or the glyph of a changed line behind
--- it and no other letter or digit between them and the line; and three cells behind the gutter, to the row's end, the
+-- the row offers line j of the patched source: its number in the gutter, a separator, `+` or the glyph of a changed line after
+-- it and no other letter or digit between them and the line; and three cells after the gutter, to the row's end, the
 -- normalised line of the text that is shown, which is the patched source's, for all sources that the promise speaks of
 pub record IsOfferedRow (r : Renderer) (gutter : ℕ) (s : Snippet Patch) (j : ℕ) (row : List Cell) : Type 0 where
   pub from : first_given s ≤ j
@@ -278,9 +278,9 @@ pub record IsOfferedRow (r : Renderer) (gutter : ℕ) (s : Snippet Patch) (j : �
   pub line : row_text (drop (gutter + 3) row) ≡ norm (chars (slice_index_or (given_lines s) (j - first_given s) []))
   pub patched_line : IsOfferable s → (j < length (source_lines (patched (cow_str_bytes s.source) (edits_of s)))) × (row_text (drop (gutter + 3) row) ≡ norm (chars (text_at (source_lines (patched (cow_str_bytes s.source) (edits_of s))) j)))
 
--- a row of a suggestion is what its name says: it offers a line; or it shows a line of the source as removed, with `-` behind the
--- gutter, the line's normalised text from three cells behind it on, and no letter before the one, but `LL`, or behind the other; or it
--- shows no line: it holds nothing but what stands left of lines, and behind that marks
+-- a row of a suggestion is what its name says: it offers a line; or it shows a line of the source as removed, with `-` after the
+-- gutter, the line's normalised text from three cells after it on, and no letter before the one, but `LL`, or after the other; or it
+-- shows no line: it holds nothing but what stands left of lines, and after that marks
 abbrev pub IsSuggestionRow : Renderer → ℕ → Snippet Patch → RowName → List Cell → Type 0
 IsSuggestionRow r gutter s (SourceRow k) row = ⊥
 IsSuggestionRow r gutter s Elision row = ⊥
@@ -289,21 +289,21 @@ IsSuggestionRow r gutter s (RemovedLine i) row =
     IsRemovedRow (line_numbers r s.line_numbering) r.decor_style gutter (norm (chars (text_at (source_lines (cow_str_bytes s.source)) i))) row
 IsSuggestionRow r gutter s Other row = IsBareRow r.decor_style gutter row
 
--- the rows show a suggestion: behind the row of its path, where it names that, they offer lines of the patched source, each once and
+-- the rows show a suggestion: after the row of its path, where it names that, they offer lines of the patched source, each once and
 -- in order, they show as removed the lines of the source that it takes away, in order, and each row is what its name says. Each line
 -- that a patch touches is offered, if it isn't blank; but not where the spliced text has one line, and that is the last source line
 -- that is reached
-pub record ShowsSuggestion (r : Renderer) (frame : Frame) (around : Surroundings) (s : Snippet Patch) (rows : List NamedRow) : Type 0 where
-  pub behind : List NamedRow
-  pub rows_are : rows ≡ others (suggestion_head r frame around s) ++ behind
-  pub offered : IsOfferable s → (j : ℕ) → IsTouched (cow_str_bytes s.source) (edits_of s) j → is_blank (text_at (source_lines (patched (cow_str_bytes s.source) (edits_of s))) j) ≡ false → IsAsItWas s ⊎ Contains (lines_offered behind) j
-  pub ordered : IsAscending (lines_offered behind)
-  pub lines : lines_offered behind ≡ offered_lines s
-  pub removed : lines_removed behind ≡ removed_lines s
-  pub named : All (λ row. IsSuggestionRow r frame.gutter s row.name row.cells) behind
+pub record ShowsSuggestion (r : Renderer) (frame : Frame) (around : ElementContext) (s : Snippet Patch) (rows : List NamedRow) : Type 0 where
+  pub after : List NamedRow
+  pub rows_are : rows ≡ others (suggestion_head r frame around s) ++ after
+  pub offered : IsOfferable s → (j : ℕ) → IsTouched (cow_str_bytes s.source) (edits_of s) j → is_blank (text_at (source_lines (patched (cow_str_bytes s.source) (edits_of s))) j) ≡ false → IsAsItWas s ⊎ Contains (lines_offered after) j
+  pub ordered : IsAscending (lines_offered after)
+  pub lines : lines_offered after ≡ offered_lines s
+  pub removed : lines_removed after ≡ removed_lines s
+  pub named : All (λ row. IsSuggestionRow r frame.gutter s row.name row.cells) after
 
 -- the rows show an element
-abbrev pub ShowsElement : Renderer → Frame → Surroundings → Element → List NamedRow → Type 0
+abbrev pub ShowsElement : Renderer → Frame → ElementContext → Element → List NamedRow → Type 0
 ShowsElement r frame around (element.Message message) rows = ShowsMessage r frame around message rows
 ShowsElement r frame around (element.Cause snippet) rows = ShowsSnippet r frame around snippet rows
 ShowsElement r frame around (element.Suggestion snippet) rows = ShowsSuggestion r frame around snippet rows
@@ -320,14 +320,14 @@ IsFreeElement (element.Origin origin) rows = All (λ row. IsFree row.cells) rows
 IsFreeElement (element.Padding padding) rows = All (λ row. IsFree row.cells) rows
 
 -- the parts of a group's page show these elements, which are all that are drawn, one by one, in order
-pub record AreElementsShown (r : Renderer) (frame : Frame) (place : GroupPlace) (file : Option (List ℕ)) (es : List Element) (parts : List (List NamedRow)) : Type 0 where
+pub record AreElementsShown (r : Renderer) (frame : Frame) (place : GroupPosition) (file : Option (List ℕ)) (es : List Element) (parts : List (List NamedRow)) : Type 0 where
   pub count : length parts ≡ length es
-  pub each : (i : ℕ) (e : Element) → slice_get es i ≡ Some e → ShowsElement r frame (surroundings_at place file es i e) e (slice_index_or parts i [])
+  pub each : (i : ℕ) (e : Element) → slice_get es i ≡ Some e → ShowsElement r frame (context_at place file es i e) e (slice_index_or parts i [])
   pub free : (i : ℕ) (e : Element) → slice_get es i ≡ Some e → IsFreeElement e (slice_index_or parts i [])
 
 -- the rows show a group: its title, and each element that is drawn, in order. Where a suggestion begins in the row with which
 -- the one above it ends, this is its row
-pub record ShowsGroup (r : Renderer) (frame : Frame) (place : GroupPlace) (file : Option (List ℕ)) (g : Group) (page : GroupPage) : Type 0 where
+pub record ShowsGroup (r : Renderer) (frame : Frame) (place : GroupPosition) (file : Option (List ℕ)) (g : Group) (page : GroupPage) : Type 0 where
   pub title : ShowsTitlePart r frame place (next_of (drawn_elements g)) g.title page.title
   pub elements : AreElementsShown r frame place file (drawn_elements g) page.elements
 

@@ -13,51 +13,51 @@ use Rattle.snippet_text_form.specs.Form.{FormPiece}
 use Rattle.snippet_text_form.specs.Heading.{heading_form}
 use Rattle.snippet_text_form.specs.Suggestion.{origin_form, suggestion_form}
 use Rattle.snippet_text_form.specs.declared.heading.HeadingKind.TheVariants.{Title, Message}
-use Rattle.snippet_text_form.specs.declared.suggestion.SuggestionPlace.{SuggestionPlace}
-use Rattle.snippet_titles.specs.Heading.{drawn_text}
+use Rattle.snippet_text_form.specs.declared.suggestion.SuggestionContext.{SuggestionContext}
+use Rattle.snippet_titles.specs.Heading.{shown_text}
 use Rattle.annotate_snippets.specs.Around.{drawn_elements, file_of_group, first_two_share, is_other_file, is_same_file, path_bytes}
 use Rattle.annotate_snippets.specs.declared.renderer.Renderer.{Renderer}
-use Rattle.annotate_snippets.specs.declared.renderer.text_form.Before as code
+use Rattle.annotate_snippets.specs.declared.renderer.text_form.PreviousSuggestion as code
 
 -- the suggestion right before an element: the path of its file, and its number in a row of suggestions for that, from 1
-pub record Before : Type 0 where
+pub record PreviousSuggestion : Type 0 where
   pub path : Option (List ℕ)
   pub number : ℕ
 
 -- what the code knows of it
-abbrev pub before_seen : Option code.Before → Option Before
-before_seen before = option_map (λ (b : code.Before). record { path = option_copied b.path; number = b.number }) before
+abbrev pub before_seen : Option code.PreviousSuggestion → Option PreviousSuggestion
+before_seen before = option_map (λ (b : code.PreviousSuggestion). record { path = option_copied b.path; number = b.number }) before
 
 -- whether a suggestion for this path goes on a row of suggestions, and its number there
-abbrev pub goes_on : Option Before → Option (List ℕ) → Bool
-goes_on None path = false
-goes_on (Some before) path = is_same_file before.path path
+abbrev pub continues : Option PreviousSuggestion → Option (List ℕ) → Bool
+continues None path = false
+continues (Some before) path = is_same_file before.path path
 
-abbrev pub number_behind : Option Before → Option (List ℕ) → ℕ
-number_behind None path = 1
-number_behind (Some before) path = if is_same_file before.path path then before.number + 1 else 1
+abbrev pub option_number : Option PreviousSuggestion → Option (List ℕ) → ℕ
+option_number None path = 1
+option_number (Some before) path = if is_same_file before.path path then before.number + 1 else 1
 
 -- the file that a suggestion needn't name: that of the one right before it, or else the group's
-abbrev pub known_file : Option (List ℕ) → Option Before → Option (List ℕ)
+abbrev pub known_file : Option (List ℕ) → Option PreviousSuggestion → Option (List ℕ)
 known_file file None = file
 known_file file (Some before) = before.path
 
--- where a suggestion stands among others, given whether one for its file follows right behind it
-abbrev pub suggestion_place : Option (List ℕ) → Option Before → Bool → Snippet Patch → SuggestionPlace
+-- where a suggestion stands among others, given whether one for its file follows right after it
+abbrev pub suggestion_place : Option (List ℕ) → Option PreviousSuggestion → Bool → Snippet Patch → SuggestionContext
 suggestion_place file before followed s =
     record {
-      option = if goes_on before (path_bytes s.path) || followed then Some (number_behind before (path_bytes s.path)) else None;
+      option = if continues before (path_bytes s.path) || followed then Some (option_number before (path_bytes s.path)) else None;
       names_path = is_other_file (known_file file before) (path_bytes s.path);
     }
 
--- what stands right before the element behind this one
-abbrev pub before_next : Option Before → Element → Option Before
+-- what stands right before the element after this one
+abbrev pub before_next : Option PreviousSuggestion → Element → Option PreviousSuggestion
 before_next before (element.Suggestion s) =
-    Some (record { path = path_bytes s.path; number = number_behind before (path_bytes s.path) })
+    Some (record { path = path_bytes s.path; number = option_number before (path_bytes s.path) })
 before_next before other = None
 
 -- an element; a padding is nothing
-abbrev pub element_form : Renderer → Option (List ℕ) → Option Before → Bool → Element → List FormPiece
+abbrev pub element_form : Renderer → Option (List ℕ) → Option PreviousSuggestion → Bool → Element → List FormPiece
 element_form r file before followed (element.Message m) = heading_form r.hyperlink Message (heading_of_message m)
 element_form r file before followed (element.Cause s) = cause_form r.anonymized_origin_line_numbers s
 element_form r file before followed (element.Suggestion s) =
@@ -66,7 +66,7 @@ element_form r file before followed (element.Origin o) = origin_form r.anonymize
 element_form r file before followed (element.Padding p) = []
 
 -- elements, in order
-abbrev pub elements_form : Renderer → Option (List ℕ) → Option Before → List Element → List FormPiece
+abbrev pub elements_form : Renderer → Option (List ℕ) → Option PreviousSuggestion → List Element → List FormPiece
 elements_form r file before [] = []
 elements_form r file before (e ∷ es) =
     element_form r file before (first_two_share (e ∷ es)) e ++ elements_form r file (before_next before e) es
@@ -86,9 +86,9 @@ is_one_line text = not (list_any (λ c. c == 10) text)
 
 -- the text of a title or message as it is drawn, if it is one line
 abbrev pub whole_text : Heading → List (List ℕ)
-whole_text heading = if is_one_line (drawn_text heading) then drawn_text heading ∷ [] else []
+whole_text heading = if is_one_line (shown_text heading) then shown_text heading ∷ [] else []
 
--- the texts that stand in the text form, one behind the other: those of titles and messages, each that is one line, and the labels
+-- the texts that stand in the text form, one after the other: those of titles and messages, each that is one line, and the labels
 -- of marked spans, normalised
 abbrev pub element_texts : Element → List (List ℕ)
 element_texts (element.Message m) = whole_text (heading_of_message m)

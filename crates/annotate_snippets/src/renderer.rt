@@ -3,6 +3,7 @@ ghost use Rattle.std.specs.Prelude.{◌≡◌, [], ◌∷◌, Err, IfSome, IfOk,
 
 mod cause;
 mod drawn;
+mod element_context;
 mod elements;
 mod error;
 mod form;
@@ -16,7 +17,6 @@ mod preprocess;
 mod short;
 pub mod style;
 mod suggestions;
-mod surroundings;
 mod text_form;
 mod title;
 
@@ -41,7 +41,7 @@ pub const DEFAULT_TERM_WIDTH: usize = 140;
 /// Draws reports, with these settings.
 #[derive(Clone, Debug, Drop)]
 pub struct Renderer {
-    /// Whether line numbers behind a path are shown as `LL`.
+    /// Whether line numbers after a path are shown as `LL`.
     pub anonymized_origin_line_numbers: bool,
     /// Whether line numbers of snippets are shown as `LL`.
     pub anonymized_snippet_line_numbers: bool,
@@ -118,7 +118,7 @@ impl Renderer {
         self.anonymized_snippet_line_numbers(anonymized)
     }
 
-    /// Whether the numbers of lines behind paths are shown as `LL`.
+    /// Whether the numbers of lines after paths are shown as `LL`.
     pub fn anonymized_origin_line_numbers(mut self, anonymized: bool) -> Renderer
         ensures changed { result ≡ record self { anonymized_origin_line_numbers = anonymized } }
     {
@@ -230,7 +230,7 @@ impl Renderer {
         self
     }
 
-    /// Whether a report is drawn on one line, for editors and logs: the title of its first group, behind the place of its first
+    /// Whether a report is drawn on one line, for editors and logs: the title of its first group, after the place of its first
     /// annotated snippet and before the labels of that. Such a report needs a group, and its first group a title.
     pub fn short_message(mut self, short_message: bool) -> Renderer
         ensures changed { result ≡ record self { short_message = short_message } }

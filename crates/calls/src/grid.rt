@@ -66,7 +66,7 @@ const LINKED: &[Step] = &[
     Show(0),
 ];
 
-/// Links begin behind an opening code and end before a reset.
+/// Links begin after an opening code and end before a reset.
 const LINKS: &[Step] = &[
     Make(Putc(0, 0, 'a', NONE)),
     Make(Putc(0, 1, 'b', ADDED)),

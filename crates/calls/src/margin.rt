@@ -35,7 +35,7 @@ pub fn print(rt: &(impl Print + AllocGlobal)) -> io::Result<()> {
 }
 
 /// Prints the part around 20 columns from column 3992 on, of a line of pieces of 8 columns: before the part stand 3991 columns,
-/// which end where `b` does, and it has one column before the window and a few behind, however long the line is.
+/// which end where `b` does, and it has one column before the window and a few after, however long the line is.
 fn print_part(rt: &(impl Print + AllocGlobal), pieces: usize) -> io::Result<()> {
     let margin = Margin::new(0, 4000, 4001, 4010, 20, 2_000_000);
     let mut line = String::new(rt.alloc());
@@ -48,5 +48,5 @@ fn print_part(rt: &(impl Print + AllocGlobal), pieces: usize) -> io::Result<()> 
     let width = str_width(line.as_str());
     let part = near_part(margin, line.as_str(), width);
     let (skipped, text) = (part.skipped, part.text);
-    println!(rt; "of {width} columns: {text:?} behind {skipped}")
+    println!(rt; "of {width} columns: {text:?} after {skipped}")
 }

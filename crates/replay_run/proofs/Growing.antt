@@ -15,7 +15,7 @@ grows_twice (Some x) (Some y) (Some z) first then =
 pub grows_appended : (a b : Option (List ℕ)) (text : List ℕ) → Appends a b text → Grows a b
 grows_appended a b text appends = (text, appends)
 
--- nothing added, and one text behind another
+-- nothing added, and one text after another
 pub appends_none : (a : Option (List ℕ)) → Appends a a []
 appends_none None = tt
 appends_none (Some x) = sym (append-nil x)

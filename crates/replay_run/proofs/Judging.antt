@@ -17,7 +17,7 @@ pub ok_and : {T E : Type 0} {P Q : T → Type 0} (r : Result T E) → ((x : T) �
 ok_and (Ok x) tells h = tells x h
 ok_and (Err e) tells h = absurd h
 
--- the verdicts on the lines so far, and the bytes behind these lines
+-- the verdicts on the lines so far, and the bytes after these lines
 pub record HaveJudged (answers lines : List ℕ) (answers_left lines_left : Option (List ℕ)) (counts : Counts) : Type 0 where
   pub verdicts : List Bool
   pub next_answers : List ℕ
@@ -46,7 +46,7 @@ judged_none (Some answers) (Some lines) expected_left cases_left counts answers_
       counted = (passed, failed);
     }
 
--- a reader gave a line of what it holds, and what stands behind it is left
+-- a reader gave a line of what it holds, and what stands after it is left
 abbrev pub GivesLine : (left next : Option (List ℕ)) (line : List ℕ) → Type 0
 GivesLine left next line = IfSome left (λ bytes. (0 < length bytes) × (line ≡ first_line bytes)) × DropsThrough left next 10
 

@@ -12,7 +12,7 @@ use crate::lines::Form;
 pub enum Command<'a> {
     /// Answers the cases of these files, or of standard input where there are none.
     Answer(Form, &'a [&'a str]),
-    /// Compares: each file of expected answers, and behind it the file of its cases.
+    /// Compares: each file of expected answers, and after it the file of its cases.
     Check(&'a [&'a str]),
     /// Draws each case of these files, or of standard input, this many times.
     Repeat(u64, &'a [&'a str]),
@@ -40,7 +40,7 @@ pub fn command_of<'a>(words: &'a [&'a str]) -> Option<Command<'a>>
     }
 }
 
-/// The first word and those behind it; `None` where there is none.
+/// The first word and those after it; `None` where there is none.
 fn split_first<'a>(words: &'a [&'a str]) -> Option<(&'a str, &'a [&'a str])>
     ensures parts { IfSome result (λ parts. words_at words.now ≡ parts.0.now ∷ words_at parts.1.now) }
     ensures none { IsNone result → words_at words.now ≡ [] }
@@ -51,7 +51,7 @@ fn split_first<'a>(words: &'a [&'a str]) -> Option<(&'a str, &'a [&'a str])>
     }
 }
 
-/// The command of the words behind `--text`.
+/// The command of the words after `--text`.
 fn texts_of<'a>(files: &'a [&'a str]) -> Option<Command<'a>>
     ensures command { IfSome result (Asks (codes "--text" ∷ words_at files.now)) }
     ensures none { IsNone result → AreFiles (words_at files.now) → ⊥ }
@@ -63,7 +63,7 @@ fn texts_of<'a>(files: &'a [&'a str]) -> Option<Command<'a>>
     }
 }
 
-/// The command of the words behind `--check`.
+/// The command of the words after `--check`.
 fn check_of<'a>(files: &'a [&'a str]) -> Option<Command<'a>>
     ensures command { IfSome result (Asks (codes "--check" ∷ words_at files.now)) }
     ensures none { IsNone result → AreFiles (words_at files.now) → ArePairs (words_at files.now) → ⊥ }
@@ -76,7 +76,7 @@ fn check_of<'a>(files: &'a [&'a str]) -> Option<Command<'a>>
     }
 }
 
-/// The command of the words behind `--repeat`.
+/// The command of the words after `--repeat`.
 fn repeat_of<'a>(words: &'a [&'a str]) -> Option<Command<'a>>
     ensures command { IfSome result (Asks (codes "--repeat" ∷ words_at words.now)) }
     ensures none { IsNone result → (digits : Word) (files : List Word) → words_at words.now ≡ digits ∷ files

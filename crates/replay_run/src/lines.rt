@@ -1,4 +1,4 @@
-//! Lines of cases, answered one after another. Nothing of a line is kept behind it.
+//! Lines of cases, answered one after another. Nothing of a line is kept after it.
 
 ghost use Rattle.std.specs.Prelude.{◌≡◌, ℕ, List, [], ◌++◌, Some, OnOk, IfOk, IsOkAnd, if◌then◌else◌, string_bytes};
 ghost use Rattle.std.specs.Io.KnownBytes.{Appends};
@@ -94,7 +94,7 @@ pub fn value_of(alloc: Global, line: Line, text: io::Result<String>) -> Result<V
 fn json_of(alloc: Global, line: Line, text: &str) -> Result<Value, Trouble>
     ensures value { IfOk result (λ value. read text.now ≡ Some (view value)) }
 {
-    Value::from_str(alloc, text).map_err(|error| Trouble::NoJson(line, error))
+    Value::from_str(alloc, text).map_err(|error| Trouble::NotJson(line, error))
 }
 
 /// Writes the answer to a case.
@@ -141,7 +141,7 @@ fn json_line(alloc: Global, id: &str, outcome: Outcome) -> Result<String, AllocE
     Ok(line)
 }
 
-/// Writes the texts of a report, behind a blank line if they aren't the first.
+/// Writes the texts of a report, after a blank line if they aren't the first.
 fn write_report<W: Write>(outcome: Outcome, is_first: bool, out: &mut W) -> Result<(), Trouble>
     ensures text { OnOk result (Appends (W.contents out.old) (W.contents out.new)
         ((if is_first then [] else line_of []) ++ outcome_text outcome)) }

@@ -9,8 +9,8 @@ use std::{fmt, io};
 pub enum Trouble {
     /// A line is no UTF-8.
     NoText(Line),
-    /// A line is no JSON.
-    NoJson(Line, serde_json::Error),
+    /// A line isn't valid JSON.
+    NotJson(Line, serde_json::Error),
     /// A line describes no case, or no answer where one is expected.
     Fault(Line, Fault),
     /// At this line, counted from 1, there is a case or an expected answer, and not both.
@@ -73,7 +73,7 @@ impl fmt::Display for Trouble {
     fn fmt<W: fmt::Write>(&self, f: &mut fmt::Formatter<W>) -> fmt::Result {
         match self {
             Trouble::NoText(line) => write!(f, "{line}: no UTF-8"),
-            Trouble::NoJson(line, error) => write!(f, "{line}: no JSON: {error}"),
+            Trouble::NotJson(line, error) => write!(f, "{line}: not valid JSON: {error}"),
             Trouble::Fault(line, fault) => write!(f, "{line}: {fault}"),
             Trouble::Unpaired(line) => {
                 write!(

@@ -8,7 +8,7 @@ use Rattle.snip_run.specs.declared.words.Options.{Options}
 use Rattle.snip_run.specs.declared.words.Command.{Command}
 use Rattle.snip_run.specs.Words.{Word, Setting, Unicode, Text, Short, Styled, Width, words_of, option_names, IsSound, no_options, options_with, Line, operands_of, HasOperands, AreLine, Says}
 
--- the option that words begin with, and the words behind it
+-- the option that words begin with, and the words after it
 abbrev width_front : List Word → Option (Setting × List Word)
 width_front [] = None
 width_front (digits ∷ ws) = Some (Width digits, ws)
@@ -47,13 +47,13 @@ first_setting s rest (t ∷ later) file more e free =
     let same = same_setting s t rest (flat_map words_of later ++ file ∷ more) (e ∙ append_assoc (words_of t) (flat_map words_of later) (file ∷ more)) in
     (later, ap (λ (x : Setting). x ∷ later) (sym same.0), same.1)
 
--- and the words behind the option are the rest of the line
-pub behind_option : (s : Setting) (rest : List Word) (first : Options) (line : Line) → AreLine (words_of s ++ rest) line → (next : Line) × AreLine rest next × ((c : Command) → Says (options_with first s) next c → Says first line c)
-behind_option s rest first line h =
-    let (later, same, behind) = first_setting s rest line.settings line.file (line.start ∷ line.end ∷ line.title ∷ option_to_list line.label) h.whole h.operands.file in (
+-- and the words after the option are the rest of the line
+pub after_option : (s : Setting) (rest : List Word) (first : Options) (line : Line) → AreLine (words_of s ++ rest) line → (next : Line) × AreLine rest next × ((c : Command) → Says (options_with first s) next c → Says first line c)
+after_option s rest first line h =
+    let (later, same, after) = first_setting s rest line.settings line.file (line.start ∷ line.end ∷ line.title ∷ option_to_list line.label) h.whole h.operands.file in (
       record line { settings = later },
       record {
-        whole = behind;
+        whole = after;
         settings = All-tail IsSound s later (subst (All IsSound) same h.settings);
         operands = record { file = h.operands.file; start = h.operands.start; end = h.operands.end };
       },
@@ -132,15 +132,15 @@ pub record Continues (words rest : List Word) (options : Options) : Type 0 where
 pub continues_none : (words : List Word) → Continues words words no_options
 continues_none words = record { reads = λ line h. (line, h, λ c says. says); form = λ next h. (next, h, λ c says. says) }
 
-pub continues_more : (words rest behind : List Word) (old new : Options) (s : Setting) → Continues words rest old → IsSound s → rest ≡ words_of s ++ behind → new ≡ options_with old s → Continues words behind new
-continues_more words rest behind old new s so_far sound begins set =
+pub continues_more : (words rest after : List Word) (old new : Options) (s : Setting) → Continues words rest old → IsSound s → rest ≡ words_of s ++ after → new ≡ options_with old s → Continues words after new
+continues_more words rest after old new s so_far sound begins set =
     record {
       reads = λ line h.
           let (next, here, from_next) = so_far.reads line h in
-          let (last, there, from_last) = behind_option s behind old next (subst (λ (ws : List Word). AreLine ws next) begins here) in
+          let (last, there, from_last) = after_option s after old next (subst (λ (ws : List Word). AreLine ws next) begins here) in
           (last, there, λ c says. from_next c (from_last c (subst (λ (o : Options). Says o last c) set says)));
       form = λ last there.
-          let (next, here, to_next) = before_option s behind old sound last there in
+          let (next, here, to_next) = before_option s after old sound last there in
           let (line, h, to_line) = so_far.form next (subst (λ (ws : List Word). AreLine ws next) (sym begins) here) in
           (line, h, λ c says. to_line c (to_next c (subst (λ (o : Options). Says o last c) set says)));
     }

@@ -24,7 +24,7 @@ IsNumber word = IsNumeral 10 word × (digits_value 10 word < 2 ^ 64)
 abbrev pub number_in : Word → ℕ
 number_in word = digits_value 10 word
 
--- an option as it is given: one word, or `--width` and the word behind it
+-- an option as it is given: one word, or `--width` and the word after it
 pub data Setting : Type 0 where
   Unicode : Setting
   Text : Setting
@@ -57,7 +57,7 @@ IsSound (Width digits) = IsNumber digits
 abbrev pub no_options : Options
 no_options = record { unicode = false; text = false; short = false; styled = false; width = None }
 
--- these options with one more behind them, which counts in place of an earlier one of its kind
+-- these options with one more after them, which counts in place of an earlier one of its kind
 abbrev pub options_with : Options → Setting → Options
 options_with options Unicode = record options { unicode = true }
 options_with options Text = record options { text = true }
@@ -74,7 +74,7 @@ pub record Line : Type 0 where
   pub title : Word
   pub label : Option Word
 
--- the words behind the options
+-- the words after the options
 abbrev pub operands_of : Line → List Word
 operands_of line = line.file ∷ line.start ∷ line.end ∷ line.title ∷ option_to_list line.label
 
@@ -84,7 +84,7 @@ pub record HasOperands (line : Line) : Type 0 where
   pub start : IsNumber line.start
   pub end : IsNumber line.end
 
--- the words are this line: options, each as it has to be, and the operands behind them
+-- the words are this line: options, each as it has to be, and the operands after them
 pub record AreLine (words : List Word) (line : Line) : Type 0 where
   pub whole : words ≡ flat_map words_of line.settings ++ operands_of line
   pub settings : All IsSound line.settings
@@ -115,7 +115,7 @@ line_of o =
       label = option_map (λ (t : Bor Word). t.now) o.label;
     }
 
--- the command is what the line says, where its options stand behind those given first
+-- the command is what the line says, where its options stand after those given first
 pub record Says (first : Options) (line : Line) (command : Command) : Type 0 where
   pub options : command.options ≡ fold options_with first line.settings
   pub file : command.file.now ≡ line.file

@@ -27,7 +27,7 @@ pub struct Command<'a> {
     pub file: &'a str,
     /// The byte of the text where the mark starts.
     pub start: usize,
-    /// The byte behind the mark.
+    /// The byte after the mark.
     pub end: usize,
     /// The report's title.
     pub title: &'a str,
@@ -35,7 +35,7 @@ pub struct Command<'a> {
     pub label: Option<&'a str>,
 }
 
-/// The words behind the options.
+/// The words after the options.
 #[derive(Clone, Copy)]
 struct Operands<'a> {
     file: &'a str,

@@ -11,7 +11,7 @@ pub length-changed_within : {X : Type 0} (f : X → X) (start end : ℕ) (xs : L
 unfolding changed_within
 length-changed_within f start end xs = grind (arith, places, length-map)
 
--- what stands in, before and behind the change
+-- what stands in, before and after the change
 pub slice_index_or-changed_within_inside : {X : Type 0} (f : X → X) (start end : ℕ) (xs : List X) (k : ℕ) (d : X) → start ≤ k → k < end → k < length xs → slice_index_or (changed_within f start end xs) k d ≡ f (slice_index_or xs k d)
 unfolding changed_within
 slice_index_or-changed_within_inside f start end xs k d from before within =
@@ -25,16 +25,16 @@ pub slice_index_or-changed_within_before : {X : Type 0} (f : X → X) (start end
 unfolding changed_within
 slice_index_or-changed_within_before f start end xs k d before = grind (arith, places, length-map, get_or_past)
 
-pub slice_index_or-changed_within_behind : {X : Type 0} (f : X → X) (start end : ℕ) (xs : List X) (k : ℕ) (d : X) → end ≤ k → slice_index_or (changed_within f start end xs) k d ≡ slice_index_or xs k d
+pub slice_index_or-changed_within_after : {X : Type 0} (f : X → X) (start end : ℕ) (xs : List X) (k : ℕ) (d : X) → end ≤ k → slice_index_or (changed_within f start end xs) k d ≡ slice_index_or xs k d
 unfolding changed_within
-slice_index_or-changed_within_behind f start end xs k d behind = grind (arith, places, length-map, get_or_past, cases_lt k start)
+slice_index_or-changed_within_after f start end xs k d after = grind (arith, places, length-map, get_or_past, cases_lt k start)
 
 -- nothing is changed where the list has no element
 pub changed_within_none : {X : Type 0} (f : X → X) (start end : ℕ) (xs : List X) → min end (length xs) ≤ start → changed_within f start end xs ≡ xs
 changed_within_none f start end xs none =
     same_lists _ _ (length-changed_within f start end xs) (λ k d h. elim (cases_lt k start) [
       | inl before ↦ slice_index_or-changed_within_before f start end xs k d before
-      | inr not_before ↦ slice_index_or-changed_within_behind f start end xs k d (omega (arith, h, length-changed_within f start end xs))
+      | inr not_before ↦ slice_index_or-changed_within_after f start end xs k d (omega (arith, h, length-changed_within f start end xs))
     ])
 
 -- one element is changed
@@ -42,7 +42,7 @@ pub changed_within_one : {X : Type 0} (f : X → X) (i : ℕ) (xs : List X) (d :
 changed_within_one f i xs d within =
     same_lists _ _ (length-changed_within f i (i + 1) xs ∙ sym (length-set xs i _)) (λ k e h. elim (cases_eq k i) [
       | inl here ↦ grind (arith, places, slice_index_or-changed_within_inside, get_or-set_same)
-      | inr other ↦ grind (arith, places, slice_index_or-changed_within_before, slice_index_or-changed_within_behind, get_or-set_other, cases_lt k i)
+      | inr other ↦ grind (arith, places, slice_index_or-changed_within_before, slice_index_or-changed_within_after, get_or-set_other, cases_lt k i)
     ])
 
 -- the row that was changed
@@ -62,7 +62,7 @@ row_at-cells_changed_other f rows row start end r other =
     let change = changed_within f start end in
     elim (cases_lt r row) [
       | inl above ↦ slice_index_or-changed_within_before change row (row + 1) rows r [] above
-      | inr below ↦ slice_index_or-changed_within_behind change row (row + 1) rows r [] (omega arith)
+      | inr below ↦ slice_index_or-changed_within_after change row (row + 1) rows r [] (omega arith)
     ]
 
 -- a grid with no cell there stays as it was
@@ -83,7 +83,7 @@ ChangesCells-cells_changed f rows row start end =
     record {
       inside = λ c from before within. ap (λ r. slice_index_or r c SPACE) same ∙ slice_index_or-changed_within_inside f start end old c SPACE from before within;
       before = λ c h. ap (λ r. slice_index_or r c SPACE) same ∙ slice_index_or-changed_within_before f start end old c SPACE h;
-      behind = λ c h. ap (λ r. slice_index_or r c SPACE) same ∙ slice_index_or-changed_within_behind f start end old c SPACE h;
+      after = λ c h. ap (λ r. slice_index_or r c SPACE) same ∙ slice_index_or-changed_within_after f start end old c SPACE h;
       others = row_at-cells_changed_other f rows row start end;
       width = ap length same ∙ length-changed_within f start end old;
       count = length-changed_within (changed_within f start end) row (row + 1) rows;

@@ -3,8 +3,8 @@ use Rattle.std.proofs.Common.{◌≡◌, ◌≢◌, ℕ, ◌*◌, ◌+◌, ◌-�
 use Rattle.std.proofs.lemmas.Bool.{cases_lt, cases_eq}
 use Rattle.snippet_grid.proofs.CopyLemmas.{piece_cell}
 use Rattle.snippet_grid.proofs.RowWoven.{painted_unheld, shown_in}
-use Rattle.snippet_grid.proofs.ShownLemmas.{pick, painted-grown, holds_inside, holds_elsewhere, holds_before, holds_behind}
-use Rattle.snippet_grid.proofs.SpanLemmas.{within_yes, within_before, within_behind, span_joined}
+use Rattle.snippet_grid.proofs.ShownLemmas.{pick, painted-grown, holds_inside, holds_elsewhere, holds_before, holds_after}
+use Rattle.snippet_grid.proofs.SpanLemmas.{within_yes, within_before, within_after, span_joined}
 use Rattle.snippet_grid.proofs.StretchLemmas.{BeginsWith-same, BeginsWith-trans}
 use Rattle.snippet_grid.specs.Changes.{changed_by, IsChanged, IsGap, IsPartOfRow, ShowsSpan}
 use Rattle.snippet_style.specs.Cell.{Cell, SPACE}
@@ -28,33 +28,33 @@ part_held text runs part d row from to end n are within low some below high cut 
 
 -- no run holds a cell between those that end before it and those that begin after it
 free_between : (text : List ℕ) (runs : List Run) (row from c n : ℕ) → IsRow text row runs → n ≤ length runs → ((d : Run) → 0 < n → (get_or runs (n - 1) d).cell + (get_or runs (n - 1) d).count ≤ from) → from ≤ c → ((d : Run) → n < length runs → c < (get_or runs n d).cell) → shown text runs row c ≡ SPACE
-free_between text runs row from c n are within before low after =
+free_between text runs row from c n are within before low follows =
     painted_unheld text row c SPACE runs (λ k d inside.
     let x = get_or runs k d in
     elim (cases_lt k n) [
-      | inl left ↦ holds_behind x row c (elim (cases_eq k (n - 1)) [
+      | inl left ↦ holds_after x row c (elim (cases_eq k (n - 1)) [
         | inl last ↦ omega (arith, ap (λ i. (get_or runs i d).cell + (get_or runs i d).count) last, before d (omega arith))
         | inr other ↦
             let gap : Precedes x (get_or runs (n - 1) d) = are.ordered k (n - 1) d (omega arith) (omega arith) in
             omega (arith, before d (omega arith), gap.cells (are.in_row k d inside ∙ sym (are.in_row (n - 1) d (omega arith))))
       ])
       | inr right ↦ holds_before x row c (elim (cases_eq k n) [
-        | inl first ↦ omega (arith, ap (λ i. (get_or runs i d).cell) first, after d (omega arith))
+        | inl first ↦ omega (arith, ap (λ i. (get_or runs i d).cell) first, follows d (omega arith))
         | inr other ↦
             let gap : Precedes (get_or runs n d) x = are.ordered n k d (omega arith) inside in
-            omega (arith, after d (omega arith), gap.cells (are.in_row n d (omega arith) ∙ sym (are.in_row k d inside)))
+            omega (arith, follows d (omega arith), gap.cells (are.in_row n d (omega arith) ∙ sym (are.in_row k d inside)))
       ])
     ])
 
 -- the first cells of a stretch, which no run holds
 pub part_free : (old new : List ℕ) (runs : List Run) (part : Run) (row from to end n : ℕ) → IsRow old row runs → n ≤ length runs → ((d : Run) → 0 < n → (get_or runs (n - 1) d).cell + (get_or runs (n - 1) d).count ≤ from) → ((d : Run) → n < length runs → end ≤ (get_or runs n d).cell) → end ≤ to → IsGap new row from end part → IsPartOfRow new row from to (λ c. shown old runs row c) part
-part_free old new runs part row from to end n are within before after below gap =
+part_free old new runs part row from to end n are within before follows below gap =
     record {
       is_run = gap.is_run;
       row_is = gap.row_is;
       cell_is = gap.cell_is;
       within = omega (arith, gap.count_is);
-      cells = λ c first last. gap.cells c ∙ sym (free_between old runs row from c n are within before first (λ d more. omega (arith, after d more, gap.count_is)));
+      cells = λ c first last. gap.cells c ∙ sym (free_between old runs row from c n are within before first (λ d more. omega (arith, follows d more, gap.count_is)));
     }
 
 -- what was changed so far, up to a cell
@@ -77,7 +77,7 @@ change_start old runs row from to change is some =
       ends = λ n all within. all;
       shows = λ c. elim (cases_lt c from) [
         | inl before ↦ sym (pick (changed_by change (shown old runs row c)) (shown old runs row c) (within_before from from c before))
-        | inr after ↦ sym (pick (changed_by change (shown old runs row c)) (shown old runs row c) (within_behind from from c after))
+        | inr follows ↦ sym (pick (changed_by change (shown old runs row c)) (shown old runs row c) (within_after from from c follows))
       ];
       count = omega arith;
     }
@@ -98,7 +98,7 @@ put_span now mid new runs_now runs_new part changed row col to change grows are 
       | inl before ↦ pick x y (holds_before changed row c (omega (arith, cell))) ∙ kept ∙ sym (pick (g c) was (within_before col end c before))
       | inr low ↦ elim (cases_lt c end) [
         | inl high ↦ pick x y (holds_inside changed row c row_is (omega (arith, cell)) (omega (arith, cell, same.count))) ∙ same.cells mid c ∙ ap (λ (d : Cell). changed_by change d) (is.cells c low high) ∙ sym (pick (g c) was (within_yes col end c low high))
-        | inr after ↦ pick x y (holds_behind changed row c (omega (arith, cell, same.count))) ∙ kept ∙ sym (pick (g c) was (within_behind col end c after))
+        | inr follows ↦ pick x y (holds_after changed row c (omega (arith, cell, same.count))) ∙ kept ∙ sym (pick (g c) was (within_after col end c follows))
       ]
     ]
 
@@ -119,7 +119,7 @@ change_next old now mid new runs_old runs_now runs_new part changed row from to 
       low = omega (arith, so_far.low);
       high = is.within;
       ends = λ n all within. put.ends n (so_far.ends n all within) (omega (arith, ends));
-      shows = span_joined old now new runs_old runs_now runs_new row from col (col + part.count) f g f so_far.low (omega arith) (λ c above below. refl) (λ c above below. ap (λ (d : Cell). changed_by change d) (so_far.shows c ∙ pick (f c) (shown old runs_old row c) (within_behind from col c above))) so_far.shows here;
+      shows = span_joined old now new runs_old runs_now runs_new row from col (col + part.count) f g f so_far.low (omega arith) (λ c above below. refl) (λ c above below. ap (λ (d : Cell). changed_by change d) (so_far.shows c ∙ pick (f c) (shown old runs_old row c) (within_after from col c above))) so_far.shows here;
       count = omega (arith, so_far.count, put.few, is.is_run.some, so_far.low);
     }
 

@@ -8,8 +8,8 @@ use Rattle.std.specs.Option.{option_copied}
 use Rattle.std.specs.Str.{chars}
 use Rattle.snippet_grid.proofs.RunLemmas.{run_bytes-grown}
 use Rattle.snippet_grid.proofs.StretchLemmas.{BeginsWith-same, BeginsWith-trans}
-use Rattle.snippet_grid.proofs.ShownLemmas.{painted-append, All-tail, pick, cell_same, holds_inside, holds_elsewhere, holds_before, holds_behind}
-use Rattle.snippet_grid.specs.Changes.{num_met}
+use Rattle.snippet_grid.proofs.ShownLemmas.{painted-append, All-tail, pick, cell_same, holds_inside, holds_elsewhere, holds_before, holds_after}
+use Rattle.snippet_grid.specs.Changes.{num_touched}
 use Rattle.snippet_style.specs.Cell.{Cell, SPACE}
 use Rattle.snippet_grid.specs.Runs.{IsRun, IsPart, BeginsWith, ShowsMore, ShowsCopy, AddsRun, IsRow, EndsBy, Precedes, run_bytes, run_chars, run_cell, holds, painted, shown}
 use Rattle.snippet_grid.specs.declared.runs.Run.{Run}
@@ -24,26 +24,26 @@ copied_yes from to at c low high = and_from _ _ (le-leb at c low) (lt-ltb c (at 
 pub copied_before : (from to at c : ℕ) → c < at → is_copied from to at c ≡ false
 copied_before from to at c before = and_left _ _ (lt-leb at c before)
 
-pub copied_behind : (from to at c : ℕ) → at + (to - from) ≤ c → is_copied from to at c ≡ false
-copied_behind from to at c behind = and_right _ _ (le-ltb c (at + (to - from)) behind)
+pub copied_after : (from to at c : ℕ) → at + (to - from) ≤ c → is_copied from to at c ≡ false
+copied_after from to at c after = and_right _ _ (le-ltb c (at + (to - from)) after)
 
 -- what runs show where none reaches
 pub shown_past : (text : List ℕ) (r c n : ℕ) (d : Cell) (runs : List Run) → EndsBy n runs → n ≤ c → painted text r c d runs ≡ d
 shown_past text r c n d [] ends past = refl
 shown_past text r c n d (run ∷ runs) ends past =
-    ap (λ (cell : Cell). painted text r c cell runs) (pick (run_cell text run c) d (holds_behind run r c (omega (arith, ends 0 run (omega arith))))) ∙ shown_past text r c n d runs (All-tail (λ x. x.cell + x.count ≤ n) run runs ends) past
+    ap (λ (cell : Cell). painted text r c cell runs) (pick (run_cell text run c) d (holds_after run r c (omega (arith, ends 0 run (omega arith))))) ∙ shown_past text r c n d runs (All-tail (λ x. x.cell + x.count ≤ n) run runs ends) past
 
-num_met-append : (from to : ℕ) (xs ys : List Run) → num_met from to (xs ++ ys) ≡ num_met from to xs + num_met from to ys
-num_met-append from to [] ys = omega arith
-num_met-append from to (run ∷ xs) ys = omega (arith, num_met-append from to xs ys)
+num_touched-append : (from to : ℕ) (xs ys : List Run) → num_touched from to (xs ++ ys) ≡ num_touched from to xs + num_touched from to ys
+num_touched-append from to [] ys = omega arith
+num_touched-append from to (run ∷ xs) ys = omega (arith, num_touched-append from to xs ys)
 
--- one more run is met, or not
-met_more : (from to n : ℕ) (runs : List Run) (run : Run) → n < length runs → run ≡ get_or runs n run → num_met from to (take (n + 1) runs) ≡ num_met from to (take n runs) + num_met from to (run ∷ [])
-met_more from to n runs run within read =
-    ap (λ (xs : List Run). num_met from to xs) (take_more runs n run within ∙ ap (λ (x : Run). take n runs ++ x ∷ []) (sym read)) ∙ num_met-append from to (take n runs) (run ∷ [])
+-- one more run is touched, or not
+touched_more : (from to n : ℕ) (runs : List Run) (run : Run) → n < length runs → run ≡ get_or runs n run → num_touched from to (take (n + 1) runs) ≡ num_touched from to (take n runs) + num_touched from to (run ∷ [])
+touched_more from to n runs run within read =
+    ap (λ (xs : List Run). num_touched from to xs) (take_more runs n run within ∙ ap (λ (x : Run). take n runs ++ x ∷ []) (sym read)) ∙ num_touched-append from to (take n runs) (run ∷ [])
 
-met_one : (from to : ℕ) (run : Run) → max run.cell from < min (run.cell + run.count) to → num_met from to (run ∷ []) ≡ 1
-met_one from to run some = ap (λ k. k + 0) (pick 1 0 (lt-ltb (max run.cell from) (min (run.cell + run.count) to) some))
+touched_one : (from to : ℕ) (run : Run) → max run.cell from < min (run.cell + run.count) to → num_touched from to (run ∷ []) ≡ 1
+touched_one from to run some = ap (λ k. k + 0) (pick 1 0 (lt-ltb (max run.cell from) (min (run.cell + run.count) to) some))
 
 -- what was copied so far
 pub record CopySoFar (old now : List ℕ) (out_old out_now runs : List Run) (row from to at n : ℕ) : Type 0 where
@@ -53,7 +53,7 @@ pub record CopySoFar (old now : List ℕ) (out_old out_now runs : List Run) (row
   pub tight : (m : ℕ) → EndsBy m runs → EndsBy (at + (min m to - from)) out_now
   pub before : (k : ℕ) (d : Run) → n ≤ k → k < length runs → EndsBy (at + ((get_or runs k d).cell - from)) out_now
   pub shows : ShowsCopy old now out_old out_now (take n runs) from to at
-  pub count : length out_now ≤ length out_old + num_met from to (take n runs)
+  pub count : length out_now ≤ length out_old + num_touched from to (take n runs)
 
 pub copy_start : (old : List ℕ) (out runs : List Run) (row from to at : ℕ) → IsRow old row out → EndsBy at out → CopySoFar old old out out runs row from to at 0
 copy_start old out runs row from to at is ends =
@@ -67,7 +67,7 @@ copy_start old out runs row from to at is ends =
         | inl before ↦ sym (pick SPACE (shown old out r c) (copied_before from to at c before))
         | inr low ↦ elim (cases_lt c (at + (to - from))) [
           | inl high ↦ shown_past old r c at SPACE out ends low ∙ sym (pick SPACE (shown old out r c) (copied_yes from to at c low high))
-          | inr behind ↦ sym (pick SPACE (shown old out r c) (copied_behind from to at c behind))
+          | inr after ↦ sym (pick SPACE (shown old out r c) (copied_after from to at c after))
         ]
       ];
       count = omega arith;
@@ -100,7 +100,7 @@ copied_cell old now run part piece from to at start end r c before outside grows
     elim (cases_lt c at) [
       | inl left ↦ pick x kept (holds_before piece r c (omega arith)) ∙ pick before outside (copied_before from to at c left) ∙ sym (pick more outside (copied_before from to at c left))
       | inr above ↦ elim (cases_lt c (at + (to - from))) [
-        | inr behind ↦ pick x kept (holds_behind piece r c (omega arith)) ∙ pick before outside (copied_behind from to at c behind) ∙ sym (pick more outside (copied_behind from to at c behind))
+        | inr after ↦ pick x kept (holds_after piece r c (omega arith)) ∙ pick before outside (copied_after from to at c after) ∙ sym (pick more outside (copied_after from to at c after))
         | inl below ↦
             let yes = copied_yes from to at c above below in
             elim (cases_eq run.row r) [
@@ -108,7 +108,7 @@ copied_cell old now run part piece from to at start end r c before outside grows
               | inl here ↦ elim (cases_lt there run.cell) [
                 | inl short ↦ pick x kept (holds_before piece r c (omega arith)) ∙ pick before outside yes ∙ sym (pick more outside yes ∙ pick y before (holds_before run r there short))
                 | inr reaches ↦ elim (cases_lt there (run.cell + run.count)) [
-                  | inr past ↦ pick x kept (holds_behind piece r c (omega arith)) ∙ pick before outside yes ∙ sym (pick more outside yes ∙ pick y before (holds_behind run r there past))
+                  | inr past ↦ pick x kept (holds_after piece r c (omega arith)) ∙ pick before outside yes ∙ sym (pick more outside yes ∙ pick y before (holds_after run r there past))
                   | inl within ↦
                       let first : piece.cell ≤ c = omega arith in
                       let last : c < piece.cell + (end - start) = omega arith in
@@ -159,7 +159,7 @@ copy_next old now new out_old out_now out_new runs run part piece row from to at
           let outside = shown old out_old r c in
           let one_more : shown old (take (n + 1) runs) r there ≡ (if holds run r there then run_cell old run there else before) = shown_more old runs n r there run within ∙ ap (λ (x : Run). if holds x r there then run_cell old x there else before) (sym read) in
           shows r c ∙ ap (λ (d : Cell). if holds piece r c then run_cell now piece c else d) (so_far.shows r c) ∙ copied_cell old now run part piece from to at start end r c before outside so_far.grows is cut is_start is_end some (piece_row ∙ sym run_row) cell count starts ends role link ∙ ap (λ (d : Cell). if is_copied from to at c then d else outside) (sym one_more);
-      count = omega (arith, so_far.count, adds.count, met_more from to n runs run within read, met_one from to run (omega arith));
+      count = omega (arith, so_far.count, adds.count, touched_more from to n runs run within read, touched_one from to run (omega arith));
     }
 
 -- a run that has no cell in the stretch
@@ -179,14 +179,14 @@ copy_past old now out_old out_now runs run row from to at n start end within rea
           so_far.shows r c ∙ elim (cases_lt c at) [
             | inl left ↦ pick before outside (copied_before from to at c left) ∙ sym (pick (shown old (take (n + 1) runs) r there) outside (copied_before from to at c left))
             | inr above ↦ elim (cases_lt c (at + (to - from))) [
-              | inr behind ↦ pick before outside (copied_behind from to at c behind) ∙ sym (pick (shown old (take (n + 1) runs) r there) outside (copied_behind from to at c behind))
+              | inr after ↦ pick before outside (copied_after from to at c after) ∙ sym (pick (shown old (take (n + 1) runs) r there) outside (copied_after from to at c after))
               | inl below ↦
                   let gone : shown old (take (n + 1) runs) r there ≡ before = elim (cases_lt there run.cell) [
                     | inl short ↦ one_more ∙ pick (run_cell old run there) before (holds_before run r there short)
-                    | inr reaches ↦ one_more ∙ pick (run_cell old run there) before (holds_behind run r there (omega arith))
+                    | inr reaches ↦ one_more ∙ pick (run_cell old run there) before (holds_after run r there (omega arith))
                   ] in
                   ap (λ (d : Cell). if is_copied from to at c then d else outside) (sym gone)
             ]
           ];
-      count = omega (arith, so_far.count, met_more from to n runs run within read);
+      count = omega (arith, so_far.count, touched_more from to n runs run within read);
     }

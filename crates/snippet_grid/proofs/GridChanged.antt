@@ -9,7 +9,7 @@ use Rattle.snippet_grid.proofs.GridShown.{count_shown, width_shown, cell_shown, 
 use Rattle.snippet_grid.proofs.PutLemmas.{are_runs-put, ordered-put, apart-put, inside-put, AreOrdered, AreApart}
 use Rattle.snippet_grid.proofs.RowPut.{row_shows, put_shows, put_others}
 use Rattle.snippet_grid.proofs.ShownLemmas.{pick, painted-grown}
-use Rattle.snippet_grid.proofs.SpanLemmas.{within_yes, within_before, within_behind}
+use Rattle.snippet_grid.proofs.SpanLemmas.{within_yes, within_before, within_after}
 use Rattle.snippet_grid.proofs.StretchLemmas.{stretch}
 use Rattle.snippet_grid.specs.Changes.{RowAt, ShowsSpan, is_within}
 use Rattle.snippet_grid.specs.Grid.{row_at, cell_at, cells_changed, ChangesCells}
@@ -38,7 +38,7 @@ ChangesCells-unique f old a b row start end one two =
       | inl before ↦ one.before c before ∙ sym (two.before c before)
       | inr low ↦ elim (cases_lt c end) [
         | inl high ↦ one.inside c low high (omega (arith, one.width)) ∙ sym (two.inside c low high (omega (arith, one.width)))
-        | inr behind ↦ one.behind c behind ∙ sym (two.behind c behind)
+        | inr after ↦ one.after c after ∙ sym (two.after c after)
       ]
     ]) (λ r other. one.others r other ∙ sym (two.others r other))
 
@@ -46,15 +46,15 @@ ChangesCells-unique f old a b row start end one two =
 ChangesCells-shown : (f : Cell → Cell) (old new : List ℕ) (runs now : List Run) (w : List ℕ) (row start end last : ℕ) → last ≡ min end (get_or w row 0) → FitIn w runs → FitIn w now → ShowsSpan old new runs now row start last (λ c. f (shown old runs row c)) → ((r c : ℕ) → r ≢ row → shown new now r c ≡ shown old runs r c) → ChangesCells f (grid_shown old runs w) (grid_shown new now w) row start end
 ChangesCells-shown f old new runs now w row start end last is_last fit_old fit_new shows others =
     let before = grid_shown old runs w in
-    let after = grid_shown new now w in
+    let follows = grid_shown new now w in
     let g = λ (c : ℕ). f (shown old runs row c) in
-    let stays : (c : ℕ) → is_within start last c ≡ false → cell_at after row c ≡ cell_at before row c = λ c no.
+    let stays : (c : ℕ) → is_within start last c ≡ false → cell_at follows row c ≡ cell_at before row c = λ c no.
     cell_shown new now w row c fit_new ∙ shows c ∙ pick (g c) (shown old runs row c) no ∙ sym (cell_shown old runs w row c fit_old) in
     record {
       inside = λ c low high within.
           cell_shown new now w row c fit_new ∙ shows c ∙ pick (g c) (shown old runs row c) (within_yes start last c low (omega (arith, width_shown old runs w row))) ∙ ap f (sym (cell_shown old runs w row c fit_old));
       before = λ c low. stays c (within_before start last c low);
-      behind = λ c high. stays c (within_behind start last c (omega arith));
+      after = λ c high. stays c (within_after start last c (omega arith));
       others = λ r other. same_row old new runs now w w r refl (λ c. others r c other);
       width = width_shown new now w row ∙ sym (width_shown old runs w row);
       count = count_shown new now w ∙ sym (count_shown old runs w);

@@ -4,7 +4,7 @@ use Rattle.std.proofs.lemmas.List.Elements.{All-get_or}
 use Rattle.std.proofs.lemmas.List.{get_or_past, get_or_push}
 use Rattle.std.proofs.lemmas.Bool.{cases_lt, cases_eq}
 use Rattle.std.specs.List.{slice_index_or}
-use Rattle.snippet_style.proofs.CellLemmas.{length-written, slice_index_or-written_before, slice_index_or-written_inside, slice_index_or-written_behind, written_end, written_last}
+use Rattle.snippet_style.proofs.CellLemmas.{length-written, slice_index_or-written_before, slice_index_or-written_inside, slice_index_or-written_after, written_end, written_last}
 use Rattle.snippet_style.specs.Cell.{Cell, SPACE, written}
 use Rattle.snippet_grid.specs.Grid.{row_at, cell_at, cells_written, WritesCells, EachCell}
 
@@ -31,7 +31,7 @@ row_at-cells_written_other rows row at cells r other =
     let new : List (List Cell) = written SPACE (row_at rows row) at cells ∷ [] in
     elim (cases_lt r row) [
       | inl above ↦ slice_index_or-written_before [] rows row new r above
-      | inr below ↦ slice_index_or-written_behind [] rows row new r [] (omega arith)
+      | inr below ↦ slice_index_or-written_after [] rows row new r [] (omega arith)
     ]
 
 -- a write, read cell by cell
@@ -42,7 +42,7 @@ WritesCells-cells_written rows row at cells =
     record {
       inside = λ k h. ap (λ r. slice_index_or r (at + k) SPACE) same ∙ slice_index_or-written_inside SPACE old at cells k SPACE h;
       before = λ c h. ap (λ r. slice_index_or r c SPACE) same ∙ slice_index_or-written_before SPACE old at cells c h;
-      behind = λ c h. ap (λ r. slice_index_or r c SPACE) same ∙ slice_index_or-written_behind SPACE old at cells c SPACE h;
+      after = λ c h. ap (λ r. slice_index_or r c SPACE) same ∙ slice_index_or-written_after SPACE old at cells c SPACE h;
       others = row_at-cells_written_other rows row at cells;
       width = ap length same ∙ length-written SPACE old at cells;
       count = length-written [] rows row (written SPACE old at cells ∷ []);
@@ -60,11 +60,11 @@ row_keeps P old new row at cells writes each all c =
       | inl before ↦ subst P (sym (writes.before c before)) (each row c)
       | inr not_before ↦
           elim (cases_lt c (at + length cells)) [
-            | inl not_behind ↦
+            | inl not_after ↦
                 let inside : c - at < length cells = omega arith in
                 let place : at + (c - at) ≡ c = omega arith in
                 subst (λ n. P (cell_at new row n)) place (subst P (sym (writes.inside (c - at) inside)) (All-get_or P cells (c - at) SPACE inside all))
-            | inr behind ↦ subst P (sym (writes.behind c behind)) (each row c)
+            | inr after ↦ subst P (sym (writes.after c after)) (each row c)
           ]
     ]
 

@@ -8,11 +8,11 @@ use Rattle.std.specs.List.{range_with_len}
 use Rattle.std.specs.Option.{option_copied}
 use Rattle.std.specs.Str.{chars, is_utf8, IsUtf8}
 use Rattle.snippet_grid.proofs.GridLemmas.{WritesCells-cells_written}
-use Rattle.snippet_style.proofs.CellLemmas.{length-drawn, slice_index_or-drawn}
+use Rattle.snippet_style.proofs.CellLemmas.{length-text_cells, slice_index_or-text_cells}
 use Rattle.snippet_grid.proofs.StretchLemmas.{stretch, stretch_added, BeginsWith-append, BeginsWith-le, front_grown, is_utf8-end}
-use Rattle.snippet_grid.proofs.ShownLemmas.{All-tail, pick, cell_same, painted-grown, All-IsRun-grown, holds_inside, holds_elsewhere, holds_before, holds_behind}
+use Rattle.snippet_grid.proofs.ShownLemmas.{All-tail, pick, cell_same, painted-grown, All-IsRun-grown, holds_inside, holds_elsewhere, holds_before, holds_after}
 use Rattle.snippet_grid.specs.Grid.{row_at, cell_at, cells_written, WritesCells}
-use Rattle.snippet_style.specs.Cell.{Cell, SPACE, drawn}
+use Rattle.snippet_style.specs.Cell.{Cell, SPACE, text_cells}
 use Rattle.snippet_grid.specs.Runs.{IsRun, BeginsWith, ShowsMore, FitIn, IsGrid, IsWord, IsWidened, run_bytes, run_chars, run_cell, holds, painted, shown, grid_shown}
 use Rattle.snippet_style.specs.declared.role.ElementStyle.{ElementStyle}
 use Rattle.snippet_grid.specs.declared.runs.Run.{Run}
@@ -41,7 +41,7 @@ unheld text widths r c d (run ∷ runs) fit past =
     let rest = unheld text widths r c d runs (All-tail (λ x. x.cell + x.count ≤ get_or widths x.row 0) run runs fit) past in
     let first : run.cell + run.count ≤ get_or widths run.row 0 = fit 0 run (omega arith) in
     let no : holds run r c ≡ false = elim (cases_eq run.row r) [
-      | inl here ↦ holds_behind run r c (omega (arith, subst (λ k. run.cell + run.count ≤ get_or widths k 0) here first))
+      | inl here ↦ holds_after run r c (omega (arith, subst (λ k. run.cell + run.count ≤ get_or widths k 0) here first))
       | inr other ↦ holds_elsewhere run r c other
     ] in
     ap (λ (cell : Cell). painted text r c cell runs) (pick (run_cell text run c) d no) ∙ rest
@@ -83,7 +83,7 @@ WritesCells-unique old a b row at cells one two =
         | inl high ↦
             let place : at + (c - at) ≡ c = omega arith in
             ap (cell_at a row) (sym place) ∙ one.inside (c - at) (omega arith) ∙ sym (two.inside (c - at) (omega arith)) ∙ ap (cell_at b row) place
-        | inr behind ↦ one.behind c behind ∙ sym (two.behind c behind)
+        | inr after ↦ one.after c after ∙ sym (two.after c after)
       ]
     ] in
     let row_is : row_at a row ≡ row_at b row = same_lists (row_at a row) (row_at b row) (one.width ∙ sym two.width) (λ k d within.
@@ -98,33 +98,33 @@ WritesCells-unique old a b row at cells one two =
     get_or_default a r d [] within ∙ each r ∙ sym (get_or_default b r d [] inside))
 
 -- a word over others writes its cells
-WritesCells-shown : (old mid new : List ℕ) (runs now : List Run) (w v : List ℕ) (run : Run) (row at : ℕ) (role : ElementStyle) (word : List ℕ) → BeginsWith old mid → All (λ x. IsRun old x) runs → FitIn w runs → FitIn v now → IsWord mid row at role word run → ShowsMore mid new runs now run → IsWidened w v row (at + length (chars word)) → WritesCells (grid_shown old runs w) (grid_shown new now v) row at (drawn role (chars word))
+WritesCells-shown : (old mid new : List ℕ) (runs now : List Run) (w v : List ℕ) (run : Run) (row at : ℕ) (role : ElementStyle) (word : List ℕ) → BeginsWith old mid → All (λ x. IsRun old x) runs → FitIn w runs → FitIn v now → IsWord mid row at role word run → ShowsMore mid new runs now run → IsWidened w v row (at + length (chars word)) → WritesCells (grid_shown old runs w) (grid_shown new now v) row at (text_cells role (chars word))
 WritesCells-shown old mid new runs now w v run row at role word grows are fit_old fit_new is shows wide =
-    let cells = drawn role (chars word) in
+    let cells = text_cells role (chars word) in
     let before = grid_shown old runs w in
-    let after = grid_shown new now v in
-    let long : length cells ≡ length (chars word) = length-drawn role (chars word) in
+    let follows = grid_shown new now v in
+    let long : length cells ≡ length (chars word) = length-text_cells role (chars word) in
     let count : run.count ≡ length (chars word) = is.is_run.counted ∙ ap length is.chars_are in
     let unchanged : (r c : ℕ) → holds run r c ≡ false → shown new now r c ≡ shown old runs r c = λ r c no.
     shows r c ∙ pick (run_cell mid run c) (shown mid runs r c) no ∙ painted-grown old mid r c SPACE runs grows are in
-    let same_cell : (r c : ℕ) → holds run r c ≡ false → cell_at after r c ≡ cell_at before r c = λ r c no.
+    let same_cell : (r c : ℕ) → holds run r c ≡ false → cell_at follows r c ≡ cell_at before r c = λ r c no.
     cell_shown new now v r c fit_new ∙ unchanged r c no ∙ sym (cell_shown old runs w r c fit_old) in
     record {
       inside = λ k within.
           let yes = holds_inside run row (at + k) is.row_is (omega (arith, is.cell_is)) (omega (arith, is.cell_is, count, long)) in
           let index : (at + k) - run.cell ≡ k = omega (arith, is.cell_is) in
           let ch : get_or (run_chars mid run) ((at + k) - run.cell) 32 ≡ get_or (chars word) k 0 = ap (λ (cs : List ℕ). get_or cs ((at + k) - run.cell) 32) is.chars_are ∙ ap (λ i. get_or (chars word) i 32) index ∙ get_or_default (chars word) k 32 0 (omega arith) in
-          cell_shown new now v row (at + k) fit_new ∙ shows row (at + k) ∙ pick (run_cell mid run (at + k)) (shown mid runs row (at + k)) yes ∙ cell_same (run_cell mid run (at + k)) record { ch = get_or (chars word) k 0; role = role; link = None } ch is.role_is is.unlinked ∙ sym (slice_index_or-drawn role (chars word) k SPACE (omega arith));
+          cell_shown new now v row (at + k) fit_new ∙ shows row (at + k) ∙ pick (run_cell mid run (at + k)) (shown mid runs row (at + k)) yes ∙ cell_same (run_cell mid run (at + k)) record { ch = get_or (chars word) k 0; role = role; link = None } ch is.role_is is.unlinked ∙ sym (slice_index_or-text_cells role (chars word) k SPACE (omega arith));
       before = λ c low. same_cell row c (holds_before run row c (omega (arith, is.cell_is)));
-      behind = λ c high. same_cell row c (holds_behind run row c (omega (arith, is.cell_is, count, long)));
+      after = λ c high. same_cell row c (holds_after run row c (omega (arith, is.cell_is, count, long)));
       others = λ r other. same_row old new runs now w v r (wide.others r other) (λ c. unchanged r c (holds_elsewhere run r c (λ h. other (sym h ∙ is.row_is))));
       width = width_shown new now v row ∙ wide.here ∙ ap (λ n. max n (at + length (chars word))) (sym (width_shown old runs w row)) ∙ ap (λ n. max (length (row_at before row)) (at + n)) (sym long);
       count = count_shown new now v ∙ wide.count ∙ ap (λ n. max n (row + 1)) (sym (count_shown old runs w));
     }
 
-pub grid_written : (old mid new : List ℕ) (runs now : List Run) (w v : List ℕ) (run : Run) (row at : ℕ) (role : ElementStyle) (word : List ℕ) → BeginsWith old mid → All (λ x. IsRun old x) runs → FitIn w runs → FitIn v now → IsWord mid row at role word run → ShowsMore mid new runs now run → IsWidened w v row (at + length (chars word)) → grid_shown new now v ≡ cells_written (grid_shown old runs w) row at (drawn role (chars word))
+pub grid_written : (old mid new : List ℕ) (runs now : List Run) (w v : List ℕ) (run : Run) (row at : ℕ) (role : ElementStyle) (word : List ℕ) → BeginsWith old mid → All (λ x. IsRun old x) runs → FitIn w runs → FitIn v now → IsWord mid row at role word run → ShowsMore mid new runs now run → IsWidened w v row (at + length (chars word)) → grid_shown new now v ≡ cells_written (grid_shown old runs w) row at (text_cells role (chars word))
 grid_written old mid new runs now w v run row at role word grows are fit_old fit_new is shows wide =
-    WritesCells-unique (grid_shown old runs w) (grid_shown new now v) (cells_written (grid_shown old runs w) row at (drawn role (chars word))) row at (drawn role (chars word)) (WritesCells-shown old mid new runs now w v run row at role word grows are fit_old fit_new is shows wide) (WritesCells-cells_written (grid_shown old runs w) row at (drawn role (chars word)))
+    WritesCells-unique (grid_shown old runs w) (grid_shown new now v) (cells_written (grid_shown old runs w) row at (text_cells role (chars word))) row at (text_cells role (chars word)) (WritesCells-shown old mid new runs now w v run row at role word grows are fit_old fit_new is shows wide) (WritesCells-cells_written (grid_shown old runs w) row at (text_cells role (chars word)))
 
 -- a word that was put at the end of the text
 pub IsWord-pushed : (old new word : List ℕ) (run : Run) (row at : ℕ) (role : ElementStyle) → IsUtf8 old → IsUtf8 new → 0 < length (chars word) → at + length (chars word) < 2 ^ 64 → new ≡ old ++ word → run.row ≡ row → run.cell ≡ at → run.count ≡ length (chars word) → run.start ≡ length old → run.end ≡ length new → run.role ≡ role → option_copied run.link ≡ None → IsWord new row at role word run

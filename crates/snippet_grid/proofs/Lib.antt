@@ -5,7 +5,7 @@ pub mod CutLemmas
 pub mod GridChanged
 pub mod GridLemmas
 pub mod GridShown
-pub mod MetRuns
+pub mod TouchedRuns
 pub mod OutcomeLemmas
 pub mod PieceLemmas
 pub mod PrintsOnce

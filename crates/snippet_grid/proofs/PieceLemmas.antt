@@ -3,14 +3,14 @@ use Rattle.std.proofs.Common.{◌≡◌, ℕ, suc, ◌+◌, ◌-◌, ◌<◌, �
 use Rattle.std.proofs.lemmas.List.{places, same_lists, take_all, take_more, get_or_default, get_or-take, get_or-drop, get_or-set_same, get_or-set_other, length-set, length-drop}
 use Rattle.std.proofs.lemmas.List.Elements.{All-cons, All-nil}
 use Rattle.std.proofs.lemmas.Bool.{cases_lt, cases_eq, true≢false}
-use Rattle.snippet_grid.proofs.ShownLemmas.{painted-append, run_cell-grown, ShowsMore-joined, AddsRun-joined, pick, cell_same, holds_inside, holds_elsewhere, holds_before, holds_behind}
+use Rattle.snippet_grid.proofs.ShownLemmas.{painted-append, run_cell-grown, ShowsMore-joined, AddsRun-joined, pick, cell_same, holds_inside, holds_elsewhere, holds_before, holds_after}
 use Rattle.snippet_grid.proofs.CopyLemmas.{shown_past}
 use Rattle.snippet_grid.proofs.PutLemmas.{AreOrdered, AreApart, IsRow-added, painted_elsewhere}
 use Rattle.snippet_grid.proofs.RowWoven.{painted_unheld}
 use Rattle.snippet_grid.proofs.StretchLemmas.{stretch, below_take}
 use Rattle.snippet_grid.proofs.TouchLemmas.{cases_held, touched_stretch, IsPut-touched}
 use Rattle.snippet_style.specs.Cell.{Cell, SPACE}
-use Rattle.snippet_grid.specs.Runs.{IsRun, IsRow, IsPart, BeginsWith, ShowsMore, AddsRun, EndsBy, Precedes, Differ, GoesOn, Touches, IsClear, IsJoined, IsTouched, IsFront, IsBack, ArePieces, IsPut, run_chars, run_cell, holds, painted, shown}
+use Rattle.snippet_grid.specs.Runs.{IsRun, IsRow, IsPart, BeginsWith, ShowsMore, AddsRun, EndsBy, Precedes, Differ, Continues, Touches, IsClear, IsJoined, IsTouched, IsFront, IsBack, ArePieces, IsPut, run_chars, run_cell, holds, painted, shown}
 use Rattle.snippet_grid.specs.declared.runs.Run.{Run}
 
 -- a part of a run shows what the run shows where it holds the same
@@ -39,10 +39,10 @@ unheld_before r c runs all =
       | inr other ↦ holds_elsewhere (get_or runs k d) r c other
     ]
 
-unheld_behind : (r c : ℕ) (runs : List Run) → All (λ x. x.row ≡ r → x.cell + x.count ≤ c) runs → All (λ x. holds x r c ≡ false) runs
-unheld_behind r c runs all =
+unheld_after : (r c : ℕ) (runs : List Run) → All (λ x. x.row ≡ r → x.cell + x.count ≤ c) runs → All (λ x. holds x r c ≡ false) runs
+unheld_after r c runs all =
     λ k d within. elim (cases_eq (get_or runs k d).row r) [
-      | inl here ↦ holds_behind (get_or runs k d) r c (all k d within here)
+      | inl here ↦ holds_after (get_or runs k d) r c (all k d within here)
       | inr other ↦ holds_elsewhere (get_or runs k d) r c other
     ]
 
@@ -71,15 +71,15 @@ IsFront-none text runs run all =
       is_row = IsRow-none text run.row;
       shows = λ r c before. sym (painted_unheld text r c SPACE runs (unheld_before r c runs (λ k d within here. omega (arith, all k d within))));
       ends = All-nil _;
-      after = λ x some. All-nil _;
-      apart_after = λ x some. All-nil _;
+      follows = λ x some. All-nil _;
+      apart_follows = λ x some. All-nil _;
       few = omega arith;
       one = omega arith;
     }
 
 -- where the first run begins after a cell, each does
-pub begin_behind : (text : List ℕ) (run : Run) (runs : List Run) (n : ℕ) (d : Run) → IsTouched text run runs → n ≤ (get_or runs 0 d).cell → All (λ x. n ≤ x.cell) runs
-begin_behind text run runs n d is first =
+pub begin_after : (text : List ℕ) (run : Run) (runs : List Run) (n : ℕ) (d : Run) → IsTouched text run runs → n ≤ (get_or runs 0 d).cell → All (λ x. n ≤ x.cell) runs
+begin_after text run runs n d is first =
     λ k e within.
     elim (cases_eq k 0) [
       | inl zero ↦ subst (λ i. n ≤ (get_or runs i e).cell) (sym zero) (subst (λ (x : Run). n ≤ x.cell) (get_or_default runs 0 d e (omega arith)) first)
@@ -114,10 +114,10 @@ front_first text first runs run left is before cut =
           omega (arith, touch.reaches, (is.is_row.ordered 0 (suc k) d (omega arith) (omega arith)).cells one)) in
           part_shows text first left first.cell run.cell r c SPACE cut (omega arith) touch.reaches (λ low high. (low, below)) ∙ sym (painted_unheld text r c (if holds first r c then run_cell text first c else SPACE) runs rest);
       ends = All-cons (λ x. x.cell + x.count ≤ run.cell) left [] (omega (arith, cut.cell, cut.count)) (All-nil _);
-      after = λ x all.
+      follows = λ x all.
           let one : Precedes x first = all 0 first (omega arith) in
           All-cons (λ y. Precedes x y) left [] record { rows = omega (arith, cut.row, one.rows); cells = λ h. omega (arith, cut.cell, one.cells (h ∙ cut.row)) } (All-nil _);
-      apart_after = λ x all. All-cons (λ y. Differ x y) left [] (λ at. all 0 first (omega arith) record { row = at.row ∙ cut.row; touches = at.touches ∙ cut.cell; role = at.role ∙ cut.role; link = at.link ∙ cut.link }) (All-nil _);
+      apart_follows = λ x all. All-cons (λ y. Differ x y) left [] (λ at. all 0 first (omega arith) record { row = at.row ∙ cut.row; touches = at.touches ∙ cut.cell; role = at.role ∙ cut.role; link = at.link ∙ cut.link }) (All-nil _);
       few = omega arith;
       one = omega arith;
     }
@@ -132,11 +132,11 @@ pub IsBack-none : (text : List ℕ) (runs : List Run) (run : Run) → All (λ x.
 IsBack-none text runs run all =
     record {
       is_row = IsRow-none text run.row;
-      shows = λ r c past. sym (painted_unheld text r c SPACE runs (unheld_behind r c runs (λ k d within here. omega (arith, all k d within))));
+      shows = λ r c past. sym (painted_unheld text r c SPACE runs (unheld_after r c runs (λ k d within here. omega (arith, all k d within))));
       starts = All-nil _;
       ends = λ n some. All-nil _;
-      behind = λ y some. All-nil _;
-      apart_behind = λ y some. All-nil _;
+      after = λ y some. All-nil _;
+      apart_after = λ y some. All-nil _;
       few = omega arith;
       one = omega arith;
     }
@@ -151,23 +151,23 @@ IsBack-some text runs run last right i from to is is_last read is_from is_to pas
     let starts : last.cell ≤ from = omega (arith, is_from, touch.starts, ap (λ (x : Run). x.cell) read) in
     record {
       is_row = IsRow-one text run.row right cut.is_run (cut.row ∙ row);
-      shows = λ r c behind.
-          let front : All (λ x. holds x r c ≡ false) (take i runs) = unheld_behind r c (take i runs) (λ k d inside here.
+      shows = λ r c after.
+          let front : All (λ x. holds x r c ≡ false) (take i runs) = unheld_after r c (take i runs) (λ k d inside here.
           let short : k < i = below_take runs i k inside in
           let seen : get_or (take i runs) k d ≡ get_or runs k d = get_or-take i runs k d short in
           let one : (get_or runs k d).row ≡ (get_or runs i d).row = is.is_row.in_row k d (omega arith) ∙ sym (is.is_row.in_row i d within) in
           let last_d : get_or runs i d ≡ last = get_or_default runs i d last within ∙ sym read in
           let end : (get_or runs k d).cell + (get_or runs k d).count ≤ last.cell = subst (λ (x : Run). (get_or runs k d).cell + (get_or runs k d).count ≤ x.cell) last_d ((is.is_row.ordered k i d short within).cells one) in
-          subst (λ (x : Run). x.cell + x.count ≤ c) (sym seen) (omega (arith, end, starts, is_from, behind))) in
-          part_shows text last right from to r c SPACE cut starts (omega (arith, is_to)) (λ low high. (omega (arith, is_from, behind), omega (arith, is_to, high))) ∙ sym (ap (λ (l : List Run). shown text l r c) split ∙ painted-append text r c SPACE (take i runs) (last ∷ []) ∙ ap (λ (d : Cell). if holds last r c then run_cell text last c else d) (painted_unheld text r c SPACE (take i runs) front));
+          subst (λ (x : Run). x.cell + x.count ≤ c) (sym seen) (omega (arith, end, starts, is_from, after))) in
+          part_shows text last right from to r c SPACE cut starts (omega (arith, is_to)) (λ low high. (omega (arith, is_from, after), omega (arith, is_to, high))) ∙ sym (ap (λ (l : List Run). shown text l r c) split ∙ painted-append text r c SPACE (take i runs) (last ∷ []) ∙ ap (λ (d : Cell). if holds last r c then run_cell text last c else d) (painted_unheld text r c SPACE (take i runs) front));
       starts = All-cons (λ x. run.cell + run.count ≤ x.cell) right [] (omega (arith, cut.cell, is_from)) (All-nil _);
       ends = λ n all.
           let high : last.cell + last.count ≤ n = subst (λ (x : Run). x.cell + x.count ≤ n) (sym read) (all i last within) in
           All-cons (λ x. x.cell + x.count ≤ n) right [] (omega (arith, cut.cell, cut.count, is_to, high)) (All-nil _);
-      behind = λ y all.
+      after = λ y all.
           let one : Precedes last y = subst (λ x. Precedes x y) (sym read) (all i last within) in
           All-cons (λ x. Precedes x y) right [] record { rows = omega (arith, cut.row, one.rows); cells = λ h. omega (arith, cut.cell, cut.count, is_to, one.cells (sym cut.row ∙ h)) } (All-nil _);
-      apart_behind = λ y all.
+      apart_after = λ y all.
           let one : Differ last y = subst (λ x. Differ x y) (sym read) (all i last within) in
           All-cons (λ x. Differ x y) right [] (λ at. one record { row = sym cut.row ∙ at.row; touches = omega (arith, cut.cell, cut.count, is_to, at.touches); role = sym cut.role ∙ at.role; link = sym cut.link ∙ at.link }) (All-nil _);
       few = omega arith;
@@ -179,10 +179,10 @@ record IsBegun (old new : List ℕ) (front begun : List Run) (run : Run) : Type 
   is_row : IsRow new run.row begun
   shows : ShowsMore old new front begun run
   ends : EndsBy (run.cell + run.count) begun
-  after : (x : Run) → IsClear x run → All (λ y. Precedes x y) front → All (λ y. Precedes x y) begun
-  apart_after : (x : Run) → IsClear x run → All (λ y. Differ x y) front → All (λ y. Differ x y) begun
-  behind : (y : Run) → IsClear run y → All (λ x. Precedes x y) begun
-  apart_behind : (y : Run) → IsClear run y → All (λ x. Differ x y) begun
+  follows : (x : Run) → IsClear x run → All (λ y. Precedes x y) front → All (λ y. Precedes x y) begun
+  apart_follows : (x : Run) → IsClear x run → All (λ y. Differ x y) front → All (λ y. Differ x y) begun
+  after : (y : Run) → IsClear run y → All (λ x. Precedes x y) begun
+  apart_after : (y : Run) → IsClear run y → All (λ x. Differ x y) begun
   few : length begun ≤ length front + 1
 
 begun_by : (old new : List ℕ) (runs front begun : List Run) (run : Run) → IsRun old run → IsFront old runs run front → ShowsMore old new front begun run → All (λ x. IsRun new x) begun → AddsRun front begun run → IsBegun old new front begun run
@@ -191,12 +191,12 @@ begun_by old new runs front begun run is is_front shows are adds =
       is_row = IsRow-added old new run.row run.cell front begun run is_front.is_row is_front.ends (omega arith) refl are adds;
       shows = shows;
       ends = adds.ends (run.cell + run.count) (λ k d within. omega (arith, is_front.ends k d within)) (omega arith);
-      after = λ x clear all. adds.after x all record { rows = clear.rows; cells = λ h. omega (arith, clear.cells h) };
-      apart_after = λ x clear all. adds.apart_after x all (λ at. absurd (omega (arith, clear.cells at.row, at.touches)));
-      behind = λ y clear. adds.behind y (λ k d within.
+      follows = λ x clear all. adds.follows x all record { rows = clear.rows; cells = λ h. omega (arith, clear.cells h) };
+      apart_follows = λ x clear all. adds.apart_follows x all (λ at. absurd (omega (arith, clear.cells at.row, at.touches)));
+      after = λ y clear. adds.after y (λ k d within.
           let here = is_front.is_row.in_row k d within in
           record { rows = omega (arith, here, clear.rows); cells = λ h. omega (arith, is_front.ends k d within, clear.cells (sym here ∙ h)) }) record { rows = clear.rows; cells = λ h. omega (arith, clear.cells h) };
-      apart_behind = λ y clear. adds.apart_behind y (λ k d within at.
+      apart_after = λ y clear. adds.apart_after y (λ k d within at.
           let here = is_front.is_row.in_row k d within in
           absurd (omega (arith, is_front.ends k d within, at.touches, clear.cells (sym here ∙ at.row)))) (λ at. absurd (omega (arith, clear.cells at.row, at.touches)));
       few = adds.count;
@@ -230,7 +230,7 @@ pieces_show t0 t1 t2 runs front begun pieces back run touched is_front is_back s
                       same ∙ pick x left no ∙ blank ∙ sym none ∙ sym (pick x was no)
                 ]
             | inr past ↦
-                let no = holds_behind run r c past in
+                let no = holds_after run r c past in
                 let begun_is : shown t1 begun r c ≡ SPACE = shows r c ∙ pick x left no ∙ blank in
                 over r c ∙ ap (λ (d : Cell). painted t0 r c d back) begun_is ∙ is_back.shows r c past ∙ sym (pick x was no)
           ]
@@ -244,10 +244,10 @@ ArePieces-two old new runs front pieces run touched is is_front is_back shows ar
       is_row = begun.is_row;
       shows = pieces_show old new new runs front pieces pieces [] run touched is_front is_back shows (λ r c. refl);
       ends = λ n all high k d within. omega (arith, begun.ends k d within);
-      after = λ x clear all. begun.after x clear (is_front.after x all);
-      apart_after = λ x clear all. begun.apart_after x clear (is_front.apart_after x all);
-      behind = λ y clear all. begun.behind y clear;
-      apart_behind = λ y clear all. begun.apart_behind y clear;
+      follows = λ x clear all. begun.follows x clear (is_front.follows x all);
+      apart_follows = λ x clear all. begun.apart_follows x clear (is_front.apart_follows x all);
+      after = λ y clear all. begun.after y clear;
+      apart_after = λ y clear all. begun.apart_after y clear;
       few = omega (arith, begun.few, is_front.few);
     }
 
@@ -263,10 +263,10 @@ ArePieces-three t0 t1 t2 runs front begun pieces run right touched is is_front i
       is_row = IsRow-added t1 t2 run.row (run.cell + run.count) begun pieces right begins.is_row begins.ends starts row are_more adds_more;
       shows = pieces_show t0 t1 t2 runs front begun pieces (right ∷ []) run touched is_front is_back shows (λ r c. shows_more r c ∙ ap (λ (d : Cell). if holds right r c then d else shown t1 begun r c) (same_cell c));
       ends = λ n all high. adds_more.ends n (λ k d within. omega (arith, begins.ends k d within)) (is_back.ends n all 0 right (omega arith));
-      after = λ x clear all. adds_more.after x (begins.after x clear (is_front.after x all)) record { rows = omega (arith, clear.rows, row); cells = λ h. omega (arith, clear.cells (h ∙ row), starts) };
-      apart_after = λ x clear all. adds_more.apart_after x (begins.apart_after x clear (is_front.apart_after x all)) (λ at. absurd (omega (arith, clear.cells (at.row ∙ row), at.touches, starts)));
-      behind = λ y clear all. adds_more.behind y (begins.behind y clear) (is_back.behind y all 0 right (omega arith));
-      apart_behind = λ y clear all. adds_more.apart_behind y (begins.apart_behind y clear) (is_back.apart_behind y all 0 right (omega arith));
+      follows = λ x clear all. adds_more.follows x (begins.follows x clear (is_front.follows x all)) record { rows = omega (arith, clear.rows, row); cells = λ h. omega (arith, clear.cells (h ∙ row), starts) };
+      apart_follows = λ x clear all. adds_more.apart_follows x (begins.apart_follows x clear (is_front.apart_follows x all)) (λ at. absurd (omega (arith, clear.cells (at.row ∙ row), at.touches, starts)));
+      after = λ y clear all. adds_more.after y (begins.after y clear) (is_back.after y all 0 right (omega arith));
+      apart_after = λ y clear all. adds_more.apart_after y (begins.apart_after y clear) (is_back.apart_after y all 0 right (omega arith));
       few = omega (arith, begins.few, is_front.one, is_back.few, adds_more.count);
     }
 
@@ -277,14 +277,14 @@ IsFront-all text runs run is_row ends one =
       is_row = is_row;
       shows = λ r c before. refl;
       ends = ends;
-      after = λ x all. all;
-      apart_after = λ x all. all;
+      follows = λ x all. all;
+      apart_follows = λ x all. all;
       few = omega arith;
       one = one;
     }
 
 -- one run is touched, and the run goes on where it ends: it is made longer
-ArePieces-one : (old new : List ℕ) (first run whole : Run) → BeginsWith old new → IsTouched old run (first ∷ []) → IsRun old run → GoesOn first run → IsJoined old new first run whole → ArePieces old new (first ∷ []) (whole ∷ []) run
+ArePieces-one : (old new : List ℕ) (first run whole : Run) → BeginsWith old new → IsTouched old run (first ∷ []) → IsRun old run → Continues first run → IsJoined old new first run whole → ArePieces old new (first ∷ []) (whole ∷ []) run
 ArePieces-one old new first run whole grows touched is goes joined =
     let runs = first ∷ [] in
     let before : EndsBy run.cell runs = All-cons (λ x. x.cell + x.count ≤ run.cell) first [] (omega (arith, goes.touches)) (All-nil _) in
@@ -298,7 +298,7 @@ set_split xs start end y one within =
     same_lists _ _ (grind (arith, places, length-set xs start y)) (λ k d h. grind (arith, places, length-set xs start y, cases_lt k start, cases_eq k start, get_or-set_other xs start k y d, get_or-set_same xs start y d))
 
 -- what is put where it makes a single run longer
-pub IsPut-one : (old new : List ℕ) (runs : List Run) (run first whole : Run) (start end : ℕ) → end - start ≡ 1 → end ≤ length runs → first ≡ get_or runs start first → ((k : ℕ) (d : Run) → k < start → IsClear (get_or runs k d) run) → ((k : ℕ) (d : Run) → start ≤ k → k < end → Touches (get_or runs k d) run) → ((k : ℕ) (d : Run) → end ≤ k → k < length runs → IsClear run (get_or runs k d)) → All (λ x. IsRun old x) runs → AreOrdered runs → AreApart runs → BeginsWith old new → IsRun old run → GoesOn first run → IsJoined old new first run whole → IsPut old new runs (set runs start whole) run
+pub IsPut-one : (old new : List ℕ) (runs : List Run) (run first whole : Run) (start end : ℕ) → end - start ≡ 1 → end ≤ length runs → first ≡ get_or runs start first → ((k : ℕ) (d : Run) → k < start → IsClear (get_or runs k d) run) → ((k : ℕ) (d : Run) → start ≤ k → k < end → Touches (get_or runs k d) run) → ((k : ℕ) (d : Run) → end ≤ k → k < length runs → IsClear run (get_or runs k d)) → All (λ x. IsRun old x) runs → AreOrdered runs → AreApart runs → BeginsWith old new → IsRun old run → Continues first run → IsJoined old new first run whole → IsPut old new runs (set runs start whole) run
 IsPut-one old new runs run first whole start end one within read above touch below are ordered apart grows is goes joined =
     let low : start ≤ end = omega (arith, one) in
     let only : stretch runs start end ≡ first ∷ [] = ap (λ n. take n (drop start runs)) one ∙ take_more (drop start runs) 0 first (omega (arith, length-drop start runs, one, within)) ∙ ap (λ x. x ∷ []) (get_or-drop start runs 0 first ∙ ap (λ k. get_or runs k first) (omega arith) ∙ sym read) in

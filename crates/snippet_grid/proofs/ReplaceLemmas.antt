@@ -5,7 +5,7 @@ use Rattle.std.proofs.lemmas.Bool.{cases_lt}
 use Rattle.std.specs.List.{slice_index_or}
 use Rattle.snippet_grid.specs.Grid.{row_at, replaced_within, cells_replaced, ReplacesCells}
 use Rattle.snippet_style.specs.Cell.{Cell, SPACE}
-use Rattle.snippet_grid.proofs.ChangeLemmas.{changed_within_one, changed_within_none, slice_index_or-changed_within_inside, slice_index_or-changed_within_before, slice_index_or-changed_within_behind, length-changed_within}
+use Rattle.snippet_grid.proofs.ChangeLemmas.{changed_within_one, changed_within_none, slice_index_or-changed_within_inside, slice_index_or-changed_within_before, slice_index_or-changed_within_after, length-changed_within}
 
 -- a stretch that is there is replaced
 pub replaced_there : {X : Type 0} (start end : ℕ) (new xs : List X) → start < end → end ≤ length xs → replaced_within start end new xs ≡ take start xs ++ new ++ drop end xs
@@ -42,7 +42,7 @@ row_at-cells_replaced_other rows row start end cells r other =
     let change = replaced_within start end cells in
     elim (cases_lt r row) [
       | inl above ↦ slice_index_or-changed_within_before change row (row + 1) rows r [] above
-      | inr below ↦ slice_index_or-changed_within_behind change row (row + 1) rows r [] (omega arith)
+      | inr below ↦ slice_index_or-changed_within_after change row (row + 1) rows r [] (omega arith)
     ]
 
 -- a grid whose row keeps its cells stays as it was
@@ -73,12 +73,12 @@ replaced_before start end new xs c before =
       | inr none ↦ ap (λ ys. slice_index_or ys c SPACE) (replaced_empty start end new xs none)
     ]
 
--- the cells in the place of the stretch, and those behind them
+-- the cells in the place of the stretch, and those after them
 put_inside : (start end : ℕ) (new xs : List Cell) (k : ℕ) → start < end → end ≤ length xs → k < length new → slice_index_or (take start xs ++ new ++ drop end xs) (start + k) SPACE ≡ slice_index_or new k SPACE
 put_inside start end new xs k some within inside = grind (arith, places)
 
-put_behind : (start end : ℕ) (new xs : List Cell) (k : ℕ) → start < end → end ≤ length xs → slice_index_or (take start xs ++ new ++ drop end xs) (start + length new + k) SPACE ≡ slice_index_or xs (end + k) SPACE
-put_behind start end new xs k some within = grind (arith, places)
+put_after : (start end : ℕ) (new xs : List Cell) (k : ℕ) → start < end → end ≤ length xs → slice_index_or (take start xs ++ new ++ drop end xs) (start + length new + k) SPACE ≡ slice_index_or xs (end + k) SPACE
+put_after start end new xs k some within = grind (arith, places)
 
 put_length : (start end : ℕ) (new xs : List Cell) → start < end → end ≤ length xs → length (take start xs ++ new ++ drop end xs) + (end - start) ≡ length xs + length new
 put_length start end new xs some within = grind (arith, places)
@@ -90,7 +90,7 @@ ReplacesCells-cells_replaced rows row start end cells =
     let same = row_at-cells_replaced_same rows row start end cells in
     record {
       inside = λ some within k h. ap (λ r. slice_index_or r (start + k) SPACE) (same ∙ replaced_there start end cells old some within) ∙ put_inside start end cells old k some within h;
-      behind = λ some within k. ap (λ r. slice_index_or r (start + length cells + k) SPACE) (same ∙ replaced_there start end cells old some within) ∙ put_behind start end cells old k some within;
+      after = λ some within k. ap (λ r. slice_index_or r (start + length cells + k) SPACE) (same ∙ replaced_there start end cells old some within) ∙ put_after start end cells old k some within;
       width = λ some within. ap (λ (r : List Cell). length r + (end - start)) (same ∙ replaced_there start end cells old some within) ∙ put_length start end cells old some within;
       before = λ c h. ap (λ r. slice_index_or r c SPACE) same ∙ replaced_before start end cells old c h;
       others = row_at-cells_replaced_other rows row start end cells;

@@ -5,18 +5,18 @@ use Rattle.std.proofs.lemmas.List.Elements.{All-append}
 use Rattle.std.proofs.lemmas.Bool.{cases_lt}
 use Rattle.std.proofs.lemmas.Str.{chars-nil}
 use Rattle.std.specs.Str.{chars}
-use Rattle.snippet_grid.proofs.CopyLemmas.{copied_yes, copied_before, copied_behind, shown_past}
+use Rattle.snippet_grid.proofs.CopyLemmas.{copied_yes, copied_before, copied_after, shown_past}
 use Rattle.snippet_grid.proofs.GridChanged.{same_rows, IsExchanged, put_elsewhere}
-use Rattle.snippet_style.proofs.CellLemmas.{slice_index_or-drawn}
+use Rattle.snippet_style.proofs.CellLemmas.{slice_index_or-text_cells}
 use Rattle.snippet_grid.proofs.GridShown.{count_shown, width_shown, cell_shown, same_row}
 use Rattle.snippet_grid.proofs.ReplaceLemmas.{ReplacesCells-cells_replaced}
 use Rattle.snippet_grid.proofs.RowPut.{row_shows, put_shows}
-use Rattle.snippet_grid.proofs.ShownLemmas.{pick, cell_same, painted-grown, holds_inside, holds_before, holds_behind}
-use Rattle.snippet_grid.proofs.SpanLemmas.{within_yes, within_before, within_behind}
+use Rattle.snippet_grid.proofs.ShownLemmas.{pick, cell_same, painted-grown, holds_inside, holds_before, holds_after}
+use Rattle.snippet_grid.proofs.SpanLemmas.{within_yes, within_before, within_after}
 use Rattle.snippet_grid.proofs.StretchLemmas.{stretch, below_take, BeginsWith-trans}
 use Rattle.snippet_grid.specs.Changes.{ShowsSpan, ShowsReplaced}
 use Rattle.snippet_grid.specs.Grid.{row_at, cell_at, cells_replaced, ReplacesCells}
-use Rattle.snippet_style.specs.Cell.{Cell, SPACE, drawn}
+use Rattle.snippet_style.specs.Cell.{Cell, SPACE, text_cells}
 use Rattle.snippet_grid.specs.Runs.{IsRun, IsRow, IsWord, BeginsWith, EndsBy, FitIn, ShowsCopy, ShowsMore, run_cell, run_chars, shown, grid_shown}
 use Rattle.snippet_style.specs.declared.role.ElementStyle.{ElementStyle}
 use Rattle.snippet_grid.specs.declared.runs.Run.{Run}
@@ -32,28 +32,28 @@ span_empty text out row at word g none =
     let no_char : length (chars word) ≡ 0 = ap (λ (w : List ℕ). length (chars w)) (is_nil word none) ∙ ap length chars-nil in
     sym (elim (cases_lt c at) [
       | inl before ↦ pick (g c) (shown text out row c) (within_before at (at + length (chars word)) c before)
-      | inr low ↦ pick (g c) (shown text out row c) (within_behind at (at + length (chars word)) c (omega arith))
+      | inr low ↦ pick (g c) (shown text out row c) (within_after at (at + length (chars word)) c (omega arith))
     ])
 
 -- a word that was added after some runs
-pub word_span : (t0 t1 t2 : List ℕ) (out now : List Run) (run : Run) (row at : ℕ) (role : ElementStyle) (word : List ℕ) → BeginsWith t0 t1 → All (λ x. IsRun t0 x) out → IsWord t1 row at role word run → ShowsMore t1 t2 out now run → ShowsSpan t0 t2 out now row at (at + length (chars word)) (λ c. get_or (drawn role (chars word)) (c - at) SPACE)
+pub word_span : (t0 t1 t2 : List ℕ) (out now : List Run) (run : Run) (row at : ℕ) (role : ElementStyle) (word : List ℕ) → BeginsWith t0 t1 → All (λ x. IsRun t0 x) out → IsWord t1 row at role word run → ShowsMore t1 t2 out now run → ShowsSpan t0 t2 out now row at (at + length (chars word)) (λ c. get_or (text_cells role (chars word)) (c - at) SPACE)
 word_span t0 t1 t2 out now run row at role word grows are is shows =
     λ c.
     let end = at + length (chars word) in
     let x = run_cell t1 run c in
     let y = shown t1 out row c in
-    let g : Cell = get_or (drawn role (chars word)) (c - at) SPACE in
+    let g : Cell = get_or (text_cells role (chars word)) (c - at) SPACE in
     let stays : y ≡ shown t0 out row c = painted-grown t0 t1 row c SPACE out grows are in
     let count : run.count ≡ length (chars word) = is.is_run.counted ∙ ap length is.chars_are in
     shows row c ∙ elim (cases_lt c at) [
       | inl before ↦ pick x y (holds_before run row c (omega (arith, is.cell_is))) ∙ stays ∙ sym (pick g (shown t0 out row c) (within_before at end c before))
       | inr low ↦ elim (cases_lt c end) [
-        | inr behind ↦ pick x y (holds_behind run row c (omega (arith, is.cell_is))) ∙ stays ∙ sym (pick g (shown t0 out row c) (within_behind at end c behind))
+        | inr after ↦ pick x y (holds_after run row c (omega (arith, is.cell_is))) ∙ stays ∙ sym (pick g (shown t0 out row c) (within_after at end c after))
         | inl high ↦
             let inside : c - at < length (chars word) = omega arith in
             let ch : get_or (run_chars t1 run) (c - run.cell) 32 ≡ get_or (chars word) (c - at) 0 = ap (λ (cs : List ℕ). get_or cs (c - run.cell) 32) is.chars_are ∙ ap (λ i. get_or (chars word) (c - i) 32) is.cell_is ∙ get_or_default (chars word) (c - at) 32 0 inside in
             let yes = holds_inside run row c is.row_is (omega (arith, is.cell_is)) (omega (arith, is.cell_is)) in
-            pick x y yes ∙ cell_same x record { ch = get_or (chars word) (c - at) 0; role = role; link = None } ch is.role_is is.unlinked ∙ sym (slice_index_or-drawn role (chars word) (c - at) SPACE inside) ∙ sym (pick g (shown t0 out row c) (within_yes at end c low high))
+            pick x y yes ∙ cell_same x record { ch = get_or (chars word) (c - at) 0; role = role; link = None } ch is.role_is is.unlinked ∙ sym (slice_index_or-text_cells role (chars word) (c - at) SPACE inside) ∙ sym (pick g (shown t0 out row c) (within_yes at end c low high))
       ]
     ]
 
@@ -71,7 +71,7 @@ row_replaced t0 t1 t2 t3 runs f0 f1 f2 f3 row start end at top cells some is_at 
       inside = λ k within.
           let index : (start + k) - start ≡ k = omega arith in
           up_to (start + k) (omega arith) ∙ second (start + k) ∙ pick (g (start + k)) (shown t1 f1 row (start + k)) (within_yes start at (start + k) (omega arith) (omega arith)) ∙ ap (λ i. get_or cells i SPACE) index;
-      behind = λ k.
+      after = λ k.
           let c = start + length cells + k in
           let there : end + (c - at) ≡ end + k = omega arith in
           let outside = shown t2 f2 row c in
@@ -79,7 +79,7 @@ row_replaced t0 t1 t2 t3 runs f0 f1 f2 f3 row start end at top cells some is_at 
             | inl below ↦ pick (back c) outside (copied_yes end top at c (omega arith) below) ∙ ap (λ i. shown t2 runs row i) there ∙ painted-grown t0 t2 row (end + k) SPACE runs (BeginsWith-trans t0 t1 t2 grows more) are.are_runs
             | inr beyond ↦
                 let gone : shown t0 runs row (end + k) ≡ SPACE = shown_past t0 row (end + k) top SPACE runs (λ i d within. omega (arith, (are.are_runs i d within).fits)) (omega arith) in
-                pick (back c) outside (copied_behind end top at c beyond) ∙ shown_past t2 row c at SPACE f2 ends (omega arith) ∙ sym gone
+                pick (back c) outside (copied_after end top at c beyond) ∙ shown_past t2 row c at SPACE f2 ends (omega arith) ∙ sym gone
           ];
     }
 
@@ -92,23 +92,23 @@ ReplacesCells-unique old a b row start end cells some within one two =
         | inl high ↦
             let place : start + (c - start) ≡ c = omega arith in
             ap (cell_at a row) (sym place) ∙ one.inside some within (c - start) (omega arith) ∙ sym (two.inside some within (c - start) (omega arith)) ∙ ap (cell_at b row) place
-        | inr behind ↦
+        | inr after ↦
             let k = c - (start + length cells) in
             let place : start + length cells + k ≡ c = omega arith in
-            ap (cell_at a row) (sym place) ∙ one.behind some within k ∙ sym (two.behind some within k) ∙ ap (cell_at b row) place
+            ap (cell_at a row) (sym place) ∙ one.after some within k ∙ sym (two.after some within k) ∙ ap (cell_at b row) place
       ]
     ]) (λ r other. one.others r other ∙ sym (two.others r other))
 
 pub grid_replaced : (old new : List ℕ) (runs now fresh : List Run) (w v : List ℕ) (row start end from to : ℕ) (cells : List Cell) → IsExchanged old new runs now fresh row from to → start < end → end ≤ get_or w row 0 → FitIn w runs → FitIn v now → length v ≡ length w → get_or v row 0 + (end - start) ≡ get_or w row 0 + length cells → ((r : ℕ) → r ≢ row → get_or v r 0 ≡ get_or w r 0) → ShowsReplaced old new (stretch runs from to) fresh row start end cells → grid_shown new now v ≡ cells_replaced (grid_shown old runs w) row start end cells
 grid_replaced old new runs now fresh w v row start end from to cells put some within fit_old fit_new count wide others shows =
     let before = grid_shown old runs w in
-    let after = grid_shown new now v in
+    let follows = grid_shown new now v in
     let width : length (row_at before row) ≡ get_or w row 0 = width_shown old runs w row in
     let was : (c : ℕ) → shown old (stretch runs from to) row c ≡ cell_at before row c = λ c. row_shows old runs row from to c put.at ∙ sym (cell_shown old runs w row c fit_old) in
-    let is : (c : ℕ) → cell_at after row c ≡ shown new fresh row c = λ c. cell_shown new now v row c fit_new ∙ put_shows new runs now fresh row from to c put.at put.is in
-    let reads : ReplacesCells before after row start end cells = record {
+    let is : (c : ℕ) → cell_at follows row c ≡ shown new fresh row c = λ c. cell_shown new now v row c fit_new ∙ put_shows new runs now fresh row from to c put.at put.is in
+    let reads : ReplacesCells before follows row start end cells = record {
       inside = λ _ _ k inside. is (start + k) ∙ shows.inside k inside;
-      behind = λ _ _ k. is (start + length cells + k) ∙ shows.behind k ∙ was (end + k);
+      after = λ _ _ k. is (start + length cells + k) ∙ shows.after k ∙ was (end + k);
       width = λ _ _. omega (arith, width, width_shown new now v row);
       before = λ c left. is c ∙ shows.before c left ∙ was c;
       others = λ r other. same_row old new runs now w v r (others r other) (λ c. put_elsewhere old new runs now fresh row from to r c put other);
@@ -116,7 +116,7 @@ grid_replaced old new runs now fresh w v row start end from to cells put some wi
       empty = λ none. absurd (omega arith);
       past = λ none. absurd (omega arith);
     } in
-    ReplacesCells-unique before after (cells_replaced before row start end cells) row start end cells some (omega arith) reads (ReplacesCells-cells_replaced before row start end cells)
+    ReplacesCells-unique before follows (cells_replaced before row start end cells) row start end cells some (omega arith) reads (ReplacesCells-cells_replaced before row start end cells)
 
 -- the runs of the other rows fit as before, those of the row in its new length
 pub FitIn-replaced : (old new : List ℕ) (runs now fresh : List Run) (w v : List ℕ) (row start end : ℕ) → IsExchanged old new runs now fresh row start end → FitIn w runs → EndsBy (get_or v row 0) fresh → ((r : ℕ) → r ≢ row → get_or v r 0 ≡ get_or w r 0) → FitIn v now

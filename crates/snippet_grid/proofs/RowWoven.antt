@@ -4,7 +4,7 @@ use Rattle.std.proofs.lemmas.List.{same_lists, take-append-drop, drop_more, leng
 use Rattle.std.proofs.lemmas.List.FromFn.{length-map-range_with_len, get_or-map-range_with_len}
 use Rattle.std.proofs.lemmas.Bool.{cases_lt, cases_eq}
 use Rattle.std.specs.Option.{option_copied}
-use Rattle.snippet_grid.proofs.ShownLemmas.{painted-append, All-tail, pick, holds_inside, holds_before, holds_behind}
+use Rattle.snippet_grid.proofs.ShownLemmas.{painted-append, All-tail, pick, holds_inside, holds_before, holds_after}
 use Rattle.snippet_grid.proofs.StretchPrinted.{alike, stretch_printed}
 use Rattle.snippet_grid.proofs.WeaveLemmas.{Url, Goes}
 use Rattle.snippet_style.specs.Cell.{Cell, SPACE}
@@ -42,10 +42,10 @@ shown_in text row c n runs d is within =
 
 -- nothing is shown between two runs
 pub shown_gap : (text : List ℕ) (row c n : ℕ) (runs : List Run) → ((k : ℕ) (d : Run) → k < n → k < length runs → (get_or runs k d).cell + (get_or runs k d).count ≤ c) → ((k : ℕ) (d : Run) → n ≤ k → k < length runs → c < (get_or runs k d).cell) → shown text runs row c ≡ SPACE
-shown_gap text row c n runs behind ahead =
+shown_gap text row c n runs after ahead =
     painted_unheld text row c SPACE runs (λ k d within. elim (cases_lt k n) [
-      | inl before ↦ holds_behind (get_or runs k d) row c (behind k d before within)
-      | inr after ↦ holds_before (get_or runs k d) row c (ahead k d after within)
+      | inl before ↦ holds_after (get_or runs k d) row c (after k d before within)
+      | inr follows ↦ holds_before (get_or runs k d) row c (ahead k d follows within)
     ])
 
 -- further cells of a row
@@ -58,20 +58,20 @@ cells_more text runs row a b more long same =
     let inside : k < b = omega (arith, length-map-range_with_len f 0 b) in
     get_or-map-range_with_len f 0 b k k d inside (omega arith) ∙ elim (cases_lt k a) [
       | inl front ↦ sym (get_or_append_left xs more d k (omega arith) ∙ get_or-map-range_with_len f 0 a k k d front (omega arith))
-      | inr behind ↦
+      | inr after ↦
           let place : a + (k - a) ≡ k = omega arith in
-          sym (get_or-append_right xs more a k d xs_long behind ∙ get_or_default more (k - a) d SPACE (omega arith) ∙ same (k - a) (omega arith) ∙ ap f place)
+          sym (get_or-append_right xs more a k d xs_long after ∙ get_or_default more (k - a) d SPACE (omega arith) ∙ same (k - a) (omega arith) ∙ ap f place)
     ])
 
 -- the row is printed up to a cell, and so are the runs up to a place
 pub record WovenTo (sheet : Stylesheet) (level : LevelInner) (text : List ℕ) (runs : List Run) (row n col : ℕ) (style : Style) (link : Option Url) (old now : List ℕ) : Type 0 where
   pub goes : Goes sheet level (Some style) link (cells_to text runs row col) old now
-  pub behind : (k : ℕ) (d : Run) → k < n → k < length runs → (get_or runs k d).cell + (get_or runs k d).count ≤ col
+  pub after : (k : ℕ) (d : Run) → k < n → k < length runs → (get_or runs k d).cell + (get_or runs k d).count ≤ col
   pub ahead : (k : ℕ) (d : Run) → n ≤ k → k < length runs → col ≤ (get_or runs k d).cell
 
 pub woven_start : (sheet : Stylesheet) (level : LevelInner) (text : List ℕ) (runs : List Run) (row : ℕ) (old : List ℕ) → WovenTo sheet level text runs row 0 0 sheet.none None old old
 woven_start sheet level text runs row old =
-    record { goes = λ rest more prints. record { pieces = rest; text_is = refl; prints = prints }; behind = λ k d before within. absurd (omega arith); ahead = λ k d after within. omega arith }
+    record { goes = λ rest more prints. record { pieces = rest; text_is = refl; prints = prints }; after = λ k d before within. absurd (omega arith); ahead = λ k d follows within. omega arith }
 
 -- a gap was printed
 pub woven_gap : (sheet : Stylesheet) (level : LevelInner) (text : List ℕ) (runs : List Run) (row n col to count : ℕ) (style space : Style) (link : Option Url) (old now new : List ℕ) → col < to → count ≡ to - col → ((k : ℕ) (d : Run) → n ≤ k → k < length runs → to ≤ (get_or runs k d).cell) → space ≡ style_of sheet level NoStyle → PrintsStretch (replicate count 32) style space link None now new → WovenTo sheet level text runs row n col style link old now → WovenTo sheet level text runs row n to space None old new
@@ -81,10 +81,10 @@ woven_gap sheet level text runs row n col to count style space link old now new 
     let long : length word ≡ count = length-replicate count 32 in
     let long_more : length more ≡ count = length-map word (λ ch. (let cell : Cell = record { ch = ch; role = NoStyle; link = None } in cell)) ∙ long in
     let cells : cells_to text runs row to ≡ cells_to text runs row col ++ more = cells_more text runs row col to more (omega arith) (λ k within.
-    get_or-map (λ ch. (let cell : Cell = record { ch = ch; role = NoStyle; link = None } in cell)) word k 32 SPACE (omega arith) ∙ ap (λ ch. (let cell : Cell = record { ch = ch; role = NoStyle; link = None } in cell)) (get_or-replicate count k 32 32 (omega arith)) ∙ sym (shown_gap text row (col + k) n runs (λ j d first inside. omega (arith, woven.behind j d first inside)) (λ j d later inside. omega (arith, before j d later inside)))) in
+    get_or-map (λ ch. (let cell : Cell = record { ch = ch; role = NoStyle; link = None } in cell)) word k 32 SPACE (omega arith) ∙ ap (λ ch. (let cell : Cell = record { ch = ch; role = NoStyle; link = None } in cell)) (get_or-replicate count k 32 32 (omega arith)) ∙ sym (shown_gap text row (col + k) n runs (λ j d first inside. omega (arith, woven.after j d first inside)) (λ j d later inside. omega (arith, before j d later inside)))) in
     record {
       goes = subst (λ (cs : List Cell). Goes sheet level (Some space) None cs old new) (sym cells) (stretch_printed sheet level style space NoStyle link None word (cells_to text runs row col) old now new (omega arith) is prints woven.goes);
-      behind = λ k d first inside. omega (arith, woven.behind k d first inside);
+      after = λ k d first inside. omega (arith, woven.after k d first inside);
       ahead = before;
     }
 
@@ -103,8 +103,8 @@ woven_run sheet level text runs row n col d style next link old now new is_row w
     get_or-map as_cell word k 32 SPACE (omega arith) ∙ ap (λ i. as_cell (get_or word i 32)) (sym index) ∙ sym (shown_in text row (col + k) n runs d is_row within (omega arith) (omega (arith, is_run.counted)))) in
     record {
       goes = subst (λ (cs : List Cell). Goes sheet level (Some next) (option_copied run.link) cs old new) (sym cells) (stretch_printed sheet level style next run.role link (option_copied run.link) word (cells_to text runs row col) old now new (omega (arith, is_run.counted, is_run.some)) is prints woven.goes);
-      behind = λ k e first inside. elim (cases_lt k n) [
-        | inl before ↦ omega (arith, woven.behind k e before inside)
+      after = λ k e first inside. elim (cases_lt k n) [
+        | inl before ↦ omega (arith, woven.after k e before inside)
         | inr last ↦
             let same : k ≡ n = omega arith in
             let read : get_or runs k e ≡ run = ap (λ i. get_or runs i e) same ∙ get_or_default runs n e d within in
@@ -118,7 +118,7 @@ woven_run sheet level text runs row n col d style next link old now new is_row w
 
 -- no run from this one on begins before it
 pub first_ahead : (text : List ℕ) (row : ℕ) (runs : List Run) (n : ℕ) (e : Run) → IsRow text row runs → n < length runs → (k : ℕ) (d : Run) → n ≤ k → k < length runs → (get_or runs n e).cell ≤ (get_or runs k d).cell
-first_ahead text row runs n e is within k d after inside =
+first_ahead text row runs n e is within k d follows inside =
     let read : (get_or runs n d).cell ≡ (get_or runs n e).cell = ap (λ (x : Run). x.cell) (get_or_default runs n d e within) in
     elim (cases_eq n k) [
       | inl same ↦ omega (arith, ap (λ i. (get_or runs i d).cell) same)

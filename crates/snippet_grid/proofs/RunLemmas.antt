@@ -5,7 +5,7 @@ use Rattle.std.proofs.lemmas.Str.{chars-append}
 use Rattle.std.specs.Option.{option_copied}
 use Rattle.std.specs.Str.{chars, IsUtf8, is_utf8, IsCharBoundary}
 use Rattle.snippet_grid.proofs.StretchLemmas.{stretch, length-stretch_of, stretch_joined, stretch_grown, stretch_added, BeginsWith-append, BeginsWith-le, front_grown, boundary, IsUtf8-stretch, is_utf8-end, is_utf8-to}
-use Rattle.snippet_grid.specs.Runs.{IsRun, IsJoined, IsMoved, GoesOn, BeginsWith, run_bytes, run_chars}
+use Rattle.snippet_grid.specs.Runs.{IsRun, IsJoined, IsMoved, Continues, BeginsWith, run_bytes, run_chars}
 use Rattle.snippet_grid.specs.declared.runs.Run.{Run}
 use Rattle.snippet_style.specs.declared.role.ElementStyle.TheVariants.{MainHeaderMsg}
 
@@ -41,7 +41,7 @@ IsUtf8-run_bytes text run whole is =
     IsUtf8-stretch text run.start run.end whole is.ordered is.within is.starts is.ends
 
 -- two runs, where the text goes on after the first with the second's characters
-pub IsJoined-here : (text : List ℕ) (first second whole : Run) → IsUtf8 text → IsRun text first → IsRun text second → GoesOn first second → take (second.end - second.start) (drop first.end text) ≡ run_bytes text second → whole.row ≡ first.row → whole.cell ≡ first.cell → whole.count ≡ first.count + second.count → whole.start ≡ first.start → whole.end ≡ first.end + (second.end - second.start) → whole.role ≡ first.role → option_copied whole.link ≡ option_copied first.link → IsJoined text text first second whole
+pub IsJoined-here : (text : List ℕ) (first second whole : Run) → IsUtf8 text → IsRun text first → IsRun text second → Continues first second → take (second.end - second.start) (drop first.end text) ≡ run_bytes text second → whole.row ≡ first.row → whole.cell ≡ first.cell → whole.count ≡ first.count + second.count → whole.start ≡ first.start → whole.end ≡ first.end + (second.end - second.start) → whole.role ≡ first.role → option_copied whole.link ≡ option_copied first.link → IsJoined text text first second whole
 IsJoined-here text first second whole utf8 one two goes there row cell count start end role link =
     let ordered : first.end ≤ whole.end = omega (arith, end) in
     let stands : stretch text first.end whole.end ≡ run_bytes text second =
@@ -96,20 +96,20 @@ IsMoved-here old new run moved utf8 utf8_new is grown row cell count start end r
     }
 
 -- a run that was moved, and another copied after it
-pub IsJoined-behind : (old mid new : List ℕ) (first second front behind whole : Run) → IsUtf8 new → IsRun old second → GoesOn first second → BeginsWith old mid → BeginsWith mid new → IsMoved old mid first front → IsMoved mid new second behind → behind.start ≡ length mid → whole.row ≡ front.row → whole.cell ≡ front.cell → whole.count ≡ first.count + second.count → whole.start ≡ front.start → whole.end ≡ behind.end → whole.role ≡ front.role → option_copied whole.link ≡ option_copied front.link → IsJoined old new first second whole
-IsJoined-behind old mid new first second front behind whole utf8 is_second goes grows more moved copied begins row cell count start end role link =
-    let counts : whole.count ≡ front.count + behind.count = omega (arith, count, moved.count, copied.count) in
-    let both : GoesOn front behind = record {
+pub IsJoined-after : (old mid new : List ℕ) (first second front after whole : Run) → IsUtf8 new → IsRun old second → Continues first second → BeginsWith old mid → BeginsWith mid new → IsMoved old mid first front → IsMoved mid new second after → after.start ≡ length mid → whole.row ≡ front.row → whole.cell ≡ front.cell → whole.count ≡ first.count + second.count → whole.start ≡ front.start → whole.end ≡ after.end → whole.role ≡ front.role → option_copied whole.link ≡ option_copied front.link → IsJoined old new first second whole
+IsJoined-after old mid new first second front after whole utf8 is_second goes grows more moved copied begins row cell count start end role link =
+    let counts : whole.count ≡ front.count + after.count = omega (arith, count, moved.count, copied.count) in
+    let both : Continues front after = record {
       row = moved.row ∙ goes.row ∙ sym copied.row;
       touches = omega (arith, moved.cell, moved.count, copied.cell, goes.touches);
       role = moved.role ∙ goes.role ∙ sym copied.role;
       link = moved.link ∙ goes.link ∙ sym copied.link;
     } in
-    let there : take (behind.end - behind.start) (drop front.end new) ≡ run_bytes new behind =
-    ap (λ n. take (behind.end - behind.start) (drop n new)) (moved.end ∙ sym begins) in
-    let here = IsJoined-here new front behind whole utf8 (IsRun-grown mid new front more moved.is_run) copied.is_run both there row cell counts start (omega (arith, end, moved.end, begins, copied.is_run.ordered)) role link in
+    let there : take (after.end - after.start) (drop front.end new) ≡ run_bytes new after =
+    ap (λ n. take (after.end - after.start) (drop n new)) (moved.end ∙ sym begins) in
+    let here = IsJoined-here new front after whole utf8 (IsRun-grown mid new front more moved.is_run) copied.is_run both there row cell counts start (omega (arith, end, moved.end, begins, copied.is_run.ordered)) role link in
     let front_bytes : run_bytes new front ≡ run_bytes old first = run_bytes-grown mid new front more moved.is_run ∙ moved.bytes in
-    let behind_bytes : run_bytes new behind ≡ run_bytes old second = copied.bytes ∙ run_bytes-grown old mid second grows is_second in
+    let after_bytes : run_bytes new after ≡ run_bytes old second = copied.bytes ∙ run_bytes-grown old mid second grows is_second in
     record {
       is_run = here.is_run;
       row = here.row ∙ moved.row;
@@ -117,5 +117,5 @@ IsJoined-behind old mid new first second front behind whole utf8 is_second goes 
       count = count;
       role = here.role ∙ moved.role;
       link = here.link ∙ moved.link;
-      chars_are = here.chars_are ∙ ap (λ (t : List ℕ). chars t ++ run_chars new behind) front_bytes ∙ ap (λ (t : List ℕ). run_chars old first ++ chars t) behind_bytes;
+      chars_are = here.chars_are ∙ ap (λ (t : List ℕ). chars t ++ run_chars new after) front_bytes ∙ ap (λ (t : List ℕ). run_chars old first ++ chars t) after_bytes;
     }

@@ -9,7 +9,7 @@ use Rattle.std.specs.Option.{option_copied}
 use Rattle.std.specs.Str.{chars}
 use Rattle.snippet_grid.proofs.RunLemmas.{run_bytes-grown, IsRun-grown}
 use Rattle.snippet_style.specs.Cell.{Cell, SPACE}
-use Rattle.snippet_grid.specs.Runs.{IsRun, IsJoined, GoesOn, BeginsWith, ShowsMore, run_chars, run_cell, holds, painted, shown, Precedes, Differ, AddsRun}
+use Rattle.snippet_grid.specs.Runs.{IsRun, IsJoined, Continues, BeginsWith, ShowsMore, run_chars, run_cell, holds, painted, shown, Precedes, Differ, AddsRun}
 use Rattle.snippet_grid.specs.declared.runs.Run.{Run}
 
 pub painted-append : (text : List ℕ) (r c : ℕ) (d : Cell) (xs ys : List Run) → painted text r c d (xs ++ ys) ≡ painted text r c (painted text r c d xs) ys
@@ -44,8 +44,8 @@ holds_elsewhere run r c other = and_left _ _ (ne_eqb run.row r other)
 pub holds_before : (run : Run) (r c : ℕ) → c < run.cell → holds run r c ≡ false
 holds_before run r c before = and_right _ _ (and_left _ _ (lt-leb run.cell c before))
 
-pub holds_behind : (run : Run) (r c : ℕ) → run.cell + run.count ≤ c → holds run r c ≡ false
-holds_behind run r c behind = and_right _ _ (and_right _ _ (le-ltb c (run.cell + run.count) behind))
+pub holds_after : (run : Run) (r c : ℕ) → run.cell + run.count ≤ c → holds run r c ≡ false
+holds_after run r c after = and_right _ _ (and_right _ _ (le-ltb c (run.cell + run.count) after))
 
 pub pick : {X : Type 0} {b v : Bool} (x y : X) → b ≡ v → (if b then x else y) ≡ (if v then x else y)
 pick x y is = ap (λ (t : Bool). if t then x else y) is
@@ -55,7 +55,7 @@ cell_same a b ch role link =
     ap (λ (x : ℕ). (let cell : Cell = record { ch = x; role = a.role; link = a.link } in cell)) ch ∙ ap (λ x. (let cell : Cell = record { ch = b.ch; role = x; link = a.link } in cell)) role ∙ ap (λ (x : Option (List ℕ)). (let cell : Cell = record { ch = b.ch; role = b.role; link = x } in cell)) link
 
 -- two runs made one show what both show
-joined_cell : (old new : List ℕ) (first second whole : Run) (r c : ℕ) (d : Cell) → IsRun old first → IsRun old second → GoesOn first second → IsJoined old new first second whole → (if holds whole r c then run_cell new whole c else d) ≡ (if holds second r c then run_cell old second c else (if holds first r c then run_cell old first c else d))
+joined_cell : (old new : List ℕ) (first second whole : Run) (r c : ℕ) (d : Cell) → IsRun old first → IsRun old second → Continues first second → IsJoined old new first second whole → (if holds whole r c then run_cell new whole c else d) ≡ (if holds second r c then run_cell old second c else (if holds first r c then run_cell old first c else d))
 joined_cell old new first second whole r c d one two goes joined =
     let x = run_cell new whole c in
     let y = run_cell old second c in
@@ -80,7 +80,7 @@ joined_cell old new first second whole r c d one two goes joined =
                       let second_no = holds_before second r c (omega (arith, goes.touches)) in
                       let ch : x.ch ≡ z.ch = ap (λ (cs : List ℕ). get_or cs (c - whole.cell) 32) joined.chars_are ∙ ap (λ k. get_or (run_chars old first ++ run_chars old second) (c - k) 32) joined.cell ∙ get_or_append_left (run_chars old first) (run_chars old second) 32 (c - first.cell) (omega arith) in
                       pick x d whole_yes ∙ cell_same x z ch joined.role joined.link ∙ sym (pick y rest second_no ∙ pick z d (holds_inside first r c row low in_first))
-                  | inr behind_first ↦
+                  | inr after_first ↦
                       elim (cases_lt c (second.cell + second.count)) [
                         | inl in_second ↦
                             let whole_yes = holds_inside whole r c (joined.row ∙ row) (omega (arith, joined.cell)) (omega (arith, joined.cell, joined.count, goes.touches)) in
@@ -88,17 +88,17 @@ joined_cell old new first second whole r c d one two goes joined =
                             let index : c - first.cell - first.count ≡ c - second.cell = omega (arith, goes.touches) in
                             let ch : x.ch ≡ y.ch = ap (λ (cs : List ℕ). get_or cs (c - whole.cell) 32) joined.chars_are ∙ ap (λ k. get_or (run_chars old first ++ run_chars old second) (c - k) 32) joined.cell ∙ get_or-append_right (run_chars old first) (run_chars old second) first.count (c - first.cell) 32 long (omega arith) ∙ ap (λ k. get_or (run_chars old second) k 32) index in
                             pick x d whole_yes ∙ cell_same x y ch (joined.role ∙ goes.role) (joined.link ∙ goes.link) ∙ sym (pick y rest second_yes)
-                        | inr behind ↦
-                            let whole_no = holds_behind whole r c (omega (arith, joined.cell, joined.count, goes.touches)) in
-                            let second_no = holds_behind second r c behind in
-                            pick x d whole_no ∙ sym (pick y rest second_no ∙ pick z d (holds_behind first r c behind_first))
+                        | inr after ↦
+                            let whole_no = holds_after whole r c (omega (arith, joined.cell, joined.count, goes.touches)) in
+                            let second_no = holds_after second r c after in
+                            pick x d whole_no ∙ sym (pick y rest second_no ∙ pick z d (holds_after first r c after_first))
                       ]
                 ]
           ]
     ]
 
 -- the last run joined with another
-pub ShowsMore-joined : (old new : List ℕ) (runs : List Run) (i : ℕ) (last run whole : Run) → i + 1 ≡ length runs → last ≡ get_or runs i last → BeginsWith old new → All (λ x. IsRun old x) runs → IsRun old run → GoesOn last run → IsJoined old new last run whole → ShowsMore old new runs (set runs i whole) run
+pub ShowsMore-joined : (old new : List ℕ) (runs : List Run) (i : ℕ) (last run whole : Run) → i + 1 ≡ length runs → last ≡ get_or runs i last → BeginsWith old new → All (λ x. IsRun old x) runs → IsRun old run → Continues last run → IsJoined old new last run whole → ShowsMore old new runs (set runs i whole) run
 ShowsMore-joined old new runs i last run whole is_last read grows are is goes joined =
     λ r c.
     let front = take i runs in
@@ -162,30 +162,30 @@ AddsRun-pushed runs now run some differs pushed =
       rows = λ n all is. All-push (λ x. x.row ≡ n) runs run all is;
       ends = λ n all is. All-push (λ x. x.cell + x.count ≤ n) runs run all is;
       inside = λ widths all is. All-push (λ x. x.cell + x.count ≤ get_or widths x.row 0) runs run all is;
-      behind = λ y all is. All-push (λ x. Precedes x y) runs run all is;
+      after = λ y all is. All-push (λ x. Precedes x y) runs run all is;
       order = λ pairs all. AllPairs-push (λ a b. Precedes a b) runs run pairs all;
       apart = λ ordered before pairs. AllPairs-push (λ a b. Differ a b) runs run pairs (differ_all runs run some ordered before differs);
-      apart_behind = λ y all is. All-push (λ x. Differ x y) runs run all is;
-      after = λ x all is. All-push (λ y. Precedes x y) runs run all is;
-      apart_after = λ x all is. All-push (λ y. Differ x y) runs run all is;
+      apart_after = λ y all is. All-push (λ x. Differ x y) runs run all is;
+      follows = λ x all is. All-push (λ y. Precedes x y) runs run all is;
+      apart_follows = λ x all is. All-push (λ y. Differ x y) runs run all is;
       count = omega (arith, length_push runs run);
     }
 
-pub AddsRun-joined : (old new : List ℕ) (runs : List Run) (i : ℕ) (last run whole : Run) → i + 1 ≡ length runs → last ≡ get_or runs i last → GoesOn last run → IsJoined old new last run whole → AddsRun runs (set runs i whole) run
+pub AddsRun-joined : (old new : List ℕ) (runs : List Run) (i : ℕ) (last run whole : Run) → i + 1 ≡ length runs → last ≡ get_or runs i last → Continues last run → IsJoined old new last run whole → AddsRun runs (set runs i whole) run
 AddsRun-joined old new runs i last run whole is_last read goes joined =
     let within : i < length runs = omega arith in
     record {
       rows = λ n all is. All-set (λ x. x.row ≡ n) runs i whole (joined.row ∙ goes.row ∙ is) all;
       ends = λ n all is. All-set (λ x. x.cell + x.count ≤ n) runs i whole (omega (arith, joined.cell, joined.count, goes.touches)) all;
       inside = λ widths all is. All-set (λ x. x.cell + x.count ≤ get_or widths x.row 0) runs i whole (subst (λ r. whole.cell + whole.count ≤ get_or widths r 0) (sym (joined.row ∙ goes.row)) (omega (arith, joined.cell, joined.count, goes.touches))) all;
-      behind = λ y all is. All-set (λ x. Precedes x y) runs i whole record { rows = omega (arith, joined.row, goes.row, is.rows); cells = λ h. omega (arith, joined.cell, joined.count, goes.touches, is.cells (sym goes.row ∙ sym joined.row ∙ h)) } all;
+      after = λ y all is. All-set (λ x. Precedes x y) runs i whole record { rows = omega (arith, joined.row, goes.row, is.rows); cells = λ h. omega (arith, joined.cell, joined.count, goes.touches, is.cells (sym goes.row ∙ sym joined.row ∙ h)) } all;
       order = λ pairs all. AllPairs-set_last (λ a b. Precedes a b) runs i last whole is_last read pairs (λ x before. record { rows = omega (arith, joined.row, before.rows); cells = λ h. omega (arith, joined.cell, before.cells (h ∙ joined.row)) });
       apart = λ ordered before pairs. AllPairs-set_last (λ a b. Differ a b) runs i last whole is_last read pairs (λ x differs at. differs record { row = at.row ∙ joined.row; touches = at.touches ∙ joined.cell; role = at.role ∙ joined.role; link = at.link ∙ joined.link });
-      apart_behind = λ y all is. All-set (λ x. Differ x y) runs i whole (λ at. is record { row = sym goes.row ∙ sym joined.row ∙ at.row; touches = omega (arith, joined.cell, joined.count, goes.touches, at.touches); role = sym goes.role ∙ sym joined.role ∙ at.role; link = sym goes.link ∙ sym joined.link ∙ at.link }) all;
-      after = λ x all is.
+      apart_after = λ y all is. All-set (λ x. Differ x y) runs i whole (λ at. is record { row = sym goes.row ∙ sym joined.row ∙ at.row; touches = omega (arith, joined.cell, joined.count, goes.touches, at.touches); role = sym goes.role ∙ sym joined.role ∙ at.role; link = sym goes.link ∙ sym joined.link ∙ at.link }) all;
+      follows = λ x all is.
           let before : Precedes x last = subst (λ y. Precedes x y) (sym read) (all i last within) in
           All-set (λ y. Precedes x y) runs i whole record { rows = omega (arith, joined.row, before.rows); cells = λ h. omega (arith, joined.cell, before.cells (h ∙ joined.row)) } all;
-      apart_after = λ x all is.
+      apart_follows = λ x all is.
           let differs : Differ x last = subst (λ y. Differ x y) (sym read) (all i last within) in
           All-set (λ y. Differ x y) runs i whole (λ at. differs record { row = at.row ∙ joined.row; touches = at.touches ∙ joined.cell; role = at.role ∙ joined.role; link = at.link ∙ joined.link }) all;
       count = omega (arith, length-set runs i whole);

@@ -19,8 +19,8 @@ within_yes from to c low high = and_from _ _ (le-leb from c low) (lt-ltb c to hi
 pub within_before : (from to c : ℕ) → c < from → is_within from to c ≡ false
 within_before from to c before = and_left _ _ (lt-leb from c before)
 
-pub within_behind : (from to c : ℕ) → to ≤ c → is_within from to c ≡ false
-within_behind from to c behind = and_right _ _ (le-ltb c to behind)
+pub within_after : (from to c : ℕ) → to ≤ c → is_within from to c ≡ false
+within_after from to c after = and_right _ _ (le-ltb c to after)
 
 -- a span and the next one
 pub span_joined : (t0 t1 t2 : List ℕ) (o0 o1 o2 : List Run) (row from mid to : ℕ) (g h k : ℕ → Cell) → from ≤ mid → mid ≤ to → ((c : ℕ) → from ≤ c → c < mid → g c ≡ k c) → ((c : ℕ) → mid ≤ c → c < to → h c ≡ k c) → ShowsSpan t0 t1 o0 o1 row from mid g → ShowsSpan t1 t2 o1 o2 row mid to h → ShowsSpan t0 t2 o0 o2 row from to k
@@ -34,7 +34,7 @@ span_joined t0 t1 t2 o0 o1 o2 row from mid to g h k first_le second_le first_is 
         | inl left ↦ second c ∙ pick (h c) s1 (within_before mid to c left) ∙ first c ∙ pick (g c) s0 (within_yes from mid c low left) ∙ first_is c low left ∙ sym (pick (k c) s0 (within_yes from to c low (omega arith)))
         | inr right ↦ elim (cases_lt c to) [
           | inl high ↦ second c ∙ pick (h c) s1 (within_yes mid to c right high) ∙ second_is c right high ∙ sym (pick (k c) s0 (within_yes from to c low high))
-          | inr behind ↦ second c ∙ pick (h c) s1 (within_behind mid to c behind) ∙ first c ∙ pick (g c) s0 (within_behind from mid c right) ∙ sym (pick (k c) s0 (within_behind from to c behind))
+          | inr after ↦ second c ∙ pick (h c) s1 (within_after mid to c after) ∙ first c ∙ pick (g c) s0 (within_after from mid c right) ∙ sym (pick (k c) s0 (within_after from to c after))
         ]
       ]
     ]

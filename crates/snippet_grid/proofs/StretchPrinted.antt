@@ -45,7 +45,7 @@ stretch_printed sheet level last next role last_link next_link [] done old now n
 stretch_printed sheet level last next role last_link next_link (ch ∷ word) done old now new some is prints goes =
     let cell : Cell = record { ch = ch; role = role; link = next_link } in
     let first : List ℕ = prints.begun ++ encode_utf8 ch in
-    let one : Goes sheet level (Some next) next_link (done ++ cell ∷ []) old first = cell_printed sheet level last next last_link done old now prints.ended prints.changed prints.begun first cell is prints.link_goes_on prints.link_absent prints.link_ends prints.style_goes_on prints.style_changes prints.same_link prints.no_link prints.link_begins refl goes in
+    let one : Goes sheet level (Some next) next_link (done ++ cell ∷ []) old first = cell_printed sheet level last next last_link done old now prints.ended prints.changed prints.begun first cell is prints.link_continues prints.link_absent prints.link_ends prints.style_continues prints.style_changes prints.same_link prints.no_link prints.link_begins refl goes in
     let rest = more_printed sheet level next role next_link word (done ++ cell ∷ []) old first is one in
     let bytes : first ++ encode_utf8_all word ≡ new = append_assoc prints.begun (encode_utf8 ch) (encode_utf8_all word) ∙ sym prints.text_is in
     subst (λ (cells : List Cell). Goes sheet level (Some next) next_link cells old new) (append_assoc done (cell ∷ []) (alike role next_link word)) (subst (λ (t : List ℕ). Goes sheet level (Some next) next_link ((done ++ cell ∷ []) ++ alike role next_link word) old t) bytes rest)

@@ -5,7 +5,7 @@ use Rattle.std.proofs.lemmas.List.Elements.{All-take, All-drop, All-append, All-
 use Rattle.std.proofs.lemmas.Bool.{cases_lt, cases_eq}
 use Rattle.std.specs.List.{AllPairs}
 use Rattle.snippet_grid.proofs.StretchLemmas.{stretch, below_take, get_or-stretch}
-use Rattle.snippet_grid.proofs.ShownLemmas.{All-IsRun-grown, painted-append, painted-grown, pick, holds_inside, holds_elsewhere, holds_before, holds_behind}
+use Rattle.snippet_grid.proofs.ShownLemmas.{All-IsRun-grown, painted-append, painted-grown, pick, holds_inside, holds_elsewhere, holds_before, holds_after}
 use Rattle.snippet_grid.proofs.PutLemmas.{AreOrdered, AreApart, AllPairs-append, AllPairs-take, AllPairs-drop, split_three, IsRow-stretch, inside-put}
 use Rattle.snippet_grid.proofs.RowWoven.{painted_unheld}
 use Rattle.snippet_style.specs.Cell.{Cell, SPACE}
@@ -26,7 +26,7 @@ cases_held run r c =
         | inl before ↦ inr (holds_before run r c before)
         | inr low ↦ elim (cases_lt c (run.cell + run.count)) [
           | inl high ↦ inl record { row_is = here; low = low; high = high }
-          | inr behind ↦ inr (holds_behind run r c behind)
+          | inr after ↦ inr (holds_after run r c after)
         ]
       ]
     ]
@@ -50,7 +50,7 @@ cases_some (run ∷ runs) r c =
 
 -- what stands before the run, or after it, is in order with what took the place of the runs between
 pub ShowsMore-touch : (old new : List ℕ) (xs ys zs fresh : List Run) (run : Run) → BeginsWith old new → All (λ x. IsRun old x) (xs ++ ys ++ zs) → All (λ x. IsRun old x) xs → All (λ x. IsRun old x) zs → All (λ x. Precedes x run) xs → All (λ z. Precedes run z) zs → ((i j : ℕ) (d : Run) → i < length xs → j < length ys → Precedes (get_or xs i d) (get_or ys j d)) → ((i j : ℕ) (d : Run) → i < length xs → j < length fresh → Precedes (get_or xs i d) (get_or fresh j d)) → ShowsMore old new ys fresh run → ShowsMore old new (xs ++ ys ++ zs) (xs ++ fresh ++ zs) run
-ShowsMore-touch old new xs ys zs fresh run grows are are_xs are_zs before behind order_old order_new shows =
+ShowsMore-touch old new xs ys zs fresh run grows are are_xs are_zs before after order_old order_new shows =
     λ r c.
     let x = run_cell old run c in
     let new_is : shown new (xs ++ fresh ++ zs) r c ≡ painted old r c (painted new r c (shown old xs r c) fresh) zs = painted-append new r c SPACE (xs ++ fresh) zs ∙ painted-grown old new r c (painted new r c SPACE (xs ++ fresh)) zs grows are_zs ∙ ap (λ (d : Cell). painted old r c d zs) (painted-append new r c SPACE xs fresh ∙ ap (λ (d : Cell). painted new r c d fresh) (painted-grown old new r c SPACE xs grows are_xs)) in
@@ -77,7 +77,7 @@ ShowsMore-touch old new xs ys zs fresh run grows are are_xs are_zs before behind
                 let yes : holds run r c ≡ true = holds_inside run r c held.row_is held.low held.high in
                 let no_zs : All (λ z. holds z r c ≡ false) zs = λ k d within.
                 elim (cases_eq (get_or zs k d).row r) [
-                  | inl here ↦ holds_before (get_or zs k d) r c (omega (arith, held.high, (behind k d within).cells (held.row_is ∙ sym here)))
+                  | inl here ↦ holds_before (get_or zs k d) r c (omega (arith, held.high, (after k d within).cells (held.row_is ∙ sym here)))
                   | inr other ↦ holds_elsewhere (get_or zs k d) r c other
                 ] in
                 new_there ∙ ap (λ (d : Cell). painted old r c d zs) (pick x (shown old ys r c) yes) ∙ painted_unheld old r c x zs no_zs ∙ sym (pick x was yes)
@@ -160,7 +160,7 @@ AllPairs-put R runs fresh run start end low high above below pairs middle first 
     let same : get_or ys k e ≡ get_or runs (start + k) d = get_or_default ys k e d within ∙ read_y k d within in
     subst (λ y. R x y) (sym same) (pairs i (start + k) d (omega (arith, in_xs i i_within)) (omega (arith, in_ys k within))) in
     subst (λ x. R x (get_or fresh j d)) (sym (read_x i d i_within)) (first x (above i d (in_xs i i_within)) all j d j_within) in
-    let behind : (i j : ℕ) (d : Run) → i < length (xs ++ fresh) → j < length zs → R (get_or (xs ++ fresh) i d) (get_or zs j d) = λ i j d i_within j_within.
+    let after : (i j : ℕ) (d : Run) → i < length (xs ++ fresh) → j < length zs → R (get_or (xs ++ fresh) i d) (get_or zs j d) = λ i j d i_within j_within.
     let z = get_or runs (end + j) d in
     let left : All (λ x. R x z) xs = λ k e within.
     let same : get_or xs k e ≡ get_or runs k d = get_or_default xs k e d within ∙ read_x k d within in
@@ -169,7 +169,7 @@ AllPairs-put R runs fresh run start end low high above below pairs middle first 
     let same : get_or ys k e ≡ get_or runs (start + k) d = get_or_default ys k e d within ∙ read_y k d within in
     subst (λ x. R x z) (sym same) (pairs (start + k) (end + j) d (omega (arith, in_ys k within)) (in_zs j j_within)) in
     subst (λ z. R (get_or (xs ++ fresh) i d) z) (sym (read_z j d)) (All-append (λ x. R x z) xs fresh left (second z (below (end + j) d (omega arith) (in_zs j j_within)) all) i d i_within) in
-    AllPairs-append R (xs ++ fresh) zs (AllPairs-append R xs fresh (AllPairs-take R start runs pairs) middle across) (AllPairs-drop R end runs pairs) behind
+    AllPairs-append R (xs ++ fresh) zs (AllPairs-append R xs fresh (AllPairs-take R start runs pairs) middle across) (AllPairs-drop R end runs pairs) after
 
 -- the runs that a run touches
 pub touched_stretch : (text : List ℕ) (runs : List Run) (run : Run) (start end : ℕ) → start ≤ end → end ≤ length runs → All (λ x. IsRun text x) runs → AreOrdered runs → AreApart runs → ((k : ℕ) (d : Run) → start ≤ k → k < end → Touches (get_or runs k d) run) → IsTouched text run (stretch runs start end)
@@ -202,14 +202,14 @@ IsPut-touched old new runs now fresh run start end low high above touch below ar
     let i_short : i < start = below_take runs start i i_within in
     let j_short : j < end - start = below_take (drop start runs) (end - start) j j_within in
     subst (λ y. Precedes (get_or xs i d) y) (sym (get_or-stretch runs start end j d j_within)) (subst (λ x. Precedes x (get_or runs (start + j) d)) (sym (get_or-take start runs i d i_short)) (ordered i (start + j) d (omega arith) (omega arith))) in
-    let all_ordered = AllPairs-put (λ a b. Precedes a b) runs fresh run start end low high above below ordered pieces.is_row.ordered pieces.after pieces.behind in
-    let all_apart = AllPairs-put (λ a b. Differ a b) runs fresh run start end low high above below apart pieces.is_row.apart pieces.apart_after pieces.apart_behind in
-    let after : (i j : ℕ) (d : Run) → i < length xs → j < length fresh → Precedes (get_or xs i d) (get_or fresh j d) = λ i j d i_within j_within.
+    let all_ordered = AllPairs-put (λ a b. Precedes a b) runs fresh run start end low high above below ordered pieces.is_row.ordered pieces.follows pieces.after in
+    let all_apart = AllPairs-put (λ a b. Differ a b) runs fresh run start end low high above below apart pieces.is_row.apart pieces.apart_follows pieces.apart_after in
+    let follows : (i j : ℕ) (d : Run) → i < length xs → j < length fresh → Precedes (get_or xs i d) (get_or fresh j d) = λ i j d i_within j_within.
     let x = get_or xs i d in
     let i_short : i < start = below_take runs start i i_within in
-    pieces.after x (subst (λ x. IsClear x run) (sym (get_or-take start runs i d i_short)) (above i d i_short)) (λ k e within. subst (λ x. Precedes x (get_or ys k e)) (get_or_default xs i e d i_within) (before i k e i_within within)) j d j_within in
+    pieces.follows x (subst (λ x. IsClear x run) (sym (get_or-take start runs i d i_short)) (above i d i_short)) (λ k e within. subst (λ x. Precedes x (get_or ys k e)) (get_or_default xs i e d i_within) (before i k e i_within within)) j d j_within in
     let all : All (λ x. IsRun new x) runs = All-IsRun-grown old new runs grows are in
-    let shows = ShowsMore-touch old new xs ys zs fresh run grows (subst (λ (l : List Run). All (λ x. IsRun old x) l) split are) (All-take (λ x. IsRun old x) start runs are) (All-drop (λ x. IsRun old x) end runs are) clear_x clear_z before after pieces.shows in
+    let shows = ShowsMore-touch old new xs ys zs fresh run grows (subst (λ (l : List Run). All (λ x. IsRun old x) l) split are) (All-take (λ x. IsRun old x) start runs are) (All-drop (λ x. IsRun old x) end runs are) clear_x clear_z before follows pieces.shows in
     record {
       shows = subst (λ (l : List Run). ShowsMore old new runs l run) (sym is) (subst (λ (l : List Run). ShowsMore old new l (xs ++ fresh ++ zs) run) (sym split) shows);
       are_runs = subst (λ (l : List Run). All (λ x. IsRun new x) l) (sym is) (All-append (λ x. IsRun new x) (xs ++ fresh) zs (All-append (λ x. IsRun new x) xs fresh (All-take (λ x. IsRun new x) start runs all) pieces.is_row.are_runs) (All-drop (λ x. IsRun new x) end runs all));

@@ -85,9 +85,9 @@ link_ended sheet level style link done old now new cell differs none ended goes 
 
 -- a style gave way to the next one, or went on
 style_changed : (sheet : Stylesheet) (level : LevelInner) (style next : Style) (link : Option Url) (done : List Cell) (old now new : List ℕ) (cell : Cell) → next ≡ style_of sheet level cell.role → (link ≡ None) ⊎ (link ≡ cell.link) → (style ≡ next → new ≡ now) → (style ≢ next → new ≡ now ++ flat_map piece_text (Reset style ∷ Opening next ∷ [])) → GoesTo sheet level (Some style) link done old now cell → GoesTo sheet level (Some next) link done old new cell
-style_changed sheet level style next link done old now new cell is link_is goes_on changed goes =
+style_changed sheet level style next link done old now new cell is link_is continues changed goes =
     elim (cases_style style next) [
-      | inl same ↦ kept sheet level (Some next) link done old now new cell (goes_on same) (subst (λ s. GoesTo sheet level (Some s) link done old now cell) same goes)
+      | inl same ↦ kept sheet level (Some next) link done old now new cell (continues same) (subst (λ s. GoesTo sheet level (Some s) link done old now cell) same goes)
       | inr other ↦ λ rest more prints. grown sheet level done old now new (Reset style ∷ Opening next ∷ []) rest (cell ∷ more) (changed other) (goes (Reset style ∷ Opening next ∷ rest) more (refl, (λ h. other (sym (some_same h) ∙ sym is)), link_is, (refl, ap Some (sym is), prints)))
     ]
 
@@ -112,16 +112,16 @@ char_printed sheet level style done old now new cell is pushed goes =
 
 -- the codes before a cell were written, and the cell was printed
 pub cell_printed : (sheet : Stylesheet) (level : LevelInner) (style next : Style) (link : Option Url) (done : List Cell) (old now ended changed begun new : List ℕ) (cell : Cell) → next ≡ style_of sheet level cell.role → (link ≡ cell.link → ended ≡ now) → (link ≡ None → ended ≡ now) → (link ≢ None → link ≢ cell.link → ended ≡ now ++ flat_map piece_text (LinkEnd ∷ [])) → (style ≡ next → changed ≡ ended) → (style ≢ next → changed ≡ ended ++ flat_map piece_text (Reset style ∷ Opening next ∷ [])) → (link ≡ cell.link → begun ≡ changed) → (cell.link ≡ None → begun ≡ changed) → ((url : Url) → cell.link ≡ Some url → link ≢ Some url → begun ≡ changed ++ flat_map piece_text (LinkTo url ∷ [])) → new ≡ begun ++ encode_utf8 cell.ch → Goes sheet level (Some style) link done old now → Goes sheet level (Some next) cell.link (done ++ cell ∷ []) old new
-cell_printed sheet level style next link done old now ended changed begun new cell is goes_on absent ends style_goes_on style_changes link_goes_on link_absent begins pushed goes =
+cell_printed sheet level style next link done old now ended changed begun new cell is continues absent ends style_continues style_changes link_continues link_absent begins pushed goes =
     let before : GoesTo sheet level (Some style) link done old now cell = λ rest more prints. goes rest (cell ∷ more) prints in
     let ready : GoesTo sheet level (Some next) cell.link done old begun cell = elim (cases_link link cell.link) [
       | inl same ↦
-          let first = kept sheet level (Some style) link done old now ended cell (goes_on same) before in
-          let second = style_changed sheet level style next link done old ended changed cell is (inr same) style_goes_on style_changes first in
-          kept sheet level (Some next) cell.link done old changed begun cell (link_goes_on same) (subst (λ l. GoesTo sheet level (Some next) l done old changed cell) same second)
+          let first = kept sheet level (Some style) link done old now ended cell (continues same) before in
+          let second = style_changed sheet level style next link done old ended changed cell is (inr same) style_continues style_changes first in
+          kept sheet level (Some next) cell.link done old changed begun cell (link_continues same) (subst (λ l. GoesTo sheet level (Some next) l done old changed cell) same second)
       | inr differs ↦
           let first = link_ended sheet level style link done old now ended cell differs absent ends before in
-          let second = style_changed sheet level style next None done old ended changed cell is (inl refl) style_goes_on style_changes first in
+          let second = style_changed sheet level style next None done old ended changed cell is (inl refl) style_continues style_changes first in
           link_began sheet level next link cell.link done old changed begun cell is refl differs link_absent begins second
     ] in
     char_printed sheet level next done old begun new cell is pushed ready

@@ -16,7 +16,7 @@ use Rattle.snippet_style.specs.Cell.{Cell, SPACE}
 use Rattle.snippet_grid.specs.Print.{row_text, further_text, plain_text}
 use Rattle.snippet_style.specs.Style.{is_plain_style}
 use Rattle.snippet_style.specs.Stylesheet.{style_of, level_style, is_plain_sheet}
-use Rattle.snippet_grid.specs.Woven.{Piece, Char, Opening, Reset, LinkTo, LinkEnd, piece_text, plain_piece, piece_link, next_style, next_link, PrintsCells, PrintsRow, PrintsFurther, PrintsRows, AddsRows, Prints, IsStyleOf, IsOfSheet, AreLinksEnded, IsWoven, link_begun, links_behind, links_of}
+use Rattle.snippet_grid.specs.Woven.{Piece, Char, Opening, Reset, LinkTo, LinkEnd, piece_text, plain_piece, piece_link, next_style, next_link, PrintsCells, PrintsRow, PrintsFurther, PrintsRows, AddsRows, Prints, IsStyleOf, IsOfSheet, AreLinksEnded, IsWoven, link_begun, links_after, links_of}
 use Rattle.snippet_style.specs.declared.role.ElementStyle.{ElementStyle}
 use Rattle.snippet_style.specs.declared.role.ElementStyle.TheVariants.{MainHeaderMsg, HeaderMsg, LineAndColumn, Quotation, NoStyle, LineNumber, UnderlinePrimary, LabelPrimary, UnderlineSecondary, LabelSecondary, Level, Addition, Removal}
 use Rattle.snippet_style.specs.declared.role.LevelInner.{LevelInner}
@@ -38,7 +38,7 @@ cells_plain sheet level style link (LinkTo url ∷ ps) cells (_, _, _, prints) =
 cells_plain sheet level style link (LinkEnd ∷ ps) cells (_, _, _, prints) =
     cells_plain sheet level style None ps cells prints
 
--- no link begins behind the same one
+-- no link begins after the same one
 link_begun_same : (a b : Option Url) → a ≡ b → link_begun a b ≡ []
 link_begun_same a None same = refl
 link_begun_same None (Some b) same = absurd (none≢some same)
@@ -46,7 +46,7 @@ link_begun_same (Some a) (Some b) same =
     let equal : pointwise nat_eq a b ≡ true = ap (λ u. pointwise nat_eq a u) (sym (some_same same)) ∙ nat_list_eq_equiv.refl a in
     ap (λ (t : Bool). if t then [] else b ∷ []) equal
 
--- behind another one a link begins as behind none
+-- after another one a link begins as after none
 link_begun_other : (a b : Option Url) → a ≢ b → link_begun None b ≡ link_begun a b
 link_begun_other a None other = refl
 link_begun_other None (Some b) other = refl
@@ -56,32 +56,32 @@ link_begun_other (Some a) (Some b) other =
       | inr differs ↦ sym (ap (λ (t : Bool). if t then [] else b ∷ []) differs)
     ]
 
-links_ended : (link : Option Url) (cells : List Cell) → link ≢ next_link cells → links_behind None cells ≡ links_behind link cells
+links_ended : (link : Option Url) (cells : List Cell) → link ≢ next_link cells → links_after None cells ≡ links_after link cells
 links_ended link [] differs = refl
 links_ended link (cell ∷ cells) differs =
-    ap (λ (urls : List Url). urls ++ links_behind cell.link cells) (link_begun_other link cell.link differs)
+    ap (λ (urls : List Url). urls ++ links_after cell.link cells) (link_begun_other link cell.link differs)
 
 link_to : (url : Url) (next : Option Url) → next ≡ Some url → url ∷ link_begun (Some url) next ≡ link_begun None next
 link_to url None is = absurd (none≢some is)
 link_to url (Some next) is =
     ap (λ (urls : List Url). url ∷ urls) (link_begun_same (Some url) (Some next) (sym is)) ∙ ap (λ (u : Url). u ∷ []) (sym (some_same is))
 
-links_begun : (url : Url) (cells : List Cell) → next_link cells ≡ Some url → url ∷ links_behind (Some url) cells ≡ links_behind None cells
+links_begun : (url : Url) (cells : List Cell) → next_link cells ≡ Some url → url ∷ links_after (Some url) cells ≡ links_after None cells
 links_begun url [] is = absurd (none≢some is)
 links_begun url (cell ∷ cells) is =
-    ap (λ (urls : List Url). urls ++ links_behind cell.link cells) (link_to url cell.link is)
+    ap (λ (urls : List Url). urls ++ links_after cell.link cells) (link_to url cell.link is)
 
 -- the link codes are those of the cells' linked runs
-cells_links : (sheet : Stylesheet) (level : LevelInner) (style : Option Style) (link : Option Url) (ps : List Piece) (cells : List Cell) → PrintsCells sheet level style link ps cells → flat_map piece_link ps ≡ links_behind link cells
-cells_links sheet level style link [] cells (none, _, _) = ap (links_behind link) (sym none)
+cells_links : (sheet : Stylesheet) (level : LevelInner) (style : Option Style) (link : Option Url) (ps : List Piece) (cells : List Cell) → PrintsCells sheet level style link ps cells → flat_map piece_link ps ≡ links_after link cells
+cells_links sheet level style link [] cells (none, _, _) = ap (links_after link) (sym none)
 cells_links sheet level style link (Char ch ∷ ps) cells (cell, rest, split, _, _, same, prints) =
-    cells_links sheet level style link ps rest prints ∙ ap (λ (l : Option Url). links_behind l rest) same ∙ ap (λ (urls : List Url). urls ++ links_behind cell.link rest) (sym (link_begun_same link cell.link same)) ∙ ap (links_behind link) (sym split)
+    cells_links sheet level style link ps rest prints ∙ ap (λ (l : Option Url). links_after l rest) same ∙ ap (λ (urls : List Url). urls ++ links_after cell.link rest) (sym (link_begun_same link cell.link same)) ∙ ap (links_after link) (sym split)
 cells_links sheet level style link (Opening new ∷ ps) cells (_, _, prints) =
     cells_links sheet level (Some new) link ps cells prints
 cells_links sheet level style link (Reset old ∷ ps) cells (_, _, _, prints) =
     cells_links sheet level None link ps cells prints
 cells_links sheet level style link (LinkTo url ∷ ps) cells (none, next, _, prints) =
-    ap (λ (urls : List Url). url ∷ urls) (cells_links sheet level style (Some url) ps cells prints) ∙ links_begun url cells next ∙ ap (λ (l : Option Url). links_behind l cells) (sym none)
+    ap (λ (urls : List Url). url ∷ urls) (cells_links sheet level style (Some url) ps cells prints) ∙ links_begun url cells next ∙ ap (λ (l : Option Url). links_after l cells) (sym none)
 cells_links sheet level style link (LinkEnd ∷ ps) cells (_, differs, _, prints) =
     cells_links sheet level style None ps cells prints ∙ links_ended link cells differs
 
@@ -142,7 +142,7 @@ record AreWoven (sheet : Stylesheet) (ps : List Piece) (plain : List ℕ) (links
   of_sheet : All (λ p. IsOfSheet sheet p) ps
   ended : AreLinksEnded false ps
 
-row_woven : (sheet : Stylesheet) (level : LevelInner) (ps : List Piece) (row : List Cell) → PrintsRow sheet level ps row → AreWoven sheet ps (row_text row) (links_behind None row)
+row_woven : (sheet : Stylesheet) (level : LevelInner) (ps : List Piece) (row : List Cell) → PrintsRow sheet level ps row → AreWoven sheet ps (row_text row) (links_after None row)
 row_woven sheet level ps row prints =
     record {
       plain_is = sym (cells_plain sheet level (Some sheet.none) None ps row prints);
@@ -164,7 +164,7 @@ woven-append sheet ps qs plain more links others first second =
       ended = ended-append false ps qs first.ended second.ended;
     }
 
--- behind a line feed
+-- after a line feed
 woven-fed : (sheet : Stylesheet) (ps : List Piece) (plain : List ℕ) (links : List Url) → AreWoven sheet ps plain links → AreWoven sheet (Char 10 ∷ ps) (10 ∷ plain) links
 woven-fed sheet ps plain links woven =
     record {
@@ -177,12 +177,12 @@ woven-fed sheet ps plain links woven =
 further_woven : (sheet : Stylesheet) (level : LevelInner) (ps : List Piece) (rows : List (List Cell)) → PrintsFurther sheet level ps rows → AreWoven sheet ps (further_text rows) (links_of rows)
 further_woven sheet level ps [] none = none_woven sheet ps none
 further_woven sheet level ps (row ∷ rows) (first, others, split, prints, below) =
-    subst (λ (qs : List Piece). AreWoven sheet qs (further_text (row ∷ rows)) (links_of (row ∷ rows))) (sym split) (woven-append sheet (Char 10 ∷ first) others (10 ∷ row_text row) (further_text rows) (links_behind None row) (links_of rows) (woven-fed sheet first (row_text row) (links_behind None row) (row_woven sheet level first row prints)) (further_woven sheet level others rows below))
+    subst (λ (qs : List Piece). AreWoven sheet qs (further_text (row ∷ rows)) (links_of (row ∷ rows))) (sym split) (woven-append sheet (Char 10 ∷ first) others (10 ∷ row_text row) (further_text rows) (links_after None row) (links_of rows) (woven-fed sheet first (row_text row) (links_after None row) (row_woven sheet level first row prints)) (further_woven sheet level others rows below))
 
 rows_woven : (sheet : Stylesheet) (level : LevelInner) (ps : List Piece) (rows : List (List Cell)) → PrintsRows sheet level ps rows → AreWoven sheet ps (plain_text rows) (links_of rows)
 rows_woven sheet level ps [] none = none_woven sheet ps none
 rows_woven sheet level ps (row ∷ rows) (first, others, split, prints, below) =
-    subst (λ (qs : List Piece). AreWoven sheet qs (plain_text (row ∷ rows)) (links_of (row ∷ rows))) (sym split) (woven-append sheet first others (row_text row) (further_text rows) (links_behind None row) (links_of rows) (row_woven sheet level first row prints) (further_woven sheet level others rows below))
+    subst (λ (qs : List Piece). AreWoven sheet qs (plain_text (row ∷ rows)) (links_of (row ∷ rows))) (sym split) (woven-append sheet first others (row_text row) (further_text rows) (links_after None row) (links_of rows) (row_woven sheet level first row prints) (further_woven sheet level others rows below))
 
 -- a printed grid is a woven text, whose plain text and links are the rows' own
 pub IsWoven-from_prints : (sheet : Stylesheet) (level : LevelInner) (rows : List (List Cell)) (text : List ℕ) → Prints sheet level rows text → IsWoven sheet text (plain_text rows) (links_of rows)
@@ -287,10 +287,10 @@ plain_woven sheet text plain links is_plain none woven =
     woven.text_is ∙ unstyled sheet woven.pieces is_plain woven.of_sheet woven.ended (sym woven.links_are ∙ none) ∙ ap encode_utf8_all (sym woven.plain_is)
 
 -- no cell is linked, so there are no links
-row_unlinked : (row : List Cell) → ((c : ℕ) → (slice_index_or row c SPACE).link ≡ None) → links_behind None row ≡ []
+row_unlinked : (row : List Cell) → ((c : ℕ) → (slice_index_or row c SPACE).link ≡ None) → links_after None row ≡ []
 row_unlinked [] none = refl
 row_unlinked (cell ∷ row) none =
-    ap (λ (l : Option Url). link_begun None l ++ links_behind l row) (none 0) ∙ row_unlinked row (λ c. none (suc c))
+    ap (λ (l : Option Url). link_begun None l ++ links_after l row) (none 0) ∙ row_unlinked row (λ c. none (suc c))
 
 pub links_of-unlinked : (rows : List (List Cell)) → EachCell (λ cell. cell.link ≡ None) rows → links_of rows ≡ []
 links_of-unlinked [] none = refl

@@ -48,9 +48,9 @@ ShowsSpan old new runs_old runs_new row from to g =
     (c : ℕ) → shown new runs_new row c ≡ (if is_within from to c then g c else shown old runs_old row c)
 
 -- how many of the runs have a cell from `from` to before `to`
-abbrev pub num_met : ℕ → ℕ → List Run → ℕ
-num_met from to [] = 0
-num_met from to (run ∷ runs) = (if nat_lt (max run.cell from) (min (run.cell + run.count) to) then 1 else 0) + num_met from to runs
+abbrev pub num_touched : ℕ → ℕ → List Run → ℕ
+num_touched from to [] = 0
+num_touched from to (run ∷ runs) = (if nat_lt (max run.cell from) (min (run.cell + run.count) to) then 1 else 0) + num_touched from to runs
 
 -- the runs of a row stand from `start` to before `end`
 pub record RowAt (runs : List Run) (row start end : ℕ) : Type 0 where
@@ -64,4 +64,4 @@ pub record RowAt (runs : List Run) (row start end : ℕ) : Type 0 where
 pub record ShowsReplaced (old new : List ℕ) (runs_old runs_new : List Run) (row start end : ℕ) (cells : List Cell) : Type 0 where
   pub before : (c : ℕ) → c < start → shown new runs_new row c ≡ shown old runs_old row c
   pub inside : (k : ℕ) → k < length cells → shown new runs_new row (start + k) ≡ slice_index_or cells k SPACE
-  pub behind : (k : ℕ) → shown new runs_new row (start + length cells + k) ≡ shown old runs_old row (end + k)
+  pub after : (k : ℕ) → shown new runs_new row (start + length cells + k) ≡ shown old runs_old row (end + k)

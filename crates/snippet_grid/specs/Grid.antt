@@ -26,7 +26,7 @@ pub record WritesCells (old new : List (List Cell)) (row at : ℕ) (cells : List
   -- the written cells are there, and every other cell of the row is as it was
   pub inside : (k : ℕ) → k < length cells → cell_at new row (at + k) ≡ slice_index_or cells k SPACE
   pub before : (c : ℕ) → c < at → cell_at new row c ≡ cell_at old row c
-  pub behind : (c : ℕ) → at + length cells ≤ c → cell_at new row c ≡ cell_at old row c
+  pub after : (c : ℕ) → at + length cells ≤ c → cell_at new row c ≡ cell_at old row c
   -- every other row is as it was
   pub others : (r : ℕ) → r ≢ row → row_at new r ≡ row_at old r
   -- the row and the grid are larger only as far as the write reaches
@@ -52,7 +52,7 @@ pub record ChangesCells (f : Cell → Cell) (old new : List (List Cell)) (row st
   -- the cells that are there are changed, and every other cell of the row is as it was
   pub inside : (c : ℕ) → start ≤ c → c < end → c < length (row_at old row) → cell_at new row c ≡ f (cell_at old row c)
   pub before : (c : ℕ) → c < start → cell_at new row c ≡ cell_at old row c
-  pub behind : (c : ℕ) → end ≤ c → cell_at new row c ≡ cell_at old row c
+  pub after : (c : ℕ) → end ≤ c → cell_at new row c ≡ cell_at old row c
   -- every other row is as it was
   pub others : (r : ℕ) → r ≢ row → row_at new r ≡ row_at old r
   -- no cell and no row is added
@@ -89,9 +89,9 @@ cells_replaced rows r start end cells = changed_within (replaced_within start en
 
 -- the same, read cell by cell
 pub record ReplacesCells (old new : List (List Cell)) (row start end : ℕ) (cells : List Cell) : Type 0 where
-  -- the new cells are there, and behind them those that stood behind the stretch
+  -- the new cells are there, and after them those that stood after the stretch
   pub inside : start < end → end ≤ length (row_at old row) → (k : ℕ) → k < length cells → cell_at new row (start + k) ≡ slice_index_or cells k SPACE
-  pub behind : start < end → end ≤ length (row_at old row) → (k : ℕ) → cell_at new row (start + length cells + k) ≡ cell_at old row (end + k)
+  pub after : start < end → end ≤ length (row_at old row) → (k : ℕ) → cell_at new row (start + length cells + k) ≡ cell_at old row (end + k)
   pub width : start < end → end ≤ length (row_at old row) → length (row_at new row) + (end - start) ≡ length (row_at old row) + length cells
   -- the cells before the stretch, and every other row, are as they were
   pub before : (c : ℕ) → c < start → cell_at new row c ≡ cell_at old row c

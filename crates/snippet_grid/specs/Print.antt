@@ -7,7 +7,7 @@ use Rattle.snippet_style.specs.Cell.{Cell}
 abbrev pub row_text : List Cell → List ℕ
 row_text cells = map (λ cell. cell.ch) cells
 
--- the characters of some rows, each of which stands behind a line feed
+-- the characters of some rows, each of which stands after a line feed
 abbrev pub further_text : List (List Cell) → List ℕ
 further_text rows = flat_map (λ row. 10 ∷ row_text row) rows
 

@@ -46,7 +46,7 @@ abbrev pub BeginsWith : List ℕ → List ℕ → Type 0
 BeginsWith old new = take (length old) new ≡ old
 
 -- the second run goes on where the first ends
-pub record GoesOn (first second : Run) : Type 0 where
+pub record Continues (first second : Run) : Type 0 where
   pub row : first.row ≡ second.row
   pub touches : first.cell + first.count ≡ second.cell
   pub role : first.role ≡ second.role
@@ -144,7 +144,7 @@ FitIn widths runs = All (λ run. run.cell + run.count ≤ slice_index_or widths 
 
 -- two runs that touch in a row differ in their role or their link
 abbrev pub Differ : Run → Run → Type 0
-Differ first second = GoesOn first second → ⊥
+Differ first second = Continues first second → ⊥
 
 -- runs of one row, in order
 pub record IsRow (text : List ℕ) (row : ℕ) (runs : List Run) : Type 0 where
@@ -163,8 +163,8 @@ pub record IsFront (text : List ℕ) (runs : List Run) (run : Run) (front : List
   pub is_row : IsRow text run.row front
   pub shows : (r c : ℕ) → c < run.cell → shown text front r c ≡ shown text runs r c
   pub ends : EndsBy run.cell front
-  pub after : (x : Run) → All (λ y. Precedes x y) runs → All (λ y. Precedes x y) front
-  pub apart_after : (x : Run) → All (λ y. Differ x y) runs → All (λ y. Differ x y) front
+  pub follows : (x : Run) → All (λ y. Precedes x y) runs → All (λ y. Precedes x y) front
+  pub apart_follows : (x : Run) → All (λ y. Differ x y) runs → All (λ y. Differ x y) front
   pub few : length front ≤ length runs
   pub one : length front ≤ 1
 
@@ -174,8 +174,8 @@ pub record IsBack (text : List ℕ) (runs : List Run) (run : Run) (back : List R
   pub shows : (r c : ℕ) → run.cell + run.count ≤ c → shown text back r c ≡ shown text runs r c
   pub starts : All (λ x. run.cell + run.count ≤ x.cell) back
   pub ends : (n : ℕ) → EndsBy n runs → EndsBy n back
-  pub behind : (y : Run) → All (λ x. Precedes x y) runs → All (λ x. Precedes x y) back
-  pub apart_behind : (y : Run) → All (λ x. Differ x y) runs → All (λ x. Differ x y) back
+  pub after : (y : Run) → All (λ x. Precedes x y) runs → All (λ x. Precedes x y) back
+  pub apart_after : (y : Run) → All (λ x. Differ x y) runs → All (λ x. Differ x y) back
   pub few : length back ≤ length runs
   pub one : length back ≤ 1
 
@@ -184,10 +184,10 @@ pub record ArePieces (old new : List ℕ) (runs pieces : List Run) (run : Run) :
   pub is_row : IsRow new run.row pieces
   pub shows : ShowsMore old new runs pieces run
   pub ends : (n : ℕ) → EndsBy n runs → run.cell + run.count ≤ n → EndsBy n pieces
-  pub after : (x : Run) → IsClear x run → All (λ y. Precedes x y) runs → All (λ y. Precedes x y) pieces
-  pub apart_after : (x : Run) → IsClear x run → All (λ y. Differ x y) runs → All (λ y. Differ x y) pieces
-  pub behind : (y : Run) → IsClear run y → All (λ x. Precedes x y) runs → All (λ x. Precedes x y) pieces
-  pub apart_behind : (y : Run) → IsClear run y → All (λ x. Differ x y) runs → All (λ x. Differ x y) pieces
+  pub follows : (x : Run) → IsClear x run → All (λ y. Precedes x y) runs → All (λ y. Precedes x y) pieces
+  pub apart_follows : (x : Run) → IsClear x run → All (λ y. Differ x y) runs → All (λ y. Differ x y) pieces
+  pub after : (y : Run) → IsClear run y → All (λ x. Precedes x y) runs → All (λ x. Precedes x y) pieces
+  pub apart_after : (y : Run) → IsClear run y → All (λ x. Differ x y) runs → All (λ x. Differ x y) pieces
   pub few : length pieces ≤ length runs + 2
 
 -- where runs stand after one was added after them
@@ -195,12 +195,12 @@ pub record AddsRun (old new : List Run) (run : Run) : Type 0 where
   pub rows : (n : ℕ) → All (λ x. x.row ≡ n) old → run.row ≡ n → All (λ x. x.row ≡ n) new
   pub ends : (n : ℕ) → EndsBy n old → run.cell + run.count ≤ n → EndsBy n new
   pub inside : (widths : List ℕ) → FitIn widths old → run.cell + run.count ≤ slice_index_or widths run.row 0 → FitIn widths new
-  pub behind : (y : Run) → All (λ x. Precedes x y) old → Precedes run y → All (λ x. Precedes x y) new
+  pub after : (y : Run) → All (λ x. Precedes x y) old → Precedes run y → All (λ x. Precedes x y) new
   pub order : AllPairs (λ a b. Precedes a b) old → All (λ x. Precedes x run) old → AllPairs (λ a b. Precedes a b) new
   pub apart : AllPairs (λ a b. Precedes a b) old → All (λ x. Precedes x run) old → AllPairs (λ a b. Differ a b) old → AllPairs (λ a b. Differ a b) new
-  pub apart_behind : (y : Run) → All (λ x. Differ x y) old → Differ run y → All (λ x. Differ x y) new
-  pub after : (x : Run) → All (λ y. Precedes x y) old → Precedes x run → All (λ y. Precedes x y) new
-  pub apart_after : (x : Run) → All (λ y. Differ x y) old → Differ x run → All (λ y. Differ x y) new
+  pub apart_after : (y : Run) → All (λ x. Differ x y) old → Differ run y → All (λ x. Differ x y) new
+  pub follows : (x : Run) → All (λ y. Precedes x y) old → Precedes x run → All (λ y. Precedes x y) new
+  pub apart_follows : (x : Run) → All (λ y. Differ x y) old → Differ x run → All (λ y. Differ x y) new
   pub count : length new ≤ length old + 1
 
 -- what a list of runs keeps when one is put over it

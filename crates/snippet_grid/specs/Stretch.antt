@@ -9,10 +9,10 @@ pub record PrintsStretch (word : List ℕ) (last next : Style) (last_link next_l
   pub ended : List ℕ
   pub changed : List ℕ
   pub begun : List ℕ
-  pub link_goes_on : last_link ≡ next_link → ended ≡ old
+  pub link_continues : last_link ≡ next_link → ended ≡ old
   pub link_absent : last_link ≡ None → ended ≡ old
   pub link_ends : last_link ≢ None → last_link ≢ next_link → ended ≡ old ++ flat_map piece_text (LinkEnd ∷ [])
-  pub style_goes_on : last ≡ next → changed ≡ ended
+  pub style_continues : last ≡ next → changed ≡ ended
   pub style_changes : last ≢ next → changed ≡ ended ++ flat_map piece_text (Reset last ∷ Opening next ∷ [])
   pub same_link : last_link ≡ next_link → begun ≡ changed
   pub no_link : next_link ≡ None → begun ≡ changed

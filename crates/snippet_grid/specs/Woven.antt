@@ -80,7 +80,7 @@ PrintsCells sheet level style link (LinkEnd ∷ ps) cells =
 abbrev pub PrintsRow : Stylesheet → LevelInner → List Piece → List Cell → Type 0
 PrintsRow sheet level pieces row = PrintsCells sheet level (Some sheet.none) None pieces row
 
--- these pieces print some rows, each of them behind a line feed
+-- these pieces print some rows, each of them after a line feed
 abbrev pub PrintsFurther : Stylesheet → LevelInner → List Piece → List (List Cell) → Type 0
 PrintsFurther sheet level pieces [] = pieces ≡ []
 PrintsFurther sheet level pieces (row ∷ rows) =
@@ -127,7 +127,7 @@ pub record IsWoven (sheet : Stylesheet) (text plain : List ℕ) (links : List (L
   pub of_sheet : All (λ p. IsOfSheet sheet p) pieces
   pub ended : AreLinksEnded false pieces
 
--- the URL of a link that begins behind one that is open: none where it is the same one
+-- the URL of a link that begins after one that is open: none where it is the same one
 abbrev pub link_begun : Option (List ℕ) → Option (List ℕ) → List (List ℕ)
 link_begun last None = []
 link_begun None (Some url) = url ∷ []
@@ -135,13 +135,13 @@ link_begun (Some last) (Some url) = if pointwise nat_eq last url then [] else ur
 
 -- the URLs of the linked runs of some cells, in order, where a run is of neighbours with one URL; `last` is the link of
 -- the cell before
-abbrev pub links_behind : Option (List ℕ) → List Cell → List (List ℕ)
-links_behind last [] = []
-links_behind last (cell ∷ cells) = link_begun last cell.link ++ links_behind cell.link cells
+abbrev pub links_after : Option (List ℕ) → List Cell → List (List ℕ)
+links_after last [] = []
+links_after last (cell ∷ cells) = link_begun last cell.link ++ links_after cell.link cells
 
 -- the URLs of the linked runs of a grid, row by row
 abbrev pub links_of : List (List Cell) → List (List ℕ)
-links_of rows = flat_map (λ row. links_behind None row) rows
+links_of rows = flat_map (λ row. links_after None row) rows
 
 -- a text grew by pieces of this kind
 pub record AddsPieces (P : List Piece → Type 0) (old new : List ℕ) : Type 0 where

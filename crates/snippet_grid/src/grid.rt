@@ -5,7 +5,7 @@
 
 ghost use Rattle.std.specs.Prelude.{◌≡◌, ◌+◌, ◌^◌, ◌<◌, ◌≤◌, List, [], ◌∷◌, length, ℕ, true, IfOk, OnOk, OnErr, IsOk, string_bytes, encode_utf8_all};
 ghost use Rattle.snippet_grid.specs.Grid.{row_at, num_cells, cells_written, WritesCells, cells_restyled, RestylesCells, cells_linked, LinksCells, cells_replaced, ReplacesCells};
-ghost use Rattle.snippet_style.specs.Cell.{drawn};
+ghost use Rattle.snippet_style.specs.Cell.{text_cells};
 ghost use Rattle.snippet_style.specs.declared.role.ElementStyle.TheVariants.{LineNumber};
 ghost use Rattle.std.specs.Str.{chars};
 ghost use Rattle.snippet_grid.specs.Print as spec;
@@ -26,7 +26,7 @@ use std::ops::Range;
 /// A grid of styled cells. It has no row at first.
 ///
 /// Rows and cells are numbered from 0, and each character takes one cell. A call that fails for
-/// want of memory leaves the grid as it was.
+/// running out of memory leaves the grid as it was.
 #[derive(Drop)]
 pub struct StyledBuffer<'a> {
     /// What is written, in order; a cell that no run holds is an unstyled space.
@@ -103,9 +103,9 @@ impl<'a> StyledBuffer<'a> {
         requires row { row + 1 < 2 ^ 64 }
         requires end { cell + 1 < 2 ^ 64 }
         ensures ok { OnOk result
-            (self.new ≡ cells_written self.old row cell (drawn role (ch ∷ []))) }
+            (self.new ≡ cells_written self.old row cell (text_cells role (ch ∷ []))) }
         ensures reads { OnOk result
-            (WritesCells self.old self.new row cell (drawn role (ch ∷ []))) }
+            (WritesCells self.old self.new row cell (text_cells role (ch ∷ []))) }
         ensures err { OnErr result (self.new ≡ self.old) }
     {
         let mut bytes = [0; 4];
@@ -128,9 +128,9 @@ impl<'a> StyledBuffer<'a> {
         requires row { 0 < length text.now → row + 1 < 2 ^ 64 }
         requires end { cell + length (chars text.now) < 2 ^ 64 }
         ensures ok { OnOk result (0 < length text.now
-            → self.new ≡ cells_written self.old row cell (drawn role (chars text.now))) }
+            → self.new ≡ cells_written self.old row cell (text_cells role (chars text.now))) }
         ensures reads { OnOk result (0 < length text.now
-            → WritesCells self.old self.new row cell (drawn role (chars text.now))) }
+            → WritesCells self.old self.new row cell (text_cells role (chars text.now))) }
         ensures empty { text.now ≡ [] → self.new ≡ self.old }
         ensures empty_succeeds { text.now ≡ [] → IsOk result }
         ensures err { OnErr result (self.new ≡ self.old) }
@@ -150,7 +150,7 @@ impl<'a> StyledBuffer<'a> {
         )
     }
 
-    /// Writes a text in this row, behind its last cell, one cell for each character. An empty text
+    /// Writes a text in this row, after its last cell, one cell for each character. An empty text
     /// does nothing: it makes no row.
     ///
     /// # Errors
@@ -160,10 +160,10 @@ impl<'a> StyledBuffer<'a> {
         requires row { 0 < length text.now → row + 1 < 2 ^ 64 }
         ensures ok { OnOk result (0 < length text.now
             → (let end = length (row_at self.old row) in
-            self.new ≡ cells_written self.old row end (drawn role (chars text.now)))) }
+            self.new ≡ cells_written self.old row end (text_cells role (chars text.now)))) }
         ensures reads { OnOk result (0 < length text.now
             → (let end = length (row_at self.old row) in
-            WritesCells self.old self.new row end (drawn role (chars text.now)))) }
+            WritesCells self.old self.new row end (text_cells role (chars text.now)))) }
         ensures empty { text.now ≡ [] → self.new ≡ self.old }
         ensures empty_succeeds { text.now ≡ [] → IsOk result }
         ensures err { OnErr result (self.new ≡ self.old) }
@@ -175,7 +175,7 @@ impl<'a> StyledBuffer<'a> {
         self.puts(row, end, text, role)
     }
 
-    /// Puts a text of role `LineNumber` in place of the cells of this row from `start` to before `end`; the cells behind
+    /// Puts a text of role `LineNumber` in place of the cells of this row from `start` to before `end`; the cells after
     /// them move. Nothing happens where `start` is not below `end`, or where the row has no such cells. The new cells
     /// belong to no link.
     ///
@@ -190,9 +190,9 @@ impl<'a> StyledBuffer<'a> {
         text: &str,
     ) -> Result<(), AllocError>
         ensures ok { OnOk result
-            (self.new ≡ cells_replaced self.old row start end (drawn LineNumber (chars text.now))) }
+            (self.new ≡ cells_replaced self.old row start end (text_cells LineNumber (chars text.now))) }
         ensures reads { OnOk result
-            (ReplacesCells self.old self.new row start end (drawn LineNumber (chars text.now))) }
+            (ReplacesCells self.old self.new row start end (text_cells LineNumber (chars text.now))) }
         ensures empty_succeeds { end ≤ start → IsOk result }
         ensures past_succeeds { length (row_at self.old row) < end → IsOk result }
         ensures err { OnErr result (self.new ≡ self.old) }

@@ -7,7 +7,7 @@ ghost use Rattle.snippet_grid.specs.Runs.{IsRun, BeginsWith, Precedes, Differ, I
 ghost use Rattle.snippet_grid.specs.declared.runs.Run.{Run};
 ghost use Rattle.std.specs.List.{AllPairs, slice_index_or};
 
-use crate::runs::{Run, add_run, begun_by, clipped, goes_on, join};
+use crate::runs::{Run, add_run, begun_by, clipped, continues, join};
 use std::alloc::AllocError;
 
 /// Whether all runs stand before this one.
@@ -184,7 +184,7 @@ pub(crate) fn put_run<'a>(
     }
     let end = begun_by(old, run.row, run.cell + run.count);
     let start = first_touched(old, end, run);
-    if end - start == 1 && goes_on(&old[start], run) {
+    if end - start == 1 && continues(&old[start], run) {
         return join(text, &mut spare.text, &mut runs[start], run);
     }
     spare.runs.clear();

@@ -1,7 +1,7 @@
 //! Runs of neighbouring cells that share their role and their link.
 ghost use Rattle.std.specs.Prelude.{◌≡◌, ◌+◌, ◌-◌, ◌<◌, ◌≤◌, ◌^◌, ℕ, List, true, false, length, min, take, drop, All, IfOk, OnOk, OnErr, string_bytes, vec_len};
-ghost use Rattle.snippet_grid.specs.Runs.{IsRun, GoesOn, Differ, IsJoined, IsMoved, IsPart, BeginsWith, ShowsMore, ShowsCopy, FitsMoved, AddsRun, IsRow, EndsBy, FitIn, Precedes, BeginsAfter, BeginsBy, bytes_of, run_bytes, run_chars};
-ghost use Rattle.snippet_grid.specs.Changes.{num_met};
+ghost use Rattle.snippet_grid.specs.Runs.{IsRun, Continues, Differ, IsJoined, IsMoved, IsPart, BeginsWith, ShowsMore, ShowsCopy, FitsMoved, AddsRun, IsRow, EndsBy, FitIn, Precedes, BeginsAfter, BeginsBy, bytes_of, run_bytes, run_chars};
+ghost use Rattle.snippet_grid.specs.Changes.{num_touched};
 ghost use Rattle.snippet_grid.specs.declared.runs.Run.{Run};
 ghost use Rattle.std.specs.List.{AllPairs, slice_index_or};
 ghost use Rattle.std.specs.Str.{chars};
@@ -25,9 +25,9 @@ pub(crate) struct Run<'a> {
 }
 
 /// Whether a run goes on where another ends, with its role and its link.
-pub(crate) fn goes_on(first: &Run<'_>, second: &Run<'_>) -> bool
+pub(crate) fn continues(first: &Run<'_>, second: &Run<'_>) -> bool
     requires fits { first.now.cell + first.now.count < 2 ^ 64 }
-    ensures yes { result ≡ true → GoesOn first.now second.now }
+    ensures yes { result ≡ true → Continues first.now second.now }
     ensures no { result ≡ false → Differ first.now second.now }
 {
     first.row == second.row
@@ -93,7 +93,7 @@ pub(crate) fn join<'a>(
 ) -> Result<(), AllocError>
     requires first { IsRun (string_bytes text.old) first.old }
     requires second { IsRun (string_bytes text.old) second.now }
-    requires goes_on { GoesOn first.old second.now }
+    requires continues { Continues first.old second.now }
     ensures ok { OnOk result (IsJoined (string_bytes text.old) (string_bytes text.new) first.old second.now first.new) }
     ensures text { BeginsWith (string_bytes text.old) (string_bytes text.new) }
     ensures err { OnErr result (first.new ≡ first.old) }
@@ -104,10 +104,10 @@ pub(crate) fn join<'a>(
         return Ok(());
     }
     let front = at_end(text, copy, first)?;
-    let behind = copied(text, copy, second)?;
+    let after = copied(text, copy, second)?;
     *first = Run {
         count: first.count + second.count,
-        end: behind.end,
+        end: after.end,
         ..front
     };
     Ok(())
@@ -131,7 +131,7 @@ pub(crate) fn add_run<'a>(
     let len = runs.len();
     if len > 0 {
         let last = &runs[len - 1];
-        if goes_on(last, run) {
+        if continues(last, run) {
             return join(text, copy, &mut runs[len - 1], run);
         }
     }
@@ -213,7 +213,7 @@ pub(crate) fn copy_cells<'a>(
     ensures row { OnOk result (IsRow (string_bytes text.new) row out.new.items) }
     ensures ends { OnOk result (EndsBy (at + (to - from)) out.new.items) }
     ensures tight { (n : ℕ) → EndsBy n runs.now → OnOk result (EndsBy (at + (min n to - from)) out.new.items) }
-    ensures count { OnOk result (length out.new.items ≤ length out.old.items + num_met from to runs.now) }
+    ensures count { OnOk result (length out.new.items ≤ length out.old.items + num_touched from to runs.now) }
 {
     for run in runs {
         let start = run.cell.max(from);

@@ -4,7 +4,7 @@ ghost use Rattle.std.specs.List.{slice_index_or};
 ghost use Rattle.std.specs.Option.{option_copied};
 ghost use Rattle.std.specs.Str.{chars};
 ghost use Rattle.snippet_grid.specs.Grid.{cells_written};
-ghost use Rattle.snippet_style.specs.Cell.{drawn};
+ghost use Rattle.snippet_style.specs.Cell.{text_cells};
 ghost use Rattle.snippet_grid.specs.Runs.{BeginsWith, IsRun, IsGrid, IsWord, IsWidened, run_chars, grid_shown};
 
 use crate::put::{Spare, put_run};
@@ -150,7 +150,7 @@ pub(crate) fn write_word<'a>(
     requires row { row + 1 < 2 ^ 64 }
     requires end { at + length (chars word.now) < 2 ^ 64 }
     requires some { 0 < length (chars word.now) }
-    ensures ok { OnOk result (grid_shown (string_bytes text.new) runs.new.items widths.new.items ≡ cells_written (grid_shown (string_bytes text.old) runs.old.items widths.old.items) row at (drawn role (chars word.now))) }
+    ensures ok { OnOk result (grid_shown (string_bytes text.new) runs.new.items widths.new.items ≡ cells_written (grid_shown (string_bytes text.old) runs.old.items widths.old.items) row at (text_cells role (chars word.now))) }
     ensures grid { IsGrid (string_bytes text.new) runs.new.items widths.new.items }
     ensures runs_added { length runs.new.items ≤ length runs.old.items + 2 }
     ensures rows { length widths.old.items < 2 ^ 60 → length widths.new.items < 2 ^ 60 }

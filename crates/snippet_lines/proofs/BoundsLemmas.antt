@@ -18,12 +18,12 @@ use Rattle.snippet_lines.proofs.PlaceLemmas.{HoldsByte-source, line_of-is, line_
 -- the bytes from `start` up to `end` are the line around byte `at`
 pub record IsLineAround (source : List ℕ) (at start end : ℕ) : Type 0 where
   pub before : start ≤ at
-  pub behind : at < end
+  pub after : at < end
   pub within : end ≤ length source
   pub opens : 0 < start → get_or source (start - 1) 0 ≡ 10
   pub closes : (get_or source (end - 1) 0 ≡ 10) ⊎ (end ≡ length source)
   pub none_before : (j : ℕ) → start ≤ j → j < at → get_or source j 0 ≢ 10
-  pub none_behind : (j : ℕ) → at ≤ j → j + 1 < end → get_or source j 0 ≢ 10
+  pub none_after : (j : ℕ) → at ≤ j → j + 1 < end → get_or source j 0 ≢ 10
 
 -- what is one line and isn't empty is cut into one line
 length-one : (line : List ℕ) → 0 < length line → IsOneLine line → length (lines_of line) ≡ 1
@@ -44,27 +44,27 @@ module _ (source : List ℕ) (at start end : ℕ) (around : IsLineAround source 
   the_line : List ℕ
   the_line = take (end - start) (drop start source)
 
-  behind_it : List ℕ
-  behind_it = drop end source
+  after_it : List ℕ
+  after_it = drop end source
 
   length-before_it : length before_it ≡ start
   unfolding before_it
-  length-before_it = length-take-le start source (omega (arith, around.before, around.behind, around.within))
+  length-before_it = length-take-le start source (omega (arith, around.before, around.after, around.within))
 
   length-the_line : length the_line ≡ end - start
   unfolding the_line
-  length-the_line = length-take-le (end - start) (drop start source) (omega (arith, length-drop start source, around.before, around.behind, around.within))
+  length-the_line = length-take-le (end - start) (drop start source) (omega (arith, length-drop start source, around.before, around.after, around.within))
 
-  three_parts : source ≡ before_it ++ (the_line ++ behind_it)
-  unfolding before_it the_line behind_it
+  three_parts : source ≡ before_it ++ (the_line ++ after_it)
+  unfolding before_it the_line after_it
   three_parts =
-      let n : start + (end - start) ≡ end = omega (arith, around.before, around.behind) in
+      let n : start + (end - start) ≡ end = omega (arith, around.before, around.after) in
       let back : drop (end - start) (drop start source) ≡ drop end source = drop-drop (end - start) start source ∙ ap (λ m. drop m source) n in
       sym (take-append-drop start source) ∙ ap (λ bs. take start source ++ bs) (sym (take-append-drop (end - start) (drop start source)) ∙ ap (λ bs. take (end - start) (drop start source) ++ bs) back)
 
-  opens_behind_lf : 0 < length before_it → last_byte before_it ≡ 10
+  opens_after_lf : 0 < length before_it → last_byte before_it ≡ 10
   unfolding before_it
-  opens_behind_lf some =
+  opens_after_lf some =
       let n : length (take start source) ≡ start = length-before_it in
       ap (λ m. get_or (take start source) (m - 1) 0) n ∙ get_or-take start source (start - 1) 0 (omega arith) ∙ around.opens (omega arith)
 
@@ -78,27 +78,27 @@ module _ (source : List ℕ) (at start end : ℕ) (around : IsLineAround source 
       let m : length (take (length the_line - 1) the_line) ≡ length the_line - 1 = length-take-le (length the_line - 1) the_line (omega arith) in
       let same : get_or the_line k 0 ≡ 10 = get_or_default the_line k 0 d (omega arith) ∙ sym (get_or-take (length the_line - 1) the_line k d (omega arith)) ∙ is in
       let lf : get_or source (start + k) 0 ≡ 10 = sym (read k (omega arith)) ∙ same in
-      ⊎_elim (λ early. around.none_before (start + k) (omega arith) early lf) (λ late. around.none_behind (start + k) late (omega arith) lf) (cases_lt (start + k) at)
+      ⊎_elim (λ early. around.none_before (start + k) (omega arith) early lf) (λ late. around.none_after (start + k) late (omega arith) lf) (cases_lt (start + k) at)
 
-  closes_with_lf : (last_byte the_line ≡ 10) ⊎ (behind_it ≡ [])
-  unfolding behind_it
+  closes_with_lf : (last_byte the_line ≡ 10) ⊎ (after_it ≡ [])
+  unfolding after_it
   closes_with_lf =
       let n : length the_line ≡ end - start = length-the_line in
-      let last : last_byte the_line ≡ get_or source (end - 1) 0 = ap (λ m. get_or the_line (m - 1) 0) n ∙ read (end - start - 1) (omega (arith, around.before, around.behind)) ∙ (let e : start + (end - start - 1) ≡ end - 1 = omega (arith, around.before, around.behind) in ap (λ m. get_or source m 0) e) in
+      let last : last_byte the_line ≡ get_or source (end - 1) 0 = ap (λ m. get_or the_line (m - 1) 0) n ∙ read (end - start - 1) (omega (arith, around.before, around.after)) ∙ (let e : start + (end - start - 1) ≡ end - 1 = omega (arith, around.before, around.after) in ap (λ m. get_or source m 0) e) in
       ⊎_elim (λ lf. inl (last ∙ lf)) (λ all. inr (drop_all end source (omega (arith, all)))) around.closes
 
   some_line : 0 < length the_line
-  some_line = omega (arith, length-the_line, around.before, around.behind)
+  some_line = omega (arith, length-the_line, around.before, around.after)
 
-  tail_lines : lines_of (the_line ++ behind_it) ≡ lines_of the_line ++ lines_of behind_it
+  tail_lines : lines_of (the_line ++ after_it) ≡ lines_of the_line ++ lines_of after_it
   tail_lines =
-      ⊎_elim (λ lf. lines_of-append the_line behind_it (λ _. lf))
+      ⊎_elim (λ lf. lines_of-append the_line after_it (λ _. lf))
       (λ none. ap (λ bs. lines_of (the_line ++ bs)) none ∙ ap lines_of (append-nil the_line) ∙ sym (append-nil (lines_of the_line)) ∙ ap (λ bs. lines_of the_line ++ lines_of bs) (sym none))
       closes_with_lf
 
-  all_lines : source_lines source ≡ lines_of before_it ++ (lines_of the_line ++ lines_of behind_it)
+  all_lines : source_lines source ≡ lines_of before_it ++ (lines_of the_line ++ lines_of after_it)
   all_lines =
-      source_lines-some source (omega (arith, around.behind, around.within)) ∙ ap lines_of three_parts ∙ lines_of-append before_it (the_line ++ behind_it) opens_behind_lf ∙ ap (λ ls. lines_of before_it ++ ls) tail_lines
+      source_lines-some source (omega (arith, around.after, around.within)) ∙ ap lines_of three_parts ∙ lines_of-append before_it (the_line ++ after_it) opens_after_lf ∙ ap (λ ls. lines_of before_it ++ ls) tail_lines
 
   -- which line it is
   index_of_it : ℕ
@@ -107,23 +107,23 @@ module _ (source : List ℕ) (at start end : ℕ) (around : IsLineAround source 
   start_is : start_of (source_lines source) index_of_it ≡ start
   unfolding start_of index_of_it
   start_is =
-      ap (λ ls. length (joined (take (length (lines_of before_it)) ls))) all_lines ∙ ap (λ ls. length (joined ls)) (take_at (lines_of before_it) (lines_of the_line ++ lines_of behind_it) (length (lines_of before_it)) refl) ∙ ap length (joined-lines_of before_it) ∙ length-before_it
+      ap (λ ls. length (joined (take (length (lines_of before_it)) ls))) all_lines ∙ ap (λ ls. length (joined ls)) (take_at (lines_of before_it) (lines_of the_line ++ lines_of after_it) (length (lines_of before_it)) refl) ∙ ap length (joined-lines_of before_it) ∙ length-before_it
 
   end_is : start_of (source_lines source) (index_of_it + 1) ≡ end
   unfolding start_of index_of_it
   end_is =
       let one : length (lines_of the_line) ≡ 1 = length-one the_line some_line line_is_one in
       let n : length (lines_of before_it ++ lines_of the_line) ≡ length (lines_of before_it) + 1 = omega (arith, length-append (lines_of before_it) (lines_of the_line)) in
-      let split : source_lines source ≡ (lines_of before_it ++ lines_of the_line) ++ lines_of behind_it = all_lines ∙ sym (append_assoc (lines_of before_it) (lines_of the_line) (lines_of behind_it)) in
-      ap (λ ls. length (joined (take (length (lines_of before_it) + 1) ls))) split ∙ ap (λ ls. length (joined ls)) (take_at (lines_of before_it ++ lines_of the_line) (lines_of behind_it) (length (lines_of before_it) + 1) n) ∙ ap length (flat_map-append line_bytes (lines_of before_it) (lines_of the_line)) ∙ length-append (joined (lines_of before_it)) (joined (lines_of the_line)) ∙ (let e : length (joined (lines_of before_it)) + length (joined (lines_of the_line)) ≡ end = omega (arith, ap length (joined-lines_of before_it), ap length (joined-lines_of the_line), length-before_it, length-the_line, around.before, around.behind) in e)
+      let split : source_lines source ≡ (lines_of before_it ++ lines_of the_line) ++ lines_of after_it = all_lines ∙ sym (append_assoc (lines_of before_it) (lines_of the_line) (lines_of after_it)) in
+      ap (λ ls. length (joined (take (length (lines_of before_it) + 1) ls))) split ∙ ap (λ ls. length (joined ls)) (take_at (lines_of before_it ++ lines_of the_line) (lines_of after_it) (length (lines_of before_it) + 1) n) ∙ ap length (flat_map-append line_bytes (lines_of before_it) (lines_of the_line)) ∙ length-append (joined (lines_of before_it)) (joined (lines_of the_line)) ∙ (let e : length (joined (lines_of before_it)) + length (joined (lines_of the_line)) ≡ end = omega (arith, ap length (joined-lines_of before_it), ap length (joined-lines_of the_line), length-before_it, length-the_line, around.before, around.after) in e)
 
   index_within : index_of_it < length (source_lines source)
   unfolding index_of_it
   index_within =
       let one : length (lines_of the_line) ≡ 1 = length-one the_line some_line line_is_one in
-      omega (arith, ap length all_lines, length-append (lines_of before_it) (lines_of the_line ++ lines_of behind_it), length-append (lines_of the_line) (lines_of behind_it))
+      omega (arith, ap length all_lines, length-append (lines_of before_it) (lines_of the_line ++ lines_of after_it), length-append (lines_of the_line) (lines_of after_it))
 
-  -- it holds each byte in it, and each behind its start if it ends where the source does
+  -- it holds each byte in it, and each after its start if it ends where the source does
   holds : (b : ℕ) → start ≤ b → (b < end) ⊎ (end ≡ length source) → HoldsByte (source_lines source) b index_of_it
   holds b from to = record {
     within = index_within;
@@ -165,19 +165,19 @@ start_of-empty source k none =
 
 -- the bounds that are found around the byte `at`, which is `byte` or the last one, are those of the line that holds `byte`
 pub bounds-around : (source : List ℕ) (byte at start end : ℕ) → at ≡ min byte (length source - 1) → start ≤ at → (0 < start → get_or source (start - 1) 0 ≡ 10) → ((j : ℕ) → start ≤ j → j < at → get_or source j 0 ≢ 10) → end ≤ length source → (at < length source → at < end) → (get_or source (end - 1) 0 ≡ 10) ⊎ (end ≡ length source) → ((j : ℕ) → at ≤ j → j + 1 < end → get_or source j 0 ≢ 10) → (start ≡ start_of (source_lines source) (line_of (source_lines source) byte)) × (end ≡ start_of (source_lines source) (line_of (source_lines source) byte + 1))
-bounds-around source byte at start end at_is before opens none_before within behind closes none_behind =
+bounds-around source byte at start end at_is before opens none_before within after closes none_after =
     let ls : List Line = source_lines source in
     ⊎_elim (λ some.
     let around : IsLineAround source at start end = record {
       before = before;
-      behind = behind (omega arith);
+      after = after (omega arith);
       within = within;
       opens = opens;
       closes = closes;
       none_before = none_before;
-      none_behind = none_behind;
+      none_after = none_after;
     } in
-    let to : (byte < end) ⊎ (end ≡ length source) = ⊎_elim (λ inside. inl (omega (arith, behind (omega arith)))) (λ last. inr (omega (arith, behind (omega arith)))) (cases_lt byte (length source)) in
+    let to : (byte < end) ⊎ (end ≡ length source) = ⊎_elim (λ inside. inl (omega (arith, after (omega arith)))) (λ last. inr (omega (arith, after (omega arith)))) (cases_lt byte (length source)) in
     (start-around source at start end around byte (omega arith) to, end-around source at start end around byte (omega arith) to))
     (λ empty.
     let none : length source ≡ 0 = omega arith in

@@ -9,7 +9,7 @@ use Rattle.snippet_lines.specs.declared.lines.EndLine.TheVariants.{Eof}
 use Rattle.snippet_lines.specs.Lines.{end_bytes, line_bytes, last_byte, IsLine, lines_of, is_lf, newline_count, IsOneLine}
 use Rattle.snippet_lines.proofs.LinesLemmas.{split_last, lines_of-line, newline_count-open, newline_count-closed}
 
--- a text cut behind its first LF
+-- a text cut after its first LF
 pub IsOneLine-cut : (text : List ℕ) (at : ℕ) → at < length text → ((k : ℕ) → k < at → get_or text k 0 ≢ 10) → IsOneLine (take (at + 1) text)
 IsOneLine-cut text at inside none = λ k d within is.
     let n : length (take (at + 1) text) ≡ at + 1 = length-take-le (at + 1) text (omega arith) in

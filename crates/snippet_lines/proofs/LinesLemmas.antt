@@ -196,7 +196,7 @@ one_more_line b [] some = absurd (omega arith)
 one_more_line b (l ∷ ls) some =
     elim (eqb b 10) as (λ t. length (cond t (([], Lf) ∷ l ∷ ls) (with_first_byte b (l ∷ ls))) ≡ cond t 1 0 + length (l ∷ ls)) [ true ↦ omega arith | false ↦ omega arith ]
 
--- a line for each LF, and one more where the text goes on behind the last of them
+-- a line for each LF, and one more where the text goes on after the last of them
 pub length-lines_of : (b : ℕ) (bs : List ℕ) → length (lines_of (b ∷ bs)) + ending_newlines (b ∷ bs) ≡ count_by is_lf (b ∷ bs) + 1
 length-lines_of b [] =
     let count : count_by is_lf (b ∷ []) ≡ cond (is_lf b) 1 0 + count_by is_lf [] = sum_by-cons (λ c. cond (is_lf c) 1 0) b [] in
@@ -253,10 +253,10 @@ pub start_of-cons : (l : Line) (ls : List Line) (k : ℕ) → start_of (l ∷ ls
 unfolding start_of
 start_of-cons l ls k = rw add-one (length-append (line_bytes l) (joined (take k ls)))
 
--- behind all lines
+-- after all lines
 pub start_of-end : (ls : List Line) (k : ℕ) → length ls ≤ k → start_of ls k ≡ length (joined ls)
 unfolding start_of
-start_of-end ls k behind = ap (λ ms. length (joined ms)) (take_all k ls behind)
+start_of-end ls k after = ap (λ ms. length (joined ms)) (take_all k ls after)
 
 -- a line ends where the next begins
 pub start_of-next : (ls : List Line) (k : ℕ) (d : Line) → k < length ls → start_of ls (k + 1) ≡ start_of ls k + length (line_bytes (get_or ls k d))
@@ -266,7 +266,7 @@ start_of-next ls k d within =
 
 start_of-step : (ls : List Line) (k : ℕ) → start_of ls k ≤ start_of ls (k + 1)
 start_of-step ls k =
-    ⊎_elim (λ within. omega (arith, start_of-next ls k ([], Eof) within)) (λ behind. omega (arith, start_of-end ls k behind, start_of-end ls (k + 1) (omega arith))) (cases_lt k (length ls))
+    ⊎_elim (λ within. omega (arith, start_of-next ls k ([], Eof) within)) (λ after. omega (arith, start_of-end ls k after, start_of-end ls (k + 1) (omega arith))) (cases_lt k (length ls))
 
 -- later lines begin later
 pub start_of-mono : (ls : List Line) (j n : ℕ) → start_of ls j ≤ start_of ls (j + n)
@@ -283,7 +283,7 @@ start_of-le ls j k le =
     let at : start_of ls (j + (k - j)) ≡ start_of ls k = ap (start_of ls) same in
     omega (arith, start_of-mono ls j (k - j))
 
--- the lines before line k, line k, and those behind it
+-- the lines before line k, line k, and those after it
 pub split_at_line : (ls : List Line) (k : ℕ) (d : Line) → k < length ls → joined ls ≡ joined (take k ls) ++ (line_bytes (get_or ls k d) ++ joined (drop (k + 1) ls))
 split_at_line ls k d within =
     ap joined (sym (take-append-drop k ls)) ∙ flat_map-append line_bytes (take k ls) (drop k ls) ∙ ap (λ ms. joined (take k ls) ++ joined ms) (drop_more ls k d within)
@@ -307,7 +307,7 @@ text_at-within ls k within =
 pub length-text_at : (ls : List Line) (k : ℕ) → length (text_at ls k) ≤ length (joined ls)
 length-text_at ls k =
     ⊎_elim (λ within. omega (arith, text_at-within ls k within, start_of-le ls (k + 1) (k + 1 + length ls) (omega arith), start_of-end ls (k + 1 + length ls) (omega arith)))
-    (λ behind. let none : text_at ls k ≡ [] = ap (λ (l : Line). l.0) (get_or_past ls k ([], Eof) behind) in omega (arith, ap length none))
+    (λ after. let none : text_at ls k ≡ [] = ap (λ (l : Line). l.0) (get_or_past ls k ([], Eof) after) in omega (arith, ap length none))
     (cases_lt k (length ls))
 
 -- ---- UTF-8
@@ -349,7 +349,7 @@ IsUtf8-text_at source k utf8 =
     ⊎_elim (λ one. All-same (λ (l : Line). IsUtf8 l.0) ls (([], Eof) ∷ []) one (All-cons (λ (l : Line). IsUtf8 l.0) ([], Eof) [] IsUtf8-nil (All-nil (λ (l : Line). IsUtf8 l.0))))
     (λ (some, lines). IsUtf8-lines ls lines (subst IsUtf8 (sym are.whole) utf8)) are.lines in
     ⊎_elim (λ within. each k ([], Eof) within)
-    (λ behind. subst IsUtf8 (sym (ap (λ (l : Line). l.0) (get_or_past ls k ([], Eof) behind))) IsUtf8-nil)
+    (λ after. subst IsUtf8 (sym (ap (λ (l : Line). l.0) (get_or_past ls k ([], Eof) after))) IsUtf8-nil)
     (cases_lt k (length ls))
 
 -- a source has the lines of its text, or one more

@@ -7,7 +7,7 @@ use Rattle.snippet_lines.specs.declared.lines.EndLine.{EndLine}
 use Rattle.snippet_lines.specs.declared.lines.EndLine.TheVariants.{Eof, Lf, Crlf}
 use Rattle.snippet_lines.specs.Lines.{Line, line_bytes, AreLines, AreLinesOf, source_lines, text_at, start_of, Source}
 use Rattle.snippet_text.specs.Width.{char_width, width_of}
-use Rattle.snippet_lines.specs.Place.{HoldsByte, line_of, prefix_at, place_of, location_of, steps_behind_text, start_location, end_location, locations_of}
+use Rattle.snippet_lines.specs.Place.{HoldsByte, line_of, prefix_at, place_of, location_of, steps_after_text, start_location, end_location, locations_of}
 use Rattle.snippet_lines.specs.Span.{IsSpanBorder}
 use Rattle.snippet_lines.proofs.LinesLemmas.{start_of-zero, start_of-cons, start_of-le, start_of-end, start_of-next, AreLinesOf-source_lines, joined-source_lines, length-source_lines, text_at-stands, text_at-within}
 
@@ -111,7 +111,7 @@ IsCharBoundary-prefix source b border =
           let i : ℕ = min (b - start_of ls k) (length text) in
           let at : start_of ls k + i ≡ b = omega arith in
           let same : get_or text i 0 ≡ get_or source b 0 = text_at-byte source k i holds.within inside ∙ ap (λ n. get_or source n 0) at in
-          ⊎_elim (λ boundary. let lead : 192 ≤ get_or source b 0 = boundary.1 (omega arith) (omega arith) in omega arith) (λ behind. absurd (omega arith)) border,
+          ⊎_elim (λ boundary. let lead : 192 ≤ get_or source b 0 = boundary.1 (omega arith) (omega arith) in omega arith) (λ after. absurd (omega arith)) border,
     )
 
 pub place_of-line : (source : List ℕ) (b : ℕ) → (place_of source b).line ≡ line_of (source_lines source) b
@@ -161,21 +161,21 @@ unfolding end_location location_of place_of
 end_location-column s start end same =
     let one : eqb (s.first + line_of (source_lines s.text) start) (s.first + line_of (source_lines s.text) end) ≡ true = eq-eqb (s.first + line_of (source_lines s.text) start) (s.first + line_of (source_lines s.text) end) (ap (λ k. s.first + k) same) in
     let column : ℕ = width_of (chars (prefix_at (source_lines s.text) (line_of (source_lines s.text) end) end)) in
-    ap (λ n. column + n) (cond-true (eqb (s.first + line_of (source_lines s.text) start) (s.first + line_of (source_lines s.text) end)) 0 (steps_behind_text s.text end) one) ∙ add-zero column
+    ap (λ n. column + n) (cond-true (eqb (s.first + line_of (source_lines s.text) start) (s.first + line_of (source_lines s.text) end)) 0 (steps_after_text s.text end) one) ∙ add-zero column
 
 -- ---- worked
 
--- in a tab, CR, LF and a tab, the byte inside CR LF stands at the end of the first line, behind the tab's four columns
+-- in a tab, CR, LF and a tab, the byte inside CR LF stands at the end of the first line, after the tab's four columns
 worked-inside_line_end : place_of (9 ∷ 13 ∷ 10 ∷ 9 ∷ []) 2 ≡ record { line = 0; character = 1; column = 4 }
 unfolding place_of line_of start_of chars char_width
 worked-inside_line_end = refl
 
--- a start there is one character further, and the byte behind the source is on the last line
+-- a start there is one character further, and the byte after the source is on the last line
 worked-start : start_location (record { text = 9 ∷ 13 ∷ 10 ∷ 9 ∷ []; first = 7 }) 2 ≡ record { line = 7; char = 2; display = 4; byte = 2 }
-unfolding start_location location_of steps_behind_text place_of line_of start_of chars char_width
+unfolding start_location location_of steps_after_text place_of line_of start_of chars char_width
 worked-start = refl
 
--- of a span over two lines the end behind the source is one character and one column further
+-- of a span over two lines the end after the source is one character and one column further
 worked-span : locations_of (record { text = 9 ∷ 13 ∷ 10 ∷ 9 ∷ []; first = 7 }) 0 5 ≡ (record { line = 7; char = 0; display = 0; byte = 0 }, record { line = 8; char = 2; display = 5; byte = 5 })
-unfolding locations_of start_location end_location location_of steps_behind_text place_of line_of start_of chars char_width
+unfolding locations_of start_location end_location location_of steps_after_text place_of line_of start_of chars char_width
 worked-span = refl

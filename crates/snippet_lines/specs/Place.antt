@@ -4,7 +4,7 @@ use Rattle.snippet_text.specs.Width.{width_of}
 use Rattle.snippet_lines.specs.declared.place.Loc.{Loc}
 use Rattle.snippet_lines.specs.Lines.{Line, line_bytes, source_lines, text_at, start_of, Source}
 
--- line k holds byte b: b lies in its bytes, line end counted; the last line holds each byte behind its start
+-- line k holds byte b: b lies in its bytes, line end counted; the last line holds each byte after its start
 pub record HoldsByte (ls : List Line) (b k : ℕ) : Type 0 where
   pub within : k < length ls
   pub from : start_of ls k ≤ b
@@ -41,25 +41,25 @@ location_of s b =
     let p = place_of s.text b in
     record { line = s.first + p.line; char = p.character; display = p.column; byte = b }
 
--- 1 where byte b lies strictly behind the end of its line's text, else 0
-unfoldable pub steps_behind_text : List ℕ → ℕ → ℕ
-steps_behind_text source b =
+-- 1 where byte b lies strictly after the end of its line's text, else 0
+unfoldable pub steps_after_text : List ℕ → ℕ → ℕ
+steps_after_text source b =
     let ls = source_lines source in
     let k = line_of ls b in
     if nat_lt (start_of ls k + length (text_at ls k)) b then 1 else 0
 
--- where a span starts: behind the end of a line's text the character is one more
+-- where a span starts: after the end of a line's text the character is one more
 unfoldable pub start_location : Source → ℕ → Loc
 start_location s start =
     let l = location_of s start in
-    record l { char = l.char + steps_behind_text s.text start }
+    record l { char = l.char + steps_after_text s.text start }
 
--- where a span that isn't empty ends: behind the end of a line's text, if the span starts on another line, both the
+-- where a span that isn't empty ends: after the end of a line's text, if the span starts on another line, both the
 -- character and the column are one more
 unfoldable pub end_location : Source → ℕ → ℕ → Loc
 end_location s start end =
     let l = location_of s end in
-    let more = if (location_of s start).line == l.line then 0 else steps_behind_text s.text end in
+    let more = if (location_of s start).line == l.line then 0 else steps_after_text s.text end in
     record l { char = l.char + more; display = l.display + more }
 
 -- where a span starts and ends: an empty span ends where it starts

@@ -4,7 +4,7 @@ use Rattle.std.specs.Str.{IsCharBoundary}
 use Rattle.snippet_lines.specs.declared.span.SpanFault.{SpanFault}
 use Rattle.snippet_lines.specs.declared.span.SpanFault.TheVariants.{Reversed, PastEnd, OffBoundary}
 
--- a span may start and end where a character of the source starts or ends, and one byte behind the source
+-- a span may start and end where a character of the source starts or ends, and one byte after the source
 abbrev pub IsSpanBorder : List ℕ → ℕ → Type 0
 IsSpanBorder source b = IsCharBoundary source b ⊎ (b ≡ length source + 1)
 

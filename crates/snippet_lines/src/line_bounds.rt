@@ -8,8 +8,8 @@ use std::ops::Range;
 
 /// The bytes of the line that holds a byte, line end counted.
 ///
-/// A byte behind the source is on its last line. Another byte is on the same line exactly where it lies in these
-/// bounds, or behind their start if they end where the source does.
+/// A byte after the source is on its last line. Another byte is on the same line exactly where it lies in these
+/// bounds, or after their start if they end where the source does.
 pub fn line_bounds(source: &str, byte: usize) -> Range<usize>
     ensures start { let ls = source_lines source.now in result.start ≡ start_of ls (line_of ls byte) }
     ensures end { let ls = source_lines source.now in result.end ≡ start_of ls (line_of ls byte + 1) }
@@ -26,7 +26,7 @@ pub fn line_bounds(source: &str, byte: usize) -> Range<usize>
     line_start(bytes, at)..line_end(bytes, at)
 }
 
-/// The byte behind the last line feed before `at`, or 0.
+/// The byte after the last line feed before `at`, or 0.
 fn line_start(bytes: &[u8], at: usize) -> usize
     requires inside { at ≤ length bytes.now }
     ensures before { result ≤ at }
@@ -39,11 +39,11 @@ fn line_start(bytes: &[u8], at: usize) -> usize
     }
 }
 
-/// The byte behind the first line feed from `at` on, or behind the last byte.
+/// The byte after the first line feed from `at` on, or after the last byte.
 fn line_end(bytes: &[u8], at: usize) -> usize
     requires inside { at ≤ length bytes.now }
     ensures within { result ≤ length bytes.now }
-    ensures behind { at < length bytes.now → at < result }
+    ensures after { at < length bytes.now → at < result }
     ensures closes { (slice_index bytes.now (result - 1) ≡ 10) ⊎ (result ≡ length bytes.now) }
     ensures none { (j : ℕ) → at ≤ j → j + 1 < result → slice_index bytes.now j ≢ 10 }
 {

@@ -44,7 +44,7 @@ fn gutter_width(number: usize) -> usize
     width
 }
 
-/// What stands in the gutter beside a line: its number or `LL`, set right in `gutter` cells, or spaces.
+/// What stands in the gutter beside a line: its number or `LL`, right-aligned in `gutter` cells, or spaces.
 ///
 /// # Errors
 ///
@@ -64,7 +64,7 @@ pub fn number_text(
     }
 }
 
-/// The text `LL`, set right in `gutter` cells.
+/// The text `LL`, right-aligned in `gutter` cells.
 fn anonymized_text(alloc: Global, gutter: usize) -> Result<String, AllocError>
     ensures text { IfOk result (λ text. string_bytes text ≡ set_right gutter (codes "LL")) }
 {

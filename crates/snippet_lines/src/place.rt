@@ -21,7 +21,7 @@ pub struct Loc {
 impl Loc {
     /// The place of a byte on a line: of the line's text, its number and the byte at which it starts.
     ///
-    /// A byte behind the text stands at its end.
+    /// A byte after the text stands at its end.
     pub fn on_line(text: &str, number: usize, start: usize, byte: usize) -> Loc
         requires fits { length text.now < 2 ^ 56 }
         requires border { IsCharBoundary text.now (min (byte - start) (length text.now)) }

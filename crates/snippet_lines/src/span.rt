@@ -7,9 +7,9 @@ use std::ops::Range;
 /// Why a span is refused.
 #[derive(Clone, Copy, Debug, PartialEq, Eq)]
 pub enum SpanFault {
-    /// It starts behind its end.
+    /// It starts after its end.
     Reversed,
-    /// It ends more than one byte behind the source.
+    /// It ends more than one byte after the source.
     PastEnd,
     /// It starts or ends inside a character.
     OffBoundary,
@@ -17,7 +17,7 @@ pub enum SpanFault {
 
 /// The first fault of a span of bytes, if it has one.
 ///
-/// A span may end, and start, one byte behind the source.
+/// A span may end, and start, one byte after the source.
 #[tactic(auto, unfolding(crate::specs::Span::span_fault))]
 pub fn check_span(source: &str, span: &Range<usize>) -> Option<SpanFault>
     ensures value { result ≡ span_fault source.now span.now.start span.now.end }

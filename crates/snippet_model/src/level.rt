@@ -1,4 +1,4 @@
-//! The level of a title or message: how grave it is, and the name that is shown for it.
+//! The level of a title or message: how severe it is, and the name that is shown for it.
 ghost use Rattle.std.specs.Prelude.{◌≡◌, true, false, Option, None};
 ghost use Rattle.std.specs.Option.{option_map_or};
 ghost use Rattle.snippet_model.specs.StandardName.{standard_name_of};
@@ -52,7 +52,7 @@ pub enum LevelName<'a> {
     Own(CowStr<'a>),
 }
 
-/// How grave a title or message is.
+/// How severe a title or message is.
 ///
 /// Levels are ordered by name, and then by kind.
 #[derive(Clone, Debug, PartialEq, Eq, PartialOrd, Ord, Drop)]
@@ -177,7 +177,7 @@ impl<'a> Level<'a> {
         }
     }
 
-    /// The level without a name: the text behind it is shown alone, in the style of the kind.
+    /// The level without a name: the text after it is shown alone, in the style of the kind.
     pub fn no_name(self) -> Level<'a>
         ensures changed { result ≡ record self.entry { name = Hidden } }
     {

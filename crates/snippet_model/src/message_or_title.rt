@@ -10,7 +10,7 @@ use crate::snippet::{Id, Message, Title};
 pub trait MessageOrTitle {
     ghost heading_of: { Self → Heading };
 
-    /// How grave it is.
+    /// How severe it is.
     fn level(&self) -> &Level<'_>
         ensures value { result.now ≡ (heading_of self.now).level };
 

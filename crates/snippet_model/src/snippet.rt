@@ -35,7 +35,7 @@ pub struct Id<'a> {
 /// The line that a group begins with.
 #[derive(Clone, Debug, Drop)]
 pub struct Title<'a> {
-    /// How grave it is.
+    /// How severe it is.
     pub level: Level<'a>,
     /// Its identifier, where it has one.
     pub id: Option<Id<'a>>,
@@ -81,7 +81,7 @@ pub enum Element<'a> {
 /// A trusted text: drawn as it is, with any style codes that it holds.
 #[derive(Clone, Debug, Drop)]
 pub struct Message<'a> {
-    /// How grave it is.
+    /// How severe it is.
     pub level: Level<'a>,
     /// Its text.
     pub text: CowStr<'a>,

@@ -6,32 +6,32 @@ use Rattle.std.proofs.lemmas.List.{append_assoc, append-nil, map-append}
 use Rattle.std.proofs.lemmas.List.{map_push, map_more, drop-map, take-map, drop_more, length-map, get_or-map}
 use Rattle.std.proofs.lemmas.List.FromFn.{map-range_with_len_more}
 use Rattle.snippet_view.specs.declared.entries.LineAnnotation.{LineAnnotation}
-use Rattle.snippet_view.specs.Annotated.{PartEntry, seen_part, bar_lines, span_parts, long_parts, long_place, stands_among, drawn, is_drawn_primary}
+use Rattle.snippet_view.specs.Annotated.{PartEntry, seen_part, bar_lines, span_parts, long_parts, long_place, stands_among, promoted, is_promoted}
 use Rattle.snippet_model.specs.AnnotationKind.{is_primary}
 use Rattle.snippet_view.specs.Depths.{same_place, depth_among}
-use Rattle.snippet_view.specs.declared.depths.LongPlace.{LongPlace}
+use Rattle.snippet_view.specs.declared.depths.LongExtent.{LongExtent}
 use Rattle.snippet_view.specs.Marked.{Entry}
 use Rattle.snippet_model.specs.declared.snippet.AnnotationKind.{AnnotationKind}
 use Rattle.snippet_model.specs.declared.snippet.AnnotationKind.TheVariants.{Primary, Context, Visible}
 use Rattle.std.specs.List.Sorted.{IsNonDecreasingBy}
-use Rattle.snippet_view.specs.Kept.{is_weak_line}
+use Rattle.snippet_view.specs.Kept.{is_trivial_line}
 use Rattle.snippet_lines.specs.Lines.{Source}
 use Rattle.snippet_parts.specs.LongSpans.{seen_long, HasFit}
 use Rattle.snippet_parts.specs.declared.long_spans.LongSpan.{LongSpan}
 use Rattle.snippet_lines.specs.declared.place.Loc.{Loc}
 use Rattle.snippet_view.proofs.RawDepthLemmas.{same-true}
 
-filter-behind : (p : ℕ → Bool) (u from n : ℕ) → ((k : ℕ) → from ≤ k → leb k u ≡ p k) → u < from → filter p (range_with_len from n) ≡ []
-filter-behind p u from zero same past = refl
-filter-behind p u from (suc n) same past =
-    cond-false (p from) (from ∷ filter p (range_with_len (from + 1) n)) (filter p (range_with_len (from + 1) n)) (sym (same from (omega arith)) ∙ lt-leb from u past) ∙ filter-behind p u (from + 1) n (λ k le. same k (omega arith)) (omega arith)
+filter-after : (p : ℕ → Bool) (u from n : ℕ) → ((k : ℕ) → from ≤ k → leb k u ≡ p k) → u < from → filter p (range_with_len from n) ≡ []
+filter-after p u from zero same past = refl
+filter-after p u from (suc n) same past =
+    cond-false (p from) (from ∷ filter p (range_with_len (from + 1) n)) (filter p (range_with_len (from + 1) n)) (sym (same from (omega arith)) ∙ lt-leb from u past) ∙ filter-after p u (from + 1) n (λ k le. same k (omega arith)) (omega arith)
 
 -- of some lines those up to a last one
 filter-upto : (p : ℕ → Bool) (u from n m : ℕ) → ((k : ℕ) → from ≤ k → leb k u ≡ p k) → u < from + n → m ≡ (u + 1) - from → filter p (range_with_len from n) ≡ range_with_len from m
 filter-upto p u from zero m same within is = let e : 0 ≡ m = omega arith in ap (range_with_len from) e
 filter-upto p u from (suc n) m same within is =
     elim (cases_lt u from) [
-      | inl past ↦ filter-behind p u from (suc n) same past ∙ sym (none m (omega arith))
+      | inl past ↦ filter-after p u from (suc n) same past ∙ sym (none m (omega arith))
       | inr upto ↦
           cond-true (p from) (from ∷ filter p (range_with_len (from + 1) n)) (filter p (range_with_len (from + 1) n)) (sym (same from (omega arith)) ∙ le-leb from u upto)
           ∙ ap (λ xs. from ∷ xs) (filter-upto p u (from + 1) n ((u + 1) - (from + 1)) (λ k le. same k (omega arith)) (omega arith) refl)
@@ -45,10 +45,10 @@ filter-upto p u from (suc n) m same within is =
     some m e = ap (range_with_len from) e
 
 -- the bars of a span: up to the last line of its beginning, and the one before its last line
-pub bars-are : (source : List ℕ) (first last u m : ℕ) (closing : Bool) → first ≤ u → u ≤ min (first + 4) last → ((k : ℕ) → first < k → leb k u ≡ list_any (λ j. not (is_weak_line source j)) (range_with_len k (min (first + 4) last - k))) → closing ≡ (ltb (min (first + 4) last) (last - 1) && not (is_weak_line source (last - 1))) → m ≡ u - first → range_with_len (first + 1) m ++ cond closing ((last - 1) ∷ []) [] ≡ bar_lines source first last
+pub bars-are : (source : List ℕ) (first last u m : ℕ) (closing : Bool) → first ≤ u → u ≤ min (first + 4) last → ((k : ℕ) → first < k → leb k u ≡ list_any (λ j. not (is_trivial_line source j)) (range_with_len k (min (first + 4) last - k))) → closing ≡ (ltb (min (first + 4) last) (last - 1) && not (is_trivial_line source (last - 1))) → m ≡ u - first → range_with_len (first + 1) m ++ cond closing ((last - 1) ∷ []) [] ≡ bar_lines source first last
 bars-are source first last u m closing from to bars is count =
     ap (λ b. range_with_len (first + 1) m ++ cond b ((last - 1) ∷ []) []) is
-    ∙ ap (λ xs. xs ++ cond (ltb (min (first + 4) last) (last - 1) && not (is_weak_line source (last - 1))) ((last - 1) ∷ []) []) (sym (filter-upto (λ k. list_any (λ j. not (is_weak_line source j)) (range_with_len k (min (first + 4) last - k))) u (first + 1) (min (first + 4) last - first) m (λ k le. bars k (omega arith)) (omega arith) (omega arith)))
+    ∙ ap (λ xs. xs ++ cond (ltb (min (first + 4) last) (last - 1) && not (is_trivial_line source (last - 1))) ((last - 1) ∷ []) []) (sym (filter-upto (λ k. list_any (λ j. not (is_trivial_line source j)) (range_with_len k (min (first + 4) last - k))) u (first + 1) (min (first + 4) last - first) m (λ k le. bars k (omega arith)) (omega arith) (omega arith)))
 
 -- ---- bars that are pushed
 
@@ -61,7 +61,7 @@ bars-more f old now new e a line le pushed is before =
     ∙ ap (λ n. map seen_part old ++ map f (range_with_len a n)) (sym count)
 
 -- all bars, with the one before the last line
-pub bars-closed : (f : ℕ → PartEntry) (old now new : List LineAnnotation) (e : LineAnnotation) (source : List ℕ) (first last u a n : ℕ) (closing : Bool) → closing ≡ true → new ≡ now ++ e ∷ [] → seen_part e ≡ f (last - 1) → map seen_part now ≡ map seen_part old ++ map f (range_with_len a n) → a ≡ first + 1 → n ≡ u - first → first ≤ u → u ≤ min (first + 4) last → ((k : ℕ) → first < k → leb k u ≡ list_any (λ j. not (is_weak_line source j)) (range_with_len k (min (first + 4) last - k))) → closing ≡ (ltb (min (first + 4) last) (last - 1) && not (is_weak_line source (last - 1))) → map seen_part new ≡ map seen_part old ++ map f (bar_lines source first last)
+pub bars-closed : (f : ℕ → PartEntry) (old now new : List LineAnnotation) (e : LineAnnotation) (source : List ℕ) (first last u a n : ℕ) (closing : Bool) → closing ≡ true → new ≡ now ++ e ∷ [] → seen_part e ≡ f (last - 1) → map seen_part now ≡ map seen_part old ++ map f (range_with_len a n) → a ≡ first + 1 → n ≡ u - first → first ≤ u → u ≤ min (first + 4) last → ((k : ℕ) → first < k → leb k u ≡ list_any (λ j. not (is_trivial_line source j)) (range_with_len k (min (first + 4) last - k))) → closing ≡ (ltb (min (first + 4) last) (last - 1) && not (is_trivial_line source (last - 1))) → map seen_part new ≡ map seen_part old ++ map f (bar_lines source first last)
 bars-closed f old now new e source first last u a n closing there pushed is before at count from to bars close =
     let all : range_with_len (first + 1) n ++ cond closing ((last - 1) ∷ []) [] ≡ bar_lines source first last = bars-are source first last u n closing from to bars close count in
     ap (map seen_part) pushed ∙ map_push seen_part now e ∙ ap (λ ps. ps ++ seen_part e ∷ []) before ∙ ap (λ p. (map seen_part old ++ map f (range_with_len a n)) ++ p ∷ []) is
@@ -69,7 +69,7 @@ bars-closed f old now new e source first last u a n closing there pushed is befo
     ∙ ap (λ ps. map seen_part old ++ ps) (ap (λ x. map f (range_with_len x n) ++ f (last - 1) ∷ []) at ∙ sym (map-append f (range_with_len (first + 1) n) ((last - 1) ∷ [])) ∙ ap (λ b. map f (range_with_len (first + 1) n ++ cond b ((last - 1) ∷ []) [])) (sym there) ∙ ap (map f) all)
 
 -- all bars, without it
-pub bars-open : (f : ℕ → PartEntry) (old now : List LineAnnotation) (source : List ℕ) (first last u a n : ℕ) (closing : Bool) → closing ≡ false → map seen_part now ≡ map seen_part old ++ map f (range_with_len a n) → a ≡ first + 1 → n ≡ u - first → first ≤ u → u ≤ min (first + 4) last → ((k : ℕ) → first < k → leb k u ≡ list_any (λ j. not (is_weak_line source j)) (range_with_len k (min (first + 4) last - k))) → closing ≡ (ltb (min (first + 4) last) (last - 1) && not (is_weak_line source (last - 1))) → map seen_part now ≡ map seen_part old ++ map f (bar_lines source first last)
+pub bars-open : (f : ℕ → PartEntry) (old now : List LineAnnotation) (source : List ℕ) (first last u a n : ℕ) (closing : Bool) → closing ≡ false → map seen_part now ≡ map seen_part old ++ map f (range_with_len a n) → a ≡ first + 1 → n ≡ u - first → first ≤ u → u ≤ min (first + 4) last → ((k : ℕ) → first < k → leb k u ≡ list_any (λ j. not (is_trivial_line source j)) (range_with_len k (min (first + 4) last - k))) → closing ≡ (ltb (min (first + 4) last) (last - 1) && not (is_trivial_line source (last - 1))) → map seen_part now ≡ map seen_part old ++ map f (bar_lines source first last)
 bars-open f old now source first last u a n closing none before at count from to bars close =
     let all : range_with_len (first + 1) n ++ cond closing ((last - 1) ∷ []) [] ≡ bar_lines source first last = bars-are source first last u n closing from to bars close count in
     before ∙ ap (λ ps. map seen_part old ++ ps) (ap (λ x. map f (range_with_len x n)) at ∙ ap (map f) (sym (append-nil (range_with_len (first + 1) n)) ∙ ap (λ b. range_with_len (first + 1) n ++ cond b ((last - 1) ∷ []) []) (sym none) ∙ all))
@@ -90,16 +90,16 @@ list_any-map p f [] = refl
 list_any-map p f (x ∷ xs) = ap (λ b. p (f x) || b) (list_any-map p f xs)
 
 -- a span as it is drawn
-pub drawn-primary : (before : List LongSpan) (l : LongSpan) (b : Bool) → b ≡ (is_primary l.kind || list_any (λ (o : LongSpan). is_primary o.kind && same_place (long_place (seen_long l)) (long_place (seen_long o))) before) → b ≡ true → record (seen_long l) { kind = Primary } ≡ drawn (map seen_long before) (seen_long l)
-drawn-primary before l b is there =
-    sym (cond-true (is_drawn_primary (map seen_long before) (seen_long l)) (record (seen_long l) { kind = Primary }) (seen_long l) (ap (λ c. is_primary l.kind || c) (list_any-map (λ (d : Entry). is_primary d.kind && same_place (long_place (seen_long l)) (long_place d)) seen_long before) ∙ sym is ∙ there))
+pub promoted-primary : (before : List LongSpan) (l : LongSpan) (b : Bool) → b ≡ (is_primary l.kind || list_any (λ (o : LongSpan). is_primary o.kind && same_place (long_place (seen_long l)) (long_place (seen_long o))) before) → b ≡ true → record (seen_long l) { kind = Primary } ≡ promoted (map seen_long before) (seen_long l)
+promoted-primary before l b is there =
+    sym (cond-true (is_promoted (map seen_long before) (seen_long l)) (record (seen_long l) { kind = Primary }) (seen_long l) (ap (λ c. is_primary l.kind || c) (list_any-map (λ (d : Entry). is_primary d.kind && same_place (long_place (seen_long l)) (long_place d)) seen_long before) ∙ sym is ∙ there))
 
-pub drawn-plain : (before : List LongSpan) (l : LongSpan) (b : Bool) → b ≡ (is_primary l.kind || list_any (λ (o : LongSpan). is_primary o.kind && same_place (long_place (seen_long l)) (long_place (seen_long o))) before) → b ≡ false → seen_long l ≡ drawn (map seen_long before) (seen_long l)
-drawn-plain before l b is none =
-    sym (cond-false (is_drawn_primary (map seen_long before) (seen_long l)) (record (seen_long l) { kind = Primary }) (seen_long l) (ap (λ c. is_primary l.kind || c) (list_any-map (λ (d : Entry). is_primary d.kind && same_place (long_place (seen_long l)) (long_place d)) seen_long before) ∙ sym is ∙ none))
+pub promoted-plain : (before : List LongSpan) (l : LongSpan) (b : Bool) → b ≡ (is_primary l.kind || list_any (λ (o : LongSpan). is_primary o.kind && same_place (long_place (seen_long l)) (long_place (seen_long o))) before) → b ≡ false → seen_long l ≡ promoted (map seen_long before) (seen_long l)
+promoted-plain before l b is none =
+    sym (cond-false (is_promoted (map seen_long before) (seen_long l)) (record (seen_long l) { kind = Primary }) (seen_long l) (ap (λ c. is_primary l.kind || c) (list_any-map (λ (d : Entry). is_primary d.kind && same_place (long_place (seen_long l)) (long_place d)) seen_long before) ∙ sym is ∙ none))
 
 -- one more span of several lines
-pub parts-more : (s : Source) (places : List LongPlace) (spans : List LongSpan) (i : ℕ) (x : LongSpan) (now new all : List PartEntry) (depth : ℕ) (again : Bool) (e : Entry) → i < length spans → x ≡ get_or spans i x → new ≡ now ++ span_parts s depth again e → depth ≡ depth_among places (long_place (seen_long x)) → again ≡ list_any (λ (o : LongSpan). same_place (long_place (seen_long x)) (long_place (seen_long o))) (drop (i + 1) spans) → e ≡ drawn (map seen_long (take i spans)) (seen_long x) → now ++ long_parts s places (take i (map seen_long spans)) (drop i (map seen_long spans)) ≡ all → new ++ long_parts s places (take (i + 1) (map seen_long spans)) (drop (i + 1) (map seen_long spans)) ≡ all
+pub parts-more : (s : Source) (places : List LongExtent) (spans : List LongSpan) (i : ℕ) (x : LongSpan) (now new all : List PartEntry) (depth : ℕ) (again : Bool) (e : Entry) → i < length spans → x ≡ get_or spans i x → new ≡ now ++ span_parts s depth again e → depth ≡ depth_among places (long_place (seen_long x)) → again ≡ list_any (λ (o : LongSpan). same_place (long_place (seen_long x)) (long_place (seen_long o))) (drop (i + 1) spans) → e ≡ promoted (map seen_long (take i spans)) (seen_long x) → now ++ long_parts s places (take i (map seen_long spans)) (drop i (map seen_long spans)) ≡ all → new ++ long_parts s places (take (i + 1) (map seen_long spans)) (drop (i + 1) (map seen_long spans)) ≡ all
 parts-more s places spans i x now new all depth again e within is pushed deep among draw before =
     let later : List Entry = map seen_long (drop (i + 1) spans) in
     let earlier : List Entry = map seen_long (take i spans) in
@@ -107,11 +107,11 @@ parts-more s places spans i x now new all depth again e within is pushed deep am
     let e2 : drop (i + 1) (map seen_long spans) ≡ later = drop-map seen_long (i + 1) spans in
     let e3 : take i (map seen_long spans) ≡ earlier = take-map seen_long i spans in
     let e4 : take (i + 1) (map seen_long spans) ≡ earlier ++ seen_long x ∷ [] = take-map seen_long (i + 1) spans ∙ map_more seen_long spans i x within ∙ ap (λ y. earlier ++ seen_long y ∷ []) (sym is) in
-    let same : span_parts s depth again e ≡ span_parts s (depth_among places (long_place (seen_long x))) (stands_among (seen_long x) later) (drawn earlier (seen_long x)) = ap (λ n. span_parts s n again e) deep ∙ ap (λ b. span_parts s (depth_among places (long_place (seen_long x))) b e) (among ∙ sym (list_any-map (λ (d : Entry). same_place (long_place (seen_long x)) (long_place d)) seen_long (drop (i + 1) spans))) ∙ ap (λ d. span_parts s (depth_among places (long_place (seen_long x))) (stands_among (seen_long x) later) d) draw in
+    let same : span_parts s depth again e ≡ span_parts s (depth_among places (long_place (seen_long x))) (stands_among (seen_long x) later) (promoted earlier (seen_long x)) = ap (λ n. span_parts s n again e) deep ∙ ap (λ b. span_parts s (depth_among places (long_place (seen_long x))) b e) (among ∙ sym (list_any-map (λ (d : Entry). same_place (long_place (seen_long x)) (long_place d)) seen_long (drop (i + 1) spans))) ∙ ap (λ d. span_parts s (depth_among places (long_place (seen_long x))) (stands_among (seen_long x) later) d) draw in
     ap (λ ps. ps ++ long_parts s places (take (i + 1) (map seen_long spans)) (drop (i + 1) (map seen_long spans))) (pushed ∙ ap (λ ps. now ++ ps) same)
-    ∙ ap (λ es. (now ++ span_parts s (depth_among places (long_place (seen_long x))) (stands_among (seen_long x) later) (drawn earlier (seen_long x))) ++ long_parts s places es (drop (i + 1) (map seen_long spans))) e4
-    ∙ ap (λ es. (now ++ span_parts s (depth_among places (long_place (seen_long x))) (stands_among (seen_long x) later) (drawn earlier (seen_long x))) ++ long_parts s places (earlier ++ seen_long x ∷ []) es) e2
-    ∙ append_assoc now (span_parts s (depth_among places (long_place (seen_long x))) (stands_among (seen_long x) later) (drawn earlier (seen_long x))) (long_parts s places (earlier ++ seen_long x ∷ []) later)
+    ∙ ap (λ es. (now ++ span_parts s (depth_among places (long_place (seen_long x))) (stands_among (seen_long x) later) (promoted earlier (seen_long x))) ++ long_parts s places es (drop (i + 1) (map seen_long spans))) e4
+    ∙ ap (λ es. (now ++ span_parts s (depth_among places (long_place (seen_long x))) (stands_among (seen_long x) later) (promoted earlier (seen_long x))) ++ long_parts s places (earlier ++ seen_long x ∷ []) es) e2
+    ∙ append_assoc now (span_parts s (depth_among places (long_place (seen_long x))) (stands_among (seen_long x) later) (promoted earlier (seen_long x))) (long_parts s places (earlier ++ seen_long x ∷ []) later)
     ∙ sym (ap (λ es. now ++ long_parts s places es (drop i (map seen_long spans))) e3 ∙ ap (λ es. now ++ long_parts s places earlier es) e1)
     ∙ before
 
@@ -120,24 +120,24 @@ map-map f g [] = refl
 map-map f g (x ∷ xs) = ap (λ zs. f (g x) ∷ zs) (map-map f g xs)
 
 -- the places of spans
-pub places-are : (places : List LongPlace) (spans : List LongSpan) → places ≡ map (λ (l : LongSpan). long_place (seen_long l)) spans → places ≡ map long_place (map seen_long spans)
+pub places-are : (places : List LongExtent) (spans : List LongSpan) → places ≡ map (λ (l : LongSpan). long_place (seen_long l)) spans → places ≡ map long_place (map seen_long spans)
 places-are places spans is = is ∙ sym (map-map long_place seen_long spans)
 
-pub depths-of : (places : List LongPlace) (spans : List LongSpan) (depths : List ℕ) → places ≡ map (λ (l : LongSpan). long_place (seen_long l)) spans → depths ≡ map (depth_among places) places → depths ≡ map (λ (l : LongSpan). depth_among (map long_place (map seen_long spans)) (long_place (seen_long l))) spans
+pub depths-of : (places : List LongExtent) (spans : List LongSpan) (depths : List ℕ) → places ≡ map (λ (l : LongSpan). long_place (seen_long l)) spans → depths ≡ map (depth_among places) places → depths ≡ map (λ (l : LongSpan). depth_among (map long_place (map seen_long spans)) (long_place (seen_long l))) spans
 depths-of places spans depths is value =
     value ∙ ap (map (depth_among places)) is ∙ map-map (depth_among places) (λ (l : LongSpan). long_place (seen_long l)) spans ∙ ap (λ ps. map (λ (l : LongSpan). depth_among ps (long_place (seen_long l))) spans) (places-are places spans is)
 
-pub places-ordered : (places : List LongPlace) (spans : List LongSpan) (none : LongSpan) → places ≡ map (λ (l : LongSpan). long_place (seen_long l)) spans → IsNonDecreasingBy (λ (l : LongSpan). l.start.line) spans → IsNonDecreasingBy (λ (p : LongPlace). p.first) places
+pub places-ordered : (places : List LongExtent) (spans : List LongSpan) (none : LongSpan) → places ≡ map (λ (l : LongSpan). long_place (seen_long l)) spans → IsNonDecreasingBy (λ (l : LongSpan). l.start.line) spans → IsNonDecreasingBy (λ (p : LongExtent). p.first) places
 places-ordered places spans none is ordered i j d le within =
     let len : length places ≡ length spans = ap length is ∙ length-map spans (λ (l : LongSpan). long_place (seen_long l)) in
     let at : (k : ℕ) → k < length spans → get_or places k d ≡ long_place (seen_long (get_or spans k none)) = λ k below. ap (λ ps. get_or ps k d) is ∙ get_or-map (λ (l : LongSpan). long_place (seen_long l)) spans k none d below in
-    omega (arith, ap (λ (p : LongPlace). p.first) (at i (omega arith)), ap (λ (p : LongPlace). p.first) (at j (omega arith)), ordered i j none le (omega arith))
+    omega (arith, ap (λ (p : LongExtent). p.first) (at i (omega arith)), ap (λ (p : LongExtent). p.first) (at j (omega arith)), ordered i j none le (omega arith))
 
-pub places-lines : (s : Source) (places : List LongPlace) (spans : List LongSpan) (none : LongSpan) → places ≡ map (λ (l : LongSpan). long_place (seen_long l)) spans → All (HasFit s) spans → All (λ (p : LongPlace). p.first ≤ p.last) places
+pub places-lines : (s : Source) (places : List LongExtent) (spans : List LongSpan) (none : LongSpan) → places ≡ map (λ (l : LongSpan). long_place (seen_long l)) spans → All (HasFit s) spans → All (λ (p : LongExtent). p.first ≤ p.last) places
 places-lines s places spans none is fit k d within =
     let len : length places ≡ length spans = ap length is ∙ length-map spans (λ (l : LongSpan). long_place (seen_long l)) in
     let at : get_or places k d ≡ long_place (seen_long (get_or spans k none)) = ap (λ ps. get_or ps k d) is ∙ get_or-map (λ (l : LongSpan). long_place (seen_long l)) spans k none d (omega arith) in
-    omega (arith, ap (λ (p : LongPlace). p.first) at, ap (λ (p : LongPlace). p.last) at, (fit k none (omega arith)).lines)
+    omega (arith, ap (λ (p : LongExtent). p.first) at, ap (λ (p : LongExtent). p.last) at, (fit k none (omega arith)).lines)
 
 abbrev pub no_loc : Loc
 no_loc = record { line = 0; char = 0; display = 0; byte = 0 }
@@ -156,7 +156,7 @@ any-filtered q p implied (x ∷ xs) =
     ]
 
 same-line : (x o : LongSpan) → same_place (long_place (seen_long x)) (long_place (seen_long o)) ≡ true → eqb o.start.line x.start.line ≡ true
-same-line x o same = eq-eqb o.start.line x.start.line (sym (ap (λ (p : LongPlace). p.first) (same-true (long_place (seen_long x)) (long_place (seen_long o)) same)))
+same-line x o same = eq-eqb o.start.line x.start.line (sym (ap (λ (p : LongExtent). p.first) (same-true (long_place (seen_long x)) (long_place (seen_long o)) same)))
 
 pub place-near : (x : LongSpan) (others near : List LongSpan) (b : Bool) → near ≡ filter (λ (o : LongSpan). eqb o.start.line x.start.line) others → b ≡ list_any (λ (o : LongSpan). same_place (long_place (seen_long x)) (long_place (seen_long o))) near → b ≡ list_any (λ (o : LongSpan). same_place (long_place (seen_long x)) (long_place (seen_long o))) others
 place-near x others near b is found =

@@ -22,8 +22,8 @@ covered-set reach s k v within is =
     elim (cases_lt k s.first) [
       | inl before ↦
           ap (λ xs. ltb k (furthest xs)) (take-set-le (k + 1) reach s.first v (omega arith)) ∙ sym (ap (λ b. is_covered reach k || (b && leb k s.last)) (lt-leb s.first k before) ∙ plain (is_covered reach k))
-      | inr behind ↦
-          ap (λ n. ltb k n) (reach-below reach s.first (k + 1) v within (omega arith) (omega arith) ∙ old behind) ∙ both (furthest (take (k + 1) reach)) k s.last ∙ sym (ap (λ b. is_covered reach k || (b && leb k s.last)) (le-leb s.first k behind))
+      | inr after ↦
+          ap (λ n. ltb k n) (reach-below reach s.first (k + 1) v within (omega arith) (omega arith) ∙ old after) ∙ both (furthest (take (k + 1) reach)) k s.last ∙ sym (ap (λ b. is_covered reach k || (b && leb k s.last)) (le-leb s.first k after))
     ]
   where
     plain : (b : Bool) → (b || false) ≡ b
@@ -37,7 +37,7 @@ covered-set reach s k v within is =
     at-most (x ∷ xs) (suc f) (suc n) a b = let h : get_or xs f 0 ≤ furthest (take n xs) = at-most xs f n (omega arith) (omega arith) in omega arith
 
     old : s.first ≤ k → max (furthest (take (k + 1) reach)) v ≡ max (furthest (take (k + 1) reach)) (s.last + 1)
-    old behind = omega (arith, at-most reach s.first (k + 1) within (omega arith))
+    old after = omega (arith, at-most reach s.first (k + 1) within (omega arith))
 
     both : (a k l : ℕ) → ltb k (max a (l + 1)) ≡ (ltb k a || leb k l)
     both a k l =
@@ -84,7 +84,7 @@ pub keeps-all : (f l k : ℕ) (marked bar : Bool) → (f ≡ l) ⊎ (marked ≡ 
 keeps-all f l k marked bar why = or-same (leb f k && leb k l) ∙ sym (elim (cases_lt k f) [
   | inl before ↦ ap (λ b. b && leb k l && (eqb k f || eqb k l || not marked || bar)) (lt-leb f k before) ∙ sym (ap (λ b. b && leb k l) (lt-leb f k before))
   | inr from ↦ elim (cases_lt l k) [
-    | inl behind ↦ ap (λ b. leb f k && b && (eqb k f || eqb k l || not marked || bar)) (lt-leb k l behind) ∙ none (leb f k) (eqb k f || eqb k l || not marked || bar) ∙ sym (ap (λ b. leb f k && b) (lt-leb k l behind) ∙ none' (leb f k))
+    | inl after ↦ ap (λ b. leb f k && b && (eqb k f || eqb k l || not marked || bar)) (lt-leb k l after) ∙ none (leb f k) (eqb k f || eqb k l || not marked || bar) ∙ sym (ap (λ b. leb f k && b) (lt-leb k l after) ∙ none' (leb f k))
     | inr to ↦ ap (λ b. leb f k && leb k l && b) (why-kept why from to) ∙ all (leb f k && leb k l)
   ]
 ])
@@ -115,16 +115,16 @@ pub keeps-ends : (f l u t k : ℕ) (marked shown last_bar : Bool) → f < l → 
 keeps-ends f l u t k marked shown last_bar ordered from to is bars ends apart tl tail =
     elim (cases_lt k f) [
       | inl before ↦ outside (leb f k) (leb k u) (leb t k) (leb k l) (eqb k f || eqb k l || not marked || (ltb f k && (shown || last_bar))) (inl (lt-leb f k before, lt-leb t k (omega arith)))
-      | inr behind ↦ elim (cases_lt f k) [
+      | inr after ↦ elim (cases_lt f k) [
         | inr first ↦
             let same : k ≡ f = omega arith in
-            kept-first (leb f k) (leb k u) (leb t k && leb k l) (leb k l) (eqb k f) (eqb k l) (not marked) (ltb f k && (shown || last_bar)) (le-leb f k behind) (le-leb k u (omega arith)) (le-leb k l (omega arith)) (eq-eqb k f same)
+            kept-first (leb f k) (leb k u) (leb t k && leb k l) (leb k l) (eqb k f) (eqb k l) (not marked) (ltb f k && (shown || last_bar)) (le-leb f k after) (le-leb k u (omega arith)) (le-leb k l (omega arith)) (eq-eqb k f same)
         | inl past ↦ elim (cases_lt l k) [
           | inl over ↦ outside (leb f k) (leb k u) (leb t k) (leb k l) (eqb k f || eqb k l || not marked || (ltb f k && (shown || last_bar))) (inr (lt-leb k u (omega arith), lt-leb k l over))
           | inr upto ↦ elim (cases_lt k l) [
-            | inr end ↦ kept-last (leb f k && leb k u) (leb t k) (leb f k) (leb k l) (eqb k f) (eqb k l) (not marked) (ltb f k && (shown || last_bar)) (le-leb t k (omega arith)) (le-leb f k behind) (le-leb k l upto) (eq-eqb k l (omega arith))
+            | inr end ↦ kept-last (leb f k && leb k u) (leb t k) (leb f k) (leb k l) (eqb k f) (eqb k l) (not marked) (ltb f k && (shown || last_bar)) (le-leb t k (omega arith)) (le-leb f k after) (le-leb k l upto) (eq-eqb k l (omega arith))
             | inl inner ↦
-                between (leb f k) (leb k u) (leb t k) (leb k l) (eqb k f) (eqb k l) marked (ltb f k) shown last_bar (le-leb f k behind) (le-leb k l upto) (ne_eqb k f (λ e. omega arith)) (ne_eqb k l (λ e. omega arith)) is (lt-ltb f k past) (bars past) (elim (cases_eq (k + 1) l) [
+                between (leb f k) (leb k u) (leb t k) (leb k l) (eqb k f) (eqb k l) marked (ltb f k) shown last_bar (le-leb f k after) (le-leb k l upto) (ne_eqb k f (λ e. omega arith)) (ne_eqb k l (λ e. omega arith)) is (lt-ltb f k past) (bars past) (elim (cases_eq (k + 1) l) [
                   | inl next ↦ ends next
                   | inr far ↦ lt-leb t k (omega arith) ∙ sym (apart far)
                 ])
@@ -164,17 +164,17 @@ keeps-ends f l u t k marked shown last_bar ordered from to is bars ends apart tl
         unit false = refl
 
 -- the bar beside the line before the last
-pub last_bar-is : (l k m : ℕ) (weak : ℕ → Bool) (closing : ℕ) (b : Bool) → 1 ≤ l → b ≡ (ltb m (l - 1) && not (weak (l - 1))) → (b ≡ true → closing ≡ 1) → (b ≡ false → closing ≡ 0) → k + 1 ≡ l → leb (l - closing) k ≡ (eqb (k + 1) l && ltb m k && not (weak k))
-last_bar-is l k m weak closing b some is one none' next =
+pub last_bar-is : (l k m : ℕ) (trivial : ℕ → Bool) (closing : ℕ) (b : Bool) → 1 ≤ l → b ≡ (ltb m (l - 1) && not (trivial (l - 1))) → (b ≡ true → closing ≡ 1) → (b ≡ false → closing ≡ 0) → k + 1 ≡ l → leb (l - closing) k ≡ (eqb (k + 1) l && ltb m k && not (trivial k))
+last_bar-is l k m trivial closing b some is one none' next =
     let at : l - 1 ≡ k = omega arith in
-    let rest : b ≡ (ltb m k && not (weak k)) = is ∙ ap (λ n. ltb m n && not (weak n)) at in
+    let rest : b ≡ (ltb m k && not (trivial k)) = is ∙ ap (λ n. ltb m n && not (trivial n)) at in
     elim (cases_Bool b) [
-      | inl there ↦ le-leb (l - closing) k (omega (arith, one there)) ∙ sym there ∙ rest ∙ sym (ap (λ z. z && ltb m k && not (weak k)) (eq-eqb (k + 1) l next))
-      | inr none ↦ lt-leb (l - closing) k (omega (arith, none' none)) ∙ sym none ∙ rest ∙ sym (ap (λ z. z && ltb m k && not (weak k)) (eq-eqb (k + 1) l next))
+      | inl there ↦ le-leb (l - closing) k (omega (arith, one there)) ∙ sym there ∙ rest ∙ sym (ap (λ z. z && ltb m k && not (trivial k)) (eq-eqb (k + 1) l next))
+      | inr none ↦ lt-leb (l - closing) k (omega (arith, none' none)) ∙ sym none ∙ rest ∙ sym (ap (λ z. z && ltb m k && not (trivial k)) (eq-eqb (k + 1) l next))
     ]
 
-pub last_bar-apart : (l k m : ℕ) (weak : ℕ → Bool) → (k + 1 ≡ l → ⊥) → (eqb (k + 1) l && ltb m k && not (weak k)) ≡ false
-last_bar-apart l k m weak apart = ap (λ z. z && ltb m k && not (weak k)) (ne_eqb (k + 1) l apart)
+pub last_bar-apart : (l k m : ℕ) (trivial : ℕ → Bool) → (k + 1 ≡ l → ⊥) → (eqb (k + 1) l && ltb m k && not (trivial k)) ≡ false
+last_bar-apart l k m trivial apart = ap (λ z. z && ltb m k && not (trivial k)) (ne_eqb (k + 1) l apart)
 
 pub or-assoc : (a b c : Bool) → (a || b || c) ≡ (a || (b || c))
 or-assoc true b c = refl

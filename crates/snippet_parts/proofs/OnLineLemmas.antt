@@ -7,11 +7,11 @@ use Rattle.std.proofs.lemmas.Simd.{map-map}
 use Rattle.std.proofs.lemmas.List.Elements.{All-head, All-tail, All-map, All-contains, Contains-append_left, Contains-append_right, filter-append}
 use Rattle.snippet_model.specs.declared.snippet.Annotation.{Annotation}
 use Rattle.snippet_model.specs.declared.snippet.AnnotationKind.TheVariants.{Primary}
-use Rattle.snippet_view.specs.declared.depths.LongPlace.{LongPlace}
+use Rattle.snippet_view.specs.declared.depths.LongExtent.{LongExtent}
 use Rattle.snippet_view.specs.declared.entries.AnnotatedLineInfo.{AnnotatedLineInfo}
 use Rattle.snippet_view.specs.declared.entries.LineAnnotationType.TheVariants.{Singleline, MultilineStart, MultilineEnd}
 use Rattle.snippet_lines.specs.declared.place.Loc.{Loc}
-use Rattle.snippet_view.specs.Annotated.{PartEntry, seen_part, KeptLine, seen_kept, kept_line, annotated_lines, is_short, is_long, long_entry, long_place, long_places, long_spans, long_parts, stands_before, stands_among, depth_of, single_part, start_part, bar_part, end_part, bar_lines, span_parts, parts_on, drawn, is_drawn_primary}
+use Rattle.snippet_view.specs.Annotated.{PartEntry, seen_part, KeptLine, seen_kept, kept_line, annotated_lines, is_short, is_long, long_entry, long_place, long_places, long_spans, long_parts, stands_before, stands_among, depth_of, single_part, start_part, bar_part, end_part, bar_lines, span_parts, parts_on, promoted, is_promoted}
 use Rattle.snippet_lines.specs.Order.{put_in, ordered_by}
 use Rattle.snippet_view.specs.Depths.{depth_among, same_place}
 use Rattle.snippet_view.specs.Entries.{Ascends}
@@ -93,25 +93,25 @@ long-placed s a = record {
 
 -- spans of one place start and end at the same locations
 same-start : (s : Source) (d e : Entry) → IsPlaced s d → IsPlaced s e → long_place d ≡ long_place e → d.start ≡ e.start
-same-start s d e dp ep same = dp.start ∙ ap (λ (p : LongPlace). (locations_of s p.from p.to).0) same ∙ sym ep.start
+same-start s d e dp ep same = dp.start ∙ ap (λ (p : LongExtent). (locations_of s p.from p.to).0) same ∙ sym ep.start
 
 same-end : (s : Source) (d e : Entry) → IsPlaced s d → IsPlaced s e → long_place d ≡ long_place e → d.end ≡ e.end
-same-end s d e dp ep same = dp.end ∙ ap (λ (p : LongPlace). (locations_of s p.from p.to).1) same ∙ sym ep.end
+same-end s d e dp ep same = dp.end ∙ ap (λ (p : LongExtent). (locations_of s p.from p.to).1) same ∙ sym ep.end
 
 -- ---- the entries of one span
 
 -- as a span is drawn it starts and ends where it did, with its label
-drawn-start : (before : List Entry) (e : Entry) → (drawn before e).start ≡ e.start
+drawn-start : (before : List Entry) (e : Entry) → (promoted before e).start ≡ e.start
 drawn-start before e =
-    cond_both (is_drawn_primary before e) (record e { kind = Primary }) e (λ (d : Entry). d.start ≡ e.start) (λ _. refl) (λ _. refl)
+    cond_both (is_promoted before e) (record e { kind = Primary }) e (λ (d : Entry). d.start ≡ e.start) (λ _. refl) (λ _. refl)
 
-drawn-end : (before : List Entry) (e : Entry) → (drawn before e).end ≡ e.end
+drawn-end : (before : List Entry) (e : Entry) → (promoted before e).end ≡ e.end
 drawn-end before e =
-    cond_both (is_drawn_primary before e) (record e { kind = Primary }) e (λ (d : Entry). d.end ≡ e.end) (λ _. refl) (λ _. refl)
+    cond_both (is_promoted before e) (record e { kind = Primary }) e (λ (d : Entry). d.end ≡ e.end) (λ _. refl) (λ _. refl)
 
-drawn-label : (before : List Entry) (e : Entry) → (drawn before e).label ≡ e.label
+drawn-label : (before : List Entry) (e : Entry) → (promoted before e).label ≡ e.label
 drawn-label before e =
-    cond_both (is_drawn_primary before e) (record e { kind = Primary }) e (λ (d : Entry). d.label ≡ e.label) (λ _. refl) (λ _. refl)
+    cond_both (is_promoted before e) (record e { kind = Primary }) e (λ (d : Entry). d.label ≡ e.label) (λ _. refl) (λ _. refl)
 
 -- an entry starts, on its line, where a span does, at a depth
 record StartsAt (start : Loc) (depth : ℕ) (p : PartEntry) : Type 0 where
@@ -155,12 +155,12 @@ span-says s depth false e =
 -- ---- the entries of all spans of several lines
 
 -- the last span of a place begins it and closes it
-bounds-among : (s : Source) (places : List LongPlace) (before es : List Entry) (e : Entry) → All (IsPlaced s) es → IsPlaced s e → list_any (λ d. same_place (long_place e) (long_place d)) es ≡ true → HasBounds e.start e.end (depth_among places (long_place e)) (long_parts s places before es)
+bounds-among : (s : Source) (places : List LongExtent) (before es : List Entry) (e : Entry) → All (IsPlaced s) es → IsPlaced s e → list_any (λ d. same_place (long_place e) (long_place d)) es ≡ true → HasBounds e.start e.end (depth_among places (long_place e)) (long_parts s places before es)
 bounds-among s places before [] e all placed among = cc
 bounds-among s places before (d ∷ later) e all placed among =
     let depth : ℕ = depth_among places (long_place d) in
     let again : Bool = stands_among d later in
-    let own : List PartEntry = span_parts s depth again (drawn before d) in
+    let own : List PartEntry = span_parts s depth again (promoted before d) in
     let rest : List PartEntry = long_parts s places (before ++ d ∷ []) later in
     elim (cases_Bool (stands_among e later)) [
       | inl t ↦
@@ -172,10 +172,10 @@ bounds-among s places before (d ∷ later) e all placed among =
       | inr f ↦
           let same : long_place e ≡ long_place d = same-true (long_place e) (long_place d) (or_not (same_place (long_place e) (long_place d)) (stands_among e later) among f) in
           let last : again ≡ false = ap (λ p. list_any (λ c. same_place p (long_place c)) later) (sym same) ∙ f in
-          let here : HasBounds (drawn before d).start (drawn before d).end depth own = span-bounds s depth again (drawn before d) last in
+          let here : HasBounds (promoted before d).start (promoted before d).end depth own = span-bounds s depth again (promoted before d) last in
           let d-placed : IsPlaced s d = All-head (IsPlaced s) d later all in
-          let start : (drawn before d).start ≡ e.start = drawn-start before d ∙ same-start s d e d-placed placed (sym same) in
-          let end : (drawn before d).end ≡ e.end = drawn-end before d ∙ same-end s d e d-placed placed (sym same) in
+          let start : (promoted before d).start ≡ e.start = drawn-start before d ∙ same-start s d e d-placed placed (sym same) in
+          let end : (promoted before d).end ≡ e.end = drawn-end before d ∙ same-end s d e d-placed placed (sym same) in
           let deep : depth ≡ depth_among places (long_place e) = ap (depth_among places) (sym same) in
           record {
             begun = (here.begun.0, Contains-append_left own rest here.begun.0 here.begun.1, record { start_is = here.begun.2.start_is ∙ start; part = here.begun.2.part ∙ ap MultilineStart deep });
@@ -188,14 +188,14 @@ bounds-among s places before (d ∷ later) e all placed among =
     or_not false b t f = cc
 
 -- each span has an entry with its label
-says-among : (s : Source) (places : List LongPlace) (before es : List Entry) (e : Entry) → Contains es e → (p : PartEntry) × Contains (long_parts s places before es) p × SaysOf e (depth_among places (long_place e)) p
+says-among : (s : Source) (places : List LongExtent) (before es : List Entry) (e : Entry) → Contains es e → (p : PartEntry) × Contains (long_parts s places before es) p × SaysOf e (depth_among places (long_place e)) p
 says-among s places before [] e among = absurd (omega (arith, among.1))
 says-among s places before (d ∷ later) e among =
-    let own : List PartEntry = span_parts s (depth_among places (long_place d)) (stands_among d later) (drawn before d) in
+    let own : List PartEntry = span_parts s (depth_among places (long_place d)) (stands_among d later) (promoted before d) in
     let rest : List PartEntry = long_parts s places (before ++ d ∷ []) later in
     elim (contains-cases e d later among) [
       | inl same ↦
-          let here : (p : PartEntry) × Contains own p × SaysOf (drawn before d) (depth_among places (long_place d)) p = span-says s (depth_among places (long_place d)) (stands_among d later) (drawn before d) in
+          let here : (p : PartEntry) × Contains own p × SaysOf (promoted before d) (depth_among places (long_place d)) p = span-says s (depth_among places (long_place d)) (stands_among d later) (promoted before d) in
           let says : SaysOf d (depth_among places (long_place d)) here.0 = record { line = here.2.line ∙ ap (λ (l : Loc). l.line) (drawn-end before d); end_is = here.2.end_is ∙ drawn-end before d; label = here.2.label ∙ drawn-label before d; part = here.2.part } in
           (here.0, Contains-append_left own rest here.0 here.1, subst (λ (c : Entry). SaysOf c (depth_among places (long_place c)) here.0) same says)
       | inr further ↦

@@ -9,7 +9,7 @@ use Rattle.snippet_parts.specs.declared.source_map.LineInfo.{LineInfo}
 use Rattle.snippet_lines.specs.Lines.{Line, line_bytes, source_lines, text_at, start_of, line_at, StandsAt, Source}
 use Rattle.snippet_text.specs.Width.{width_of}
 use Rattle.snippet_lines.specs.declared.place.Loc.{Loc}
-use Rattle.snippet_lines.specs.Place.{HoldsByte, line_of, place_of, prefix_at, location_of, steps_behind_text}
+use Rattle.snippet_lines.specs.Place.{HoldsByte, line_of, place_of, prefix_at, location_of, steps_after_text}
 use Rattle.snippet_lines.specs.Span.{IsSpanBorder}
 use Rattle.std.specs.Str.{IsCharBoundary, chars}
 use Rattle.snippet_parts.specs.LineTable.{LineEntry, entry_of, entry_at, entries_from}
@@ -32,7 +32,7 @@ entries_from-at number start (l ∷ ls) (suc k) d within =
     let n : k + 1 ≡ suc k = omega arith in
     let m : (k + 1) + 1 ≡ suc k + 1 = omega arith in
     let here : start_of (l ∷ ls) (suc k) ≡ length (line_bytes l) + start_of ls k = sym (ap (start_of (l ∷ ls)) n) ∙ start_of-cons l ls k in
-    let behind : start_of (l ∷ ls) (suc k + 1) ≡ length (line_bytes l) + start_of ls (k + 1) = sym (ap (start_of (l ∷ ls)) m) ∙ start_of-cons l ls (k + 1) in
+    let after : start_of (l ∷ ls) (suc k + 1) ≡ length (line_bytes l) + start_of ls (k + 1) = sym (ap (start_of (l ∷ ls)) m) ∙ start_of-cons l ls (k + 1) in
     entries_from-at (number + 1) (start + length (line_bytes l)) ls k d (omega arith) ∙ same_entry (text_at ls k) (number + 1 + k) (start + length (line_bytes l) + start_of ls k) (start + length (line_bytes l) + start_of ls (k + 1)) (number + suc k) (start + start_of (l ∷ ls) (suc k)) (start + start_of (l ∷ ls) (suc k + 1)) (omega arith) (omega arith) (omega arith)
 
 module _ (source : List ℕ) (first : ℕ) (infos : List LineInfo) (table : map entry_of infos ≡ entries_from first 0 (source_lines source)) where
@@ -114,9 +114,9 @@ module _ (source : List ℕ) (first : ℕ) (infos : List LineInfo) (table : map 
         subst (λ t. StandsAt source t (start_of ls (number - first))) (sym text) (text_at-stands source (number - first) inside),
       )
 
-  -- a number behind the last line
+  -- a number after the last line
   pub line_at-none : (number index : ℕ) → index ≡ number - first → length infos ≤ index → None ≡ line_at (record { text = source; first = first }) number
-  line_at-none number index index_is behind =
+  line_at-none number index index_is after =
       let ls : List Line = source_lines source in
       let same : length infos ≡ length ls = length-table source first infos table in
       let out : (leb first number && ltb (number - first) (length ls)) ≡ false = and_right (leb first number) (ltb (number - first) (length ls)) (le-ltb (number - first) (length ls) (omega arith)) in
@@ -160,8 +160,8 @@ module _ (s : Source) (byte : ℕ) (info : LineInfo) (entry : entry_of info ≡ 
       let before : take (byte - info.start_byte) info.line.now ≡ prefix_at (source_lines s.text) k byte = ap (λ start. take (byte - start) info.line.now) located-start ∙ ap (take (byte - start_of (source_lines s.text) k)) located-text in
       same_location location (s.first + k) (length (chars (prefix_at (source_lines s.text) k byte))) (width_of (chars (prefix_at (source_lines s.text) k byte))) byte (line ∙ located-number) (char ∙ ap (λ bs. length (chars bs)) before) (display ∙ ap (λ bs. width_of (chars bs)) before) at
 
-  pub located-steps : (steps : ℕ) → steps ≡ cond (ltb (info.start_byte + length info.line.now) byte) 1 0 → steps ≡ steps_behind_text s.text byte
-  unfolding steps_behind_text
+  pub located-steps : (steps : ℕ) → steps ≡ cond (ltb (info.start_byte + length info.line.now) byte) 1 0 → steps ≡ steps_after_text s.text byte
+  unfolding steps_after_text
   located-steps steps is =
       let end : info.start_byte + length info.line.now ≡ start_of (source_lines s.text) (line_of (source_lines s.text) byte) + length (text_at (source_lines s.text) (line_of (source_lines s.text) byte)) = omega (arith, located-start, ap length located-text) in
       is ∙ ap (λ n. cond {A = ℕ} (ltb n byte) 1 0) end

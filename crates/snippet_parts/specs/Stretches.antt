@@ -13,8 +13,8 @@ abbrev pub furthest : List ℕ → ℕ
 furthest [] = 0
 furthest (n ∷ ns) = max n (furthest ns)
 
--- whether line k is covered, where it is known of each line how far stretches from it reach, the line behind the last:
--- one from it or from a line above reaches behind it
+-- whether line k is covered, where it is known of each line how far stretches from it reach, the line after the last:
+-- one from it or from a line above reaches past it
 abbrev pub is_covered : List ℕ → ℕ → Bool
 is_covered reach k = nat_lt k (furthest (take (k + 1) reach))
 

@@ -20,7 +20,7 @@ use std::alloc::{AllocError, Global};
 /// The greatest depth of spans of several lines, and the entries of all spans: those of spans on one line as given, then
 /// those of each span of several lines.
 ///
-/// The one error is want of memory.
+/// The one error is that memory ran out.
 pub(crate) fn made_entries<'a>(
     alloc: Global,
     source: &SourceMap<'a>,
@@ -53,7 +53,7 @@ fn push_long_entries<'a>(
 {
     for i in 0..spans.len() {
         let again = stands_among(spans[i], &spans[i + 1..]);
-        let span = drawn(&spans[..i], spans[i]);
+        let span = promoted(&spans[..i], spans[i]);
         push_span_entries(entries, source, span, depths[i], again)?;
     }
     Ok(())
@@ -81,17 +81,17 @@ fn is_place_of_any(span: LongSpan<'_>, others: &[LongSpan<'_>]) -> bool
 }
 
 /// A span as it is drawn: primary where it is, or one before it that has its place.
-fn drawn<'a>(before: &[LongSpan<'a>], span: LongSpan<'a>) -> LongSpan<'a>
+fn promoted<'a>(before: &[LongSpan<'a>], span: LongSpan<'a>) -> LongSpan<'a>
     requires ordered { IsNonDecreasingBy (λ l. l.start.line) before.now }
-    ensures value { seen_long result ≡ spec.drawn (map seen_long before.now) (seen_long span.entry) }
+    ensures value { seen_long result ≡ spec.promoted (map seen_long before.now) (seen_long span.entry) }
     ensures start { result.start ≡ span.entry.start }
     ensures end { result.end ≡ span.entry.end }
 {
-    let mut drawn = span;
+    let mut promoted = span;
     if is_primary(before, span) {
-        drawn.kind = AnnotationKind::Primary;
+        promoted.kind = AnnotationKind::Primary;
     }
-    drawn
+    promoted
 }
 
 /// Whether a span is primary, or one of those before it that has its place, which are ordered by their first lines.

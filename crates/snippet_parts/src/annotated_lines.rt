@@ -15,7 +15,7 @@ use std::alloc::{AllocError, Global};
 
 /// The greatest depth of spans of several lines, and the lines that are kept, each with its entries.
 ///
-/// The one error is want of memory.
+/// The one error is that memory ran out.
 pub(crate) fn annotated_lines<'a>(
     alloc: Global,
     source: &SourceMap<'a>,

@@ -5,11 +5,11 @@ ghost use Rattle.snippet_view.specs.Kept as spec;
 ghost use Rattle.snippet_lines.specs.Lines.{source_lines};
 
 use crate::source_map::SourceMap;
-use snippet_view::is_weak;
+use snippet_view::is_trivial;
 
-/// The last line up to which a span of several lines has bars behind its first one, which it is where there are none.
+/// The last line up to which a span of several lines has bars after its first one, which it is where there are none.
 ///
-/// At most four lines behind the first one are shown, and not the weak ones at their end.
+/// At most four lines after the first one are shown, and not the trivial ones at their end.
 pub(crate) fn bars_end(source: &SourceMap<'_>, first: usize, last: usize) -> usize
     requires ordered { first ≤ last }
     requires within { last < length (source_lines source.now.text) }
@@ -17,10 +17,10 @@ pub(crate) fn bars_end(source: &SourceMap<'_>, first: usize, last: usize) -> usi
     ensures to { result ≤ min (first + 4) last }
     ensures before { first < last → result < last }
     ensures bars { (k : ℕ) → first < k → nat_le k result
-        ≡ list_any (λ j. not (spec.is_weak_line source.now.text j)) (range_with_len k (min (first + 4) last - k)) }
+        ≡ list_any (λ j. not (spec.is_trivial_line source.now.text j)) (range_with_len k (min (first + 4) last - k)) }
 {
     for line in (first..beginning(first, last)).rev() {
-        if !is_weak_line(source, line) {
+        if !is_trivial_line(source, line) {
             return line;
         }
     }
@@ -31,12 +31,12 @@ pub(crate) fn bars_end(source: &SourceMap<'_>, first: usize, last: usize) -> usi
 pub(crate) fn has_closing_bar(source: &SourceMap<'_>, first: usize, last: usize) -> bool
     requires ordered { first < last }
     requires within { last < length (source_lines source.now.text) }
-    ensures value { result ≡ (nat_lt (min (first + 4) last) (last - 1) && not (spec.is_weak_line source.now.text (last - 1))) }
+    ensures value { result ≡ (nat_lt (min (first + 4) last) (last - 1) && not (spec.is_trivial_line source.now.text (last - 1))) }
 {
-    beginning(first, last) < last - 1 && !is_weak_line(source, last - 1)
+    beginning(first, last) < last - 1 && !is_trivial_line(source, last - 1)
 }
 
-/// The line up to which the beginning of a span is shown: four lines behind the first at most.
+/// The line up to which the beginning of a span is shown: four lines after the first at most.
 fn beginning(first: usize, last: usize) -> usize
     requires ordered { first ≤ last }
     ensures value { result ≡ min (first + 4) last }
@@ -45,9 +45,9 @@ fn beginning(first: usize, last: usize) -> usize
 }
 
 /// Whether a line of a source says little.
-fn is_weak_line(source: &SourceMap<'_>, line: usize) -> bool
+fn is_trivial_line(source: &SourceMap<'_>, line: usize) -> bool
     requires within { line < length (source_lines source.now.text) }
-    ensures value { result ≡ spec.is_weak_line source.now.text line }
+    ensures value { result ≡ spec.is_trivial_line source.now.text line }
 {
-    is_weak(source.text_of_line(line))
+    is_trivial(source.text_of_line(line))
 }

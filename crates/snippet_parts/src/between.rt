@@ -14,7 +14,7 @@ use std::alloc::{AllocError, Global};
 /// The lines that are shown: those that are kept, which are given in their order, and each single line between two of
 /// them, without entries.
 ///
-/// The one error is want of memory.
+/// The one error is that memory ran out.
 pub fn with_lines_between<'a>(
     alloc: Global,
     source: &SourceMap<'a>,

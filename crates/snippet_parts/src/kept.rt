@@ -22,7 +22,7 @@ struct Stretch {
 
 /// Of each line of a source, whether a span keeps it.
 ///
-/// The one error is want of memory.
+/// The one error is that memory ran out.
 pub(crate) fn kept(
     alloc: Global,
     source: &SourceMap<'_>,
@@ -41,7 +41,7 @@ pub(crate) fn kept(
 
 /// Of each line of a source, whether a span that isn't marked touches it.
 ///
-/// The one error is want of memory.
+/// The one error is that memory ran out.
 pub(crate) fn seen(
     alloc: Global,
     source: &SourceMap<'_>,

@@ -18,8 +18,8 @@ pub use snippet_lines::{
     newline_count, newline_count_before, place, span,
 };
 pub use snippet_view::{
-    AnnotatedLineInfo, LineAnnotation, LineAnnotationType, LineWindow, Margin, NamedPlace,
-    NearPart, counted_number, leading_whitespace, margin_for, near_part, primary_place,
-    secondary_place, window_of,
+    AnnotatedLineInfo, LineAnnotation, LineAnnotationType, LineWindow, Location, Margin, NearPart,
+    counted_number, leading_whitespace, margin_for, near_part, primary_place, secondary_place,
+    window_of,
 };
 pub use source_map::{LineInfo, SourceMap};

@@ -10,7 +10,7 @@ use crate::mark::is_marking;
 use crate::source_map::SourceMap;
 use snippet_lines::place::Loc;
 use snippet_model::snippet::{Annotation, AnnotationKind};
-use snippet_view::depths::LongPlace;
+use snippet_view::depths::LongExtent;
 use std::alloc::{AllocError, Global};
 
 /// A span of several lines.
@@ -25,10 +25,10 @@ pub(crate) struct LongSpan<'a> {
 
 impl LongSpan<'_> {
     /// Its place.
-    pub(crate) fn place(&self) -> LongPlace
+    pub(crate) fn place(&self) -> LongExtent
         ensures value { result ≡ spec.long_place (seen_long self.now) }
     {
-        LongPlace {
+        LongExtent {
             from: self.start.byte,
             to: self.end.byte,
             first: self.start.line,
@@ -40,7 +40,7 @@ impl LongSpan<'_> {
 /// The spans of several lines that are marked: by first line, then the one with the later last line first, else as
 /// given.
 ///
-/// The one error is want of memory.
+/// The one error is that memory ran out.
 pub(crate) fn long_spans<'a>(
     alloc: Global,
     source: &SourceMap<'a>,
@@ -106,7 +106,7 @@ fn long_span<'a>(source: &SourceMap<'a>, annotation: &'a Annotation<'a>) -> Long
 }
 
 /// The places of some spans.
-pub(crate) fn places(alloc: Global, spans: &[LongSpan<'_>]) -> Result<Vec<LongPlace>, AllocError>
+pub(crate) fn places(alloc: Global, spans: &[LongSpan<'_>]) -> Result<Vec<LongExtent>, AllocError>
     ensures value { IfOk result (λ places. places.items ≡ map (λ span. spec.long_place (seen_long span)) spans.now) }
 {
     let mut places = Vec::new(alloc);

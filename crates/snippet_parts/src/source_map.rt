@@ -5,7 +5,7 @@ ghost use Rattle.std.specs.List.{HoldsAt, list_any};
 ghost use Rattle.std.specs.List.Sorted.{IsNonDecreasingBy};
 ghost use Rattle.snippet_lines.specs.Lines.{Line, AreLinesOf, line_at, source_lines, text_at, start_of, newline_count, StandsAt};
 ghost use Rattle.snippet_parts.specs.LineTable.{entry_of, entry_at, entries_from, touched_entries};
-ghost use Rattle.snippet_lines.specs.Place.{line_of, location_of, steps_behind_text, locations_of};
+ghost use Rattle.snippet_lines.specs.Place.{line_of, location_of, steps_after_text, locations_of};
 ghost use Rattle.snippet_lines.specs.Span.{IsSpan, IsSpanBorder};
 ghost use Rattle.snippet_view.specs.Annotated as spec;
 ghost use Rattle.snippet_view.specs.Annotated.{seen_kept, seen_part};
@@ -38,7 +38,7 @@ pub struct LineInfo<'a> {
     pub line_index: usize,
     /// The byte at which it starts.
     pub start_byte: usize,
-    /// The byte behind it, line end counted.
+    /// The byte after it, line end counted.
     pub end_byte: usize,
 }
 
@@ -65,7 +65,7 @@ impl<'a> Model for SourceMap<'a> {
 impl<'a> SourceMap<'a> {
     /// The map of a source whose first line has the number `line_start`.
     ///
-    /// The one error is want of memory.
+    /// The one error is that memory ran out.
     pub fn new(
         alloc: Global,
         source: &'a str,
@@ -120,7 +120,7 @@ impl<'a> SourceMap<'a> {
 
     /// The greatest depth of spans of several lines, and the lines that are kept, each with its entries.
     ///
-    /// The one error is want of memory.
+    /// The one error is that memory ran out.
     pub fn annotated_lines<'b>(
         &self,
         annotations: &'b [Annotation<'_>],
@@ -161,7 +161,7 @@ impl<'a> SourceMap<'a> {
 
     /// Where a span of bytes starts and ends.
     ///
-    /// The end of an empty span is its start. A start behind the end of its line's text, at the line end, counts one
+    /// The end of an empty span is its start. A start after the end of its line's text, at the line end, counts one
     /// character more than the text has; such an end does too, and one column more, if the span started on an earlier
     /// line.
     #[tactic(auto, unfolding(snippet_lines::specs::Place::locations_of, snippet_lines::specs::Place::start_location, snippet_lines::specs::Place::end_location))]
@@ -188,7 +188,7 @@ impl<'a> SourceMap<'a> {
 
     /// The lines that a span of bytes touches, in order: from the one that holds its start to the one that holds its end.
     ///
-    /// The last line holds each byte behind it too. The one error is want of memory.
+    /// The last line holds each byte after it too. The one error is that memory ran out.
     pub fn span_to_lines(&self, span: Range<usize>) -> Result<Vec<LineInfo<'a>>, AllocError>
         requires span { IsSpan self.now.text span.start span.end }
         ensures lines { IfOk result
@@ -207,7 +207,7 @@ impl<'a> SourceMap<'a> {
     ///
     /// Folded it goes from the line on which the first patch starts to the end of the line on which the last one ends, or
     /// to the end of the last trimmed replacement, if that ends with a line feed. Unfolded it is the whole patched source.
-    /// Line ends that are copied before the last patch are written as line feeds. The one error is want of memory.
+    /// Line ends that are copied before the last patch are written as line feeds. The one error is that memory ran out.
     pub fn splice_lines<'b>(
         &self,
         patches: &'b [Patch<'_>],
@@ -221,11 +221,11 @@ impl<'a> SourceMap<'a> {
         spliced_lines(*self.lines.allocator(), self.source(), patches, fold)
     }
 
-    /// The location of a byte, and 1 if the byte lies behind the end of its line's text, else 0.
+    /// The location of a byte, and 1 if the byte lies after the end of its line's text, else 0.
     fn locate(&self, byte: usize) -> (Loc, usize)
         requires border { IsSpanBorder self.now.text byte }
         ensures location { result.0 ≡ location_of self.now byte }
-        ensures steps { result.1 ≡ steps_behind_text self.now.text byte }
+        ensures steps { result.1 ≡ steps_after_text self.now.text byte }
         ensures char_bound { result.0.char < 2 ^ 56 }
         ensures display_bound { result.0.display < 2 ^ 58 }
         ensures step_bound { result.1 ≤ 1 }

@@ -46,7 +46,7 @@ unchanged source e ordered = record {
     nothing-around : (a b : ℕ) (t : List ℕ) → t ≡ slice_range source a a ++ (t ++ slice_range source b b)
     nothing-around a b t = sym (ap (λ l. l ++ (t ++ slice_range source b b)) (nothing a) ∙ ap (λ l. t ++ l) (nothing b) ∙ append-nil t)
 
--- what is kept of a replaced text: the parts of it before and behind
+-- what is kept of a replaced text: the parts of it before and after
 pub shrunk-by : (source : List ℕ) (e : Edit) (a : ℕ) (m : List ℕ) (b : ℕ) → e.start ≤ e.end → e.end ≤ length source → IsSandwiched (slice_range source e.start e.end) e.text a m b → IsShrunk source e (shrunk e (Some (a, m, b)))
 shrunk-by source e a m b ordered within h =
     let o : List ℕ = slice_range source e.start e.end in

@@ -8,7 +8,7 @@ use Rattle.snippet_splice.specs.Spliced.{last_line_reached, spliced_text, line_r
 use Rattle.snippet_lines.specs.Lines.{start_of}
 use Rattle.snippet_lines.specs.Place.{line_of}
 
--- `AABBCC` in place of `AACC` puts `BB` behind two bytes and before two
+-- `AABBCC` in place of `AACC` puts `BB` after two bytes and before two
 a_text_put_in : sandwich (65 ∷ 65 ∷ 67 ∷ 67 ∷ []) (65 ∷ 65 ∷ 66 ∷ 66 ∷ 67 ∷ 67 ∷ []) ≡ Some (2, 66 ∷ 66 ∷ [], 2)
 unfolding sandwich kept_before
 a_text_put_in = refl
@@ -21,7 +21,7 @@ nothing_kept = refl
 abbrev edit : ℕ → ℕ → List ℕ → Edit
 edit start end text = record { start = start; end = end; text = text }
 
--- `abcx` in place of `abc` is `x` behind it; an empty text stays as it is
+-- `abcx` in place of `abc` is `x` after it; an empty text stays as it is
 trimmed_to_its_end : trimmed_edit (97 ∷ 98 ∷ 99 ∷ []) (edit 0 3 (97 ∷ 98 ∷ 99 ∷ 120 ∷ [])) ≡ edit 3 3 (120 ∷ [])
 unfolding trimmed_edit sandwich kept_before
 trimmed_to_its_end = refl
@@ -73,9 +73,9 @@ unfolding spliced_text trimmed_edit sandwich kept_before start_of line_of
 closed_line = refl
 
 -- a deletion closes none: of `a` LF `bc` with `x` put first and `b` deleted both lines are shown
-deleted_behind : spliced_text true (97 ∷ 10 ∷ 98 ∷ 99 ∷ []) (edit 0 0 (120 ∷ []) ∷ edit 2 3 [] ∷ []) ≡ 120 ∷ 97 ∷ 10 ∷ 99 ∷ []
+deleted_after : spliced_text true (97 ∷ 10 ∷ 98 ∷ 99 ∷ []) (edit 0 0 (120 ∷ []) ∷ edit 2 3 [] ∷ []) ≡ 120 ∷ 97 ∷ 10 ∷ 99 ∷ []
 unfolding spliced_text trimmed_edit sandwich kept_before start_of line_of
-deleted_behind = refl
+deleted_after = refl
 
 -- the texts of these stand on lines 0 and 1 of the patched source, and the source is reached up to its line 1
 ranges : line_ranges (97 ∷ 10 ∷ 98 ∷ 99 ∷ []) (edit 0 0 (120 ∷ []) ∷ edit 2 3 [] ∷ []) ≡ record { first = 0; last = 0 } ∷ record { first = 1; last = 1 } ∷ []
@@ -86,7 +86,7 @@ reached : last_line_reached (97 ∷ 10 ∷ 98 ∷ 99 ∷ []) (edit 0 0 (120 ∷ 
 unfolding last_line_reached trimmed_edit sandwich kept_before line_of
 reached = refl
 
--- an insertion behind a final LF is joined to the last line, and one inside CR LF loses the CR
+-- an insertion after a final LF is joined to the last line, and one inside CR LF loses the CR
 joined_to_last : shown_text true (97 ∷ 10 ∷ []) (edit 2 2 (120 ∷ []) ∷ []) ≡ 97 ∷ 120 ∷ []
 unfolding shown_text trimmed_edit sandwich kept_before start_of line_of
 joined_to_last = refl
@@ -95,7 +95,7 @@ inside_line_end : shown_text true (97 ∷ 13 ∷ 10 ∷ 98 ∷ []) (edit 2 2 (12
 unfolding shown_text trimmed_edit sandwich kept_before start_of line_of
 inside_line_end = refl
 
--- line ends that are copied before the last edit are LF, those behind it stay in an unfolded text
+-- line ends that are copied before the last edit are LF, those after it stay in an unfolded text
 line_ends : shown_text false (97 ∷ 13 ∷ 10 ∷ 98 ∷ 13 ∷ 10 ∷ 99 ∷ []) (edit 3 3 (120 ∷ []) ∷ []) ≡ 97 ∷ 10 ∷ 120 ∷ 98 ∷ 13 ∷ 10 ∷ 99 ∷ []
 unfolding shown_text trimmed_edit sandwich kept_before start_of line_of
 line_ends = refl

@@ -38,8 +38,8 @@ feeds-between text a b low =
     let e : a + (b - a) ≡ b = omega arith in
     ap feeds (ap (λ n. take n text) (sym e) ∙ take-add a (b - a) text) ∙ feeds-append (take a text) (slice_range text a b)
 
-feeds-behind : (text : List ℕ) (b : ℕ) → feeds (take b text) + feeds (drop b text) ≡ feeds text
-feeds-behind text b = sym (feeds-append (take b text) (drop b text)) ∙ ap feeds (take-append-drop b text)
+feeds-after : (text : List ℕ) (b : ℕ) → feeds (take b text) + feeds (drop b text) ≡ feeds text
+feeds-after text b = sym (feeds-append (take b text) (drop b text)) ∙ ap feeds (take-append-drop b text)
 
 -- a byte is moved to the left, and over no LF from before the end of the source
 in_text-le : (source : List ℕ) (b : ℕ) → in_text source b ≤ b
@@ -88,8 +88,8 @@ text_feeds-trimmed source at (e ∷ es) apart =
     let t : Edit = trimmed_edit source e in
     let h : IsShrunk source e t = trimmed_edit-shrunk source e apart.1 in
     let before : List ℕ = slice_range source e.start t.start in
-    let behind : List ℕ = slice_range source t.end e.end in
-    let size : feeds e.text ≡ feeds before + (feeds t.text + feeds behind) = ap feeds h.text ∙ feeds-append before (t.text ++ behind) ∙ ap (λ n. feeds before + n) (feeds-append t.text behind) in
+    let after : List ℕ = slice_range source t.end e.end in
+    let size : feeds e.text ≡ feeds before + (feeds t.text + feeds after) = ap feeds h.text ∙ feeds-append before (t.text ++ after) ∙ ap (λ n. feeds before + n) (feeds-append t.text after) in
     omega (arith, size, text_feeds-trimmed source e.end es apart.2, sum_by-cons (λ d. feeds d.text) e es, sum_by-cons (λ d. feeds d.text) t (map (trimmed_edit source) es))
 
 -- in order they have as many
@@ -142,8 +142,8 @@ shown-bound fold source es apart =
     let zero_less : s - 0 ≡ s = omega arith in
     let before : feeds (take s source) ≡ shown_line fold source es = ap (λ n. feeds (take n source)) (sym zero_less) ∙ feeds-shown fold source es in
     let to : feeds (take end source) ≡ feeds (take (in_text source end) source) + feeds (slice_range source (in_text source end) end) = feeds-between source (in_text source end) end (in_text-le source end) in
-    let behind : feeds (take end source) + feeds (drop end source) ≡ feeds source = feeds-behind source end in
+    let after : feeds (take end source) + feeds (drop end source) ≡ feeds source = feeds-after source end in
     let texts : text_feeds ts ≤ text_feeds es = omega (arith, text_feeds-trimmed source 0 (in_order es) apart, text_feeds-in_order es) in
     let all : length (lines_of (without_final_line_feeds (w ++ rest))) ≤ feeds w + feeds rest + 1 = omega (arith, lines-feeds (without_final_line_feeds (w ++ rest)), final-feeds (w ++ rest), feeds-append w rest) in
     let from : feeds (take s source) ≤ feeds (take (in_text source s) source) = in_text-feeds source s (shown_start-inside fold source first) in
-    omega (arith, before, from, written-feeds source s ts (shown-apart fold source es apart), to, behind, texts, all, rest-feeds fold (closes_line ts) (drop end source), feeds-source source)
+    omega (arith, before, from, written-feeds source s ts (shown-apart fold source es apart), to, after, texts, all, rest-feeds fold (closes_line ts) (drop end source), feeds-source source)

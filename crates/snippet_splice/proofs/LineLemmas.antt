@@ -1,4 +1,4 @@
--- The lines of the text that is shown are lines of the patched source, one behind the other.
+-- The lines of the text that is shown are lines of the patched source, one after the other.
 use Rattle.std.proofs.Common.{◌≡◌, ◌≢◌, ℕ, zero, suc, ◌+◌, ◌-◌, ◌<◌, ◌⊎◌, inl, inr, Bool, true, false, cond, eqb, List, [], ◌∷◌, ◌++◌, All, length, take, drop, get_or, refl, sym, ap, subst, ◌∙◌, ⊎_elim, arith, append_assoc}
 use Rattle.std.proofs.lemmas.List.{append-nil, length-append, length-map, length-take-le, take_at, drop_at, map-append, get_or-take, get_or-drop}
 use Rattle.std.proofs.lemmas.List.Elements.{All-nil, All-cons, All-same, All-head, All-tail, All-take, All-drop, All-append}
@@ -89,9 +89,9 @@ pub Shortens-final : (xs : List ℕ) → Shortens xs (without_final_line_feeds x
 Shortens-final [] = record { tail = []; whole = refl; stops = inl refl; feeds = All-nil (λ b. b ≡ 10); unclosed = inl refl }
 Shortens-final (b ∷ bs) = Shortens-cons b bs (without_final_line_feeds bs) (Shortens-final bs)
 
--- what stands behind the text that is shown: nothing, or an LF
-behind-shown : (part ws rest : List ℕ) → Shortens part ws → Stops rest ⊎ (last_byte part ≡ 10) → (z : List ℕ) × (part ++ rest ≡ ws ++ z) × Stops z
-behind-shown part ws rest h stops =
+-- what stands after the text that is shown: nothing, or an LF
+after-shown : (part ws rest : List ℕ) → Shortens part ws → Stops rest ⊎ (last_byte part ≡ 10) → (z : List ℕ) × (part ++ rest ≡ ws ++ z) × Stops z
+after-shown part ws rest h stops =
     let joint : part ++ rest ≡ ws ++ (h.tail ++ rest) = ap (λ l. l ++ rest) h.whole ∙ append_assoc ws h.tail rest in
     ⊎_elim
     (λ none. ⊎_elim
@@ -124,16 +124,16 @@ closed-joined [] (suc k) are within some = absurd (omega arith)
 closed-joined (l ∷ ls) (suc k) are within some =
     let ended : l.1 ≢ Eof = λ eof. let none : ls ≡ [] = (are.1 eof).1 in absurd (omega (arith, ap length none)) in
     let here : last_byte (line_bytes l) ≡ 10 = last_byte-append l.0 (end_bytes l.1) (ends l.1 ended) in
-    behind (joined (take k ls)) (λ more. closed-joined ls k are.2 (omega arith) more) here
+    after (joined (take k ls)) (λ more. closed-joined ls k are.2 (omega arith) more) here
   where
     ends : (ending : EndLine) → ending ≢ Eof → last_byte (end_bytes ending) ≡ 10
     ends Eof ended = absurd (ended refl)
     ends Lf ended = refl
     ends Crlf ended = refl
 
-    behind : (rest : List ℕ) → (0 < length rest → last_byte rest ≡ 10) → last_byte (line_bytes l) ≡ 10 → last_byte (line_bytes l ++ rest) ≡ 10
-    behind [] closed here = ap last_byte (append-nil (line_bytes l)) ∙ here
-    behind (b ∷ bs) closed here = last_byte-append (line_bytes l) (b ∷ bs) (closed (omega arith))
+    after : (rest : List ℕ) → (0 < length rest → last_byte rest ≡ 10) → last_byte (line_bytes l) ≡ 10 → last_byte (line_bytes l ++ rest) ≡ 10
+    after [] closed here = ap last_byte (append-nil (line_bytes l)) ∙ here
+    after (b ∷ bs) closed here = last_byte-append (line_bytes l) (b ∷ bs) (closed (omega arith))
 
 -- a front is so many whole lines
 pub record IsLinesFront (front : List ℕ) (k : ℕ) : Type 0 where
@@ -205,7 +205,7 @@ shown-lines fold source es none texts_none h =
     let short : Shortens h.part ws = Shortens-final h.part in
     let clean : HasNoCr (h.front ++ (h.part ++ h.rest)) = subst HasNoCr h.whole (edited_from-no_cr source 0 (in_order es) none (All-in_order es texts_none)) in
     let clean_back : HasNoCr (h.part ++ h.rest) = HasNoCr-right h.front (h.part ++ h.rest) clean in
-    let (z, joint, stops) = behind-shown h.part ws h.rest short h.stops in
+    let (z, joint, stops) = after-shown h.part ws h.rest short h.stops in
     let clean_ws : HasNoCr ws = HasNoCr-left ws z (subst HasNoCr joint clean_back) in
     let (more, cut) = texts-front ws z stops short.unclosed in
     let front : IsLinesFront h.front (shown_line fold source es) = subst (λ f. IsLinesFront f (shown_line fold source es)) (sym h.before) (shown-front fold source es) in

@@ -25,10 +25,10 @@ pub ordered-spans : (source : List ℕ) (ps : List Patch) → All (λ p. IsSpan 
 ordered-spans source ps spans =
     All-map (λ e. e.start ≤ e.end) edit_of ps (λ k d within. (spans k d within).ordered)
 
--- ---- edits given in order, one behind the other
+-- ---- edits given in order, one after the other
 
-overlap-behind : (d e : Edit) → d.start ≤ d.end → e.start ≤ e.end → d.end ≤ e.start → overlap d e ≡ false
-overlap-behind d e a b h = numbers d.start d.end e.start e.end a b h
+overlap-after : (d e : Edit) → d.start ≤ d.end → e.start ≤ e.end → d.end ≤ e.start → overlap d e ≡ false
+overlap-after d e a b h = numbers d.start d.end e.start e.end a b h
   where
     numbers : (p q r s : ℕ) → p ≤ q → r ≤ s → q ≤ r → cond (ltb r p || (eqb r p && ltb s q)) (ltb p s) (ltb r q) ≡ false
     numbers p q r s a b h = grind (arith, nat_tests)
@@ -44,7 +44,7 @@ far es steps ordered m (suc d) within =
 disjoint-in_order : (es : List Edit) → ((k : ℕ) → k + 1 < length es → (get_or es k no_edit).end ≤ (get_or es (k + 1) no_edit).start) → ((k : ℕ) → k < length es → (get_or es k no_edit).start ≤ (get_or es k no_edit).end) → AreDisjoint es
 disjoint-in_order es steps ordered m n low high =
     let e : m + (n - m - 1) + 1 ≡ n = omega arith in
-    overlap-behind (get_or es m no_edit) (get_or es n no_edit) (ordered m (omega arith)) (ordered n high) (subst (λ k. (get_or es m no_edit).end ≤ (get_or es k no_edit).start) e (far es steps ordered m (n - m - 1) (omega arith)))
+    overlap-after (get_or es m no_edit) (get_or es n no_edit) (ordered m (omega arith)) (ordered n high) (subst (λ k. (get_or es m no_edit).end ≤ (get_or es k no_edit).start) e (far es steps ordered m (n - m - 1) (omega arith)))
 
 -- patches of which each ends at the start of the next or before it don't overlap
 pub disjoint-apart : (source : List ℕ) (ps : List Patch) → All (λ p. IsSpan source p.span.start p.span.end) ps → ((k : ℕ) → k + 1 < length ps → (get_or (map edit_of ps) k no_edit).end ≤ (get_or (map edit_of ps) (k + 1) no_edit).start) → AreDisjoint (map edit_of ps)
@@ -63,8 +63,8 @@ put-apart at e [] low ordered apart clear = (low, ordered, tt)
 put-apart at e (d ∷ ds) low ordered apart clear =
     let here : ClearOf e d = clear 0 d (omega arith) in
     ⊎_elim
-    (λ t. let behind : d.end ≤ e.start = ltb-false e.start d.end (sym (cond-true (precedes d e) (ltb e.start d.end) (ltb d.start e.end) t) ∙ here) in
-    subst (AreApart at) (sym (cond-true (precedes d e) (d ∷ put_in precedes e ds) (e ∷ d ∷ ds) t)) (apart.0, apart.1, put-apart d.end e ds behind ordered apart.2 (λ k x within. clear (suc k) x (omega arith))))
+    (λ t. let after : d.end ≤ e.start = ltb-false e.start d.end (sym (cond-true (precedes d e) (ltb e.start d.end) (ltb d.start e.end) t) ∙ here) in
+    subst (AreApart at) (sym (cond-true (precedes d e) (d ∷ put_in precedes e ds) (e ∷ d ∷ ds) t)) (apart.0, apart.1, put-apart d.end e ds after ordered apart.2 (λ k x within. clear (suc k) x (omega arith))))
     (λ f. let before : e.end ≤ d.start = ltb-false d.start e.end (sym (cond-false (precedes d e) (ltb e.start d.end) (ltb d.start e.end) f) ∙ here) in
     subst (AreApart at) (sym (cond-false (precedes d e) (d ∷ put_in precedes e ds) (e ∷ d ∷ ds) f)) (low, ordered, (before, apart.1, apart.2)))
     (cases_Bool (precedes d e))

@@ -78,7 +78,7 @@ feeds-shown true source es =
 
 -- ---- the lines of the texts
 
--- the texts of the edits behind a front of the patched source
+-- the texts of the edits after a front of the patched source
 pub ranges-stands : (source d front : List ℕ) (at now count : ℕ) (ts : List Edit) → HasNoCr source → AreBeforeFinalLf source ts → AreApart at ts → d ≡ front ++ edited_from source at ts → now ≡ length front → count ≡ feeds front → map (lines_of_stand d) (stands_from source at now ts) ≡ written_ranges source count at ts
 ranges-stands source d front at now count [] none before apart whole size counted = refl
 ranges-stands source d front at now count (t ∷ ts) none before apart whole size counted =
@@ -114,11 +114,11 @@ written-ranges fold source es none before apart =
     let s : ℕ = shown_start fold source (first_start (in_order es)) in
     let ts : List Edit = trimmed_edits source es in
     let f : List ℕ = slice_range source 0 s in
-    let behind : AreApart s ts = shown-apart fold source es apart in
+    let after : AreApart s ts = shown-apart fold source es apart in
     let size : length f ≡ s = front-size fold source (first_start (in_order es)) in
-    let whole : patched source es ≡ f ++ edited_from source s ts = sym (edited_from-trimmed source 0 (in_order es) apart) ∙ edited_from-earlier source 0 s ts (omega arith) behind in
+    let whole : patched source es ≡ f ++ edited_from source s ts = sym (edited_from-trimmed source 0 (in_order es) apart) ∙ edited_from-earlier source 0 s ts (omega arith) after in
     let e : shown_line fold source es + 0 ≡ shown_line fold source es = omega arith in
-    ranges-shift source (shown_line fold source es) 0 s ts ∙ ap (λ n. written_ranges source n s ts) e ∙ sym (ranges-stands source (patched source es) f s s (shown_line fold source es) ts none before behind whole (sym size) (sym (feeds-shown fold source es))) ∙ ap (map (lines_of_stand (patched source es))) (sym (stands-at ts behind size))
+    ranges-shift source (shown_line fold source es) 0 s ts ∙ ap (λ n. written_ranges source n s ts) e ∙ sym (ranges-stands source (patched source es) f s s (shown_line fold source es) ts none before after whole (sym size) (sym (feeds-shown fold source es))) ∙ ap (map (lines_of_stand (patched source es))) (sym (stands-at ts after size))
   where
     stands-at : (ts : List Edit) → AreApart (shown_start fold source (first_start (in_order es))) ts → length (slice_range source 0 (shown_start fold source (first_start (in_order es)))) ≡ shown_start fold source (first_start (in_order es)) → stands source ts ≡ stands_from source (shown_start fold source (first_start (in_order es))) (shown_start fold source (first_start (in_order es))) ts
     stands-at [] apart size = refl

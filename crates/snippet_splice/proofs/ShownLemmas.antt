@@ -80,8 +80,8 @@ shown-value fold source es ts first start end closed text rest of_ts of_first of
     let s0 : ℕ = shown_start fold source (first_start (in_order es)) in
     let begin : start ≡ s0 = of_start ∙ ap (shown_start fold source) of_first in
     let front : text ≡ written source s0 ts0 = of_text ∙ ap (λ n. written source n ts) begin ∙ ap (written source s0) of_ts in
-    let behind : end ≡ end_from s0 ts0 = of_end ∙ ap (λ n. end_from n ts) begin ∙ ap (end_from s0) of_ts in
-    let left : drop (min end (length source)) source ≡ drop (end_from s0 ts0) source = drop_min end source ∙ ap (λ n. drop n source) behind in
+    let after : end ≡ end_from s0 ts0 = of_end ∙ ap (λ n. end_from n ts) begin ∙ ap (end_from s0) of_ts in
+    let left : drop (min end (length source)) source ≡ drop (end_from s0 ts0) source = drop_min end source ∙ ap (λ n. drop n source) after in
     let back : rest ≡ shown_rest fold (closes_line ts0) (drop (end_from s0 ts0) source) = of_rest ∙ ap (λ b. shown_rest fold b (drop (min end (length source)) source)) (of_closed ∙ ap closes_line of_ts) ∙ ap (shown_rest fold (closes_line ts0)) left in
     ap (λ t. without_final_line_feeds (t ++ rest)) front ∙ ap (λ t. without_final_line_feeds (written source s0 ts0 ++ t)) back
 

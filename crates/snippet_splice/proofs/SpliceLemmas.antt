@@ -1,4 +1,4 @@
--- Where no CR is copied and no edit stands behind a final LF, the text that is shown is the spliced text.
+-- Where no CR is copied and no edit stands after a final LF, the text that is shown is the spliced text.
 use Rattle.std.proofs.Common.{◌≡◌, ◌≢◌, ℕ, suc, ◌+◌, ◌-◌, ◌<◌, ◌≤◌, ◌⊎◌, inl, inr, Bool, true, false, not, ◌&&◌, eqb, ltb, min, List, [], ◌∷◌, ◌++◌, All, length, take, drop, get_or, refl, sym, ap, subst, ◌∙◌, ⊎_elim, arith, append_assoc}
 use Rattle.std.proofs.lemmas.List.{append-nil, length-append, length-take, length-take-le, length-drop, drop_at, take_all, take_min, drop_min, get_or_past, take-append-drop}
 use Rattle.std.proofs.Math.Seq.{take-append-add}
@@ -48,7 +48,7 @@ copied-same source a b none low before =
     let clean : All (λ c. c ≢ 13) (slice_range source a b) = All-take (λ c. c ≢ 13) (b - a) (drop a source) (All-drop (λ c. c ≢ 13) a source none) in
     ap with_line_feeds part ∙ with_line_feeds-none (slice_range source a b) (λ i within. clean i 0 within)
 
--- no edit starts behind a final LF
+-- no edit starts after a final LF
 abbrev pub AreBeforeFinalLf : List ℕ → List Edit → Type 0
 AreBeforeFinalLf source ts = All (λ t. IsBeforeFinalLf source t.start) ts
 
@@ -58,8 +58,8 @@ edited_from-written source at [] none before apart = refl
 edited_from-written source at (t ∷ ts) none before apart =
     let here : slice_range source at t.start ≡ copied source at t.start = sym (copied-same source at t.start none apart.0 (All-head (λ t. IsBeforeFinalLf source t.start) t ts before)) in
     let rest : edited_from source t.end ts ≡ written source t.end ts ++ drop (end_from t.end ts) source = edited_from-written source t.end ts none (All-tail (λ t. IsBeforeFinalLf source t.start) t ts before) apart.2 in
-    let behind : List ℕ = drop (end_from t.end ts) source in
-    ap (λ l. l ++ (t.text ++ edited_from source t.end ts)) here ∙ ap (λ l. copied source at t.start ++ (t.text ++ l)) rest ∙ ap (λ l. copied source at t.start ++ l) (sym (append_assoc t.text (written source t.end ts) behind)) ∙ sym (append_assoc (copied source at t.start) (t.text ++ written source t.end ts) behind)
+    let after : List ℕ = drop (end_from t.end ts) source in
+    ap (λ l. l ++ (t.text ++ edited_from source t.end ts)) here ∙ ap (λ l. copied source at t.start ++ (t.text ++ l)) rest ∙ ap (λ l. copied source at t.start ++ l) (sym (append_assoc t.text (written source t.end ts) after)) ∙ sym (append_assoc (copied source at t.start) (t.text ++ written source t.end ts) after)
 
 -- ---- where the last text ends
 
@@ -114,11 +114,11 @@ first-line (b ∷ bs) none = first-line-of (b ∷ bs) none
 
 -- ---- the part of the patched source that is shown
 
--- what is behind a part is cut off where a line ends, or the part closes its line
+-- what is after a part is cut off where a line ends, or the part closes its line
 abbrev pub Stops : List ℕ → Type 0
 Stops rest = (rest ≡ []) ⊎ ((y : List ℕ) × (rest ≡ 10 ∷ y))
 
--- the part of the patched source that is shown, what stands before it and what stands behind it
+-- the part of the patched source that is shown, what stands before it and what stands after it
 pub record IsShownPart (fold : Bool) (source : List ℕ) (es : List Edit) : Type 0 where
   pub front : List ℕ
   pub part : List ℕ
@@ -140,8 +140,8 @@ pub shown-whole : (fold : Bool) (source : List ℕ) (es : List Edit) → HasNoCr
 shown-whole fold source es none before apart =
     let s : ℕ = shown_start fold source (first_start (in_order es)) in
     let ts : List Edit = trimmed_edits source es in
-    let behind : AreApart s ts = shown-apart fold source es apart in
-    sym (edited_from-trimmed source 0 (in_order es) apart) ∙ edited_from-earlier source 0 s ts (omega arith) behind ∙ ap (λ l. slice_range source 0 s ++ l) (edited_from-written source s ts none before behind)
+    let after : AreApart s ts = shown-apart fold source es apart in
+    sym (edited_from-trimmed source 0 (in_order es) apart) ∙ edited_from-earlier source 0 s ts (omega arith) after ∙ ap (λ l. slice_range source 0 s ++ l) (edited_from-written source s ts none before after)
 
 pub front-size : (fold : Bool) (source : List ℕ) (first : ℕ) → length (slice_range source 0 (shown_start fold source first)) ≡ shown_start fold source first
 front-size fold source first =
@@ -169,7 +169,7 @@ last-written source at (t ∷ []) e =
 last-written source at (t ∷ u ∷ ts) e =
     last_byte-append (copied source at t.start) (t.text ++ written source t.end (u ∷ ts)) (last_byte-append t.text (written source t.end (u ∷ ts)) (last-written source t.end (u ∷ ts) e))
 
--- behind the first line of a text stands its LF, or nothing
+-- after the first line of a text stands its LF, or nothing
 first-stops : (xs : List ℕ) → Stops (drop (length (before_first is_lf xs)) xs)
 first-stops [] = inl refl
 first-stops (b ∷ bs) =
@@ -198,7 +198,7 @@ drop-part : (f w r : List ℕ) (s : ℕ) → length f ≡ s → drop (s + length
 drop-part f w r s size =
     ap (drop (s + length w)) (sym (append_assoc f w r)) ∙ drop_at (f ++ w) r (s + length w) (omega (arith, length-append f w, size))
 
--- without CR in the source, and no edit behind a final LF, the text that is shown is the spliced text
+-- without CR in the source, and no edit after a final LF, the text that is shown is the spliced text
 pub shown-part : (fold : Bool) (source : List ℕ) (es : List Edit) → HasNoCr source → AreBeforeFinalLf source (trimmed_edits source es) → AreApart 0 (in_order es) → trimmed_edits source es ≢ [] → IsShownPart fold source es
 unfolding shown_text spliced_text
 shown-part false source es none before apart some =
@@ -225,11 +225,11 @@ shown-part true source es none before apart some =
     let f : List ℕ = slice_range source 0 s in
     let w : List ℕ = written source s ts in
     let r : List ℕ = drop (end_from s ts) source in
-    let behind : AreApart s ts = shown-apart true source es apart in
+    let after : AreApart s ts = shown-apart true source es apart in
     let size : length f ≡ s = front-size true source (first_start (in_order es)) in
     let whole : patched source es ≡ f ++ (w ++ r) = shown-whole true source es none before apart in
     let same : edited_from source 0 ts ≡ f ++ (w ++ r) = edited_from-trimmed source 0 (in_order es) apart ∙ whole in
-    let to : last_end 0 (stands source ts) ≡ s + length w = last-of ts some before behind size in
+    let to : last_end 0 (stands source ts) ≡ s + length w = last-of ts some before after size in
     let left : drop (last_end 0 (stands source ts)) (edited_from source 0 ts) ≡ r = ap (λ n. drop n (edited_from source 0 ts)) to ∙ ap (drop (s + length w)) same ∙ drop-part f w r s size in
     ⊎_elim
     (λ t. let end : spliced_end source ts ≡ s + length w + 0 = cond-true (closes_line ts) (last_end 0 (stands source ts)) (last_end 0 (stands source ts) + length (before_first is_lf (drop (last_end 0 (stands source ts)) (edited_from source 0 ts)))) t ∙ to ∙ omega arith in

@@ -156,9 +156,9 @@ touched-in d f part rest ws k j s whole short closed counted stops within touche
     (λ inside. let same : take x d ≡ take x g = ap (take x) parts ∙ take-append-le x g (short.tail ++ rest) (omega (arith, inside)) in
     let many : feeds (take x g) ≡ j = ap feeds (sym same) ∙ feeds-front d j line.within in
     few ws f x k j counted closed short.unclosed inside past many)
-    (λ behind. ⊎_elim
-    (λ inside. empty_line (λ _. let e : get_or d x 0 ≡ get_or (short.tail ++ rest) (x - length g) 0 = ap (λ l. get_or l x 0) parts ∙ get_or-append_right g (short.tail ++ rest) (length g) x 0 refl behind in
-    let low_tail : x - length g < length short.tail = omega (arith, inside, behind, size, size_g) in
+    (λ after. ⊎_elim
+    (λ inside. empty_line (λ _. let e : get_or d x 0 ≡ get_or (short.tail ++ rest) (x - length g) 0 = ap (λ l. get_or l x 0) parts ∙ get_or-append_right g (short.tail ++ rest) (length g) x 0 refl after in
+    let low_tail : x - length g < length short.tail = omega (arith, inside, after, size, size_g) in
     e ∙ get_or_append_left short.tail rest 0 (x - length g) low_tail ∙ short.feeds (x - length g) 0 low_tail))
     (λ past_part. ⊎_elim (λ before. absurd (omega (arith, before, line.from, past_part, within.to)))
     (λ (same, at). let at_end : x ≡ length f + length part = omega (arith, at, line.from, past_part, within.to) in
@@ -191,12 +191,12 @@ shown-touched fold source es none before apart h j touched some =
     (record { from = omega (arith, facts.0.from, h.size); to = omega (arith, facts.0.to, h.ends, h.size) }) touched.by some
   where
     placed : (ts : List Edit) → AreApart (shown_start fold source (first_start (in_order es))) ts → AreBeforeFinalLf source ts → (s : Stand) → Contains (stands source ts) s → IsWithin (shown_start fold source (first_start (in_order es))) (shown_start fold source (first_start (in_order es)) + length (written source (shown_start fold source (first_start (in_order es))) ts)) s × (0 < length (last_text ts) → EndsBefore (shown_start fold source (first_start (in_order es)) + length (written source (shown_start fold source (first_start (in_order es))) ts)) s)
-    placed [] behind before s among = absurd (omega (arith, among.1))
-    placed (t ∷ ts) behind before s among =
+    placed [] after before s among = absurd (omega (arith, among.1))
+    placed (t ∷ ts) after before s among =
         let first : ℕ = shown_start fold source (first_start (in_order es)) in
         let size : length (slice_range source 0 first) ≡ first = front-size fold source (first_start (in_order es)) in
-        let same : stands source (t ∷ ts) ≡ stands_from source first first (t ∷ ts) = stands_from-earlier source 0 first 0 t ts (omega arith) behind.0 ∙ (let e : 0 + length (slice_range source 0 first) ≡ first = omega (arith, size) in ap (λ n. stands_from source first n (t ∷ ts)) e) in
-        let end : last_end first (stands_from source first first (t ∷ ts)) ≡ first + length (written source first (t ∷ ts)) = sym (ap (last_end 0) same) ∙ last-end source first t ts none before behind size in
+        let same : stands source (t ∷ ts) ≡ stands_from source first first (t ∷ ts) = stands_from-earlier source 0 first 0 t ts (omega arith) after.0 ∙ (let e : 0 + length (slice_range source 0 first) ≡ first = omega (arith, size) in ap (λ n. stands_from source first n (t ∷ ts)) e) in
+        let end : last_end first (stands_from source first first (t ∷ ts)) ≡ first + length (written source first (t ∷ ts)) = sym (ap (last_end 0) same) ∙ last-end source first t ts none before after size in
         let there : Contains (stands_from source first first (t ∷ ts)) s = subst (λ l. Contains l s) same among in (
           All-contains (IsWithin first (first + length (written source first (t ∷ ts)))) (stands_from source first first (t ∷ ts)) s (subst (λ n. All (IsWithin first n) (stands_from source first first (t ∷ ts))) end (stands-within source first first (t ∷ ts))) there,
           λ more. All-contains (EndsBefore (first + length (written source first (t ∷ ts)))) (stands_from source first first (t ∷ ts)) s (subst (λ n. All (EndsBefore n) (stands_from source first first (t ∷ ts))) end (stands-before source first first (t ∷ ts) more)) there,
@@ -209,9 +209,9 @@ pub touched-feeds : (d : List ℕ) (j : ℕ) (s : Stand) → IsTouchedBy d j s �
 touched-feeds d j s touched =
     let p : ℕ = touched.place in
     let here : feeds (take p d) ≡ j = in-line-feeds d j p touched.in_line in
-    let behind : p ≤ s.to = ⊎_elim (λ before. omega arith) (λ (same, at). omega arith) touched.to in (
+    let after : p ≤ s.to = ⊎_elim (λ before. omega arith) (λ (same, at). omega arith) touched.to in (
       omega (arith, feeds-take s.from (take p d), ap feeds (take-take s.from p d touched.from), here),
-      omega (arith, feeds-take p (take s.to d), ap feeds (take-take p s.to d behind), here),
+      omega (arith, feeds-take p (take s.to d), ap feeds (take-take p s.to d after), here),
     )
 
 -- a touched line is in one of the ranges

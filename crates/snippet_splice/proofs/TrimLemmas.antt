@@ -50,7 +50,7 @@ IsSandwich-begins o r rest e =
     record {
       is = record { border = IsCharBoundary-end o; parts = omega arith; whole = e ∙ whole };
       all_before = λ m _. refl;
-      all_behind = λ below m _. absurd (omega arith);
+      all_after = λ below m _. absurd (omega arith);
       longest = λ some a m b h. h.border.0;
     }
 
@@ -59,7 +59,7 @@ IsSandwich-ends o r front utf8 e begins =
     record {
       is = record { border = IsCharBoundary-start o utf8; parts = omega arith; whole = e };
       all_before = λ m h. absurd (begins m (begins-with o r m 0 h));
-      all_behind = λ below m _. refl;
+      all_after = λ below m _. refl;
       longest = λ some a m b h. absurd (omega arith);
     }
 
@@ -80,7 +80,7 @@ IsSandwich-inside o r n m common begins ends e =
     record {
       is = record { border = common.border; parts = omega (arith, length-drop n o, common.border.0); whole = whole };
       all_before = λ m h. absurd (begins m (begins-with o r m 0 h));
-      all_behind = λ below m h. absurd (ends m (ends-with o r m (length o) h));
+      all_after = λ below m h. absurd (ends m (ends-with o r m (length o) h));
       longest = λ some a m b h. at_most_common o r n a m b common h;
     }
 
@@ -170,7 +170,7 @@ kept_before-is o r a m b h =
     (λ f. let below : a < length o = ⊎_elim (λ at. absurd (both_ways (p a) (ap p at ∙ f) here)) (λ other. omega (arith, h.is.border.0)) (cases_eq a (length o)) in
     cond-false (p (length o)) (Some (length o)) rest f ∙ ⊎_elim
     (λ t. let parts : length o - 0 ≡ length o = omega arith in
-    let at : a ≡ 0 = h.all_behind below _ (subst (λ n. IsSandwiched o r 0 (slice_range r 0 (length r - (length o - 0))) n) parts (test-true o r 0 t)) in
+    let at : a ≡ 0 = h.all_after below _ (subst (λ n. IsSandwiched o r 0 (slice_range r 0 (length r - (length o - 0))) n) parts (test-true o r 0 t)) in
     cond-true (p 0) (Some 0) (greatest p (length o)) t ∙ ap Some (sym at))
     (λ g. let some : 0 < a = ⊎_elim (λ at. absurd (both_ways (p a) (ap p at ∙ g) here)) (λ other. omega arith) (cases_eq a 0) in
     cond-false (p 0) (Some 0) (greatest p (length o)) g ∙ greatest-is p (length o) a h.is.border.0 here (λ k low high. false_from_ne_true (p k) (λ t. absurd (omega (arith, h.longest some k _ _ (test-true o r k t))))))
@@ -183,8 +183,8 @@ unfolding sandwich
 sandwich-is o r a m b h =
     let made : ℕ → ℕ × List ℕ × ℕ = λ n. (n, slice_range r n (length r - (length o - n)), length o - n) in
     let middle : slice_range r a (length r - (length o - a)) ≡ m = sym (middle_is o r a m b h.is) in
-    let behind : length o - a ≡ b = omega (arith, h.is.parts) in
-    ap (option_map made) (kept_before-is o r a m b h) ∙ ap (λ l. Some (a, l, length o - a)) middle ∙ ap (λ n. Some (a, m, n)) behind
+    let after : length o - a ≡ b = omega (arith, h.is.parts) in
+    ap (option_map made) (kept_before-is o r a m b h) ∙ ap (λ l. Some (a, l, length o - a)) middle ∙ ap (λ n. Some (a, m, n)) after
 
 kept_before-none : (o r : List ℕ) → ((k : ℕ) → is_sandwiched o r k ≡ false) → kept_before o r ≡ None
 unfolding kept_before

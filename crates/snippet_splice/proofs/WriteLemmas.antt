@@ -29,27 +29,27 @@ with_line_feeds-none (x ∷ xs) none =
     cond-false (eqb x 13 && eqb (get_or xs 0 0) 10) (with_line_feeds xs) (x ∷ with_line_feeds xs) other ∙ ap (λ l. x ∷ l) (with_line_feeds-none xs (λ i within. none (suc i) (omega arith)))
 
 -- a step of the loop that adds a text: the front up to a CR was added, and the CR where no LF follows
-pub with_line_feeds-step : (old rest front behind more : List ℕ) → rest ≡ front ++ 13 ∷ behind → ((i : ℕ) → i < length front → get_or front i 0 ≢ 13) → more ≡ cond (eqb (get_or behind 0 0) 10) [] (13 ∷ []) → ((old ++ front) ++ more) ++ with_line_feeds behind ≡ old ++ with_line_feeds rest
-with_line_feeds-step old rest front behind more e none added =
-    let t : Bool = eqb (get_or behind 0 0) 10 in
-    let tail : more ++ with_line_feeds behind ≡ cond t (with_line_feeds behind) (13 ∷ with_line_feeds behind) = ⊎_elim
-    (λ yes_it. ap (λ l. l ++ with_line_feeds behind) (added ∙ cond-true t [] (13 ∷ []) yes_it) ∙ sym (cond-true t (with_line_feeds behind) (13 ∷ with_line_feeds behind) yes_it))
-    (λ no_it. ap (λ l. l ++ with_line_feeds behind) (added ∙ cond-false t [] (13 ∷ []) no_it) ∙ sym (cond-false t (with_line_feeds behind) (13 ∷ with_line_feeds behind) no_it)) (cases_Bool t) in
-    append_assoc (old ++ front) more (with_line_feeds behind) ∙ append_assoc old front (more ++ with_line_feeds behind) ∙ ap (λ l. old ++ (front ++ l)) tail ∙ ap (λ l. old ++ l) (sym (ap with_line_feeds e ∙ with_line_feeds-split front behind none))
+pub with_line_feeds-step : (old rest front after more : List ℕ) → rest ≡ front ++ 13 ∷ after → ((i : ℕ) → i < length front → get_or front i 0 ≢ 13) → more ≡ cond (eqb (get_or after 0 0) 10) [] (13 ∷ []) → ((old ++ front) ++ more) ++ with_line_feeds after ≡ old ++ with_line_feeds rest
+with_line_feeds-step old rest front after more e none added =
+    let t : Bool = eqb (get_or after 0 0) 10 in
+    let tail : more ++ with_line_feeds after ≡ cond t (with_line_feeds after) (13 ∷ with_line_feeds after) = ⊎_elim
+    (λ yes_it. ap (λ l. l ++ with_line_feeds after) (added ∙ cond-true t [] (13 ∷ []) yes_it) ∙ sym (cond-true t (with_line_feeds after) (13 ∷ with_line_feeds after) yes_it))
+    (λ no_it. ap (λ l. l ++ with_line_feeds after) (added ∙ cond-false t [] (13 ∷ []) no_it) ∙ sym (cond-false t (with_line_feeds after) (13 ∷ with_line_feeds after) no_it)) (cases_Bool t) in
+    append_assoc (old ++ front) more (with_line_feeds after) ∙ append_assoc old front (more ++ with_line_feeds after) ∙ ap (λ l. old ++ (front ++ l)) tail ∙ ap (λ l. old ++ l) (sym (ap with_line_feeds e ∙ with_line_feeds-split front after none))
 
--- what stands before and behind an ASCII character is text
-pub utf8-behind : (rest front behind : List ℕ) (b : ℕ) → IsUtf8 rest → b < 128 → rest ≡ front ++ b ∷ behind → IsUtf8 behind
-utf8-behind rest front behind b utf8 ascii e =
-    let at : get_or rest (length front) 0 ≡ b = ap (λ l. get_or l (length front) 0) e ∙ get_or_at front b behind 0 (length front) refl in
-    let within : length front < length rest = omega (arith, ap length e, length-append front (b ∷ behind)) in
-    let cut : drop (length front + 1) rest ≡ behind = ap (drop (length front + 1)) (e ∙ sym (append_assoc front (b ∷ []) behind)) ∙ drop_at (front ++ b ∷ []) behind (length front + 1) (length_push front b) in
+-- what stands before and after an ASCII character is text
+pub utf8-after : (rest front after : List ℕ) (b : ℕ) → IsUtf8 rest → b < 128 → rest ≡ front ++ b ∷ after → IsUtf8 after
+utf8-after rest front after b utf8 ascii e =
+    let at : get_or rest (length front) 0 ≡ b = ap (λ l. get_or l (length front) 0) e ∙ get_or_at front b after 0 (length front) refl in
+    let within : length front < length rest = omega (arith, ap length e, length-append front (b ∷ after)) in
+    let cut : drop (length front + 1) rest ≡ after = ap (drop (length front + 1)) (e ∙ sym (append_assoc front (b ∷ []) after)) ∙ drop_at (front ++ b ∷ []) after (length front + 1) (length_push front b) in
     subst IsUtf8 cut (IsUtf8-drop rest (length front + 1) utf8 (IsCharBoundary-after_ascii rest (length front) utf8 within (omega (arith, at))))
 
-pub utf8-front : (rest front behind : List ℕ) (b : ℕ) → IsUtf8 rest → b < 128 → rest ≡ front ++ b ∷ behind → IsUtf8 front
-utf8-front rest front behind b utf8 ascii e =
-    let at : get_or rest (length front) 0 ≡ b = ap (λ l. get_or l (length front) 0) e ∙ get_or_at front b behind 0 (length front) refl in
-    let within : length front < length rest = omega (arith, ap length e, length-append front (b ∷ behind)) in
-    subst IsUtf8 (ap (take (length front)) e ∙ take_at front (b ∷ behind) (length front) refl) (IsUtf8-take rest (length front) utf8 (IsCharBoundary-before_ascii rest (length front) within (omega (arith, at))))
+pub utf8-front : (rest front after : List ℕ) (b : ℕ) → IsUtf8 rest → b < 128 → rest ≡ front ++ b ∷ after → IsUtf8 front
+utf8-front rest front after b utf8 ascii e =
+    let at : get_or rest (length front) 0 ≡ b = ap (λ l. get_or l (length front) 0) e ∙ get_or_at front b after 0 (length front) refl in
+    let within : length front < length rest = omega (arith, ap length e, length-append front (b ∷ after)) in
+    subst IsUtf8 (ap (take (length front)) e ∙ take_at front (b ∷ after) (length front) refl) (IsUtf8-take rest (length front) utf8 (IsCharBoundary-before_ascii rest (length front) within (omega (arith, at))))
 
 -- it keeps the number of LF
 pub count-with_line_feeds : (xs : List ℕ) → count_by is_lf (with_line_feeds xs) ≡ count_by is_lf xs
@@ -113,7 +113,7 @@ last_text-at (p ∷ q ∷ ps) d some =
     let e : length (p ∷ q ∷ ps) - 1 ≡ suc (length (q ∷ ps) - 1) = omega arith in
     last_text-at (q ∷ ps) d (omega arith) ∙ ap (λ k. (get_or (p ∷ q ∷ ps) k d).replacement.now) (sym e)
 
--- an LF behind a text is none of it
+-- an LF after a text is none of it
 pub without_final-push : (xs : List ℕ) → without_final_line_feeds (xs ++ 10 ∷ []) ≡ without_final_line_feeds xs
 without_final-push [] = refl
 without_final-push (x ∷ xs) = ap (unless_lone_line_feed x) (without_final-push xs)

@@ -14,8 +14,8 @@ is_inside_line_end source b =
 abbrev pub text_end : List ℕ → ℕ
 text_end source = if last_byte source == 10 then length source - 1 else length source
 
--- a byte moved out of the line end that it stands in or behind, where that isn't followed by a line: to before the CR of
--- CR LF, and from behind a final line end to before it
+-- a byte moved out of the line end that it stands in or after, where that isn't followed by a line: to before the CR of
+-- CR LF, and from after a final line end to before it
 abbrev pub in_text : List ℕ → ℕ → ℕ
 in_text source b =
     let at = min b (text_end source) in if is_inside_line_end source at then at - 1 else at
@@ -44,7 +44,7 @@ written_ranges source feeds at (e ∷ es) =
     let last = first + count_by is_lf e.text in
     record { first = first; last = last } ∷ written_ranges source last e.end es
 
--- the byte of the source behind the last of some edits, from a byte on
+-- the byte of the source after the last of some edits, from a byte on
 abbrev pub end_from : ℕ → List Edit → ℕ
 end_from at [] = at
 end_from at (e ∷ es) = end_from e.end es

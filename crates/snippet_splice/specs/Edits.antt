@@ -45,17 +45,17 @@ edited_from source at (e ∷ es) = slice_range source at e.start ++ (e.text ++ e
 abbrev pub patched : List ℕ → List Edit → List ℕ
 patched source es = edited_from source 0 (in_order es)
 
--- edits stand behind a byte and one behind the other
+-- edits stand after a byte and one after the other
 abbrev pub AreApart : ℕ → List Edit → Type 0
 AreApart at [] = Unit {0}
 AreApart at (e ∷ es) = (at ≤ e.start) × (e.start ≤ e.end) × AreApart e.end es
 
--- an edit shrunk by what its text keeps of the source: so many bytes before its middle, and so many behind it
+-- an edit shrunk by what its text keeps of the source: so many bytes before its middle, and so many after it
 abbrev pub shrunk : Edit → Option (ℕ × List ℕ × ℕ) → Edit
 shrunk e None = e
 shrunk e (Some kept) = record { start = e.start + kept.0; end = e.end - kept.2; text = kept.1 }
 
--- the trimmed edit; one whose text is empty or that reaches behind the source stays
+-- the trimmed edit; one whose text is empty or that reaches past the source stays
 unfoldable pub trimmed_edit : List ℕ → Edit → Edit
 trimmed_edit source e =
     if nat_lt 0 (length e.text) && nat_le e.end (length source) then shrunk e (sandwich (slice_range source e.start e.end) e.text)

@@ -5,7 +5,7 @@ use Rattle.std.specs.Option.{option_map, option_or}
 use Rattle.snippet_splice.specs.Edits.{Edit, precedes}
 
 -- whether two edits overlap, the first given before the second: in their order, by start, then end, else as given, the
--- first ends behind the second's start
+-- first ends after the second's start
 abbrev pub overlap : Edit → Edit → Bool
 overlap d e = if precedes e d then nat_lt d.start e.end else nat_lt e.start d.end
 

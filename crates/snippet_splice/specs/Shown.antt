@@ -29,7 +29,7 @@ abbrev pub shown_start : Bool → List ℕ → ℕ → ℕ
 shown_start fold source first =
     if fold then start_of (source_lines source) (line_of (source_lines source) first) else 0
 
--- what is shown of the source behind the last edit: folded the rest of its line, if the edit doesn't close it
+-- what is shown of the source after the last edit: folded the rest of its line, if the edit doesn't close it
 abbrev pub shown_rest : Bool → Bool → List ℕ → List ℕ
 shown_rest fold closed rest = if fold then (if closed then [] else text_at (source_lines rest) 0) else rest
 

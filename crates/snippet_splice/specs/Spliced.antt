@@ -33,7 +33,7 @@ unfoldable pub last_line_reached : List ℕ → List Edit → ℕ
 last_line_reached source es =
     line_of (source_lines source) (fold max 0 (map (λ e. e.end) (trimmed_edits source es)))
 
--- where the spliced text ends in the patched source, folded: behind the last trimmed text where that ends with LF, else
+-- where the spliced text ends in the patched source, folded: after the last trimmed text where that ends with LF, else
 -- before the first LF from there on
 abbrev pub spliced_end : List ℕ → List Edit → ℕ
 spliced_end source ts =
@@ -51,7 +51,7 @@ spliced_text folded source es =
 abbrev pub HasNoCr : List ℕ → Type 0
 HasNoCr text = All (λ b. b ≢ 13) text
 
--- a byte isn't behind an LF that ends the source
+-- a byte isn't after an LF that ends the source
 abbrev pub IsBeforeFinalLf : List ℕ → ℕ → Type 0
 IsBeforeFinalLf source b = last_byte source ≡ 10 → b < length source
 

@@ -11,7 +11,7 @@ use std::alloc::AllocError;
 
 /// Adds what stands from one byte of a source to another, with a line feed for each line end, and counts the line feeds.
 ///
-/// A byte inside a line end counts as one before it, and one behind a final line end too.
+/// A byte inside a line end counts as one before it, and one after a final line end too.
 pub(crate) fn push_copied(
     out: &mut String,
     source: &str,
@@ -29,7 +29,7 @@ pub(crate) fn push_copied(
     Ok(line_feed_count(between))
 }
 
-/// A byte of a source, moved out of the line end that it stands in, or that it stands behind at the source's end.
+/// A byte of a source, moved out of the line end that it stands in, or that it stands after at the source's end.
 pub(crate) fn text_place(source: &str, byte: usize) -> usize
     ensures value { result ≡ in_text source.now byte }
     ensures border { IsSpanBorder source.now byte → IsCharBoundary source.now result }
@@ -56,7 +56,7 @@ fn text_end(bytes: &[u8]) -> usize
 /// Whether a byte stands between the carriage return and the line feed of a line end.
 fn is_inside_line_end(bytes: &[u8], at: usize) -> bool
     ensures value { result ≡ is_inside_line_end bytes.now at }
-    ensures behind { result ≡ true → 0 < at }
+    ensures after { result ≡ true → 0 < at }
 {
     0 < at && at < bytes.len() && bytes[at] == b'\n' && bytes[at - 1] == b'\r'
 }
@@ -66,12 +66,12 @@ fn push_with_line_feeds(out: &mut String, text: &str) -> Result<(), AllocError>
     ensures written { IfOk result (λ _. string_bytes out.new ≡ string_bytes out.old ++ with_line_feeds text.now) }
 {
     let mut rest = text;
-    while let Some((front, behind)) = rest.split_once('\r') {
+    while let Some((front, after)) = rest.split_once('\r') {
         out.push_str(front)?;
-        if !behind.starts_with('\n') {
+        if !after.starts_with('\n') {
             out.push('\r')?;
         }
-        rest = behind;
+        rest = after;
     }
     out.push_str(rest)?;
     Ok(())

@@ -10,7 +10,7 @@ use snippet_model::Patch;
 /// The two patches that overlap, if any do, by their numbers in the list from 0: of all such pairs that of the least
 /// first number, and of those that of the least second.
 ///
-/// Two patches overlap where, in the order by start, then end, else as given, the first ends behind the start of the
+/// Two patches overlap where, in the order by start, then end, else as given, the first ends after the start of the
 /// second. It takes no memory; patches that are given in order, and don't overlap, cost one walk.
 pub fn check_patches(source: &str, patches: &[Patch<'_>]) -> Option<(usize, usize)>
     requires spans { All (λ p. IsSpan source.now p.span.start p.span.end) patches.now }

@@ -23,7 +23,7 @@ pub struct TrimmedPatch<'a> {
 
 /// The patches trimmed to what they change, in the order of the untrimmed ones: by start, then end, else as given.
 ///
-/// The one error is want of memory.
+/// The one error is that memory ran out.
 pub fn trimmed_patches<'a>(
     alloc: Global,
     source: &str,
@@ -62,7 +62,7 @@ fn compare_untrimmed(a: &TrimmedPatch<'_>, b: &TrimmedPatch<'_>) -> Ordering
         .then(first.end.cmp(&second.end))
 }
 
-/// A patch trimmed to what it changes. One whose text is empty or whose span reaches behind the source stays.
+/// A patch trimmed to what it changes. One whose text is empty or whose span reaches past the source stays.
 #[tactic(auto, unfolding(crate::specs::Edits::trimmed_edit))]
 fn trim_patch<'a>(source: &str, patch: &'a Patch<'_>) -> TrimmedPatch<'a>
     requires span { IsSpan source.now patch.now.span.start patch.now.span.end }
@@ -80,9 +80,9 @@ fn trim_patch<'a>(source: &str, patch: &'a Patch<'_>) -> TrimmedPatch<'a>
         };
     }
     match as_substr(&source[start..end], replacement) {
-        Some((before, middle, behind)) => TrimmedPatch {
+        Some((before, middle, after)) => TrimmedPatch {
             original_span: start..end,
-            span: start + before..end - behind,
+            span: start + before..end - after,
             replacement: middle,
         },
         None => TrimmedPatch {

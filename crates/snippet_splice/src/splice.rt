@@ -45,7 +45,7 @@ pub struct SplicedLines<'a> {
 ///
 /// Folded it goes from the line on which the first patch starts to the end of the line on which the last one ends, or
 /// to the end of the last trimmed replacement, if that ends with a line feed. Unfolded it is the whole patched source.
-/// Line ends that are copied before the last patch are written as line feeds. The one error is want of memory.
+/// Line ends that are copied before the last patch are written as line feeds. The one error is that memory ran out.
 pub fn spliced_lines<'a>(
     alloc: Global,
     source: &str,
@@ -63,11 +63,11 @@ pub fn spliced_lines<'a>(
     };
     let start = shown_start(source, first.original_span.start, fold);
     let written = write_patches(alloc, source, start, &patches)?;
-    let behind = &source[written.end.min(source.len())..];
-    let rest = shown_rest(behind, fold, closes_line(&patches));
+    let after = &source[written.end.min(source.len())..];
+    let rest = shown_rest(after, fold, closes_line(&patches));
     let complete = shown_text(written.text, rest)?;
     let places = patch_places(alloc, source, start, &patches)?;
-    let more = if fold { 0 } else { line_feed_count(behind) };
+    let more = if fold { 0 } else { line_feed_count(after) };
     let lines = source_lines_shown(source, start, &patches, fold);
     let highlights = new_stretches(alloc, &patches, &places, more)?;
     let replaced_highlights = replaced_stretches(alloc, source, &patches, &places, lines)?;
@@ -120,7 +120,7 @@ fn closes_line(patches: &[TrimmedPatch<'_>]) -> bool
     }
 }
 
-/// What is shown of the source behind the last patch.
+/// What is shown of the source after the last patch.
 fn shown_rest(rest: &str, fold: bool, closed: bool) -> &str
     ensures value { result.now ≡ shown_rest fold closed rest.now }
 {
@@ -143,7 +143,7 @@ fn first_line(text: &str) -> &str
     }
 }
 
-/// What was written with the rest behind it, without the line feeds that end it.
+/// What was written with the rest after it, without the line feeds that end it.
 fn shown_text(front: String, rest: &str) -> Result<String, AllocError>
     ensures value { IfOk result
         (λ t. string_bytes t ≡ without_final_line_feeds (string_bytes front ++ rest.now)) }
@@ -173,7 +173,7 @@ struct Written {
     text: String,
     /// For each patch the lines of the text on which its replacement stands.
     ranges: Vec<LineRange>,
-    /// The byte of the source behind the last patch.
+    /// The byte of the source after the last patch.
     end: usize,
 }
 

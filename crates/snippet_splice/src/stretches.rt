@@ -9,18 +9,18 @@ use std::alloc::{AllocError, Global};
 pub struct SubstitutionHighlight {
     /// The number of its first character, from 0.
     pub start: usize,
-    /// The number of the character behind it.
+    /// The number of the character after it.
     pub end: usize,
 }
 
 /// Where a patch stands in the source, by characters of its lines.
 #[derive(Clone, Copy, Drop)]
-pub(crate) struct PatchPlace {
+pub(crate) struct PatchExtent {
     /// The line feeds between the end of the patch before it, or the beginning, and its start.
     feeds: usize,
     /// The characters of its line before its start.
     text_start: usize,
-    /// The character number of its start: one more where it stands behind the text of its line.
+    /// The character number of its start: one more where it stands after the text of its line.
     start: usize,
     /// The character number of its end.
     end: usize,
@@ -32,17 +32,17 @@ pub(crate) fn patch_places(
     source: &str,
     from: usize,
     patches: &[TrimmedPatch<'_>],
-) -> Result<Vec<PatchPlace>, AllocError> {
+) -> Result<Vec<PatchExtent>, AllocError> {
     let mut places = Vec::new(alloc);
     let mut at = from;
     let mut chars = 0;
     for patch in patches {
         let between = text_between(source, at, patch.span.start);
-        let text_start = chars_behind(chars, between);
+        let text_start = chars_after(chars, between);
         let inside = text_between(source, patch.span.start, patch.span.end);
-        chars = chars_behind(text_start, inside);
-        let start = text_start.saturating_add(steps_behind_text(source, patch.span.start));
-        places.push(PatchPlace {
+        chars = chars_after(text_start, inside);
+        let start = text_start.saturating_add(steps_after_text(source, patch.span.start));
+        places.push(PatchExtent {
             feeds: line_feed_count(between),
             text_start,
             start,
@@ -54,13 +54,13 @@ pub(crate) fn patch_places(
 }
 
 /// The character number of a patch's end: that of its start if its span is empty, and one more where it ends on a later
-/// line, behind the text of that.
+/// line, after the text of that.
 fn end_char(source: &str, patch: &TrimmedPatch<'_>, start: usize, chars: usize) -> usize {
     if patch.span.start == patch.span.end {
         return start;
     }
     if text_between(source, patch.span.start, patch.span.end).contains('\n') {
-        chars.saturating_add(steps_behind_text(source, patch.span.end))
+        chars.saturating_add(steps_after_text(source, patch.span.end))
     } else {
         chars
     }
@@ -73,13 +73,13 @@ fn text_between<'a>(source: &'a str, from: usize, to: usize) -> &'a str {
         .unwrap_or("")
 }
 
-/// 1 where a byte stands behind the text of its line, else 0.
-fn steps_behind_text(source: &str, byte: usize) -> usize {
+/// 1 where a byte stands after the text of its line, else 0.
+fn steps_after_text(source: &str, byte: usize) -> usize {
     usize::from(text_place(source, byte) < byte)
 }
 
 /// The characters of a line before the end of a text, if so many stand before its beginning.
-fn chars_behind(before: usize, text: &str) -> usize {
+fn chars_after(before: usize, text: &str) -> usize {
     match text.rsplit_once('\n') {
         Some((_, line)) => line.chars().count(),
         None => before.saturating_add(text.chars().count()),
@@ -90,7 +90,7 @@ fn chars_behind(before: usize, text: &str) -> usize {
 pub(crate) fn new_stretches(
     alloc: Global,
     patches: &[TrimmedPatch<'_>],
-    places: &[PatchPlace],
+    places: &[PatchExtent],
     feeds: usize,
 ) -> Result<Vec<Vec<SubstitutionHighlight>>, AllocError> {
     let mut lines = Vec::new(alloc);
@@ -182,7 +182,7 @@ pub(crate) fn replaced_stretches(
     alloc: Global,
     source: &str,
     patches: &[TrimmedPatch<'_>],
-    places: &[PatchPlace],
+    places: &[PatchExtent],
     count: usize,
 ) -> Result<Vec<Vec<SubstitutionHighlight>>, AllocError> {
     let mut lines = Vec::new(alloc);
@@ -203,21 +203,21 @@ fn push_replaced(
     alloc: Global,
     lines: &mut Vec<Vec<SubstitutionHighlight>>,
     line: usize,
-    place: PatchPlace,
+    place: PatchExtent,
     inside: &str,
 ) -> Result<(), AllocError> {
     let mut start = place.start;
     let mut before = place.text_start;
     let mut line = line;
     let mut rest = inside;
-    while let Some((piece, behind)) = rest.split_once('\n') {
+    while let Some((piece, after)) = rest.split_once('\n') {
         let text = piece.strip_suffix('\r').unwrap_or(piece);
         let end = before.saturating_add(text.chars().count());
         push_stretch(alloc, lines, line, SubstitutionHighlight { start, end })?;
         start = 0;
         before = 0;
         line = line.saturating_add(1);
-        rest = behind;
+        rest = after;
     }
     let end = place.end;
     push_stretch(alloc, lines, line, SubstitutionHighlight { start, end })

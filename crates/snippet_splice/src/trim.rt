@@ -12,8 +12,8 @@ ghost use Rattle.snippet_splice.specs.Trim.{IsSandwiched, IsSandwich, sandwich};
 /// with it, else its beginning is as long as can be. `AABBCC` in place of `AACC` is `Some((2, "BB", 2))`.
 pub fn as_substr<'a>(original: &str, replacement: &'a str) -> Option<(usize, &'a str, usize)>
     ensures some { IfSome result (λ t. IsSandwich original.now replacement.now t.0 t.1.now t.2) }
-    ensures none { IfNone result ((before : ℕ) (middle : List ℕ) (behind : ℕ)
-        → IsSandwiched original.now replacement.now before middle behind → ⊥) }
+    ensures none { IfNone result ((before : ℕ) (middle : List ℕ) (after : ℕ)
+        → IsSandwiched original.now replacement.now before middle after → ⊥) }
     ensures value { option_map (λ t. (t.0, t.1.now, t.2)) result ≡ sandwich original.now replacement.now }
 {
     if let Some(middle) = replacement.strip_prefix(original) {

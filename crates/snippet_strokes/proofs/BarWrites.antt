@@ -6,7 +6,7 @@ use Rattle.std.proofs.lemmas.List.FromFn.{get_or-range_with_len, length-range_wi
 use Rattle.snippet_grid.specs.Grid.{WritesCells, cells_written}
 use Rattle.snippet_grid.proofs.GridLemmas.{WritesCells-cells_written}
 use Rattle.snippet_model.specs.AnnotationKind.{is_primary}
-use Rattle.snippet_style.specs.Cell.{Cell, drawn, unlinked_cell}
+use Rattle.snippet_style.specs.Cell.{Cell, text_cells, unlinked_cell}
 use Rattle.snippet_style.specs.Glyphs.{glyph_of}
 use Rattle.snippet_style.specs.declared.glyphs.DecorStyle.{DecorStyle}
 use Rattle.snippet_style.specs.declared.role.ElementStyle.{ElementStyle}
@@ -16,25 +16,25 @@ use Rattle.snippet_view.specs.declared.entries.LineAnnotationType.{LineAnnotatio
 use Rattle.snippet_view.specs.declared.entries.LineAnnotationType.TheVariants.{Singleline, MultilineStart, MultilineEnd, MultilineLine}
 use Rattle.snippet_strokes.specs.declared.layout.Layout.{Layout}
 use Rattle.snippet_strokes.specs.declared.positions.PlacedEntry.{PlacedEntry}
-use Rattle.snippet_strokes.specs.Entries.{HasRail, HasRailAt, IsRailCell, is_single}
-use Rattle.snippet_strokes.specs.Painting.{DrawsRails, HasRows, KeepsRails}
+use Rattle.snippet_strokes.specs.Entries.{HasBarCell, HasBarCellAt, IsBarCell, is_single}
+use Rattle.snippet_strokes.specs.Painting.{DrawsBarCells, HasRows, KeepsBarCells}
 use Rattle.snippet_strokes.specs.Strokes.{bar_of, bottom_of, connector_by, connector_of, connectors_of, corner_by, corner_of, corners_of, line_to, stroke_role, top_of}
 use Rattle.snippet_strokes.specs.Writes.{IsWithin, Write, column_of, glyph_at, painted, stretch_of, written_by}
-use Rattle.snippet_strokes.proofs.DrawLemmas.{DrawsRails-more, DrawsRails-none, DrawsRails-writes, free_rail, rail_bottom, rail_horizontal, rail_top, rail_vertical}
+use Rattle.snippet_strokes.proofs.DrawLemmas.{DrawsBarCells-more, DrawsBarCells-none, DrawsBarCells-writes, free_bar, bar_bottom, bar_horizontal, bar_top, bar_vertical}
 use Rattle.snippet_strokes.proofs.WriteLaws.{All-flat_map, flat_map-none, painted-cell}
 use Rattle.snippet_strokes.proofs.WriteLemmas.{column_of-none, column_painted, painted-append}
 
 -- each character of a write is a part of a bar
-abbrev pub IsRailWrite : DecorStyle → Write → Type 0
-IsRailWrite decor w = All (λ ch. IsRailCell decor (unlinked_cell w.role ch)) w.text
+abbrev pub IsBarCellWrite : DecorStyle → Write → Type 0
+IsBarCellWrite decor w = All (λ ch. IsBarCell decor (unlinked_cell w.role ch)) w.text
 
 -- such writes leave nothing else left of the code
-pub KeepsRails-painted : (layout : Layout) (ws : List Write) (rows : List (List Cell)) → All (IsRailWrite layout.decor) ws → KeepsRails layout rows (painted ws rows)
-KeepsRails-painted layout ws rows rails r c left before =
-    let R : Cell → Type 0 = IsRailCell layout.decor in
+pub KeepsBarCells-painted : (layout : Layout) (ws : List Write) (rows : List (List Cell)) → All (IsBarCellWrite layout.decor) ws → KeepsBarCells layout rows (painted ws rows)
+KeepsBarCells-painted layout ws rows bar_cells r c left before =
+    let R : Cell → Type 0 = IsBarCell layout.decor in
     painted-cell R ws rows r c before (λ k d within there.
     let w : Write = get_or ws k d in
-    rails k d within (c - w.cell) 0 (omega (arith, there.from, there.to)))
+    bar_cells k d within (c - w.cell) 0 (omega (arith, there.from, there.to)))
 
 -- ---- lines to bars
 
@@ -71,20 +71,20 @@ connectors_within layout row count es rows =
       below = omega arith;
       there = (rows k d within).mark;
       right = omega arith;
-      free = All-replicate P (to - (layout.gutter + 3 + depth)) glyph (free_rail layout.decor (unlinked_cell (stroke_role e) glyph) (rail_horizontal layout.decor primary (stroke_role e) glyph refl)).0;
+      free = All-replicate P (to - (layout.gutter + 3 + depth)) glyph (free_bar layout.decor (unlinked_cell (stroke_role e) glyph) (bar_horizontal layout.decor primary (stroke_role e) glyph refl)).0;
     })))
 
 -- each is a part of a bar
-pub connectors_rails : (layout : Layout) (row : ℕ) (es : List PlacedEntry) → All (IsRailWrite layout.decor) (connectors_of layout row es)
-connectors_rails layout row es =
-    let R : Write → Type 0 = IsRailWrite layout.decor in
+pub connectors_bar_cells : (layout : Layout) (row : ℕ) (es : List PlacedEntry) → All (IsBarCellWrite layout.decor) (connectors_of layout row es)
+connectors_bar_cells layout row es =
+    let R : Write → Type 0 = IsBarCellWrite layout.decor in
     All-flat_map R (connector_of layout row) es (λ k d within.
     let e : PlacedEntry = get_or es k d in
     let primary = is_primary e.entry.kind in
     let glyph : ℕ = glyph_of layout.decor primary 95 95 0x2501 0x2500 in
     let to = layout.code + e.entry.start.display in
-    let P : ℕ → Type 0 = λ ch. IsRailCell layout.decor (unlinked_cell (stroke_role e) ch) in
-    All-connector_of R layout row e (λ depth. All-stretch_of R (row + e.position) (layout.gutter + 3 + depth) to glyph (stroke_role e) (All-replicate P (to - (layout.gutter + 3 + depth)) glyph (rail_horizontal layout.decor primary (stroke_role e) glyph refl))))
+    let P : ℕ → Type 0 = λ ch. IsBarCell layout.decor (unlinked_cell (stroke_role e) ch) in
+    All-connector_of R layout row e (λ depth. All-stretch_of R (row + e.position) (layout.gutter + 3 + depth) to glyph (stroke_role e) (All-replicate P (to - (layout.gutter + 3 + depth)) glyph (bar_horizontal layout.decor primary (stroke_role e) glyph refl))))
 
 -- where all entries stand for whole spans there are none
 pub connectors_none : (layout : Layout) (row : ℕ) (es : List PlacedEntry) → All (λ e. is_single e.entry ≡ true) es → connectors_of layout row es ≡ []
@@ -114,19 +114,19 @@ pub record IsBarWrite (layout : Layout) (row count : ℕ) (w : Write) : Type 0 w
   pub left : w.cell < layout.code
   pub ch : ℕ
   pub one : w.text ≡ ch ∷ []
-  pub rail : IsRailCell layout.decor (unlinked_cell w.role ch)
+  pub bar_cell : IsBarCell layout.decor (unlinked_cell w.role ch)
 
-pub DrawsRails-painted : (layout : Layout) (row count : ℕ) (ws : List Write) (old : List (List Cell)) → count ≡ length old → All (IsBarWrite layout row count) ws → DrawsRails layout row old (painted ws old)
-DrawsRails-painted layout row count [] old is all = DrawsRails-none layout row old
-DrawsRails-painted layout row count (w ∷ ws) old is all =
+pub DrawsBarCells-painted : (layout : Layout) (row count : ℕ) (ws : List Write) (old : List (List Cell)) → count ≡ length old → All (IsBarWrite layout row count) ws → DrawsBarCells layout row old (painted ws old)
+DrawsBarCells-painted layout row count [] old is all = DrawsBarCells-none layout row old
+DrawsBarCells-painted layout row count (w ∷ ws) old is all =
     let B : Write → Type 0 = IsBarWrite layout row count in
     let bar : B w = All-head B w ws all in
     let mid : List (List Cell) = written_by old w in
     let cell : Cell = unlinked_cell w.role bar.ch in
-    let writes : WritesCells old mid w.row w.cell (drawn w.role w.text) = WritesCells-cells_written old w.row w.cell (drawn w.role w.text) in
+    let writes : WritesCells old mid w.row w.cell (text_cells w.role w.text) = WritesCells-cells_written old w.row w.cell (text_cells w.role w.text) in
     let there : w.row < length old = omega (arith, bar.there, is) in
     let same : count ≡ length mid = omega (arith, writes.count, there, is) in
-    DrawsRails-more layout row old mid (painted ws mid) (DrawsRails-writes layout row w.row w.cell old mid cell (subst (WritesCells old mid w.row w.cell) (ap (drawn w.role) bar.one) writes) bar.below there bar.right bar.left bar.rail) (DrawsRails-painted layout row count ws mid same (All-tail B w ws all))
+    DrawsBarCells-more layout row old mid (painted ws mid) (DrawsBarCells-writes layout row w.row w.cell old mid cell (subst (WritesCells old mid w.row w.cell) (ap (text_cells w.role) bar.one) writes) bar.below there bar.right bar.left bar.bar_cell) (DrawsBarCells-painted layout row count ws mid same (All-tail B w ws all))
 
 -- what holds of each glyph of a column
 All-column_of : (P : Write → Type 0) (start end cell glyph : ℕ) (role : ElementStyle) → ((r : ℕ) → start ≤ r → r < end → P (glyph_at r cell glyph role)) → All P (column_of start end cell glyph role)
@@ -137,9 +137,9 @@ All-column_of P start end cell glyph role holds =
     subst (λ n. P (f n)) (sym (get_or-range_with_len start (end - start) k d inside)) (holds (start + k) (omega arith) (omega (arith, inside))))
 
 -- bars and corners are such glyphs
-pub corners_bars : (layout : Layout) (row count : ℕ) (es : List PlacedEntry) → All (λ e. HasRail layout e.entry) es → All (HasRows (row + 1) count) es → All (IsBarWrite layout row count) (corners_of layout row count es)
-corners_bars layout row count es rails rows =
-    All-flat_map (IsBarWrite layout row count) (corner_of layout row count) es (λ k d within. by_part (get_or es k d) (rows k d within) (get_or es k d).entry.annotation_type (rails k d within))
+pub corners_bars : (layout : Layout) (row count : ℕ) (es : List PlacedEntry) → All (λ e. HasBarCell layout e.entry) es → All (HasRows (row + 1) count) es → All (IsBarWrite layout row count) (corners_of layout row count es)
+corners_bars layout row count es bar_cells rows =
+    All-flat_map (IsBarWrite layout row count) (corner_of layout row count) es (λ k d within. by_part (get_or es k d) (rows k d within) (get_or es k d).entry.annotation_type (bar_cells k d within))
   where
     B : Write → Type 0
     B = IsBarWrite layout row count
@@ -155,38 +155,38 @@ corners_bars layout row count es rails rows =
           left = omega (arith, room);
           ch = glyph;
           one = refl;
-          rail = rail_vertical layout.decor primary (stroke_role e) glyph refl;
+          bar_cell = bar_vertical layout.decor primary (stroke_role e) glyph refl;
         })
 
-    by_part : (e : PlacedEntry) → HasRows (row + 1) count e → (part : LineAnnotationType) → HasRailAt layout part → All B (corner_by layout row count e part)
-    by_part e has Singleline rail = All-nil B
-    by_part e has (MultilineStart depth) rail =
+    by_part : (e : PlacedEntry) → HasRows (row + 1) count e → (part : LineAnnotationType) → HasBarCellAt layout part → All B (corner_by layout row count e part)
+    by_part e has Singleline bar_cell = All-nil B
+    by_part e has (MultilineStart depth) bar_cell =
         let primary = is_primary e.entry.kind in
         let glyph : ℕ = glyph_of layout.decor primary 32 32 0x250F 0x250C in
         let corner = row + 1 + e.position in
         All-cons B (glyph_at corner (layout.gutter + 2 + depth) glyph (stroke_role e)) (bar_of layout e depth (corner + 1) count) (record {
           below = omega arith;
           there = has.mark;
-          right = omega (arith, rail.0);
-          left = omega (arith, rail.1);
+          right = omega (arith, bar_cell.0);
+          left = omega (arith, bar_cell.1);
           ch = glyph;
           one = refl;
-          rail = rail_top layout.decor primary (stroke_role e) glyph refl;
-        }) (bar e depth (corner + 1) count rail.0 rail.1 (omega arith) (omega arith))
-    by_part e has (MultilineEnd depth) rail =
+          bar_cell = bar_top layout.decor primary (stroke_role e) glyph refl;
+        }) (bar e depth (corner + 1) count bar_cell.0 bar_cell.1 (omega arith) (omega arith))
+    by_part e has (MultilineEnd depth) bar_cell =
         let primary = is_primary e.entry.kind in
         let glyph : ℕ = glyph_of layout.decor primary 124 124 0x2517 0x2514 in
         let corner = row + 1 + e.position in
-        All-append B (bar_of layout e depth row corner) (glyph_at corner (layout.gutter + 2 + depth) glyph (stroke_role e) ∷ []) (bar e depth row corner rail.0 rail.1 (omega arith) (omega (arith, has.mark))) (All-cons B (glyph_at corner (layout.gutter + 2 + depth) glyph (stroke_role e)) [] (record {
+        All-append B (bar_of layout e depth row corner) (glyph_at corner (layout.gutter + 2 + depth) glyph (stroke_role e) ∷ []) (bar e depth row corner bar_cell.0 bar_cell.1 (omega arith) (omega (arith, has.mark))) (All-cons B (glyph_at corner (layout.gutter + 2 + depth) glyph (stroke_role e)) [] (record {
           below = omega arith;
           there = has.mark;
-          right = omega (arith, rail.0);
-          left = omega (arith, rail.1);
+          right = omega (arith, bar_cell.0);
+          left = omega (arith, bar_cell.1);
           ch = glyph;
           one = refl;
-          rail = rail_bottom layout.decor primary (stroke_role e) glyph refl;
+          bar_cell = bar_bottom layout.decor primary (stroke_role e) glyph refl;
         }) (All-nil B))
-    by_part e has (MultilineLine depth) rail = All-nil B
+    by_part e has (MultilineLine depth) bar_cell = All-nil B
 
 -- where all entries stand for whole spans there are none
 pub corners_none : (layout : Layout) (row count : ℕ) (es : List PlacedEntry) → All (λ e. is_single e.entry ≡ true) es → corners_of layout row count es ≡ []
@@ -200,11 +200,11 @@ corners_none layout row count es single =
     by_part e (MultilineLine depth) is = refl
 
 -- a bar grows by a row, in the glyph and in the role of its entry
-pub bar_painted : (layout : Layout) (e : PlacedEntry) (depth start row glyph : ℕ) (role : ElementStyle) (old mid new : List (List Cell)) → glyph ≡ glyph_of layout.decor (is_primary e.entry.kind) 124 124 0x2503 0x2502 → role ≡ stroke_role e → start ≤ row → mid ≡ painted (bar_of layout e depth start row) old → new ≡ cells_written mid row (layout.gutter + 2 + depth) (drawn role (glyph ∷ [])) → new ≡ painted (bar_of layout e depth start (row + 1)) old
+pub bar_painted : (layout : Layout) (e : PlacedEntry) (depth start row glyph : ℕ) (role : ElementStyle) (old mid new : List (List Cell)) → glyph ≡ glyph_of layout.decor (is_primary e.entry.kind) 124 124 0x2503 0x2502 → role ≡ stroke_role e → start ≤ row → mid ≡ painted (bar_of layout e depth start row) old → new ≡ cells_written mid row (layout.gutter + 2 + depth) (text_cells role (glyph ∷ [])) → new ≡ painted (bar_of layout e depth start (row + 1)) old
 bar_painted layout e depth start row glyph role old mid new is_glyph is_role below so_far writes =
     let line : ℕ = glyph_of layout.decor (is_primary e.entry.kind) 124 124 0x2503 0x2502 in
     let cell = layout.gutter + 2 + depth in
-    column_painted start row cell line (stroke_role e) old mid new below so_far (writes ∙ ap (λ g. cells_written mid row cell (drawn role (g ∷ []))) is_glyph ∙ ap (λ r. cells_written mid row cell (drawn r (line ∷ []))) is_role)
+    column_painted start row cell line (stroke_role e) old mid new below so_far (writes ∙ ap (λ g. cells_written mid row cell (text_cells role (g ∷ []))) is_glyph ∙ ap (λ r. cells_written mid row cell (text_cells r (line ∷ []))) is_role)
 
 -- a bar with no rows is no write
 pub bar_of-none : (layout : Layout) (e : PlacedEntry) (depth start : ℕ) → bar_of layout e depth start start ≡ []
@@ -212,17 +212,17 @@ bar_of-none layout e depth start =
     column_of-none start (layout.gutter + 2 + depth) (glyph_of layout.decor (is_primary e.entry.kind) 124 124 0x2503 0x2502) (stroke_role e)
 
 -- the corner of a start, and the bar below it
-pub top_painted : (layout : Layout) (row count : ℕ) (e : PlacedEntry) (depth end glyph : ℕ) (role : ElementStyle) (old mid new : List (List Cell)) → glyph ≡ glyph_of layout.decor (is_primary e.entry.kind) 32 32 0x250F 0x250C → role ≡ stroke_role e → end ≡ count → mid ≡ cells_written old (row + 1 + e.position) (layout.gutter + 2 + depth) (drawn role (glyph ∷ [])) → new ≡ painted (bar_of layout e depth (row + 1 + e.position + 1) end) mid → new ≡ painted (top_of layout row count e depth) old
-top_painted layout row count e depth end glyph role old mid new is_glyph is_role is_end begins goes_on =
+pub top_painted : (layout : Layout) (row count : ℕ) (e : PlacedEntry) (depth end glyph : ℕ) (role : ElementStyle) (old mid new : List (List Cell)) → glyph ≡ glyph_of layout.decor (is_primary e.entry.kind) 32 32 0x250F 0x250C → role ≡ stroke_role e → end ≡ count → mid ≡ cells_written old (row + 1 + e.position) (layout.gutter + 2 + depth) (text_cells role (glyph ∷ [])) → new ≡ painted (bar_of layout e depth (row + 1 + e.position + 1) end) mid → new ≡ painted (top_of layout row count e depth) old
+top_painted layout row count e depth end glyph role old mid new is_glyph is_role is_end begins continues =
     let corner = row + 1 + e.position in
     let cell = layout.gutter + 2 + depth in
-    goes_on ∙ ap (λ n. painted (bar_of layout e depth (corner + 1) n) mid) is_end ∙ ap (painted (bar_of layout e depth (corner + 1) count)) (begins ∙ ap (λ g. cells_written old corner cell (drawn role (g ∷ []))) is_glyph ∙ ap (λ r. cells_written old corner cell (drawn r (glyph_of layout.decor (is_primary e.entry.kind) 32 32 0x250F 0x250C ∷ []))) is_role)
+    continues ∙ ap (λ n. painted (bar_of layout e depth (corner + 1) n) mid) is_end ∙ ap (painted (bar_of layout e depth (corner + 1) count)) (begins ∙ ap (λ g. cells_written old corner cell (text_cells role (g ∷ []))) is_glyph ∙ ap (λ r. cells_written old corner cell (text_cells r (glyph_of layout.decor (is_primary e.entry.kind) 32 32 0x250F 0x250C ∷ []))) is_role)
 
 -- the bar of an end, and the corner below it
-pub bottom_painted : (layout : Layout) (row : ℕ) (e : PlacedEntry) (depth glyph : ℕ) (role : ElementStyle) (old mid new : List (List Cell)) → glyph ≡ glyph_of layout.decor (is_primary e.entry.kind) 124 124 0x2517 0x2514 → role ≡ stroke_role e → mid ≡ painted (bar_of layout e depth row (row + 1 + e.position)) old → new ≡ cells_written mid (row + 1 + e.position) (layout.gutter + 2 + depth) (drawn role (glyph ∷ [])) → new ≡ painted (bottom_of layout row e depth) old
+pub bottom_painted : (layout : Layout) (row : ℕ) (e : PlacedEntry) (depth glyph : ℕ) (role : ElementStyle) (old mid new : List (List Cell)) → glyph ≡ glyph_of layout.decor (is_primary e.entry.kind) 124 124 0x2517 0x2514 → role ≡ stroke_role e → mid ≡ painted (bar_of layout e depth row (row + 1 + e.position)) old → new ≡ cells_written mid (row + 1 + e.position) (layout.gutter + 2 + depth) (text_cells role (glyph ∷ [])) → new ≡ painted (bottom_of layout row e depth) old
 bottom_painted layout row e depth glyph role old mid new is_glyph is_role begins ends =
     let corner = row + 1 + e.position in
     let cell = layout.gutter + 2 + depth in
     let last : ℕ = glyph_of layout.decor (is_primary e.entry.kind) 124 124 0x2517 0x2514 in
     let w : Write = glyph_at corner cell last (stroke_role e) in
-    ends ∙ ap (λ g. cells_written mid corner cell (drawn role (g ∷ []))) is_glyph ∙ ap (λ r. cells_written mid corner cell (drawn r (last ∷ []))) is_role ∙ ap (λ rows. written_by rows w) begins ∙ sym (painted-append (bar_of layout e depth row corner) (w ∷ []) old)
+    ends ∙ ap (λ g. cells_written mid corner cell (text_cells role (g ∷ []))) is_glyph ∙ ap (λ r. cells_written mid corner cell (text_cells r (last ∷ []))) is_role ∙ ap (λ rows. written_by rows w) begins ∙ sym (painted-append (bar_of layout e depth row corner) (w ∷ []) old)

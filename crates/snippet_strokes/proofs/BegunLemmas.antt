@@ -18,7 +18,7 @@ use Rattle.snippet_style.specs.Cell.{Cell, SPACE, written}
 use Rattle.snippet_style.proofs.CellLemmas.{take-written_past, drop-written}
 use Rattle.snippet_strokes.specs.declared.layout.Layout.{Layout}
 use Rattle.snippet_strokes.specs.declared.positions.PlacedEntry.{PlacedEntry}
-use Rattle.snippet_strokes.specs.Entries.{IsRailCell, are_plain, has_column, is_single, wide_entries}
+use Rattle.snippet_strokes.specs.Entries.{IsBarCell, are_plain, has_column, is_single, wide_entries}
 use Rattle.snippet_model.specs.Rows.{IsFreeCell}
 use Rattle.snippet_strokes.specs.Painting.{HasRows}
 use Rattle.snippet_strokes.specs.Positions.{row_count}
@@ -46,7 +46,7 @@ begun_row layout closes old begun count k begins within =
       | inl here ↦
           last (bare_row layout.decor layout.gutter closes) (separator_row layout.decor layout.gutter) here ∙ ap (bare_row layout.decor layout.gutter) (sym (ap (λ b. closes && b) (is_last here) ∙ and_true closes))
       | inr other ↦
-          behind (bare_row layout.decor layout.gutter closes) (separator_row layout.decor layout.gutter) (omega (arith, within, other)) ∙ ap (bare_row layout.decor layout.gutter) (sym (ap (λ b. closes && b) (not_last other) ∙ and_false closes))
+          after (bare_row layout.decor layout.gutter closes) (separator_row layout.decor layout.gutter) (omega (arith, within, other)) ∙ ap (bare_row layout.decor layout.gutter) (sym (ap (λ b. closes && b) (not_last other) ∙ and_false closes))
     ]
   where
     last : (end sep : List Cell) → k + 1 ≡ count → row_at (old ++ replicate (count - 1) sep ++ end ∷ []) (length old + k) ≡ end
@@ -54,8 +54,8 @@ begun_row layout closes old begun count k begins within =
         let same : length old + (count - 1) ≡ length old + k = omega (arith, here) in
         get_or_push (old ++ replicate (count - 1) sep) end [] (length old + k) (length-append old (replicate (count - 1) sep) ∙ ap (λ n. length old + n) (length-replicate (count - 1) sep) ∙ same)
 
-    behind : (end sep : List Cell) → k < count - 1 → row_at (old ++ replicate (count - 1) sep ++ end ∷ []) (length old + k) ≡ sep
-    behind end sep before =
+    after : (end sep : List Cell) → k < count - 1 → row_at (old ++ replicate (count - 1) sep ++ end ∷ []) (length old + k) ≡ sep
+    after end sep before =
         let inner : row_at (old ++ replicate (count - 1) sep) (length old + k) ≡ sep = grind (arith, places, get_or-replicate (count - 1) k sep [] before) in
         get_or_append_left (old ++ replicate (count - 1) sep) (end ∷ []) [] (length old + k) (omega (arith, length-append old (replicate (count - 1) sep), length-replicate (count - 1) sep, before)) ∙ inner
 
@@ -73,7 +73,7 @@ begun_row layout closes old begun count k begins within =
     and_false true = refl
     and_false false = refl
 
--- behind a short row, the cells that are written and the space before them
+-- after a short row, the cells that are written and the space before them
 pub written_far : (row cells : List Cell) (at : ℕ) → length row ≤ at → drop at (written SPACE row (at + 1) cells) ≡ SPACE ∷ cells
 written_far row cells at short =
     let whole : List Cell = written SPACE row (at + 1) cells in
@@ -86,11 +86,11 @@ written_far row cells at short =
     ap (λ n. drop n whole) (sym long) ∙ ap (drop (length pad)) all ∙ drop-append_seam pad (SPACE ∷ cells)
 
 -- two rows that are as long and agree from a cell on
-pub same_behind : (xs ys : List Cell) (at : ℕ) → length xs ≡ length ys → ((c : ℕ) → at ≤ c → slice_index_or xs c SPACE ≡ slice_index_or ys c SPACE) → drop at xs ≡ drop at ys
-same_behind xs ys at long same =
+pub same_after : (xs ys : List Cell) (at : ℕ) → length xs ≡ length ys → ((c : ℕ) → at ≤ c → slice_index_or xs c SPACE ≡ slice_index_or ys c SPACE) → drop at xs ≡ drop at ys
+same_after xs ys at long same =
     ext_get_or SPACE (drop at xs) (drop at ys) (grind (arith, places)) (λ k within. get_or-drop at xs k SPACE ∙ same (at + k) (omega arith) ∙ sym (get_or-drop at ys k SPACE))
 
--- a cell of a row that is free, and the space behind it
+-- a cell of a row that is free, and the space after it
 pub free_cell : (row : List Cell) → IsFree row → (c : ℕ) → IsFreeCell (slice_index_or row c SPACE)
 free_cell row free c =
     let P : Cell → Type 0 = IsFreeCell in
@@ -140,7 +140,7 @@ pub IsStrokeRow-cut : (layout : Layout) (wide : ℕ) (plain : Bool) (es : List L
 IsStrokeRow-cut layout wide plain es closes whole row place narrow is cut =
     record {
       left = λ c before. cut_left layout wide whole row cut c (omega (arith, before, place)) ∙ is.left c before;
-      rails = λ c right before. subst (IsRailCell layout.decor) (sym (cut_left layout wide whole row cut c before)) (is.rails c right before);
+      bar_cells = λ c right before. subst (IsBarCell layout.decor) (sym (cut_left layout wide whole row cut c before)) (is.bar_cells c right before);
       before = λ flat c from right before all. ap (λ cells. slice_index_or cells c SPACE) (cut.uncut (narrow flat)) ∙ is.before flat c from right before all;
       free = cut.free is.free;
     }

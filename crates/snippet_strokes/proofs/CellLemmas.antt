@@ -15,10 +15,10 @@ use Rattle.snippet_style.specs.declared.role.ElementStyle.{ElementStyle}
 use Rattle.snippet_style.specs.declared.role.ElementStyle.TheVariants.{LineNumber, Quotation}
 use Rattle.snippet_style.specs.Glyphs.{placeholder_of}
 use Rattle.snippet_grid.specs.Grid.{cells_written}
-use Rattle.snippet_style.specs.Cell.{Cell, SPACE, drawn, written}
+use Rattle.snippet_style.specs.Cell.{Cell, SPACE, text_cells, written}
 use Rattle.snippet_grid.specs.Print.{row_text}
 use Rattle.snippet_grid.proofs.GridLemmas.{cells_written_last}
-use Rattle.snippet_style.proofs.CellLemmas.{length-drawn, length-written}
+use Rattle.snippet_style.proofs.CellLemmas.{length-text_cells, length-written}
 use Rattle.snippet_text.specs.Normalized.{is_listed}
 use Rattle.snippet_model.specs.Rows.{IsFree}
 use Rattle.snippet_strokes.specs.Rows.{begun_cells, ended_cells, shown_cells, window_cells, with_cells}
@@ -26,7 +26,7 @@ use Rattle.snippet_strokes.proofs.DrawLemmas.{free_drawn}
 use Rattle.snippet_strokes.proofs.RowLemmas.{free_written}
 use Rattle.snippet_strokes.proofs.TextLemmas.{chars_some}
 
--- the cells that are written from a cell on, behind those that stand there
+-- the cells that are written from a cell on, after those that stand there
 abbrev pub put : ℕ → List Cell → List Cell → List Cell
 put k cells [] = cells
 put k cells (y ∷ ys) = written SPACE cells k (y ∷ ys)
@@ -35,9 +35,9 @@ with_cells-some : (code : ℕ) (cells row : List Cell) → 0 < length cells → 
 with_cells-some code [] row some = absurd (omega arith)
 with_cells-some code (c ∷ cells) row some = refl
 
--- writing behind a row that has some cells from `code` on
-written_behind : (code k : ℕ) (cells row ys : List Cell) → length row ≤ code → 0 < length cells → written SPACE (written SPACE row code cells) (code + k) ys ≡ written SPACE row code (written SPACE cells k ys)
-written_behind code k cells row ys ends some =
+-- writing after a row that has some cells from `code` on
+written_after : (code k : ℕ) (cells row ys : List Cell) → length row ≤ code → 0 < length cells → written SPACE (written SPACE row code cells) (code + k) ys ≡ written SPACE row code (written SPACE cells k ys)
+written_after code k cells row ys ends some =
     same_lists _ _ (unfold written in grind (arith, places)) (λ i d h. unfold written in grind (arith, places))
 
 written_first : (code k : ℕ) (row ys : List Cell) → length row ≤ code → written SPACE row (code + k) ys ≡ written SPACE row code (written SPACE [] k ys)
@@ -49,39 +49,39 @@ put_more : (code k : ℕ) (cells row : List Cell) (y : Cell) (ys : List Cell) �
 put_more code k [] row y ys ends =
     written_first code k row (y ∷ ys) ends ∙ sym (with_cells-some code (written SPACE [] k (y ∷ ys)) row (omega (arith, length-written SPACE [] k (y ∷ ys))))
 put_more code k (c ∷ cells) row y ys ends =
-    written_behind code k (c ∷ cells) row (y ∷ ys) ends (omega arith) ∙ sym (with_cells-some code (written SPACE (c ∷ cells) k (y ∷ ys)) row (omega (arith, length-written SPACE (c ∷ cells) k (y ∷ ys))))
+    written_after code k (c ∷ cells) row (y ∷ ys) ends (omega arith) ∙ sym (with_cells-some code (written SPACE (c ∷ cells) k (y ∷ ys)) row (omega (arith, length-written SPACE (c ∷ cells) k (y ∷ ys))))
 
--- a text that is put behind the cells of the last row
-pub put_text : (above mid new : List (List Cell)) (cells row : List Cell) (r code k : ℕ) (bytes : List ℕ) (role : ElementStyle) → IsUtf8 bytes → length row ≤ code → mid ≡ above ++ with_cells code cells row ∷ [] → r ≡ length above → (0 < length bytes → new ≡ cells_written mid r (code + k) (drawn role (chars bytes))) → (bytes ≡ [] → new ≡ mid) → new ≡ above ++ with_cells code (put k cells (drawn role (chars bytes))) row ∷ []
+-- a text that is put after the cells of the last row
+pub put_text : (above mid new : List (List Cell)) (cells row : List Cell) (r code k : ℕ) (bytes : List ℕ) (role : ElementStyle) → IsUtf8 bytes → length row ≤ code → mid ≡ above ++ with_cells code cells row ∷ [] → r ≡ length above → (0 < length bytes → new ≡ cells_written mid r (code + k) (text_cells role (chars bytes))) → (bytes ≡ [] → new ≡ mid) → new ≡ above ++ with_cells code (put k cells (text_cells role (chars bytes))) row ∷ []
 put_text above mid new cells row r code k [] role utf8 ends before last writes stays =
-    stays refl ∙ before ∙ ap (λ cs. above ++ with_cells code (put k cells (drawn role cs)) row ∷ []) (sym chars-nil)
+    stays refl ∙ before ∙ ap (λ cs. above ++ with_cells code (put k cells (text_cells role cs)) row ∷ []) (sym chars-nil)
 put_text above mid new cells row r code k (b ∷ bs) role utf8 ends before last writes stays =
     some (chars (b ∷ bs)) (chars_some (b ∷ bs) utf8 (omega arith)) (writes (omega arith))
   where
-    some : (cs : List ℕ) → 0 < length cs → new ≡ cells_written mid r (code + k) (drawn role cs) → new ≡ above ++ with_cells code (put k cells (drawn role cs)) row ∷ []
+    some : (cs : List ℕ) → 0 < length cs → new ≡ cells_written mid r (code + k) (text_cells role cs) → new ≡ above ++ with_cells code (put k cells (text_cells role cs)) row ∷ []
     some [] none is = absurd (omega arith)
     some (c ∷ cs) more is =
-        is ∙ ap (λ rows. cells_written rows r (code + k) (drawn role (c ∷ cs))) before ∙ ap (λ i. cells_written (above ++ with_cells code cells row ∷ []) i (code + k) (drawn role (c ∷ cs))) last ∙ cells_written_last above (with_cells code cells row) (code + k) (drawn role (c ∷ cs)) ∙ ap (λ r. above ++ r ∷ []) (put_more code k cells row _ _ ends)
+        is ∙ ap (λ rows. cells_written rows r (code + k) (text_cells role (c ∷ cs))) before ∙ ap (λ i. cells_written (above ++ with_cells code cells row ∷ []) i (code + k) (text_cells role (c ∷ cs))) last ∙ cells_written_last above (with_cells code cells row) (code + k) (text_cells role (c ∷ cs)) ∙ ap (λ r. above ++ r ∷ []) (put_more code k cells row _ _ ends)
 
 -- the cells of a text that begins a window
-pub put_alone : (role : ElementStyle) (cs : List ℕ) → put 0 [] (drawn role cs) ≡ drawn role cs
+pub put_alone : (role : ElementStyle) (cs : List ℕ) → put 0 [] (text_cells role cs) ≡ text_cells role cs
 put_alone role [] = refl
 put_alone role (c ∷ cs) =
     same_lists _ _ (unfold written in grind (arith, places)) (λ i d h. unfold written in grind (arith, places))
 
-placeholder_some : (decor : DecorStyle) (cells : List Cell) (k : ℕ) → put k cells (drawn LineNumber (placeholder_of decor)) ≡ written SPACE cells k (drawn LineNumber (placeholder_of decor))
+placeholder_some : (decor : DecorStyle) (cells : List Cell) (k : ℕ) → put k cells (text_cells LineNumber (placeholder_of decor)) ≡ written SPACE cells k (text_cells LineNumber (placeholder_of decor))
 placeholder_some Ascii cells k = refl
 placeholder_some Unicode cells k = refl
 
 not_zero : (n : ℕ) → 0 < n → (n == 0) ≡ false
 not_zero n some = grind (arith, nat_tests, some)
 
-pub put_begun : (decor : DecorStyle) (columns : ℕ) (cs : List ℕ) → put columns (put 0 [] (drawn LineNumber (placeholder_of decor))) (drawn Quotation cs) ≡ begun_cells decor (Some columns) cs
+pub put_begun : (decor : DecorStyle) (columns : ℕ) (cs : List ℕ) → put columns (put 0 [] (text_cells LineNumber (placeholder_of decor))) (text_cells Quotation cs) ≡ begun_cells decor (Some columns) cs
 put_begun decor columns [] = put_alone LineNumber (placeholder_of decor)
 put_begun decor columns (c ∷ cs) =
-    ap (λ cells. written SPACE cells columns (drawn Quotation (c ∷ cs))) (put_alone LineNumber (placeholder_of decor)) ∙ ap (λ b. cond b (drawn LineNumber (placeholder_of decor)) (written SPACE (drawn LineNumber (placeholder_of decor)) columns (drawn Quotation (c ∷ cs)))) (sym (not_zero (length (c ∷ cs)) (omega arith)))
+    ap (λ cells. written SPACE cells columns (text_cells Quotation (c ∷ cs))) (put_alone LineNumber (placeholder_of decor)) ∙ ap (λ b. cond b (text_cells LineNumber (placeholder_of decor)) (written SPACE (text_cells LineNumber (placeholder_of decor)) columns (text_cells Quotation (c ∷ cs)))) (sym (not_zero (length (c ∷ cs)) (omega arith)))
 
-pub put_ended : (decor : DecorStyle) (at : ℕ) (cells : List Cell) → put at cells (drawn LineNumber (placeholder_of decor)) ≡ ended_cells decor (Some at) cells
+pub put_ended : (decor : DecorStyle) (at : ℕ) (cells : List Cell) → put at cells (text_cells LineNumber (placeholder_of decor)) ≡ ended_cells decor (Some at) cells
 put_ended decor at cells = placeholder_some decor cells at
 
 -- the characters of cells that were written
@@ -98,24 +98,24 @@ row_text-written cells at new =
     let back : map f (drop (at + length new) cells) ≡ drop (at + length (map f new)) (map f cells) = sym (drop-map f (at + length new) cells) ∙ ap (λ n. drop (at + n) (map f cells)) (sym (length-map new f)) in
     map-append f (take at (cells ++ replicate (at - length cells) SPACE) ++ new) (drop (at + length new) cells) ∙ ap (λ xs. xs ++ map f (drop (at + length new) cells)) (map-append f (take at (cells ++ replicate (at - length cells) SPACE)) new ∙ ap (λ xs. xs ++ map f new) front) ∙ ap (λ xs. (take at (map f cells ++ replicate (at - length (map f cells)) 32) ++ map f new) ++ xs) back
 
-pub row_text-drawn : (role : ElementStyle) (cs : List ℕ) → row_text (drawn role cs) ≡ cs
-row_text-drawn role [] = refl
-row_text-drawn role (c ∷ cs) = ap (λ xs. c ∷ xs) (row_text-drawn role cs)
+pub row_text-text_cells : (role : ElementStyle) (cs : List ℕ) → row_text (text_cells role cs) ≡ cs
+row_text-text_cells role [] = refl
+row_text-text_cells role (c ∷ cs) = ap (λ xs. c ∷ xs) (row_text-text_cells role cs)
 
 row_text-begun : (decor : DecorStyle) (start : Option ℕ) (text : List ℕ) → row_text (begun_cells decor start text) ≡ begun_with (placeholder_of decor) start text
-row_text-begun decor None text = row_text-drawn Quotation text
-row_text-begun decor (Some columns) [] = row_text-drawn LineNumber (placeholder_of decor)
+row_text-begun decor None text = row_text-text_cells Quotation text
+row_text-begun decor (Some columns) [] = row_text-text_cells LineNumber (placeholder_of decor)
 row_text-begun decor (Some columns) (c ∷ cs) =
-    some (length (c ∷ cs) == 0) (row_text-written (drawn LineNumber (placeholder_of decor)) columns (drawn Quotation (c ∷ cs)) ∙ ap (λ p. written 32 p columns (row_text (drawn Quotation (c ∷ cs)))) (row_text-drawn LineNumber (placeholder_of decor)) ∙ ap (written 32 (placeholder_of decor) columns) (row_text-drawn Quotation (c ∷ cs)))
+    some (length (c ∷ cs) == 0) (row_text-written (text_cells LineNumber (placeholder_of decor)) columns (text_cells Quotation (c ∷ cs)) ∙ ap (λ p. written 32 p columns (row_text (text_cells Quotation (c ∷ cs)))) (row_text-text_cells LineNumber (placeholder_of decor)) ∙ ap (written 32 (placeholder_of decor) columns) (row_text-text_cells Quotation (c ∷ cs)))
   where
-    some : (b : Bool) → row_text (written SPACE (drawn LineNumber (placeholder_of decor)) columns (drawn Quotation (c ∷ cs))) ≡ written 32 (placeholder_of decor) columns (c ∷ cs) → row_text (cond b (drawn LineNumber (placeholder_of decor)) (written SPACE (drawn LineNumber (placeholder_of decor)) columns (drawn Quotation (c ∷ cs)))) ≡ cond b (placeholder_of decor) (written 32 (placeholder_of decor) columns (c ∷ cs))
-    some true is = row_text-drawn LineNumber (placeholder_of decor)
+    some : (b : Bool) → row_text (written SPACE (text_cells LineNumber (placeholder_of decor)) columns (text_cells Quotation (c ∷ cs))) ≡ written 32 (placeholder_of decor) columns (c ∷ cs) → row_text (cond b (text_cells LineNumber (placeholder_of decor)) (written SPACE (text_cells LineNumber (placeholder_of decor)) columns (text_cells Quotation (c ∷ cs)))) ≡ cond b (placeholder_of decor) (written 32 (placeholder_of decor) columns (c ∷ cs))
+    some true is = row_text-text_cells LineNumber (placeholder_of decor)
     some false is = is
 
 row_text-ended : (decor : DecorStyle) (end : Option ℕ) (cells : List Cell) (text : List ℕ) → row_text cells ≡ text → row_text (ended_cells decor end cells) ≡ ended_with (placeholder_of decor) end text
 row_text-ended decor None cells text is = is
 row_text-ended decor (Some at) cells text is =
-    row_text-written cells at (drawn LineNumber (placeholder_of decor)) ∙ ap (λ t. written 32 t at (row_text (drawn LineNumber (placeholder_of decor)))) is ∙ ap (written 32 text at) (row_text-drawn LineNumber (placeholder_of decor))
+    row_text-written cells at (text_cells LineNumber (placeholder_of decor)) ∙ ap (λ t. written 32 t at (row_text (text_cells LineNumber (placeholder_of decor)))) is ∙ ap (written 32 text at) (row_text-text_cells LineNumber (placeholder_of decor))
 
 -- the characters of the cells of a window are the window
 pub row_text-window_cells : (decor : DecorStyle) (margin : Margin) (text : List ℕ) → row_text (window_cells decor margin text) ≡ window (placeholder_of decor) margin.term_width (bounds_of margin).left (bounds_of margin).right text
@@ -127,7 +127,7 @@ row_text-window_cells decor margin text =
     row_text-ended decor (covered_end margin.term_width left right placeholder text) _ _ (row_text-begun decor (covered_columns left placeholder inner) (uncovered_part left placeholder inner))
 
 -- no cell of it is listed
-pub free_placeholder : (decor : DecorStyle) → IsFree (drawn LineNumber (placeholder_of decor))
+pub free_placeholder : (decor : DecorStyle) → IsFree (text_cells LineNumber (placeholder_of decor))
 free_placeholder Ascii =
     let P : ℕ → Type 0 = λ c. is_listed c ≡ false in
     free_drawn LineNumber (46 ∷ 46 ∷ 46 ∷ []) (All-cons P 46 (46 ∷ 46 ∷ []) refl (All-cons P 46 (46 ∷ []) refl (All-cons P 46 [] refl (All-nil P))))
@@ -138,33 +138,33 @@ free_placeholder Unicode =
 free_begun : (decor : DecorStyle) (start : Option ℕ) (text : List ℕ) → All (λ c. is_listed c ≡ false) text → IsFree (begun_cells decor start text)
 free_begun decor None text free = free_drawn Quotation text free
 free_begun decor (Some columns) text free =
-    elim (length text == 0) as (λ b. IsFree (cond b (drawn LineNumber (placeholder_of decor)) (written SPACE (drawn LineNumber (placeholder_of decor)) columns (drawn Quotation text)))) [
+    elim (length text == 0) as (λ b. IsFree (cond b (text_cells LineNumber (placeholder_of decor)) (written SPACE (text_cells LineNumber (placeholder_of decor)) columns (text_cells Quotation text)))) [
       | true ↦ free_placeholder decor
-      | false ↦ free_written (drawn LineNumber (placeholder_of decor)) columns (drawn Quotation text) (free_placeholder decor) (free_drawn Quotation text free)
+      | false ↦ free_written (text_cells LineNumber (placeholder_of decor)) columns (text_cells Quotation text) (free_placeholder decor) (free_drawn Quotation text free)
     ]
 
 pub free_shown : (decor : DecorStyle) (start : Option ℕ) (text : List ℕ) (end : Option ℕ) → All (λ c. is_listed c ≡ false) text → IsFree (shown_cells decor start text end)
 free_shown decor start text None free = free_begun decor start text free
 free_shown decor start text (Some at) free =
-    free_written (begun_cells decor start text) at (drawn LineNumber (placeholder_of decor)) (free_begun decor start text free) (free_placeholder decor)
+    free_written (begun_cells decor start text) at (text_cells LineNumber (placeholder_of decor)) (free_begun decor start text free) (free_placeholder decor)
 
 -- a placeholder is at most three cells
-placeholder_short : (decor : DecorStyle) → length (drawn LineNumber (placeholder_of decor)) ≤ 3
+placeholder_short : (decor : DecorStyle) → length (text_cells LineNumber (placeholder_of decor)) ≤ 3
 placeholder_short Ascii = omega arith
 placeholder_short Unicode = omega arith
 
 begun_short : (decor : DecorStyle) (start : Option ℕ) (text : List ℕ) → IfSome start (λ s. s < 2 ^ 59) → length text < 2 ^ 60 → length (begun_cells decor start text) < 2 ^ 61
-begun_short decor None text few short = omega (arith, length-drawn Quotation text)
+begun_short decor None text few short = omega (arith, length-text_cells Quotation text)
 begun_short decor (Some columns) text few short =
-    elim (length text == 0) as (λ b. length (cond b (drawn LineNumber (placeholder_of decor)) (written SPACE (drawn LineNumber (placeholder_of decor)) columns (drawn Quotation text))) < 2 ^ 61) [
+    elim (length text == 0) as (λ b. length (cond b (text_cells LineNumber (placeholder_of decor)) (written SPACE (text_cells LineNumber (placeholder_of decor)) columns (text_cells Quotation text))) < 2 ^ 61) [
       | true ↦ omega (arith, placeholder_short decor)
-      | false ↦ omega (arith, placeholder_short decor, length-written SPACE (drawn LineNumber (placeholder_of decor)) columns (drawn Quotation text), length-drawn Quotation text, few, short)
+      | false ↦ omega (arith, placeholder_short decor, length-written SPACE (text_cells LineNumber (placeholder_of decor)) columns (text_cells Quotation text), length-text_cells Quotation text, few, short)
     ]
 
 pub shown_short : (decor : DecorStyle) (start : Option ℕ) (text : List ℕ) (end : Option ℕ) → IfSome start (λ s. s < 2 ^ 59) → length text < 2 ^ 60 → IfSome end (λ at. at < 2 ^ 61) → length (shown_cells decor start text end) < 2 ^ 61 + 4
 shown_short decor start text None few short ends = omega (arith, begun_short decor start text few short)
 shown_short decor start text (Some at) few short ends =
-    omega (arith, begun_short decor start text few short, length-written SPACE (begun_cells decor start text) at (drawn LineNumber (placeholder_of decor)), placeholder_short decor, ends)
+    omega (arith, begun_short decor start text few short, length-written SPACE (begun_cells decor start text) at (text_cells LineNumber (placeholder_of decor)), placeholder_short decor, ends)
 
 -- the text of a window holds no listed character
 pub unlisted_part : (left room from right : ℕ) (placeholder text : List ℕ) → All (λ c. is_listed c ≡ false) text → All (λ c. is_listed c ≡ false) (uncovered_part left placeholder (inner_part room from right text))
@@ -179,20 +179,20 @@ unlisted_part left room from right placeholder text free =
     ]
 
 -- the beginning of a window is written, where lines aren't cut on the left
-pub begun_plain : (decor : DecorStyle) (start : Option ℕ) (above old new : List (List Cell)) (row : List Cell) (r code : ℕ) (text : List ℕ) → start ≡ None → IsUtf8 text → (0 < length text → new ≡ cells_written old r code (drawn Quotation (chars text))) → (text ≡ [] → new ≡ old) → r ≡ length above → length row ≤ code → old ≡ above ++ row ∷ [] → new ≡ above ++ with_cells code (begun_cells decor start (chars text)) row ∷ []
+pub begun_plain : (decor : DecorStyle) (start : Option ℕ) (above old new : List (List Cell)) (row : List Cell) (r code : ℕ) (text : List ℕ) → start ≡ None → IsUtf8 text → (0 < length text → new ≡ cells_written old r code (text_cells Quotation (chars text))) → (text ≡ [] → new ≡ old) → r ≡ length above → length row ≤ code → old ≡ above ++ row ∷ [] → new ≡ above ++ with_cells code (begun_cells decor start (chars text)) row ∷ []
 begun_plain decor start above old new row r code text none utf8 writes stays last ends before =
-    put_text above old new [] row r code 0 text Quotation utf8 ends before last (λ some. writes some ∙ ap (λ k. cells_written old r k (drawn Quotation (chars text))) (sym (add-zero code))) stays ∙ ap (λ cells. above ++ with_cells code cells row ∷ []) (put_alone Quotation (chars text)) ∙ ap (λ s. above ++ with_cells code (begun_cells decor s (chars text)) row ∷ []) (sym none)
+    put_text above old new [] row r code 0 text Quotation utf8 ends before last (λ some. writes some ∙ ap (λ k. cells_written old r k (text_cells Quotation (chars text))) (sym (add-zero code))) stays ∙ ap (λ cells. above ++ with_cells code cells row ∷ []) (put_alone Quotation (chars text)) ∙ ap (λ s. above ++ with_cells code (begun_cells decor s (chars text)) row ∷ []) (sym none)
 
 -- and where they are
-pub begun_cut : (decor : DecorStyle) (start : Option ℕ) (columns : ℕ) (above old mid new : List (List Cell)) (row : List Cell) (r code : ℕ) (placeholder text : List ℕ) → start ≡ Some columns → IsUtf8 placeholder → IsUtf8 text → chars placeholder ≡ placeholder_of decor → (0 < length placeholder → mid ≡ cells_written old r code (drawn LineNumber (chars placeholder))) → (placeholder ≡ [] → mid ≡ old) → (0 < length text → new ≡ cells_written mid r (code + columns) (drawn Quotation (chars text))) → (text ≡ [] → new ≡ mid) → r ≡ length above → length row ≤ code → old ≡ above ++ row ∷ [] → new ≡ above ++ with_cells code (begun_cells decor start (chars text)) row ∷ []
+pub begun_cut : (decor : DecorStyle) (start : Option ℕ) (columns : ℕ) (above old mid new : List (List Cell)) (row : List Cell) (r code : ℕ) (placeholder text : List ℕ) → start ≡ Some columns → IsUtf8 placeholder → IsUtf8 text → chars placeholder ≡ placeholder_of decor → (0 < length placeholder → mid ≡ cells_written old r code (text_cells LineNumber (chars placeholder))) → (placeholder ≡ [] → mid ≡ old) → (0 < length text → new ≡ cells_written mid r (code + columns) (text_cells Quotation (chars text))) → (text ≡ [] → new ≡ mid) → r ≡ length above → length row ≤ code → old ≡ above ++ row ∷ [] → new ≡ above ++ with_cells code (begun_cells decor start (chars text)) row ∷ []
 begun_cut decor start columns above old mid new row r code placeholder text some utf8_placeholder utf8 is first first_stays writes stays last ends before =
-    let placed = put_text above old mid [] row r code 0 placeholder LineNumber utf8_placeholder ends before last (λ more. first more ∙ ap (λ k. cells_written old r k (drawn LineNumber (chars placeholder))) (sym (add-zero code))) first_stays in
-    put_text above mid new (put 0 [] (drawn LineNumber (chars placeholder))) row r code columns text Quotation utf8 ends placed last writes stays ∙ ap (λ (cs : List ℕ). above ++ with_cells code (put columns (put 0 [] (drawn LineNumber cs)) (drawn Quotation (chars text))) row ∷ []) is ∙ ap (λ cells. above ++ with_cells code cells row ∷ []) (put_begun decor columns (chars text)) ∙ ap (λ s. above ++ with_cells code (begun_cells decor s (chars text)) row ∷ []) (sym some)
+    let placed = put_text above old mid [] row r code 0 placeholder LineNumber utf8_placeholder ends before last (λ more. first more ∙ ap (λ k. cells_written old r k (text_cells LineNumber (chars placeholder))) (sym (add-zero code))) first_stays in
+    put_text above mid new (put 0 [] (text_cells LineNumber (chars placeholder))) row r code columns text Quotation utf8 ends placed last writes stays ∙ ap (λ (cs : List ℕ). above ++ with_cells code (put columns (put 0 [] (text_cells LineNumber cs)) (text_cells Quotation (chars text))) row ∷ []) is ∙ ap (λ cells. above ++ with_cells code cells row ∷ []) (put_begun decor columns (chars text)) ∙ ap (λ s. above ++ with_cells code (begun_cells decor s (chars text)) row ∷ []) (sym some)
 
 -- the end of a window is written
-pub ended_cut : (decor : DecorStyle) (end : Option ℕ) (at : ℕ) (above old new : List (List Cell)) (row cells : List Cell) (r code : ℕ) (placeholder : List ℕ) → end ≡ Some at → IsUtf8 placeholder → chars placeholder ≡ placeholder_of decor → (0 < length placeholder → new ≡ cells_written old r (code + at) (drawn LineNumber (chars placeholder))) → (placeholder ≡ [] → new ≡ old) → r ≡ length above → length row ≤ code → old ≡ above ++ with_cells code cells row ∷ [] → new ≡ above ++ with_cells code (ended_cells decor end cells) row ∷ []
+pub ended_cut : (decor : DecorStyle) (end : Option ℕ) (at : ℕ) (above old new : List (List Cell)) (row cells : List Cell) (r code : ℕ) (placeholder : List ℕ) → end ≡ Some at → IsUtf8 placeholder → chars placeholder ≡ placeholder_of decor → (0 < length placeholder → new ≡ cells_written old r (code + at) (text_cells LineNumber (chars placeholder))) → (placeholder ≡ [] → new ≡ old) → r ≡ length above → length row ≤ code → old ≡ above ++ with_cells code cells row ∷ [] → new ≡ above ++ with_cells code (ended_cells decor end cells) row ∷ []
 ended_cut decor end at above old new row cells r code placeholder some utf8 is writes stays last ends before =
-    put_text above old new cells row r code at placeholder LineNumber utf8 ends before last writes stays ∙ ap (λ (cs : List ℕ). above ++ with_cells code (put at cells (drawn LineNumber cs)) row ∷ []) is ∙ ap (λ cs. above ++ with_cells code cs row ∷ []) (put_ended decor at cells) ∙ ap (λ e. above ++ with_cells code (ended_cells decor e cells) row ∷ []) (sym some)
+    put_text above old new cells row r code at placeholder LineNumber utf8 ends before last writes stays ∙ ap (λ (cs : List ℕ). above ++ with_cells code (put at cells (text_cells LineNumber cs)) row ∷ []) is ∙ ap (λ cs. above ++ with_cells code cs row ∷ []) (put_ended decor at cells) ∙ ap (λ e. above ++ with_cells code (ended_cells decor e cells) row ∷ []) (sym some)
 
 -- the text of a window is no longer than its line
 pub part_few : (left room from right : ℕ) (placeholder text : List ℕ) → length (uncovered_part left placeholder (inner_part room from right text)) ≤ length text

@@ -10,14 +10,14 @@ use Rattle.snippet_view.specs.Window.{AreReplaced, IsReplaced}
 use Rattle.snippet_style.specs.declared.role.ElementStyle.TheVariants.{LineNumber}
 use Rattle.snippet_style.specs.Glyphs.{placeholder_of}
 use Rattle.snippet_grid.specs.Grid.{replaced_within, cells_replaced}
-use Rattle.snippet_style.specs.Cell.{Cell, drawn}
+use Rattle.snippet_style.specs.Cell.{Cell, text_cells}
 use Rattle.snippet_grid.specs.Print.{row_text}
 use Rattle.snippet_grid.proofs.ChangeLemmas.{changed_within_one}
 use Rattle.snippet_grid.proofs.ReplaceLemmas.{replaced_there, replaced_empty, replaced_past}
 use Rattle.snippet_strokes.specs.declared.layout.Layout.{Layout}
 use Rattle.snippet_model.specs.Rows.{IsFreeCell}
 use Rattle.snippet_strokes.specs.Rows.{IsCut, CutsRows}
-use Rattle.snippet_strokes.proofs.CellLemmas.{free_placeholder, row_text-drawn}
+use Rattle.snippet_strokes.proofs.CellLemmas.{free_placeholder, row_text-text_cells}
 
 -- how many of the first elements pass a test, with one more of them
 pub count_by_more : {X : Type 0} (p : X → Bool) (xs : List X) (i : ℕ) (x : X) → i < length xs → x ≡ get_or xs i x → count_by p (take (i + 1) xs) ≡ count_by p (take i xs) + count_by p (x ∷ [])
@@ -87,9 +87,9 @@ row_text-parts xs ys zs =
     map-append f (xs ++ ys) zs ∙ ap (λ t. t ++ row_text zs) (map-append f xs ys)
 
 -- a row of which a stretch gave its place to the placeholder, right of the code's first cell
-IsCut-there : (layout : Layout) (start end : ℕ) (row : List Cell) → layout.code ≤ start → start < end → end ≤ length row → IsCut layout 1 row (take start row ++ drawn LineNumber (placeholder_of layout.decor) ++ drop end row)
+IsCut-there : (layout : Layout) (start end : ℕ) (row : List Cell) → layout.code ≤ start → start < end → end ≤ length row → IsCut layout 1 row (take start row ++ text_cells LineNumber (placeholder_of layout.decor) ++ drop end row)
 IsCut-there layout start end row from some within =
-    let placeholder = drawn LineNumber (placeholder_of layout.decor) in
+    let placeholder = text_cells LineNumber (placeholder_of layout.decor) in
     let front = take (start - layout.code) (drop layout.code row) in
     let stretch = take (end - start) (drop start row) in
     let back = drop end row in
@@ -98,7 +98,7 @@ IsCut-there layout start end row from some within =
       stretch = row_text stretch;
       back = row_text back;
       before_is = ap row_text (three_parts row layout.code start end from some within) ∙ row_text-parts front stretch back;
-      after_is = ap row_text (three_parts_now row placeholder layout.code start end from some within) ∙ row_text-parts front placeholder back ∙ ap (λ t. row_text front ++ t ++ row_text back) (row_text-drawn LineNumber (placeholder_of layout.decor));
+      after_is = ap row_text (three_parts_now row placeholder layout.code start end from some within) ∙ row_text-parts front placeholder back ∙ ap (λ t. row_text front ++ t ++ row_text back) (row_text-text_cells LineNumber (placeholder_of layout.decor));
     } in
     record {
       left = front_stays row placeholder layout.code start end from some within;
@@ -107,9 +107,9 @@ IsCut-there layout start end row from some within =
       free = λ free. All-append IsFreeCell (take start row ++ placeholder) (drop end row) (All-append IsFreeCell (take start row) placeholder (All-take IsFreeCell start row free) (free_placeholder layout.decor)) (All-drop IsFreeCell end row free);
     }
 
-pub IsCut-replaced : (layout : Layout) (start end : ℕ) (row : List Cell) → layout.code ≤ start → IsCut layout 1 row (replaced_within start end (drawn LineNumber (placeholder_of layout.decor)) row)
+pub IsCut-replaced : (layout : Layout) (start end : ℕ) (row : List Cell) → layout.code ≤ start → IsCut layout 1 row (replaced_within start end (text_cells LineNumber (placeholder_of layout.decor)) row)
 IsCut-replaced layout start end row from =
-    let placeholder = drawn LineNumber (placeholder_of layout.decor) in
+    let placeholder = text_cells LineNumber (placeholder_of layout.decor) in
     elim (cases_lt start end) [
       | inl some ↦ elim (cases_lt (length row) end) [
         | inl past ↦ subst (IsCut layout 1 row) (sym (replaced_past start end placeholder row past)) (IsCut-none layout 1 row)
@@ -128,9 +128,9 @@ cells_replaced_here above below source cells row start end here =
     changed_within_one change row rows [] there ∙ ap (λ r. set rows row (change r)) read ∙ ap (λ n. set rows n (change source)) (sym here) ∙ set-append_seam above source below (change source)
 
 -- the same stretch of both rows gave its place to the placeholder
-pub CutsRows-replaced : (layout : Layout) (row start end : ℕ) (above : List (List Cell)) (source marks : List Cell) (below old new : List (List Cell)) → layout.code ≤ start → length above ≡ row → old ≡ above ++ source ∷ marks ∷ below → new ≡ cells_replaced (cells_replaced old row start end (drawn LineNumber (placeholder_of layout.decor))) (row + 1) start end (drawn LineNumber (placeholder_of layout.decor)) → CutsRows layout 1 above source marks below new
+pub CutsRows-replaced : (layout : Layout) (row start end : ℕ) (above : List (List Cell)) (source marks : List Cell) (below old new : List (List Cell)) → layout.code ≤ start → length above ≡ row → old ≡ above ++ source ∷ marks ∷ below → new ≡ cells_replaced (cells_replaced old row start end (text_cells LineNumber (placeholder_of layout.decor))) (row + 1) start end (text_cells LineNumber (placeholder_of layout.decor)) → CutsRows layout 1 above source marks below new
 CutsRows-replaced layout row start end above source marks below old new from here was is =
-    let placeholder = drawn LineNumber (placeholder_of layout.decor) in
+    let placeholder = text_cells LineNumber (placeholder_of layout.decor) in
     let change = replaced_within start end placeholder in
     let first : cells_replaced old row start end placeholder ≡ above ++ change source ∷ marks ∷ below = ap (λ rows. cells_replaced rows row start end placeholder) was ∙ cells_replaced_here above (marks ∷ below) source placeholder row start end here in
     let apart : above ++ change source ∷ marks ∷ below ≡ (above ++ change source ∷ []) ++ marks ∷ below = sym (append_assoc above (change source ∷ []) (marks ∷ below)) in

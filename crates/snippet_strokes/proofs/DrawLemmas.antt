@@ -2,21 +2,21 @@
 use Rattle.std.proofs.Common.{◌≡◌, ℕ, ◌+◌, ◌-◌, ◌<◌, ◌≤◌, ◌==◌, ◌||◌, Bool, true, false, List, [], ◌∷◌, length, drop, get_or, refl, sym, ap, ◌∙◌, subst, arith, inl, inr, All}
 use Rattle.std.proofs.lemmas.Bool.{cases_lt, cases_eq}
 use Rattle.snippet_grid.specs.Grid.{cell_at, row_at, WritesCells}
-use Rattle.snippet_style.specs.Cell.{Cell, SPACE, drawn, unlinked_cell}
-use Rattle.snippet_style.specs.Glyphs.{glyph_of, rail_glyphs}
+use Rattle.snippet_style.specs.Cell.{Cell, SPACE, text_cells, unlinked_cell}
+use Rattle.snippet_style.specs.Glyphs.{glyph_of, bar_glyphs}
 use Rattle.snippet_style.specs.declared.glyphs.DecorStyle.{DecorStyle}
 use Rattle.snippet_style.specs.declared.glyphs.DecorStyle.TheVariants.{Ascii, Unicode}
 use Rattle.snippet_style.specs.declared.role.ElementStyle.{ElementStyle}
-use Rattle.snippet_style.proofs.CellLemmas.{All-drawn}
+use Rattle.snippet_style.proofs.CellLemmas.{All-text_cells}
 use Rattle.std.specs.List.{list_any}
 use Rattle.std.proofs.lemmas.Bool.Decides.{nat_tests}
 use Rattle.std.proofs.lemmas.List.{length-drop, get_or-drop, ext_get_or}
 use Rattle.std.proofs.lemmas.List.Elements.{All-weaker, All-head, All-tail, All-cons, All-nil}
 use Rattle.snippet_text.specs.Normalized.{is_listed}
 use Rattle.snippet_strokes.specs.declared.layout.Layout.{Layout}
-use Rattle.snippet_strokes.specs.Entries.{IsRailCell}
+use Rattle.snippet_strokes.specs.Entries.{IsBarCell}
 use Rattle.snippet_model.specs.Rows.{IsFreeCell}
-use Rattle.snippet_strokes.specs.Painting.{DrawsFrom, KeepsRails, DrawsRails}
+use Rattle.snippet_strokes.specs.Painting.{DrawsFrom, KeepsBarCells, DrawsBarCells}
 use Rattle.snippet_strokes.proofs.TextLemmas.{All-from_none}
 
 -- nothing is drawn yet
@@ -51,7 +51,7 @@ written_cell P old new row at c cells writes all before =
                 let within : k < length cells = omega arith in
                 let same : at + k ≡ c = omega arith in
                 subst (λ n. P (cell_at new row n)) same (subst P (sym (writes.inside k within)) (all k SPACE within))
-            | inr right ↦ subst P (sym (writes.behind c right)) before
+            | inr right ↦ subst P (sym (writes.after c right)) before
           ]
     ]
 
@@ -73,20 +73,20 @@ DrawsFrom-writes row r from at old new cells writes lower within right all =
     }
 
 -- cells drawn of characters that aren't listed are free
-pub free_drawn : (role : ElementStyle) (cs : List ℕ) → All (λ c. is_listed c ≡ false) cs → All IsFreeCell (drawn role cs)
+pub free_drawn : (role : ElementStyle) (cs : List ℕ) → All (λ c. is_listed c ≡ false) cs → All IsFreeCell (text_cells role cs)
 free_drawn role cs free =
-    All-drawn IsFreeCell role cs (All-weaker (λ c. is_listed c ≡ false) (λ c. IsFreeCell (unlinked_cell role c)) (λ c is. (is, refl)) cs free)
+    All-text_cells IsFreeCell role cs (All-weaker (λ c. is_listed c ≡ false) (λ c. IsFreeCell (unlinked_cell role c)) (λ c is. (is, refl)) cs free)
 
 -- what is drawn in cells from the code on is no part of a bar
-pub KeepsRails-none : (layout : Layout) (rows : List (List Cell)) → KeepsRails layout rows rows
-KeepsRails-none layout rows = λ r c left is. is
+pub KeepsBarCells-none : (layout : Layout) (rows : List (List Cell)) → KeepsBarCells layout rows rows
+KeepsBarCells-none layout rows = λ r c left is. is
 
-pub KeepsRails-more : (layout : Layout) (old mid new : List (List Cell)) → KeepsRails layout old mid → KeepsRails layout mid new → KeepsRails layout old new
-KeepsRails-more layout old mid new done more = λ r c left is. more r c left (done r c left is)
+pub KeepsBarCells-more : (layout : Layout) (old mid new : List (List Cell)) → KeepsBarCells layout old mid → KeepsBarCells layout mid new → KeepsBarCells layout old new
+KeepsBarCells-more layout old mid new done more = λ r c left is. more r c left (done r c left is)
 
-pub KeepsRails-writes : (layout : Layout) (old new : List (List Cell)) (row at : ℕ) (cells : List Cell) → WritesCells old new row at cells → All (IsRailCell layout.decor) cells → KeepsRails layout old new
-KeepsRails-writes layout old new row at cells writes all r c left is =
-    let P : Cell → Type 0 = IsRailCell layout.decor in
+pub KeepsBarCells-writes : (layout : Layout) (old new : List (List Cell)) (row at : ℕ) (cells : List Cell) → WritesCells old new row at cells → All (IsBarCell layout.decor) cells → KeepsBarCells layout old new
+KeepsBarCells-writes layout old new row at cells writes all r c left is =
+    let P : Cell → Type 0 = IsBarCell layout.decor in
     elim (cases_eq r row) [
       | inl here ↦
           subst (λ n. P (cell_at new n c)) (sym here) (written_cell P old new row at c cells writes all (subst (λ n. P (cell_at old n c)) here is))
@@ -106,87 +106,87 @@ in_glyphs ch (g ∷ glyphs) free is =
     unequal : (m n : ℕ) → (m ≡ n → ⊥) → (m == n) ≡ false
     unequal m n other = grind (arith, nat_tests, other)
 
-free_rail_glyphs : (decor : DecorStyle) → list_any is_listed (rail_glyphs decor) ≡ false
-free_rail_glyphs Ascii = refl
-free_rail_glyphs Unicode = refl
+free_bar_glyphs : (decor : DecorStyle) → list_any is_listed (bar_glyphs decor) ≡ false
+free_bar_glyphs Ascii = refl
+free_bar_glyphs Unicode = refl
 
-pub free_rail : (decor : DecorStyle) (cell : Cell) → IsRailCell decor cell → IsFreeCell cell
-free_rail decor cell is =
-    (in_glyphs cell.ch (rail_glyphs decor) (All-from_none (rail_glyphs decor) (free_rail_glyphs decor)) is.glyph, is.link)
+pub free_bar : (decor : DecorStyle) (cell : Cell) → IsBarCell decor cell → IsFreeCell cell
+free_bar decor cell is =
+    (in_glyphs cell.ch (bar_glyphs decor) (All-from_none (bar_glyphs decor) (free_bar_glyphs decor)) is.glyph, is.link)
 
 -- the space is one, and so are the glyphs that bars are drawn with
-pub rail_space : (decor : DecorStyle) → IsRailCell decor SPACE
-rail_space Ascii = record { glyph = refl; link = refl }
-rail_space Unicode = record { glyph = refl; link = refl }
+pub bar_space : (decor : DecorStyle) → IsBarCell decor SPACE
+bar_space Ascii = record { glyph = refl; link = refl }
+bar_space Unicode = record { glyph = refl; link = refl }
 
-pub rail_horizontal : (decor : DecorStyle) (primary : Bool) (role : ElementStyle) (ch : ℕ) → ch ≡ glyph_of decor primary 95 95 0x2501 0x2500 → IsRailCell decor (unlinked_cell role ch)
-rail_horizontal decor primary role ch is =
-    record { glyph = subst (λ x. list_any (λ g. x == g) (rail_glyphs decor) ≡ true) (sym is) (among decor primary); link = refl }
+pub bar_horizontal : (decor : DecorStyle) (primary : Bool) (role : ElementStyle) (ch : ℕ) → ch ≡ glyph_of decor primary 95 95 0x2501 0x2500 → IsBarCell decor (unlinked_cell role ch)
+bar_horizontal decor primary role ch is =
+    record { glyph = subst (λ x. list_any (λ g. x == g) (bar_glyphs decor) ≡ true) (sym is) (among decor primary); link = refl }
   where
-    among : (decor : DecorStyle) (primary : Bool) → list_any (λ g. glyph_of decor primary 95 95 0x2501 0x2500 == g) (rail_glyphs decor) ≡ true
+    among : (decor : DecorStyle) (primary : Bool) → list_any (λ g. glyph_of decor primary 95 95 0x2501 0x2500 == g) (bar_glyphs decor) ≡ true
     among Ascii true = refl
     among Ascii false = refl
     among Unicode true = refl
     among Unicode false = refl
 
-pub rail_vertical : (decor : DecorStyle) (primary : Bool) (role : ElementStyle) (ch : ℕ) → ch ≡ glyph_of decor primary 124 124 0x2503 0x2502 → IsRailCell decor (unlinked_cell role ch)
-rail_vertical decor primary role ch is =
-    record { glyph = subst (λ x. list_any (λ g. x == g) (rail_glyphs decor) ≡ true) (sym is) (among decor primary); link = refl }
+pub bar_vertical : (decor : DecorStyle) (primary : Bool) (role : ElementStyle) (ch : ℕ) → ch ≡ glyph_of decor primary 124 124 0x2503 0x2502 → IsBarCell decor (unlinked_cell role ch)
+bar_vertical decor primary role ch is =
+    record { glyph = subst (λ x. list_any (λ g. x == g) (bar_glyphs decor) ≡ true) (sym is) (among decor primary); link = refl }
   where
-    among : (decor : DecorStyle) (primary : Bool) → list_any (λ g. glyph_of decor primary 124 124 0x2503 0x2502 == g) (rail_glyphs decor) ≡ true
+    among : (decor : DecorStyle) (primary : Bool) → list_any (λ g. glyph_of decor primary 124 124 0x2503 0x2502 == g) (bar_glyphs decor) ≡ true
     among Ascii true = refl
     among Ascii false = refl
     among Unicode true = refl
     among Unicode false = refl
 
-pub rail_top : (decor : DecorStyle) (primary : Bool) (role : ElementStyle) (ch : ℕ) → ch ≡ glyph_of decor primary 32 32 0x250F 0x250C → IsRailCell decor (unlinked_cell role ch)
-rail_top decor primary role ch is =
-    record { glyph = subst (λ x. list_any (λ g. x == g) (rail_glyphs decor) ≡ true) (sym is) (among decor primary); link = refl }
+pub bar_top : (decor : DecorStyle) (primary : Bool) (role : ElementStyle) (ch : ℕ) → ch ≡ glyph_of decor primary 32 32 0x250F 0x250C → IsBarCell decor (unlinked_cell role ch)
+bar_top decor primary role ch is =
+    record { glyph = subst (λ x. list_any (λ g. x == g) (bar_glyphs decor) ≡ true) (sym is) (among decor primary); link = refl }
   where
-    among : (decor : DecorStyle) (primary : Bool) → list_any (λ g. glyph_of decor primary 32 32 0x250F 0x250C == g) (rail_glyphs decor) ≡ true
+    among : (decor : DecorStyle) (primary : Bool) → list_any (λ g. glyph_of decor primary 32 32 0x250F 0x250C == g) (bar_glyphs decor) ≡ true
     among Ascii true = refl
     among Ascii false = refl
     among Unicode true = refl
     among Unicode false = refl
 
-pub rail_bottom : (decor : DecorStyle) (primary : Bool) (role : ElementStyle) (ch : ℕ) → ch ≡ glyph_of decor primary 124 124 0x2517 0x2514 → IsRailCell decor (unlinked_cell role ch)
-rail_bottom decor primary role ch is =
-    record { glyph = subst (λ x. list_any (λ g. x == g) (rail_glyphs decor) ≡ true) (sym is) (among decor primary); link = refl }
+pub bar_bottom : (decor : DecorStyle) (primary : Bool) (role : ElementStyle) (ch : ℕ) → ch ≡ glyph_of decor primary 124 124 0x2517 0x2514 → IsBarCell decor (unlinked_cell role ch)
+bar_bottom decor primary role ch is =
+    record { glyph = subst (λ x. list_any (λ g. x == g) (bar_glyphs decor) ≡ true) (sym is) (among decor primary); link = refl }
   where
-    among : (decor : DecorStyle) (primary : Bool) → list_any (λ g. glyph_of decor primary 124 124 0x2517 0x2514 == g) (rail_glyphs decor) ≡ true
+    among : (decor : DecorStyle) (primary : Bool) → list_any (λ g. glyph_of decor primary 124 124 0x2517 0x2514 == g) (bar_glyphs decor) ≡ true
     among Ascii true = refl
     among Ascii false = refl
     among Unicode true = refl
     among Unicode false = refl
 
 -- bars beside rows: none yet, some more, and one cell
-pub DrawsRails-none : (layout : Layout) (row : ℕ) (rows : List (List Cell)) → DrawsRails layout row rows rows
-DrawsRails-none layout row rows =
+pub DrawsBarCells-none : (layout : Layout) (row : ℕ) (rows : List (List Cell)) → DrawsBarCells layout row rows rows
+DrawsBarCells-none layout row rows =
     record {
       draws = DrawsFrom-none row (layout.gutter + 3) rows;
-      rails = KeepsRails-none layout rows;
+      bar_cells = KeepsBarCells-none layout rows;
       code = λ r. refl;
       longer = λ r. omega arith;
     }
 
-pub DrawsRails-more : (layout : Layout) (row : ℕ) (old mid new : List (List Cell)) → DrawsRails layout row old mid → DrawsRails layout row mid new → DrawsRails layout row old new
-DrawsRails-more layout row old mid new done more =
+pub DrawsBarCells-more : (layout : Layout) (row : ℕ) (old mid new : List (List Cell)) → DrawsBarCells layout row old mid → DrawsBarCells layout row mid new → DrawsBarCells layout row old new
+DrawsBarCells-more layout row old mid new done more =
     record {
       draws = DrawsFrom-more row (layout.gutter + 3) old mid new done.draws more.draws;
-      rails = KeepsRails-more layout old mid new done.rails more.rails;
+      bar_cells = KeepsBarCells-more layout old mid new done.bar_cells more.bar_cells;
       code = λ r. more.code r ∙ done.code r;
       longer = λ r. omega (arith, done.longer r, more.longer r);
     }
 
-pub DrawsRails-writes : (layout : Layout) (row r at : ℕ) (old new : List (List Cell)) (cell : Cell) → WritesCells old new r at (cell ∷ []) → row ≤ r → r < length old → layout.gutter + 3 ≤ at → at < layout.code → IsRailCell layout.decor cell → DrawsRails layout row old new
-DrawsRails-writes layout row r at old new cell writes lower within right left is =
+pub DrawsBarCells-writes : (layout : Layout) (row r at : ℕ) (old new : List (List Cell)) (cell : Cell) → WritesCells old new r at (cell ∷ []) → row ≤ r → r < length old → layout.gutter + 3 ≤ at → at < layout.code → IsBarCell layout.decor cell → DrawsBarCells layout row old new
+DrawsBarCells-writes layout row r at old new cell writes lower within right left is =
     let P : Cell → Type 0 = IsFreeCell in
-    let R : Cell → Type 0 = IsRailCell layout.decor in
+    let R : Cell → Type 0 = IsBarCell layout.decor in
     record {
-      draws = DrawsFrom-writes row r (layout.gutter + 3) at old new (cell ∷ []) writes lower within right (All-cons P cell [] (free_rail layout.decor cell is) (All-nil P));
-      rails = KeepsRails-writes layout old new r at (cell ∷ []) writes (All-cons R cell [] is (All-nil R));
+      draws = DrawsFrom-writes row r (layout.gutter + 3) at old new (cell ∷ []) writes lower within right (All-cons P cell [] (free_bar layout.decor cell is) (All-nil P));
+      bar_cells = KeepsBarCells-writes layout old new r at (cell ∷ []) writes (All-cons R cell [] is (All-nil R));
       code = λ k. elim (cases_eq k r) [
-        | inl here ↦ subst (λ n. drop layout.code (row_at new n) ≡ drop layout.code (row_at old n)) (sym here) behind_code
+        | inl here ↦ subst (λ n. drop layout.code (row_at new n) ≡ drop layout.code (row_at old n)) (sym here) after_code
         | inr other ↦ ap (drop layout.code) (writes.others k other)
       ];
       longer = λ k. elim (cases_eq k r) [
@@ -195,7 +195,7 @@ DrawsRails-writes layout row r at old new cell writes lower within right left is
       ];
     }
   where
-    behind_code : drop layout.code (row_at new r) ≡ drop layout.code (row_at old r)
-    behind_code =
+    after_code : drop layout.code (row_at new r) ≡ drop layout.code (row_at old r)
+    after_code =
         let long : length (drop layout.code (row_at new r)) ≡ length (drop layout.code (row_at old r)) = omega (arith, writes.width, left, length-drop layout.code (row_at new r), length-drop layout.code (row_at old r)) in
-        ext_get_or SPACE (drop layout.code (row_at new r)) (drop layout.code (row_at old r)) long (λ k within. get_or-drop layout.code (row_at new r) k SPACE ∙ writes.behind (layout.code + k) (omega (arith, left)) ∙ sym (get_or-drop layout.code (row_at old r) k SPACE))
+        ext_get_or SPACE (drop layout.code (row_at new r)) (drop layout.code (row_at old r)) long (λ k within. get_or-drop layout.code (row_at new r) k SPACE ∙ writes.after (layout.code + k) (omega (arith, left)) ∙ sym (get_or-drop layout.code (row_at old r) k SPACE))

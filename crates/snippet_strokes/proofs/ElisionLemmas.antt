@@ -2,19 +2,19 @@
 use Rattle.std.proofs.Common.{◌≡◌, ℕ, ◌+◌, ◌<◌, ◌≤◌, ◌∷◌, ◌++◌, [], List, false, length, take, drop, replicate, get_or, refl, sym, ap, ◌∙◌, subst, arith}
 use Rattle.std.proofs.lemmas.List.{places, same_lists, drop_all, drop_more, ext_get_or, get_or_append_left, get_or_past, get_or_push, get_or-take, length-take-le, length_push}
 use Rattle.std.proofs.lemmas.List.Elements.{All-cons, All-nil}
-use Rattle.snippet_style.proofs.CellLemmas.{length-drawn}
+use Rattle.snippet_style.proofs.CellLemmas.{length-text_cells}
 use Rattle.snippet_style.specs.declared.glyphs.DecorStyle.{DecorStyle}
 use Rattle.snippet_style.specs.declared.glyphs.DecorStyle.TheVariants.{Ascii, Unicode}
 use Rattle.snippet_style.specs.declared.role.ElementStyle.TheVariants.{LineNumber}
 use Rattle.snippet_style.specs.Glyphs.{elision_of}
 use Rattle.snippet_grid.specs.Grid.{row_at}
-use Rattle.snippet_style.specs.Cell.{Cell, SPACE, drawn}
+use Rattle.snippet_style.specs.Cell.{Cell, SPACE, text_cells}
 use Rattle.snippet_text.specs.Normalized.{is_listed}
 use Rattle.snippet_strokes.specs.declared.layout.Layout.{Layout}
-use Rattle.snippet_strokes.specs.Rails.{AddsElision, BarsDrawn, DrawsBars}
+use Rattle.snippet_strokes.specs.Bars.{AddsElision, BarsDrawn, DrawsBars}
 use Rattle.snippet_model.specs.Rows.{IsFree}
 use Rattle.snippet_strokes.specs.Rows.{bare_elision_row}
-use Rattle.snippet_strokes.proofs.RailLemmas.{rail_space}
+use Rattle.snippet_strokes.proofs.BarLemmas.{bar_space}
 use Rattle.snippet_strokes.proofs.RowLemmas.{free_led, length-led}
 use Rattle.snippet_strokes.proofs.DrawLemmas.{free_drawn}
 
@@ -23,7 +23,7 @@ abbrev pub elision_cell : DecorStyle → ℕ → ℕ
 elision_cell Ascii gutter = 0
 elision_cell Unicode gutter = gutter + 1
 
-pub bare_elision_is : (decor : DecorStyle) (gutter : ℕ) → replicate (elision_cell decor gutter) SPACE ++ drawn LineNumber (elision_of decor) ≡ bare_elision_row decor gutter
+pub bare_elision_is : (decor : DecorStyle) (gutter : ℕ) → replicate (elision_cell decor gutter) SPACE ++ text_cells LineNumber (elision_of decor) ≡ bare_elision_row decor gutter
 bare_elision_is Ascii gutter = refl
 bare_elision_is Unicode gutter = refl
 
@@ -33,7 +33,7 @@ elision_some Unicode = omega arith
 
 -- it is short and holds no listed character
 bare_elision_short : (decor : DecorStyle) (gutter : ℕ) → length (bare_elision_row decor gutter) ≤ gutter + 3
-bare_elision_short Ascii gutter = omega (arith, length-drawn LineNumber (elision_of Ascii))
+bare_elision_short Ascii gutter = omega (arith, length-text_cells LineNumber (elision_of Ascii))
 bare_elision_short Unicode gutter = omega (arith, length-led (gutter + 1) (elision_of Unicode))
 
 free_bare_elision : (decor : DecorStyle) (gutter : ℕ) → IsFree (bare_elision_row decor gutter)
@@ -61,7 +61,7 @@ elision_added layout old begun new row last place begins draws =
       added = split new row ∙ ap (λ rs. rs ++ drop row new) top ∙ ap (λ rs. old ++ rs) (drop_more new row [] (omega (arith, all)) ∙ ap (λ rs. row_at new row ∷ rs) (drop_all (row + 1) new (omega (arith, all))));
       is = record {
         left = drawn.left;
-        rails = λ c from to. drawn.rails c (rail_space layout.decor (get_or bare c SPACE) (ap (λ (cell : Cell). cell.ch) (get_or_past bare c SPACE (omega (arith, few, from)))) (ap (λ (cell : Cell). cell.link) (get_or_past bare c SPACE (omega (arith, few, from)))));
+        bar_cells = λ c from to. drawn.bar_cells c (bar_space layout.decor (get_or bare c SPACE) (ap (λ (cell : Cell). cell.ch) (get_or_past bare c SPACE (omega (arith, few, from)))) (ap (λ (cell : Cell). cell.link) (get_or_past bare c SPACE (omega (arith, few, from)))));
         ends = omega (arith, drawn.short, few, place);
         free = drawn.free (free_bare_elision layout.decor layout.gutter);
       };

@@ -10,7 +10,7 @@ use Rattle.snippet_view.specs.declared.entries.LineAnnotation.{LineAnnotation}
 use Rattle.snippet_strokes.specs.declared.layout.Layout.{Layout}
 use Rattle.snippet_strokes.specs.declared.positions.PlacedEntry.{PlacedEntry}
 use Rattle.snippet_strokes.specs.Entries.{HasPlace, label_text}
-use Rattle.snippet_strokes.specs.Positions.{HasItsLabel, has_label, do_overlap, ends_no_later, blocks, reaches, crowds, crosses, position_at, position_behind, positions, label_place}
+use Rattle.snippet_strokes.specs.Positions.{HasItsLabel, has_label, do_overlap, ends_no_later, blocks, reaches, crowds, crosses, position_at, position_after, positions, label_place}
 use Rattle.snippet_strokes.specs.Writes.{Reaches}
 use Rattle.snippet_strokes.specs.Strokes.{label_write}
 use Rattle.std.proofs.Common.{not}
@@ -22,7 +22,7 @@ use Rattle.snippet_style.specs.Cell.{Cell, SPACE, unlinked_cell}
 use Rattle.snippet_grid.specs.Grid.{cell_at}
 use Rattle.snippet_strokes.specs.Entries.{label_role}
 use Rattle.snippet_strokes.specs.Painting.{AreMarked, IsPaintedAt, mark_end}
-use Rattle.snippet_strokes.specs.Positions.{ArePlaced, has_stem, is_same_place, is_start, is_start_part, takes_space, turned}
+use Rattle.snippet_strokes.specs.Positions.{ArePlaced, has_stem, is_same_place, is_start, is_start_part, takes_space, flipped}
 use Rattle.snippet_strokes.specs.Writes.{Write, painted}
 use Rattle.snippet_strokes.specs.Labels.{StandsWhole}
 use Rattle.snippet_strokes.specs.Strokes.{label_of, labels_of}
@@ -37,8 +37,8 @@ at_least p e others = by_test (has_label e && list_any (crosses e) others)
     by_test : (b : Bool) → p ≤ cond ((p == 0) && b) 1 p
     by_test b = grind (arith, nat_tests)
 
-behind_least : (q : ℕ) (e : PlacedEntry) (others : List PlacedEntry) → q ≤ position_behind q e others
-behind_least q e others = by_test (list_any (crowds q e) others)
+after_least : (q : ℕ) (e : PlacedEntry) (others : List PlacedEntry) → q ≤ position_after q e others
+after_least q e others = by_test (list_any (crowds q e) others)
   where
     by_test : (b : Bool) → q ≤ cond b (q + 1) q
     by_test true = omega arith
@@ -49,8 +49,8 @@ positions_from p [] = All-nil (λ q. p ≤ q)
 positions_from p (e ∷ others) =
     let q = position_at p e others in
     let here : p ≤ q = at_least p e others in
-    let behind : q ≤ position_behind q e others = behind_least q e others in
-    All-cons (λ n. p ≤ n) q (positions (position_behind q e others) others) here (All-weaker (λ n. position_behind q e others ≤ n) (λ n. p ≤ n) (λ n is. omega (arith, here, behind, is)) (positions (position_behind q e others) others) (positions_from (position_behind q e others) others))
+    let after : q ≤ position_after q e others = after_least q e others in
+    All-cons (λ n. p ≤ n) q (positions (position_after q e others) others) here (All-weaker (λ n. position_after q e others ≤ n) (λ n. p ≤ n) (λ n is. omega (arith, here, after, is)) (positions (position_after q e others) others) (positions_from (position_after q e others) others))
 
 -- a test that no element passes
 any_false : {X : Type 0} (p : X → Bool) (xs : List X) → list_any p xs ≡ false → All (λ x. p x ≡ false) xs
@@ -72,16 +72,16 @@ uncrowded p [] i j d d2 before within same = absurd (omega (arith, within))
 uncrowded p (e ∷ others) zero zero d d2 before within same = absurd (omega (arith, before))
 uncrowded p (e ∷ others) zero (suc j) d d2 before within same =
     let q = position_at p e others in
-    let rest = position_behind q e others in
+    let rest = position_after q e others in
     let later : rest ≤ get_or (positions rest others) j 0 = positions_from rest others j 0 (omega (arith, within, length-positions rest others)) in
-    any_false (crowds q e) others (not_behind q (list_any (crowds q e) others) (omega (arith, later, same))) j d2 (omega (arith, within))
+    any_false (crowds q e) others (not_after q (list_any (crowds q e) others) (omega (arith, later, same))) j d2 (omega (arith, within))
   where
-    not_behind : (q : ℕ) (b : Bool) → cond b (q + 1) q ≤ q → b ≡ false
-    not_behind q true is = absurd (omega (arith, is))
-    not_behind q false is = refl
+    not_after : (q : ℕ) (b : Bool) → cond b (q + 1) q ≤ q → b ≡ false
+    not_after q true is = absurd (omega (arith, is))
+    not_after q false is = refl
 uncrowded p (e ∷ others) (suc i) zero d d2 before within same = absurd (omega (arith, before))
 uncrowded p (e ∷ others) (suc i) (suc j) d d2 before within same =
-    uncrowded (position_behind (position_at p e others) e others) others i j d d2 (omega (arith, before)) (omega (arith, within)) same
+    uncrowded (position_after (position_at p e others) e others) others i j d d2 (omega (arith, before)) (omega (arith, within)) same
 
 -- an entry with a label at position 0 isn't crossed
 pub uncrossed : (p : ℕ) (es : List PlacedEntry) (i j : ℕ) (d d2 : PlacedEntry) → i < j → j < length es → get_or (positions p es) i 0 ≡ 0 → has_label (get_or es i d) ≡ true → crosses (get_or es i d) (get_or es j d2) ≡ false
@@ -99,7 +99,7 @@ uncrossed p (e ∷ others) zero (suc j) d d2 before within zero_there has =
     at_zero p false a is has = cc has
 uncrossed p (e ∷ others) (suc i) zero d d2 before within zero_there has = absurd (omega (arith, before))
 uncrossed p (e ∷ others) (suc i) (suc j) d d2 before within zero_there has =
-    uncrossed (position_behind (position_at p e others) e others) others i j d d2 (omega (arith, before)) (omega (arith, within)) zero_there has
+    uncrossed (position_after (position_at p e others) e others) others i j d d2 (omega (arith, before)) (omega (arith, within)) zero_there has
 
 -- positions grow
 pub ascending : (p : ℕ) (es : List PlacedEntry) (i j : ℕ) → i < j → j < length es → get_or (positions p es) i 0 ≤ get_or (positions p es) j 0
@@ -107,15 +107,15 @@ ascending p [] i j before within = absurd (omega (arith, within))
 ascending p (e ∷ others) zero zero before within = absurd (omega (arith, before))
 ascending p (e ∷ others) zero (suc j) before within =
     let q = position_at p e others in
-    let rest = position_behind q e others in
+    let rest = position_after q e others in
     let later : rest ≤ get_or (positions rest others) j 0 = positions_from rest others j 0 (omega (arith, within, length-positions rest others)) in
-    omega (arith, later, behind_least q e others)
+    omega (arith, later, after_least q e others)
 ascending p (e ∷ others) (suc i) zero before within = absurd (omega (arith, before))
 ascending p (e ∷ others) (suc i) (suc j) before within =
-    ascending (position_behind (position_at p e others) e others) others i j (omega (arith, before)) (omega (arith, within))
+    ascending (position_after (position_at p e others) e others) others i j (omega (arith, before)) (omega (arith, within))
 
 -- where the label of an entry stands: after its mark in the row of the marks, or at its start in a row farther down
-pub record StandsBehind (e : PlacedEntry) : Type 0 where
+pub record StandsAfter (e : PlacedEntry) : Type 0 where
   pub position : e.position ≡ 0
   pub row : (label_place e).0 ≡ 0
   pub from : e.entry.end.display + 1 ≤ (label_place e).1
@@ -126,7 +126,7 @@ pub record StandsBelow (e : PlacedEntry) : Type 0 where
   pub row : (label_place e).0 ≡ e.position + 1
   pub column : (label_place e).1 ≡ e.entry.start.display
 
-pub label_parts : (e : PlacedEntry) → StandsBehind e ⊎ StandsBelow e
+pub label_parts : (e : PlacedEntry) → StandsAfter e ⊎ StandsBelow e
 label_parts e =
     elim (cases_eq e.position 0) [
       | inl zero_here ↦
@@ -189,10 +189,10 @@ labels_apart layout row e f place_e place_f label has_e has_f left clear r c the
       ]
     ]
 
--- where an entry has a label the positions aren't turned round
+-- where an entry has a label the positions aren't flipped
 pub labelled_positions : (given : List LineAnnotation) (es : List PlacedEntry) (k : ℕ) (d : PlacedEntry) → ArePlaced given es → k < length es → has_label (get_or es k d) ≡ true → map (λ (e : PlacedEntry). e.position) es ≡ positions 0 es
 labelled_positions given es k d placed within has =
-    placed.positions_are ∙ ap (λ b. cond b (turned (positions 0 es)) (positions 0 es)) (list_all_at is_start es k d within (no_start (is_start_part (get_or es k d).entry.annotation_type) (has_label (get_or es k d)) has))
+    placed.positions_are ∙ ap (λ b. cond b (flipped (positions 0 es)) (positions 0 es)) (list_all_at is_start es k d within (no_start (is_start_part (get_or es k d).entry.annotation_type) (has_label (get_or es k d)) has))
   where
     no_start : (s l : Bool) → l ≡ true → (s && not l) ≡ false
     no_start true true is = refl
@@ -228,19 +228,19 @@ labels_stand layout row given es rows placed places k d within has n inside =
     let f : PlacedEntry → List Write = label_of layout row in
     let e : PlacedEntry = get_or es k d in
     let w : Write = label_write layout row e in
-    let behind = drop (k + 1) es in
+    let after = drop (k + 1) es in
     let r = row + (label_place e).0 in
     let c = layout.code + (label_place e).1 + n in
     let N : Write → Type 0 = λ v. Reaches r c v → ⊥ in
     let here : Reaches r c w = record { row = refl; from = omega arith; to = omega (arith, inside) } in
-    let split : es ≡ take k es ++ e ∷ behind = sym (take-append-drop k es) ∙ ap (λ xs. take k es ++ xs) (drop_more es k d within) in
-    let parts : labels_of layout row es ≡ labels_of layout row (take k es) ++ w ∷ labels_of layout row behind = ap (flat_map f) split ∙ flat_map-append f (take k es) (e ∷ behind) ∙ ap (λ b. labels_of layout row (take k es) ++ (cond b (w ∷ []) [] ++ labels_of layout row behind)) has in
-    let beside : All N (labels_of layout row behind) = All-flat_map N f behind (λ m d2 fits.
+    let split : es ≡ take k es ++ e ∷ after = sym (take-append-drop k es) ∙ ap (λ xs. take k es ++ xs) (drop_more es k d within) in
+    let parts : labels_of layout row es ≡ labels_of layout row (take k es) ++ w ∷ labels_of layout row after = ap (flat_map f) split ∙ flat_map-append f (take k es) (e ∷ after) ∙ ap (λ b. labels_of layout row (take k es) ++ (cond b (w ∷ []) [] ++ labels_of layout row after)) has in
+    let beside : All N (labels_of layout row after) = All-flat_map N f after (λ m d2 fits.
     let j : ℕ = k + 1 + m in
     let later : j < length es = omega (arith, fits, length-drop (k + 1) es) in
-    let same : get_or behind m d2 ≡ get_or es j d2 = get_or-drop (k + 1) es m d2 in
+    let same : get_or after m d2 ≡ get_or es j d2 = get_or-drop (k + 1) es m d2 in
     subst (λ (x : PlacedEntry). All N (f x)) (sym same) (All-label_of N layout row (get_or es j d2) (λ has_f there. placed_apart layout row given es k j d d2 placed places (omega arith) later has has_f r c here there))) in
-    ap (λ ws. cell_at (painted ws rows) r c) parts ∙ painted-last (labels_of layout row (take k es)) (labels_of layout row behind) w rows r c here beside ∙ ap (λ m. unlinked_cell (label_role e.entry.kind) (get_or (label_text e.entry) m 0)) (omega arith)
+    ap (λ ws. cell_at (painted ws rows) r c) parts ∙ painted-last (labels_of layout row (take k es)) (labels_of layout row after) w rows r c here beside ∙ ap (λ m. unlinked_cell (label_role e.entry.kind) (get_or (label_text e.entry) m 0)) (omega arith)
 
 -- no mark covers a label in the row of the marks: an entry whose mark may stand there ends no farther right, or starts
 -- after the label
@@ -291,7 +291,7 @@ mark_end_le f = by_test (f.entry.start.display == f.entry.end.display && (takes_
     by_test true = omega arith
     by_test false = omega arith
 
-pub unpainted : (e f : PlacedEntry) (n : ℕ) → StandsBehind e → HasItsLabel e → IsClear e f → n < length (label_text e.entry) → IsPaintedAt f ((label_place e).1 + n) → ⊥
+pub unpainted : (e f : PlacedEntry) (n : ℕ) → StandsAfter e → HasItsLabel e → IsClear e f → n < length (label_text e.entry) → IsPaintedAt f ((label_place e).1 + n) → ⊥
 unpainted e f n at has clear inside there =
     let short : length (label_text e.entry) ≤ length (cow_str_bytes e.label) = label_chars_le e has in
     elim clear.clear [

@@ -4,7 +4,7 @@ use Rattle.std.proofs.lemmas.Bool.{cases_Bool}
 use Rattle.std.proofs.lemmas.List.Elements.{All-cons, All-nil}
 use Rattle.snippet_model.specs.declared.snippet.AnnotationKind.{AnnotationKind}
 use Rattle.snippet_model.specs.declared.snippet.AnnotationKind.TheVariants.{Primary, Context, Visible}
-use Rattle.snippet_style.specs.Cell.{Cell, drawn, unlinked_cell}
+use Rattle.snippet_style.specs.Cell.{Cell, text_cells, unlinked_cell}
 use Rattle.snippet_grid.specs.Grid.{cells_written}
 use Rattle.snippet_strokes.specs.declared.layout.Layout.{Layout}
 use Rattle.snippet_strokes.specs.declared.positions.PlacedEntry.{PlacedEntry}
@@ -55,7 +55,7 @@ labels_none layout row es none =
     flat_map-none (label_of layout row) es (λ k d within. ap (λ b. cond b (label_write layout row (get_or es k d) ∷ []) []) (none k d within))
 
 -- a lone label stands one cell after its mark
-pub label_lone : (layout : Layout) (row : ℕ) (e : PlacedEntry) (rows : List (List Cell)) → e.position ≡ 0 → 0 < e.entry.end.display → has_label e ≡ true → painted (labels_of layout row (e ∷ [])) rows ≡ cells_written rows row (layout.code + e.entry.end.display + 1) (drawn (label_role e.entry.kind) (label_text e.entry))
+pub label_lone : (layout : Layout) (row : ℕ) (e : PlacedEntry) (rows : List (List Cell)) → e.position ≡ 0 → 0 < e.entry.end.display → has_label e ≡ true → painted (labels_of layout row (e ∷ [])) rows ≡ cells_written rows row (layout.code + e.entry.end.display + 1) (text_cells (label_role e.entry.kind) (label_text e.entry))
 label_lone layout row e rows beside some has =
-    let at : ℕ × ℕ → List (List Cell) = λ place. cells_written rows (row + place.0) (layout.code + place.1) (drawn (label_role e.entry.kind) (label_text e.entry)) in
-    ap (λ b. painted (cond b (label_write layout row e ∷ []) [] ++ []) rows) has ∙ ap at (label_beside e beside some) ∙ ap (λ r. cells_written rows r (layout.code + (e.entry.end.display + 1)) (drawn (label_role e.entry.kind) (label_text e.entry))) (omega arith) ∙ ap (λ n. cells_written rows row n (drawn (label_role e.entry.kind) (label_text e.entry))) (omega arith)
+    let at : ℕ × ℕ → List (List Cell) = λ place. cells_written rows (row + place.0) (layout.code + place.1) (text_cells (label_role e.entry.kind) (label_text e.entry)) in
+    ap (λ b. painted (cond b (label_write layout row e ∷ []) [] ++ []) rows) has ∙ ap at (label_beside e beside some) ∙ ap (λ r. cells_written rows r (layout.code + (e.entry.end.display + 1)) (text_cells (label_role e.entry.kind) (label_text e.entry))) (omega arith) ∙ ap (λ n. cells_written rows row n (text_cells (label_role e.entry.kind) (label_text e.entry))) (omega arith)

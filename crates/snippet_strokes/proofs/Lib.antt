@@ -21,7 +21,7 @@ pub mod WholeLemmas
 pub mod SnippetLemmas
 pub mod PaintLemmas
 pub mod CutLemmas
-pub mod RailLemmas
+pub mod BarLemmas
 pub mod OpenLemmas
 pub mod ElisionLemmas
 pub mod WholeLineLemmas

@@ -5,7 +5,7 @@ use Rattle.std.proofs.lemmas.Str.{chars_from_encodes, chars-nil}
 use Rattle.std.specs.List.{repeat}
 use Rattle.std.specs.Str.{chars, IsUtf8}
 use Rattle.std.specs.Prelude.{encode_utf8, encode_utf8_all}
-use Rattle.snippet_style.specs.Cell.{Cell, drawn, unlinked_cell}
+use Rattle.snippet_style.specs.Cell.{Cell, text_cells, unlinked_cell}
 use Rattle.snippet_style.specs.declared.role.ElementStyle.{ElementStyle}
 
 encodes-replicate : (n ch : ℕ) → encode_utf8_all (replicate n ch) ≡ repeat n (encode_utf8 ch)
@@ -17,9 +17,9 @@ pub chars-repeat : (n ch : ℕ) (bs : List ℕ) → IsUtf8 bs → bs ≡ repeat 
 chars-repeat n ch bs whole is = sym (chars_from_encodes (replicate n ch) bs whole (encodes-replicate n ch ∙ sym is))
 
 -- the cells that they are drawn in
-pub drawn-replicate : (role : ElementStyle) (n ch : ℕ) → drawn role (replicate n ch) ≡ replicate n (unlinked_cell role ch)
-drawn-replicate role zero ch = refl
-drawn-replicate role (suc n) ch = ap (λ (cells : List Cell). unlinked_cell role ch ∷ cells) (drawn-replicate role n ch)
+pub text_cells-replicate : (role : ElementStyle) (n ch : ℕ) → text_cells role (replicate n ch) ≡ replicate n (unlinked_cell role ch)
+text_cells-replicate role zero ch = refl
+text_cells-replicate role (suc n) ch = ap (λ (cells : List Cell). unlinked_cell role ch ∷ cells) (text_cells-replicate role n ch)
 
 -- a text with characters has bytes
 pub some_bytes : (bs : List ℕ) (n ch : ℕ) → chars bs ≡ replicate n ch → 0 < n → 0 < length bs

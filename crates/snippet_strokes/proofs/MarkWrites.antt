@@ -5,7 +5,7 @@ use Rattle.std.proofs.lemmas.List.{take_all}
 use Rattle.snippet_grid.specs.Grid.{WritesCells, cells_written}
 use Rattle.snippet_grid.proofs.GridLemmas.{WritesCells-cells_written}
 use Rattle.snippet_model.specs.AnnotationKind.{is_primary}
-use Rattle.snippet_style.specs.Cell.{Cell, drawn, unlinked_cell}
+use Rattle.snippet_style.specs.Cell.{Cell, text_cells, unlinked_cell}
 use Rattle.snippet_style.specs.Glyphs.{glyph_of}
 use Rattle.snippet_style.specs.declared.role.ElementStyle.{ElementStyle}
 use Rattle.snippet_strokes.specs.declared.layout.Layout.{Layout}
@@ -13,7 +13,7 @@ use Rattle.snippet_strokes.specs.declared.positions.PlacedEntry.{PlacedEntry}
 use Rattle.snippet_strokes.specs.Painting.{Painted, Paints, first_glyph, mark_cell, mark_end}
 use Rattle.snippet_strokes.specs.Strokes.{mark_of, marks_of, stroke_role}
 use Rattle.snippet_strokes.specs.Writes.{Write, glyph_at, painted, stretch_of}
-use Rattle.snippet_strokes.proofs.LineLemmas.{drawn-replicate}
+use Rattle.snippet_strokes.proofs.LineLemmas.{text_cells-replicate}
 use Rattle.snippet_strokes.proofs.PaintLemmas.{Painted-next, Painted-none, Paints-more, Paints-none, Paints-past, Paints-rest, first_cell_is, other_cell_is}
 use Rattle.snippet_strokes.proofs.WriteLemmas.{flat_map-take_more, less, mark_of-none, painted-append, stretch_of-none}
 
@@ -29,15 +29,15 @@ paints_some layout row e old some =
     let marks = mark_cell layout e in
     let n = to - (from + 1) in
     let w : Write = record { row = row; cell = from + 1; text = replicate n glyph; role = role } in
-    let mid : List (List Cell) = cells_written old row from (drawn role (first ∷ [])) in
+    let mid : List (List Cell) = cells_written old row from (text_cells role (first ∷ [])) in
     let new : List (List Cell) = painted (stretch_of row (from + 1) to glyph role) mid in
-    let one : WritesCells old mid row from (marks from ∷ []) = subst (λ (x : Cell). WritesCells old mid row from (x ∷ [])) (first_cell_is layout e first (is_primary e.entry.kind) role refl refl refl) (WritesCells-cells_written old row from (drawn role (first ∷ []))) in
+    let one : WritesCells old mid row from (marks from ∷ []) = subst (λ (x : Cell). WritesCells old mid row from (x ∷ [])) (first_cell_is layout e first (is_primary e.entry.kind) role refl refl refl) (WritesCells-cells_written old row from (text_cells role (first ∷ []))) in
     let begun : Paints old mid row from (from + 1) marks = Paints-more old old mid row from from (from + 1) marks (Paints-none old row from marks) one (omega arith) refl in
     let is_line = other_cell_is layout e glyph (is_primary e.entry.kind) role refl refl refl in
     let is : painted (mark_of layout row e) old ≡ new = ap (λ b. painted (cond b (glyph_at row from first role ∷ stretch_of row (from + 1) to glyph role) []) old) (less from to (omega (arith, some))) in
     subst (λ (rows : List (List Cell)). Paints old rows row from to marks) (sym is) (elim (cases_lt (from + 1) to) [
       | inl more ↦
-          let writes : WritesCells mid new row (from + 1) (replicate n line) = subst (WritesCells mid new row (from + 1)) (drawn-replicate role n glyph) (subst (λ (rows : List (List Cell)). WritesCells mid rows row (from + 1) (drawn role (replicate n glyph))) (sym (ap (λ b. painted (cond b (w ∷ []) []) mid) (less (from + 1) to more))) (WritesCells-cells_written mid row (from + 1) (drawn role (replicate n glyph)))) in
+          let writes : WritesCells mid new row (from + 1) (replicate n line) = subst (WritesCells mid new row (from + 1)) (text_cells-replicate role n glyph) (subst (λ (rows : List (List Cell)). WritesCells mid rows row (from + 1) (text_cells role (replicate n glyph))) (sym (ap (λ b. painted (cond b (w ∷ []) []) mid) (less (from + 1) to more))) (WritesCells-cells_written mid row (from + 1) (text_cells role (replicate n glyph)))) in
           Paints-rest old mid new row from to line marks begun (λ c past. is_line c past) more writes
       | inr none ↦
           let all : from + 1 ≡ to = omega (arith, none, some) in

@@ -28,9 +28,9 @@ use Rattle.snippet_strokes.specs.Painting.{IsPaintedAt, Paints, Painted, ShowsFr
 pub Paints-none : (rows : List (List Cell)) (row from : ℕ) (cell : ℕ → Cell) → Paints rows rows row from from cell
 Paints-none rows row from cell =
     record {
-      inside = λ c after before. absurd (omega arith);
+      inside = λ c later before. absurd (omega arith);
       before = λ c _. refl;
-      behind = λ c _. refl;
+      after = λ c _. refl;
       others = λ r _. refl;
       count = λ _. refl;
       width = λ some. absurd (omega arith);
@@ -41,15 +41,15 @@ Paints-none rows row from cell =
 pub Paints-more : (old mid new : List (List Cell)) (row from to next : ℕ) (cell : ℕ → Cell) → Paints old mid row from to cell → WritesCells mid new row to (cell to ∷ []) → from ≤ to → next ≡ to + 1 → Paints old new row from next cell
 Paints-more old mid new row from to next cell done writes ordered one =
     record {
-      inside = λ c after before. elim (cases_lt c to) [
-        | inl earlier ↦ writes.before c earlier ∙ done.inside c after earlier
+      inside = λ c later before. elim (cases_lt c to) [
+        | inl earlier ↦ writes.before c earlier ∙ done.inside c later earlier
         | inr late ↦
             let here : to + 0 ≡ c = omega arith in
             let last : to ≡ c = omega arith in
             ap (cell_at new row) (sym here) ∙ writes.inside 0 (omega arith) ∙ ap cell last
       ];
       before = λ c left. writes.before c (omega arith) ∙ done.before c left;
-      behind = λ c right. writes.behind c (omega arith) ∙ done.behind c (omega arith);
+      after = λ c right. writes.after c (omega arith) ∙ done.after c (omega arith);
       others = λ r other. writes.others r other ∙ done.others r other;
       count = λ within. omega (arith, writes.count, done.count within);
       width = λ some. elim (cases_lt from to) [
@@ -63,9 +63,9 @@ Paints-more old mid new row from to next cell done writes ordered one =
 pub Paints-past : (rows : List (List Cell)) (row from to : ℕ) (cell : ℕ → Cell) → to ≤ from → Paints rows rows row from to cell
 Paints-past rows row from to cell past =
     record {
-      inside = λ c after before. absurd (omega (arith, past));
+      inside = λ c later before. absurd (omega (arith, past));
       before = λ c _. refl;
-      behind = λ c _. refl;
+      after = λ c _. refl;
       others = λ r _. refl;
       count = λ _. refl;
       width = λ some. absurd (omega (arith, past));
@@ -78,8 +78,8 @@ Paints-rest old mid new row from to line cell done is more writes =
     let n = to - (from + 1) in
     let long : length (replicate n line) ≡ n = length-replicate n line in
     record {
-      inside = λ c after before. elim (cases_lt c (from + 1)) [
-        | inl first ↦ writes.before c first ∙ done.inside c after first
+      inside = λ c later before. elim (cases_lt c (from + 1)) [
+        | inl first ↦ writes.before c first ∙ done.inside c later first
         | inr late ↦
             let k : ℕ = c - (from + 1) in
             let here : from + 1 + k ≡ c = omega (arith, late) in
@@ -87,7 +87,7 @@ Paints-rest old mid new row from to line cell done is more writes =
             ap (cell_at new row) (sym here) ∙ writes.inside k (omega (arith, within, long)) ∙ get_or-replicate n k line SPACE within ∙ is c (omega (arith, late))
       ];
       before = λ c left. writes.before c (omega (arith, left)) ∙ done.before c left;
-      behind = λ c right. writes.behind c (omega (arith, right, long, more)) ∙ done.behind c (omega (arith, right, more));
+      after = λ c right. writes.after c (omega (arith, right, long, more)) ∙ done.after c (omega (arith, right, more));
       others = λ r other. writes.others r other ∙ done.others r other;
       count = λ within. omega (arith, writes.count, done.count within, within);
       width = λ some. omega (arith, writes.width, done.width (omega arith), long, more);
@@ -179,9 +179,9 @@ covers_or_not : (e : PlacedEntry) (p : ℕ) → IsPaintedAt e p ⊎ (IsPaintedAt
 covers_or_not e p =
     elim (cases_lt p e.entry.start.display) [
       | inl left ↦ inr (λ covers. omega (arith, covers.0))
-      | inr after ↦
+      | inr later ↦
           elim (cases_lt p (mark_end e)) [
-            | inl before ↦ inl (after, before)
+            | inl before ↦ inl (later, before)
             | inr right ↦ inr (λ covers. omega (arith, covers.1))
           ]
     ]
@@ -198,10 +198,10 @@ untouched : (layout : Layout) (mid new : List (List Cell)) (row p : ℕ) (e : Pl
 untouched layout mid new row p e paints not_covered =
     elim (cases_lt p e.entry.start.display) [
       | inl left ↦ paints.before (layout.code + p) (omega arith)
-      | inr after ↦
+      | inr later ↦
           elim (cases_lt p (mark_end e)) [
-            | inl before ↦ absurd (not_covered (after, before))
-            | inr right ↦ paints.behind (layout.code + p) (omega arith)
+            | inl before ↦ absurd (not_covered (later, before))
+            | inr right ↦ paints.after (layout.code + p) (omega arith)
           ]
     ]
 
@@ -264,10 +264,10 @@ Painted-more layout es e row old mid new done paints =
           paints.before c last ∙ done.left c first;
       free = λ c is. elim (cases_lt c (layout.code + e.entry.start.display)) [
         | inl left ↦ subst IsFreeCell (sym (paints.before c left)) (done.free c is)
-        | inr after ↦
+        | inr later ↦
             elim (cases_lt c (layout.code + mark_end e)) [
-              | inl inside ↦ subst IsFreeCell (sym (paints.inside c after inside)) (free_mark_cell layout e c)
-              | inr right ↦ subst IsFreeCell (sym (paints.behind c right)) (done.free c is)
+              | inl inside ↦ subst IsFreeCell (sym (paints.inside c later inside)) (free_mark_cell layout e c)
+              | inr right ↦ subst IsFreeCell (sym (paints.after c right)) (done.free c is)
             ]
       ];
       others = λ r other. paints.others r other ∙ done.others r other;

@@ -13,7 +13,7 @@ use Rattle.std.specs.List.Sorted.{IsPermutation}
 use Rattle.std.proofs.lemmas.List.Sorted.{All-permutation, IsPermutation-map}
 use Rattle.snippet_view.specs.declared.entries.LineAnnotation.{LineAnnotation}
 use Rattle.snippet_strokes.specs.declared.positions.PlacedEntry.{PlacedEntry}
-use Rattle.snippet_strokes.specs.Positions.{ArePlaced, IsFromRight, HasItsLabel, asks, do_overlap, ends_no_later, has_label, takes_space, has_stem, is_start, is_start_part, are_starts, crosses, crowds, position_at, position_behind, positions, turned, line_positions, lowest_position, row_count, label_place, unplaced}
+use Rattle.snippet_strokes.specs.Positions.{ArePlaced, IsFromRight, HasItsLabel, asks, do_overlap, ends_no_later, has_label, takes_space, has_stem, is_start, is_start_part, are_starts, crosses, crowds, position_at, position_after, positions, flipped, line_positions, lowest_position, row_count, label_place, unplaced}
 use Rattle.snippet_strokes.specs.Painting.{HasRows}
 use Rattle.snippet_view.specs.Measures.{greatest}
 use Rattle.snippet_strokes.specs.Entries.{HasPlace}
@@ -24,14 +24,14 @@ list_any-map p f [] = refl
 list_any-map p f (x ∷ xs) = ap (λ b. p (f x) || b) (list_any-map p f xs)
 
 -- one more position is known
-pub positions_more : (ps : List ℕ) (es : List PlacedEntry) (all : List ℕ) (i reached : ℕ) (d : PlacedEntry) → i < length es → ps ++ positions reached (drop i es) ≡ all → let e = get_or es i d in let others = drop (i + 1) es in (ps ++ position_at reached e others ∷ []) ++ positions (position_behind (position_at reached e others) e others) others ≡ all
+pub positions_more : (ps : List ℕ) (es : List PlacedEntry) (all : List ℕ) (i reached : ℕ) (d : PlacedEntry) → i < length es → ps ++ positions reached (drop i es) ≡ all → let e = get_or es i d in let others = drop (i + 1) es in (ps ++ position_at reached e others ∷ []) ++ positions (position_after (position_at reached e others) e others) others ≡ all
 positions_more ps es all i reached d within so_far =
     let e = get_or es i d in
     let others = drop (i + 1) es in
-    append_assoc ps (position_at reached e others ∷ []) (positions (position_behind (position_at reached e others) e others) others) ∙ sym (ap (λ xs. ps ++ positions reached xs) (drop_more es i d within)) ∙ so_far
+    append_assoc ps (position_at reached e others ∷ []) (positions (position_after (position_at reached e others) e others) others) ∙ sym (ap (λ xs. ps ++ positions reached xs) (drop_more es i d within)) ∙ so_far
 
 -- the position reached grows by one at most, from 1 on
-pub reached_low : (reached i : ℕ) (e : PlacedEntry) (others : List PlacedEntry) → reached ≤ i + 1 → position_behind (position_at reached e others) e others ≤ i + 1 + 1
+pub reached_low : (reached i : ℕ) (e : PlacedEntry) (others : List PlacedEntry) → reached ≤ i + 1 → position_after (position_at reached e others) e others ≤ i + 1 + 1
 reached_low reached i e others low =
     grind (arith, nat_tests)
 
@@ -47,8 +47,8 @@ positions-unlabelled p (e ∷ others) none flat =
     let rest_flat : All T others = All-tail T e others flat in
     let here : position_at p e others ≡ p = at_bare p e others own in
     let uncrowded : list_any (crowds p e) others ≡ false = list_any_none (crowds p e) others (λ k d within. crowds_bare p e (get_or others k d) own own_flat (rest k d within) (rest_flat k d within)) in
-    let behind : position_behind p e others ≡ p = ap (λ t. cond t (p + 1) p) uncrowded in
-    All-cons (λ q. q ≡ p) (position_at p e others) _ here (subst (λ q. All (λ x. x ≡ p) (positions (position_behind q e others) others)) (sym here) (subst (λ q. All (λ x. x ≡ p) (positions q others)) (sym behind) (positions-unlabelled p others rest rest_flat)))
+    let after : position_after p e others ≡ p = ap (λ t. cond t (p + 1) p) uncrowded in
+    All-cons (λ q. q ≡ p) (position_at p e others) _ here (subst (λ q. All (λ x. x ≡ p) (positions (position_after q e others) others)) (sym here) (subst (λ q. All (λ x. x ≡ p) (positions q others)) (sym after) (positions-unlabelled p others rest rest_flat)))
   where
     cond_and : (b : Bool) (x y : ℕ) → cond (b && false) x y ≡ y
     cond_and true x y = refl
@@ -74,16 +74,16 @@ pub positions_low : (p n : ℕ) (es : List PlacedEntry) → max p 1 + length es 
 positions_low p n [] low = All-nil (λ q. q ≤ n)
 positions_low p n (e ∷ others) low =
     let here : position_at p e others ≤ max p 1 = at_most p ((p == 0) && (has_label e && list_any (crosses e) others)) in
-    let next : position_behind (position_at p e others) e others ≤ max p 1 + 1 = behind_most (position_at p e others) (list_any (crowds (position_at p e others) e) others) (max p 1) here in
-    All-cons (λ q. q ≤ n) (position_at p e others) _ (omega (arith, here, low)) (positions_low (position_behind (position_at p e others) e others) n others (omega (arith, next, low)))
+    let next : position_after (position_at p e others) e others ≤ max p 1 + 1 = after_most (position_at p e others) (list_any (crowds (position_at p e others) e) others) (max p 1) here in
+    All-cons (λ q. q ≤ n) (position_at p e others) _ (omega (arith, here, low)) (positions_low (position_after (position_at p e others) e others) n others (omega (arith, next, low)))
   where
     at_most : (p : ℕ) (b : Bool) → cond b 1 p ≤ max p 1
     at_most p true = omega arith
     at_most p false = omega arith
 
-    behind_most : (p : ℕ) (b : Bool) (m : ℕ) → p ≤ m → cond b (p + 1) p ≤ m + 1
-    behind_most p true m low = omega arith
-    behind_most p false m low = omega arith
+    after_most : (p : ℕ) (b : Bool) (m : ℕ) → p ≤ m → cond b (p + 1) p ≤ m + 1
+    after_most p true m low = omega arith
+    after_most p false m low = omega arith
 
 -- each position is at most the lowest one
 fold-max_ge : (es : List PlacedEntry) (m : ℕ) → m ≤ fold (λ lowest (e : PlacedEntry). max lowest e.position) m es
@@ -159,7 +159,7 @@ stemless_bare e bare flat =
 pub stemless_beside : (e : PlacedEntry) → e.position ≡ 0 → has_stem e ≡ false
 stemless_beside e beside = ap (λ n. nat_lt 0 n && (has_label e || takes_space e)) beside
 
--- at position 0 a label begins in the row of the marks, one column behind its entry
+-- at position 0 a label begins in the row of the marks, one column after its entry
 pub label_beside : (e : PlacedEntry) → e.position ≡ 0 → 0 < e.entry.end.display → label_place e ≡ (0, e.entry.end.display + 1)
 label_beside e beside some = rw (eq-eqb e.position 0 beside, above_zero e.entry.end.display some) refl
 
@@ -167,7 +167,7 @@ label_beside e beside some = rw (eq-eqb e.position 0 beside, above_zero e.entry.
 pub length-positions : (p : ℕ) (es : List PlacedEntry) → length (positions p es) ≡ length es
 length-positions p [] = refl
 length-positions p (e ∷ others) =
-    ap suc (length-positions (position_behind (position_at p e others) e others) others)
+    ap suc (length-positions (position_after (position_at p e others) e others) others)
 
 -- what holds of the entries of a line holds of the placed ones
 pub entries_all : (Q : LineAnnotation → Type 0) (es : List LineAnnotation) (ps : List PlacedEntry) → IsPermutation es (map (λ (e : PlacedEntry). e.entry) ps) → All Q es → All (λ (e : PlacedEntry). Q e.entry) ps
@@ -182,8 +182,8 @@ positions-unplaced p (e ∷ others) =
     let crossed : list_any (crosses (unplaced e)) (map unplaced others) ≡ list_any (crosses e) others = list_any-map (crosses (unplaced e)) unplaced others in
     let here : position_at p (unplaced e) (map unplaced others) ≡ position_at p e others = ap (λ b. cond ((p == 0) && (has_label e && b)) 1 p) crossed in
     let crowded : (q : ℕ) → list_any (crowds q (unplaced e)) (map unplaced others) ≡ list_any (crowds q e) others = λ q. list_any-map (crowds q (unplaced e)) unplaced others in
-    let behind : (q : ℕ) → position_behind q (unplaced e) (map unplaced others) ≡ position_behind q e others = λ q. ap (λ b. cond b (q + 1) q) (crowded q) in
-    ap (λ q. q ∷ positions (position_behind q (unplaced e) (map unplaced others)) (map unplaced others)) here ∙ ap (λ q. position_at p e others ∷ positions q (map unplaced others)) (behind (position_at p e others)) ∙ ap (λ qs. position_at p e others ∷ qs) (positions-unplaced (position_behind (position_at p e others) e others) others)
+    let after : (q : ℕ) → position_after q (unplaced e) (map unplaced others) ≡ position_after q e others = λ q. ap (λ b. cond b (q + 1) q) (crowded q) in
+    ap (λ q. q ∷ positions (position_after q (unplaced e) (map unplaced others)) (map unplaced others)) here ∙ ap (λ q. position_at p e others ∷ positions q (map unplaced others)) (after (position_at p e others)) ∙ ap (λ qs. position_at p e others ∷ qs) (positions-unplaced (position_after (position_at p e others) e others) others)
 
 -- what doesn't look at positions is kept where nothing else changes
 pub all_kept : (P : PlacedEntry → Type 0) (es fs : List PlacedEntry) → ((e : PlacedEntry) → P (unplaced e) → P e) → ((e : PlacedEntry) → P e → P (unplaced e)) → map unplaced es ≡ map unplaced fs → All P fs → All P es
@@ -241,7 +241,7 @@ row_count_some es = some (lowest_position es) (are_starts es)
     some n true = grind (arith, nat_tests)
     some n false = grind (arith, nat_tests)
 
--- positions that are turned round are no lower than those given
+-- positions that are flipped are no lower than those given
 greatest_from : (ps : List ℕ) (m n : ℕ) → m ≤ n → All (λ q. q ≤ n) ps → fold (λ m n. max m n) m ps ≤ n
 greatest_from [] m n low all = low
 greatest_from (p ∷ ps) m n low all =
@@ -250,21 +250,21 @@ greatest_from (p ∷ ps) m n low all =
 
 pub line_positions_low : (n : ℕ) (es : List PlacedEntry) → All (λ q. q ≤ n) (positions 0 es) → All (λ q. q ≤ n) (line_positions es)
 line_positions_low n es all =
-    elim (are_starts es) as (λ b. All (λ q. q ≤ n) (cond b (turned (positions 0 es)) (positions 0 es))) [
+    elim (are_starts es) as (λ b. All (λ q. q ≤ n) (cond b (flipped (positions 0 es)) (positions 0 es))) [
       | true ↦ All-map (λ q. q ≤ n) (λ p. greatest (positions 0 es) - p) (positions 0 es) (λ k d within. omega (arith, greatest_from (positions 0 es) 0 n (omega arith) all))
       | false ↦ all
     ]
 
 pub length-line_positions : (es : List PlacedEntry) → length (line_positions es) ≡ length es
 length-line_positions es =
-    elim (are_starts es) as (λ b. length (cond b (turned (positions 0 es)) (positions 0 es)) ≡ length es) [
+    elim (are_starts es) as (λ b. length (cond b (flipped (positions 0 es)) (positions 0 es)) ≡ length es) [
       | true ↦ length-map (positions 0 es) (λ p. greatest (positions 0 es) - p) ∙ length-positions 0 es
       | false ↦ length-positions 0 es
     ]
 
 line_positions-unplaced : (es : List PlacedEntry) → line_positions (map unplaced es) ≡ line_positions es
 line_positions-unplaced es =
-    ap (λ b. cond b (turned (positions 0 (map unplaced es))) (positions 0 (map unplaced es))) (list_all-map is_start unplaced es) ∙ ap (λ ps. cond (are_starts es) (turned ps) ps) (positions-unplaced 0 es)
+    ap (λ b. cond b (flipped (positions 0 (map unplaced es))) (positions 0 (map unplaced es))) (list_all-map is_start unplaced es) ∙ ap (λ ps. cond (are_starts es) (flipped ps) ps) (positions-unplaced 0 es)
 
 pub line_positions_kept : (es fs : List PlacedEntry) → map unplaced es ≡ map unplaced fs → line_positions es ≡ line_positions fs
 line_positions_kept es fs kept = sym (line_positions-unplaced es) ∙ ap line_positions kept ∙ line_positions-unplaced fs
@@ -318,6 +318,6 @@ uncrowding p e other none =
     by_tests false false false false overlap wide is = refl
 
 -- so only those that ask decide which position is reached
-pub position_behind-front : (p : ℕ) (e : PlacedEntry) (others : List PlacedEntry) (n : ℕ) → ((k : ℕ) (d : PlacedEntry) → n ≤ k → k < length others → asks (get_or others k d) ≡ false) → position_behind p e (take n others) ≡ position_behind p e others
-position_behind-front p e others n none =
+pub position_after-front : (p : ℕ) (e : PlacedEntry) (others : List PlacedEntry) (n : ℕ) → ((k : ℕ) (d : PlacedEntry) → n ≤ k → k < length others → asks (get_or others k d) ≡ false) → position_after p e (take n others) ≡ position_after p e others
+position_after-front p e others n none =
     ap (λ b. cond b (p + 1) p) (any_front (crowds p e) n others (λ k d past within. uncrowding p e (get_or others k d) (none k d past within)))

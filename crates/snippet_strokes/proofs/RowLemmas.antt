@@ -10,9 +10,9 @@ use Rattle.snippet_style.specs.declared.glyphs.DecorStyle.TheVariants.{Ascii, Un
 use Rattle.snippet_style.specs.declared.role.ElementStyle.TheVariants.{LineNumber}
 use Rattle.snippet_style.specs.Glyphs.{separator_of, closing_of}
 use Rattle.snippet_grid.specs.Grid.{cells_written}
-use Rattle.snippet_style.specs.Cell.{Cell, SPACE, drawn, unlinked_cell, written}
+use Rattle.snippet_style.specs.Cell.{Cell, SPACE, text_cells, unlinked_cell, written}
 use Rattle.snippet_grid.proofs.GridLemmas.{cells_written_below, cells_written_last}
-use Rattle.snippet_style.proofs.CellLemmas.{length-chars_le, length-drawn, length-written, drop-written, take-written_past, slice_index_or-written_before, slice_index_or-written_behind}
+use Rattle.snippet_style.proofs.CellLemmas.{length-chars_le, length-text_cells, length-written, drop-written, take-written_past, slice_index_or-written_before, slice_index_or-written_after}
 use Rattle.snippet_text.specs.Normalized.{is_listed}
 use Rattle.snippet_model.specs.Rows.{IsFreeCell}
 use Rattle.snippet_strokes.proofs.DrawLemmas.{free_drawn}
@@ -32,14 +32,14 @@ begun_by old new row at cells below writes =
     writes ∙ ap (λ r. cells_written old r at cells) below ∙ cells_written_below old at cells ∙ ap (λ r. old ++ r ∷ []) (written-nil at cells)
 
 -- a row that is begun by a text
-pub begun_by_text : (old new : List (List Cell)) (row at : ℕ) (text chs : List ℕ) → row ≡ length old → chars text ≡ chs → 0 < length chs → (0 < length text → new ≡ cells_written old row at (drawn LineNumber (chars text))) → new ≡ old ++ (replicate at SPACE ++ drawn LineNumber chs) ∷ []
+pub begun_by_text : (old new : List (List Cell)) (row at : ℕ) (text chs : List ℕ) → row ≡ length old → chars text ≡ chs → 0 < length chs → (0 < length text → new ≡ cells_written old row at (text_cells LineNumber (chars text))) → new ≡ old ++ (replicate at SPACE ++ text_cells LineNumber chs) ∷ []
 begun_by_text old new row at text chs below is some writes =
-    begun_by old new row at (drawn LineNumber chs) below (writes (omega (arith, length-chars_le text, ap length is, some)) ∙ ap (λ cs. cells_written old row at (drawn LineNumber cs)) is)
+    begun_by old new row at (text_cells LineNumber chs) below (writes (omega (arith, length-chars_le text, ap length is, some)) ∙ ap (λ cs. cells_written old row at (text_cells LineNumber cs)) is)
 
 -- a row that is begun by the separator alone
-pub begun : (old new : List (List Cell)) (row gutter stroke : ℕ) (decor : DecorStyle) → row ≡ length old → stroke ≡ separator_of decor → new ≡ cells_written old row (gutter + 1) (drawn LineNumber (stroke ∷ [])) → new ≡ old ++ separator_row decor gutter ∷ []
+pub begun : (old new : List (List Cell)) (row gutter stroke : ℕ) (decor : DecorStyle) → row ≡ length old → stroke ≡ separator_of decor → new ≡ cells_written old row (gutter + 1) (text_cells LineNumber (stroke ∷ [])) → new ≡ old ++ separator_row decor gutter ∷ []
 begun old new row gutter stroke decor below glyph writes =
-    writes ∙ ap (λ r. cells_written old r (gutter + 1) (drawn LineNumber (stroke ∷ []))) below ∙ ap (λ s. cells_written old (length old) (gutter + 1) (drawn LineNumber (s ∷ []))) glyph ∙ cells_written_below old (gutter + 1) (drawn LineNumber (separator_of decor ∷ [])) ∙ ap (λ r. old ++ r ∷ []) (written-nil (gutter + 1) (drawn LineNumber (separator_of decor ∷ [])))
+    writes ∙ ap (λ r. cells_written old r (gutter + 1) (text_cells LineNumber (stroke ∷ []))) below ∙ ap (λ s. cells_written old (length old) (gutter + 1) (text_cells LineNumber (s ∷ []))) glyph ∙ cells_written_below old (gutter + 1) (text_cells LineNumber (separator_of decor ∷ [])) ∙ ap (λ r. old ++ r ∷ []) (written-nil (gutter + 1) (text_cells LineNumber (separator_of decor ∷ [])))
 
 -- a row after a text was put into it: one with no bytes leaves it as it was
 abbrev pub texted : List ℕ → List Cell → ℕ → List Cell → List Cell
@@ -59,17 +59,17 @@ written_start xs new =
 
 -- the row that has its number
 abbrev pub front : Layout → List ℕ → List Cell
-front layout shown = written SPACE (separator_row layout.decor layout.gutter) 0 (drawn LineNumber shown)
+front layout shown = written SPACE (separator_row layout.decor layout.gutter) 0 (text_cells LineNumber shown)
 
 -- a text put at the row's start, also one with no bytes
-texted_start : (bytes : List ℕ) (row : List Cell) → texted bytes row 0 (drawn LineNumber (chars bytes)) ≡ written SPACE row 0 (drawn LineNumber (chars bytes))
+texted_start : (bytes : List ℕ) (row : List Cell) → texted bytes row 0 (text_cells LineNumber (chars bytes)) ≡ written SPACE row 0 (text_cells LineNumber (chars bytes))
 texted_start [] row =
-    sym (ap (λ cs. written SPACE row 0 (drawn LineNumber cs)) chars-nil ∙ written_start row [])
+    sym (ap (λ cs. written SPACE row 0 (text_cells LineNumber cs)) chars-nil ∙ written_start row [])
 texted_start (b ∷ bs) row = refl
 
 pub length-separator_row : (decor : DecorStyle) (gutter : ℕ) → length (separator_row decor gutter) ≡ gutter + 2
 length-separator_row decor gutter =
-    omega (arith, length-append (replicate (gutter + 1) SPACE) (drawn LineNumber (separator_of decor ∷ [])), length-replicate (gutter + 1) SPACE)
+    omega (arith, length-append (replicate (gutter + 1) SPACE) (text_cells LineNumber (separator_of decor ∷ [])), length-replicate (gutter + 1) SPACE)
 
 -- the separator row, read cell by cell
 pub separator_row_at : (decor : DecorStyle) (gutter : ℕ) → slice_index_or (separator_row decor gutter) (gutter + 1) SPACE ≡ unlinked_cell LineNumber (separator_of decor)
@@ -81,7 +81,7 @@ separator_row_blank decor gutter c other =
     let len = length-replicate (gutter + 1) SPACE in
     elim (cases_lt c (gutter + 1)) [
       | inl left ↦
-          get_or_append_left (replicate (gutter + 1) SPACE) (drawn LineNumber (separator_of decor ∷ [])) SPACE c (omega arith) ∙ get_or-replicate (gutter + 1) c SPACE SPACE left
+          get_or_append_left (replicate (gutter + 1) SPACE) (text_cells LineNumber (separator_of decor ∷ [])) SPACE c (omega arith) ∙ get_or-replicate (gutter + 1) c SPACE SPACE left
       | inr right ↦ get_or_past (separator_row decor gutter) c SPACE (omega (arith, length-separator_row decor gutter))
     ]
 
@@ -93,21 +93,21 @@ free_separator Unicode = refl
 pub free_separator_row : (decor : DecorStyle) (gutter : ℕ) → IsFree (separator_row decor gutter)
 free_separator_row decor gutter =
     let P : Cell → Type 0 = IsFreeCell in
-    All-append P (replicate (gutter + 1) SPACE) (drawn LineNumber (separator_of decor ∷ [])) (All-replicate P (gutter + 1) SPACE (refl, refl)) (All-cons P (unlinked_cell LineNumber (separator_of decor)) [] (free_separator decor, refl) (All-nil P))
+    All-append P (replicate (gutter + 1) SPACE) (text_cells LineNumber (separator_of decor ∷ [])) (All-replicate P (gutter + 1) SPACE (refl, refl)) (All-cons P (unlinked_cell LineNumber (separator_of decor)) [] (free_separator decor, refl) (All-nil P))
 
--- a row of spaces and some characters behind them, read cell by cell
+-- a row of spaces and some characters after them, read cell by cell
 led_before : (n c : ℕ) (cells : List Cell) → c < n → slice_index_or (replicate n SPACE ++ cells) c SPACE ≡ SPACE
 led_before n c cells left =
     get_or_append_left (replicate n SPACE) cells SPACE c (omega (arith, length-replicate n SPACE, left)) ∙ get_or-replicate n c SPACE SPACE left
 
-pub length-led : (n : ℕ) (chs : List ℕ) → length (replicate n SPACE ++ drawn LineNumber chs) ≡ n + length chs
+pub length-led : (n : ℕ) (chs : List ℕ) → length (replicate n SPACE ++ text_cells LineNumber chs) ≡ n + length chs
 length-led n chs =
-    length-append (replicate n SPACE) (drawn LineNumber chs) ∙ ap (λ k. k + length (drawn LineNumber chs)) (length-replicate n SPACE) ∙ ap (λ k. n + k) (length-drawn LineNumber chs)
+    length-append (replicate n SPACE) (text_cells LineNumber chs) ∙ ap (λ k. k + length (text_cells LineNumber chs)) (length-replicate n SPACE) ∙ ap (λ k. n + k) (length-text_cells LineNumber chs)
 
-pub free_led : (n : ℕ) (chs : List ℕ) → All (λ c. is_listed c ≡ false) chs → IsFree (replicate n SPACE ++ drawn LineNumber chs)
+pub free_led : (n : ℕ) (chs : List ℕ) → All (λ c. is_listed c ≡ false) chs → IsFree (replicate n SPACE ++ text_cells LineNumber chs)
 free_led n chs free =
     let P : Cell → Type 0 = IsFreeCell in
-    All-append P (replicate n SPACE) (drawn LineNumber chs) (All-replicate P n SPACE (refl, refl)) (free_drawn LineNumber chs free)
+    All-append P (replicate n SPACE) (text_cells LineNumber chs) (All-replicate P n SPACE (refl, refl)) (free_drawn LineNumber chs free)
 
 -- closing glyphs are one or two characters, none of them listed
 pub closing_some : (decor : DecorStyle) → 0 < length (closing_of decor)
@@ -131,7 +131,7 @@ bare_row_short decor gutter false = omega (arith, length-separator_row decor gut
 
 pub bare_row_left : (decor : DecorStyle) (gutter : ℕ) (closes : Bool) (c : ℕ) → c ≤ gutter → slice_index_or (bare_row decor gutter closes) c SPACE ≡ SPACE
 bare_row_left decor gutter true c left =
-    led_before (gutter + 1) c (drawn LineNumber (closing_of decor)) (omega (arith, left))
+    led_before (gutter + 1) c (text_cells LineNumber (closing_of decor)) (omega (arith, left))
 bare_row_left decor gutter false c left = separator_row_blank decor gutter c (λ same. omega (arith, same, left))
 
 pub bare_row_right : (decor : DecorStyle) (gutter : ℕ) (closes : Bool) (c : ℕ) → gutter + 3 ≤ c → slice_index_or (bare_row decor gutter closes) c SPACE ≡ SPACE
@@ -153,22 +153,22 @@ free_written row at cells free_row free_cells =
 -- the row that has its number, read
 length-front : (layout : Layout) (shown : List ℕ) → length shown ≤ layout.gutter + 1 → length (front layout shown) ≡ layout.gutter + 2
 length-front layout shown short =
-    omega (arith, length-written SPACE (separator_row layout.decor layout.gutter) 0 (drawn LineNumber shown), length-separator_row layout.decor layout.gutter, length-drawn LineNumber shown)
+    omega (arith, length-written SPACE (separator_row layout.decor layout.gutter) 0 (text_cells LineNumber shown), length-separator_row layout.decor layout.gutter, length-text_cells LineNumber shown)
 
-take-front : (layout : Layout) (shown : List ℕ) → take (length shown) (front layout shown) ≡ drawn LineNumber shown
+take-front : (layout : Layout) (shown : List ℕ) → take (length shown) (front layout shown) ≡ text_cells LineNumber shown
 take-front layout shown =
     let row = separator_row layout.decor layout.gutter in
-    let cells = drawn LineNumber shown in
-    ap (take (length shown)) (written_start row cells) ∙ take_at cells (drop (length cells) row) (length shown) (length-drawn LineNumber shown)
+    let cells = text_cells LineNumber shown in
+    ap (take (length shown)) (written_start row cells) ∙ take_at cells (drop (length cells) row) (length shown) (length-text_cells LineNumber shown)
 
-front_behind : (layout : Layout) (shown : List ℕ) (c : ℕ) → length shown ≤ c → slice_index_or (front layout shown) c SPACE ≡ slice_index_or (separator_row layout.decor layout.gutter) c SPACE
-front_behind layout shown c behind =
-    slice_index_or-written_behind SPACE (separator_row layout.decor layout.gutter) 0 (drawn LineNumber shown) c SPACE (omega (arith, length-drawn LineNumber shown))
+front_after : (layout : Layout) (shown : List ℕ) (c : ℕ) → length shown ≤ c → slice_index_or (front layout shown) c SPACE ≡ slice_index_or (separator_row layout.decor layout.gutter) c SPACE
+front_after layout shown c after =
+    slice_index_or-written_after SPACE (separator_row layout.decor layout.gutter) 0 (text_cells LineNumber shown) c SPACE (omega (arith, length-text_cells LineNumber shown))
 
 free_front : (layout : Layout) (shown : List ℕ) → All (λ c. is_listed c ≡ false) shown → IsFree (front layout shown)
 free_front layout shown free =
     let P : Cell → Type 0 = IsFreeCell in
-    free_written (separator_row layout.decor layout.gutter) 0 (drawn LineNumber shown) (free_separator_row layout.decor layout.gutter) (free_drawn LineNumber shown free)
+    free_written (separator_row layout.decor layout.gutter) 0 (text_cells LineNumber shown) (free_separator_row layout.decor layout.gutter) (free_drawn LineNumber shown free)
 
 -- the row of a line that has no text
 source_bare : (layout : Layout) (shown : List ℕ) → layout.gutter + 3 ≤ layout.code → length shown ≤ layout.gutter + 1 → All (λ c. is_listed c ≡ false) shown → IsSourceRow layout shown [] (front layout shown)
@@ -178,8 +178,8 @@ source_bare layout shown place short free =
         number = take-front layout shown;
         code = drop_all layout.code (front layout shown) (omega (arith, length-front layout shown short));
       };
-      separator = front_behind layout shown (layout.gutter + 1) short ∙ separator_row_at layout.decor layout.gutter;
-      blank = λ c behind other left. front_behind layout shown c behind ∙ separator_row_blank layout.decor layout.gutter c other;
+      separator = front_after layout shown (layout.gutter + 1) short ∙ separator_row_at layout.decor layout.gutter;
+      blank = λ c after other left. front_after layout shown c after ∙ separator_row_blank layout.decor layout.gutter c other;
       free = free_front layout shown free;
     }
 
@@ -197,7 +197,7 @@ source_full layout shown cells place short free_shown free_cells =
         code = drop-written SPACE start layout.code cells ∙ ap (λ rest. cells ++ rest) (drop_all (layout.code + length cells) start (omega arith)) ∙ append-nil cells;
       };
       separator = before (layout.gutter + 1) (omega arith) ∙ bare.separator;
-      blank = λ c behind other left. before c left ∙ bare.blank c behind other left;
+      blank = λ c after other left. before c left ∙ bare.blank c after other left;
       free = free_written start layout.code cells bare.free free_cells;
     }
 
@@ -208,9 +208,9 @@ source_celled layout shown (cell ∷ cells) place short free_shown free_cells =
     source_full layout shown (cell ∷ cells) place short free_shown free_cells
 
 -- the number is written
-pub number_written : (layout : Layout) (number : List ℕ) (old begun mid : List (List Cell)) (row : ℕ) → row ≡ length old → begun ≡ old ++ separator_row layout.decor layout.gutter ∷ [] → (0 < length number → mid ≡ cells_written begun row 0 (drawn LineNumber (chars number))) → (number ≡ [] → mid ≡ begun) → mid ≡ old ++ front layout (chars number) ∷ []
+pub number_written : (layout : Layout) (number : List ℕ) (old begun mid : List (List Cell)) (row : ℕ) → row ≡ length old → begun ≡ old ++ separator_row layout.decor layout.gutter ∷ [] → (0 < length number → mid ≡ cells_written begun row 0 (text_cells LineNumber (chars number))) → (number ≡ [] → mid ≡ begun) → mid ≡ old ++ front layout (chars number) ∷ []
 number_written layout number old begun mid row last begins numbers number_stays =
-    text_put old begun mid (separator_row layout.decor layout.gutter) row 0 number (drawn LineNumber (chars number)) begins last numbers number_stays ∙ ap (λ r. old ++ r ∷ []) (texted_start number (separator_row layout.decor layout.gutter))
+    text_put old begun mid (separator_row layout.decor layout.gutter) row 0 number (text_cells LineNumber (chars number)) begins last numbers number_stays ∙ ap (λ r. old ++ r ∷ []) (texted_start number (separator_row layout.decor layout.gutter))
 
 -- the row that has its number ends left of the code
 pub front_short : (layout : Layout) (shown : List ℕ) → layout.gutter + 3 ≤ layout.code → length shown ≤ layout.gutter + 1 → length (front layout shown) ≤ layout.code

@@ -3,7 +3,7 @@ use Rattle.std.proofs.Common.{◌≡◌, ℕ, ◌-◌, ◌<◌, ◌^◌, List, [
 use Rattle.std.proofs.lemmas.List.Elements.{All-map}
 use Rattle.snippet_strokes.specs.declared.layout.Layout.{Layout}
 use Rattle.snippet_view.specs.declared.entries.LineAnnotation.{LineAnnotation}
-use Rattle.snippet_strokes.specs.Entries.{HasPlace, HasRail, shifted}
+use Rattle.snippet_strokes.specs.Entries.{HasPlace, HasBarCell, shifted}
 
 -- shifted entries end no farther right
 pub shifted_narrow : (dropped : ℕ) (es : List LineAnnotation) → All (λ e. e.end.display < 2 ^ 60) es → All (λ e. e.end.display < 2 ^ 60) (map (shifted dropped) es)
@@ -15,8 +15,8 @@ pub shifted_places : (dropped : ℕ) (es : List LineAnnotation) → All HasPlace
 shifted_places dropped es places =
     All-map HasPlace (shifted dropped) es (λ k d within. record { ordered = omega (arith, (places k d within).ordered); near = omega (arith, (places k d within).near) })
 
-pub shifted_rails : (layout : Layout) (dropped : ℕ) (es : List LineAnnotation) → All (HasRail layout) es → All (HasRail layout) (map (shifted dropped) es)
-shifted_rails layout dropped es rails = All-map (HasRail layout) (shifted dropped) es rails
+pub shifted_bars : (layout : Layout) (dropped : ℕ) (es : List LineAnnotation) → All (HasBarCell layout) es → All (HasBarCell layout) (map (shifted dropped) es)
+shifted_bars layout dropped es bar_cells = All-map (HasBarCell layout) (shifted dropped) es bar_cells
 
 -- where nothing is dropped, entries stay
 shifted_zero : (e : LineAnnotation) → shifted 0 e ≡ e

@@ -27,8 +27,8 @@ use Rattle.snippet_text.specs.Width.{width_of}
 use Rattle.snippet_model.specs.AnnotationKind.{is_primary}
 use Rattle.snippet_view.specs.Measures.{StandsClear, is_bar}
 use Rattle.snippet_strokes.specs.Entries.{are_plain, is_end_part, shifted}
-use Rattle.snippet_strokes.specs.Rails.{AddsGap, DrawsBars}
-use Rattle.snippet_strokes.proofs.RailLemmas.{AddsStrokes-drawn, rail_space}
+use Rattle.snippet_strokes.specs.Bars.{AddsGap, DrawsBars}
+use Rattle.snippet_strokes.proofs.BarLemmas.{AddsStrokes-drawn, bar_space}
 use Rattle.snippet_strokes.proofs.CellLemmas.{row_text-window_cells}
 use Rattle.snippet_strokes.proofs.WholeLemmas.{window_cells-whole}
 use Rattle.snippet_lines.specs.Number.{shown_number}
@@ -133,10 +133,10 @@ no_bars layout shown cells dropped es plain row source short is = (
   omega (arith, is.width, source_row_long layout shown cells plain source),
   λ c from to.
       let cell = highlighted_cell layout.code dropped es plain row is c (source.blank c (omega (arith, short, from)) (λ same. omega (arith, same, from)) to) in
-      rail_space layout.decor (slice_index_or row c SPACE) cell.0 cell.1,
+      bar_space layout.decor (slice_index_or row c SPACE) cell.0 cell.1,
 )
 
--- entries that stand behind the padding stand behind the columns that are dropped
+-- entries that stand after the padding stand after the columns that are dropped
 pub clear_entries : (margin : Margin) (dropped : ℕ) (es : List LineAnnotation) → All (StandsClear margin) es → dropped < (bounds_of margin).left + 4 → ((bounds_of margin).left ≡ 0 → dropped ≡ 0) → All (λ e. is_bar e.annotation_type ≡ false → dropped ≤ e.start.display) es
 clear_entries margin dropped es all near uncut k d within columns =
     elim (cases_lt 0 (bounds_of margin).left) [
@@ -201,7 +201,7 @@ last_closes true infos i within =
     grind (arith, nat_tests, length-drop (i + 1) infos, within)
 last_closes false infos i within = refl
 
--- the line that stands next is drawn, and the row for lines that are left out behind it
+-- the line that stands next is drawn, and the row for lines that are left out after it
 pub AddsLines-next : (layout : Layout) (margin : Margin) (numbers : LineNumbers) (closes : Bool) (infos : List AnnotatedLineInfo) (i : ℕ) (info : AnnotatedLineInfo) (old before mid new : List (List Cell)) → i < length infos → info ≡ get_or infos i info → AddsLines layout margin numbers closes infos i old before → AddsLine layout margin numbers (closes && i + 1 == length infos) info before mid → AddsGap layout info.line_index (drop (i + 1) infos) mid new → AddsLines layout margin numbers closes infos (i + 1) old new
 AddsLines-next layout margin numbers closes infos i info old before mid new within is done line gap =
     let later = drop (i + 1) infos in

@@ -12,37 +12,37 @@ use Rattle.snippet_view.specs.Window.{AreReplaced}
 use Rattle.snippet_style.specs.Glyphs.{placeholder_of}
 use Rattle.snippet_grid.specs.Print.{row_text}
 use Rattle.snippet_grid.specs.Grid.{cell_at, row_at, cells_written}
-use Rattle.snippet_style.specs.Cell.{Cell, SPACE, drawn, written}
+use Rattle.snippet_style.specs.Cell.{Cell, SPACE, text_cells, written}
 use Rattle.snippet_grid.proofs.GridLemmas.{row_at-cells_written_same}
 use Rattle.snippet_style.proofs.CellLemmas.{length-written}
 use Rattle.snippet_strokes.specs.declared.layout.Layout.{Layout}
 use Rattle.snippet_strokes.specs.declared.positions.PlacedEntry.{PlacedEntry}
-use Rattle.snippet_strokes.specs.Entries.{EntryCovers, HasPlace, IsRailCell, are_plain, is_single, label_text, label_role, has_mark_role, wide_entries}
+use Rattle.snippet_strokes.specs.Entries.{EntryCovers, HasPlace, IsBarCell, are_plain, is_single, label_text, label_role, has_mark_role, wide_entries}
 use Rattle.snippet_model.specs.Rows.{IsFreeCell}
-use Rattle.snippet_strokes.specs.Painting.{IsPaintedAt, DrawsFrom, DrawsRails, KeepsRails, MarksStarts, StandsFrom, AreMarked, mark_end}
+use Rattle.snippet_strokes.specs.Painting.{IsPaintedAt, DrawsFrom, DrawsBarCells, KeepsBarCells, MarksStarts, StandsFrom, AreMarked, mark_end}
 use Rattle.snippet_strokes.specs.Positions.{HasItsLabel, has_label, has_stem, takes_space, positions, line_positions, row_count, ArePlaced}
 use Rattle.snippet_model.specs.Rows.{IsFree}
 use Rattle.snippet_strokes.specs.Rows.{bare_row, CutsRows, IsBeside, IsCut, HasNoBars, IsStrokeRow, AddsStrokes, ShowsMarks}
 use Rattle.snippet_style.specs.Separators.{separator_row, closing_row}
-use Rattle.snippet_strokes.proofs.DrawLemmas.{DrawsFrom-more, rail_space}
+use Rattle.snippet_strokes.proofs.DrawLemmas.{DrawsFrom-more, bar_space}
 use Rattle.snippet_strokes.specs.Labels.{StandsWhole}
 use Rattle.snippet_strokes.proofs.LabelPlaces.{LabelsStand-none, LabelsStand-placed}
 use Rattle.snippet_strokes.proofs.MarkLemmas.{mark_shown}
 use Rattle.snippet_strokes.proofs.PaintLemmas.{IsPlainEntry, covered_painted, mark_end_plain, spaceless}
 use Rattle.snippet_strokes.proofs.PositionLemmas.{entries_all, line_positions_low, of_positions, positions-unlabelled, positions_sole, row_count_one, row_count_some, stemless_bare, stemless_beside}
 use Rattle.snippet_strokes.proofs.RowLemmas.{bare_row_short, bare_row_right, free_bare_row}
-use Rattle.snippet_strokes.proofs.BegunLemmas.{kept_above, begun_row, written_far, same_behind, free_cell, sole, plain_entries, plain_narrow, cut_left, IsStrokeRow-cut, same_front}
+use Rattle.snippet_strokes.proofs.BegunLemmas.{kept_above, begun_row, written_far, same_after, free_cell, sole, plain_entries, plain_narrow, cut_left, IsStrokeRow-cut, same_front}
 
 module _ (layout : Layout) (room : ℕ) (closes : Bool) (es : List LineAnnotation) (placed : List PlacedEntry) (above_rows : List (List Cell)) (plain_row : List Cell) (begun joined barred stemmed labelled new : List (List Cell))
     (place : layout.gutter + 3 ≤ layout.code)
     (is : ArePlaced es placed)
     (places : All (λ (e : PlacedEntry). HasPlace e.entry) placed)
-    (bare_rails : HasNoBars layout plain_row)
+    (bare_bars : HasNoBars layout plain_row)
     (begins : begun ≡ (above_rows ++ plain_row ∷ []) ++ replicate (row_count placed - 1) (separator_row layout.decor layout.gutter) ++ bare_row layout.decor layout.gutter closes ∷ [])
     (lines : DrawsFrom (length above_rows + 1) (layout.gutter + 3) begun joined)
-    (line_rails : KeepsRails layout begun joined)
+    (line_bar_cells : KeepsBarCells layout begun joined)
     (no_lines : All (λ (e : PlacedEntry). is_single e.entry ≡ true) placed → joined ≡ begun)
-    (bars : DrawsRails layout (length above_rows) joined barred)
+    (bars : DrawsBarCells layout (length above_rows) joined barred)
     (no_bars : All (λ (e : PlacedEntry). is_single e.entry ≡ true) placed → barred ≡ joined)
     (stems : (from : ℕ) → All (λ (e : PlacedEntry). StandsFrom layout.code from e.entry) placed → DrawsFrom (length above_rows + 1) from barred stemmed)
     (no_stems : All (λ e. has_stem e ≡ false) placed → stemmed ≡ barred)
@@ -50,7 +50,7 @@ module _ (layout : Layout) (room : ℕ) (closes : Bool) (es : List LineAnnotatio
     (stem_starts : MarksStarts layout.code placed barred stemmed)
     (label_starts : MarksStarts layout.code [] stemmed labelled)
     (no_labels : All (λ e. has_label e ≡ false) placed → labelled ≡ stemmed)
-    (lone_label : (e : PlacedEntry) → placed ≡ e ∷ [] → e.position ≡ 0 → 0 < e.entry.end.display → has_label e ≡ true → labelled ≡ cells_written stemmed (length above_rows + 1) (layout.code + e.entry.end.display + 1) (drawn (label_role e.entry.kind) (label_text e.entry)))
+    (lone_label : (e : PlacedEntry) → placed ≡ e ∷ [] → e.position ≡ 0 → 0 < e.entry.end.display → has_label e ≡ true → labelled ≡ cells_written stemmed (length above_rows + 1) (layout.code + e.entry.end.display + 1) (text_cells (label_role e.entry.kind) (label_text e.entry)))
     (marked : AreMarked layout placed (length above_rows + 1) labelled new)
     (stands : All (StandsWhole layout (length above_rows + 1) new) placed) where
   -- the rows that were there
@@ -136,11 +136,11 @@ module _ (layout : Layout) (room : ℕ) (closes : Bool) (es : List LineAnnotatio
   source_left c before =
       ap (λ cells. slice_index_or cells c SPACE) barred_source ∙ bars.draws.left (length above_rows) c before ∙ ap (λ cells. slice_index_or cells c SPACE) joined_source
 
-  source_rails : (c : ℕ) → layout.gutter + 3 ≤ c → c < layout.code → IsRailCell layout.decor (slice_index_or source c SPACE)
-  source_rails c right before =
-      let R : Cell → Type 0 = IsRailCell layout.decor in
-      let begun_here : R (cell_at joined (length above_rows) c) = subst (λ cells. R (slice_index_or cells c SPACE)) (sym joined_source) (bare_rails.1 c right before) in
-      subst (λ cells. R (slice_index_or cells c SPACE)) (sym barred_source) (bars.rails (length above_rows) c before begun_here)
+  source_bar_cells : (c : ℕ) → layout.gutter + 3 ≤ c → c < layout.code → IsBarCell layout.decor (slice_index_or source c SPACE)
+  source_bar_cells c right before =
+      let R : Cell → Type 0 = IsBarCell layout.decor in
+      let begun_here : R (cell_at joined (length above_rows) c) = subst (λ cells. R (slice_index_or cells c SPACE)) (sym joined_source) (bare_bars.1 c right before) in
+      subst (λ cells. R (slice_index_or cells c SPACE)) (sym barred_source) (bars.bar_cells (length above_rows) c before begun_here)
 
   source_code : drop layout.code source ≡ drop layout.code plain_row
   source_code = ap (drop layout.code) barred_source ∙ bars.code (length above_rows) ∙ ap (drop layout.code) joined_source
@@ -158,9 +158,9 @@ module _ (layout : Layout) (room : ℕ) (closes : Bool) (es : List LineAnnotatio
   pub source_beside : (wide : ℕ) (row_now : List Cell) → IsCut layout wide source row_now → IsBeside layout wide plain_row row_now
   source_beside wide row_now cut =
       record {
-        front = sym (take-take (layout.gutter + 2) layout.code row_now (omega (arith, place))) ∙ ap (take (layout.gutter + 2)) cut.left ∙ take-take (layout.gutter + 2) layout.code source (omega (arith, place)) ∙ same_front source plain_row (layout.gutter + 2) (omega (arith, source_long, bare_rails.0)) bare_rails.0 (λ c before. source_left c (omega (arith, before)));
+        front = sym (take-take (layout.gutter + 2) layout.code row_now (omega (arith, place))) ∙ ap (take (layout.gutter + 2)) cut.left ∙ take-take (layout.gutter + 2) layout.code source (omega (arith, place)) ∙ same_front source plain_row (layout.gutter + 2) (omega (arith, source_long, bare_bars.0)) bare_bars.0 (λ c before. source_left c (omega (arith, before)));
         gap = cut_left layout wide source row_now cut (layout.gutter + 2) (omega (arith, place)) ∙ source_left (layout.gutter + 2) (omega arith);
-        rails = λ c right before. subst (IsRailCell layout.decor) (sym (cut_left layout wide source row_now cut c before)) (source_rails c right before);
+        bar_cells = λ c right before. subst (IsBarCell layout.decor) (sym (cut_left layout wide source row_now cut c before)) (source_bar_cells c right before);
         text = subst (λ cells. AreReplaced (placeholder_of layout.decor) wide (row_text cells) (row_text (drop layout.code row_now))) source_code cut.text;
         uncut = λ none. ap (drop layout.code) (cut.uncut none) ∙ source_code;
         free = λ free. cut.free (source_free free);
@@ -184,11 +184,11 @@ module _ (layout : Layout) (room : ℕ) (closes : Bool) (es : List LineAnnotatio
   gutter_of k c within before =
       left_barred k c (omega (arith, before, place)) ∙ bars.draws.left (row + k) c before ∙ lines.left (row + k) c before ∙ ap (λ cells. slice_index_or cells c SPACE) (begun_at k within)
 
-  rails_of : (k c : ℕ) → k < row_count placed → layout.gutter + 3 ≤ c → c < layout.code → IsRailCell layout.decor (cell_at new (row + k) c)
-  rails_of k c within right before =
-      let R : Cell → Type 0 = IsRailCell layout.decor in
+  bar_cells_of : (k c : ℕ) → k < row_count placed → layout.gutter + 3 ≤ c → c < layout.code → IsBarCell layout.decor (cell_at new (row + k) c)
+  bar_cells_of k c within right before =
+      let R : Cell → Type 0 = IsBarCell layout.decor in
       let blank : cell_at begun (row + k) c ≡ SPACE = ap (λ cells. slice_index_or cells c SPACE) (begun_at k within) ∙ bare_row_right layout.decor layout.gutter (closes && k + 1 == row_count placed) c right in
-      subst R (sym (left_barred k c before)) (bars.rails (row + k) c before (line_rails (row + k) c before (subst R (sym blank) (rail_space layout.decor))))
+      subst R (sym (left_barred k c before)) (bars.bar_cells (row + k) c before (line_bar_cells (row + k) c before (subst R (sym blank) (bar_space layout.decor))))
 
   -- on a plain line no line leads to a bar
   single : plain ≡ true → All (λ (e : PlacedEntry). IsPlainEntry e.entry) placed
@@ -232,7 +232,7 @@ module _ (layout : Layout) (room : ℕ) (closes : Bool) (es : List LineAnnotatio
   stroke_row k within =
       record {
         left = λ c before. gutter_of k c within before;
-        rails = λ c right before. rails_of k c within right before;
+        bar_cells = λ c right before. bar_cells_of k c within right before;
         before = λ flat c from right before all. left_of flat k c from within before all ∙ bare_row_right layout.decor layout.gutter (closes && k + 1 == row_count placed) c (omega (arith, right, place));
         free = All-from_get_or P (row_at new (row + k)) SPACE (λ c _. free_at k within c);
       }
@@ -288,33 +288,33 @@ module _ (layout : Layout) (room : ℕ) (closes : Bool) (es : List LineAnnotatio
       in_one x (zero, within, here) = here
       in_one x (suc k, within, here) = absurd (omega arith)
 
-  -- behind the mark of a line's one entry stand a space and its label
-  lone : plain ≡ true → (e : LineAnnotation) → es ≡ e ∷ [] → e.start.display < e.end.display → 0 < length (label_text e) → drop (layout.code + e.end.display) (row_at new row) ≡ SPACE ∷ drawn (label_role e.kind) (label_text e)
+  -- after the mark of a line's one entry stand a space and its label
+  lone : plain ≡ true → (e : LineAnnotation) → es ≡ e ∷ [] → e.start.display < e.end.display → 0 < length (label_text e) → drop (layout.code + e.end.display) (row_at new row) ≡ SPACE ∷ text_cells (label_role e.kind) (label_text e)
   lone flat e one some shown =
       let found = lone_placed e one in
       let q : PlacedEntry = found.0 in
       let entry : q.entry ≡ e = found.2 in
       let at : ℕ = layout.code + e.end.display in
-      let cells : List Cell = drawn (label_role e.kind) (label_text e) in
+      let cells : List Cell = text_cells (label_role e.kind) (label_text e) in
       let text : chars (cow_str_bytes q.label) ≡ label_text e = subst (All HasItsLabel) found.1 is.labels 0 q (omega arith) ∙ ap label_text entry in
       let labels_here : has_label q ≡ true = has (chars (cow_str_bytes q.label)) (omega (arith, ap length text, shown)) in
       let bare_stems : stemmed ≡ begun = no_stems (subst (All (λ x. has_stem x ≡ false)) (sym found.1) (All-cons (λ x. has_stem x ≡ false) q [] (stemless_beside q found.3) (All-nil (λ x. has_stem x ≡ false)))) ∙ barless flat in
-      let write : LineAnnotation → List (List Cell) = λ x. cells_written begun row (layout.code + x.end.display + 1) (drawn (label_role x.kind) (label_text x)) in
+      let write : LineAnnotation → List (List Cell) = λ x. cells_written begun row (layout.code + x.end.display + 1) (text_cells (label_role x.kind) (label_text x)) in
       let past : 0 < q.entry.end.display = omega (arith, some, ap (λ (x : LineAnnotation). x.end.display) entry) in
-      let puts : labelled ≡ write e = lone_label q found.1 found.3 past labels_here ∙ ap (λ rows. cells_written rows row (layout.code + q.entry.end.display + 1) (drawn (label_role q.entry.kind) (label_text q.entry))) bare_stems ∙ ap write entry in
+      let puts : labelled ≡ write e = lone_label q found.1 found.3 past labels_here ∙ ap (λ rows. cells_written rows row (layout.code + q.entry.end.display + 1) (text_cells (label_role q.entry.kind) (label_text q.entry))) bare_stems ∙ ap write entry in
       let line : row_at labelled row ≡ written SPACE (bare 0) (at + 1) cells = ap (λ rows. row_at rows row) puts ∙ row_at-cells_written_same begun row (at + 1) cells ∙ ap (λ cs. written SPACE cs (at + 1) cells) first_begun in
       let long : length (row_at labelled row) ≡ max (length (bare 0)) (at + 1 + length cells) = ap length line ∙ length-written SPACE (bare 0) (at + 1) cells in
       let ends : mark_end q ≡ e.end.display = mark_end_plain q (subst (All (λ (x : PlacedEntry). IsPlainEntry x.entry)) found.1 (single flat) 0 q (omega arith)) ∙ ap (λ (x : LineAnnotation). x.end.display) entry in
       let width : length (row_at new row) ≡ max (length (row_at labelled row)) at = marked.painted.width q (lone_order q found.1) (omega (arith, ends, some, ap (λ (x : LineAnnotation). x.start.display) entry)) ∙ ap (λ n. max (length (row_at labelled row)) (layout.code + n)) ends in
       let same_long : length (row_at new row) ≡ length (row_at labelled row) = omega (arith, width, long) in
-      let same : drop at (row_at new row) ≡ drop at (row_at labelled row) = same_behind (row_at new row) (row_at labelled row) at same_long (λ c right. behind q e found.1 ends c right) in
+      let same : drop at (row_at new row) ≡ drop at (row_at labelled row) = same_after (row_at new row) (row_at labelled row) at same_long (λ c right. after q e found.1 ends c right) in
       same ∙ ap (drop at) line ∙ written_far (bare 0) cells at (omega (arith, bare_row_short layout.decor layout.gutter (closes && 0 + 1 == row_count placed), place))
     where
       has : (cs : List ℕ) → 0 < length cs → not (length cs == 0) ≡ true
       has cs some = grind (arith, nat_tests, some)
 
-      behind : (q : PlacedEntry) (e : LineAnnotation) → placed ≡ q ∷ [] → mark_end q ≡ e.end.display → (c : ℕ) → layout.code + e.end.display ≤ c → cell_at new row c ≡ cell_at labelled row c
-      behind q e one ends c right =
+      after : (q : PlacedEntry) (e : LineAnnotation) → placed ≡ q ∷ [] → mark_end q ≡ e.end.display → (c : ℕ) → layout.code + e.end.display ≤ c → cell_at new row c ≡ cell_at labelled row c
+      after q e one ends c right =
           let p : ℕ = c - layout.code in
           let N : PlacedEntry → Type 0 = λ x. IsPaintedAt x p → ⊥ in
           let here : layout.code + p ≡ c = omega (arith, right) in
@@ -417,7 +417,7 @@ module _ (layout : Layout) (room : ℕ) (closes : Bool) (es : List LineAnnotatio
 
 -- a line with no entries has no strokes, but a row that closes the window where it closes there
 pub strokes_none : (layout : Layout) (room : ℕ) (closes : Bool) (es : List LineAnnotation) (above : List (List Cell)) (plain : List Cell) (old new : List (List Cell)) → layout.gutter + 3 ≤ layout.code → length es ≡ 0 → old ≡ above ++ plain ∷ [] → HasNoBars layout plain → new ≡ old ++ (if closes then closing_row layout.decor layout.gutter ∷ [] else []) → AddsStrokes layout room es closes above plain new
-strokes_none layout room closes es above plain old new place none old_is bare_rails adds =
+strokes_none layout room closes es above plain old new place none old_is bare_bars adds =
     record {
       source = plain;
       rows = if closes then closing_row layout.decor layout.gutter ∷ [] else [];
@@ -425,7 +425,7 @@ strokes_none layout room closes es above plain old new place none old_is bare_ra
       beside = record {
         front = refl;
         gap = refl;
-        rails = bare_rails.1;
+        bar_cells = bare_bars.1;
         text = unreplaced (wide_entries room layout.decor es) (row_text (drop layout.code plain));
         uncut = λ _. refl;
         free = λ free. free;
@@ -466,7 +466,7 @@ strokes_none layout room closes es above plain old new place none old_is bare_ra
     rows_are true zero within =
         record {
           left = λ c before. refl;
-          rails = λ c right before. subst (IsRailCell layout.decor) (sym (bare_row_right layout.decor layout.gutter true c right)) (rail_space layout.decor);
+          bar_cells = λ c right before. subst (IsBarCell layout.decor) (sym (bare_row_right layout.decor layout.gutter true c right)) (bar_space layout.decor);
           before = λ _ c from right before all. bare_row_right layout.decor layout.gutter true c (omega (arith, right, place));
           free = free_bare_row layout.decor layout.gutter true;
         }

@@ -9,7 +9,7 @@ use Rattle.snippet_view.specs.Window.{reaching, fitting, reaching_last, window_l
 use Rattle.snippet_style.specs.declared.glyphs.DecorStyle.{DecorStyle}
 use Rattle.snippet_style.specs.declared.role.ElementStyle.TheVariants.{Quotation}
 use Rattle.snippet_style.specs.Glyphs.{placeholder_of}
-use Rattle.snippet_style.specs.Cell.{Cell, drawn}
+use Rattle.snippet_style.specs.Cell.{Cell, text_cells}
 use Rattle.snippet_text.specs.Width.{char_width, width_of}
 use Rattle.snippet_strokes.specs.Rows.{shown_cells, window_cells}
 
@@ -54,12 +54,12 @@ cells_between decor room left right text =
     let inner = inner_part room left right text in
     shown_cells decor (covered_columns left placeholder inner) (uncovered_part left placeholder inner) (covered_end room left right placeholder text)
 
-whole_between : (decor : DecorStyle) (room right : ℕ) (text : List ℕ) → width_of text ≤ room → cells_between decor room 0 right text ≡ drawn Quotation text
+whole_between : (decor : DecorStyle) (room right : ℕ) (text : List ℕ) → width_of text ≤ room → cells_between decor room 0 right text ≡ text_cells Quotation text
 unfolding cells_between
 whole_between decor room right text fits =
-    ap (λ e. shown_cells decor None (inner_part room 0 right text) e) (end-none room right (placeholder_of decor) text fits) ∙ ap (drawn Quotation) (inner-whole room right text fits)
+    ap (λ e. shown_cells decor None (inner_part room 0 right text) e) (end-none room right (placeholder_of decor) text fits) ∙ ap (text_cells Quotation) (inner-whole room right text fits)
 
-pub window_cells-whole : (decor : DecorStyle) (margin : Margin) (text : List ℕ) → (bounds_of margin).left ≡ 0 → width_of text ≤ margin.term_width → window_cells decor margin text ≡ drawn Quotation text
+pub window_cells-whole : (decor : DecorStyle) (margin : Margin) (text : List ℕ) → (bounds_of margin).left ≡ 0 → width_of text ≤ margin.term_width → window_cells decor margin text ≡ text_cells Quotation text
 unfolding cells_between
 window_cells-whole decor margin text uncut fits =
     ap (λ left. cells_between decor margin.term_width left (bounds_of margin).right text) uncut ∙ whole_between decor margin.term_width (bounds_of margin).right text fits

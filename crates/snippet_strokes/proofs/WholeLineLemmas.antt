@@ -19,10 +19,10 @@ use Rattle.snippet_strokes.specs.Entries.{are_plain, is_single, label_text, shif
 use Rattle.snippet_strokes.specs.Labels.{IsLabelledAtEnd}
 use Rattle.snippet_strokes.proofs.LabelPlaces.{LabelsStand-none}
 use Rattle.std.proofs.lemmas.List.Elements.{All-cons, All-head, All-nil, All-tail}
-use Rattle.snippet_strokes.specs.Rails.{DrawsBars, is_before, is_beside, is_beside_first, is_whole_line}
+use Rattle.snippet_strokes.specs.Bars.{DrawsBars, is_before, is_beside, is_beside_first, is_whole_line}
 use Rattle.snippet_strokes.specs.Positions.{is_start_part}
 use Rattle.snippet_strokes.specs.Rows.{AddsStrokes, AreStrokes, HasNoBars, IsBeside}
-use Rattle.snippet_strokes.proofs.RailLemmas.{AddsStrokes-drawn}
+use Rattle.snippet_strokes.proofs.BarLemmas.{AddsStrokes-drawn}
 
 -- an entry that is drawn by bars alone isn't a whole span
 not_single : (t : LineAnnotationType) (b : Bool) → (is_bar t || is_start_part t && b) ≡ true → is_single_part t ≡ false
@@ -102,7 +102,7 @@ IsBeside-same layout wide plain bare =
     record {
       front = refl;
       gap = refl;
-      rails = bare.1;
+      bar_cells = bare.1;
       text = none_replaced (placeholder_of layout.decor) wide _ _ refl;
       uncut = λ none. refl;
       free = λ free. free;
@@ -121,7 +121,7 @@ whole_added layout text room dropped closes es above plain old new row whole lon
     } in
     AddsStrokes-drawn layout room shown closes above plain old new row last bare.0 base draws
 
--- the first characters of a text are whitespace where the first that is none stands behind them
+-- the first characters of a text are whitespace where the first that is none stands after them
 before_next : (m j : ℕ) (b : Bool) → is_before (suc m) (cond b (Some (1 + j)) None) ≡ is_before m (cond b (Some j) None)
 before_next m j true = grind (arith, nat_tests)
 before_next m j false = refl

@@ -4,10 +4,10 @@ use Rattle.std.proofs.Common.{◌≡◌, ◌≢◌, ℕ, ◌+◌, ◌-◌, ◌<�
 use Rattle.std.proofs.lemmas.Bool.{cases_lt, cases_eq}
 use Rattle.std.proofs.lemmas.List.Elements.{All-append, All-head, All-tail, All-nil, All-weaker}
 use Rattle.std.specs.List.{flat_map}
-use Rattle.snippet_style.specs.Cell.{Cell, SPACE, drawn}
+use Rattle.snippet_style.specs.Cell.{Cell, SPACE, text_cells}
 use Rattle.snippet_grid.specs.Grid.{cell_at, row_at}
 use Rattle.snippet_grid.proofs.GridLemmas.{WritesCells-cells_written}
-use Rattle.snippet_style.proofs.CellLemmas.{length-drawn, slice_index_or-drawn}
+use Rattle.snippet_style.proofs.CellLemmas.{length-text_cells, slice_index_or-text_cells}
 use Rattle.snippet_model.specs.Rows.{IsFreeCell}
 use Rattle.snippet_strokes.specs.Painting.{DrawsFrom}
 use Rattle.snippet_strokes.specs.Writes.{Write, Reaches, IsWithin, written_by, painted, cell_of_write}
@@ -16,21 +16,21 @@ use Rattle.snippet_strokes.proofs.WriteLemmas.{painted-append}
 -- a cell after one write: the write's where it reaches, else what was there
 pub cell-written : (w : Write) (rows : List (List Cell)) (r c : ℕ) → Reaches r c w → cell_at (written_by rows w) r c ≡ cell_of_write w c
 cell-written w rows r c reaches =
-    let writes = WritesCells-cells_written rows w.row w.cell (drawn w.role w.text) in
+    let writes = WritesCells-cells_written rows w.row w.cell (text_cells w.role w.text) in
     let k : ℕ = c - w.cell in
     let within : k < length w.text = omega (arith, reaches.from, reaches.to) in
     let here : w.cell + k ≡ c = omega (arith, reaches.from) in
-    ap (λ n. cell_at (written_by rows w) n c) (sym reaches.row) ∙ ap (cell_at (written_by rows w) w.row) (sym here) ∙ writes.inside k (omega (arith, within, length-drawn w.role w.text)) ∙ slice_index_or-drawn w.role w.text k SPACE within
+    ap (λ n. cell_at (written_by rows w) n c) (sym reaches.row) ∙ ap (cell_at (written_by rows w) w.row) (sym here) ∙ writes.inside k (omega (arith, within, length-text_cells w.role w.text)) ∙ slice_index_or-text_cells w.role w.text k SPACE within
 
 pub cell-unwritten : (w : Write) (rows : List (List Cell)) (r c : ℕ) → (Reaches r c w → ⊥) → cell_at (written_by rows w) r c ≡ cell_at rows r c
 cell-unwritten w rows r c beside =
-    let writes = WritesCells-cells_written rows w.row w.cell (drawn w.role w.text) in
+    let writes = WritesCells-cells_written rows w.row w.cell (text_cells w.role w.text) in
     elim (cases_eq r w.row) [
       | inl here ↦ ap (λ n. cell_at (written_by rows w) n c) here ∙ elim (cases_lt c w.cell) [
         | inl left ↦ writes.before c left
         | inr after ↦ elim (cases_lt c (w.cell + length w.text)) [
           | inl inside ↦ absurd (beside (record { row = sym here; from = omega (arith, after); to = inside }))
-          | inr right ↦ writes.behind c (omega (arith, right, length-drawn w.role w.text))
+          | inr right ↦ writes.after c (omega (arith, right, length-text_cells w.role w.text))
         ]
       ] ∙ ap (λ n. cell_at rows n c) (sym here)
       | inr other ↦ ap (λ row. get_or row c SPACE) (writes.others r other)
@@ -78,14 +78,14 @@ painted-last ws vs w rows r c reaches beside =
 pub painted-other : (ws : List Write) (rows : List (List Cell)) (r : ℕ) → All (λ w. r ≢ w.row) ws → row_at (painted ws rows) r ≡ row_at rows r
 painted-other [] rows r beside = refl
 painted-other (w ∷ ws) rows r beside =
-    painted-other ws (written_by rows w) r (All-tail (λ v. r ≢ v.row) w ws beside) ∙ (WritesCells-cells_written rows w.row w.cell (drawn w.role w.text)).others r (All-head (λ v. r ≢ v.row) w ws beside)
+    painted-other ws (written_by rows w) r (All-tail (λ v. r ≢ v.row) w ws beside) ∙ (WritesCells-cells_written rows w.row w.cell (text_cells w.role w.text)).others r (All-head (λ v. r ≢ v.row) w ws beside)
 
 -- rows that are there are no more after it
 pub painted-count : (ws : List Write) (rows : List (List Cell)) (n : ℕ) → n ≡ length rows → All (λ w. w.row < n) ws → length (painted ws rows) ≡ n
 painted-count [] rows n is there = sym is
 painted-count (w ∷ ws) rows n is there =
     let here : w.row < n = All-head (λ v. v.row < n) w ws there in
-    painted-count ws (written_by rows w) n (omega (arith, is, here, (WritesCells-cells_written rows w.row w.cell (drawn w.role w.text)).count)) (All-tail (λ v. v.row < n) w ws there)
+    painted-count ws (written_by rows w) n (omega (arith, is, here, (WritesCells-cells_written rows w.row w.cell (text_cells w.role w.text)).count)) (All-tail (λ v. v.row < n) w ws there)
 
 -- what a rule gives for each of some things
 pub All-flat_map : {X : Type 0} (P : Write → Type 0) (f : X → List Write) (xs : List X) → All (λ x. All P (f x)) xs → All P (flat_map f xs)

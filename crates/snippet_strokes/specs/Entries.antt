@@ -10,7 +10,7 @@ use Rattle.snippet_view.specs.declared.entries.LineAnnotationType.{LineAnnotatio
 use Rattle.snippet_view.specs.declared.entries.LineAnnotationType.TheVariants.{Singleline, MultilineStart, MultilineEnd, MultilineLine}
 use Rattle.snippet_view.specs.Measures.{is_single_part, is_wide_entry}
 use Rattle.snippet_strokes.specs.declared.layout.Layout.{Layout}
-use Rattle.snippet_style.specs.Glyphs.{IsMarkGlyph, underline_role, placeholder_of, rail_glyphs}
+use Rattle.snippet_style.specs.Glyphs.{IsMarkGlyph, underline_role, placeholder_of, bar_glyphs}
 use Rattle.snippet_style.specs.Cell.{Cell}
 use Rattle.snippet_style.specs.declared.glyphs.DecorStyle.{DecorStyle}
 use Rattle.snippet_style.specs.declared.role.ElementStyle.{ElementStyle}
@@ -31,16 +31,16 @@ pub record HasPlace (e : LineAnnotation) : Type 0 where
   pub ordered : e.start.display ≤ e.end.display
   pub near : e.end.display < 2 ^ 60
 
--- there is a cell for the bar of an entry, and one behind it, between the separator and the code: bars stand from cell
+-- there is a cell for the bar of an entry, and one after it, between the separator and the code: bars stand from cell
 -- `gutter + 3` on, that of depth 1 first
-abbrev pub HasRailAt : Layout → LineAnnotationType → Type 0
-HasRailAt layout Singleline = Unit {0}
-HasRailAt layout (MultilineStart depth) = (0 < depth) × (layout.gutter + 3 + depth < layout.code)
-HasRailAt layout (MultilineEnd depth) = (0 < depth) × (layout.gutter + 3 + depth < layout.code)
-HasRailAt layout (MultilineLine depth) = (0 < depth) × (layout.gutter + 3 + depth < layout.code)
+abbrev pub HasBarCellAt : Layout → LineAnnotationType → Type 0
+HasBarCellAt layout Singleline = Unit {0}
+HasBarCellAt layout (MultilineStart depth) = (0 < depth) × (layout.gutter + 3 + depth < layout.code)
+HasBarCellAt layout (MultilineEnd depth) = (0 < depth) × (layout.gutter + 3 + depth < layout.code)
+HasBarCellAt layout (MultilineLine depth) = (0 < depth) × (layout.gutter + 3 + depth < layout.code)
 
-abbrev pub HasRail : Layout → LineAnnotation → Type 0
-HasRail layout e = HasRailAt layout e.annotation_type
+abbrev pub HasBarCell : Layout → LineAnnotation → Type 0
+HasBarCell layout e = HasBarCellAt layout e.annotation_type
 
 -- whether an entry stands for a whole span
 abbrev pub is_single : LineAnnotation → Bool
@@ -67,8 +67,8 @@ abbrev pub are_plain : ℕ → DecorStyle → List LineAnnotation → Bool
 are_plain room decor es = list_all is_single es && (list_all has_column es && wide_entries room decor es == 0)
 
 -- a cell left of the code holds nothing but a part of a bar: one of its glyphs, or a space
-pub record IsRailCell (decor : DecorStyle) (cell : Cell) : Type 0 where
-  pub glyph : list_any (λ g. cell.ch == g) (rail_glyphs decor) ≡ true
+pub record IsBarCell (decor : DecorStyle) (cell : Cell) : Type 0 where
+  pub glyph : list_any (λ g. cell.ch == g) (bar_glyphs decor) ≡ true
   pub link : cell.link ≡ None
 
 -- how many columns an entry covers

@@ -6,4 +6,4 @@ pub mod Labels
 pub mod Painting
 pub mod Rows
 pub mod Snippet
-pub mod Rails
+pub mod Bars

@@ -10,7 +10,7 @@ use Rattle.snippet_style.specs.Cell.{Cell, unlinked_cell}
 use Rattle.snippet_strokes.specs.declared.layout.Layout.{Layout}
 use Rattle.snippet_model.specs.Rows.{IsFreeCell}
 use Rattle.snippet_strokes.specs.declared.positions.PlacedEntry.{PlacedEntry}
-use Rattle.snippet_strokes.specs.Entries.{IsRailCell, entry_width, has_mark_role}
+use Rattle.snippet_strokes.specs.Entries.{IsBarCell, entry_width, has_mark_role}
 use Rattle.snippet_model.specs.AnnotationKind.{is_primary}
 use Rattle.snippet_strokes.specs.Positions.{has_label, has_stem, takes_space}
 
@@ -22,15 +22,15 @@ pub record DrawsFrom (row from : ℕ) (old new : List (List Cell)) : Type 0 wher
   pub count : length new ≡ length old
 
 -- what is drawn left of the code is nothing but parts of bars
-abbrev pub KeepsRails : Layout → List (List Cell) → List (List Cell) → Type 0
-KeepsRails layout old new =
-    (r c : ℕ) → c < layout.code → IsRailCell layout.decor (cell_at old r c) → IsRailCell layout.decor (cell_at new r c)
+abbrev pub KeepsBarCells : Layout → List (List Cell) → List (List Cell) → Type 0
+KeepsBarCells layout old new =
+    (r c : ℕ) → c < layout.code → IsBarCell layout.decor (cell_at old r c) → IsBarCell layout.decor (cell_at new r c)
 
 -- bars were drawn beside rows: only in rows from `row` on, in the cells between the separator and the code, and nothing but
 -- parts of bars
-pub record DrawsRails (layout : Layout) (row : ℕ) (old new : List (List Cell)) : Type 0 where
+pub record DrawsBarCells (layout : Layout) (row : ℕ) (old new : List (List Cell)) : Type 0 where
   pub draws : DrawsFrom row (layout.gutter + 3) old new
-  pub rails : KeepsRails layout old new
+  pub bar_cells : KeepsBarCells layout old new
   pub code : (r : ℕ) → drop layout.code (row_at new r) ≡ drop layout.code (row_at old r)
   pub longer : (r : ℕ) → length (row_at old r) ≤ length (row_at new r)
 
@@ -79,7 +79,7 @@ foot_of (MultilineLine depth) decor primary labelled = glyph_of decor primary 12
 abbrev pub foot_glyph : DecorStyle → PlacedEntry → ℕ
 foot_glyph decor e = foot_of e.entry.annotation_type decor (is_primary e.entry.kind) (has_label e)
 
--- the column behind the last one at which an entry's mark is painted: behind its first column even where it covers none, if
+-- the column after the last one at which an entry's mark is painted: after its first column even where it covers none, if
 -- a glyph of its own stands there
 abbrev pub mark_end : PlacedEntry → ℕ
 mark_end e =
@@ -99,13 +99,13 @@ mark_cell layout e c =
 pub record Paints (old new : List (List Cell)) (row from to : ℕ) (cell : ℕ → Cell) : Type 0 where
   pub inside : (c : ℕ) → from ≤ c → c < to → cell_at new row c ≡ cell c
   pub before : (c : ℕ) → c < from → cell_at new row c ≡ cell_at old row c
-  pub behind : (c : ℕ) → to ≤ c → cell_at new row c ≡ cell_at old row c
+  pub after : (c : ℕ) → to ≤ c → cell_at new row c ≡ cell_at old row c
   pub others : (r : ℕ) → r ≢ row → row_at new r ≡ row_at old r
   pub count : row < length old → length new ≡ length old
   pub width : from < to → length (row_at new row) ≡ max (length (row_at old row)) to
   pub kept : to ≤ from → length (row_at new row) ≡ length (row_at old row)
 
--- the cell below column p holds the mark of an entry that is painted there: entry k or one behind it
+-- the cell below column p holds the mark of an entry that is painted there: entry k or one after it
 pub record ShowsFrom (layout : Layout) (es : List PlacedEntry) (k p : ℕ) (d : PlacedEntry) (cell : Cell) : Type 0 where
   pub at : ℕ
   pub later : k ≤ at

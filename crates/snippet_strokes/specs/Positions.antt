@@ -40,7 +40,7 @@ abbrev pub ends_no_later : PlacedEntry → PlacedEntry → Bool
 ends_no_later e f =
     nat_lt e.entry.end.display f.entry.end.display || (e.entry.end.display == f.entry.end.display && nat_le e.entry.end.char f.entry.end.char)
 
--- whether another entry's mark stands in the way of a label behind its mark: they overlap, and aren't one mark of which
+-- whether another entry's mark stands in the way of a label after its mark: they overlap, and aren't one mark of which
 -- the other has no label
 abbrev pub crosses : PlacedEntry → PlacedEntry → Bool
 crosses e other = do_overlap other 0 e && (has_label other || not (is_same_place e other))
@@ -50,7 +50,7 @@ crosses e other = do_overlap other 0 e && (has_label other || not (is_same_place
 abbrev pub blocks : PlacedEntry → PlacedEntry → Bool
 blocks e other = (takes_space e && (has_label other || takes_space other)) || (has_label e && takes_space other)
 
--- whether another entry's label, and the two columns behind it, would reach into this entry, which has a label too, or
+-- whether another entry's label, and the two columns after it, would reach into this entry, which has a label too, or
 -- stands at position 0 and ends no earlier
 abbrev pub reaches : ℕ → PlacedEntry → PlacedEntry → Bool
 reaches p e other =
@@ -73,15 +73,15 @@ AsksBefore end es = (k : ℕ) (d : PlacedEntry) → end ≤ k → k < length es 
 abbrev pub position_at : ℕ → PlacedEntry → List PlacedEntry → ℕ
 position_at p e others = if p == 0 && (has_label e && list_any (crosses e) others) then 1 else p
 
--- the position reached behind it: one more where an entry behind needs a row of its own
-abbrev pub position_behind : ℕ → PlacedEntry → List PlacedEntry → ℕ
-position_behind p e others = if list_any (crowds p e) others then p + 1 else p
+-- the position reached after it: one more where an entry after needs a row of its own
+abbrev pub position_after : ℕ → PlacedEntry → List PlacedEntry → ℕ
+position_after p e others = if list_any (crowds p e) others then p + 1 else p
 
 -- the positions of entries, in their order, from the one reached on
 abbrev pub positions : ℕ → List PlacedEntry → List ℕ
 positions p [] = []
 positions p (e ∷ others) =
-    position_at p e others ∷ positions (position_behind (position_at p e others) e others) others
+    position_at p e others ∷ positions (position_after (position_at p e others) e others) others
 
 -- whether a part of a span is the start of one of several lines
 abbrev pub is_start_part : LineAnnotationType → Bool
@@ -97,13 +97,13 @@ is_start e = is_start_part e.entry.annotation_type && not (has_label e)
 abbrev pub are_starts : List PlacedEntry → Bool
 are_starts es = list_all is_start es
 
--- positions turned round: the greatest becomes 0, and 0 the greatest
-abbrev pub turned : List ℕ → List ℕ
-turned ps = map (λ p. greatest ps - p) ps
+-- positions flipped: the greatest becomes 0, and 0 the greatest
+abbrev pub flipped : List ℕ → List ℕ
+flipped ps = map (λ p. greatest ps - p) ps
 
--- the positions of the entries of a line: turned round where all are starts
+-- the positions of the entries of a line: flipped where all are starts
 abbrev pub line_positions : List PlacedEntry → List ℕ
-line_positions es = if are_starts es then turned (positions 0 es) else positions 0 es
+line_positions es = if are_starts es then flipped (positions 0 es) else positions 0 es
 
 -- where the label of an entry begins: how many rows below the row of the marks, and at which column; a mark that ends at
 -- column 0 still takes that column
@@ -125,7 +125,7 @@ row_count placed =
 abbrev pub unplaced : PlacedEntry → PlacedEntry
 unplaced e = record e { position = 0 }
 
--- the later entry may stand behind the earlier one: it starts farther left, or at the same column and no greater
+-- the later entry may stand after the earlier one: it starts farther left, or at the same column and no greater
 -- character
 pub record StandsLeft (earlier later : LineAnnotation) : Type 0 where
   pub column : later.start.display ≤ earlier.start.display

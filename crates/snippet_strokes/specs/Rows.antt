@@ -14,9 +14,9 @@ use Rattle.snippet_style.specs.Glyphs.{separator_of, placeholder_of, elision_of,
 use Rattle.snippet_grid.specs.Print.{row_text}
 use Rattle.snippet_style.specs.Separators.{closing_row, separator_row}
 use Rattle.snippet_grid.specs.Grid.{row_at, cell_at, restyled}
-use Rattle.snippet_style.specs.Cell.{Cell, SPACE, drawn, written, unlinked_cell, gives_way}
+use Rattle.snippet_style.specs.Cell.{Cell, SPACE, text_cells, written, unlinked_cell, gives_way}
 use Rattle.snippet_strokes.specs.declared.layout.Layout.{Layout}
-use Rattle.snippet_strokes.specs.Entries.{EntryCovers, IsEntryMark, IsMarkCell, IsRailCell, are_plain, has_mark_role, label_text, label_role, wide_entries}
+use Rattle.snippet_strokes.specs.Entries.{EntryCovers, IsEntryMark, IsMarkCell, IsBarCell, are_plain, has_mark_role, label_text, label_role, wide_entries}
 use Rattle.snippet_model.specs.AnnotationKind.{is_primary}
 use Rattle.snippet_model.specs.Rows.{IsFree}
 use Rattle.snippet_strokes.specs.Labels.{IsLabelledAtEnd, LabelsStand}
@@ -27,18 +27,18 @@ abbrev pub bare_row : DecorStyle → ℕ → Bool → List Cell
 bare_row decor gutter true = closing_row decor gutter
 bare_row decor gutter false = separator_row decor gutter
 
--- the cells of a text with the placeholder before it, if lines are cut on the left: then the text stands behind as many
+-- the cells of a text with the placeholder before it, if lines are cut on the left: then the text stands after as many
 -- columns. If there is none, the placeholder stands alone
 abbrev pub begun_cells : DecorStyle → Option ℕ → List ℕ → List Cell
-begun_cells decor None text = drawn Quotation text
+begun_cells decor None text = text_cells Quotation text
 begun_cells decor (Some columns) text =
-    let placeholder = drawn LineNumber (placeholder_of decor) in
-    if length text == 0 then placeholder else written SPACE placeholder columns (drawn Quotation text)
+    let placeholder = text_cells LineNumber (placeholder_of decor) in
+    if length text == 0 then placeholder else written SPACE placeholder columns (text_cells Quotation text)
 
 -- the same cells with the placeholder over their end, from this one on, if the line is cut on the right
 abbrev pub ended_cells : DecorStyle → Option ℕ → List Cell → List Cell
 ended_cells decor None cells = cells
-ended_cells decor (Some at) cells = written SPACE cells at (drawn LineNumber (placeholder_of decor))
+ended_cells decor (Some at) cells = written SPACE cells at (text_cells LineNumber (placeholder_of decor))
 
 abbrev pub shown_cells : DecorStyle → Option ℕ → List ℕ → Option ℕ → List Cell
 shown_cells decor start text end = ended_cells decor end (begun_cells decor start text)
@@ -60,17 +60,17 @@ with_cells code (cell ∷ cells) row = written SPACE row code (cell ∷ cells)
 
 -- the row begins with what the gutter shows, and from the code's cell to its end it holds these cells
 pub record ShowsSource (gutter from : ℕ) (shown : List ℕ) (cells row : List Cell) : Type 0 where
-  pub number : take (length shown) row ≡ drawn LineNumber shown
+  pub number : take (length shown) row ≡ text_cells LineNumber shown
   pub code : drop from row ≡ cells
 
 -- below each column that has a mark the row holds it, and below each column that no entry covers no cell is in the role of
--- marks. Where no entry has a label that shows anything, a space stands there; behind the mark of a line's one entry stand
+-- marks. Where no entry has a label that shows anything, a space stands there; after the mark of a line's one entry stand
 -- a space and its label, and nothing more
 pub record ShowsMarks (decor : DecorStyle) (code : ℕ) (es : List LineAnnotation) (row : List Cell) : Type 0 where
   pub marks : (p : ℕ) (kind : AnnotationKind) → IsEntryMark es p kind → IsMarkCell decor kind (slice_index_or row (code + p) SPACE)
   pub unmarked : (p : ℕ) → All (λ e. EntryCovers e p → ⊥) es → has_mark_role (slice_index_or row (code + p) SPACE) ≡ false
   pub spaces : All (λ e. label_text e ≡ []) es → (p : ℕ) → All (λ e. EntryCovers e p → ⊥) es → slice_index_or row (code + p) SPACE ≡ SPACE
-  pub lone : (e : LineAnnotation) → es ≡ e ∷ [] → e.start.display < e.end.display → 0 < length (label_text e) → drop (code + e.end.display) row ≡ SPACE ∷ drawn (label_role e.kind) (label_text e)
+  pub lone : (e : LineAnnotation) → es ≡ e ∷ [] → e.start.display < e.end.display → 0 < length (label_text e) → drop (code + e.end.display) row ≡ SPACE ∷ text_cells (label_role e.kind) (label_text e)
 
 -- a source row: what ShowsSource says, the separator, and else spaces left of the code
 pub record IsSourceRow (layout : Layout) (shown : List ℕ) (cells row : List Cell) : Type 0 where
@@ -84,7 +84,7 @@ pub record IsSourceRow (layout : Layout) (shown : List ℕ) (cells row : List Ce
 -- listed character
 pub record IsStrokeRow (layout : Layout) (plain : Bool) (es : List LineAnnotation) (closes : Bool) (row : List Cell) : Type 0 where
   pub left : (c : ℕ) → c < layout.gutter + 3 → slice_index_or row c SPACE ≡ slice_index_or (bare_row layout.decor layout.gutter closes) c SPACE
-  pub rails : (c : ℕ) → layout.gutter + 3 ≤ c → c < layout.code → IsRailCell layout.decor (slice_index_or row c SPACE)
+  pub bar_cells : (c : ℕ) → layout.gutter + 3 ≤ c → c < layout.code → IsBarCell layout.decor (slice_index_or row c SPACE)
   pub before : plain ≡ true → (c from : ℕ) → layout.code ≤ c → c < from → All (StandsFrom layout.code from) es → slice_index_or row c SPACE ≡ SPACE
   pub free : IsFree row
 
@@ -121,7 +121,7 @@ pub record CutsRows (layout : Layout) (wide : ℕ) (above : List (List Cell)) (s
 pub record IsBeside (layout : Layout) (wide : ℕ) (plain row : List Cell) : Type 0 where
   pub front : take (layout.gutter + 2) row ≡ take (layout.gutter + 2) plain
   pub gap : slice_index_or row (layout.gutter + 2) SPACE ≡ slice_index_or plain (layout.gutter + 2) SPACE
-  pub rails : (c : ℕ) → layout.gutter + 3 ≤ c → c < layout.code → IsRailCell layout.decor (slice_index_or row c SPACE)
+  pub bar_cells : (c : ℕ) → layout.gutter + 3 ≤ c → c < layout.code → IsBarCell layout.decor (slice_index_or row c SPACE)
   pub text : AreReplaced (placeholder_of layout.decor) wide (row_text (drop layout.code plain)) (row_text (drop layout.code row))
   pub uncut : wide ≡ 0 → drop layout.code row ≡ drop layout.code plain
   pub free : IsFree plain → IsFree row
@@ -129,7 +129,7 @@ pub record IsBeside (layout : Layout) (wide : ℕ) (plain row : List Cell) : Typ
 -- a source row that is drawn, but for its bars: spaces stand in their place, of whatever role
 abbrev pub HasNoBars : Layout → List Cell → Type 0
 HasNoBars layout row =
-    (layout.gutter + 2 ≤ length row) × ((c : ℕ) → layout.gutter + 3 ≤ c → c < layout.code → IsRailCell layout.decor (slice_index_or row c SPACE))
+    (layout.gutter + 2 ≤ length row) × ((c : ℕ) → layout.gutter + 3 ≤ c → c < layout.code → IsBarCell layout.decor (slice_index_or row c SPACE))
 
 -- one source row was added below the rows that are there
 pub record AddsSourceRow (layout : Layout) (shown : List ℕ) (cells : List Cell) (old new : List (List Cell)) : Type 0 where
@@ -147,13 +147,13 @@ pub record AddsStrokes (layout : Layout) (room : ℕ) (es : List LineAnnotation)
 
 -- what stands in place of lines that are left out, before any bar is drawn beside it
 abbrev pub bare_elision_row : DecorStyle → ℕ → List Cell
-bare_elision_row Ascii gutter = drawn LineNumber (elision_of Ascii)
-bare_elision_row Unicode gutter = replicate (gutter + 1) SPACE ++ drawn LineNumber (elision_of Unicode)
+bare_elision_row Ascii gutter = text_cells LineNumber (elision_of Ascii)
+bare_elision_row Unicode gutter = replicate (gutter + 1) SPACE ++ text_cells LineNumber (elision_of Unicode)
 
 -- the row that stands for lines that are left out, with the bars that run past them; it ends left of the code
 pub record IsElisionRow (layout : Layout) (row : List Cell) : Type 0 where
   pub left : (c : ℕ) → c < layout.gutter + 3 → slice_index_or row c SPACE ≡ slice_index_or (bare_elision_row layout.decor layout.gutter) c SPACE
-  pub rails : (c : ℕ) → layout.gutter + 3 ≤ c → c < layout.code → IsRailCell layout.decor (slice_index_or row c SPACE)
+  pub bar_cells : (c : ℕ) → layout.gutter + 3 ≤ c → c < layout.code → IsBarCell layout.decor (slice_index_or row c SPACE)
   pub ends : length row ≤ layout.code
   pub free : IsFree row
 

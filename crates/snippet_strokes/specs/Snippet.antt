@@ -7,7 +7,7 @@ use Rattle.snippet_view.specs.Measures.{is_bar}
 use Rattle.snippet_view.specs.Window.{dropped_part, window}
 use Rattle.snippet_strokes.specs.declared.layout.Layout.{Layout}
 use Rattle.snippet_style.specs.Glyphs.{placeholder_of}
-use Rattle.snippet_style.specs.Cell.{Cell, drawn}
+use Rattle.snippet_style.specs.Cell.{Cell, text_cells}
 use Rattle.snippet_style.specs.declared.role.ElementStyle.TheVariants.{Quotation}
 use Rattle.snippet_grid.specs.Print.{row_text}
 use Rattle.snippet_text.specs.Normalized.{norm}
@@ -29,7 +29,7 @@ pub record ShowsLine (layout : Layout) (margin : Margin) (numbers : LineNumbers)
   pub plain : List Cell
   pub shows : IsSourceRow layout (shown_number numbers layout.gutter info.line_index) (window_cells layout.decor margin (norm (chars info.line.now))) plain
   pub text : row_text (drop layout.code plain) ≡ window (placeholder_of layout.decor) margin.term_width (bounds_of margin).left (bounds_of margin).right (norm (chars info.line.now))
-  pub whole : (bounds_of margin).left ≡ 0 → width_of (norm (chars info.line.now)) ≤ margin.term_width → drop layout.code plain ≡ drawn Quotation (norm (chars info.line.now))
+  pub whole : (bounds_of margin).left ≡ 0 → width_of (norm (chars info.line.now)) ≤ margin.term_width → drop layout.code plain ≡ text_cells Quotation (norm (chars info.line.now))
   pub dropped : ℕ
   pub dropped_is : dropped ≡ width_of (dropped_part (bounds_of margin).left (norm (chars info.line.now)))
   pub clear : All (λ e. is_bar e.annotation_type ≡ false → dropped ≤ e.start.display) info.annotations.items
@@ -47,7 +47,7 @@ IsGap layout number [] rows = rows ≡ []
 IsGap layout number (next ∷ infos) rows =
     ((number + 1 < next.line_index) × (row : List Cell) × (rows ≡ row ∷ []) × IsElisionRow layout row) ⊎ ((next.line_index ≤ number + 1) × (rows ≡ []))
 
--- the rows show these lines, those of each line behind those of the one before, with a row between where lines are left out;
+-- the rows show these lines, those of each line after those of the one before, with a row between where lines are left out;
 -- the window may close with the last line
 abbrev pub AreLinesShown : Layout → Margin → LineNumbers → Bool → List AnnotatedLineInfo → List (List Cell) → Type 0
 AreLinesShown layout margin numbers closes [] rows = rows ≡ []

@@ -2,7 +2,7 @@
 use Rattle.std.specs.Prelude.{ℕ, ◌+◌, ◌-◌, ◌<◌, ◌≤◌, ◌≡◌, nat_lt, false, All, List, [], ◌∷◌, fold, length, map, replicate, slice_index_or, if◌then◌else◌}
 use Rattle.std.specs.List.{range_with_len}
 use Rattle.snippet_style.specs.declared.role.ElementStyle.{ElementStyle}
-use Rattle.snippet_style.specs.Cell.{Cell, unlinked_cell, drawn}
+use Rattle.snippet_style.specs.Cell.{Cell, unlinked_cell, text_cells}
 use Rattle.snippet_grid.specs.Grid.{cells_written}
 use Rattle.snippet_text.specs.Normalized.{is_listed}
 
@@ -15,7 +15,7 @@ pub record Write : Type 0 where
 
 -- rows after one write, and after some writes, one after another
 abbrev pub written_by : List (List Cell) → Write → List (List Cell)
-written_by rows w = cells_written rows w.row w.cell (drawn w.role w.text)
+written_by rows w = cells_written rows w.row w.cell (text_cells w.role w.text)
 
 abbrev pub painted : List Write → List (List Cell) → List (List Cell)
 painted ws rows = fold written_by rows ws

@@ -1,7 +1,7 @@
 //! The lines that lead from the ends of spans of several lines to their bars.
 ghost use Rattle.std.specs.Prelude.{◌≡◌, ◌+◌, ◌^◌, ◌<◌, ◌≤◌, All, OnOk, length, true};
-ghost use Rattle.snippet_strokes.specs.Entries.{HasPlace, HasRail, is_single};
-ghost use Rattle.snippet_strokes.specs.Painting.{DrawsFrom, HasRows, KeepsRails};
+ghost use Rattle.snippet_strokes.specs.Entries.{HasPlace, HasBarCell, is_single};
+ghost use Rattle.snippet_strokes.specs.Painting.{DrawsFrom, HasRows, KeepsBarCells};
 ghost use Rattle.snippet_strokes.specs.Strokes.{connector_of, connectors_of, line_to};
 ghost use Rattle.snippet_strokes.specs.Writes.{painted};
 
@@ -34,12 +34,12 @@ pub(crate) fn draw_connectors(
 ) -> Result<(), AllocError>
     requires narrow { layout.code < 2 ^ 63 + 2 ^ 32 }
     requires columns { All (λ e. HasPlace e.entry) placed.now }
-    requires rails { All (λ e. HasRail layout e.entry) placed.now }
+    requires bar_cells { All (λ e. HasBarCell layout e.entry) placed.now }
     requires small { length buffer.old ≤ 2 ^ 60 }
     requires rows { All (HasRows row (length buffer.old)) placed.now }
     ensures painted { OnOk result (buffer.new ≡ painted (connectors_of layout row placed.now) buffer.old) }
     ensures draws { OnOk result (DrawsFrom row (layout.gutter + 3) buffer.old buffer.new) }
-    ensures rails { OnOk result (KeepsRails layout buffer.old buffer.new) }
+    ensures bar_cells { OnOk result (KeepsBarCells layout buffer.old buffer.new) }
     ensures none { OnOk result (All (λ e. is_single e.entry ≡ true) placed.now → buffer.new ≡ buffer.old) }
 {
     for entry in placed {
@@ -58,7 +58,7 @@ fn draw_connector(
 ) -> Result<(), AllocError>
     requires narrow { layout.code < 2 ^ 63 + 2 ^ 32 }
     requires columns { HasPlace placed.now.entry }
-    requires rail { HasRail layout placed.now.entry }
+    requires bar_cell { HasBarCell layout placed.now.entry }
     requires small { length buffer.old ≤ 2 ^ 60 }
     requires rows { HasRows row (length buffer.old) placed.now }
     ensures painted { OnOk result (buffer.new ≡ painted (connector_of layout row placed.now) buffer.old) }

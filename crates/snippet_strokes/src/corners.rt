@@ -1,7 +1,7 @@
 //! The bars of spans of several lines, beside the lines on which they begin and end.
 ghost use Rattle.std.specs.Prelude.{◌≡◌, ◌+◌, ◌^◌, ◌<◌, ◌≤◌, All, OnOk, length, true};
-ghost use Rattle.snippet_strokes.specs.Entries.{HasRail, is_single};
-ghost use Rattle.snippet_strokes.specs.Painting.{DrawsRails, HasRows};
+ghost use Rattle.snippet_strokes.specs.Entries.{HasBarCell, is_single};
+ghost use Rattle.snippet_strokes.specs.Painting.{DrawsBarCells, HasRows};
 ghost use Rattle.snippet_strokes.specs.Strokes.{bar_of, bottom_of, corner_of, corners_of, top_of};
 ghost use Rattle.snippet_strokes.specs.Writes.{painted};
 
@@ -32,11 +32,11 @@ pub(crate) fn draw_corners(
     placed: &[PlacedEntry],
 ) -> Result<(), AllocError>
     requires narrow { layout.code < 2 ^ 63 + 2 ^ 32 }
-    requires rails { All (λ e. HasRail layout e.entry) placed.now }
+    requires bar_cells { All (λ e. HasBarCell layout e.entry) placed.now }
     requires small { length buffer.old ≤ 2 ^ 60 }
     requires rows { All (HasRows (row + 1) (length buffer.old)) placed.now }
     ensures painted { OnOk result (buffer.new ≡ painted (corners_of layout row (length buffer.old) placed.now) buffer.old) }
-    ensures draws { OnOk result (DrawsRails layout row buffer.old buffer.new) }
+    ensures draws { OnOk result (DrawsBarCells layout row buffer.old buffer.new) }
     ensures none { OnOk result (All (λ e. is_single e.entry ≡ true) placed.now → buffer.new ≡ buffer.old) }
 {
     for entry in placed {
@@ -53,7 +53,7 @@ fn draw_corner(
     placed: &PlacedEntry,
 ) -> Result<(), AllocError>
     requires narrow { layout.code < 2 ^ 63 + 2 ^ 32 }
-    requires rail { HasRail layout placed.now.entry }
+    requires bar_cell { HasBarCell layout placed.now.entry }
     requires small { length buffer.old ≤ 2 ^ 60 }
     requires rows { HasRows (row + 1) (length buffer.old) placed.now }
     ensures painted { OnOk result (buffer.new ≡ painted (corner_of layout row (length buffer.old) placed.now) buffer.old) }

@@ -3,13 +3,13 @@ ghost use Rattle.std.specs.Prelude.{◌≡◌, ◌+◌, ◌-◌, ◌^◌, ◌<�
 ghost use Rattle.snippet_view.specs.Measures.{is_wide_entry};
 ghost use Rattle.snippet_style.specs.Glyphs.{placeholder_of};
 ghost use Rattle.snippet_grid.specs.Grid.{cells_replaced};
-ghost use Rattle.snippet_style.specs.Cell.{Cell, drawn};
+ghost use Rattle.snippet_style.specs.Cell.{Cell, text_cells};
 ghost use Rattle.snippet_style.specs.declared.role.ElementStyle.TheVariants.{LineNumber};
 ghost use Rattle.snippet_strokes.specs.Entries.{HasPlace, wide_entries};
 ghost use Rattle.snippet_strokes.specs.Rows.{CutsRows};
 
 use crate::layout::Layout;
-use crate::positions::{PlacedEntry, crosses, overlap, position_at, position_behind};
+use crate::positions::{PlacedEntry, crosses, overlap, position_after, position_at};
 use snippet_grid::StyledBuffer;
 use snippet_style::{DecorStyle, char_count};
 use snippet_view::{LineAnnotation, LineAnnotationType};
@@ -23,9 +23,9 @@ const LEAST_END: usize = 5;
 /// entries ask for it: where none is, nothing is looked at.
 ///
 /// ```text
-///       |          ^^^^^    the first and the second entry aren't met, though they overlap
+///       |          ^^^^^    the first and the second entry aren't overlapped, though they overlap
 ///       |        -----
-///       |  ^^^              the third is met, by itself
+///       |  ^^^              the third is overlapped, by itself
 /// ```
 ///
 /// # Errors
@@ -38,21 +38,21 @@ pub(crate) fn overlapping(
     placed: &[PlacedEntry],
 ) -> Result<Vec<bool>, AllocError>
     requires columns { All (λ e. HasPlace e.entry) placed.now }
-    ensures count { IfOk result (λ met. length met.items ≡ length placed.now) }
+    ensures count { IfOk result (λ overlapped. length overlapped.items ≡ length placed.now) }
 {
-    let mut met = vec![in alloc; false; placed.len()]?;
+    let mut overlapped = vec![in alloc; false; placed.len()]?;
     if !has_wide(room, decor, placed) {
-        return Ok(met);
+        return Ok(overlapped);
     }
     let mut reached = 0;
     for i in 0..placed.len() {
         let end = walk_end(placed, i, reached);
-        meet_others(&mut met, placed, i, end);
+        mark_overlapped(&mut overlapped, placed, i, end);
         if reached == 0 {
             reached = position_reached(placed, i);
         }
     }
-    Ok(met)
+    Ok(overlapped)
 }
 
 /// Whether one of these entries is wide, in a room of so many columns.
@@ -62,18 +62,18 @@ fn has_wide(room: usize, decor: DecorStyle, placed: &[PlacedEntry]) -> bool
     placed.iter().any(|p| is_wide(room, decor, &p.entry))
 }
 
-/// The position that is reached behind entry i, where position 0 was reached before it.
+/// The position that is reached after entry i, where position 0 was reached before it.
 fn position_reached(placed: &[PlacedEntry], i: usize) -> usize
     requires columns { All (λ e. HasPlace e.entry) placed.now }
     requires within { i < length placed.now }
 {
     let entry = &placed[i];
     let others = &placed[i + 1..];
-    position_behind(position_at(0, entry, others), entry, others)
+    position_after(position_at(0, entry, others), entry, others)
 }
 
 /// How many entries, from the first one on, are looked at for entry i, where this position is reached: all up to the first
-/// one behind it for which its label has to make way.
+/// one after it for which its label has to make way.
 fn walk_end(placed: &[PlacedEntry], i: usize, reached: usize) -> usize
     requires columns { All (λ e. HasPlace e.entry) placed.now }
     requires within { i < length placed.now }
@@ -92,21 +92,21 @@ fn walk_end(placed: &[PlacedEntry], i: usize, reached: usize) -> usize
 }
 
 /// Notes which entries before place `end` entry i overlaps, and that it does, the two farthest right left out.
-fn meet_others(met: &mut [bool], placed: &[PlacedEntry], i: usize, end: usize)
+fn mark_overlapped(overlapped: &mut [bool], placed: &[PlacedEntry], i: usize, end: usize)
     requires columns { All (λ e. HasPlace e.entry) placed.now }
-    requires count { length met.old ≡ length placed.now }
+    requires count { length overlapped.old ≡ length placed.now }
     requires within { i < length placed.now }
     requires inside { end ≤ length placed.now }
 {
     for j in 2..end {
         if overlap(&placed[j], 0, &placed[i]) {
-            met[i] = true;
-            met[j] = true;
+            overlapped[i] = true;
+            overlapped[j] = true;
         }
     }
 }
 
-/// Puts the placeholder in place of the middle of each wide entry that stands at a place which isn't met: in the source row,
+/// Puts the placeholder in place of the middle of each wide entry that stands at a place which isn't overlapped: in the source row,
 /// and in the row of the marks below it.
 ///
 /// ```text
@@ -123,11 +123,11 @@ pub(crate) fn cut_wide(
     row: usize,
     room: usize,
     placed: &[PlacedEntry],
-    met: &[bool],
+    overlapped: &[bool],
 ) -> Result<(), AllocError>
     requires narrow { layout.code < 2 ^ 63 + 2 ^ 32 }
     requires columns { All (λ e. HasPlace e.entry) placed.now }
-    requires count { length met.now ≡ length placed.now }
+    requires count { length overlapped.now ≡ length placed.now }
     requires rows { row + 1 < length buffer.old }
     requires small { length buffer.old ≤ 2 ^ 60 }
     ensures cut { OnOk result ((above : List (List Cell)) (source marks : List Cell) (below : List (List Cell))
@@ -135,12 +135,12 @@ pub(crate) fn cut_wide(
         → CutsRows layout (wide_entries room layout.decor (map (λ e. e.entry) placed.now)) above source marks below buffer.new) }
 {
     for k in 0..placed.len() {
-        cut_entry(buffer, layout, row, room, &placed[k].entry, met[k])?;
+        cut_entry(buffer, layout, row, room, &placed[k].entry, overlapped[k])?;
     }
     Ok(())
 }
 
-/// Puts the placeholder in place of the middle of an entry, if the entry is wide and its place isn't met.
+/// Puts the placeholder in place of the middle of an entry, if the entry is wide and its place isn't overlapped.
 ///
 /// # Errors
 ///
@@ -151,7 +151,7 @@ fn cut_entry(
     row: usize,
     room: usize,
     entry: &LineAnnotation,
-    met: bool,
+    overlapped: bool,
 ) -> Result<(), AllocError>
     requires narrow { layout.code < 2 ^ 63 + 2 ^ 32 }
     requires columns { HasPlace entry.now }
@@ -160,7 +160,7 @@ fn cut_entry(
         → length above ≡ row → buffer.old ≡ above ++ source ∷ marks ∷ below
         → CutsRows layout (wide_entries room layout.decor (entry.now ∷ [])) above source marks below buffer.new) }
 {
-    if met || !is_wide(room, layout.decor, entry) {
+    if overlapped || !is_wide(room, layout.decor, entry) {
         return Ok(());
     }
     let kept = end_columns(room);
@@ -201,7 +201,7 @@ fn cut_stretch(
     end: usize,
 ) -> Result<(), AllocError>
     requires small { row + 1 < 2 ^ 64 }
-    ensures ok { OnOk result (let placeholder = drawn LineNumber (placeholder_of decor) in
+    ensures ok { OnOk result (let placeholder = text_cells LineNumber (placeholder_of decor) in
         buffer.new ≡ cells_replaced (cells_replaced buffer.old row start end placeholder) (row + 1) start end placeholder) }
 {
     buffer.replace(row, start, end, decor.placeholder())?;

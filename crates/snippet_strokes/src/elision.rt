@@ -1,16 +1,16 @@
 //! The rows that stand for lines that aren't shown.
 ghost use Rattle.std.specs.Prelude.{◌≡◌, ◌+◌, ◌^◌, ◌<◌, ◌≤◌, ◌++◌, ◌∷◌, [], All, OnOk};
-ghost use Rattle.snippet_strokes.specs.Rails.{AddsElision, AddsGap, HasRoom};
+ghost use Rattle.snippet_strokes.specs.Bars.{AddsElision, AddsGap, HasRoom};
 ghost use Rattle.snippet_strokes.specs.Rows.{bare_elision_row};
 
+use crate::bars::{BarStroke, OpenBar, draw_bars};
 use crate::layout::Layout;
-use crate::rails::{OpenBar, RailStroke, draw_bars};
 use snippet_grid::StyledBuffer;
 use snippet_style::{DecorStyle, ElementStyle};
 use snippet_view::AnnotatedLineInfo;
 use std::alloc::{AllocError, Global};
 
-/// Draws the row that stands for the lines between one of this number and the first of the lines behind it, if there are any.
+/// Draws the row that stands for the lines between one of this number and the first of the lines after it, if there are any.
 ///
 /// # Errors
 ///
@@ -53,7 +53,7 @@ fn draw_elision(
 {
     let row = buffer.num_lines();
     begin_elision_row(buffer, layout)?;
-    draw_bars(alloc, buffer, layout, row, open_bars, RailStroke::Dotted)
+    draw_bars(alloc, buffer, layout, row, open_bars, BarStroke::Dotted)
 }
 
 /// Begins that row, with its sign alone: from the first cell on, or in Unicode in the place of the separator.

@@ -2,7 +2,7 @@
 ghost use Rattle.std.specs.Prelude.{◌≡◌, ◌+◌, ◌^◌, ◌<◌, ◌≤◌, ◌∷◌, [], All, List, OnOk, false, true, length, ℕ};
 ghost use Rattle.snippet_view.specs.declared.entries.LineAnnotation.{LineAnnotation};
 ghost use Rattle.snippet_grid.specs.Grid.{cells_written};
-ghost use Rattle.snippet_style.specs.Cell.{drawn};
+ghost use Rattle.snippet_style.specs.Cell.{text_cells};
 ghost use Rattle.snippet_strokes.specs.Entries.{HasPlace, label_role, label_text};
 ghost use Rattle.snippet_strokes.specs.Painting.{DrawsFrom, HasRows, MarksStarts, StandsFrom};
 ghost use Rattle.snippet_strokes.specs.Positions as spec;
@@ -21,7 +21,7 @@ use std::alloc::AllocError;
 /// Draws the labels of some entries, the first row of which is that of the marks.
 ///
 /// ```text
-///       |        c       position 0: in the row of the marks, one cell behind its own
+///       |        c       position 0: in the row of the marks, one cell after its own
 ///       |
 ///       | a              position 1: two rows farther down, below its mark's first column
 /// ```
@@ -50,7 +50,7 @@ pub(crate) fn draw_labels(
     ensures none { OnOk result (All (λ e. spec.has_label e ≡ false) placed.now → buffer.new ≡ buffer.old) }
     ensures lone { OnOk result ((e : PlacedEntry) → placed.now ≡ e ∷ [] → e.position ≡ 0 → 0 < e.entry.end.display → spec.has_label e ≡ true
         → buffer.new ≡ cells_written buffer.old row (layout.code + e.entry.end.display + 1)
-        (drawn (label_role e.entry.kind) (label_text e.entry))) }
+        (text_cells (label_role e.entry.kind) (label_text e.entry))) }
 {
     for entry in placed {
         draw_label(buffer, layout, row, entry)?;

@@ -6,12 +6,12 @@ use snippet_style::DecorStyle;
 ///
 /// ```text
 ///       |                  the separator stands at cell `gutter + 1`
-///     1 | let x = 1;       a line's number is set right in cells 0 to `gutter`, its source stands from `code` on
+///     1 | let x = 1;       a line's number is right-aligned in cells 0 to `gutter`, its source stands from `code` on
 ///       |     ^            the mark below column p stands at cell `code + p`
 /// ```
 #[derive(Clone, Copy, Debug)]
 pub struct Layout {
-    /// The number of cells that line numbers are set right in.
+    /// The number of cells that line numbers are right-aligned in.
     pub gutter: usize,
     /// The cell of the source's column 0.
     pub code: usize,

@@ -1,6 +1,7 @@
 //! The strokes of a snippet: for each line that is shown its source row, and below it the rows of its marks and labels.
 #![tactic(auto)]
 
+mod bars;
 mod connectors;
 mod corners;
 mod cuts;
@@ -11,7 +12,6 @@ pub mod layout;
 mod lines;
 mod marks;
 mod positions;
-mod rails;
 mod roles;
 mod row;
 mod snippet;

@@ -124,7 +124,7 @@ fn paint_entry(
     )
 }
 
-/// The column behind the last one at which an entry's mark is painted. Where an entry covers no column, but a glyph of its
+/// The column after the last one at which an entry's mark is painted. Where an entry covers no column, but a glyph of its
 /// own stands at its start, that glyph is its mark.
 fn mark_end(placed: &PlacedEntry) -> usize
     requires columns { placed.now.entry.end.display < 2 ^ 60 }

@@ -14,7 +14,7 @@ use std::alloc::{AllocError, Global};
 use std::borrow::CowStr;
 use std::cmp::Reverse;
 
-/// How many columns stand free behind a label, before the next one in its row.
+/// How many columns stand free after a label, before the next one in its row.
 const GAP: usize = 2;
 
 /// An entry of a line, with its label as it is drawn and the place where the label stands.
@@ -24,7 +24,7 @@ pub(crate) struct PlacedEntry<'a> {
     pub(crate) entry: LineAnnotation<'a>,
     /// Its label, normalised; empty where it has none to show.
     pub(crate) label: CowStr<'a>,
-    /// At 0 the label stands behind its mark; at n it hangs from it, in the row n + 1 below the row of the marks. The line
+    /// At 0 the label stands after its mark; at n it hangs from it, in the row n + 1 below the row of the marks. The line
     /// from the mark of a start or an end to its bar stands in the row n below that of the marks.
     pub(crate) position: usize,
 }
@@ -59,7 +59,7 @@ impl<'a> PlacedEntry<'a> {
 /// dropped on the left.
 ///
 /// ```text
-///       | --^^--         the label of the entry farthest right may stand behind its mark, at position 0
+///       | --^^--         the label of the entry farthest right may stand after its mark, at position 0
 ///       | | |
 ///       | | x            position 1
 ///       | f              position 2
@@ -141,7 +141,7 @@ fn shown_label<'a>(alloc: Global, entry: &LineAnnotation<'a>) -> Result<CowStr<'
     }
 }
 
-/// The position of each entry, from right to left. Where all are starts they are turned round, so that the line to the bar
+/// The position of each entry, from right to left. Where all are starts they are flipped, so that the line to the bar
 /// of the one farthest left stands highest.
 ///
 /// # Errors
@@ -155,7 +155,7 @@ fn line_positions(alloc: Global, entries: &[PlacedEntry]) -> Result<Vec<usize>, 
     if !are_starts(entries) {
         return Ok(positions);
     }
-    turned(alloc, &positions)
+    flipped(alloc, &positions)
 }
 
 /// Whether each of these entries is the start of a span of several lines, and has no label to show.
@@ -175,20 +175,20 @@ fn is_start(placed: &PlacedEntry) -> bool
     ) && !placed.has_label()
 }
 
-/// Positions turned round: the greatest becomes 0, and 0 the greatest.
+/// Positions flipped: the greatest becomes 0, and 0 the greatest.
 ///
 /// # Errors
 ///
 /// There is no memory for the list.
-fn turned(alloc: Global, positions: &[usize]) -> Result<Vec<usize>, AllocError>
-    ensures value { IfOk result (λ turned. turned.items ≡ spec.turned positions.now) }
+fn flipped(alloc: Global, positions: &[usize]) -> Result<Vec<usize>, AllocError>
+    ensures value { IfOk result (λ flipped. flipped.items ≡ spec.flipped positions.now) }
 {
     let greatest = greatest(positions);
-    let mut turned = Vec::new(alloc);
+    let mut flipped = Vec::new(alloc);
     for position in positions {
-        turned.push(greatest.saturating_sub(*position))?;
+        flipped.push(greatest.saturating_sub(*position))?;
     }
-    Ok(turned)
+    Ok(flipped)
 }
 
 /// The greatest of some numbers, 0 where there is none.
@@ -221,7 +221,7 @@ fn label_positions(alloc: Global, entries: &[PlacedEntry]) -> Result<Vec<usize>,
         let entry = &entries[i];
         let position = position_at(reached, entry, &entries[i + 1..]);
         positions.push(position)?;
-        reached = position_behind(position, entry, &entries[i + 1..end.max(i + 1)]);
+        reached = position_after(position, entry, &entries[i + 1..end.max(i + 1)]);
     }
     Ok(positions)
 }
@@ -259,11 +259,11 @@ pub(crate) fn position_at(reached: usize, entry: &PlacedEntry, others: &[PlacedE
     }
 }
 
-/// The position that is reached behind an entry that has this one.
-pub(crate) fn position_behind(position: usize, entry: &PlacedEntry, others: &[PlacedEntry]) -> usize
+/// The position that is reached after an entry that has this one.
+pub(crate) fn position_after(position: usize, entry: &PlacedEntry, others: &[PlacedEntry]) -> usize
     requires columns { All (λ e. e.entry.end.display < 2 ^ 60) others.now }
     requires low { position + 1 < 2 ^ 64 }
-    ensures value { result ≡ spec.position_behind position entry.now others.now }
+    ensures value { result ≡ spec.position_after position entry.now others.now }
 {
     if is_crowded(position, entry, others) {
         position + 1
@@ -283,7 +283,7 @@ fn set_positions(entries: &mut [PlacedEntry], positions: &[usize])
     }
 }
 
-/// Whether the mark of an entry farther left stands in the way of a label behind its mark.
+/// Whether the mark of an entry farther left stands in the way of a label after its mark.
 fn is_crossed(entry: &PlacedEntry, others: &[PlacedEntry]) -> bool
     requires columns { All (λ e. e.entry.end.display < 2 ^ 60) others.now }
     ensures value { result ≡ list_any (spec.crosses entry.now) others.now }

@@ -1,17 +1,17 @@
 //! The rows of a snippet: those of each line that is shown.
 ghost use Rattle.std.specs.Prelude.{◌≡◌, ◌+◌, ◌^◌, ◌<◌, ◌≤◌, ◌++◌, ◌∷◌, [], false, List, All, IfOk, IfSome, OnOk, length, map};
 ghost use Rattle.snippet_view.specs.Measures.{StandsClear, is_bar};
-ghost use Rattle.snippet_strokes.specs.Entries.{HasPlace, HasRail, shifted};
-ghost use Rattle.snippet_strokes.specs.Rails.{HasRoom, ends_of_bars, open_below};
+ghost use Rattle.snippet_strokes.specs.Entries.{HasPlace, HasBarCell, shifted};
+ghost use Rattle.snippet_strokes.specs.Bars.{HasRoom, ends_of_bars, open_below};
 ghost use Rattle.snippet_lines.specs.Number.{shown_number};
 ghost use Rattle.snippet_strokes.specs.Rows.{AddsStrokes, HasNoBars};
 ghost use Rattle.snippet_style.specs.Cell.{Cell};
 ghost use Rattle.snippet_strokes.specs.Snippet.{AddsLine, AddsSnippet};
 
+use crate::bars::{BarStroke, OpenBar, bars_apart, draw_bars, ends_on};
 use crate::elision::draw_gap;
 use crate::highlight::highlight_source;
 use crate::layout::Layout;
-use crate::rails::{OpenBar, RailStroke, bars_apart, draw_bars, ends_on};
 use crate::source_row::draw_source_row;
 use crate::strokes::draw_strokes;
 use crate::whole_line::is_whole_line;
@@ -59,7 +59,7 @@ pub fn draw_snippet(
     requires texts { All (λ info. length info.line.now < 2 ^ 56) infos.now }
     requires columns { All (λ info. All HasPlace info.annotations.items) infos.now }
     requires clear { All (λ info. All (StandsClear margin) info.annotations.items) infos.now }
-    requires rails { All (λ info. All (HasRail layout) info.annotations.items) infos.now }
+    requires bar_cells { All (λ info. All (HasBarCell layout) info.annotations.items) infos.now }
     requires labels { All (λ info. All (λ e. IfSome e.label (λ t. length t.now < 2 ^ 56)) info.annotations.items) infos.now }
     ensures added { OnOk result (AddsSnippet layout margin numbers closes infos.now buffer.old buffer.new) }
 {
@@ -70,8 +70,8 @@ pub fn draw_snippet(
         open_bars = draw_line(
             alloc, buffer, layout, margin, numbers, closes, info, &open_bars,
         )?;
-        let behind = &infos[i + 1..];
-        draw_gap(alloc, buffer, layout, info.line_index, behind, &open_bars)?;
+        let after = &infos[i + 1..];
+        draw_gap(alloc, buffer, layout, info.line_index, after, &open_bars)?;
     }
     Ok(())
 }
@@ -99,7 +99,7 @@ fn draw_line(
     requires text { length info.now.line.now < 2 ^ 56 }
     requires columns { All HasPlace info.now.annotations.items }
     requires clear { All (StandsClear margin) info.now.annotations.items }
-    requires rails { All (HasRail layout) info.now.annotations.items }
+    requires bar_cells { All (HasBarCell layout) info.now.annotations.items }
     requires labels { All (λ e. IfSome e.label (λ t. length t.now < 2 ^ 56)) info.now.annotations.items }
     requires room { All (HasRoom layout) open_bars.now }
     ensures added { OnOk result (AddsLine layout margin numbers closes info.now buffer.old buffer.new) }
@@ -120,7 +120,7 @@ fn draw_line(
         &ends,
     )?;
     let mut below = bars_apart(alloc, open_bars, &ends)?;
-    draw_bars(alloc, buffer, layout, row, &below, RailStroke::Solid)?;
+    draw_bars(alloc, buffer, layout, row, &below, BarStroke::Solid)?;
     below.extend_from_slice(&bars_apart(alloc, &ends, open_bars)?)?;
     Ok(below)
 }
@@ -143,7 +143,7 @@ fn draw_entries(
     requires last { length buffer.old ≡ row + 1 }
     requires columns { All HasPlace info.now.annotations.items }
     requires clear { All (λ e. is_bar e.annotation_type ≡ false → dropped ≤ e.start.display) info.now.annotations.items }
-    requires rails { All (HasRail layout) info.now.annotations.items }
+    requires bar_cells { All (HasBarCell layout) info.now.annotations.items }
     requires labels { All (λ e. IfSome e.label (λ t. length t.now < 2 ^ 56)) info.now.annotations.items }
     requires ends { ends.now ≡ ends_of_bars info.now.annotations.items }
     ensures added { OnOk result ((above : List (List Cell)) (plain : List Cell) → buffer.old ≡ above ++ plain ∷ []
@@ -151,7 +151,7 @@ fn draw_entries(
         → AddsStrokes layout room (map (shifted dropped) info.now.annotations.items) closes above plain buffer.new) }
 {
     if is_whole_line(alloc, info.line, &info.annotations)? {
-        return draw_bars(alloc, buffer, layout, row, ends, RailStroke::Top);
+        return draw_bars(alloc, buffer, layout, row, ends, BarStroke::Top);
     }
     draw_strokes(
         alloc,

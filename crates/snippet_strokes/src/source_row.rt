@@ -91,7 +91,7 @@ fn write_source_row(
     Ok(row)
 }
 
-/// Writes the text of a window behind a row that ends left of the code, and the placeholder before it where lines are cut
+/// Writes the text of a window after a row that ends left of the code, and the placeholder before it where lines are cut
 /// on the left.
 fn write_beginning(
     buffer: &mut StyledBuffer,

@@ -1,6 +1,6 @@
 //! All that stands below the source row of a line, and the bars beside it of spans that begin or end there.
 ghost use Rattle.std.specs.Prelude.{◌≡◌, ◌+◌, ◌^◌, ◌<◌, ◌≤◌, ◌++◌, ◌∷◌, [], if◌then◌else◌, All, IfSome, List, OnOk, false, length, map};
-ghost use Rattle.snippet_strokes.specs.Entries.{HasPlace, HasRail, shifted, wide_entries};
+ghost use Rattle.snippet_strokes.specs.Entries.{HasPlace, HasBarCell, shifted, wide_entries};
 ghost use Rattle.snippet_view.specs.Measures.{is_bar};
 ghost use Rattle.snippet_style.specs.Cell.{Cell};
 ghost use Rattle.snippet_strokes.specs.Positions as spec;
@@ -55,7 +55,7 @@ pub(crate) fn draw_strokes(
     requires last { length buffer.old ≡ row + 1 }
     requires columns { All HasPlace entries.now }
     requires clear { All (λ e. is_bar e.annotation_type ≡ false → dropped ≤ e.start.display) entries.now }
-    requires rails { All (HasRail layout) entries.now }
+    requires bar_cells { All (HasBarCell layout) entries.now }
     requires labels { All (λ e. IfSome e.label (λ t. length t.now < 2 ^ 56)) entries.now }
     ensures added { OnOk result ((above : List (List Cell)) (plain : List Cell) → buffer.old ≡ above ++ plain ∷ []
         → HasNoBars layout plain
@@ -68,14 +68,14 @@ pub(crate) fn draw_strokes(
         return close_below(buffer, layout, closes);
     }
     let mut placed = placed_entries(alloc, dropped, entries)?;
-    let met = overlapping(alloc, layout.decor, room, &placed)?;
+    let overlapped = overlapping(alloc, layout.decor, room, &placed)?;
     let below = begin_rows(buffer, layout, closes, row_count(&placed))?;
     draw_connectors(alloc, buffer, layout, below, &placed)?;
     draw_corners(buffer, layout, row, &placed)?;
     draw_stems(buffer, layout, below, &placed)?;
     draw_labels(buffer, layout, below, &placed)?;
     draw_marks(alloc, buffer, layout, below, &mut placed)?;
-    cut_wide(buffer, layout, row, room, &placed, &met)
+    cut_wide(buffer, layout, row, room, &placed, &overlapped)
 }
 
 /// Adds a closing row where the window closes with a line that has no entries.

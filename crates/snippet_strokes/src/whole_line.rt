@@ -2,7 +2,7 @@
 ghost use Rattle.std.specs.Prelude.{◌≡◌, IfOk, chars, not};
 ghost use Rattle.std.specs.Char.{is_whitespace};
 ghost use Rattle.std.specs.List.{list_all, position};
-ghost use Rattle.snippet_strokes.specs.Rails as spec;
+ghost use Rattle.snippet_strokes.specs.Bars as spec;
 ghost use Rattle.snippet_text.specs.Normalized.{norm};
 
 use snippet_text::normalized;

@@ -5,7 +5,7 @@ use Rattle.std.proofs.lemmas.List.{places, same_lists, get_or-map, map-append, l
 use Rattle.std.specs.List.{slice_index_or}
 use Rattle.std.specs.Str.{chars, chars_after, continuation_len, lead_bits}
 use Rattle.snippet_style.specs.declared.role.ElementStyle.{ElementStyle}
-use Rattle.snippet_style.specs.Cell.{Cell, unlinked_cell, drawn, written}
+use Rattle.snippet_style.specs.Cell.{Cell, unlinked_cell, text_cells, written}
 
 -- a text has no more characters than bytes
 length-chars_after : (n c : ℕ) (bs : List ℕ) → length (chars_after n c bs) ≤ length bs + 1
@@ -21,27 +21,27 @@ length-chars_le [] = omega arith
 length-chars_le (b ∷ bs) = omega (arith, length-chars_after (continuation_len b) (lead_bits b) bs)
 
 -- one cell for each character
-pub length-drawn : (role : ElementStyle) (chars : List ℕ) → length (drawn role chars) ≡ length chars
-length-drawn role chars = length-map chars (λ (c : ℕ). unlinked_cell role c)
+pub length-text_cells : (role : ElementStyle) (chars : List ℕ) → length (text_cells role chars) ≡ length chars
+length-text_cells role chars = length-map chars (λ (c : ℕ). unlinked_cell role c)
 
 -- the cell of a character
-pub slice_index_or-drawn : (role : ElementStyle) (chars : List ℕ) (k : ℕ) (d : Cell) → k < length chars → slice_index_or (drawn role chars) k d ≡ unlinked_cell role (slice_index_or chars k 0)
-slice_index_or-drawn role chars k d within = get_or-map (λ (c : ℕ). unlinked_cell role c) chars k 0 d within
+pub slice_index_or-text_cells : (role : ElementStyle) (chars : List ℕ) (k : ℕ) (d : Cell) → k < length chars → slice_index_or (text_cells role chars) k d ≡ unlinked_cell role (slice_index_or chars k 0)
+slice_index_or-text_cells role chars k d within = get_or-map (λ (c : ℕ). unlinked_cell role c) chars k 0 d within
 
--- the cells of two texts, one behind the other
-pub drawn-append : (role : ElementStyle) (front back : List ℕ) → drawn role (front ++ back) ≡ drawn role front ++ drawn role back
-drawn-append role front back = map-append (λ (c : ℕ). unlinked_cell role c) front back
+-- the cells of two texts, one after the other
+pub text_cells-append : (role : ElementStyle) (front back : List ℕ) → text_cells role (front ++ back) ≡ text_cells role front ++ text_cells role back
+text_cells-append role front back = map-append (λ (c : ℕ). unlinked_cell role c) front back
 
 -- what holds of each character's cell
-pub All-drawn : (P : Cell → Type 0) (role : ElementStyle) (chars : List ℕ) → All (λ c. P (unlinked_cell role c)) chars → All P (drawn role chars)
-All-drawn P role chars all = All-map P (λ (c : ℕ). unlinked_cell role c) chars all
+pub All-text_cells : (P : Cell → Type 0) (role : ElementStyle) (chars : List ℕ) → All (λ c. P (unlinked_cell role c)) chars → All P (text_cells role chars)
+All-text_cells P role chars all = All-map P (λ (c : ℕ). unlinked_cell role c) chars all
 
 -- how long a list is after a write
 pub length-written : {X : Type 0} (blank : X) (xs : List X) (at : ℕ) (new : List X) → length (written blank xs at new) ≡ max (length xs) (at + length new)
 unfolding written
 length-written blank xs at new = grind (arith, places)
 
--- what stands before, in and behind a write
+-- what stands before, in and after a write
 pub slice_index_or-written_before : {X : Type 0} (blank : X) (xs : List X) (at : ℕ) (new : List X) (k : ℕ) → k < at → slice_index_or (written blank xs at new) k blank ≡ slice_index_or xs k blank
 unfolding written
 slice_index_or-written_before blank xs at new k before = grind (arith, places)
@@ -50,9 +50,9 @@ pub slice_index_or-written_inside : {X : Type 0} (blank : X) (xs : List X) (at :
 unfolding written
 slice_index_or-written_inside blank xs at new k d inside = grind (arith, places)
 
-pub slice_index_or-written_behind : {X : Type 0} (blank : X) (xs : List X) (at : ℕ) (new : List X) (k : ℕ) (d : X) → at + length new ≤ k → slice_index_or (written blank xs at new) k d ≡ slice_index_or xs k d
+pub slice_index_or-written_after : {X : Type 0} (blank : X) (xs : List X) (at : ℕ) (new : List X) (k : ℕ) (d : X) → at + length new ≤ k → slice_index_or (written blank xs at new) k d ≡ slice_index_or xs k d
 unfolding written
-slice_index_or-written_behind blank xs at new k d behind = grind (arith, places)
+slice_index_or-written_after blank xs at new k d after = grind (arith, places)
 
 -- a list that was written, from the write on
 pub drop-written : {X : Type 0} (blank : X) (xs : List X) (at : ℕ) (new : List X) → drop at (written blank xs at new) ≡ new ++ drop (at + length new) xs

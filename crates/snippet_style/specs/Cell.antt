@@ -18,8 +18,8 @@ abbrev pub unlinked_cell : ElementStyle → ℕ → Cell
 unlinked_cell role ch = record { ch = ch; role = role; link = None }
 
 -- the cells of these characters in this role, one for each, with no link
-abbrev pub drawn : ElementStyle → List ℕ → List Cell
-drawn role chars = map (λ ch. unlinked_cell role ch) chars
+abbrev pub text_cells : ElementStyle → List ℕ → List Cell
+text_cells role chars = map (λ ch. unlinked_cell role ch) chars
 
 -- the list with these elements from `at` on; a shorter list is first filled up to there with the blank
 unfoldable pub written : {X : Type 0} → X → List X → ℕ → List X → List X

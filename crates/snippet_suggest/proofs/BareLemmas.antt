@@ -10,8 +10,8 @@ use Rattle.snippet_style.specs.declared.role.ElementStyle.{ElementStyle}
 use Rattle.snippet_style.specs.declared.role.ElementStyle.TheVariants.{LineNumber}
 use Rattle.snippet_style.specs.Glyphs.{placeholder_of}
 use Rattle.snippet_grid.specs.Grid.{cells_written}
-use Rattle.snippet_style.specs.Cell.{Cell, SPACE, drawn, written}
-use Rattle.snippet_style.proofs.CellLemmas.{All-drawn, length-chars_le, length-drawn, slice_index_or-written_behind}
+use Rattle.snippet_style.specs.Cell.{Cell, SPACE, text_cells, written}
+use Rattle.snippet_style.proofs.CellLemmas.{All-text_cells, length-chars_le, length-text_cells, slice_index_or-written_after}
 use Rattle.snippet_text.specs.Normalized.{is_listed}
 use Rattle.snippet_model.specs.Rows.{IsFreeCell}
 use Rattle.snippet_suggest.specs.declared.glyphs.SuggestionGlyph.{SuggestionGlyph}
@@ -25,42 +25,42 @@ pub bare_none : (decor : DecorStyle) (gutter : ℕ) → IsBareRow decor gutter [
 bare_none decor gutter =
     record {
       strokes = λ c left. refl;
-      marks = λ c behind. inl refl;
+      marks = λ c after. inl refl;
       free = All-nil IsFreeCell;
     }
 
--- a glyph that is put behind the gutter
-pub bare_signed : (decor : DecorStyle) (gutter : ℕ) (role : ElementStyle) (glyph : SuggestionGlyph) (row : List Cell) → is_sign glyph ≡ false → IsBareRow decor gutter row → IsBareRow decor gutter (written SPACE row (gutter + 1) (drawn role (glyph_of decor glyph)))
+-- a glyph that is put after the gutter
+pub bare_signed : (decor : DecorStyle) (gutter : ℕ) (role : ElementStyle) (glyph : SuggestionGlyph) (row : List Cell) → is_sign glyph ≡ false → IsBareRow decor gutter row → IsBareRow decor gutter (written SPACE row (gutter + 1) (text_cells role (glyph_of decor glyph)))
 bare_signed decor gutter role glyph row other bare =
     let P : Cell → Type 0 = λ cell. is_stroke decor cell.ch ≡ true in
-    let cells = drawn role (glyph_of decor glyph) in
-    let short : gutter + 1 + length cells ≤ gutter + 3 = omega (arith, length-drawn role (glyph_of decor glyph), glyph_short decor glyph) in
+    let cells = text_cells role (glyph_of decor glyph) in
+    let short : gutter + 1 + length cells ≤ gutter + 3 = omega (arith, length-text_cells role (glyph_of decor glyph), glyph_short decor glyph) in
     record {
-      strokes = each_written P row (gutter + 1) (gutter + 3) cells bare.strokes (All-drawn P role (glyph_of decor glyph) (AllPass-from_list_all (is_stroke decor) (glyph_of decor glyph) (glyph_strokes decor glyph other)));
-      marks = λ c behind. subst (λ (cell : Cell). IsMarkOrSpace decor cell.ch) (sym (slice_index_or-written_behind SPACE row (gutter + 1) cells c SPACE (omega (arith, short, behind)))) (bare.marks c behind);
+      strokes = each_written P row (gutter + 1) (gutter + 3) cells bare.strokes (All-text_cells P role (glyph_of decor glyph) (AllPass-from_list_all (is_stroke decor) (glyph_of decor glyph) (glyph_strokes decor glyph other)));
+      marks = λ c after. subst (λ (cell : Cell). IsMarkOrSpace decor cell.ch) (sym (slice_index_or-written_after SPACE row (gutter + 1) cells c SPACE (omega (arith, short, after)))) (bare.marks c after);
       free = free_written row (gutter + 1) cells bare.free (free_drawn role (glyph_of decor glyph) (All-from_none is_listed (glyph_of decor glyph) (glyph_unlisted decor glyph)));
     }
 
 -- a row that spaces lead, and that ends before the line's place with what stands left of it
-pub bare_led : (decor : DecorStyle) (gutter at : ℕ) (role : ElementStyle) (cs : List ℕ) → at + length cs ≤ gutter + 3 → list_all (is_stroke decor) cs ≡ true → list_any is_listed cs ≡ false → IsBareRow decor gutter (replicate at SPACE ++ drawn role cs)
+pub bare_led : (decor : DecorStyle) (gutter at : ℕ) (role : ElementStyle) (cs : List ℕ) → at + length cs ≤ gutter + 3 → list_all (is_stroke decor) cs ≡ true → list_any is_listed cs ≡ false → IsBareRow decor gutter (replicate at SPACE ++ text_cells role cs)
 bare_led decor gutter at role cs short strokes free =
     let P : Cell → Type 0 = λ cell. is_stroke decor cell.ch ≡ true in
-    let row = replicate at SPACE ++ drawn role cs in
-    let long : length row ≡ at + length cs = omega (arith, length-append (replicate at SPACE) (drawn role cs), length-replicate at SPACE, length-drawn role cs) in
+    let row = replicate at SPACE ++ text_cells role cs in
+    let long : length row ≡ at + length cs = omega (arith, length-append (replicate at SPACE) (text_cells role cs), length-replicate at SPACE, length-text_cells role cs) in
     record {
-      strokes = λ c left. each_cell P row refl (All-append P (replicate at SPACE) (drawn role cs) (All-replicate P at SPACE refl) (All-drawn P role cs (AllPass-from_list_all (is_stroke decor) cs strokes))) c;
-      marks = λ c behind. subst (λ (cell : Cell). IsMarkOrSpace decor cell.ch) (sym (get_or_past row c SPACE (omega (arith, long, short, behind)))) (inl refl);
-      free = free_led at (drawn role cs) (free_drawn role cs (All-from_none is_listed cs free));
+      strokes = λ c left. each_cell P row refl (All-append P (replicate at SPACE) (text_cells role cs) (All-replicate P at SPACE refl) (All-text_cells P role cs (AllPass-from_list_all (is_stroke decor) cs strokes))) c;
+      marks = λ c after. subst (λ (cell : Cell). IsMarkOrSpace decor cell.ch) (sym (get_or_past row c SPACE (omega (arith, long, short, after)))) (inl refl);
+      free = free_led at (text_cells role cs) (free_drawn role cs (All-from_none is_listed cs free));
     }
 
 -- a row of a placeholder was added
-pub gap_added : (gutter : ℕ) (decor : DecorStyle) (old new : List (List Cell)) (row at : ℕ) (text : List ℕ) → row ≡ length old → at ≤ gutter → chars text ≡ placeholder_of decor → (0 < length text → new ≡ cells_written old row at (drawn LineNumber (chars text))) → AddsRow (IsBareRow decor gutter) old new
+pub gap_added : (gutter : ℕ) (decor : DecorStyle) (old new : List (List Cell)) (row at : ℕ) (text : List ℕ) → row ≡ length old → at ≤ gutter → chars text ≡ placeholder_of decor → (0 < length text → new ≡ cells_written old row at (text_cells LineNumber (chars text))) → AddsRow (IsBareRow decor gutter) old new
 gap_added gutter decor old new row at text below left is writes =
     let cs = chars text in
     let some : 0 < length text = omega (arith, length-chars_le text, ap length is, placeholder_some decor) in
     record {
-      row = replicate at SPACE ++ drawn LineNumber cs;
-      added = begun_by old new row at (drawn LineNumber cs) below (writes some);
+      row = replicate at SPACE ++ text_cells LineNumber cs;
+      added = begun_by old new row at (text_cells LineNumber cs) below (writes some);
       is = bare_led decor gutter at LineNumber cs (omega (arith, left, ap length is, placeholder_short decor)) (ap (list_all (is_stroke decor)) is ∙ placeholder_strokes decor) (ap (list_any is_listed) is ∙ placeholder_free decor);
     }
   where

@@ -106,17 +106,17 @@ deleted_line_gives : (v : Vec Patch Global) → Gives (deleted_line v) Diff [] [
 unfolding shown_text trimmed_edit sandwich kept_before start_of line_of chars last_line_reached newline_count trim_start trim_end lib.Utf8.encode
 deleted_line_gives v = record { kind_is = refl; lines_are = refl; offered_are = refl; removed_are = refl; counted_is = refl }
 
--- `a` and a final LF, with `x` put behind that. It is joined to the last line:
+-- `a` and a final LF, with `x` put after that. It is joined to the last line:
 --
 --       |
 --     1 | ax
 --       |  +
-abbrev behind_final : Vec Patch Global → Snippet Patch
-behind_final v = snippet v true (codes "a" ++ 10 ∷ []) (patch 2 2 (codes "x") ∷ []) (omega arith)
+abbrev after_final : Vec Patch Global → Snippet Patch
+after_final v = snippet v true (codes "a" ++ 10 ∷ []) (patch 2 2 (codes "x") ∷ []) (omega arith)
 
-behind_final_gives : (v : Vec Patch Global) → Gives (behind_final v) Underline (codes "ax" ∷ []) (0 ∷ []) [] 1
+after_final_gives : (v : Vec Patch Global) → Gives (after_final v) Underline (codes "ax" ∷ []) (0 ∷ []) [] 1
 unfolding shown_text trimmed_edit sandwich kept_before start_of line_of chars last_line_reached newline_count trim_start trim_end lib.Utf8.encode
-behind_final_gives v = record { kind_is = refl; lines_are = refl; offered_are = refl; removed_are = refl; counted_is = refl }
+after_final_gives v = record { kind_is = refl; lines_are = refl; offered_are = refl; removed_are = refl; counted_is = refl }
 
 -- `a` and `b`, the first with its LF deleted. The one line that is left is the same as the last line that is reached,
 -- so neither is shown:
@@ -155,7 +155,7 @@ first_of_three_gives : (v : Vec Patch Global) → Gives (first_of_three v) Plain
 unfolding shown_text trimmed_edit sandwich kept_before start_of line_of chars last_line_reached newline_count trim_start trim_end lib.Utf8.encode
 first_of_three_gives v = record { kind_is = refl; lines_are = refl; offered_are = refl; removed_are = refl; counted_is = refl }
 
--- `a` to `g`, with `x` put before the first and `y` behind the last. Of more than three lines between these the first and the last
+-- `a` to `g`, with `x` put before the first and `y` after the last. Of more than three lines between these the first and the last
 -- are shown:
 --
 --       |

@@ -131,7 +131,7 @@ glyph_strokes Unicode Alone other = absurd (cc)
 glyph_strokes Unicode Changed other = absurd (cc)
 glyph_strokes Unicode Added other = absurd (cc)
 
--- a sign begins with what may stand beside a line, and a space stands behind that
+-- a sign begins with what may stand beside a line, and a space stands after that
 pub sign_first : (decor : DecorStyle) (glyph : SuggestionGlyph) → is_sign glyph ≡ true → IsSign decor (slice_index_or (glyph_of decor glyph) 0 32)
 sign_first Ascii Opening is = absurd (cc)
 sign_first Ascii Next is = absurd (cc)

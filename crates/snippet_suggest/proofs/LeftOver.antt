@@ -8,8 +8,8 @@ use Rattle.std.proofs.lemmas.List.{length-append, length-replicate}
 use Rattle.std.proofs.lemmas.List.Elements.{All-append, All-cons, All-nil, All-push, All-replicate}
 use Rattle.snippet_style.specs.declared.glyphs.DecorStyle.{DecorStyle}
 use Rattle.snippet_style.specs.declared.role.ElementStyle.TheVariants.{LineNumber}
-use Rattle.snippet_style.specs.Cell.{Cell, SPACE, drawn, written}
-use Rattle.snippet_style.proofs.CellLemmas.{All-drawn, length-drawn, slice_index_or-written_behind, slice_index_or-written_inside}
+use Rattle.snippet_style.specs.Cell.{Cell, SPACE, text_cells, written}
+use Rattle.snippet_style.proofs.CellLemmas.{All-text_cells, length-text_cells, slice_index_or-written_after, slice_index_or-written_inside}
 use Rattle.snippet_lines.specs.Number.{set_right, shown_number}
 use Rattle.snippet_lines.specs.declared.number.LineNumbers.{LineNumbers}
 use Rattle.snippet_lines.specs.declared.number.LineNumbers.TheVariants.{Shown, Anonymized, Hidden}
@@ -25,7 +25,7 @@ right_holds : (P : ℕ → Type 0) → P 32 → (gutter : ℕ) (cs : List ℕ) �
 right_holds P space gutter cs holds =
     All-append P (replicate (gutter - length cs) 32) cs (All-replicate P (gutter - length cs) 32 space) holds
 
--- what stands behind the gutter and the sign's two cells, if anything does, may be left over
+-- what stands after the gutter and the sign's two cells, if anything does, may be left over
 abbrev pub StaysLeft : DecorStyle → ℕ → List ℕ → Type 0
 StaysLeft decor gutter cs = All (IsLeftOver decor) cs ⊎ (length cs ≤ gutter + 3)
 
@@ -53,26 +53,26 @@ number_before decor Hidden gutter number fits =
     All-replicate P gutter 32 (inl refl)
 
 -- what stands in the gutter of a row that showed no line, once a number was put into it
-pub before_sign : (numbers : LineNumbers) (decor : DecorStyle) (gutter : ℕ) (number : List ℕ) (row : List Cell) → All (IsBeforeSign numbers decor) (chars number) → ((c : ℕ) → c < gutter + 3 → is_stroke decor (slice_index_or row c SPACE).ch ≡ true) → (c : ℕ) → c < gutter + 3 → IsBeforeSign numbers decor (slice_index_or (texted number row 0 (drawn LineNumber (chars number))) c SPACE).ch
+pub before_sign : (numbers : LineNumbers) (decor : DecorStyle) (gutter : ℕ) (number : List ℕ) (row : List Cell) → All (IsBeforeSign numbers decor) (chars number) → ((c : ℕ) → c < gutter + 3 → is_stroke decor (slice_index_or row c SPACE).ch ≡ true) → (c : ℕ) → c < gutter + 3 → IsBeforeSign numbers decor (slice_index_or (texted number row 0 (text_cells LineNumber (chars number))) c SPACE).ch
 before_sign numbers decor gutter [] row number_is strokes c left = inl (strokes c left)
 before_sign numbers decor gutter (b ∷ bs) row number_is strokes c left =
     let P : Cell → Type 0 = λ cell. IsBeforeSign numbers decor cell.ch in
-    each_written P row 0 (gutter + 3) (drawn LineNumber (chars (b ∷ bs))) (λ k inside. inl (strokes k inside)) (All-drawn P LineNumber (chars (b ∷ bs)) number_is) c left
+    each_written P row 0 (gutter + 3) (text_cells LineNumber (chars (b ∷ bs))) (λ k inside. inl (strokes k inside)) (All-text_cells P LineNumber (chars (b ∷ bs)) number_is) c left
 
--- what stands behind the gutter of a row that showed no line, once a number was put into it
-pub left_over : (decor : DecorStyle) (gutter : ℕ) (number : List ℕ) (row : List Cell) → StaysLeft decor gutter (chars number) → ((c : ℕ) → gutter + 3 ≤ c → IsMarkOrSpace decor (slice_index_or row c SPACE).ch) → (c : ℕ) → gutter + 3 ≤ c → IsLeftOver decor (slice_index_or (texted number row 0 (drawn LineNumber (chars number))) c SPACE).ch
+-- what stands after the gutter of a row that showed no line, once a number was put into it
+pub left_over : (decor : DecorStyle) (gutter : ℕ) (number : List ℕ) (row : List Cell) → StaysLeft decor gutter (chars number) → ((c : ℕ) → gutter + 3 ≤ c → IsMarkOrSpace decor (slice_index_or row c SPACE).ch) → (c : ℕ) → gutter + 3 ≤ c → IsLeftOver decor (slice_index_or (texted number row 0 (text_cells LineNumber (chars number))) c SPACE).ch
 left_over decor gutter [] row number_is marks c right = inl (marks c right)
 left_over decor gutter (b ∷ bs) row number_is marks c right =
     let P : Cell → Type 0 = λ cell. IsLeftOver decor cell.ch in
-    let cells : List Cell = drawn LineNumber (chars (b ∷ bs)) in
+    let cells : List Cell = text_cells LineNumber (chars (b ∷ bs)) in
     let here : 0 + c ≡ c = omega arith in
     elim (cases_lt c (length cells)) [
       | inl inside ↦
           let there : P (slice_index_or cells c SPACE) = elim number_is [
-            | inl left ↦ All-drawn P LineNumber (chars (b ∷ bs)) left c SPACE inside
-            | inr short ↦ absurd (omega (arith, short, inside, right, length-drawn LineNumber (chars (b ∷ bs))))
+            | inl left ↦ All-text_cells P LineNumber (chars (b ∷ bs)) left c SPACE inside
+            | inr short ↦ absurd (omega (arith, short, inside, right, length-text_cells LineNumber (chars (b ∷ bs))))
           ] in
           subst (λ (k : ℕ). P (slice_index_or (written SPACE row 0 cells) k SPACE)) here (subst P (sym (slice_index_or-written_inside SPACE row 0 cells c SPACE inside)) there)
       | inr past ↦
-          subst P (sym (slice_index_or-written_behind SPACE row 0 cells c SPACE (omega (arith, past)))) (inl (marks c right))
+          subst P (sym (slice_index_or-written_after SPACE row 0 cells c SPACE (omega (arith, past)))) (inl (marks c right))
     ]

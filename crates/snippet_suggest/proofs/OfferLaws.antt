@@ -34,7 +34,7 @@ pub given-part : (s : Snippet Patch) → HaveSpans s → AreDisjoint (edits_of s
 given-part s spans disjoint some offerable =
     shown-part s.fold (cow_str_bytes s.source) (edits_of s) offerable.no_cr offerable.before (edits-apart s spans disjoint) (some-edits (cow_str_bytes s.source) s.markers.items some)
 
--- the lines that are given are lines of the patched source, one behind the other
+-- the lines that are given are lines of the patched source, one after the other
 pub given-from : (s : Snippet Patch) → HaveSpans s → AreDisjoint (edits_of s) → s.markers.items ≢ [] → IsOfferable s → AreFrom (first_given s) (given_lines s) (texts_of (source_lines (patched (cow_str_bytes s.source) (edits_of s))))
 given-from s spans disjoint some offerable =
     let source : List ℕ = cow_str_bytes s.source in

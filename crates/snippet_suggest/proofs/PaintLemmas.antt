@@ -93,7 +93,7 @@ pub line_row_painted : (decor : DecorStyle) (gutter : ℕ) (number text : List �
 line_row_painted decor gutter number text row now same is =
     record {
       numbered = seen_text (take (length number) now) (take (length number) row) (seen_take (length number) now row same) ∙ is.numbered;
-      beside = λ c behind left. ap is_ascii_alphanumeric (seen_ch c now row same) ∙ is.beside c behind left;
+      beside = λ c after left. ap is_ascii_alphanumeric (seen_ch c now row same) ∙ is.beside c after left;
       sign = subst (λ (ch : ℕ). IsSign decor ch) (sym (seen_ch (gutter + 1) now row same)) is.sign;
       space = seen_ch (gutter + 2) now row same ∙ is.space;
       holds = seen_text (drop (gutter + 3) now) (drop (gutter + 3) row) (seen_drop (gutter + 3) now row same) ∙ is.holds;

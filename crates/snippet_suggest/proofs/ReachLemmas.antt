@@ -35,14 +35,14 @@ pub first_begin : (ps : List TrimmedPatch) (d : TrimmedPatch) → 0 < length ps 
 first_begin [] d some = absurd (omega (arith, some))
 first_begin (p ∷ ps) d some = refl
 
--- of edits that stand apart it isn't behind the end of the last
-end_behind : (at : ℕ) (es : List Edit) → AreApart at es → at ≤ end_from at es
-end_behind at [] apart = omega arith
-end_behind at (e ∷ es) apart = omega (arith, end_behind e.end es apart.2, apart.0, apart.1)
+-- of edits that stand apart it isn't after the end of the last
+end_after : (at : ℕ) (es : List Edit) → AreApart at es → at ≤ end_from at es
+end_after at [] apart = omega arith
+end_after at (e ∷ es) apart = omega (arith, end_after e.end es apart.2, apart.0, apart.1)
 
 begin_before : (es : List Edit) → AreApart 0 es → first_start es ≤ end_from 0 es
 begin_before [] apart = omega arith
-begin_before (e ∷ es) apart = omega (arith, end_behind e.end es apart.2, apart.1)
+begin_before (e ∷ es) apart = omega (arith, end_after e.end es apart.2, apart.1)
 
 pub least_begin : (ps : List TrimmedPatch) (d : TrimmedPatch) → 0 < length ps → AreApart 0 (map trimmed_edit_of ps) → min (get_or ps 0 d).span.start (get_or ps (length ps - 1) d).span.end ≡ first_start (map trimmed_edit_of ps)
 least_begin ps d some apart =

@@ -74,7 +74,7 @@ removed_all layout infos i old new all adds =
     subst (λ ts. AddsRemoved layout ts old new) (all_texts infos i all) adds
 
 -- rows of the first of some removed lines stand below some rows, and the next one stands in this row: over a row that shows no
--- line, if there is one, which there isn't behind the first of them
+-- line, if there is one, which there isn't after the first of them
 pub record RemovesAt (layout : SuggestionLayout) (above : List (List Cell)) (infos : List LineInfo) (at count : ℕ) (now : List (List Cell)) : Type 0 where
   pub rows : List (List Cell)
   pub are : AllZip (IsRowOfRemoved layout) (take count (texts_at infos)) rows
@@ -83,7 +83,7 @@ pub record RemovesAt (layout : SuggestionLayout) (above : List (List Cell)) (inf
   pub here : at ≡ length (above ++ rows)
   pub stands : now ≡ (above ++ rows) ++ tail
   pub tail_is : IsTail layout.decor layout.gutter shares tail
-  pub behind : 0 < count → tail ≡ []
+  pub after : 0 < count → tail ≡ []
 
 pub removes_begun : (layout : SuggestionLayout) (above tail : List (List Cell)) (shares : Bool) (infos : List LineInfo) (at : ℕ) (now : List (List Cell)) → at ≡ length above → now ≡ above ++ tail → IsTail layout.decor layout.gutter shares tail → RemovesAt layout above infos at 0 now
 removes_begun layout above tail shares infos at now here stands is =
@@ -95,7 +95,7 @@ removes_begun layout above tail shares infos at now here stands is =
       here = here ∙ ap length (sym (append-nil above));
       stands = stands ∙ ap (λ rows. rows ++ tail) (sym (append-nil above));
       tail_is = is;
-      behind = λ none. absurd (omega arith);
+      after = λ none. absurd (omega arith);
     }
 
 pub removes_more : (layout : SuggestionLayout) (above : List (List Cell)) (infos : List LineInfo) (d : LineInfo) (at count next : ℕ) (now new : List (List Cell)) (drawn : RemovesAt layout above infos at count now) → count < length infos → AddsRow (IsRowOfRemoved layout (get_or infos count d).line.now) (above ++ drawn.rows) new → next ≡ length new → RemovesAt layout above infos next (count + 1) new
@@ -110,14 +110,14 @@ removes_more layout above infos d at count next now new drawn within adds below 
       here = below ∙ ap length whole;
       stands = whole ∙ sym (append-nil (above ++ (drawn.rows ++ adds.row ∷ [])));
       tail_is = refl;
-      behind = λ some. refl;
+      after = λ some. refl;
     }
 
 pub removes_done : (layout : SuggestionLayout) (above : List (List Cell)) (infos : List LineInfo) (at count : ℕ) (now : List (List Cell)) → 0 < count → length infos ≤ count → RemovesAt layout above infos at count now → AddsRemoved layout (texts_at infos) above now
 removes_done layout above infos at count now some all drawn =
     record {
       rows = drawn.rows;
-      added = drawn.stands ∙ ap (λ tail. (above ++ drawn.rows) ++ tail) (drawn.behind some) ∙ append-nil (above ++ drawn.rows);
+      added = drawn.stands ∙ ap (λ tail. (above ++ drawn.rows) ++ tail) (drawn.after some) ∙ append-nil (above ++ drawn.rows);
       are = subst (λ ts. AllZip (IsRowOfRemoved layout) ts drawn.rows) (all_texts infos count all) drawn.are;
     }
 

@@ -71,7 +71,7 @@ same_removed numbers decor gutter text now last same is =
       minus = same_char (λ ch. ch ≡ 45) now last (gutter + 1) same is.minus;
       space = same_char (λ ch. ch ≡ 32) now last (gutter + 2) same is.space;
       begins = same_text (take n (drop (gutter + 3) now)) (take n (drop (gutter + 3) last)) (same_take n (drop (gutter + 3) now) (drop (gutter + 3) last) (same_drop (gutter + 3) now last same)) ∙ is.begins;
-      behind = λ c right. same_char (IsLeftOver decor) now last c same (is.behind c right);
+      after = λ c right. same_char (IsLeftOver decor) now last c same (is.after c right);
       free = same_free now last same is.free;
     }
 

@@ -68,10 +68,10 @@ rooms_shown layout first count touched rooms =
     rooms_of layout first 0 count (shown_lines touched count) (rising_shown touched count) rooms
 
 -- at the end nothing is still to come
-pub shown_all : (touched : ℕ → Bool) (shown all : List ShownLine) (behind line count : ℕ) → count ≤ line → shown ++ shown_from touched behind line (count - line) ≡ all → shown ≡ all
-shown_all touched shown all behind line count past whole =
+pub shown_all : (touched : ℕ → Bool) (shown all : List ShownLine) (after line count : ℕ) → count ≤ line → shown ++ shown_from touched after line (count - line) ≡ all → shown ≡ all
+shown_all touched shown all after line count past whole =
     let none : count - line ≡ 0 = omega (arith, past) in
-    sym (append-nil shown) ∙ sym (ap (λ n. shown ++ shown_from touched behind line n) none) ∙ whole
+    sym (append-nil shown) ∙ sym (ap (λ n. shown ++ shown_from touched after line n) none) ∙ whole
 
 -- each touched line is among them
 touched_from_by : (touched : ℕ → Bool) (from k left j : ℕ) (is : Bool) → touched k ≡ is → k ≤ j → j < k + suc left → touched j ≡ true → ((next : ℕ) → k + 1 ≤ j → Contains (numbers_shown (shown_from touched next (k + 1) left)) j) → Contains (numbers_shown (if is then shown_run from k ++ (Line k ∷ shown_from touched (k + 1) (k + 1) left) else shown_from touched from (k + 1) left)) j

@@ -7,10 +7,10 @@ use Rattle.std.proofs.lemmas.List.Elements.{All-append, All-take, All-drop, All-
 use Rattle.std.proofs.lemmas.Str.{chars-nil}
 use Rattle.snippet_style.specs.declared.role.ElementStyle.{ElementStyle}
 use Rattle.snippet_grid.specs.Grid.{cells_written}
-use Rattle.snippet_style.specs.Cell.{Cell, SPACE, drawn, unlinked_cell, written}
+use Rattle.snippet_style.specs.Cell.{Cell, SPACE, text_cells, unlinked_cell, written}
 use Rattle.snippet_grid.specs.Print.{row_text}
 use Rattle.snippet_grid.proofs.GridLemmas.{cells_written_below, cells_written_last}
-use Rattle.snippet_style.proofs.CellLemmas.{All-drawn, length-drawn, length-written, drop-written, slice_index_or-written_before, slice_index_or-written_behind, slice_index_or-written_inside}
+use Rattle.snippet_style.proofs.CellLemmas.{All-text_cells, length-text_cells, length-written, drop-written, slice_index_or-written_before, slice_index_or-written_after, slice_index_or-written_inside}
 use Rattle.snippet_text.specs.Normalized.{is_listed}
 use Rattle.snippet_model.specs.Rows.{IsFreeCell, IsFree}
 use Rattle.snippet_suggest.specs.Rows.{HoldsText}
@@ -37,9 +37,9 @@ text_put above mid new row r at (b ∷ bs) cells before last writes stays =
     writes (omega arith) ∙ ap (λ rows. cells_written rows r at cells) before ∙ ap (λ i. cells_written (above ++ row ∷ []) i at cells) last ∙ cells_written_last above row at cells
 
 -- cells drawn of characters that aren't listed are free
-pub free_drawn : (role : ElementStyle) (cs : List ℕ) → All (λ c. is_listed c ≡ false) cs → IsFree (drawn role cs)
+pub free_drawn : (role : ElementStyle) (cs : List ℕ) → All (λ c. is_listed c ≡ false) cs → IsFree (text_cells role cs)
 free_drawn role cs free =
-    All-drawn IsFreeCell role cs (All-weaker (λ c. is_listed c ≡ false) (λ c. IsFreeCell (unlinked_cell role c)) (λ c is. (is, refl)) cs free)
+    All-text_cells IsFreeCell role cs (All-weaker (λ c. is_listed c ≡ false) (λ c. IsFreeCell (unlinked_cell role c)) (λ c is. (is, refl)) cs free)
 
 -- elements of which none passes a test, one by one
 pub All-from_none : (p : ℕ → Bool) (xs : List ℕ) → list_any p xs ≡ false → All (λ x. p x ≡ false) xs
@@ -62,7 +62,7 @@ pub free_texted : (bytes : List ℕ) (row : List Cell) (at : ℕ) (cells : List 
 free_texted [] row at cells free_row free_cells = free_row
 free_texted (b ∷ bs) row at cells free_row free_cells = free_written row at cells free_row free_cells
 
--- a row of spaces and some free cells behind them
+-- a row of spaces and some free cells after them
 pub free_led : (n : ℕ) (cells : List Cell) → IsFree cells → IsFree (replicate n SPACE ++ cells)
 free_led n cells free =
     let P : Cell → Type 0 = IsFreeCell in
@@ -78,17 +78,17 @@ length-texted_le [] row at width cells short fits = short
 length-texted_le (b ∷ bs) row at width cells short fits = omega (arith, length-written SPACE row at cells)
 
 -- the characters of cells that are drawn
-row_text-drawn : (role : ElementStyle) (cs : List ℕ) → row_text (drawn role cs) ≡ cs
-row_text-drawn role [] = refl
-row_text-drawn role (c ∷ cs) = ap (λ t. c ∷ t) (row_text-drawn role cs)
+row_text-text_cells : (role : ElementStyle) (cs : List ℕ) → row_text (text_cells role cs) ≡ cs
+row_text-text_cells role [] = refl
+row_text-text_cells role (c ∷ cs) = ap (λ t. c ∷ t) (row_text-text_cells role cs)
 
--- a text that is put behind a row stands there to the row's end
-pub holds_texted : (gutter : ℕ) (bytes : List ℕ) (row : List Cell) (role : ElementStyle) → length row ≤ gutter + 3 → HoldsText gutter (chars bytes) (texted bytes row (gutter + 3) (drawn role (chars bytes)))
+-- a text that is put after a row stands there to the row's end
+pub holds_texted : (gutter : ℕ) (bytes : List ℕ) (row : List Cell) (role : ElementStyle) → length row ≤ gutter + 3 → HoldsText gutter (chars bytes) (texted bytes row (gutter + 3) (text_cells role (chars bytes)))
 holds_texted gutter [] row role short = ap row_text (drop_all (gutter + 3) row short) ∙ sym chars-nil
 holds_texted gutter (b ∷ bs) row role short =
-    let cells = drawn role (chars (b ∷ bs)) in
+    let cells = text_cells role (chars (b ∷ bs)) in
     let none : drop (gutter + 3 + length cells) row ≡ [] = drop_all (gutter + 3 + length cells) row (omega arith) in
-    ap row_text (drop-written SPACE row (gutter + 3) cells ∙ ap (λ t. cells ++ t) none ∙ append-nil cells) ∙ row_text-drawn role (chars (b ∷ bs))
+    ap row_text (drop-written SPACE row (gutter + 3) cells ∙ ap (λ t. cells ++ t) none ∙ append-nil cells) ∙ row_text-text_cells role (chars (b ∷ bs))
 
 -- a fact of each cell of a row, and of a space, holds at each cell's number
 pub each_cell : (P : Cell → Type 0) (row : List Cell) → P SPACE → All P row → (c : ℕ) → P (slice_index_or row c SPACE)
@@ -109,18 +109,18 @@ each_written P row at n cells there all c left =
                 let here : at + (c - at) ≡ c = omega arith in
                 let within : c - at < length cells = omega arith in
                 subst (λ (k : ℕ). P (slice_index_or (written SPACE row at cells) k SPACE)) here (subst P (sym (slice_index_or-written_inside SPACE row at cells (c - at) SPACE within)) (all (c - at) SPACE within))
-            | inr behind ↦ subst P (sym (slice_index_or-written_behind SPACE row at cells c SPACE behind)) (there c left)
+            | inr after ↦ subst P (sym (slice_index_or-written_after SPACE row at cells c SPACE after)) (there c left)
           ]
     ]
 
--- what a text that is put into a row leaves: the cells before it, and those behind it
-pub kept_behind : (bytes : List ℕ) (row : List Cell) (at c : ℕ) (cells : List Cell) → c < at → slice_index_or (texted bytes row at cells) c SPACE ≡ slice_index_or row c SPACE
-kept_behind [] row at c cells left = refl
-kept_behind (b ∷ bs) row at c cells left = slice_index_or-written_before SPACE row at cells c left
+-- what a text that is put into a row leaves: the cells before it, and those after it
+pub kept_after : (bytes : List ℕ) (row : List Cell) (at c : ℕ) (cells : List Cell) → c < at → slice_index_or (texted bytes row at cells) c SPACE ≡ slice_index_or row c SPACE
+kept_after [] row at c cells left = refl
+kept_after (b ∷ bs) row at c cells left = slice_index_or-written_before SPACE row at cells c left
 
-pub left_behind : (bytes : List ℕ) (row : List Cell) (at c : ℕ) (cells : List Cell) → at + length cells ≤ c → slice_index_or (texted bytes row at cells) c SPACE ≡ slice_index_or row c SPACE
-left_behind [] row at c cells past = refl
-left_behind (b ∷ bs) row at c cells past = slice_index_or-written_behind SPACE row at cells c SPACE past
+pub left_after : (bytes : List ℕ) (row : List Cell) (at c : ℕ) (cells : List Cell) → at + length cells ≤ c → slice_index_or (texted bytes row at cells) c SPACE ≡ slice_index_or row c SPACE
+left_after [] row at c cells past = refl
+left_after (b ∷ bs) row at c cells past = slice_index_or-written_after SPACE row at cells c SPACE past
 
 -- what stands before a text that is put into a row stays
 pub take_texted : (n : ℕ) (bytes : List ℕ) (row : List Cell) (at : ℕ) (cells : List Cell) → n ≤ at → n ≤ length row → take n (texted bytes row at cells) ≡ take n row
@@ -129,22 +129,22 @@ take_texted n (b ∷ bs) row at cells left within =
     same_lists _ _ (unfold written in grind (arith, places)) (λ k d h. unfold written in grind (arith, places))
 
 -- a text that is put at a row's begin stands there
-pub begins_texted : (bytes : List ℕ) (row : List Cell) (role : ElementStyle) → row_text (take (length (chars bytes)) (texted bytes row 0 (drawn role (chars bytes)))) ≡ chars bytes
+pub begins_texted : (bytes : List ℕ) (row : List Cell) (role : ElementStyle) → row_text (take (length (chars bytes)) (texted bytes row 0 (text_cells role (chars bytes)))) ≡ chars bytes
 begins_texted [] row role = ap (λ (t : List ℕ). row_text (take (length t) row)) chars-nil ∙ sym chars-nil
 begins_texted (b ∷ bs) row role =
     let cs = chars (b ∷ bs) in
-    let cells = drawn role cs in
+    let cells = text_cells role cs in
     let begun : written SPACE row 0 cells ≡ cells ++ drop (0 + length cells) row = drop-written SPACE row 0 cells in
-    ap (λ (t : List Cell). row_text (take (length cs) t)) begun ∙ ap row_text (take_at cells (drop (0 + length cells) row) (length cs) (length-drawn role cs)) ∙ row_text-drawn role cs
+    ap (λ (t : List Cell). row_text (take (length cs) t)) begun ∙ ap row_text (take_at cells (drop (0 + length cells) row) (length cs) (length-text_cells role cs)) ∙ row_text-text_cells role cs
 
 -- a text that is put into a row stands there
-pub stands_texted : (at : ℕ) (bytes : List ℕ) (row : List Cell) (role : ElementStyle) → row_text (take (length (chars bytes)) (drop at (texted bytes row at (drawn role (chars bytes))))) ≡ chars bytes
+pub stands_texted : (at : ℕ) (bytes : List ℕ) (row : List Cell) (role : ElementStyle) → row_text (take (length (chars bytes)) (drop at (texted bytes row at (text_cells role (chars bytes))))) ≡ chars bytes
 stands_texted at [] row role =
     ap (λ (t : List ℕ). row_text (take (length t) (drop at row))) chars-nil ∙ sym chars-nil
 stands_texted at (b ∷ bs) row role =
     let cs = chars (b ∷ bs) in
-    let cells = drawn role cs in
-    ap (λ (t : List Cell). row_text (take (length cs) t)) (drop-written SPACE row at cells) ∙ ap row_text (take_at cells (drop (at + length cells) row) (length cs) (length-drawn role cs)) ∙ row_text-drawn role cs
+    let cells = text_cells role cs in
+    ap (λ (t : List Cell). row_text (take (length cs) t)) (drop-written SPACE row at cells) ∙ ap row_text (take_at cells (drop (at + length cells) row) (length cs) (length-text_cells role cs)) ∙ row_text-text_cells role cs
 
 -- a row is no shorter once a text was put into it
 pub length-texted_ge : (bytes : List ℕ) (row : List Cell) (at : ℕ) (cells : List Cell) → length row ≤ length (texted bytes row at cells)
@@ -157,9 +157,9 @@ ch_at [] c = refl
 ch_at (cell ∷ row) zero = refl
 ch_at (cell ∷ row) (suc c) = ch_at row c
 
--- the characters behind the spaces that lead a row
-pub led_ch : (n k : ℕ) (role : ElementStyle) (cs : List ℕ) → (slice_index_or (replicate n SPACE ++ drawn role cs) (n + k) SPACE).ch ≡ slice_index_or cs k 32
+-- the characters after the spaces that lead a row
+pub led_ch : (n k : ℕ) (role : ElementStyle) (cs : List ℕ) → (slice_index_or (replicate n SPACE ++ text_cells role cs) (n + k) SPACE).ch ≡ slice_index_or cs k 32
 led_ch n k role cs =
-    let cells = drawn role cs in
+    let cells = text_cells role cs in
     let same : n + k - n ≡ k = omega arith in
-    ap (λ (cell : Cell). cell.ch) (get_or-append_right (replicate n SPACE) cells n (n + k) SPACE (length-replicate n SPACE) (omega arith)) ∙ ap (λ i. (slice_index_or cells i SPACE).ch) same ∙ ch_at cells k ∙ ap (λ t. slice_index_or t k 32) (row_text-drawn role cs)
+    ap (λ (cell : Cell). cell.ch) (get_or-append_right (replicate n SPACE) cells n (n + k) SPACE (length-replicate n SPACE) (omega arith)) ∙ ap (λ i. (slice_index_or cells i SPACE).ch) same ∙ ch_at cells k ∙ ap (λ t. slice_index_or t k 32) (row_text-text_cells role cs)

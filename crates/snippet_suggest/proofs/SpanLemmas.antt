@@ -45,7 +45,7 @@ border_inside source start end before ordered within to border =
           let at : end ≡ start + before = omega (arith, border.0) in
           elim to [
             | inl boundary ↦ subst (IsCharBoundary source) at boundary
-            | inr behind ↦ absurd (omega arith)
+            | inr after ↦ absurd (omega arith)
           ]
     ]
 

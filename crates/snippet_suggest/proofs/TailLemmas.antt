@@ -7,9 +7,9 @@ use Rattle.snippet_style.specs.declared.glyphs.DecorStyle.{DecorStyle}
 use Rattle.snippet_style.specs.declared.role.ElementStyle.{ElementStyle}
 use Rattle.snippet_style.specs.declared.role.ElementStyle.TheVariants.{LineNumber, Removal}
 use Rattle.snippet_grid.specs.Grid.{cells_written}
-use Rattle.snippet_style.specs.Cell.{Cell, SPACE, drawn, unlinked_cell, written}
+use Rattle.snippet_style.specs.Cell.{Cell, SPACE, text_cells, unlinked_cell, written}
 use Rattle.snippet_grid.proofs.GridLemmas.{cells_written_below, cells_written_last}
-use Rattle.snippet_style.proofs.CellLemmas.{length-drawn, slice_index_or-written_before, slice_index_or-written_behind, slice_index_or-written_inside}
+use Rattle.snippet_style.proofs.CellLemmas.{length-text_cells, slice_index_or-written_before, slice_index_or-written_after, slice_index_or-written_inside}
 use Rattle.snippet_text.specs.Normalized.{is_listed}
 use Rattle.snippet_lines.specs.declared.number.LineNumbers.{LineNumbers}
 use Rattle.snippet_model.specs.Rows.{IsFreeCell, IsFree}
@@ -19,7 +19,7 @@ use Rattle.snippet_suggest.specs.Glyphs.{glyph_of, is_sign}
 use Rattle.snippet_suggest.specs.Rows.{AddsEnd, AddsRow, IsBareRow, IsBeforeSign, IsLeftOver, IsRemovedRow, IsTail}
 use Rattle.snippet_suggest.proofs.BareLemmas.{bare_none, bare_signed}
 use Rattle.snippet_suggest.proofs.LeftOver.{StaysLeft, before_sign, left_over}
-use Rattle.snippet_suggest.proofs.RowLemmas.{free_drawn, free_texted, free_written, kept_behind, left_behind, stands_texted, text_put, texted}
+use Rattle.snippet_suggest.proofs.RowLemmas.{free_drawn, free_texted, free_written, kept_after, left_after, stands_texted, text_put, texted}
 
 -- the row that there is, or one with no cells where there is none
 abbrev pub tail_row : List (List Cell) → List Cell
@@ -46,12 +46,12 @@ tail_put layout shares above tail old new row at cells here is tail_is writes =
     writes ∙ ap (λ r. cells_written old r at cells) here ∙ ap (λ (rows : List (List Cell)). cells_written rows (length above) at cells) is ∙ tail_written layout shares above tail at cells tail_is
 
 -- a glyph was drawn into it
-pub glyph_added : (layout : SuggestionLayout) (shares : Bool) (glyph : SuggestionGlyph) (above tail old new : List (List Cell)) (row : ℕ) (text : List ℕ) → is_sign glyph ≡ false → chars text ≡ glyph_of layout.decor glyph → new ≡ cells_written old row (layout.gutter + 1) (drawn LineNumber (chars text)) → row ≡ length above → old ≡ above ++ tail → IsTail layout.decor layout.gutter shares tail → AddsRow (IsBareRow layout.decor layout.gutter) above new
+pub glyph_added : (layout : SuggestionLayout) (shares : Bool) (glyph : SuggestionGlyph) (above tail old new : List (List Cell)) (row : ℕ) (text : List ℕ) → is_sign glyph ≡ false → chars text ≡ glyph_of layout.decor glyph → new ≡ cells_written old row (layout.gutter + 1) (text_cells LineNumber (chars text)) → row ≡ length above → old ≡ above ++ tail → IsTail layout.decor layout.gutter shares tail → AddsRow (IsBareRow layout.decor layout.gutter) above new
 glyph_added layout shares glyph above tail old new row text other is writes here old_is tail_is =
-    let cells = drawn LineNumber (glyph_of layout.decor glyph) in
+    let cells = text_cells LineNumber (glyph_of layout.decor glyph) in
     record {
       row = written SPACE (tail_row tail) (layout.gutter + 1) cells;
-      added = tail_put layout shares above tail old new row (layout.gutter + 1) cells here old_is tail_is (writes ∙ ap (λ cs. cells_written old row (layout.gutter + 1) (drawn LineNumber cs)) is);
+      added = tail_put layout shares above tail old new row (layout.gutter + 1) cells here old_is tail_is (writes ∙ ap (λ cs. cells_written old row (layout.gutter + 1) (text_cells LineNumber cs)) is);
       is = bare_signed layout.decor layout.gutter LineNumber glyph (tail_row tail) other (tail_bare layout shares tail tail_is);
     }
 
@@ -64,16 +64,16 @@ skipped_written rows skipped at cells =
     filled row = same_lists _ _ (unfold written in grind (arith, places)) (λ k d h. unfold written in grind (arith, places))
 
 -- a glyph was drawn there
-pub end_added : (layout : SuggestionLayout) (glyph : SuggestionGlyph) (skipped : ℕ) (old new : List (List Cell)) (row : ℕ) (text : List ℕ) → is_sign glyph ≡ false → chars text ≡ glyph_of layout.decor glyph → new ≡ cells_written old row (layout.gutter + 1) (drawn LineNumber (chars text)) → row ≡ length old + skipped → AddsEnd layout skipped old new
+pub end_added : (layout : SuggestionLayout) (glyph : SuggestionGlyph) (skipped : ℕ) (old new : List (List Cell)) (row : ℕ) (text : List ℕ) → is_sign glyph ≡ false → chars text ≡ glyph_of layout.decor glyph → new ≡ cells_written old row (layout.gutter + 1) (text_cells LineNumber (chars text)) → row ≡ length old + skipped → AddsEnd layout skipped old new
 end_added layout glyph skipped old new row text other is writes here =
-    let cells = drawn LineNumber (glyph_of layout.decor glyph) in
+    let cells = text_cells LineNumber (glyph_of layout.decor glyph) in
     record {
       last = written SPACE [] (layout.gutter + 1) cells;
-      added = writes ∙ ap (λ cs. cells_written old row (layout.gutter + 1) (drawn LineNumber cs)) is ∙ ap (λ r. cells_written old r (layout.gutter + 1) cells) here ∙ skipped_written old skipped (layout.gutter + 1) cells;
+      added = writes ∙ ap (λ cs. cells_written old row (layout.gutter + 1) (text_cells LineNumber cs)) is ∙ ap (λ r. cells_written old r (layout.gutter + 1) cells) here ∙ skipped_written old skipped (layout.gutter + 1) cells;
       is = bare_signed layout.decor layout.gutter LineNumber glyph [] other (bare_none layout.decor layout.gutter);
     }
 
--- a number, which may have no bytes, and a glyph behind it were put into it
+-- a number, which may have no bytes, and a glyph after it were put into it
 number_and_glyph : (layout : SuggestionLayout) (shares : Bool) (above tail old mid new : List (List Cell)) (r at : ℕ) (bytes : List ℕ) (cells sign : List Cell) → r ≡ length above → old ≡ above ++ tail → IsTail layout.decor layout.gutter shares tail → (0 < length bytes → mid ≡ cells_written old r 0 cells) → (bytes ≡ [] → mid ≡ old) → new ≡ cells_written mid r at sign → new ≡ above ++ written SPACE (texted bytes (tail_row tail) 0 cells) at sign ∷ []
 number_and_glyph layout shares above tail old mid new r at [] cells sign here is tail_is writes stays signs =
     tail_put layout shares above tail old new r at sign here is tail_is (signs ∙ ap (λ (rows : List (List Cell)). cells_written rows r at sign) (stays refl))
@@ -82,11 +82,11 @@ number_and_glyph layout shares above tail old mid new r at (b ∷ bs) cells sign
     let put : mid ≡ above ++ row ∷ [] = tail_put layout shares above tail old mid r 0 cells here is tail_is (writes (omega arith)) in
     signs ∙ ap (λ (rows : List (List Cell)). cells_written rows r at sign) put ∙ ap (λ i. cells_written (above ++ row ∷ []) i at sign) here ∙ cells_written_last above row at sign
 
--- a row of `- ` behind the gutter and a text behind that
-removed_row : (numbers : LineNumbers) (decor : DecorStyle) (gutter : ℕ) (role : ElementStyle) (led : List Cell) (text : List ℕ) → ((c : ℕ) → c < gutter + 3 → IsBeforeSign numbers decor (slice_index_or led c SPACE).ch) → ((c : ℕ) → gutter + 3 ≤ c → IsLeftOver decor (slice_index_or led c SPACE).ch) → IsFree led → All (λ ch. is_listed ch ≡ false) (chars text) → IsRemovedRow numbers decor gutter (chars text) (texted text (written SPACE led (gutter + 1) (drawn Removal (45 ∷ 32 ∷ []))) (gutter + 3) (drawn role (chars text)))
+-- a row of `- ` after the gutter and a text after that
+removed_row : (numbers : LineNumbers) (decor : DecorStyle) (gutter : ℕ) (role : ElementStyle) (led : List Cell) (text : List ℕ) → ((c : ℕ) → c < gutter + 3 → IsBeforeSign numbers decor (slice_index_or led c SPACE).ch) → ((c : ℕ) → gutter + 3 ≤ c → IsLeftOver decor (slice_index_or led c SPACE).ch) → IsFree led → All (λ ch. is_listed ch ≡ false) (chars text) → IsRemovedRow numbers decor gutter (chars text) (texted text (written SPACE led (gutter + 1) (text_cells Removal (45 ∷ 32 ∷ []))) (gutter + 3) (text_cells role (chars text)))
 removed_row numbers decor gutter role led text before left free_led free_text =
     let P : Cell → Type 0 = IsFreeCell in
-    let glyph = drawn Removal (45 ∷ 32 ∷ []) in
+    let glyph = text_cells Removal (45 ∷ 32 ∷ []) in
     let row = written SPACE led (gutter + 1) glyph in
     let free_glyph : IsFree glyph = All-cons P (unlinked_cell Removal 45) (unlinked_cell Removal 32 ∷ []) (refl, refl) (All-cons P (unlinked_cell Removal 32) [] (refl, refl) (All-nil P)) in
     let first : gutter + 1 + 0 ≡ gutter + 1 = omega arith in
@@ -94,27 +94,27 @@ removed_row numbers decor gutter role led text before left free_led free_text =
     let minus : slice_index_or row (gutter + 1) SPACE ≡ unlinked_cell Removal 45 = subst (λ (n : ℕ). slice_index_or row n SPACE ≡ unlinked_cell Removal 45) first (slice_index_or-written_inside SPACE led (gutter + 1) glyph 0 SPACE (omega arith)) in
     let space : slice_index_or row (gutter + 2) SPACE ≡ unlinked_cell Removal 32 = subst (λ (n : ℕ). slice_index_or row n SPACE ≡ unlinked_cell Removal 32) second (slice_index_or-written_inside SPACE led (gutter + 1) glyph 1 SPACE (omega arith)) in
     record {
-      before = λ c here. subst (λ (cell : Cell). IsBeforeSign numbers decor cell.ch) (sym (kept_behind text row (gutter + 3) c (drawn role (chars text)) (omega (arith, here)) ∙ slice_index_or-written_before SPACE led (gutter + 1) glyph c (omega (arith, here)))) (before c (omega (arith, here)));
-      minus = ap (λ (cell : Cell). cell.ch) (kept_behind text row (gutter + 3) (gutter + 1) (drawn role (chars text)) (omega arith) ∙ minus);
-      space = ap (λ (cell : Cell). cell.ch) (kept_behind text row (gutter + 3) (gutter + 2) (drawn role (chars text)) (omega arith) ∙ space);
+      before = λ c here. subst (λ (cell : Cell). IsBeforeSign numbers decor cell.ch) (sym (kept_after text row (gutter + 3) c (text_cells role (chars text)) (omega (arith, here)) ∙ slice_index_or-written_before SPACE led (gutter + 1) glyph c (omega (arith, here)))) (before c (omega (arith, here)));
+      minus = ap (λ (cell : Cell). cell.ch) (kept_after text row (gutter + 3) (gutter + 1) (text_cells role (chars text)) (omega arith) ∙ minus);
+      space = ap (λ (cell : Cell). cell.ch) (kept_after text row (gutter + 3) (gutter + 2) (text_cells role (chars text)) (omega arith) ∙ space);
       begins = stands_texted (gutter + 3) text row role;
-      behind = λ c right.
-          let past : gutter + 3 + length (drawn role (chars text)) ≤ c = omega (arith, length-drawn role (chars text), right) in
-          subst (λ (cell : Cell). IsLeftOver decor cell.ch) (sym (left_behind text row (gutter + 3) c (drawn role (chars text)) past ∙ slice_index_or-written_behind SPACE led (gutter + 1) glyph c SPACE (omega (arith, right)))) (left c (omega (arith, right)));
-      free = free_texted text row (gutter + 3) (drawn role (chars text)) (free_written led (gutter + 1) glyph free_led free_glyph) (free_drawn role (chars text) free_text);
+      after = λ c right.
+          let past : gutter + 3 + length (text_cells role (chars text)) ≤ c = omega (arith, length-text_cells role (chars text), right) in
+          subst (λ (cell : Cell). IsLeftOver decor cell.ch) (sym (left_after text row (gutter + 3) c (text_cells role (chars text)) past ∙ slice_index_or-written_after SPACE led (gutter + 1) glyph c SPACE (omega (arith, right)))) (left c (omega (arith, right)));
+      free = free_texted text row (gutter + 3) (text_cells role (chars text)) (free_written led (gutter + 1) glyph free_led free_glyph) (free_drawn role (chars text) free_text);
     }
 
 -- a line that is removed was drawn into it
-pub removed_added : (layout : SuggestionLayout) (shares : Bool) (role : ElementStyle) (above tail old mid signed new : List (List Cell)) (r : ℕ) (number sign text : List ℕ) → chars sign ≡ 45 ∷ 32 ∷ [] → All (λ ch. is_listed ch ≡ false) (chars number) → All (IsBeforeSign layout.numbers layout.decor) (chars number) → StaysLeft layout.decor layout.gutter (chars number) → All (λ ch. is_listed ch ≡ false) (chars text) → (0 < length number → mid ≡ cells_written old r 0 (drawn LineNumber (chars number))) → (number ≡ [] → mid ≡ old) → signed ≡ cells_written mid r (layout.gutter + 1) (drawn Removal (chars sign)) → (0 < length text → new ≡ cells_written signed r (layout.gutter + 3) (drawn role (chars text))) → (text ≡ [] → new ≡ signed) → r ≡ length above → old ≡ above ++ tail → IsTail layout.decor layout.gutter shares tail → AddsRow (IsRemovedRow layout.numbers layout.decor layout.gutter (chars text)) above new
+pub removed_added : (layout : SuggestionLayout) (shares : Bool) (role : ElementStyle) (above tail old mid signed new : List (List Cell)) (r : ℕ) (number sign text : List ℕ) → chars sign ≡ 45 ∷ 32 ∷ [] → All (λ ch. is_listed ch ≡ false) (chars number) → All (IsBeforeSign layout.numbers layout.decor) (chars number) → StaysLeft layout.decor layout.gutter (chars number) → All (λ ch. is_listed ch ≡ false) (chars text) → (0 < length number → mid ≡ cells_written old r 0 (text_cells LineNumber (chars number))) → (number ≡ [] → mid ≡ old) → signed ≡ cells_written mid r (layout.gutter + 1) (text_cells Removal (chars sign)) → (0 < length text → new ≡ cells_written signed r (layout.gutter + 3) (text_cells role (chars text))) → (text ≡ [] → new ≡ signed) → r ≡ length above → old ≡ above ++ tail → IsTail layout.decor layout.gutter shares tail → AddsRow (IsRemovedRow layout.numbers layout.decor layout.gutter (chars text)) above new
 removed_added layout shares role above tail old mid signed new r number sign text minus free_number before_number left_number free_text numbers no_number signs texts no_text here old_is tail_is =
     let g = layout.gutter in
-    let led = texted number (tail_row tail) 0 (drawn LineNumber (chars number)) in
-    let glyph = drawn Removal (45 ∷ 32 ∷ []) in
+    let led = texted number (tail_row tail) 0 (text_cells LineNumber (chars number)) in
+    let glyph = text_cells Removal (45 ∷ 32 ∷ []) in
     let row = written SPACE led (g + 1) glyph in
-    let begun : signed ≡ above ++ row ∷ [] = number_and_glyph layout shares above tail old mid signed r (g + 1) number (drawn LineNumber (chars number)) glyph here old_is tail_is numbers no_number (signs ∙ ap (λ cs. cells_written mid r (g + 1) (drawn Removal cs)) minus) in
-    let free_led = free_texted number (tail_row tail) 0 (drawn LineNumber (chars number)) (tail_bare layout shares tail tail_is).free (free_drawn LineNumber (chars number) free_number) in
+    let begun : signed ≡ above ++ row ∷ [] = number_and_glyph layout shares above tail old mid signed r (g + 1) number (text_cells LineNumber (chars number)) glyph here old_is tail_is numbers no_number (signs ∙ ap (λ cs. cells_written mid r (g + 1) (text_cells Removal cs)) minus) in
+    let free_led = free_texted number (tail_row tail) 0 (text_cells LineNumber (chars number)) (tail_bare layout shares tail tail_is).free (free_drawn LineNumber (chars number) free_number) in
     record {
-      row = texted text row (g + 3) (drawn role (chars text));
-      added = text_put above signed new row r (g + 3) text (drawn role (chars text)) begun here texts no_text;
+      row = texted text row (g + 3) (text_cells role (chars text));
+      added = text_put above signed new row r (g + 3) text (text_cells role (chars text)) begun here texts no_text;
       is = removed_row layout.numbers layout.decor g role led text (before_sign layout.numbers layout.decor g number (tail_row tail) before_number (tail_bare layout shares tail tail_is).strokes) (left_over layout.decor g number (tail_row tail) left_number (tail_bare layout shares tail tail_is).marks) free_led free_text;
     }

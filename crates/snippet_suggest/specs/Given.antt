@@ -132,7 +132,7 @@ abbrev pub removed_texts : Snippet Patch → List (List ℕ)
 removed_texts s = texts_of_source s (removed_lines s)
 
 -- what the promise on offered lines asks of a snippet: no CR in its source and its replacements, and no trimmed patch that
--- starts behind an LF that ends the source
+-- starts after an LF that ends the source
 pub record IsOfferable (s : Snippet Patch) : Type 0 where
   pub no_cr : HasNoCr (cow_str_bytes s.source)
   pub no_cr_in : All (λ e. HasNoCr e.text) (edits_of s)

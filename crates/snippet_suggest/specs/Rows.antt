@@ -22,7 +22,7 @@ use Rattle.snippet_suggest.specs.Given.{counted_line, first_given, given_lines, 
 use Rattle.snippet_suggest.specs.declared.glyphs.SuggestionGlyph.TheVariants as glyph
 use Rattle.snippet_suggest.specs.Glyphs.{changed_mark_of, glyph_of}
 
--- the number of the line so many lines behind one, as far as there are numbers
+-- the number of the line so many lines after one, as far as there are numbers
 abbrev pub number_after : ℕ → ℕ → ℕ
 number_after first lines = min (first + lines) (2 ^ 64 - 1)
 
@@ -40,12 +40,12 @@ is_stroke decor c =
 abbrev pub IsMarkOrSpace : DecorStyle → ℕ → Type 0
 IsMarkOrSpace decor c = (c ≡ 32) ⊎ (c ≡ 43) ⊎ (c ≡ changed_mark_of decor)
 
--- three cells behind the gutter the row holds this text, to its end
+-- three cells after the gutter the row holds this text, to its end
 abbrev pub HoldsText : ℕ → List ℕ → List Cell → Type 0
 HoldsText gutter text row = row_text (drop (gutter + 3) row) ≡ text
 
--- a row that offers a line: its number, the sign behind it with a space, and no letter or digit between them and the line's
--- normalised text, which goes from three cells behind the gutter to the row's end
+-- a row that offers a line: its number, the sign after it with a space, and no letter or digit between them and the line's
+-- normalised text, which goes from three cells after the gutter to the row's end
 pub record IsLineRow (decor : DecorStyle) (gutter : ℕ) (number text : List ℕ) (row : List Cell) : Type 0 where
   pub numbered : row_text (take (length number) row) ≡ number
   pub beside : (c : ℕ) → length number ≤ c → c < gutter + 3 → is_ascii_alphanumeric (slice_index_or row c SPACE).ch ≡ false
@@ -65,22 +65,22 @@ IsOfNumber Hidden c = ⊥
 abbrev pub IsBeforeSign : LineNumbers → DecorStyle → ℕ → Type 0
 IsBeforeSign numbers decor c = (is_stroke decor c ≡ true) ⊎ IsOfNumber numbers c
 
--- what may stand behind a line that is removed: what stood there before, which is a mark or a space, or a digit of a number that
+-- what may stand after a line that is removed: what stood there before, which is a mark or a space, or a digit of a number that
 -- is too long for the gutter
 abbrev pub IsLeftOver : DecorStyle → ℕ → Type 0
 IsLeftOver decor c = IsMarkOrSpace decor c ⊎ ((48 ≤ c) × (c ≤ 57))
 
--- the row of a line that is removed: `-` and a space stand behind the gutter, with no letter before them but `LL`, where that
--- stands in place of numbers, and from three cells behind it on the line's normalised text, and no letter behind that
+-- the row of a line that is removed: `-` and a space stand after the gutter, with no letter before them but `LL`, where that
+-- stands in place of numbers, and from three cells after it on the line's normalised text, and no letter after that
 pub record IsRemovedRow (numbers : LineNumbers) (decor : DecorStyle) (gutter : ℕ) (text : List ℕ) (row : List Cell) : Type 0 where
   pub before : (c : ℕ) → c ≤ gutter → IsBeforeSign numbers decor (slice_index_or row c SPACE).ch
   pub minus : (slice_index_or row (gutter + 1) SPACE).ch ≡ 45
   pub space : (slice_index_or row (gutter + 2) SPACE).ch ≡ 32
   pub begins : row_text (take (length text) (drop (gutter + 3) row)) ≡ text
-  pub behind : (c : ℕ) → gutter + 3 + length text ≤ c → IsLeftOver decor (slice_index_or row c SPACE).ch
+  pub after : (c : ℕ) → gutter + 3 + length text ≤ c → IsLeftOver decor (slice_index_or row c SPACE).ch
   pub free : IsFree row
 
--- a row that shows no line: up to three cells behind the gutter nothing but what stands left of the lines there, so no letter
+-- a row that shows no line: up to three cells after the gutter nothing but what stands left of the lines there, so no letter
 -- or digit, and from there on nothing but marks
 pub record IsBareRow (decor : DecorStyle) (gutter : ℕ) (row : List Cell) : Type 0 where
   pub strokes : (c : ℕ) → c < gutter + 3 → is_stroke decor (slice_index_or row c SPACE).ch ≡ true

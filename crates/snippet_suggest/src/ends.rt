@@ -42,7 +42,7 @@ pub(crate) fn draw_head(
     }
 }
 
-/// Draws a glyph that is no line's behind the gutter of a row, which stands alone unless the row is one that is there.
+/// Draws a glyph that is no line's after the gutter of a row, which stands alone unless the row is one that is there.
 fn draw_glyph(
     buffer: &mut StyledBuffer,
     layout: SuggestionLayout,

@@ -18,7 +18,7 @@ pub enum SuggestionGlyph {
     Closing,
     /// Beside a line that is as it was.
     Kept,
-    /// Beside a line that stands alone. A space in the same role stands behind it.
+    /// Beside a line that stands alone. A space in the same role stands after it.
     Alone,
     /// Beside a line of which a part is new.
     Changed,

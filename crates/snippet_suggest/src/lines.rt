@@ -147,7 +147,7 @@ fn line_at<'a>(lines: &[&'a str], k: usize) -> &'a str
     }
 }
 
-/// The number of the line so many lines behind one.
+/// The number of the line so many lines after one.
 pub(crate) fn number_after(first: usize, lines: usize) -> usize
     ensures value { result ≡ number_after first lines }
 {

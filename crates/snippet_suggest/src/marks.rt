@@ -14,7 +14,7 @@ use snippet_style::ElementStyle;
 use snippet_text::char_width;
 use std::alloc::{AllocError, Global};
 
-/// The columns behind the last one that is marked; no row has so many cells.
+/// The columns after the last one that is marked; no row has so many cells.
 const MAX_COLUMN: usize = 1 << 60;
 
 /// The columns of a patch.
@@ -104,7 +104,7 @@ impl Moves {
 }
 
 /// Draws the marks below the one line of a suggestion, into a row that is there: `+` below what is added, else the
-/// glyph of what is changed. Each patch moves those behind it by what it makes the line longer or shorter.
+/// glyph of what is changed. Each patch moves those after it by what it makes the line longer or shorter.
 ///
 /// ```text
 ///     1 | let mut x = 1;

@@ -42,7 +42,7 @@ fn stretch_cell(layout: SuggestionLayout, character: usize, tabs: usize) -> usiz
         .saturating_add(tabs.saturating_mul(3))
 }
 
-/// Counts the tabs before characters of a line: in one walk, where it is asked for one character behind the other.
+/// Counts the tabs before characters of a line: in one walk, where it is asked for one character after the other.
 #[derive(Drop)]
 struct TabCursor<'a> {
     line: &'a str,

@@ -16,7 +16,7 @@ pub enum ShownLine {
     Gap,
 }
 
-/// The lines that are shown of a text of `count` lines, on which these ranges are touched: folded not those behind the
+/// The lines that are shown of a text of `count` lines, on which these ranges are touched: folded not those after the
 /// last touched one, and of more than three untouched ones between two touched the first and the last alone.
 pub(crate) fn shown_lines(
     alloc: Global,
@@ -33,12 +33,12 @@ pub(crate) fn shown_lines(
 {
     let touched = touched_table(alloc, count, ranges, fold)?;
     let mut shown = Vec::new(alloc);
-    let mut behind = 0;
+    let mut after = 0;
     for line in 0..count {
         if touched[line] {
-            push_run(&mut shown, behind, line)?;
+            push_run(&mut shown, after, line)?;
             shown.push(ShownLine::Line(line))?;
-            behind = line + 1;
+            after = line + 1;
         }
     }
     Ok(shown)

@@ -1,4 +1,4 @@
--- How a form grows by texts, one behind another.
+-- How a form grows by texts, one after another.
 use Rattle.std.proofs.Common.{◌≡◌, ℕ, List, ◌++◌, Result, sym, ap, ◌∙◌}
 use Rattle.std.specs.Result.{OnOk}
 use Rattle.std.proofs.lemmas.List.{append_assoc, map-append}

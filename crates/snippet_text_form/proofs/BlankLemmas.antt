@@ -1,4 +1,4 @@
--- Whitespace at the front of a line and behind a place of it, as it is looked for.
+-- Whitespace at the front of a line and after a place of it, as it is looked for.
 use Rattle.std.proofs.Common.{◌≡◌, ℕ, zero, suc, ◌+◌, ◌-◌, ◌<◌, Bool, true, false, not, ◌&&◌, eqb, leb, List, [], ◌∷◌, length, take, drop, get_or, refl, sym, ap, ◌∙◌, arith}
 use Rattle.std.proofs.lemmas.Bool.Decides.{nat_tests}
 use Rattle.std.proofs.lemmas.List.{at_drop_more, drop_all}
@@ -40,9 +40,9 @@ blank_to-end cs n left all = ap (λ l. blank_to l left) (drop_all n cs (omega ar
     of_none zero = refl
     of_none (suc left) = refl
 
--- ---- behind a place
+-- ---- after a place
 
--- whether a line has so many characters, and nothing but whitespace behind them
+-- whether a line has so many characters, and nothing but whitespace after them
 abbrev pub blank_from : List ℕ → ℕ → Bool
 blank_from cs left = leb left (length cs) && list_all is_whitespace (drop left cs)
 

@@ -20,7 +20,7 @@ use Rattle.snippet_lines.proofs.OrderLemmas.{All-put_in, sorted-only, map-ordere
 use Rattle.snippet_model.specs.declared.snippet.Annotation.{Annotation}
 use Rattle.snippet_model.specs.declared.snippet.Snippet.{Snippet}
 use Rattle.snippet_view.specs.Mark.{is_marking}
-use Rattle.snippet_text_form.specs.Cause.{behind_place, cause_form, comes_before, further_indent, has_label, kind_rank, label_of, named_spans, source_of, span_form, span_place, spans_form}
+use Rattle.snippet_text_form.specs.Cause.{after_place, cause_form, comes_before, further_indent, has_label, kind_rank, label_of, named_spans, source_of, span_form, span_place, spans_form}
 use Rattle.snippet_text_form.specs.Form.{FormPiece, Break, bare}
 use Rattle.snippet_text_form.specs.Position.{place}
 use Rattle.snippet_text_form.specs.declared.cause.NamedSpan.{NamedSpan}
@@ -78,7 +78,7 @@ All-annotations P (s ∷ spans) all =
 
 -- ---- what is added
 
--- four texts, one behind the other
+-- four texts, one after the other
 pub bare-four : (old one two three four : List FormPiece) (a b c d : List ℕ) → one ≡ old ++ bare a → two ≡ one ++ bare b → three ≡ two ++ bare c → four ≡ three ++ bare d → four ≡ old ++ bare (a ++ b ++ c ++ d)
 bare-four old one two three four a b c d first second third fourth =
     fourth ∙ ap (λ l. l ++ bare d) (third ∙ ap (λ l. l ++ bare c) (second ∙ ap (λ l. l ++ bare b) first)) ∙ joined
@@ -104,15 +104,15 @@ place-added old one two three indent place first second third =
     joined = simp (append_assoc, map-append)
 
 -- a span at its place
-placed : (anonymized : Bool) (source : Source) (indent : List ℕ) (path : Option (List ℕ)) (a : Annotation) (at : Loc × Loc) (old : List FormPiece) → at ≡ locations_of source a.span.start a.span.end → old ++ Break ∷ bare ((indent ++ span_place anonymized source path at.0 at.1) ++ behind_place (label_of a)) ≡ old ++ span_form anonymized source indent path a
+placed : (anonymized : Bool) (source : Source) (indent : List ℕ) (path : Option (List ℕ)) (a : Annotation) (at : Loc × Loc) (old : List FormPiece) → at ≡ locations_of source a.span.start a.span.end → old ++ Break ∷ bare ((indent ++ span_place anonymized source path at.0 at.1) ++ after_place (label_of a)) ≡ old ++ span_form anonymized source indent path a
 placed anonymized source indent path a at old is =
-    ap (λ (p : Loc × Loc). old ++ Break ∷ bare ((indent ++ span_place anonymized source path p.0 p.1) ++ behind_place (label_of a))) is
+    ap (λ (p : Loc × Loc). old ++ Break ∷ bare ((indent ++ span_place anonymized source path p.0 p.1) ++ after_place (label_of a))) is
 
 -- a span without a label
 pub span-plain : (anonymized : Bool) (source : Source) (indent : List ℕ) (path : Option (List ℕ)) (a : Annotation) (at : Loc × Loc) (old one two three : List FormPiece) → at ≡ locations_of source a.span.start a.span.end → one ≡ old ++ Break ∷ [] → two ≡ one ++ bare indent → three ≡ two ++ bare (span_place anonymized source path at.0 at.1) → has_label a ≡ false → three ≡ old ++ span_form anonymized source indent path a
 span-plain anonymized source indent path a at old one two three is first second third none =
     let front : List ℕ = indent ++ span_place anonymized source path at.0 at.1 in
-    let same : front ++ behind_place (label_of a) ≡ front = ap (λ l. front ++ l) (cond-false (has_label a) (codes ": " ++ label_of a) [] none) ∙ append-nil front in
+    let same : front ++ after_place (label_of a) ≡ front = ap (λ l. front ++ l) (cond-false (has_label a) (codes ": " ++ label_of a) [] none) ∙ append-nil front in
     place-added old one two three indent (span_place anonymized source path at.0 at.1) first second third ∙ ap (λ l. old ++ Break ∷ bare l) (sym same) ∙ placed anonymized source indent path a at old is
 
 -- a span with a label
@@ -120,13 +120,13 @@ pub span-labelled : (anonymized : Bool) (source : Source) (indent : List ℕ) (p
 span-labelled anonymized source indent path a at old one two three four five is first second third fourth fifth some =
     let front : List ℕ = indent ++ span_place anonymized source path at.0 at.1 in
     let label : List ℕ = label_of a in
-    let behind : codes ": " ++ label ≡ behind_place label = sym (cond-true (has_label a) (codes ": " ++ label) [] some) in
-    fifth ∙ ap (λ l. l ++ bare label) (fourth ∙ ap (λ l. l ++ bare (codes ": ")) (place-added old one two three indent (span_place anonymized source path at.0 at.1) first second third)) ∙ joined front (codes ": ") label ∙ ap (λ l. old ++ Break ∷ bare (front ++ l)) behind ∙ placed anonymized source indent path a at old is
+    let after : codes ": " ++ label ≡ after_place label = sym (cond-true (has_label a) (codes ": " ++ label) [] some) in
+    fifth ∙ ap (λ l. l ++ bare label) (fourth ∙ ap (λ l. l ++ bare (codes ": ")) (place-added old one two three indent (span_place anonymized source path at.0 at.1) first second third)) ∙ joined front (codes ": ") label ∙ ap (λ l. old ++ Break ∷ bare (front ++ l)) after ∙ placed anonymized source indent path a at old is
   where
     joined : (front colon label : List ℕ) → ((old ++ Break ∷ bare front) ++ bare colon) ++ bare label ≡ old ++ Break ∷ bare (front ++ (colon ++ label))
     joined front colon label = simp (append_assoc, map-append)
 
--- ---- spans behind the first
+-- ---- spans after the first
 
 pub further-none : (form : Annotation → List FormPiece) (old : List FormPiece) (a : Annotation) → has_label a ≡ false → old ≡ old ++ flat_map form (filter has_label (a ∷ []))
 further-none form old a none =
@@ -136,7 +136,7 @@ pub further-one : (form : Annotation → List FormPiece) (old new : List FormPie
 further-one form old new a some added =
     added ∙ ap (λ l. old ++ l) (sym (ap (flat_map form) (cond-true (has_label a) (a ∷ []) [] some) ∙ append-nil (form a)))
 
--- the first span and those behind it
+-- the first span and those after it
 pub spans-added : (anonymized : Bool) (source : Source) (path : Option (List ℕ)) (old one new : List FormPiece) (spans others so_far : List NamedSpan) (first : NamedSpan) (indent : List ℕ) → spans ≡ first ∷ others → one ≡ old ++ span_form anonymized source (codes " ") path (annotation_of first) → indent ≡ further_indent path → so_far ≡ others → new ≡ one ++ flat_map (span_form anonymized source indent None) (filter has_label (map annotation_of so_far)) → new ≡ old ++ spans_form anonymized source path (map annotation_of spans)
 spans-added anonymized source path old one new spans others so_far first indent parts begun by all added =
     let more : List NamedSpan → List ℕ → List FormPiece = λ ss i. flat_map (span_form anonymized source i None) (filter has_label (map annotation_of ss)) in

@@ -10,14 +10,14 @@ use Rattle.snippet_style.specs.declared.role.ElementStyle.{ElementStyle}
 use Rattle.snippet_style.specs.declared.role.LevelInner.TheVariants.{Note}
 use Rattle.snippet_style.specs.declared.style.Style.{Style}
 use Rattle.snippet_style.specs.declared.stylesheet.Stylesheet.{Stylesheet}
-use Rattle.snippet_text_form.specs.Form.{FormPiece, Char, Break, Styled, begun_behind, plain_from, form_text, form_links, link_codes_before, link_codes_behind, in_style, role_style, woven_from, form_bytes}
+use Rattle.snippet_text_form.specs.Form.{FormPiece, Char, Break, Styled, begun_after, plain_from, form_text, form_links, link_codes_before, link_codes_after, in_style, role_style, woven_from, form_bytes}
 
 -- the woven characters of a text
 abbrev pub woven_chars : List ℕ → List Piece
 woven_chars cs = map (λ ch. woven.Char ch) cs
 
 -- a text in a style, piece by piece
-pub in_style-pieces : (style : Style) (link : Option (List ℕ)) (text : List ℕ) (rest : List Piece) → in_style style link text ++ rest ≡ Opening style ∷ (link_codes_before link ++ (woven_chars text ++ (link_codes_behind link ++ Reset style ∷ rest)))
+pub in_style-pieces : (style : Style) (link : Option (List ℕ)) (text : List ℕ) (rest : List Piece) → in_style style link text ++ rest ≡ Opening style ∷ (link_codes_before link ++ (woven_chars text ++ (link_codes_after link ++ Reset style ∷ rest)))
 in_style-pieces style None text rest =
     ap (λ (ps : List Piece). Opening style ∷ ps) (append_assoc (woven_chars text) (Reset style ∷ []) rest)
 in_style-pieces style (Some url) text rest =
@@ -28,7 +28,7 @@ plain-chars : (cs : List ℕ) (ps : List Piece) → flat_map plain_piece (woven_
 plain-chars [] ps = refl
 plain-chars (c ∷ cs) ps = ap (λ (t : List ℕ). c ∷ t) (plain-chars cs ps)
 
-plain-linked : (style : Style) (link : Option (List ℕ)) (text : List ℕ) (rest : List Piece) → flat_map plain_piece (link_codes_before link ++ (woven_chars text ++ (link_codes_behind link ++ Reset style ∷ rest))) ≡ text ++ flat_map plain_piece rest
+plain-linked : (style : Style) (link : Option (List ℕ)) (text : List ℕ) (rest : List Piece) → flat_map plain_piece (link_codes_before link ++ (woven_chars text ++ (link_codes_after link ++ Reset style ∷ rest))) ≡ text ++ flat_map plain_piece rest
 plain-linked style None text rest = plain-chars text (Reset style ∷ rest)
 plain-linked style (Some url) text rest = plain-chars text (LinkEnd ∷ Reset style ∷ rest)
 
@@ -42,14 +42,14 @@ woven-plain sheet begun (Char ch ∷ ps) = ap (λ (t : List ℕ). ch ∷ t) (wov
 woven-plain sheet true (Break ∷ ps) = ap (λ (t : List ℕ). 10 ∷ t) (woven-plain sheet true ps)
 woven-plain sheet false (Break ∷ ps) = woven-plain sheet false ps
 woven-plain sheet begun (Styled role link text ∷ ps) =
-    plain-in_style (role_style sheet role) link text (woven_from sheet (begun_behind begun text) ps) ∙ ap (λ (t : List ℕ). text ++ t) (woven-plain sheet (begun_behind begun text) ps)
+    plain-in_style (role_style sheet role) link text (woven_from sheet (begun_after begun text) ps) ∙ ap (λ (t : List ℕ). text ++ t) (woven-plain sheet (begun_after begun text) ps)
 
 -- the links
 links-chars : (cs : List ℕ) (ps : List Piece) → flat_map piece_link (woven_chars cs ++ ps) ≡ flat_map piece_link ps
 links-chars [] ps = refl
 links-chars (c ∷ cs) ps = links-chars cs ps
 
-links-linked : (style : Style) (link : Option (List ℕ)) (text : List ℕ) (rest : List Piece) → flat_map piece_link (link_codes_before link ++ (woven_chars text ++ (link_codes_behind link ++ Reset style ∷ rest))) ≡ option_to_list link ++ flat_map piece_link rest
+links-linked : (style : Style) (link : Option (List ℕ)) (text : List ℕ) (rest : List Piece) → flat_map piece_link (link_codes_before link ++ (woven_chars text ++ (link_codes_after link ++ Reset style ∷ rest))) ≡ option_to_list link ++ flat_map piece_link rest
 links-linked style None text rest = links-chars text (Reset style ∷ rest)
 links-linked style (Some url) text rest =
     ap (λ (urls : List (List ℕ)). url ∷ urls) (links-chars text (LinkEnd ∷ Reset style ∷ rest))
@@ -60,8 +60,8 @@ woven-links sheet begun (Char ch ∷ ps) = woven-links sheet true ps
 woven-links sheet true (Break ∷ ps) = woven-links sheet true ps
 woven-links sheet false (Break ∷ ps) = woven-links sheet false ps
 woven-links sheet begun (Styled role link text ∷ ps) =
-    let rest : List Piece = woven_from sheet (begun_behind begun text) ps in
-    ap (flat_map piece_link) (in_style-pieces (role_style sheet role) link text rest) ∙ links-linked (role_style sheet role) link text rest ∙ ap (λ (urls : List (List ℕ)). option_to_list link ++ urls) (woven-links sheet (begun_behind begun text) ps)
+    let rest : List Piece = woven_from sheet (begun_after begun text) ps in
+    ap (flat_map piece_link) (in_style-pieces (role_style sheet role) link text rest) ∙ links-linked (role_style sheet role) link text rest ∙ ap (λ (urls : List (List ℕ)). option_to_list link ++ urls) (woven-links sheet (begun_after begun text) ps)
 
 -- the styles are those of the sheet
 chars_of_sheet : (sheet : Stylesheet) (cs : List ℕ) (ps : List Piece) → All (λ p. IsOfSheet sheet p) ps → All (λ p. IsOfSheet sheet p) (woven_chars cs ++ ps)
@@ -69,7 +69,7 @@ chars_of_sheet sheet [] ps of = of
 chars_of_sheet sheet (c ∷ cs) ps of =
     All-cons (λ p. IsOfSheet sheet p) (woven.Char c) (woven_chars cs ++ ps) tt (chars_of_sheet sheet cs ps of)
 
-linked_of_sheet : (sheet : Stylesheet) (link : Option (List ℕ)) (text : List ℕ) (ps : List Piece) → All (λ p. IsOfSheet sheet p) ps → All (λ p. IsOfSheet sheet p) (link_codes_before link ++ (woven_chars text ++ (link_codes_behind link ++ ps)))
+linked_of_sheet : (sheet : Stylesheet) (link : Option (List ℕ)) (text : List ℕ) (ps : List Piece) → All (λ p. IsOfSheet sheet p) ps → All (λ p. IsOfSheet sheet p) (link_codes_before link ++ (woven_chars text ++ (link_codes_after link ++ ps)))
 linked_of_sheet sheet None text ps of = chars_of_sheet sheet text ps of
 linked_of_sheet sheet (Some url) text ps of =
     All-cons (λ p. IsOfSheet sheet p) (LinkTo url) (woven_chars text ++ LinkEnd ∷ ps) tt (chars_of_sheet sheet text (LinkEnd ∷ ps) (All-cons (λ p. IsOfSheet sheet p) LinkEnd ps tt of))
@@ -78,9 +78,9 @@ in_style_of_sheet : (sheet : Stylesheet) (role : ElementStyle) (link : Option (L
 in_style_of_sheet sheet role link text rest of =
     let style : Style = role_style sheet role in
     let own : IsStyleOf sheet style = record { level = Note; role = role; is = refl } in
-    let behind = All-cons (λ p. IsOfSheet sheet p) (Reset style) rest own of in
-    let linked = linked_of_sheet sheet link text (Reset style ∷ rest) behind in
-    subst (λ (ps : List Piece). All (λ p. IsOfSheet sheet p) ps) (sym (in_style-pieces style link text rest)) (All-cons (λ p. IsOfSheet sheet p) (Opening style) (link_codes_before link ++ (woven_chars text ++ (link_codes_behind link ++ Reset style ∷ rest))) own linked)
+    let after = All-cons (λ p. IsOfSheet sheet p) (Reset style) rest own of in
+    let linked = linked_of_sheet sheet link text (Reset style ∷ rest) after in
+    subst (λ (ps : List Piece). All (λ p. IsOfSheet sheet p) ps) (sym (in_style-pieces style link text rest)) (All-cons (λ p. IsOfSheet sheet p) (Opening style) (link_codes_before link ++ (woven_chars text ++ (link_codes_after link ++ Reset style ∷ rest))) own linked)
 
 woven_of_sheet : (sheet : Stylesheet) (begun : Bool) (form : List FormPiece) → All (λ p. IsOfSheet sheet p) (woven_from sheet begun form)
 woven_of_sheet sheet begun [] = All-nil (λ p. IsOfSheet sheet p)
@@ -90,14 +90,14 @@ woven_of_sheet sheet true (Break ∷ ps) =
     All-cons (λ p. IsOfSheet sheet p) (woven.Char 10) (woven_from sheet true ps) tt (woven_of_sheet sheet true ps)
 woven_of_sheet sheet false (Break ∷ ps) = woven_of_sheet sheet false ps
 woven_of_sheet sheet begun (Styled role link text ∷ ps) =
-    in_style_of_sheet sheet role link text (woven_from sheet (begun_behind begun text) ps) (woven_of_sheet sheet (begun_behind begun text) ps)
+    in_style_of_sheet sheet role link text (woven_from sheet (begun_after begun text) ps) (woven_of_sheet sheet (begun_after begun text) ps)
 
 -- each link is ended
 chars_ended : (inside : Bool) (cs : List ℕ) (ps : List Piece) → AreLinksEnded inside ps → AreLinksEnded inside (woven_chars cs ++ ps)
 chars_ended inside [] ps ended = ended
 chars_ended inside (c ∷ cs) ps ended = chars_ended inside cs ps ended
 
-linked_ended : (style : Style) (link : Option (List ℕ)) (text : List ℕ) (rest : List Piece) → AreLinksEnded false rest → AreLinksEnded false (link_codes_before link ++ (woven_chars text ++ (link_codes_behind link ++ Reset style ∷ rest)))
+linked_ended : (style : Style) (link : Option (List ℕ)) (text : List ℕ) (rest : List Piece) → AreLinksEnded false rest → AreLinksEnded false (link_codes_before link ++ (woven_chars text ++ (link_codes_after link ++ Reset style ∷ rest)))
 linked_ended style None text rest ended = chars_ended false text (Reset style ∷ rest) ended
 linked_ended style (Some url) text rest ended =
     (refl, chars_ended true text (LinkEnd ∷ Reset style ∷ rest) (refl, ended))
@@ -109,8 +109,8 @@ woven_ended sheet true (Break ∷ ps) = woven_ended sheet true ps
 woven_ended sheet false (Break ∷ ps) = woven_ended sheet false ps
 woven_ended sheet begun (Styled role link text ∷ ps) =
     let style : Style = role_style sheet role in
-    let rest : List Piece = woven_from sheet (begun_behind begun text) ps in
-    subst (λ (qs : List Piece). AreLinksEnded false qs) (sym (in_style-pieces style link text rest)) (linked_ended style link text rest (woven_ended sheet (begun_behind begun text) ps))
+    let rest : List Piece = woven_from sheet (begun_after begun text) ps in
+    subst (λ (qs : List Piece). AreLinksEnded false qs) (sym (in_style-pieces style link text rest)) (linked_ended style link text rest (woven_ended sheet (begun_after begun text) ps))
 
 -- a text form under a sheet is a woven text
 pub form-woven : (sheet : Stylesheet) (form : List FormPiece) → IsWoven sheet (form_bytes sheet form) (form_text form) (form_links form)

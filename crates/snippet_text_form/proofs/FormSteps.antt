@@ -17,7 +17,7 @@ use Rattle.snippet_grid.specs.Woven.{Piece, Opening, Reset, piece_text}
 use Rattle.snippet_style.specs.declared.style.Style.{Style}
 use Rattle.snippet_style.specs.declared.stylesheet.Stylesheet.{Stylesheet}
 use Rattle.snippet_titles.proofs.DigitLemmas.{IsDigit, decimal-all}
-use Rattle.snippet_text_form.specs.Form.{FormPiece, Char, Break, Styled, bare, begun_behind, pieces_of, plain_from, form_bytes, link_codes_before, link_codes_behind, in_style, role_style, woven_from}
+use Rattle.snippet_text_form.specs.Form.{FormPiece, Char, Break, Styled, bare, begun_after, pieces_of, plain_from, form_bytes, link_codes_before, link_codes_after, in_style, role_style, woven_from}
 use Rattle.snippet_text_form.specs.declared.form.TextPart.{TextPart}
 use Rattle.snippet_text_form.proofs.FormLaws.{woven_chars, in_style-pieces}
 
@@ -63,34 +63,34 @@ text-chars (c ∷ cs) ps =
     ap (λ (bs : List ℕ). encode_utf8 c ++ bs) (text-chars cs ps) ∙ sym (append_assoc (encode_utf8 c) (encode_utf8_all cs) (flat_map piece_text ps))
 
 -- the bytes of a text in a style
-text-in_style : (style : Style) (link : Option (List ℕ)) (cs : List ℕ) → flat_map piece_text (in_style style link cs) ≡ encode_utf8_all (opening style) ++ (flat_map piece_text (link_codes_before link) ++ (encode_utf8_all cs ++ (flat_map piece_text (link_codes_behind link) ++ encode_utf8_all (reset style))))
+text-in_style : (style : Style) (link : Option (List ℕ)) (cs : List ℕ) → flat_map piece_text (in_style style link cs) ≡ encode_utf8_all (opening style) ++ (flat_map piece_text (link_codes_before link) ++ (encode_utf8_all cs ++ (flat_map piece_text (link_codes_after link) ++ encode_utf8_all (reset style))))
 text-in_style style link cs =
     let before : List Piece = link_codes_before link in
-    let behind : List Piece = link_codes_behind link in
+    let after : List Piece = link_codes_after link in
     let whole = sym (append-nil (in_style style link cs)) ∙ in_style-pieces style link cs [] in
-    let last : flat_map piece_text (behind ++ Reset style ∷ []) ≡ flat_map piece_text behind ++ encode_utf8_all (reset style) = flat_map-append piece_text behind (Reset style ∷ []) ∙ ap (λ (bs : List ℕ). flat_map piece_text behind ++ bs) (append-nil (encode_utf8_all (reset style))) in
-    ap (flat_map piece_text) whole ∙ ap (λ (bs : List ℕ). encode_utf8_all (opening style) ++ bs) (flat_map-append piece_text before (woven_chars cs ++ (behind ++ Reset style ∷ [])) ∙ ap (λ (bs : List ℕ). flat_map piece_text before ++ bs) (text-chars cs (behind ++ Reset style ∷ []) ∙ ap (λ (bs : List ℕ). encode_utf8_all cs ++ bs) last))
+    let last : flat_map piece_text (after ++ Reset style ∷ []) ≡ flat_map piece_text after ++ encode_utf8_all (reset style) = flat_map-append piece_text after (Reset style ∷ []) ∙ ap (λ (bs : List ℕ). flat_map piece_text after ++ bs) (append-nil (encode_utf8_all (reset style))) in
+    ap (flat_map piece_text) whole ∙ ap (λ (bs : List ℕ). encode_utf8_all (opening style) ++ bs) (flat_map-append piece_text before (woven_chars cs ++ (after ++ Reset style ∷ [])) ∙ ap (λ (bs : List ℕ). flat_map piece_text before ++ bs) (text-chars cs (after ++ Reset style ∷ []) ∙ ap (λ (bs : List ℕ). encode_utf8_all cs ++ bs) last))
 
 -- a text that grew by each of these in turn
-pub styled_added : (style : Style) (link : Option (List ℕ)) (bytes : List ℕ) (old one two three four new : List ℕ) → IsUtf8 bytes → one ≡ old ++ encode_utf8_all (opening style) → two ≡ one ++ flat_map piece_text (link_codes_before link) → three ≡ two ++ bytes → four ≡ three ++ flat_map piece_text (link_codes_behind link) → new ≡ four ++ encode_utf8_all (reset style) → new ≡ old ++ flat_map piece_text (in_style style link (chars bytes))
+pub styled_added : (style : Style) (link : Option (List ℕ)) (bytes : List ℕ) (old one two three four new : List ℕ) → IsUtf8 bytes → one ≡ old ++ encode_utf8_all (opening style) → two ≡ one ++ flat_map piece_text (link_codes_before link) → three ≡ two ++ bytes → four ≡ three ++ flat_map piece_text (link_codes_after link) → new ≡ four ++ encode_utf8_all (reset style) → new ≡ old ++ flat_map piece_text (in_style style link (chars bytes))
 styled_added style link bytes old one two three four new utf8 first second third fourth fifth =
     let before : List ℕ = flat_map piece_text (link_codes_before link) in
-    let behind : List ℕ = flat_map piece_text (link_codes_behind link) in
+    let after : List ℕ = flat_map piece_text (link_codes_after link) in
     let begin : List ℕ = encode_utf8_all (opening style) in
     let end : List ℕ = encode_utf8_all (reset style) in
-    let grown : new ≡ (((((old ++ begin) ++ before) ++ bytes) ++ behind) ++ end) = fifth ∙ ap (λ (bs : List ℕ). bs ++ end) (fourth ∙ ap (λ (bs : List ℕ). bs ++ behind) (third ∙ ap (λ (bs : List ℕ). bs ++ bytes) (second ∙ ap (λ (bs : List ℕ). bs ++ before) first))) in
-    let regrouped : (((((old ++ begin) ++ before) ++ bytes) ++ behind) ++ end) ≡ old ++ (begin ++ (before ++ (bytes ++ (behind ++ end)))) = simp append_assoc in
-    grown ∙ regrouped ∙ ap (λ (bs : List ℕ). old ++ (begin ++ (before ++ (bs ++ (behind ++ end))))) (sym (encodes-chars bytes utf8)) ∙ ap (λ (bs : List ℕ). old ++ bs) (sym (text-in_style style link (chars bytes)))
+    let grown : new ≡ (((((old ++ begin) ++ before) ++ bytes) ++ after) ++ end) = fifth ∙ ap (λ (bs : List ℕ). bs ++ end) (fourth ∙ ap (λ (bs : List ℕ). bs ++ after) (third ∙ ap (λ (bs : List ℕ). bs ++ bytes) (second ∙ ap (λ (bs : List ℕ). bs ++ before) first))) in
+    let regrouped : (((((old ++ begin) ++ before) ++ bytes) ++ after) ++ end) ≡ old ++ (begin ++ (before ++ (bytes ++ (after ++ end)))) = simp append_assoc in
+    grown ∙ regrouped ∙ ap (λ (bs : List ℕ). old ++ (begin ++ (before ++ (bs ++ (after ++ end))))) (sym (encodes-chars bytes utf8)) ∙ ap (λ (bs : List ℕ). old ++ bs) (sym (text-in_style style link (chars bytes)))
 
 -- ---- whether text stands before a part
 
--- whether text stands before what is behind this form, given whether it stands before it
+-- whether text stands before what is after this form, given whether it stands before it
 abbrev pub begun_past : Bool → List FormPiece → Bool
 begun_past begun [] = begun
 begun_past begun (Char ch ∷ ps) = begun_past true ps
 begun_past true (Break ∷ ps) = begun_past true ps
 begun_past false (Break ∷ ps) = begun_past false ps
-begun_past begun (Styled role link text ∷ ps) = begun_past (begun_behind begun text) ps
+begun_past begun (Styled role link text ∷ ps) = begun_past (begun_after begun text) ps
 
 begun_past-true : (form : List FormPiece) → begun_past true form ≡ true
 begun_past-true [] = refl
@@ -98,19 +98,19 @@ begun_past-true (Char ch ∷ ps) = begun_past-true ps
 begun_past-true (Break ∷ ps) = begun_past-true ps
 begun_past-true (Styled role link text ∷ ps) = begun_past-true ps
 
--- text stands behind a character
-begun_by_one : (c : ℕ) (cs : List ℕ) → true ≡ begun_behind false (c ∷ cs)
+-- text stands after a character
+begun_by_one : (c : ℕ) (cs : List ℕ) → true ≡ begun_after false (c ∷ cs)
 begun_by_one c cs = grind (arith, nat_tests)
 
-begun_past-false : (form : List FormPiece) → begun_past false form ≡ begun_behind false (plain_from false form)
+begun_past-false : (form : List FormPiece) → begun_past false form ≡ begun_after false (plain_from false form)
 begun_past-false [] = refl
 begun_past-false (Char ch ∷ ps) = begun_past-true ps ∙ begun_by_one ch (plain_from true ps)
 begun_past-false (Break ∷ ps) = begun_past-false ps
 begun_past-false (Styled role link [] ∷ ps) = begun_past-false ps
 begun_past-false (Styled role link (c ∷ cs) ∷ ps) =
-    ap (λ (b : Bool). begun_past b ps) (sym (begun_by_one c cs)) ∙ begun_past-true ps ∙ begun_by_one c (cs ++ plain_from (begun_behind false (c ∷ cs)) ps)
+    ap (λ (b : Bool). begun_past b ps) (sym (begun_by_one c cs)) ∙ begun_past-true ps ∙ begun_by_one c (cs ++ plain_from (begun_after false (c ∷ cs)) ps)
 
-begun_past-is : (begun : Bool) (form : List FormPiece) → begun_past begun form ≡ (begun || begun_behind false (plain_from false form))
+begun_past-is : (begun : Bool) (form : List FormPiece) → begun_past begun form ≡ (begun || begun_after false (plain_from false form))
 begun_past-is true form = begun_past-true form
 begun_past-is false form = begun_past-false form
 
@@ -119,7 +119,7 @@ begun_past-append begun [] more = refl
 begun_past-append begun (Char ch ∷ ps) more = begun_past-append true ps more
 begun_past-append true (Break ∷ ps) more = begun_past-append true ps more
 begun_past-append false (Break ∷ ps) more = begun_past-append false ps more
-begun_past-append begun (Styled role link text ∷ ps) more = begun_past-append (begun_behind begun text) ps more
+begun_past-append begun (Styled role link text ∷ ps) more = begun_past-append (begun_after begun text) ps more
 
 -- a form is woven piece by piece
 pub woven-append : (sheet : Stylesheet) (begun : Bool) (form more : List FormPiece) → woven_from sheet begun (form ++ more) ≡ woven_from sheet begun form ++ woven_from sheet (begun_past begun form) more
@@ -131,26 +131,26 @@ woven-append sheet true (Break ∷ ps) more =
 woven-append sheet false (Break ∷ ps) more = woven-append sheet false ps more
 woven-append sheet begun (Styled role link text ∷ ps) more =
     let own : List Piece = in_style (role_style sheet role) link text in
-    ap (λ (qs : List Piece). own ++ qs) (woven-append sheet (begun_behind begun text) ps more) ∙ sym (append_assoc own (woven_from sheet (begun_behind begun text) ps) (woven_from sheet (begun_past (begun_behind begun text) ps) more))
+    ap (λ (qs : List Piece). own ++ qs) (woven-append sheet (begun_after begun text) ps more) ∙ sym (append_assoc own (woven_from sheet (begun_after begun text) ps) (woven_from sheet (begun_past (begun_after begun text) ps) more))
 
 -- ---- whether a part has text
 
 -- a text is empty where it has no characters
-some-chars : (cs bytes : List ℕ) → encode_utf8_all cs ≡ bytes → not (length bytes == 0) ≡ begun_behind false cs
+some-chars : (cs bytes : List ℕ) → encode_utf8_all cs ≡ bytes → not (length bytes == 0) ≡ begun_after false cs
 some-chars [] bytes is = ap (λ (bs : List ℕ). not (length bs == 0)) (sym is)
 some-chars (c ∷ cs) bytes is = grind (arith, nat_tests, length-le-encodes (c ∷ cs), is)
 
-pub begun-chars : (empty : Bool) (bytes text : List ℕ) → IsUtf8 bytes → bytes ≡ text → empty ≡ (length bytes == 0) → not empty ≡ begun_behind false (chars text)
+pub begun-chars : (empty : Bool) (bytes text : List ℕ) → IsUtf8 bytes → bytes ≡ text → empty ≡ (length bytes == 0) → not empty ≡ begun_after false (chars text)
 begun-chars empty bytes text utf8 same is =
-    ap not is ∙ some-chars (chars bytes) bytes (encodes-chars bytes utf8) ∙ ap (λ (bs : List ℕ). begun_behind false (chars bs)) same
+    ap not is ∙ some-chars (chars bytes) bytes (encodes-chars bytes utf8) ∙ ap (λ (bs : List ℕ). begun_after false (chars bs)) same
 
-pub begun-text : (empty : Bool) (bytes text : List ℕ) → IsUtf8 bytes → bytes ≡ text → empty ≡ (length bytes == 0) → not empty ≡ begun_behind false (plain_from false (bare (chars text)))
+pub begun-text : (empty : Bool) (bytes text : List ℕ) → IsUtf8 bytes → bytes ≡ text → empty ≡ (length bytes == 0) → not empty ≡ begun_after false (plain_from false (bare (chars text)))
 begun-text empty bytes text utf8 same is =
-    begun-chars empty bytes text utf8 same is ∙ ap (begun_behind false) (sym (plain-bare false (chars text)))
+    begun-chars empty bytes text utf8 same is ∙ ap (begun_after false) (sym (plain-bare false (chars text)))
 
-pub begun-styled : (empty : Bool) (bytes text : List ℕ) → IsUtf8 bytes → bytes ≡ text → empty ≡ (length bytes == 0) → not empty ≡ begun_behind false (chars text ++ [])
+pub begun-styled : (empty : Bool) (bytes text : List ℕ) → IsUtf8 bytes → bytes ≡ text → empty ≡ (length bytes == 0) → not empty ≡ begun_after false (chars text ++ [])
 begun-styled empty bytes text utf8 same is =
-    begun-chars empty bytes text utf8 same is ∙ ap (begun_behind false) (sym (append-nil (chars text)))
+    begun-chars empty bytes text utf8 same is ∙ ap (begun_after false) (sym (append-nil (chars text)))
 
 -- a number has a digit
 digits-step : (k n : ℕ) (others : List ℕ) (done : Bool) → (n / 10 == 0) ≡ done → 0 < length (digits_onto k 10 false (n / 10) (digit_glyph false (n % 10) ∷ others)) → 0 < length (digits_onto (suc k) 10 false n others)
@@ -167,13 +167,13 @@ unfolding digits
 decimal-some n =
     digits-step 63 n [] (n / 10 == 0) refl (digits-some 63 (n / 10) (digit_glyph false (n % 10) ∷ []) (omega arith))
 
-pub begun-number : (n : ℕ) → true ≡ begun_behind false (plain_from false (bare (decimal n)))
+pub begun-number : (n : ℕ) → true ≡ begun_after false (plain_from false (bare (decimal n)))
 begun-number n =
-    sym (lt-ltb 0 (length (decimal n)) (decimal-some n)) ∙ ap (begun_behind false) (sym (plain-bare false (decimal n)))
+    sym (lt-ltb 0 (length (decimal n)) (decimal-some n)) ∙ ap (begun_after false) (sym (plain-bare false (decimal n)))
 
 -- ---- the parts so far
 
--- this text is that of these parts, and text stands behind them or not
+-- this text is that of these parts, and text stands after them or not
 pub record IsRendered (sheet : Stylesheet) (parts : List TextPart) (text : List ℕ) (begun : Bool) : Type 0 where
   pub text_is : text ≡ form_bytes sheet (flat_map pieces_of parts)
   pub begun_is : begun ≡ begun_past false (flat_map pieces_of parts)
@@ -181,7 +181,7 @@ pub record IsRendered (sheet : Stylesheet) (parts : List TextPart) (text : List 
 pub IsRendered-none : (sheet : Stylesheet) (text : List ℕ) → text ≡ [] → IsRendered sheet [] text false
 IsRendered-none sheet text none = record { text_is = none; begun_is = refl }
 
-rendered-push : (sheet : Stylesheet) (parts : List TextPart) (part : TextPart) (old new : List ℕ) (begun after : Bool) → IsRendered sheet parts old begun → new ≡ old ++ flat_map piece_text (woven_from sheet begun (pieces_of part)) → after ≡ (begun || begun_behind false (plain_from false (pieces_of part))) → IsRendered sheet (parts ++ part ∷ []) new after
+rendered-push : (sheet : Stylesheet) (parts : List TextPart) (part : TextPart) (old new : List ℕ) (begun after : Bool) → IsRendered sheet parts old begun → new ≡ old ++ flat_map piece_text (woven_from sheet begun (pieces_of part)) → after ≡ (begun || begun_after false (plain_from false (pieces_of part))) → IsRendered sheet (parts ++ part ∷ []) new after
 rendered-push sheet parts part old new begun after rendered added is =
     let front : List FormPiece = flat_map pieces_of parts in
     let own : List FormPiece = pieces_of part in
@@ -192,7 +192,7 @@ rendered-push sheet parts part old new begun after rendered added is =
     }
 
 -- one part more of a list
-pub IsRendered-more : (sheet : Stylesheet) (parts : List TextPart) (i : ℕ) (part : TextPart) (old new : List ℕ) (begun after : Bool) → i < length parts → part ≡ get_or parts i part → IsRendered sheet (take i parts) old begun → new ≡ old ++ flat_map piece_text (woven_from sheet begun (pieces_of part)) → after ≡ (begun || begun_behind false (plain_from false (pieces_of part))) → IsRendered sheet (take (i + 1) parts) new after
+pub IsRendered-more : (sheet : Stylesheet) (parts : List TextPart) (i : ℕ) (part : TextPart) (old new : List ℕ) (begun after : Bool) → i < length parts → part ≡ get_or parts i part → IsRendered sheet (take i parts) old begun → new ≡ old ++ flat_map piece_text (woven_from sheet begun (pieces_of part)) → after ≡ (begun || begun_after false (plain_from false (pieces_of part))) → IsRendered sheet (take (i + 1) parts) new after
 IsRendered-more sheet parts i part old new begun after within read rendered added is =
     let more : take (i + 1) parts ≡ take i parts ++ part ∷ [] = take_more parts i part within ∙ ap (λ (p : TextPart). take i parts ++ p ∷ []) (sym read) in
     subst (λ (ps : List TextPart). IsRendered sheet ps new after) (sym more) (rendered-push sheet (take i parts) part old new begun after rendered added is)

@@ -25,20 +25,20 @@ use Rattle.snippet_suggest.specs.Given as given
 use Rattle.snippet_suggest.specs.Kind.{is_blank}
 use Rattle.snippet_text.specs.Normalized.{norm, is_listed}
 use Rattle.snippet_text.specs.Width.{width_of}
-use Rattle.snippet_titles.specs.Heading.{address_of, drawn_text, heading_lines, is_set}
+use Rattle.snippet_titles.specs.Heading.{address_of, shown_text, heading_lines, is_set}
 use Rattle.snippet_titles.specs.Origin.{column_text, line_name}
 use Rattle.snippet_titles.specs.declared.style.HeadingRoles.{HeadingRoles}
 use Rattle.snippet_titles.proofs.DigitLemmas.{IsDigit, decimal-all}
 use Rattle.snippet_titles.proofs.FreeLemmas.{IsFree, IsOwn, norm-free, own_text, own_unlisted, All-slice_split}
 use Rattle.snippet_titles.proofs.OriginFree.{each-fails}
-use Rattle.snippet_text_form.specs.Cause.{behind_place, cause_form, column_unless, end_in_file, end_on_line, has_label, is_blank_before, is_blank_behind, label_chars, label_of, named_spans, further_indent, source_of, span_form, span_place, span_text, spans_form}
-use Rattle.snippet_text_form.specs.Form.{FormPiece, Break, Styled, bare, begun_behind, plain_from, styled}
+use Rattle.snippet_text_form.specs.Cause.{after_place, cause_form, column_unless, end_in_file, end_on_line, has_label, is_blank_before, is_blank_after, label_chars, label_of, named_spans, further_indent, source_of, span_form, span_place, span_text, spans_form}
+use Rattle.snippet_text_form.specs.Form.{FormPiece, Break, Styled, bare, begun_after, plain_from, styled}
 use Rattle.snippet_text_form.specs.Heading.{before_id, before_name, colon_form, further_line, heading_form, id_form, id_text_form, label_form, label_text, link_for, linking, lines_form, name_form, roles_of}
-use Rattle.snippet_text_form.specs.Position.{behind_path, column_words, place, place_in_file, place_on_line}
+use Rattle.snippet_text_form.specs.Position.{after_path, column_words, place, place_in_file, place_on_line}
 use Rattle.snippet_text_form.specs.Suggestion.{added_form, edit_form, edit_indent, edit_place, is_whole_line, named_path, option_form, origin_form, overwrites, replaced_to, replaces, suggestion_form}
 use Rattle.snippet_text_form.specs.declared.heading.HeadingKind.{HeadingKind}
 use Rattle.snippet_text_form.specs.declared.heading.HeadingKind.TheVariants.{Title, Message}
-use Rattle.snippet_text_form.specs.declared.suggestion.SuggestionPlace.{SuggestionPlace}
+use Rattle.snippet_text_form.specs.declared.suggestion.SuggestionContext.{SuggestionContext}
 use Rattle.snippet_text_form.proofs.OrderLaws.{plain-append, plain-bare}
 
 -- a fact holds of each plain character of a text form, whatever stands before that
@@ -49,11 +49,11 @@ module _ (P : ℕ → Type 0) (feed : P 10) where
   pub each-nil : EachPlain P []
   each-nil begun = All-nil P
 
-  -- as it does of one behind another,
+  -- as it does of one after another,
   pub each-append : (a b : List FormPiece) → EachPlain P a → EachPlain P b → EachPlain P (a ++ b)
   each-append a b first second begun =
       let front : List ℕ = plain_from begun a in
-      let now : Bool = begun_behind begun front in
+      let now : Bool = begun_after begun front in
       subst (All P) (sym (plain-append begun a b)) (All-append P front (plain_from now b) (first begun) (second now))
 
   pub each-flat_map : {A : Type 0} (form : A → List FormPiece) → ((x : A) → EachPlain P (form x)) → (xs : List A) → EachPlain P (flat_map form xs)
@@ -61,7 +61,7 @@ module _ (P : ℕ → Type 0) (feed : P 10) where
   each-flat_map form each (x ∷ xs) =
       each-append (form x) (flat_map form xs) (each x) (each-flat_map form each xs)
 
-  -- of one behind a break, of text without codes, and of text in a style
+  -- of one after a break, of text without codes, and of text in a style
   each-break : (form : List FormPiece) → EachPlain P form → EachPlain P (Break ∷ form)
   each-break form each true = All-cons P 10 (plain_from true form) feed (each true)
   each-break form each false = each false
@@ -100,14 +100,14 @@ column_words-free (Some column) =
     free-append (codes ", column ") (decimal column) (each-fails is_listed (codes ", column ") refl) (decimal-free column)
 
 -- nor do places
-behind_path-free : (anonymized : Bool) (line column : Option ℕ) → AreFree (behind_path anonymized line column)
-behind_path-free anonymized None column = column_words-free column
-behind_path-free anonymized (Some line) column =
+after_path-free : (anonymized : Bool) (line column : Option ℕ) → AreFree (after_path anonymized line column)
+after_path-free anonymized None column = column_words-free column
+after_path-free anonymized (Some line) column =
     free-append (codes ":" ++ line_name anonymized line) (column_text column) (free-append (codes ":") (line_name anonymized line) (each-fails is_listed (codes ":") refl) (line_name-free anonymized line)) (column_text-free column)
 
 place_in_file-free : (anonymized : Bool) (path : List ℕ) (line column : Option ℕ) → AreFree (place_in_file anonymized path line column)
 place_in_file-free anonymized path line column =
-    free-append (codes "at " ++ norm (chars path)) (behind_path anonymized line column) (free-append (codes "at ") (norm (chars path)) (each-fails is_listed (codes "at ") refl) (norm-free (chars path))) (behind_path-free anonymized line column)
+    free-append (codes "at " ++ norm (chars path)) (after_path anonymized line column) (free-append (codes "at ") (norm (chars path)) (each-fails is_listed (codes "at ") refl) (norm-free (chars path))) (after_path-free anonymized line column)
 
 place_on_line-free : (anonymized : Bool) (line : ℕ) (column : Option ℕ) → AreFree (place_on_line anonymized line column)
 place_on_line-free anonymized line column =
@@ -136,7 +136,7 @@ end_on_line-free : (anonymized : Bool) (source : Source) (start end : Loc) → A
 end_on_line-free anonymized source start end = of_lines (start.line == end.line)
   where
     column : Option ℕ
-    column = column_unless (is_blank_behind (line_at source end.line) end.char) end
+    column = column_unless (is_blank_after (line_at source end.line) end.char) end
 
     text : List ℕ
     text = codes " to line " ++ line_name anonymized end.line ++ column_words column
@@ -161,8 +161,8 @@ label_chars-free : (label : Option (List ℕ)) → AreFree (label_chars label)
 label_chars-free None = All-nil IsFree
 label_chars-free (Some text) = norm-free (chars text)
 
-behind_place-free : (label : List ℕ) → AreFree label → AreFree (behind_place label)
-behind_place-free label free = of_shown (nat_lt 0 (length label))
+after_place-free : (label : List ℕ) → AreFree label → AreFree (after_place label)
+after_place-free label free = of_shown (nat_lt 0 (length label))
   where
     of_shown : (shows : Bool) → AreFree (if shows then codes ": " ++ label else [])
     of_shown true = free-append (codes ": ") label (each-fails is_listed (codes ": ") refl) free
@@ -172,13 +172,13 @@ span_text-free : (anonymized : Bool) (source : Source) (indent : List ℕ) (path
 span_text-free anonymized source indent path a free =
     let at = locations_of source a.span.start a.span.end in
     let place : List ℕ = span_place anonymized source path at.0 at.1 in
-    free-append (indent ++ place) (behind_place (label_of a)) (free-append indent place free (span_place-free anonymized source path at.0 at.1)) (behind_place-free (label_of a) (label_chars-free (option_map cow_str_bytes a.label)))
+    free-append (indent ++ place) (after_place (label_of a)) (free-append indent place free (span_place-free anonymized source path at.0 at.1)) (after_place-free (label_of a) (label_chars-free (option_map cow_str_bytes a.label)))
 
 further_indent-free : (path : Option (List ℕ)) → AreFree (further_indent path)
 further_indent-free None = each-fails is_listed (codes " ") refl
 further_indent-free (Some path) = each-fails is_listed (codes "  ") refl
 
--- text without codes behind a break, which holds none
+-- text without codes after a break, which holds none
 abbrev FormIsFree : List FormPiece → Type 0
 FormIsFree form = EachPlain IsFree form
 
@@ -271,7 +271,7 @@ edit_indent-free None = each-fails is_listed (codes " ") refl
 edit_indent-free (Some number) = each-fails is_listed (codes "  ") refl
 
 -- a suggestion holds none, nor does a place without source
-pub suggestion-free : (begun anonymized : Bool) (at : SuggestionPlace) (s : Snippet Patch) → All (λ c. is_listed c ≡ false) (plain_from begun (suggestion_form anonymized at s))
+pub suggestion-free : (begun anonymized : Bool) (at : SuggestionContext) (s : Snippet Patch) → All (λ c. is_listed c ≡ false) (plain_from begun (suggestion_form anonymized at s))
 unfolding suggestion_form
 suggestion-free begun anonymized at s =
     let source : Source = given.source_of s in
@@ -351,14 +351,14 @@ module _ (P : ℕ → Type 0) (free : (c : ℕ) → IsFree c → P c) where
   lines-all role width (line ∷ lines) all =
       each-append P (free 10 refl) (styled role line) (flat_map (further_line role width) lines) (each-styled P (free 10 refl) role None line (All-head (All P) line lines all)) (further-all role width lines (All-tail (All P) line lines all))
 
-  heading-all : (hyperlink : Bool) (kind : HeadingKind) (heading : Heading) → All P (drawn_text heading) → EachPlain P (heading_form hyperlink kind heading)
+  heading-all : (hyperlink : Bool) (kind : HeadingKind) (heading : Heading) → All P (shown_text heading) → EachPlain P (heading_form hyperlink kind heading)
   unfolding heading_form
   heading-all hyperlink kind heading all =
       let roles : HeadingRoles = roles_of kind heading.level.kind heading.allows_styling in
       let width : ℕ = width_of (label_text kind heading) in
       let label : List FormPiece = label_form hyperlink kind roles heading in
       let lines : List FormPiece = lines_form roles.text width (heading_lines heading) in
-      each-break P (free 10 refl) (label ++ lines) (each-append P (free 10 refl) label lines (label-all hyperlink kind roles heading) (lines-all roles.text width (heading_lines heading) (All-slice_split P (λ c. c == 10) (drawn_text heading) all)))
+      each-break P (free 10 refl) (label ++ lines) (each-append P (free 10 refl) label lines (label-all hyperlink kind roles heading) (lines-all roles.text width (heading_lines heading) (All-slice_split P (λ c. c == 10) (shown_text heading) all)))
 
 pub heading-free : (begun hyperlink : Bool) (kind : HeadingKind) (heading : Heading) → All (λ c. is_listed c ≡ true → (heading.allows_styling ≡ true) × Contains (chars heading.text) c) (plain_from begun (heading_form hyperlink kind heading))
 heading-free begun hyperlink kind heading =

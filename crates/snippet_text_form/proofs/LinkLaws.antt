@@ -35,15 +35,15 @@ use Rattle.snippet_text_form.specs.Heading.{before_id, before_name, colon_form, 
 use Rattle.snippet_text_form.specs.Position.{place, place_in_file}
 use Rattle.snippet_text_form.specs.Suggestion.{added_form, edit_form, edit_indent, edit_place, named_path, option_form, origin_form, overwrites, suggestion_form}
 use Rattle.snippet_text_form.specs.declared.heading.HeadingKind.{HeadingKind}
-use Rattle.snippet_text_form.specs.declared.suggestion.SuggestionPlace.{SuggestionPlace}
+use Rattle.snippet_text_form.specs.declared.suggestion.SuggestionContext.{SuggestionContext}
 
--- one text form behind another
+-- one text form after another
 pub links-append : (a b : List FormPiece) → form_links (a ++ b) ≡ form_links a ++ form_links b
 links-append a b = flat_map-append _ a b
 
--- behind one that links to nothing, and before one
-pub links-behind : (a b : List FormPiece) → form_links a ≡ [] → form_links (a ++ b) ≡ form_links b
-links-behind a b none = links-append a b ∙ ap (λ ls. ls ++ form_links b) none
+-- after one that links to nothing, and before one
+pub links-after : (a b : List FormPiece) → form_links a ≡ [] → form_links (a ++ b) ≡ form_links b
+links-after a b none = links-append a b ∙ ap (λ ls. ls ++ form_links b) none
 
 pub links-before : (a b : List FormPiece) → form_links b ≡ [] → form_links (a ++ b) ≡ form_links a
 links-before a b none = links-append a b ∙ ap (λ ls. form_links a ++ ls) none ∙ append-nil (form_links a)
@@ -53,11 +53,11 @@ bare-links : (text : List ℕ) → form_links (bare text) ≡ []
 bare-links [] = refl
 bare-links (c ∷ cs) = bare-links cs
 
--- nor do text forms that do so each, one behind another
+-- nor do text forms that do so each, one after another
 module _ {A : Type 0} (form : A → List FormPiece) (none : (x : A) → form_links (form x) ≡ []) where
   pub each-links : (xs : List A) → form_links (flat_map form xs) ≡ []
   each-links [] = refl
-  each-links (x ∷ xs) = links-behind (form x) (flat_map form xs) (none x) ∙ each-links xs
+  each-links (x ∷ xs) = links-after (form x) (flat_map form xs) (none x) ∙ each-links xs
 
 -- a text links to its address where it shows anything
 link_for-some : (address : Option (List ℕ)) (c : ℕ) (cs : List ℕ) → link_for address (c ∷ cs) ≡ address
@@ -71,7 +71,7 @@ linking-links role address (c ∷ cs) =
 -- so does an id
 id_text-links : (hidden : Bool) (role : ElementStyle) (address : Option (List ℕ)) (text : List ℕ) → form_links (id_text_form hidden role address (Some text)) ≡ text_links address (norm (chars text))
 id_text-links hidden role address text =
-    links-behind (bare (before_id hidden)) (linking role address (norm (chars text))) (bare-links (before_id hidden)) ∙ linking-links role address (norm (chars text))
+    links-after (bare (before_id hidden)) (linking role address (norm (chars text))) (bare-links (before_id hidden)) ∙ linking-links role address (norm (chars text))
 
 id-links : (hyperlink hidden : Bool) (role : ElementStyle) (id : Option Id) → form_links (id_form hyperlink hidden role id) ≡ id_links hyperlink id
 id-links hyperlink hidden role None = refl
@@ -103,7 +103,7 @@ label-links hyperlink kind roles heading =
     let hidden : Bool = is_hidden heading.level.name in
     let id : List FormPiece = id_form hyperlink hidden roles.label heading.id in
     let colon : List FormPiece = colon_form roles.colon hidden heading.id in
-    links-behind (name_form kind roles.label heading.level) (id ++ colon) (name-links kind roles.label heading.level) ∙ links-before id colon (colon-links roles.colon hidden heading.id) ∙ id-links hyperlink hidden roles.label heading.id
+    links-after (name_form kind roles.label heading.level) (id ++ colon) (name-links kind roles.label heading.level) ∙ links-before id colon (colon-links roles.colon hidden heading.id) ∙ id-links hyperlink hidden roles.label heading.id
 
 lines-links : (role : ElementStyle) (width : ℕ) (lines : List (List ℕ)) → form_links (lines_form role width lines) ≡ []
 lines-links role width [] = refl
@@ -126,7 +126,7 @@ spans-links anonymized source path [] = bare-links (codes " " ++ place anonymize
 spans-links anonymized source path (a ∷ marks) =
     let first : List FormPiece = span_form anonymized source (codes " ") path a in
     let further : Annotation → List FormPiece = span_form anonymized source (further_indent path) None in
-    links-behind first (flat_map further (filter has_label marks)) (bare-links (span_text anonymized source (codes " ") path a)) ∙ each-links further (λ b. bare-links (span_text anonymized source (further_indent path) None b)) (filter has_label marks)
+    links-after first (flat_map further (filter has_label marks)) (bare-links (span_text anonymized source (codes " ") path a)) ∙ each-links further (λ b. bare-links (span_text anonymized source (further_indent path) None b)) (filter has_label marks)
 
 pub cause-links : (anonymized : Bool) (s : Snippet Annotation) → form_links (cause_form anonymized s) ≡ []
 unfolding cause_form
@@ -152,15 +152,15 @@ edit-links : (anonymized : Bool) (source : Source) (indent : List ℕ) (path : O
 edit-links anonymized source indent path e =
     let at = locations_of source e.start e.end in
     let front : List ℕ = indent ++ edit_place anonymized source path e at.0 at.1 in
-    links-behind (bare front) (added_form source.text e) (bare-links front) ∙ added-links source.text e
+    links-after (bare front) (added_form source.text e) (bare-links front) ∙ added-links source.text e
 
-pub suggestion-links : (anonymized : Bool) (at : SuggestionPlace) (s : Snippet Patch) → form_links (suggestion_form anonymized at s) ≡ []
+pub suggestion-links : (anonymized : Bool) (at : SuggestionContext) (s : Snippet Patch) → form_links (suggestion_form anonymized at s) ≡ []
 unfolding suggestion_form
 suggestion-links anonymized at s =
     let source : Source = given.source_of s in
     let path : Option (List ℕ) = named_path at.names_path (option_map cow_str_bytes s.path) in
     let edits : Edit → List FormPiece = edit_form anonymized source (edit_indent at.option) path in
-    links-behind (option_form at.option) (flat_map edits (given.trimmed_of s)) (option-links at.option) ∙ each-links edits (edit-links anonymized source (edit_indent at.option) path) (given.trimmed_of s)
+    links-after (option_form at.option) (flat_map edits (given.trimmed_of s)) (option-links at.option) ∙ each-links edits (edit-links anonymized source (edit_indent at.option) path) (given.trimmed_of s)
 
 pub origin-links : (anonymized : Bool) (o : Origin) → form_links (origin_form anonymized o) ≡ []
 unfolding origin_form

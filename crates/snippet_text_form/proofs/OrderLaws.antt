@@ -1,4 +1,4 @@
--- Which texts stand in a text form, one behind the other.
+-- Which texts stand in a text form, one after the other.
 use Rattle.std.proofs.Common.{◌≡◌, ℕ, nat_lt, ◌==◌, Bool, true, false, Option, None, List, [], ◌∷◌, ◌++◌, codes, filter, length, map, refl, sym, ap, subst, ◌∙◌, arith, append_assoc}
 use Rattle.std.specs.List.{flat_map, list_any}
 use Rattle.std.proofs.lemmas.Bool.Decides.{nat_tests}
@@ -11,56 +11,56 @@ use Rattle.snippet_lines.specs.Place.{locations_of}
 use Rattle.snippet_model.specs.Heading.{Heading}
 use Rattle.snippet_model.specs.declared.snippet.Annotation.{Annotation}
 use Rattle.snippet_model.specs.declared.snippet.Snippet.{Snippet}
-use Rattle.snippet_titles.specs.Heading.{drawn_text, heading_lines}
+use Rattle.snippet_titles.specs.Heading.{shown_text, heading_lines}
 use Rattle.snippet_text.specs.Width.{width_of}
 use Rattle.snippet_titles.specs.declared.style.HeadingRoles.{HeadingRoles}
 use Rattle.snippet_titles.proofs.OriginFree.{each-fails}
-use Rattle.snippet_text_form.specs.Cause.{behind_place, cause_form, has_label, label_of, named_spans, further_indent, source_of, span_form, span_place, spans_form}
-use Rattle.snippet_text_form.specs.Form.{FormPiece, Char, Break, Styled, bare, begun_behind, plain_from}
+use Rattle.snippet_text_form.specs.Cause.{after_place, cause_form, has_label, label_of, named_spans, further_indent, source_of, span_form, span_place, spans_form}
+use Rattle.snippet_text_form.specs.Form.{FormPiece, Char, Break, Styled, bare, begun_after, plain_from}
 use Rattle.snippet_text_form.specs.Heading.{heading_form, label_form, label_text, lines_form, roles_of}
 use Rattle.snippet_text_form.specs.Order.{StandInOrder}
 use Rattle.snippet_text_form.specs.declared.heading.HeadingKind.{HeadingKind}
 
 -- text that stands before another, or before nothing
-begun-cons : (begun : Bool) (c : ℕ) (cs : List ℕ) → begun_behind begun (c ∷ cs) ≡ true
+begun-cons : (begun : Bool) (c : ℕ) (cs : List ℕ) → begun_after begun (c ∷ cs) ≡ true
 begun-cons true c cs = refl
 begun-cons false c cs = grind (arith, nat_tests)
 
-begun-nil : (begun : Bool) → begun_behind begun [] ≡ begun
+begun-nil : (begun : Bool) → begun_after begun [] ≡ begun
 begun-nil true = refl
 begun-nil false = refl
 
-begun-append : (begun : Bool) (xs ys : List ℕ) → begun_behind begun (xs ++ ys) ≡ begun_behind (begun_behind begun xs) ys
+begun-append : (begun : Bool) (xs ys : List ℕ) → begun_after begun (xs ++ ys) ≡ begun_after (begun_after begun xs) ys
 begun-append true xs ys = refl
 begun-append false [] ys = refl
 begun-append false (x ∷ xs) ys =
-    begun-cons false x (xs ++ ys) ∙ sym (ap (λ t. begun_behind t ys) (begun-cons false x xs))
+    begun-cons false x (xs ++ ys) ∙ sym (ap (λ t. begun_after t ys) (begun-cons false x xs))
 
--- the plain characters of one text form behind another
-pub plain-append : (begun : Bool) (a b : List FormPiece) → plain_from begun (a ++ b) ≡ plain_from begun a ++ plain_from (begun_behind begun (plain_from begun a)) b
+-- the plain characters of one text form after another
+pub plain-append : (begun : Bool) (a b : List FormPiece) → plain_from begun (a ++ b) ≡ plain_from begun a ++ plain_from (begun_after begun (plain_from begun a)) b
 plain-append begun [] b = ap (λ t. plain_from t b) (sym (begun-nil begun))
 plain-append begun (Char ch ∷ a) b =
     ap (λ cs. ch ∷ cs) (plain-append true a b) ∙ ap (λ t. ch ∷ plain_from true a ++ plain_from t b) (sym (begun-cons begun ch (plain_from true a)))
 plain-append true (Break ∷ a) b = ap (λ cs. 10 ∷ cs) (plain-append true a b)
 plain-append false (Break ∷ a) b = plain-append false a b
 plain-append begun (Styled role link text ∷ a) b =
-    let now : Bool = begun_behind begun text in
+    let now : Bool = begun_after begun text in
     let front : List ℕ = plain_from now a in
-    ap (λ cs. text ++ cs) (plain-append now a b) ∙ sym (append_assoc text front (plain_from (begun_behind now front) b)) ∙ ap (λ t. (text ++ front) ++ plain_from t b) (sym (begun-append begun text front))
+    ap (λ cs. text ++ cs) (plain-append now a b) ∙ sym (append_assoc text front (plain_from (begun_after now front) b)) ∙ ap (λ t. (text ++ front) ++ plain_from t b) (sym (begun-append begun text front))
 
 pub plain-bare : (begun : Bool) (text : List ℕ) → plain_from begun (bare text) ≡ text
 plain-bare begun [] = refl
 plain-bare begun (c ∷ cs) = ap (λ ds. c ∷ ds) (plain-bare true cs)
 
--- texts that stand in one stand there behind more text too
-pub stand-behind : (bs : List (List ℕ)) (p q : List ℕ) → StandInOrder bs q → StandInOrder bs (p ++ q)
-stand-behind [] p q stand = tt
-stand-behind (b ∷ bs) p q stand =
+-- texts that stand in one stand there after more text too
+pub stand-after : (bs : List (List ℕ)) (p q : List ℕ) → StandInOrder bs q → StandInOrder bs (p ++ q)
+stand-after [] p q stand = tt
+stand-after (b ∷ bs) p q stand =
     (stand.0, record { before = p ++ stand.1.before; whole_is = ap (λ w. p ++ w) stand.1.whole_is ∙ sym (append_assoc p stand.1.before (b ++ stand.0)) }, stand.2)
 
--- texts that stand in one, and texts that stand in what is behind it
+-- texts that stand in one, and texts that stand in what is after it
 pub stand-append : (ps bs : List (List ℕ)) (p q : List ℕ) → StandInOrder ps p → StandInOrder bs q → StandInOrder (ps ++ bs) (p ++ q)
-stand-append [] bs p q first second = stand-behind bs p q second
+stand-append [] bs p q first second = stand-after bs p q second
 stand-append (a ∷ ps) bs p q first second =
     let rest : List ℕ = first.0 in
     let before : List ℕ = first.1.before in
@@ -77,41 +77,41 @@ Holds parts form = (begun : Bool) → StandInOrder parts (plain_from begun form)
 pub holds-append : (ps bs : List (List ℕ)) (a b : List FormPiece) → Holds ps a → Holds bs b → Holds (ps ++ bs) (a ++ b)
 holds-append ps bs a b first second begun =
     let front : List ℕ = plain_from begun a in
-    let now : Bool = begun_behind begun front in
+    let now : Bool = begun_after begun front in
     subst (StandInOrder (ps ++ bs)) (sym (plain-append begun a b)) (stand-append ps bs front (plain_from now b) (first begun) (second now))
 
--- so they do behind any other, as behind a break
-pub holds-behind : (bs : List (List ℕ)) (a b : List FormPiece) → Holds bs b → Holds bs (a ++ b)
-holds-behind bs a b second = holds-append [] bs a b (λ begun. tt) second
+-- so they do after any other, as after a break
+pub holds-after : (bs : List (List ℕ)) (a b : List FormPiece) → Holds bs b → Holds bs (a ++ b)
+holds-after bs a b second = holds-append [] bs a b (λ begun. tt) second
 
 holds-bare : (parts : List (List ℕ)) (text : List ℕ) → StandInOrder parts text → Holds parts (bare text)
 holds-bare parts text stand begun = subst (StandInOrder parts) (sym (plain-bare begun text)) stand
 
 -- the text of a heading that has one line
-pub heading-holds : (begun hyperlink : Bool) (kind : HeadingKind) (heading : Heading) → list_any (λ c. c == 10) (drawn_text heading) ≡ false → StandInOrder (drawn_text heading ∷ []) (plain_from begun (heading_form hyperlink kind heading))
+pub heading-holds : (begun hyperlink : Bool) (kind : HeadingKind) (heading : Heading) → list_any (λ c. c == 10) (shown_text heading) ≡ false → StandInOrder (shown_text heading ∷ []) (plain_from begun (heading_form hyperlink kind heading))
 unfolding heading_form
 heading-holds begun hyperlink kind heading one =
     let roles : HeadingRoles = roles_of kind heading.level.kind heading.allows_styling in
     let width : ℕ = width_of (label_text kind heading) in
     let label : List FormPiece = label_form hyperlink kind roles heading in
-    let text : List ℕ = drawn_text heading in
+    let text : List ℕ = shown_text heading in
     let lines : heading_lines heading ≡ text ∷ [] = slice_split_none (λ c. c == 10) text (each-fails (λ c. c == 10) text one) in
-    holds-behind (text ∷ []) (Break ∷ label) (lines_form roles.text width (heading_lines heading)) (subst (λ ls. Holds (text ∷ []) (lines_form roles.text width ls)) (sym lines) (λ now. subst (StandInOrder (text ∷ [])) (sym (append-nil text)) (stand-alone text))) begun
+    holds-after (text ∷ []) (Break ∷ label) (lines_form roles.text width (heading_lines heading)) (subst (λ ls. Holds (text ∷ []) (lines_form roles.text width ls)) (sym lines) (λ now. subst (StandInOrder (text ∷ [])) (sym (append-nil text)) (stand-alone text))) begun
 
--- a label stands behind a place where it shows anything, and else anywhere
-label-stands : (label front : List ℕ) → StandInOrder (label ∷ []) (front ++ behind_place label)
+-- a label stands after a place where it shows anything, and else anywhere
+label-stands : (label front : List ℕ) → StandInOrder (label ∷ []) (front ++ after_place label)
 label-stands [] front =
     (front ++ [], record { before = []; whole_is = refl }, tt)
 label-stands (c ∷ cs) front =
-    let full : behind_place (c ∷ cs) ≡ codes ": " ++ c ∷ cs = grind (arith, nat_tests) in
-    stand-behind ((c ∷ cs) ∷ []) front (behind_place (c ∷ cs)) (subst (StandInOrder ((c ∷ cs) ∷ [])) (sym full) (stand-behind ((c ∷ cs) ∷ []) (codes ": ") (c ∷ cs) (stand-alone (c ∷ cs))))
+    let full : after_place (c ∷ cs) ≡ codes ": " ++ c ∷ cs = grind (arith, nat_tests) in
+    stand-after ((c ∷ cs) ∷ []) front (after_place (c ∷ cs)) (subst (StandInOrder ((c ∷ cs) ∷ [])) (sym full) (stand-after ((c ∷ cs) ∷ []) (codes ": ") (c ∷ cs) (stand-alone (c ∷ cs))))
 
 -- the label of an annotation
 span-holds : (anonymized : Bool) (source : Source) (indent : List ℕ) (path : Option (List ℕ)) (a : Annotation) → Holds (label_of a ∷ []) (span_form anonymized source indent path a)
 span-holds anonymized source indent path a =
     let at = locations_of source a.span.start a.span.end in
     let front : List ℕ = indent ++ span_place anonymized source path at.0 at.1 in
-    holds-behind (label_of a ∷ []) (Break ∷ []) (bare (front ++ behind_place (label_of a))) (holds-bare (label_of a ∷ []) (front ++ behind_place (label_of a)) (label-stands (label_of a) front))
+    holds-after (label_of a ∷ []) (Break ∷ []) (bare (front ++ after_place (label_of a))) (holds-bare (label_of a ∷ []) (front ++ after_place (label_of a)) (label-stands (label_of a) front))
 
 -- those of further annotations, of which only those with a label are named
 further-holds : (anonymized : Bool) (source : Source) (indent : List ℕ) (marks : List Annotation) → Holds (map label_of marks) (flat_map (span_form anonymized source indent None) (filter has_label marks))

@@ -12,7 +12,7 @@ use Rattle.snippet_style.specs.declared.role.ElementStyle.{ElementStyle}
 use Rattle.snippet_suggest.proofs.RowLemmas.{All-from_none}
 use Rattle.snippet_text.specs.Normalized.{norm, shown}
 use Rattle.snippet_titles.proofs.LineLemmas.{line_of}
-use Rattle.snippet_titles.proofs.SplitLemmas.{lines_at, lines_at-behind, lines_at-chars}
+use Rattle.snippet_titles.proofs.SplitLemmas.{lines_at, lines_at-after, lines_at-chars}
 use Rattle.snippet_text_form.specs.Form.{FormPiece, bare, styled}
 use Rattle.snippet_text_form.specs.Heading.{before_line, further_line, lines_form}
 
@@ -26,7 +26,7 @@ norm-onto : (c : ℕ) (rest : List ℕ) (parts : List (List ℕ)) → (c == 10) 
 unfolding norm
 norm-onto c rest [] other is some = absurd (omega (arith, some))
 norm-onto c rest (part ∷ parts) other is some =
-    lines_at-behind (shown c) (norm rest) (norm part) (map norm parts) (All-from_none (λ b. b == 10) (shown c) (list_any-shown_feed c other)) is
+    lines_at-after (shown c) (norm rest) (norm part) (map norm parts) (All-from_none (λ b. b == 10) (shown c) (list_any-shown_feed c other)) is
 
 norm-step : (c : ℕ) (cs : List ℕ) (feed : Bool) → (c == 10) ≡ feed → lines_at (norm cs) ≡ map norm (lines_at cs) → lines_at (shown c ++ norm cs) ≡ map norm (lines_at (c ∷ cs))
 unfolding norm
@@ -79,7 +79,7 @@ lines_form-push role width [] line = refl
 lines_form-push role width (first ∷ lines) line =
     ap (λ (ps : List FormPiece). styled role first ++ ps) (flat_map-append (further_line role width) lines (line ∷ []) ∙ ap (λ (ps : List FormPiece). flat_map (further_line role width) lines ++ ps) (append-nil (further_line role width line)))
 
--- the form behind these lines
+-- the form after these lines
 abbrev pub with_lines : List FormPiece → ElementStyle → ℕ → Bool → List (ℕ × Bor (List ℕ)) → List FormPiece
 with_lines old role width trusted numbered = old ++ lines_form role width (shown_lines trusted numbered)
 

@@ -1,4 +1,4 @@
--- What is added to a text form for a suggestion, one text behind the other.
+-- What is added to a text form for a suggestion, one text after the other.
 use Rattle.std.proofs.Common.{◌≡◌, ℕ, ◌+◌, ◌<◌, Bool, true, false, not, Option, Some, List, [], ◌∷◌, ◌++◌, get_or, length, map, take, sym, ap, subst, ◌∙◌}
 use Rattle.std.proofs.lemmas.Bool.{and_from, cond-false, cond-true}
 use Rattle.std.proofs.lemmas.List.{flat_map_more, map_more}
@@ -20,7 +20,7 @@ use Rattle.snippet_text_form.specs.Cause.{column_unless}
 use Rattle.snippet_text_form.specs.Form.{FormPiece, Break}
 use Rattle.snippet_text_form.specs.Position.{place}
 use Rattle.snippet_text_form.specs.Suggestion.{edit_form, edit_indent, edit_place, is_whole_line, named_path, option_form, overwrites, replaced_to, replaces, suggestion_form}
-use Rattle.snippet_text_form.specs.declared.suggestion.SuggestionPlace.{SuggestionPlace}
+use Rattle.snippet_text_form.specs.declared.suggestion.SuggestionContext.{SuggestionContext}
 use Rattle.snippet_text_form.proofs.AddedLemmas.{added-two}
 
 -- a text on a line of its own
@@ -48,7 +48,7 @@ edits_more f old mid new ps i d within first last =
     last ∙ ap (λ form. form ++ f e) first ∙ flat_map_more f old (map trimmed_edit_of (take i ps)) e ∙ ap (λ es. old ++ flat_map f es) (sym (map_more trimmed_edit_of ps i d within))
 
 -- a suggestion is added once its number and all of its patches are
-pub suggestion_added : (anonymized : Bool) (at : SuggestionPlace) (p : PreparedSuggestion) (indent : List ℕ) (path : Option (List ℕ)) (old mid new : List FormPiece) → IsPrepared p → indent ≡ edit_indent at.option → path ≡ named_path at.names_path (option_map cow_str_bytes p.snippet.now.path) → mid ≡ old ++ option_form at.option → new ≡ mid ++ flat_map (edit_form anonymized p.map indent path) (map trimmed_edit_of p.splice.patches.items) → new ≡ old ++ suggestion_form anonymized at p.snippet.now
+pub suggestion_added : (anonymized : Bool) (at : SuggestionContext) (p : PreparedSuggestion) (indent : List ℕ) (path : Option (List ℕ)) (old mid new : List FormPiece) → IsPrepared p → indent ≡ edit_indent at.option → path ≡ named_path at.names_path (option_map cow_str_bytes p.snippet.now.path) → mid ≡ old ++ option_form at.option → new ≡ mid ++ flat_map (edit_form anonymized p.map indent path) (map trimmed_edit_of p.splice.patches.items) → new ≡ old ++ suggestion_form anonymized at p.snippet.now
 unfolding suggestion_form
 suggestion_added anonymized at p indent path old mid new is indents names first last =
     let s : Snippet Patch = p.snippet.now in

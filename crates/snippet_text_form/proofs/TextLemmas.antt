@@ -15,9 +15,9 @@ pub chars-at : chars (97 ∷ 116 ∷ 32 ∷ []) ≡ codes "at "
 unfolding lib.Utf8.encode
 chars-at = chars-encodes (codes "at ") refl
 
-pub chars-behind : chars (58 ∷ []) ≡ codes ":"
+pub chars-after : chars (58 ∷ []) ≡ codes ":"
 unfolding lib.Utf8.encode
-chars-behind = chars-encodes (codes ":") refl
+chars-after = chars-encodes (codes ":") refl
 
 pub chars-on_line : chars (111 ∷ 110 ∷ 32 ∷ 108 ∷ 105 ∷ 110 ∷ 101 ∷ 32 ∷ []) ≡ codes "on line "
 unfolding lib.Utf8.encode

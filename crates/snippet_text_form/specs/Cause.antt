@@ -47,33 +47,33 @@ label_of a = label_chars (option_map cow_str_bytes a.label)
 abbrev pub has_label : Annotation → Bool
 has_label a = nat_lt 0 (length (label_of a))
 
--- a label behind a place
-abbrev pub behind_place : List ℕ → List ℕ
-behind_place label = if nat_lt 0 (length label) then codes ": " ++ label else []
+-- a label after a place
+abbrev pub after_place : List ℕ → List ℕ
+after_place label = if nat_lt 0 (length label) then codes ": " ++ label else []
 
--- whether nothing but whitespace stands before so many characters of a line, and behind so many, where it has as many
+-- whether nothing but whitespace stands before so many characters of a line, and after so many, where it has as many
 abbrev pub is_blank_before : Option (List ℕ) → ℕ → Bool
 is_blank_before None count = false
 is_blank_before (Some line) count = list_all is_whitespace (take count (chars line))
 
-abbrev pub is_blank_behind : Option (List ℕ) → ℕ → Bool
-is_blank_behind None count = false
-is_blank_behind (Some line) count =
+abbrev pub is_blank_after : Option (List ℕ) → ℕ → Bool
+is_blank_after None count = false
+is_blank_after (Some line) count =
     nat_le count (length (chars line)) && list_all is_whitespace (drop count (chars line))
 
 -- the column of a place, from 1; but not where it says nothing
 abbrev pub column_unless : Bool → Loc → Option ℕ
 column_unless plain loc = if plain then None else Some (loc.char + 1)
 
--- where a span ends, behind the place in a file at which it starts: nothing on the line of that
+-- where a span ends, after the place in a file at which it starts: nothing on the line of that
 abbrev pub end_in_file : Bool → Loc → Loc → List ℕ
 end_in_file anonymized start end =
     if start.line == end.line then [] else codes " to " ++ line_name anonymized end.line ++ codes ":" ++ decimal (end.char + 1)
 
--- the same behind a place that is named without a path; the column is left out where the line ends there
+-- the same after a place that is named without a path; the column is left out where the line ends there
 abbrev pub end_on_line : Bool → Source → Loc → Loc → List ℕ
 end_on_line anonymized source start end =
-    if start.line == end.line then [] else codes " to line " ++ line_name anonymized end.line ++ column_words (column_unless (is_blank_behind (line_at source end.line) end.char) end)
+    if start.line == end.line then [] else codes " to line " ++ line_name anonymized end.line ++ column_words (column_unless (is_blank_after (line_at source end.line) end.char) end)
 
 -- where a span starts and ends: in a file, or without a path; there the column is left out where the line begins with the span
 abbrev pub span_place : Bool → Source → Option (List ℕ) → Loc → Loc → List ℕ
@@ -82,11 +82,11 @@ span_place anonymized source None start end =
 span_place anonymized source (Some path) start end =
     place_in_file anonymized path (Some start.line) (Some (start.char + 1)) ++ end_in_file anonymized start end
 
--- an annotation, on a line of its own: behind an indent the place of its span, and its label
+-- an annotation, on a line of its own: after an indent the place of its span, and its label
 abbrev pub span_text : Bool → Source → List ℕ → Option (List ℕ) → Annotation → List ℕ
 span_text anonymized source indent path a =
     let at = locations_of source a.span.start a.span.end in
-    indent ++ span_place anonymized source path at.0 at.1 ++ behind_place (label_of a)
+    indent ++ span_place anonymized source path at.0 at.1 ++ after_place (label_of a)
 
 abbrev pub span_form : Bool → Source → List ℕ → Option (List ℕ) → Annotation → List FormPiece
 span_form anonymized source indent path a = Break ∷ bare (span_text anonymized source indent path a)

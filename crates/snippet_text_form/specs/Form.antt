@@ -37,16 +37,16 @@ pieces_of (part.Spaces count) = bare (replicate count 32)
 pieces_of (part.Styled text) =
     Styled text.role (option_copied text.link) (chars (cow_str_bytes text.text)) ∷ []
 
--- whether text stands before what is behind this one, given whether it stands before it
-abbrev pub begun_behind : Bool → List ℕ → Bool
-begun_behind begun text = begun || nat_lt 0 (length text)
+-- whether text stands before what is after this one, given whether it stands before it
+abbrev pub begun_after : Bool → List ℕ → Bool
+begun_after begun text = begun || nat_lt 0 (length text)
 
 -- the plain characters of a text form; `begun` says whether text stands before it
 abbrev pub plain_from : Bool → List FormPiece → List ℕ
 plain_from begun [] = []
 plain_from begun (Char ch ∷ ps) = ch ∷ plain_from true ps
 plain_from begun (Break ∷ ps) = if begun then 10 ∷ plain_from true ps else plain_from false ps
-plain_from begun (Styled role link text ∷ ps) = text ++ plain_from (begun_behind begun text) ps
+plain_from begun (Styled role link text ∷ ps) = text ++ plain_from (begun_after begun text) ps
 
 -- the plain characters of a whole one
 abbrev pub form_text : List FormPiece → List ℕ
@@ -61,21 +61,21 @@ piece_links (Styled role link text) = option_to_list link
 abbrev pub form_links : List FormPiece → List (List ℕ)
 form_links form = flat_map piece_links form
 
--- the codes that stand before and behind the text of a link, if there is one
+-- the codes that stand before and after the text of a link, if there is one
 abbrev pub link_codes_before : Option (List ℕ) → List woven.Piece
 link_codes_before None = []
 link_codes_before (Some url) = woven.LinkTo url ∷ []
 
-abbrev pub link_codes_behind : Option (List ℕ) → List woven.Piece
-link_codes_behind None = []
-link_codes_behind (Some url) = woven.LinkEnd ∷ []
+abbrev pub link_codes_after : Option (List ℕ) → List woven.Piece
+link_codes_after None = []
+link_codes_after (Some url) = woven.LinkEnd ∷ []
 
 -- these pieces of a woven text, inside the codes of a link, if there is one
 abbrev pub inside_link : Option (List ℕ) → List woven.Piece → List woven.Piece
 inside_link None ps = ps
 inside_link (Some url) ps = woven.LinkTo url ∷ ps ++ woven.LinkEnd ∷ []
 
--- a text in a style, which is opened before it and reset behind it
+-- a text in a style, which is opened before it and reset after it
 abbrev pub in_style : Style → Option (List ℕ) → List ℕ → List woven.Piece
 in_style style link text =
     woven.Opening style ∷ inside_link link (map (λ ch. woven.Char ch) text) ++ woven.Reset style ∷ []
@@ -91,7 +91,7 @@ woven_from sheet begun (Char ch ∷ ps) = woven.Char ch ∷ woven_from sheet tru
 woven_from sheet begun (Break ∷ ps) =
     if begun then woven.Char 10 ∷ woven_from sheet true ps else woven_from sheet false ps
 woven_from sheet begun (Styled role link text ∷ ps) =
-    in_style (role_style sheet role) link text ++ woven_from sheet (begun_behind begun text) ps
+    in_style (role_style sheet role) link text ++ woven_from sheet (begun_after begun text) ps
 
 -- the text that prints a text form under a sheet
 abbrev pub form_bytes : Stylesheet → List FormPiece → List ℕ

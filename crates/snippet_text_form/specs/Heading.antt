@@ -36,7 +36,7 @@ abbrev pub name_form : HeadingKind → ElementStyle → Level → List FormPiece
 name_form kind role level =
     if is_hidden level.name then [] else bare (before_name kind) ++ styled role (norm (chars (name_of level)))
 
--- what stands before an id: a space behind a name
+-- what stands before an id: a space after a name
 abbrev pub before_id : Bool → List ℕ
 before_id hidden = if hidden then [] else codes " "
 
@@ -97,7 +97,7 @@ abbrev pub lines_form : ElementStyle → ℕ → List (List ℕ) → List FormPi
 lines_form role width [] = []
 lines_form role width (line ∷ lines) = styled role line ++ flat_map (further_line role width) lines
 
--- a title or a message: it begins a line; behind its name, its id and a colon stands its text, each further line of it below the
+-- a title or a message: it begins a line; after its name, its id and a colon stands its text, each further line of it below the
 -- first. Each of these is in the style of its role
 unfoldable pub heading_form : Bool → HeadingKind → Heading → List FormPiece
 heading_form hyperlink kind heading =

@@ -9,15 +9,15 @@ abbrev pub column_words : Option ℕ → List ℕ
 column_words None = codes ""
 column_words (Some column) = codes ", column " ++ decimal column
 
--- what stands behind a path: the line, and behind that the column; without a line the column in words
-abbrev pub behind_path : Bool → Option ℕ → Option ℕ → List ℕ
-behind_path anonymized None column = column_words column
-behind_path anonymized (Some line) column = codes ":" ++ line_name anonymized line ++ column_text column
+-- what stands after a path: the line, and after that the column; without a line the column in words
+abbrev pub after_path : Bool → Option ℕ → Option ℕ → List ℕ
+after_path anonymized None column = column_words column
+after_path anonymized (Some line) column = codes ":" ++ line_name anonymized line ++ column_text column
 
 -- a place in a file: `at`, the path, normalised, and the line and the column, as far as they are there
 abbrev pub place_in_file : Bool → List ℕ → Option ℕ → Option ℕ → List ℕ
 place_in_file anonymized path line column =
-    codes "at " ++ norm (chars path) ++ behind_path anonymized line column
+    codes "at " ++ norm (chars path) ++ after_path anonymized line column
 
 -- a place without a path: `on line`, the line, and the column, where there is one
 abbrev pub place_on_line : Bool → ℕ → Option ℕ → List ℕ

@@ -21,7 +21,7 @@ use Rattle.snippet_titles.specs.Origin.{line_name}
 use Rattle.snippet_text_form.specs.Cause.{column_unless}
 use Rattle.snippet_text_form.specs.Form.{FormPiece, Break, bare, styled}
 use Rattle.snippet_text_form.specs.Position.{place, place_in_file}
-use Rattle.snippet_text_form.specs.declared.suggestion.SuggestionPlace.{SuggestionPlace}
+use Rattle.snippet_text_form.specs.declared.suggestion.SuggestionContext.{SuggestionContext}
 
 -- whether an edit stands over text that isn't blank
 abbrev pub overwrites : List ℕ → Edit → Bool
@@ -31,7 +31,7 @@ overwrites source e = is_under_text e (text_under source e)
 abbrev pub replaces : List ℕ → Edit → Bool
 replaces source e = overwrites source e && not (is_blank e.text)
 
--- where a replaced span ends, behind the place at which it starts
+-- where a replaced span ends, after the place at which it starts
 abbrev pub replaced_to : Bool → Loc → Loc → List ℕ
 replaced_to anonymized start end =
     if start.line == end.line then codes " to column " ++ decimal (end.char + 1)
@@ -41,7 +41,7 @@ replaced_to anonymized start end =
 abbrev pub has_several_lines : List ℕ → Bool
 has_several_lines text = nat_lt 1 (length (lines_of text))
 
--- whether a line can be cut at two bytes with nothing but whitespace before the first, and behind the second too, unless that
+-- whether a line can be cut at two bytes with nothing but whitespace before the first, and after the second too, unless that
 -- doesn't matter
 abbrev pub is_alone : Option (List ℕ) → ℕ → ℕ → Bool → Bool
 is_alone None from to anything = false
@@ -67,7 +67,7 @@ added_form source e =
     if is_blank e.text then []
     else bare (if overwrites source e then codes " replace with: " else codes " add: ") ++ styled Addition (norm (chars (without_final_line_feeds e.text)))
 
--- an edit, on a line of its own: behind an indent the place where it stands, and what it puts there
+-- an edit, on a line of its own: after an indent the place where it stands, and what it puts there
 abbrev pub edit_form : Bool → Source → List ℕ → Option (List ℕ) → Edit → List FormPiece
 edit_form anonymized source indent path e =
     let at = locations_of source e.start e.end in
@@ -87,7 +87,7 @@ abbrev pub named_path : Bool → Option (List ℕ) → Option (List ℕ)
 named_path names path = if names then path else None
 
 -- a suggestion: its number, where it is one of several for one file, and its trimmed edits, in order
-unfoldable pub suggestion_form : Bool → SuggestionPlace → Snippet Patch → List FormPiece
+unfoldable pub suggestion_form : Bool → SuggestionContext → Snippet Patch → List FormPiece
 suggestion_form anonymized at s =
     option_form at.option ++ flat_map (edit_form anonymized (source_of s) (edit_indent at.option) (named_path at.names_path (option_map cow_str_bytes s.path))) (trimmed_of s)
 

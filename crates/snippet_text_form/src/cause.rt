@@ -86,7 +86,7 @@ fn add_spans<'a>(
     Ok(())
 }
 
-/// What stands before a span behind the first: it stands below the first one's path, where there is one.
+/// What stands before a span after the first: it stands below the first one's path, where there is one.
 fn further_indent<'a>(path: Option<&'a str>) -> &'a str
     ensures value { chars result.now ≡ spec.further_indent (option_copied path.entry) }
 {
@@ -152,7 +152,7 @@ fn label_of<'a>(alloc: Global, annotation: &'a Annotation<'a>) -> Result<CowStr<
     }
 }
 
-/// Adds an annotation behind the first, if it has a label.
+/// Adds an annotation after the first, if it has a label.
 fn add_further_span<'a>(
     alloc: Global,
     form: &mut TextForm<'a>,
@@ -236,7 +236,7 @@ fn add_span_place<'a>(
     add_end_in_file(form, anonymized, start, end)
 }
 
-/// Adds where a span ends behind the place in a file at which it starts, if it ends on another line: ` to 4:7`.
+/// Adds where a span ends after the place in a file at which it starts, if it ends on another line: ` to 4:7`.
 fn add_end_in_file(
     form: &mut TextForm<'_>,
     anonymized: bool,
@@ -256,7 +256,7 @@ fn add_end_in_file(
 }
 
 /// Adds where a span starts and ends without a path: `on line 3, column 5 to line 4, column 7`. A column is left out where
-/// nothing but whitespace stands before the span, or behind it.
+/// nothing but whitespace stands before the span, or after it.
 fn add_place_on_lines(
     form: &mut TextForm<'_>,
     anonymized: bool,
@@ -273,7 +273,7 @@ fn add_place_on_lines(
     add_end_on_line(form, anonymized, map, start, end)
 }
 
-/// Adds where a span ends behind the place at which it starts, if it ends on another line: ` to line 4, column 7`.
+/// Adds where a span ends after the place at which it starts, if it ends on another line: ` to line 4, column 7`.
 fn add_end_on_line(
     form: &mut TextForm<'_>,
     anonymized: bool,
@@ -289,7 +289,7 @@ fn add_end_on_line(
     }
     form.add_text(" to line ")?;
     add_line(form, anonymized, end.line)?;
-    let ends = is_blank_behind(map.get_line(end.line), end.char);
+    let ends = is_blank_after(map.get_line(end.line), end.char);
     add_column(form, column_unless(ends, end))
 }
 
@@ -328,9 +328,9 @@ fn is_blank_to(line: &str, count: usize) -> bool
     true
 }
 
-/// Whether a line has so many characters, and nothing but whitespace behind them.
-fn is_blank_behind(line: Option<&str>, count: usize) -> bool
-    ensures value { result ≡ spec.is_blank_behind (option_copied line.entry) count }
+/// Whether a line has so many characters, and nothing but whitespace after them.
+fn is_blank_after(line: Option<&str>, count: usize) -> bool
+    ensures value { result ≡ spec.is_blank_after (option_copied line.entry) count }
 {
     match line {
         Some(line) => is_blank_from(line, count),
@@ -340,11 +340,11 @@ fn is_blank_behind(line: Option<&str>, count: usize) -> bool
 
 /// The same of a line that is there.
 fn is_blank_from(line: &str, count: usize) -> bool
-    ensures value { result ≡ spec.is_blank_behind (Some line.now) count }
+    ensures value { result ≡ spec.is_blank_after (Some line.now) count }
 {
     let mut left = count;
     for c in line.chars() {
-        if is_visible_behind(left, c) {
+        if is_visible_after(left, c) {
             return false;
         }
         left = left.saturating_sub(1);
@@ -353,7 +353,7 @@ fn is_blank_from(line: &str, count: usize) -> bool
 }
 
 /// Whether no character is left to be passed, and this one is no whitespace.
-fn is_visible_behind(left: usize, c: char) -> bool
+fn is_visible_after(left: usize, c: char) -> bool
     ensures value { result ≡ (left == 0 && not (is_whitespace c)) }
 {
     left == 0 && !c.is_whitespace()

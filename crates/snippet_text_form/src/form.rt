@@ -2,7 +2,7 @@
 //!
 //! ```text
 //! error E0308: mismatched types      the name, the id, `: ` and the text, each in its own style
-//!  at src/main.rs:3:5: here          text without codes, behind a break
+//!  at src/main.rs:3:5: here          text without codes, after a break
 //! ```
 ghost use Rattle.std.specs.Prelude.{◌≡◌, ◌||◌, false, [], ◌∷◌, ◌++◌, chars, replicate, IfOk, OnOk, string_bytes};
 ghost use Rattle.std.specs.Cow.{cow_str_bytes};
@@ -10,7 +10,7 @@ ghost use Rattle.std.specs.Fmt.{decimal};
 ghost use Rattle.std.specs.List.{flat_map};
 ghost use Rattle.std.specs.Option.{option_copied};
 ghost use Rattle.snippet_grid.specs.Woven.{IsWoven, piece_text};
-ghost use Rattle.snippet_text_form.specs.Form.{Break, Styled, bare, begun_behind, form_bytes, form_links, form_text, in_style, link_codes_before, link_codes_behind, pieces_of, plain_from, role_style, woven_from};
+ghost use Rattle.snippet_text_form.specs.Form.{Break, Styled, bare, begun_after, form_bytes, form_links, form_text, in_style, link_codes_before, link_codes_after, pieces_of, plain_from, role_style, woven_from};
 
 use snippet_style::{ElementStyle, LevelInner, Style, Stylesheet, open_code, reset_code};
 use snippet_text::CowStr;
@@ -148,7 +148,7 @@ impl<'a> TextForm<'a> {
 
 /// Whether a part has text of its own.
 fn has_text(part: &TextPart<'_>) -> bool
-    ensures value { result ≡ begun_behind false (plain_from false (pieces_of part.now)) }
+    ensures value { result ≡ begun_after false (plain_from false (pieces_of part.now)) }
 {
     match part {
         TextPart::Break => false,
@@ -190,7 +190,7 @@ fn write_spaces(out: &mut String, count: usize) -> Result<(), AllocError>
     Ok(())
 }
 
-/// Adds a text in its style, which is opened before it and reset behind it.
+/// Adds a text in its style, which is opened before it and reset after it.
 fn write_styled(
     alloc: Global,
     out: &mut String,
@@ -226,7 +226,7 @@ fn begin_link(out: &mut String, link: Option<&str>) -> Result<(), AllocError>
 /// Adds the code that ends a link, if there is one.
 fn end_link(out: &mut String, link: Option<&str>) -> Result<(), AllocError>
     ensures added { OnOk result (string_bytes out.new
-        ≡ string_bytes out.old ++ flat_map piece_text (link_codes_behind (option_copied link.entry))) }
+        ≡ string_bytes out.old ++ flat_map piece_text (link_codes_after (option_copied link.entry))) }
 {
     if link.is_some() {
         out.push_str("\u{1b}]8;;\u{1b}\\")?;

@@ -208,7 +208,7 @@ fn id_width(hidden: bool, id: Option<&Id<'_>>) -> usize
     }
 }
 
-/// Adds a heading's text; each further line of it stands below the first, behind so many spaces.
+/// Adds a heading's text; each further line of it stands below the first, after so many spaces.
 fn add_lines<'a>(
     alloc: Global,
     form: &mut TextForm<'a>,

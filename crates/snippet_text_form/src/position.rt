@@ -4,7 +4,7 @@ ghost use Rattle.std.specs.Option.{option_copied};
 ghost use Rattle.snippet_titles.specs.Origin as titles;
 ghost use Rattle.snippet_text_form.specs.Form.{bare};
 ghost use Rattle.snippet_text_form.specs.Position as spec;
-ghost use Rattle.snippet_text_form.specs.Position.{behind_path, column_words, place_in_file, place_on_line};
+ghost use Rattle.snippet_text_form.specs.Position.{after_path, column_words, place_in_file, place_on_line};
 
 use crate::form::TextForm;
 use snippet_text::normalized;
@@ -40,17 +40,17 @@ pub(crate) fn add_place_in_file<'a>(
 {
     form.add_text("at ")?;
     form.add_shown(normalized(alloc, path)?)?;
-    add_behind_path(form, anonymized, line, column)
+    add_after_path(form, anonymized, line, column)
 }
 
-/// Adds what stands behind a path: `:3:5`.
-fn add_behind_path(
+/// Adds what stands after a path: `:3:5`.
+fn add_after_path(
     form: &mut TextForm<'_>,
     anonymized: bool,
     line: Option<usize>,
     column: Option<usize>,
 ) -> Result<(), AllocError>
-    ensures added { OnOk result (form.new ≡ form.old ++ bare (behind_path anonymized line column)) }
+    ensures added { OnOk result (form.new ≡ form.old ++ bare (after_path anonymized line column)) }
 {
     let Some(line) = line else {
         return add_column(form, column);

@@ -25,7 +25,7 @@ use std::alloc::{AllocError, Global};
 
 /// Where a suggestion stands among others.
 #[derive(Clone, Copy, Debug, PartialEq, Eq)]
-pub struct SuggestionPlace {
+pub struct SuggestionContext {
     /// Its number, from 1, where it is one of several in a row for one file.
     pub option: Option<usize>,
     /// Whether its path is named.
@@ -46,7 +46,7 @@ pub fn add_suggestion<'a>(
     alloc: Global,
     form: &mut TextForm<'a>,
     anonymized: bool,
-    place: SuggestionPlace,
+    place: SuggestionContext,
     suggestion: &PreparedSuggestion<'a>,
 ) -> Result<(), AllocError>
     requires prepared { IsPrepared suggestion.now }
@@ -144,7 +144,7 @@ fn add_patch_place<'a>(
     }
 }
 
-/// Adds where a replaced span ends behind the place at which it starts: ` to column 4`.
+/// Adds where a replaced span ends after the place at which it starts: ` to column 4`.
 fn add_end(
     form: &mut TextForm<'_>,
     anonymized: bool,
@@ -183,7 +183,7 @@ fn is_whole_line(map: &SourceMap<'_>, patch: &TrimmedPatch<'_>, start: Loc, end:
     )
 }
 
-/// Whether a line can be cut at two bytes with nothing but whitespace before the first, and behind the second too, unless
+/// Whether a line can be cut at two bytes with nothing but whitespace before the first, and after the second too, unless
 /// that doesn't matter.
 fn is_alone(line: &str, from: usize, to: usize, anything: bool) -> bool
     ensures value { result ≡ spec.is_alone (Some line.now) from to anything }

@@ -1,4 +1,4 @@
--- What a grid becomes where cells are added behind those of a row.
+-- What a grid becomes where cells are added after those of a row.
 use Rattle.std.proofs.Common.{◌≡◌, ◌≢◌, ℕ, ◌+◌, ◌-◌, ◌^◌, ◌<◌, ◌≤◌, max, map, set, List, [], ◌∷◌, ◌++◌, length, take, drop, get_or, Option, None, Some, refl, sym, ap, ◌∙◌, arith, inl, inr}
 use Rattle.std.specs.Str.{chars, IsUtf8}
 use Rattle.std.proofs.lemmas.Str.{chars-nil, encodes-chars}
@@ -8,24 +8,24 @@ use Rattle.std.proofs.lemmas.List.{append-nil, append_assoc, get_or-set_same, ge
 use Rattle.std.proofs.Math.Seq.{take-append_seam, drop-append_seam}
 use Rattle.std.proofs.Math.ListN.{drop_of_length-le}
 use Rattle.snippet_grid.specs.Grid.{linked, row_at, cells_written, changed_within, cells_linked}
-use Rattle.snippet_style.specs.Cell.{Cell, SPACE, drawn, written}
+use Rattle.snippet_style.specs.Cell.{Cell, SPACE, text_cells, written}
 use Rattle.snippet_style.specs.declared.role.ElementStyle.{ElementStyle}
 use Rattle.snippet_style.proofs.CellLemmas.{slice_index_or-written_inside, length-written, written_end}
 use Rattle.snippet_grid.proofs.ChangeLemmas.{changed_within_none, changed_within_one}
 use Rattle.snippet_titles.specs.Appended.{appended, linked_from}
 use Rattle.snippet_titles.specs.Heading.{linked_to}
 
--- a text, by its characters, behind a row's cells
-pub appended_text : (old new : List (List Cell)) (row : ℕ) (role : ElementStyle) (text : List ℕ) → IsUtf8 text → (0 < length text → new ≡ cells_written old row (length (row_at old row)) (drawn role (chars text))) → (text ≡ [] → new ≡ old) → new ≡ appended old row (drawn role (chars text))
+-- a text, by its characters, after a row's cells
+pub appended_text : (old new : List (List Cell)) (row : ℕ) (role : ElementStyle) (text : List ℕ) → IsUtf8 text → (0 < length text → new ≡ cells_written old row (length (row_at old row)) (text_cells role (chars text))) → (text ≡ [] → new ≡ old) → new ≡ appended old row (text_cells role (chars text))
 appended_text old new row role text utf8 full empty = by text (chars text) refl utf8 full empty
   where
-    by : (t cs : List ℕ) → chars t ≡ cs → IsUtf8 t → (0 < length t → new ≡ cells_written old row (length (row_at old row)) (drawn role (chars t))) → (t ≡ [] → new ≡ old) → new ≡ appended old row (drawn role (chars t))
+    by : (t cs : List ℕ) → chars t ≡ cs → IsUtf8 t → (0 < length t → new ≡ cells_written old row (length (row_at old row)) (text_cells role (chars t))) → (t ≡ [] → new ≡ old) → new ≡ appended old row (text_cells role (chars t))
     by t [] is spelled filled none =
         let nothing : t ≡ [] = sym (encodes-chars t spelled) ∙ ap encodes is in
         rw is (none nothing)
     by [] (c ∷ cs) is spelled filled none = absurd (omega (arith, ap length (sym is ∙ chars-nil)))
     by (b ∷ bs) (c ∷ cs) is spelled filled none =
-        rw is (filled (omega arith) ∙ ap (λ ds. cells_written old row (length (row_at old row)) (drawn role ds)) is)
+        rw is (filled (omega arith) ∙ ap (λ ds. cells_written old row (length (row_at old row)) (text_cells role ds)) is)
 
 -- one row put in the place of another, or below all
 pub row_at-placed : (rows : List (List Cell)) (row : ℕ) (r : List Cell) → row_at (written [] rows row (r ∷ [])) row ≡ r
@@ -37,7 +37,7 @@ placed-twice : (rows : List (List Cell)) (row : ℕ) (r s : List Cell) → writt
 placed-twice rows row r s =
     same_lists _ _ (unfold written in grind (arith, places)) (λ k d h. unfold written in grind (arith, places))
 
--- cells behind those of a row put the longer row in its place
+-- cells after those of a row put the longer row in its place
 pub appended-is : (rows : List (List Cell)) (row : ℕ) (cells : List Cell) → 0 < length cells → appended rows row cells ≡ written [] rows row ((row_at rows row ++ cells) ∷ [])
 appended-is rows row [] some = absurd (omega (arith, some))
 appended-is rows row (cell ∷ cells) some =
@@ -72,8 +72,8 @@ changed_to_end f start end xs before within =
     let rest : drop (max start end) xs ≡ [] = drop_of_length-le xs (omega arith) in
     ap (λ ys. take start xs ++ map f ys ++ drop (max start end) xs) part ∙ ap (λ zs. take start xs ++ map f (drop start xs) ++ zs) rest ∙ append-nil (take start xs ++ map f (drop start xs))
 
-changed_behind : {X : Type 0} (f : X → X) (end : ℕ) (xs ys : List X) → length xs + length ys ≤ end → changed_within f (length xs) end (xs ++ ys) ≡ xs ++ map f ys
-changed_behind f end xs ys within =
+changed_after : {X : Type 0} (f : X → X) (end : ℕ) (xs ys : List X) → length xs + length ys ≤ end → changed_within f (length xs) end (xs ++ ys) ≡ xs ++ map f ys
+changed_after f end xs ys within =
     changed_to_end f (length xs) end (xs ++ ys) (omega (arith, within)) (omega (arith, within, length-append xs ys)) ∙ ap (λ zs. zs ++ map f (drop (length xs) (xs ++ ys))) (take-append_seam xs ys) ∙ ap (λ zs. xs ++ map f zs) (drop-append_seam xs ys)
 
 -- the rows beside the one that was put in its place
@@ -106,7 +106,7 @@ linked_row rows row end (cell ∷ cells) url within =
     let all : List Cell = xs ++ cell ∷ cells in
     let change = changed_within (linked url) (length xs) end in
     let placed : List (List Cell) = written [] rows row (all ∷ []) in
-    ap (λ rs. cells_linked rs row (length xs) end url) (appended-is rows row (cell ∷ cells) (omega arith)) ∙ changed_within_one change row placed [] (omega (arith, length-written [] rows row (all ∷ []))) ∙ ap (λ (r : List Cell). set placed row (change r)) (row_at-placed rows row all) ∙ set_placed rows row all (change all) ∙ ap (λ (r : List Cell). written [] rows row (r ∷ [])) (changed_behind (linked url) end xs (cell ∷ cells) within) ∙ sym (appended-is rows row (map (linked url) (cell ∷ cells)) (omega arith))
+    ap (λ rs. cells_linked rs row (length xs) end url) (appended-is rows row (cell ∷ cells) (omega arith)) ∙ changed_within_one change row placed [] (omega (arith, length-written [] rows row (all ∷ []))) ∙ ap (λ (r : List Cell). set placed row (change r)) (row_at-placed rows row all) ∙ set_placed rows row all (change all) ∙ ap (λ (r : List Cell). written [] rows row (r ∷ [])) (changed_after (linked url) end xs (cell ∷ cells) within) ∙ sym (appended-is rows row (map (linked url) (cell ∷ cells)) (omega arith))
 
 pub linked_from-appended : (rows : List (List Cell)) (row from : ℕ) (address : Option (List ℕ)) (cells : List Cell) → length (row_at rows row) ≡ from → from + length cells < 2 ^ 64 → linked_from address row from (appended rows row cells) ≡ appended rows row (linked_to address cells)
 linked_from-appended rows row from None cells size within = refl

@@ -54,11 +54,11 @@ past_rows : (xs : List (List Cell)) (n k : ℕ) → row_at (xs ++ replicate n []
 past_rows xs n k =
     elim (cases_lt k (length xs)) [
       | inl within ↦ grind (arith, places)
-      | inr past ↦ (let none : row_at xs k ≡ [] = get_or_past xs k [] past in none_behind none past)
+      | inr past ↦ (let none : row_at xs k ≡ [] = get_or_past xs k [] past in none_after none past)
     ]
   where
-    none_behind : row_at xs k ≡ [] → length xs ≤ k → row_at (xs ++ replicate n []) k ≡ row_at xs k
-    none_behind none past = elim (cases_lt (k - length xs) n) [
+    none_after : row_at xs k ≡ [] → length xs ≤ k → row_at (xs ++ replicate n []) k ≡ row_at xs k
+    none_after none past = elim (cases_lt (k - length xs) n) [
       | inl within ↦ (let read : row_at (xs ++ replicate n []) k ≡ [] = grind (arith, places) in read ∙ sym none)
       | inr further ↦ (let size : length (xs ++ replicate n []) ≡ length xs + n = grind (arith, places) in get_or_past (xs ++ replicate n []) k [] (omega (arith, size, further, past)) ∙ sym none)
     ]
@@ -67,7 +67,7 @@ pub row_at-trimmed : (rows : List (List Cell)) (k : ℕ) → row_at (trimmed row
 row_at-trimmed rows k =
     sym (past_rows (trimmed rows) (length rows - length (trimmed rows)) k) ∙ ap (λ rs. row_at rs k) (refilled rows).0
 
--- a row behind those that were drawn below a grid, of which some at the end may not be there yet
+-- a row after those that were drawn below a grid, of which some at the end may not be there yet
 pub written_past : {X : Type 0} (blank : X) (xs new : List X) (at : ℕ) → length xs ≤ at → written blank xs at new ≡ xs ++ replicate (at - length xs) blank ++ new
 written_past blank xs new at past =
     same_lists _ _ (unfold written in grind (arith, places)) (λ k d h. unfold written in grind (arith, places))
@@ -101,7 +101,7 @@ IsAtEnd-is base rows row cells at is =
       },
     )
 
--- cells behind those of the last row
+-- cells after those of the last row
 pub appended-last : (rows : List (List Cell)) (row : ℕ) (cells : List Cell) → IsAtEnd row rows → appended rows row cells ≡ take row rows ++ trimmed ((row_at rows row ++ cells) ∷ [])
 appended-last rows row cells end =
     let base : List (List Cell) = take row rows in

@@ -1,4 +1,4 @@
--- What a grid becomes where a row is begun with a glyph behind the gutter.
+-- What a grid becomes where a row is begun with a glyph after the gutter.
 use Rattle.std.proofs.Common.{◌≡◌, ℕ, ◌+◌, ◌<◌, ◌≤◌, List, [], ◌∷◌, ◌++◌, length, replicate, codes, chars, refl, ap, ◌∙◌, arith}
 use Rattle.std.proofs.lemmas.List.{places, same_lists}
 use Rattle.std.proofs.lemmas.Str.{chars-encodes}
@@ -7,12 +7,12 @@ use Rattle.snippet_style.specs.declared.glyphs.DecorStyle.TheVariants.{Ascii, Un
 use Rattle.snippet_style.specs.declared.role.ElementStyle.TheVariants.{LineAndColumn, LineNumber}
 use Rattle.snippet_style.specs.Glyphs.{closing_of, separator_of}
 use Rattle.snippet_grid.specs.Grid.{row_at, cells_written}
-use Rattle.snippet_style.specs.Cell.{Cell, SPACE, drawn, written}
+use Rattle.snippet_style.specs.Cell.{Cell, SPACE, text_cells, written}
 use Rattle.snippet_grid.proofs.GridLemmas.{cells_written_below}
 use Rattle.snippet_style.proofs.CellLemmas.{length-chars_le}
 use Rattle.snippet_titles.specs.declared.origin.FileStart.{FileStart}
 use Rattle.snippet_titles.specs.declared.origin.FileStart.TheVariants.{Alone, First, Later, Secondary}
-use Rattle.snippet_titles.specs.declared.origin.OriginPlace.{OriginPlace}
+use Rattle.snippet_titles.specs.declared.origin.OriginLocation.{OriginLocation}
 use Rattle.snippet_titles.specs.declared.origin.OriginLayout.{OriginLayout}
 use Rattle.snippet_titles.specs.Origin.{file_glyph, file_row, origin_row, origin_text}
 use Rattle.snippet_style.specs.Separators.{separator_row, closing_row}
@@ -68,28 +68,28 @@ begun_by old new row at cells below writes =
     writes ∙ ap (λ r. cells_written old r at cells) below ∙ cells_written_below old at cells ∙ ap (λ r. old ++ r ∷ []) (written-nil at cells)
 
 -- a row that is begun by a text
-begun_by_text : (old new : List (List Cell)) (row at : ℕ) (text glyph : List ℕ) → row ≡ length old → chars text ≡ glyph → 0 < length glyph → (0 < length text → new ≡ cells_written old row at (drawn LineNumber (chars text))) → new ≡ old ++ (replicate at SPACE ++ drawn LineNumber glyph) ∷ []
+begun_by_text : (old new : List (List Cell)) (row at : ℕ) (text glyph : List ℕ) → row ≡ length old → chars text ≡ glyph → 0 < length glyph → (0 < length text → new ≡ cells_written old row at (text_cells LineNumber (chars text))) → new ≡ old ++ (replicate at SPACE ++ text_cells LineNumber glyph) ∷ []
 begun_by_text old new row at text glyph below is some writes =
-    begun_by old new row at (drawn LineNumber glyph) below (writes (omega (arith, length-chars_le text, ap length is, some)) ∙ ap (λ cs. cells_written old row at (drawn LineNumber cs)) is)
+    begun_by old new row at (text_cells LineNumber glyph) below (writes (omega (arith, length-chars_le text, ap length is, some)) ∙ ap (λ cs. cells_written old row at (text_cells LineNumber cs)) is)
 
 -- the row that leads to a file
-pub file_row-begun : (old new : List (List Cell)) (row : ℕ) (text : List ℕ) (layout : OriginLayout) (start : FileStart) → row ≡ length old → chars text ≡ file_glyph start layout.decor → (0 < length text → new ≡ cells_written old row layout.gutter (drawn LineNumber (chars text))) → new ≡ old ++ file_row layout start ∷ []
+pub file_row-begun : (old new : List (List Cell)) (row : ℕ) (text : List ℕ) (layout : OriginLayout) (start : FileStart) → row ≡ length old → chars text ≡ file_glyph start layout.decor → (0 < length text → new ≡ cells_written old row layout.gutter (text_cells LineNumber (chars text))) → new ≡ old ++ file_row layout start ∷ []
 unfolding file_row
 file_row-begun old new row text layout start below is writes =
     begun_by_text old new row layout.gutter text (file_glyph start layout.decor) below is (file_glyph-some start layout.decor) writes
 
 -- the closing row
-pub closing_row-begun : (old new : List (List Cell)) (row gutter : ℕ) (text : List ℕ) (decor : DecorStyle) → row ≡ length old → chars text ≡ closing_of decor → (0 < length text → new ≡ cells_written old row (gutter + 1) (drawn LineNumber (chars text))) → new ≡ old ++ closing_row decor gutter ∷ []
+pub closing_row-begun : (old new : List (List Cell)) (row gutter : ℕ) (text : List ℕ) (decor : DecorStyle) → row ≡ length old → chars text ≡ closing_of decor → (0 < length text → new ≡ cells_written old row (gutter + 1) (text_cells LineNumber (chars text))) → new ≡ old ++ closing_row decor gutter ∷ []
 closing_row-begun old new row gutter text decor below is writes =
     begun_by_text old new row (gutter + 1) text (closing_of decor) below is (closing-some decor) writes
 
 -- the separator row
-pub separator_row-begun : (old new : List (List Cell)) (row gutter stroke : ℕ) (decor : DecorStyle) → row ≡ length old → stroke ≡ separator_of decor → new ≡ cells_written old row (gutter + 1) (drawn LineNumber (stroke ∷ [])) → new ≡ old ++ separator_row decor gutter ∷ []
+pub separator_row-begun : (old new : List (List Cell)) (row gutter stroke : ℕ) (decor : DecorStyle) → row ≡ length old → stroke ≡ separator_of decor → new ≡ cells_written old row (gutter + 1) (text_cells LineNumber (stroke ∷ [])) → new ≡ old ++ separator_row decor gutter ∷ []
 separator_row-begun old new row gutter stroke decor below is writes =
-    begun_by old new row (gutter + 1) (drawn LineNumber (separator_of decor ∷ [])) below (writes ∙ ap (λ s. cells_written old row (gutter + 1) (drawn LineNumber (s ∷ []))) is)
+    begun_by old new row (gutter + 1) (text_cells LineNumber (separator_of decor ∷ [])) below (writes ∙ ap (λ s. cells_written old row (gutter + 1) (text_cells LineNumber (s ∷ []))) is)
 
--- the row of a path: the row that leads to it, with the text behind that
-pub origin_row-begun : (old now new : List (List Cell)) (row : ℕ) (text path : List ℕ) (layout : OriginLayout) (start : FileStart) (place : OriginPlace) → row ≡ length old → now ≡ old ++ file_row layout start ∷ [] → chars text ≡ origin_text layout.anonymized path place → (0 < length text → new ≡ cells_written now row (length (row_at now row)) (drawn LineAndColumn (chars text))) → (text ≡ [] → new ≡ now) → new ≡ old ++ origin_row layout start path place ∷ []
+-- the row of a path: the row that leads to it, with the text after that
+pub origin_row-begun : (old now new : List (List Cell)) (row : ℕ) (text path : List ℕ) (layout : OriginLayout) (start : FileStart) (place : OriginLocation) → row ≡ length old → now ≡ old ++ file_row layout start ∷ [] → chars text ≡ origin_text layout.anonymized path place → (0 < length text → new ≡ cells_written now row (length (row_at now row)) (text_cells LineAndColumn (chars text))) → (text ≡ [] → new ≡ now) → new ≡ old ++ origin_row layout start path place ∷ []
 unfolding origin_row
 origin_row-begun old now new row text path layout start place below begun is full empty =
-    extended_from old now new row (file_row layout start) (drawn LineAndColumn (chars text)) below begun (extended now new row LineAndColumn text (length-begun old now row (file_row layout start) below begun) full empty) ∙ ap (λ cs. old ++ (file_row layout start ++ drawn LineAndColumn cs) ∷ []) is
+    extended_from old now new row (file_row layout start) (text_cells LineAndColumn (chars text)) below begun (extended now new row LineAndColumn text (length-begun old now row (file_row layout start) below begun) full empty) ∙ ap (λ cs. old ++ (file_row layout start ++ text_cells LineAndColumn cs) ∷ []) is

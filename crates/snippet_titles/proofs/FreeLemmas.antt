@@ -10,7 +10,7 @@ use Rattle.snippet_style.specs.declared.glyphs.DecorStyle.{DecorStyle}
 use Rattle.snippet_style.specs.declared.glyphs.DecorStyle.TheVariants.{Ascii, Unicode}
 use Rattle.snippet_style.specs.declared.role.ElementStyle.{ElementStyle}
 use Rattle.snippet_style.specs.declared.role.ElementStyle.TheVariants.{LineNumber}
-use Rattle.snippet_style.specs.Cell.{Cell, SPACE, drawn}
+use Rattle.snippet_style.specs.Cell.{Cell, SPACE, text_cells}
 use Rattle.snippet_grid.specs.Print.{row_text}
 use Rattle.snippet_text.specs.Normalized.{norm, is_listed}
 use Rattle.snippet_text.proofs.NormLemmas.{list_any-norm}
@@ -20,9 +20,9 @@ use Rattle.snippet_model.specs.Level.{name_of}
 use Rattle.snippet_titles.specs.declared.style.HeadingRoles.{HeadingRoles}
 use Rattle.snippet_titles.specs.declared.style.TitleStyle.{TitleStyle}
 use Rattle.snippet_titles.specs.declared.style.TitleStyle.TheVariants.{Title, Short, Message}
-use Rattle.snippet_titles.specs.Heading.{bracketed_text, closing_of, colon_of, drawn_text, heading_lines, heading_rows, id_text, indent_cells, is_set, label_cells, label_text, label_width, lines_below, note_bar_of, note_sign_of, on_top, opening_of, roles_of, sign_cells, trimmed}
+use Rattle.snippet_titles.specs.Heading.{bracketed_text, closing_of, colon_of, shown_text, heading_lines, heading_rows, id_text, indent_cells, is_set, label_cells, label_text, label_width, lines_below, note_bar_of, note_sign_of, on_top, opening_of, roles_of, sign_cells, trimmed}
 use Rattle.snippet_titles.specs.Shown.{IsFreeButText}
-use Rattle.snippet_titles.proofs.TextLemmas.{row_text-append, row_text-behind, row_text-drawn, row_text-label, row_text-spaces}
+use Rattle.snippet_titles.proofs.TextLemmas.{row_text-append, row_text-after, row_text-text_cells, row_text-label, row_text-spaces}
 
 -- a character that isn't listed
 abbrev pub IsFree : ℕ → Type 0
@@ -128,7 +128,7 @@ module _ (P : ℕ → Type 0) (free : (c : ℕ) → IsFree c → P c) where
   sign-all Short = All-nil P
   sign-all (Message place) =
       let sign : List ℕ = note_sign_of place.decor place.followed in
-      parts-all (replicate (place.gutter + 1) SPACE) (drawn LineNumber sign) (spaces-all (place.gutter + 1)) (subst (All P) (sym (row_text-drawn LineNumber sign)) (note_sign-all place.decor place.followed))
+      parts-all (replicate (place.gutter + 1) SPACE) (text_cells LineNumber sign) (spaces-all (place.gutter + 1)) (subst (All P) (sym (row_text-text_cells LineNumber sign)) (note_sign-all place.decor place.followed))
 
   pub indent-all : (style : TitleStyle) (width : ℕ) → All P (row_text (indent_cells style width))
   indent-all Title width = spaces-all width
@@ -138,23 +138,23 @@ module _ (P : ℕ → Type 0) (free : (c : ℕ) → IsFree c → P c) where
       parts-all (replicate (place.gutter + 1) SPACE) (bar ∷ replicate (width + 1) SPACE) (spaces-all (place.gutter + 1)) (All-cons P bar.ch (row_text (replicate (width + 1) SPACE)) (note_bar-free place.decor place.followed) (spaces-all (width + 1)))
 
   -- and of those of the rows of lines, where it holds of those of the lines
-  pub row-all : (cells : List Cell) (r : ElementStyle) → All P (row_text cells) → (line : List ℕ) → All P line → All P (row_text (cells ++ drawn r line))
+  pub row-all : (cells : List Cell) (r : ElementStyle) → All P (row_text cells) → (line : List ℕ) → All P line → All P (row_text (cells ++ text_cells r line))
   row-all cells r before line all =
-      subst (All P) (sym (row_text-behind cells (row_text cells) r line refl)) (All-append P (row_text cells) line before all)
+      subst (All P) (sym (row_text-after cells (row_text cells) r line refl)) (All-append P (row_text cells) line before all)
 
   pub lines-all : (first further : List Cell) (r : ElementStyle) (lines : List (List ℕ)) → All P (row_text first) → All P (row_text further) → All (All P) lines → All (λ row. All P (row_text row)) (lines_below first further r lines)
   lines-all first further r [] begun below all = All-nil (λ row. All P (row_text row))
   lines-all first further r (line ∷ lines) begun below all =
-      All-cons (λ row. All P (row_text row)) (first ++ drawn r line) (map (λ l. further ++ drawn r l) lines) (row-all first r begun line (All-head (All P) line lines all)) (All-map (λ row. All P (row_text row)) (λ l. further ++ drawn r l) lines (All-weaker (All P) (λ l. All P (row_text (further ++ drawn r l))) (row-all further r below) lines (All-tail (All P) line lines all)))
+      All-cons (λ row. All P (row_text row)) (first ++ text_cells r line) (map (λ l. further ++ text_cells r l) lines) (row-all first r begun line (All-head (All P) line lines all)) (All-map (λ row. All P (row_text row)) (λ l. further ++ text_cells r l) lines (All-weaker (All P) (λ l. All P (row_text (further ++ text_cells r l))) (row-all further r below) lines (All-tail (All P) line lines all)))
 
-  pub heading_rows-all : (hyperlink : Bool) (style : TitleStyle) (heading : Heading) → All P (drawn_text heading) → All (λ row. All P (row_text row)) (heading_rows hyperlink style heading)
+  pub heading_rows-all : (hyperlink : Bool) (style : TitleStyle) (heading : Heading) → All P (shown_text heading) → All (λ row. All P (row_text row)) (heading_rows hyperlink style heading)
   unfolding heading_rows
   heading_rows-all hyperlink style heading all =
       let roles : HeadingRoles = roles_of style heading.level.kind heading.allows_styling in
       let label : List Cell = label_cells hyperlink roles heading in
       let first : List Cell = sign_cells style ++ label in
       let further : List Cell = indent_cells style (label_width heading) in
-      All-trimmed (λ row. All P (row_text row)) (lines_below first further roles.text (heading_lines heading)) (lines-all first further roles.text (heading_lines heading) (parts-all (sign_cells style) label (sign-all style) (subst (All P) (sym (row_text-label hyperlink roles heading)) (label-all heading))) (indent-all style (label_width heading)) (All-slice_split P (λ c. c == 10) (drawn_text heading) all))
+      All-trimmed (λ row. All P (row_text row)) (lines_below first further roles.text (heading_lines heading)) (lines-all first further roles.text (heading_lines heading) (parts-all (sign_cells style) label (sign-all style) (subst (All P) (sym (row_text-label hyperlink roles heading)) (label-all heading))) (indent-all style (label_width heading)) (All-slice_split P (λ c. c == 10) (shown_text heading) all))
 
 -- a row none of whose cells holds a listed character
 abbrev pub IsFreeText : List Cell → Type 0
@@ -172,12 +172,12 @@ IsOwn heading c = is_listed c ≡ true → (heading.allows_styling ≡ true) × 
 pub own_unlisted : (heading : Heading) (c : ℕ) → IsFree c → IsOwn heading c
 own_unlisted heading c unlisted listed = cc
 
-pub own_text : (heading : Heading) (trusted : Bool) → heading.allows_styling ≡ trusted → All (IsOwn heading) (drawn_text heading)
+pub own_text : (heading : Heading) (trusted : Bool) → heading.allows_styling ≡ trusted → All (IsOwn heading) (shown_text heading)
 own_text heading true is =
-    let same : drawn_text heading ≡ chars heading.text = rw is refl in
+    let same : shown_text heading ≡ chars heading.text = rw is refl in
     subst (All (IsOwn heading)) (sym same) (All-from_get_or (IsOwn heading) (chars heading.text) 0 (λ k within listed. (is, (k, within, get_or_default (chars heading.text) k _ 0 within))))
 own_text heading false is =
-    let same : drawn_text heading ≡ norm (chars heading.text) = rw is refl in
+    let same : shown_text heading ≡ norm (chars heading.text) = rw is refl in
     subst (All (IsOwn heading)) (sym same) (All-weaker IsFree (IsOwn heading) (own_unlisted heading) (norm (chars heading.text)) (norm-free (chars heading.text)))
 
 pub heading_rows-free : (hyperlink : Bool) (style : TitleStyle) (heading : Heading) → All (IsFreeButText heading) (heading_rows hyperlink style heading)

@@ -7,7 +7,7 @@ use Rattle.snippet_style.specs.declared.glyphs.DecorStyle.{DecorStyle}
 use Rattle.snippet_style.specs.declared.glyphs.DecorStyle.TheVariants.{Ascii, Unicode}
 use Rattle.snippet_style.specs.declared.role.ElementStyle.{ElementStyle}
 use Rattle.snippet_style.specs.declared.role.ElementStyle.TheVariants.{LineAndColumn, LineNumber}
-use Rattle.snippet_style.specs.Cell.{Cell, SPACE, drawn}
+use Rattle.snippet_style.specs.Cell.{Cell, SPACE, text_cells}
 use Rattle.snippet_grid.specs.Print.{row_text}
 use Rattle.snippet_text.specs.Normalized.{norm}
 use Rattle.snippet_model.specs.declared.snippet.Id.{Id}
@@ -15,10 +15,10 @@ use Rattle.snippet_model.specs.Heading.{Heading, is_hidden}
 use Rattle.snippet_model.specs.Level.{name_of}
 use Rattle.snippet_titles.specs.declared.origin.FileStart.{FileStart}
 use Rattle.snippet_titles.specs.declared.origin.FileStart.TheVariants.{Alone, First, Later, Secondary}
-use Rattle.snippet_titles.specs.declared.origin.OriginPlace.{OriginPlace}
+use Rattle.snippet_titles.specs.declared.origin.OriginLocation.{OriginLocation}
 use Rattle.snippet_titles.specs.declared.origin.OriginLayout.{OriginLayout}
 use Rattle.snippet_titles.specs.declared.style.HeadingRoles.{HeadingRoles}
-use Rattle.snippet_titles.specs.declared.style.MessagePlace.{MessagePlace}
+use Rattle.snippet_titles.specs.declared.style.MessageContext.{MessageContext}
 use Rattle.snippet_titles.specs.declared.style.TitleStyle.{TitleStyle}
 use Rattle.snippet_titles.specs.declared.style.TitleStyle.TheVariants.{Message}
 use Rattle.snippet_titles.specs.Heading.{colon_of, heading_lines, heading_rows, id_cells, indent_cells, label_cells, label_width, lines_below, note_bar_of, note_sign_of, roles_of, sign_cells}
@@ -30,8 +30,8 @@ use Rattle.snippet_titles.proofs.LinkLemmas.{IsUnlinked, drawn_unlinked, indent_
 use Rattle.snippet_model.specs.Rows.{HasNoNumber, IsFree}
 use Rattle.snippet_titles.proofs.OriginFree.{file_row-free, origin_row-free, separator_row-free}
 use Rattle.snippet_titles.proofs.OriginNumbers.{IsPlain, file_row-unnumbered, origin_row-unnumbered, separator_row-unnumbered}
-use Rattle.snippet_titles.proofs.OriginRowText.{origin_row-behind}
-use Rattle.snippet_titles.proofs.TextLemmas.{row_text-drawn}
+use Rattle.snippet_titles.proofs.OriginRowText.{origin_row-after}
+use Rattle.snippet_titles.proofs.TextLemmas.{row_text-text_cells}
 
 -- what holds of separator rows, of those that lead to a file, and of those of paths
 module _ (P : List Cell → Type 0) (layout : OriginLayout) (separator : P (separator_row layout.decor layout.gutter)) (file : (start : FileStart) → P (file_row layout start)) where
@@ -44,7 +44,7 @@ module _ (P : List Cell → Type 0) (layout : OriginLayout) (separator : P (sepa
   opening_head-each first = opening_rows-each layout.decor first
 
   -- holds of each that a snippet begins with
-  module _ (place : OriginPlace) (origin : (path : List ℕ) (start : FileStart) → P (origin_row layout start path place)) where
+  module _ (place : OriginLocation) (origin : (path : List ℕ) (start : FileStart) → P (origin_row layout start path place)) where
     pub snippet_head-each : (primary first : Bool) (path : Option (List ℕ)) → All P (snippet_head layout primary first path place)
     snippet_head-each true first None = opening_head-each first
     snippet_head-each true first (Some path) = primary_head-each P layout separator path place (origin path) first
@@ -52,12 +52,12 @@ module _ (P : List Cell → Type 0) (layout : OriginLayout) (separator : P (sepa
     snippet_head-each false first (Some path) = secondary_head-each P layout separator path place (origin path)
 
 -- so none of them holds a listed character or a link
-pub snippet_head-free : (layout : OriginLayout) (primary first : Bool) (path : Option (List ℕ)) (place : OriginPlace) → All IsFree (snippet_head layout primary first path place)
+pub snippet_head-free : (layout : OriginLayout) (primary first : Bool) (path : Option (List ℕ)) (place : OriginLocation) → All IsFree (snippet_head layout primary first path place)
 snippet_head-free layout primary first path place =
     snippet_head-each IsFree layout (separator_row-free layout.decor layout.gutter) (file_row-free layout) place (λ path start. origin_row-free layout start path place) primary first path
 
 -- and none can be taken for a line's
-pub snippet_head-unnumbered : (layout : OriginLayout) (primary first : Bool) (path : Option (List ℕ)) (place : OriginPlace) → All (HasNoNumber layout.gutter) (snippet_head layout primary first path place)
+pub snippet_head-unnumbered : (layout : OriginLayout) (primary first : Bool) (path : Option (List ℕ)) (place : OriginLocation) → All (HasNoNumber layout.gutter) (snippet_head layout primary first path place)
 snippet_head-unnumbered layout primary first path place =
     snippet_head-each (HasNoNumber layout.gutter) layout (separator_row-unnumbered layout.decor layout.gutter) (file_row-unnumbered layout) place (λ path start. origin_row-unnumbered layout start path place) primary first path
 
@@ -72,22 +72,22 @@ glyph-width Later Unicode = refl
 glyph-width Secondary Ascii = refl
 glyph-width Secondary Unicode = refl
 
--- behind it the row of a path shows the path with its place
-pub origin_row-text : (layout : OriginLayout) (start : FileStart) (path : List ℕ) (place : OriginPlace) → row_text (drop (layout.gutter + 4) (origin_row layout start path place)) ≡ origin_text layout.anonymized path place
+-- after it the row of a path shows the path with its place
+pub origin_row-text : (layout : OriginLayout) (start : FileStart) (path : List ℕ) (place : OriginLocation) → row_text (drop (layout.gutter + 4) (origin_row layout start path place)) ≡ origin_text layout.anonymized path place
 origin_row-text layout start path place =
-    ap (λ n. row_text (drop (layout.gutter + n) (origin_row layout start path place))) (sym (glyph-width start layout.decor)) ∙ ap row_text (origin_row-behind layout start path place) ∙ row_text-drawn LineAndColumn (origin_text layout.anonymized path place)
+    ap (λ n. row_text (drop (layout.gutter + n) (origin_row layout start path place))) (sym (glyph-width start layout.decor)) ∙ ap row_text (origin_row-after layout start path place) ∙ row_text-text_cells LineAndColumn (origin_text layout.anonymized path place)
 
 -- what holds of each row that begins with these cells, and of each that begins with those, holds of the rows of lines
-module _ (P : List Cell → Type 0) (first further : List Cell) (r : ElementStyle) (begun : (line : List ℕ) → P (first ++ drawn r line)) (below : (line : List ℕ) → P (further ++ drawn r line)) where
-  further-each : (lines : List (List ℕ)) → All P (map (λ l. further ++ drawn r l) lines)
+module _ (P : List Cell → Type 0) (first further : List Cell) (r : ElementStyle) (begun : (line : List ℕ) → P (first ++ text_cells r line)) (below : (line : List ℕ) → P (further ++ text_cells r line)) where
+  further-each : (lines : List (List ℕ)) → All P (map (λ l. further ++ text_cells r l) lines)
   further-each [] = All-nil P
   further-each (line ∷ lines) =
-      All-cons P (further ++ drawn r line) (map (λ l. further ++ drawn r l) lines) (below line) (further-each lines)
+      All-cons P (further ++ text_cells r line) (map (λ l. further ++ text_cells r l) lines) (below line) (further-each lines)
 
   lines-each : (lines : List (List ℕ)) → All P (lines_below first further r lines)
   lines-each [] = All-nil P
   lines-each (line ∷ lines) =
-      All-cons P (first ++ drawn r line) (map (λ l. further ++ drawn r l) lines) (begun line) (further-each lines)
+      All-cons P (first ++ text_cells r line) (map (λ l. further ++ text_cells r l) lines) (begun line) (further-each lines)
 
 -- a row that reaches past the gutter and has no number in it
 abbrev IsLed : ℕ → List Cell → Type 0
@@ -98,25 +98,25 @@ spaces-led gutter =
     let long : gutter < length (replicate (gutter + 1) SPACE) = omega (arith, length-replicate (gutter + 1) SPACE) in
     (long, λ c within. All-get_or IsPlain (replicate (gutter + 1) SPACE) c SPACE (omega (arith, within, long)) (All-replicate IsPlain (gutter + 1) SPACE refl))
 
--- stays one with cells behind it
+-- stays one with cells after it
 led-more : (gutter : ℕ) (front others : List Cell) → IsLed gutter front → IsLed gutter (front ++ others)
 led-more gutter front others led =
     (omega (arith, led.0, length-append front others), λ c within. ap (λ (cell : Cell). is_ascii_alphanumeric cell.ch) (get_or_append_left front others SPACE c (omega (arith, within, led.0))) ∙ led.1 c within)
 
 -- no row of a message can be taken for a line's
-pub message_rows-unnumbered : (hyperlink : Bool) (place : MessagePlace) (heading : Heading) → All (HasNoNumber place.gutter) (heading_rows hyperlink (Message place) heading)
+pub message_rows-unnumbered : (hyperlink : Bool) (place : MessageContext) (heading : Heading) → All (HasNoNumber place.gutter) (heading_rows hyperlink (Message place) heading)
 unfolding heading_rows
 message_rows-unnumbered hyperlink place heading =
     let roles : HeadingRoles = roles_of (Message place) heading.level.kind heading.allows_styling in
     let spaces : List Cell = replicate (place.gutter + 1) SPACE in
-    let sign : List Cell = drawn LineNumber (note_sign_of place.decor place.followed) in
+    let sign : List Cell = text_cells LineNumber (note_sign_of place.decor place.followed) in
     let label : List Cell = label_cells hyperlink roles heading in
     let width : ℕ = label_width heading in
     let bar : List Cell = note_bar_of place.decor place.followed ∷ replicate (width + 1) SPACE in
     let first : IsLed place.gutter ((spaces ++ sign) ++ label) = led-more place.gutter (spaces ++ sign) label (led-more place.gutter spaces sign (spaces-led place.gutter)) in
     let further : IsLed place.gutter (spaces ++ bar) = led-more place.gutter spaces bar (spaces-led place.gutter) in
     let P : List Cell → Type 0 = HasNoNumber place.gutter in
-    All-trimmed P (lines_below ((spaces ++ sign) ++ label) (spaces ++ bar) roles.text (heading_lines heading)) (lines-each P ((spaces ++ sign) ++ label) (spaces ++ bar) roles.text (λ line. (led-more place.gutter ((spaces ++ sign) ++ label) (drawn roles.text line) first).1) (λ line. (led-more place.gutter (spaces ++ bar) (drawn roles.text line) further).1) (heading_lines heading))
+    All-trimmed P (lines_below ((spaces ++ sign) ++ label) (spaces ++ bar) roles.text (heading_lines heading)) (lines-each P ((spaces ++ sign) ++ label) (spaces ++ bar) roles.text (λ line. (led-more place.gutter ((spaces ++ sign) ++ label) (text_cells roles.text line) first).1) (λ line. (led-more place.gutter (spaces ++ bar) (text_cells roles.text line) further).1) (heading_lines heading))
 
 -- a label without an id links to nothing
 label-unlinked : (hyperlink : Bool) (roles : HeadingRoles) (heading : Heading) → heading.id ≡ None → All IsUnlinked (label_cells hyperlink roles heading)
@@ -124,9 +124,9 @@ unfolding label_cells
 label-unlinked hyperlink roles heading none =
     let hidden : Bool = is_hidden heading.level.name in
     let name_chars : List ℕ = norm (chars (name_of heading.level)) in
-    let name : List Cell = drawn roles.label name_chars in
+    let name : List Cell = text_cells roles.label name_chars in
     let id : List Cell = id_cells hyperlink hidden roles.label heading.id in
-    let colon : List Cell = drawn roles.colon (colon_of hidden heading.id) in
+    let colon : List Cell = text_cells roles.colon (colon_of hidden heading.id) in
     let bare : All IsUnlinked id = subst (λ (own : Option Id). All IsUnlinked (id_cells hyperlink hidden roles.label own)) (sym none) (All-nil IsUnlinked) in
     All-append IsUnlinked (name ++ id) colon (All-append IsUnlinked name id (drawn_unlinked roles.label name_chars) bare) (drawn_unlinked roles.colon (colon_of hidden heading.id))
 
@@ -139,7 +139,7 @@ heading_rows-unlinked hyperlink style heading none =
     let label : List Cell = label_cells hyperlink roles heading in
     let further : List Cell = indent_cells style (label_width heading) in
     let first : All IsUnlinked (sign ++ label) = All-append IsUnlinked sign label (sign_unlinked style) (label-unlinked hyperlink roles heading none) in
-    All-trimmed (All IsUnlinked) (lines_below (sign ++ label) further roles.text (heading_lines heading)) (lines-each (All IsUnlinked) (sign ++ label) further roles.text (λ line. All-append IsUnlinked (sign ++ label) (drawn roles.text line) first (drawn_unlinked roles.text line)) (λ line. All-append IsUnlinked further (drawn roles.text line) (indent_unlinked style (label_width heading)) (drawn_unlinked roles.text line)) (heading_lines heading))
+    All-trimmed (All IsUnlinked) (lines_below (sign ++ label) further roles.text (heading_lines heading)) (lines-each (All IsUnlinked) (sign ++ label) further roles.text (λ line. All-append IsUnlinked (sign ++ label) (text_cells roles.text line) first (drawn_unlinked roles.text line)) (λ line. All-append IsUnlinked further (text_cells roles.text line) (indent_unlinked style (label_width heading)) (drawn_unlinked roles.text line)) (heading_lines heading))
 
-pub message_rows-unlinked : (hyperlink : Bool) (place : MessagePlace) (heading : Heading) → heading.id ≡ None → All (All (λ (cell : Cell). cell.link ≡ None)) (heading_rows hyperlink (Message place) heading)
+pub message_rows-unlinked : (hyperlink : Bool) (place : MessageContext) (heading : Heading) → heading.id ≡ None → All (All (λ (cell : Cell). cell.link ≡ None)) (heading_rows hyperlink (Message place) heading)
 message_rows-unlinked hyperlink place heading none = heading_rows-unlinked hyperlink (Message place) heading none

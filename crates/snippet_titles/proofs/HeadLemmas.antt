@@ -4,13 +4,13 @@ use Rattle.std.proofs.lemmas.List.Elements.{All-nil, All-cons}
 use Rattle.snippet_style.specs.Cell.{Cell}
 use Rattle.snippet_titles.specs.declared.origin.FileStart.{FileStart}
 use Rattle.snippet_titles.specs.declared.origin.FileStart.TheVariants.{First, Later, Secondary}
-use Rattle.snippet_titles.specs.declared.origin.OriginPlace.{OriginPlace}
+use Rattle.snippet_titles.specs.declared.origin.OriginLocation.{OriginLocation}
 use Rattle.snippet_titles.specs.declared.origin.OriginLayout.{OriginLayout}
 use Rattle.snippet_titles.specs.Origin.{file_row, origin_row, primary_head, secondary_head, nameless_head}
 use Rattle.snippet_style.specs.Separators.{separator_row}
 
 module _ (P : List Cell → Type 0) (layout : OriginLayout) (separator : P (separator_row layout.decor layout.gutter)) where
-  -- a separator row behind others
+  -- a separator row after others
   ends : All P (separator_row layout.decor layout.gutter ∷ [])
   ends = All-cons P (separator_row layout.decor layout.gutter) [] separator (All-nil P)
 
@@ -20,7 +20,7 @@ module _ (P : List Cell → Type 0) (layout : OriginLayout) (separator : P (sepa
       All-cons P (separator_row layout.decor layout.gutter) (file_row layout Secondary ∷ []) separator (All-cons P (file_row layout Secondary) [] file (All-nil P))
 
   -- those of snippets with a path
-  module _ (path : List ℕ) (place : OriginPlace) (origin : (start : FileStart) → P (origin_row layout start path place)) where
+  module _ (path : List ℕ) (place : OriginLocation) (origin : (start : FileStart) → P (origin_row layout start path place)) where
     pub primary_head-each : (first : Bool) → All P (primary_head layout first path place)
     primary_head-each true =
         All-cons P (origin_row layout First path place) (separator_row layout.decor layout.gutter ∷ []) (origin First) ends

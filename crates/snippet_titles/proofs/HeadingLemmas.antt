@@ -41,7 +41,7 @@ text_drawn old new row width wide style role text shown measured utf8 spelled is
     let cut : map chars (lines_at text) ≡ lines_at shown = lines_at-chars text utf8 ∙ ap lines_at spelled in
     is ∙ ap (λ n. take row old ++ trimmed (lines_below (row_at old row) (indent_cells style n) role (map chars (lines_at text)))) measured ∙ ap (λ (ls : List (List ℕ)). take row old ++ trimmed (lines_below (row_at old row) (indent_cells style wide) role ls)) cut
 
--- the lines behind a label make the rows
+-- the lines after a label make the rows
 pub heading_drawn : (old one two new : List (List Cell)) (row : ℕ) (hyperlink : Bool) (style : TitleStyle) (heading : Heading) (level : Level) (trusted : Bool) (roles : HeadingRoles) → row ≡ length old → level ≡ heading.level → trusted ≡ heading.allows_styling → roles ≡ roles_of style level.kind trusted → one ≡ appended old row (sign_cells style) → two ≡ appended one row (label_cells hyperlink roles heading) → new ≡ take row two ++ trimmed (lines_below (row_at two row) (indent_cells style (label_width heading)) roles.text (heading_lines heading)) → new ≡ old ++ heading_rows hyperlink style heading
 unfolding heading_rows
 heading_drawn old one two new row hyperlink style heading level trusted roles at leveled trusts roles_are first second third =

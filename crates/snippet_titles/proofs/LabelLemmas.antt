@@ -5,9 +5,9 @@ use Rattle.std.specs.Option.{option_map}
 use Rattle.std.proofs.lemmas.List.{length-append}
 use Rattle.std.proofs.lemmas.List.Sums.{sum_by-append}
 use Rattle.snippet_grid.specs.Grid.{row_at}
-use Rattle.snippet_style.specs.Cell.{Cell, drawn}
+use Rattle.snippet_style.specs.Cell.{Cell, text_cells}
 use Rattle.snippet_style.specs.declared.role.ElementStyle.{ElementStyle}
-use Rattle.snippet_style.proofs.CellLemmas.{length-drawn, length-chars_le}
+use Rattle.snippet_style.proofs.CellLemmas.{length-text_cells, length-chars_le}
 use Rattle.snippet_text.specs.Normalized.{norm}
 use Rattle.snippet_text.specs.Width.{char_width, width_of}
 use Rattle.snippet_text.proofs.NormLemmas.{length-norm, width_of-norm}
@@ -23,11 +23,11 @@ use Rattle.snippet_titles.specs.Heading.{bracketed_text, closing_of, colon_of, i
 use Rattle.snippet_titles.proofs.AppendLemmas.{row_at-appended}
 use Rattle.snippet_titles.proofs.RowLemmas.{appended-three}
 
--- a level's name, an id and a colon, drawn one behind the other, are the label
-pub label_drawn : (old one two new : List (List Cell)) (row : ℕ) (hyperlink : Bool) (roles : HeadingRoles) (heading : Heading) (level : Level) (hidden : Bool) (name colon : List ℕ) (id set : Option Id) → level ≡ heading.level → hidden ≡ is_hidden level.name → name ≡ norm (chars (name_of level)) → id ≡ heading.id → colon ≡ colon_of hidden set → set ≡ heading.id → one ≡ appended old row (drawn roles.label name) → two ≡ appended one row (id_cells hyperlink hidden roles.label id) → new ≡ appended two row (drawn roles.colon colon) → new ≡ appended old row (label_cells hyperlink roles heading)
+-- a level's name, an id and a colon, drawn one after the other, are the label
+pub label_drawn : (old one two new : List (List Cell)) (row : ℕ) (hyperlink : Bool) (roles : HeadingRoles) (heading : Heading) (level : Level) (hidden : Bool) (name colon : List ℕ) (id set : Option Id) → level ≡ heading.level → hidden ≡ is_hidden level.name → name ≡ norm (chars (name_of level)) → id ≡ heading.id → colon ≡ colon_of hidden set → set ≡ heading.id → one ≡ appended old row (text_cells roles.label name) → two ≡ appended one row (id_cells hyperlink hidden roles.label id) → new ≡ appended two row (text_cells roles.colon colon) → new ≡ appended old row (label_cells hyperlink roles heading)
 unfolding label_cells
 label_drawn old one two new row hyperlink roles heading level hidden name colon id set leveled hides named own colons is_set first second third =
-    appended-three old one two new row _ _ _ first second third ∙ ap (λ (cs : List ℕ). appended old row (drawn roles.label cs ++ id_cells hyperlink hidden roles.label id ++ drawn roles.colon colon)) named ∙ ap (λ (cs : List ℕ). appended old row (drawn roles.label (norm (chars (name_of level))) ++ id_cells hyperlink hidden roles.label id ++ drawn roles.colon cs)) colons ∙ ap (λ (i : Option Id). appended old row (drawn roles.label (norm (chars (name_of level))) ++ id_cells hyperlink hidden roles.label i ++ drawn roles.colon (colon_of hidden set))) own ∙ ap (λ (i : Option Id). appended old row (drawn roles.label (norm (chars (name_of level))) ++ id_cells hyperlink hidden roles.label heading.id ++ drawn roles.colon (colon_of hidden i))) is_set ∙ ap (λ (h : Bool). appended old row (drawn roles.label (norm (chars (name_of level))) ++ id_cells hyperlink h roles.label heading.id ++ drawn roles.colon (colon_of h heading.id))) hides ∙ ap (λ (l : Level). appended old row (drawn roles.label (norm (chars (name_of l))) ++ id_cells hyperlink (is_hidden l.name) roles.label heading.id ++ drawn roles.colon (colon_of (is_hidden l.name) heading.id))) leveled
+    appended-three old one two new row _ _ _ first second third ∙ ap (λ (cs : List ℕ). appended old row (text_cells roles.label cs ++ id_cells hyperlink hidden roles.label id ++ text_cells roles.colon colon)) named ∙ ap (λ (cs : List ℕ). appended old row (text_cells roles.label (norm (chars (name_of level))) ++ id_cells hyperlink hidden roles.label id ++ text_cells roles.colon cs)) colons ∙ ap (λ (i : Option Id). appended old row (text_cells roles.label (norm (chars (name_of level))) ++ id_cells hyperlink hidden roles.label i ++ text_cells roles.colon (colon_of hidden set))) own ∙ ap (λ (i : Option Id). appended old row (text_cells roles.label (norm (chars (name_of level))) ++ id_cells hyperlink hidden roles.label heading.id ++ text_cells roles.colon (colon_of hidden i))) is_set ∙ ap (λ (h : Bool). appended old row (text_cells roles.label (norm (chars (name_of level))) ++ id_cells hyperlink h roles.label heading.id ++ text_cells roles.colon (colon_of h heading.id))) hides ∙ ap (λ (l : Level). appended old row (text_cells roles.label (norm (chars (name_of l))) ++ id_cells hyperlink (is_hidden l.name) roles.label heading.id ++ text_cells roles.colon (colon_of (is_hidden l.name) heading.id))) leveled
 
 -- a name that fits is short
 pub name_few : (level known : Level) (shown : List ℕ) → level ≡ known → LevelFits known → shown ≡ norm (chars (name_of level)) → length shown < 2 ^ 58
@@ -35,10 +35,10 @@ name_few level known shown same fits is =
     let size : length (name_of level) ≡ length (name_of known) = ap (λ (l : Level). length (name_of l)) same in
     omega (arith, ap length is, length-norm (chars (name_of level)), length-chars_le (name_of level), size, fits)
 
--- the cells of a row behind which a name was drawn
-pub name_start : (old one : List (List Cell)) (row start count : ℕ) (role : ElementStyle) (name : List ℕ) → length (row_at old row) ≡ start → one ≡ appended old row (drawn role name) → count ≡ length name → length (row_at one row) ≡ start + count
+-- the cells of a row after which a name was drawn
+pub name_start : (old one : List (List Cell)) (row start count : ℕ) (role : ElementStyle) (name : List ℕ) → length (row_at old row) ≡ start → one ≡ appended old row (text_cells role name) → count ≡ length name → length (row_at one row) ≡ start + count
 name_start old one row start count role name size is counted =
-    ap (λ rs. length (row_at rs row)) is ∙ ap (λ (r : List Cell). length r) (row_at-appended old row (drawn role name)) ∙ omega (arith, size, counted, length-append (row_at old row) (drawn role name), length-drawn role name)
+    ap (λ rs. length (row_at rs row)) is ∙ ap (λ (r : List Cell). length r) (row_at-appended old row (text_cells role name)) ∙ omega (arith, size, counted, length-append (row_at old row) (text_cells role name), length-text_cells role name)
 
 -- the columns of a label's parts
 width_of-three : (a b c : List ℕ) → width_of (a ++ b ++ c) ≡ width_of a + width_of b + width_of c

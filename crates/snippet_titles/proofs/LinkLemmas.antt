@@ -10,8 +10,8 @@ use Rattle.std.proofs.lemmas.List.Splits.{length-slice_split}
 use Rattle.snippet_style.specs.declared.glyphs.DecorStyle.{DecorStyle}
 use Rattle.snippet_style.specs.declared.glyphs.DecorStyle.TheVariants.{Ascii, Unicode}
 use Rattle.snippet_grid.specs.Grid.{linked}
-use Rattle.snippet_style.specs.Cell.{Cell, SPACE, drawn}
-use Rattle.snippet_grid.specs.Woven.{link_begun, links_behind, links_of}
+use Rattle.snippet_style.specs.Cell.{Cell, SPACE, text_cells}
+use Rattle.snippet_grid.specs.Woven.{link_begun, links_after, links_of}
 use Rattle.snippet_style.specs.declared.role.ElementStyle.{ElementStyle}
 use Rattle.snippet_style.specs.declared.role.ElementStyle.TheVariants.{LineNumber}
 use Rattle.snippet_text.specs.Normalized.{norm}
@@ -22,16 +22,16 @@ use Rattle.snippet_model.specs.Level.{name_of}
 use Rattle.snippet_titles.specs.declared.style.HeadingRoles.{HeadingRoles}
 use Rattle.snippet_titles.specs.declared.style.TitleStyle.{TitleStyle}
 use Rattle.snippet_titles.specs.declared.style.TitleStyle.TheVariants.{Title, Short, Message}
-use Rattle.snippet_titles.specs.Heading.{address_of, bracketed_cells, closing_of, colon_of, drawn_text, heading_lines, heading_rows, id_cells, indent_cells, label_cells, label_width, lines_below, linked_to, note_bar_of, note_sign_of, on_top, opening_of, roles_of, sign_cells, trimmed}
+use Rattle.snippet_titles.specs.Heading.{address_of, bracketed_cells, closing_of, colon_of, shown_text, heading_lines, heading_rows, id_cells, indent_cells, label_cells, label_width, lines_below, linked_to, note_bar_of, note_sign_of, on_top, opening_of, roles_of, sign_cells, trimmed}
 use Rattle.snippet_titles.specs.Title.{id_links, text_links, title_rows}
 
 -- a cell that links to nothing
 abbrev pub IsUnlinked : Cell → Type 0
 IsUnlinked cell = cell.link ≡ None
 
-pub drawn_unlinked : (r : ElementStyle) (cs : List ℕ) → All IsUnlinked (drawn r cs)
+pub drawn_unlinked : (r : ElementStyle) (cs : List ℕ) → All IsUnlinked (text_cells r cs)
 drawn_unlinked r [] = All-nil IsUnlinked
-drawn_unlinked r (c ∷ cs) = All-cons IsUnlinked _ (drawn r cs) refl (drawn_unlinked r cs)
+drawn_unlinked r (c ∷ cs) = All-cons IsUnlinked _ (text_cells r cs) refl (drawn_unlinked r cs)
 
 bar_unlinked : (decor : DecorStyle) (followed : Bool) → IsUnlinked (note_bar_of decor followed)
 bar_unlinked Ascii followed = refl
@@ -42,7 +42,7 @@ pub sign_unlinked : (style : TitleStyle) → All IsUnlinked (sign_cells style)
 sign_unlinked Title = All-nil IsUnlinked
 sign_unlinked Short = All-nil IsUnlinked
 sign_unlinked (Message place) =
-    let sign : List Cell = drawn LineNumber (note_sign_of place.decor place.followed) in
+    let sign : List Cell = text_cells LineNumber (note_sign_of place.decor place.followed) in
     All-append IsUnlinked (replicate (place.gutter + 1) SPACE) sign (All-replicate IsUnlinked (place.gutter + 1) SPACE refl) (drawn_unlinked LineNumber (note_sign_of place.decor place.followed))
 
 pub indent_unlinked : (style : TitleStyle) (width : ℕ) → All IsUnlinked (indent_cells style width)
@@ -53,78 +53,78 @@ indent_unlinked (Message place) width =
     let spaces : List Cell = replicate (width + 1) SPACE in
     All-append IsUnlinked (replicate (place.gutter + 1) SPACE) (bar ∷ spaces) (All-replicate IsUnlinked (place.gutter + 1) SPACE refl) (All-cons IsUnlinked bar spaces (bar_unlinked place.decor place.followed) (All-replicate IsUnlinked (width + 1) SPACE refl))
 
--- such cells link to nothing, behind others and before them
-pub links-behind : (last : Option (List ℕ)) (xs ys : List Cell) → All IsUnlinked ys → links_behind last (xs ++ ys) ≡ links_behind last xs
-links-behind last [] [] none = refl
-links-behind last [] (y ∷ ys) none =
+-- such cells link to nothing, after others and before them
+pub links-after : (last : Option (List ℕ)) (xs ys : List Cell) → All IsUnlinked ys → links_after last (xs ++ ys) ≡ links_after last xs
+links-after last [] [] none = refl
+links-after last [] (y ∷ ys) none =
     let here : y.link ≡ None = All-head IsUnlinked y ys none in
-    ap (λ l. link_begun last l ++ links_behind l ys) here ∙ links-behind None [] ys (All-tail IsUnlinked y ys none)
-links-behind last (x ∷ xs) ys none =
-    ap (λ (urls : List (List ℕ)). link_begun last x.link ++ urls) (links-behind x.link xs ys none)
+    ap (λ l. link_begun last l ++ links_after l ys) here ∙ links-after None [] ys (All-tail IsUnlinked y ys none)
+links-after last (x ∷ xs) ys none =
+    ap (λ (urls : List (List ℕ)). link_begun last x.link ++ urls) (links-after x.link xs ys none)
 
-pub links-before : (xs ys : List Cell) → All IsUnlinked xs → links_behind None (xs ++ ys) ≡ links_behind None ys
+pub links-before : (xs ys : List Cell) → All IsUnlinked xs → links_after None (xs ++ ys) ≡ links_after None ys
 links-before [] ys none = refl
 links-before (x ∷ xs) ys none =
     let here : x.link ≡ None = All-head IsUnlinked x xs none in
-    ap (λ l. link_begun None l ++ links_behind l (xs ++ ys)) here ∙ links-before xs ys (All-tail IsUnlinked x xs none)
+    ap (λ l. link_begun None l ++ links_after l (xs ++ ys)) here ∙ links-before xs ys (All-tail IsUnlinked x xs none)
 
 -- linked cells begin one link, if there are any
 same_link : (url : List ℕ) → link_begun (Some url) (Some url) ≡ []
 same_link url = rw (nat_list_eq_equiv.refl url) refl
 
-linked-links : (url : List ℕ) (r : ElementStyle) (cs : List ℕ) → links_behind (Some url) (map (linked url) (drawn r cs)) ≡ []
+linked-links : (url : List ℕ) (r : ElementStyle) (cs : List ℕ) → links_after (Some url) (map (linked url) (text_cells r cs)) ≡ []
 linked-links url r [] = refl
 linked-links url r (c ∷ cs) =
-    ap (λ (urls : List (List ℕ)). urls ++ links_behind (Some url) (map (linked url) (drawn r cs))) (same_link url) ∙ linked-links url r cs
+    ap (λ (urls : List (List ℕ)). urls ++ links_after (Some url) (map (linked url) (text_cells r cs))) (same_link url) ∙ linked-links url r cs
 
-links-linked : (address : Option (List ℕ)) (r : ElementStyle) (cs : List ℕ) → links_behind None (linked_to address (drawn r cs)) ≡ text_links address cs
+links-linked : (address : Option (List ℕ)) (r : ElementStyle) (cs : List ℕ) → links_after None (linked_to address (text_cells r cs)) ≡ text_links address cs
 links-linked None r [] = refl
-links-linked None r (c ∷ cs) = links-behind None [] (drawn r cs) (drawn_unlinked r cs)
+links-linked None r (c ∷ cs) = links-after None [] (text_cells r cs) (drawn_unlinked r cs)
 links-linked (Some url) r [] = refl
 links-linked (Some url) r (c ∷ cs) = ap (λ (urls : List (List ℕ)). url ∷ urls) (linked-links url r cs)
 
 -- an id's cells link to its address
-bracketed-links : (hidden : Bool) (r : ElementStyle) (address : Option (List ℕ)) (text : List ℕ) → links_behind None (bracketed_cells hidden r address (Some text)) ≡ text_links address (norm (chars text))
+bracketed-links : (hidden : Bool) (r : ElementStyle) (address : Option (List ℕ)) (text : List ℕ) → links_after None (bracketed_cells hidden r address (Some text)) ≡ text_links address (norm (chars text))
 bracketed-links hidden r address text =
-    let shown : List Cell = linked_to address (drawn r (norm (chars text))) in
-    let opening : List Cell = drawn r (opening_of hidden) in
-    links-behind None (opening ++ shown) (drawn r (closing_of hidden)) (drawn_unlinked r (closing_of hidden)) ∙ links-before opening shown (drawn_unlinked r (opening_of hidden)) ∙ links-linked address r (norm (chars text))
+    let shown : List Cell = linked_to address (text_cells r (norm (chars text))) in
+    let opening : List Cell = text_cells r (opening_of hidden) in
+    links-after None (opening ++ shown) (text_cells r (closing_of hidden)) (drawn_unlinked r (closing_of hidden)) ∙ links-before opening shown (drawn_unlinked r (opening_of hidden)) ∙ links-linked address r (norm (chars text))
 
-id-links : (hyperlink hidden : Bool) (r : ElementStyle) (id : Option Id) → links_behind None (id_cells hyperlink hidden r id) ≡ id_links hyperlink id
+id-links : (hyperlink hidden : Bool) (r : ElementStyle) (id : Option Id) → links_after None (id_cells hyperlink hidden r id) ≡ id_links hyperlink id
 id-links hyperlink hidden r None = refl
 id-links hyperlink hidden r (Some id) = of_text id.id refl
   where
-    of_text : (text : Option (CowStr Global)) → id.id ≡ text → links_behind None (id_cells hyperlink hidden r (Some id)) ≡ id_links hyperlink (Some id)
+    of_text : (text : Option (CowStr Global)) → id.id ≡ text → links_after None (id_cells hyperlink hidden r (Some id)) ≡ id_links hyperlink (Some id)
     of_text None is = rw is refl
     of_text (Some text) is =
         rw (is, append-nil (norm (chars (cow_str_bytes text)))) (bracketed-links hidden r (address_of hyperlink id) (cow_str_bytes text))
 
 -- so does a label, and the row that begins with it
-pub label-links : (hyperlink : Bool) (roles : HeadingRoles) (heading : Heading) → links_behind None (label_cells hyperlink roles heading) ≡ id_links hyperlink heading.id
+pub label-links : (hyperlink : Bool) (roles : HeadingRoles) (heading : Heading) → links_after None (label_cells hyperlink roles heading) ≡ id_links hyperlink heading.id
 unfolding label_cells
 label-links hyperlink roles heading =
     let hidden : Bool = is_hidden heading.level.name in
     let name : List ℕ = norm (chars (name_of heading.level)) in
     let id : List Cell = id_cells hyperlink hidden roles.label heading.id in
-    links-behind None (drawn roles.label name ++ id) (drawn roles.colon (colon_of hidden heading.id)) (drawn_unlinked roles.colon (colon_of hidden heading.id)) ∙ links-before (drawn roles.label name) id (drawn_unlinked roles.label name) ∙ id-links hyperlink hidden roles.label heading.id
+    links-after None (text_cells roles.label name ++ id) (text_cells roles.colon (colon_of hidden heading.id)) (drawn_unlinked roles.colon (colon_of hidden heading.id)) ∙ links-before (text_cells roles.label name) id (drawn_unlinked roles.label name) ∙ id-links hyperlink hidden roles.label heading.id
 
 -- rows of cells that link to nothing link to nothing
-unlinked_row : (cells : List Cell) (r : ElementStyle) (line : List ℕ) → All IsUnlinked cells → links_behind None (cells ++ drawn r line) ≡ []
+unlinked_row : (cells : List Cell) (r : ElementStyle) (line : List ℕ) → All IsUnlinked cells → links_after None (cells ++ text_cells r line) ≡ []
 unlinked_row cells r line none =
-    links-behind None [] (cells ++ drawn r line) (All-append IsUnlinked cells (drawn r line) none (drawn_unlinked r line))
+    links-after None [] (cells ++ text_cells r line) (All-append IsUnlinked cells (text_cells r line) none (drawn_unlinked r line))
 
-further-links : (further : List Cell) (r : ElementStyle) (lines : List (List ℕ)) → All IsUnlinked further → links_of (map (λ l. further ++ drawn r l) lines) ≡ []
+further-links : (further : List Cell) (r : ElementStyle) (lines : List (List ℕ)) → All IsUnlinked further → links_of (map (λ l. further ++ text_cells r l) lines) ≡ []
 further-links further r [] none = refl
 further-links further r (line ∷ lines) none =
-    ap (λ (urls : List (List ℕ)). urls ++ links_of (map (λ l. further ++ drawn r l) lines)) (unlinked_row further r line none) ∙ further-links further r lines none
+    ap (λ (urls : List (List ℕ)). urls ++ links_of (map (λ l. further ++ text_cells r l) lines)) (unlinked_row further r line none) ∙ further-links further r lines none
 
-pub lines-links : (first further : List Cell) (r : ElementStyle) (lines : List (List ℕ)) → 0 < length lines → All IsUnlinked further → links_of (lines_below first further r lines) ≡ links_behind None first
+pub lines-links : (first further : List Cell) (r : ElementStyle) (lines : List (List ℕ)) → 0 < length lines → All IsUnlinked further → links_of (lines_below first further r lines) ≡ links_after None first
 lines-links first further r [] some none = absurd (omega (arith, some))
 lines-links first further r (line ∷ lines) some none =
-    ap (λ (urls : List (List ℕ)). links_behind None (first ++ drawn r line) ++ urls) (further-links further r lines none) ∙ append-nil (links_behind None (first ++ drawn r line)) ∙ links-behind None first (drawn r line) (drawn_unlinked r line)
+    ap (λ (urls : List (List ℕ)). links_after None (first ++ text_cells r line) ++ urls) (further-links further r lines none) ∙ append-nil (links_after None (first ++ text_cells r line)) ∙ links-after None first (text_cells r line) (drawn_unlinked r line)
 
 -- rows that aren't there link to nothing
-on_top-links : (row : List Cell) (rows : List (List Cell)) → links_of (on_top row rows) ≡ links_behind None row ++ links_of rows
+on_top-links : (row : List Cell) (rows : List (List Cell)) → links_of (on_top row rows) ≡ links_after None row ++ links_of rows
 on_top-links [] [] = refl
 on_top-links [] (r ∷ rows) = refl
 on_top-links (cell ∷ cells) rows = refl
@@ -132,7 +132,7 @@ on_top-links (cell ∷ cells) rows = refl
 pub trimmed-links : (rows : List (List Cell)) → links_of (trimmed rows) ≡ links_of rows
 trimmed-links [] = refl
 trimmed-links (row ∷ rows) =
-    on_top-links row (trimmed rows) ∙ ap (λ urls. links_behind None row ++ urls) (trimmed-links rows)
+    on_top-links row (trimmed rows) ∙ ap (λ urls. links_after None row ++ urls) (trimmed-links rows)
 
 -- the addresses that a heading's rows link to
 pub heading_rows-links : (hyperlink : Bool) (style : TitleStyle) (heading : Heading) → links_of (heading_rows hyperlink style heading) ≡ id_links hyperlink heading.id
@@ -143,7 +143,7 @@ heading_rows-links hyperlink style heading =
     let first : List Cell = sign_cells style ++ label in
     let further : List Cell = indent_cells style (label_width heading) in
     let lines : List (List ℕ) = heading_lines heading in
-    trimmed-links (lines_below first further roles.text lines) ∙ lines-links first further roles.text lines (omega (arith, length-slice_split (λ c. c == 10) (drawn_text heading))) (indent_unlinked style (label_width heading)) ∙ links-before (sign_cells style) label (sign_unlinked style) ∙ label-links hyperlink roles heading
+    trimmed-links (lines_below first further roles.text lines) ∙ lines-links first further roles.text lines (omega (arith, length-slice_split (λ c. c == 10) (shown_text heading))) (indent_unlinked style (label_width heading)) ∙ links-before (sign_cells style) label (sign_unlinked style) ∙ label-links hyperlink roles heading
 
 -- and those of a title
 pub title_rows-links : (hyperlink : Bool) (title : the_title.Title) → links_of (title_rows hyperlink title) ≡ id_links hyperlink title.id

@@ -8,14 +8,14 @@ use Rattle.snippet_style.specs.declared.glyphs.DecorStyle.TheVariants.{Ascii, Un
 use Rattle.snippet_style.specs.declared.role.ElementStyle.{ElementStyle}
 use Rattle.snippet_style.specs.declared.role.ElementStyle.TheVariants.{LineAndColumn, LineNumber}
 use Rattle.snippet_style.specs.Glyphs.{closing_of, separator_of}
-use Rattle.snippet_style.specs.Cell.{SPACE, drawn, unlinked_cell}
-use Rattle.snippet_style.proofs.CellLemmas.{All-drawn}
+use Rattle.snippet_style.specs.Cell.{SPACE, text_cells, unlinked_cell}
+use Rattle.snippet_style.proofs.CellLemmas.{All-text_cells}
 use Rattle.snippet_text.specs.Normalized.{norm, is_listed}
 use Rattle.snippet_text.proofs.NormLemmas.{list_any-norm}
 use Rattle.snippet_model.specs.Rows.{IsFree, IsFreeCell}
 use Rattle.snippet_titles.specs.declared.origin.FileStart.{FileStart}
 use Rattle.snippet_titles.specs.declared.origin.FileStart.TheVariants.{Alone, First, Later, Secondary}
-use Rattle.snippet_titles.specs.declared.origin.OriginPlace.{OriginPlace}
+use Rattle.snippet_titles.specs.declared.origin.OriginLocation.{OriginLocation}
 use Rattle.snippet_titles.specs.declared.origin.OriginLayout.{OriginLayout}
 use Rattle.snippet_titles.specs.Origin.{file_glyph, file_row, origin_row, origin_text, place_text, padding_row, primary_head, secondary_head, nameless_head}
 use Rattle.snippet_style.specs.Separators.{separator_row, closing_row}
@@ -50,23 +50,23 @@ separator-unlisted : (decor : DecorStyle) → list_any is_listed (separator_of d
 separator-unlisted Ascii = refl
 separator-unlisted Unicode = refl
 
--- cells drawn of characters that aren't listed are free, behind spaces too
-drawn-free : (role : ElementStyle) (cs : List ℕ) → All (λ c. is_listed c ≡ false) cs → IsFree (drawn role cs)
-drawn-free role cs free =
-    All-drawn IsFreeCell role cs (All-weaker (λ c. is_listed c ≡ false) (λ c. IsFreeCell (unlinked_cell role c)) (λ c is. (is, refl)) cs free)
+-- cells drawn of characters that aren't listed are free, after spaces too
+text_cells-free : (role : ElementStyle) (cs : List ℕ) → All (λ c. is_listed c ≡ false) cs → IsFree (text_cells role cs)
+text_cells-free role cs free =
+    All-text_cells IsFreeCell role cs (All-weaker (λ c. is_listed c ≡ false) (λ c. IsFreeCell (unlinked_cell role c)) (λ c is. (is, refl)) cs free)
 
-behind_spaces-free : (n : ℕ) (role : ElementStyle) (cs : List ℕ) → list_any is_listed cs ≡ false → IsFree (replicate n SPACE ++ drawn role cs)
-behind_spaces-free n role cs none =
-    All-append IsFreeCell (replicate n SPACE) (drawn role cs) (All-replicate IsFreeCell n SPACE (refl, refl)) (drawn-free role cs (each-fails is_listed cs none))
+after_spaces-free : (n : ℕ) (role : ElementStyle) (cs : List ℕ) → list_any is_listed cs ≡ false → IsFree (replicate n SPACE ++ text_cells role cs)
+after_spaces-free n role cs none =
+    All-append IsFreeCell (replicate n SPACE) (text_cells role cs) (All-replicate IsFreeCell n SPACE (refl, refl)) (text_cells-free role cs (each-fails is_listed cs none))
 
 -- the rows that set others off are free
 pub separator_row-free : (decor : DecorStyle) (gutter : ℕ) → IsFree (separator_row decor gutter)
 separator_row-free decor gutter =
-    behind_spaces-free (gutter + 1) LineNumber (separator_of decor ∷ []) (separator-unlisted decor)
+    after_spaces-free (gutter + 1) LineNumber (separator_of decor ∷ []) (separator-unlisted decor)
 
 pub closing_row-free : (decor : DecorStyle) (gutter : ℕ) → IsFree (closing_row decor gutter)
 closing_row-free decor gutter =
-    behind_spaces-free (gutter + 1) LineNumber (closing_of decor) (closing-unlisted decor)
+    after_spaces-free (gutter + 1) LineNumber (closing_of decor) (closing-unlisted decor)
 
 pub padding_row-free : (decor : DecorStyle) (gutter : ℕ) (last : Bool) → IsFree (padding_row decor gutter last)
 padding_row-free decor gutter true = closing_row-free decor gutter
@@ -76,29 +76,29 @@ padding_row-free decor gutter false = separator_row-free decor gutter
 pub file_row-free : (layout : OriginLayout) (start : FileStart) → IsFree (file_row layout start)
 unfolding file_row
 file_row-free layout start =
-    behind_spaces-free layout.gutter LineNumber (file_glyph start layout.decor) (glyphs-unlisted start layout.decor)
+    after_spaces-free layout.gutter LineNumber (file_glyph start layout.decor) (glyphs-unlisted start layout.decor)
 
 digit-unlisted : (c : ℕ) → IsDigit c → is_listed c ≡ false
 digit-unlisted c is = grind (arith, nat_tests)
 
-origin_text-free : (anonymized : Bool) (path : List ℕ) (place : OriginPlace) → All (λ c. is_listed c ≡ false) (origin_text anonymized path place)
+origin_text-free : (anonymized : Bool) (path : List ℕ) (place : OriginLocation) → All (λ c. is_listed c ≡ false) (origin_text anonymized path place)
 unfolding origin_text
 origin_text-free anonymized path place =
     let P : ℕ → Type 0 = λ c. is_listed c ≡ false in
     All-append P (norm (chars path)) (place_text anonymized place) (each-fails is_listed (norm (chars path)) (list_any-norm (chars path))) (place_text-each P digit-unlisted refl refl anonymized place)
 
-pub origin_row-free : (layout : OriginLayout) (start : FileStart) (path : List ℕ) (place : OriginPlace) → IsFree (origin_row layout start path place)
+pub origin_row-free : (layout : OriginLayout) (start : FileStart) (path : List ℕ) (place : OriginLocation) → IsFree (origin_row layout start path place)
 unfolding origin_row
 origin_row-free layout start path place =
     let text : List ℕ = origin_text layout.anonymized path place in
-    All-append IsFreeCell (file_row layout start) (drawn LineAndColumn text) (file_row-free layout start) (drawn-free LineAndColumn text (origin_text-free layout.anonymized path place))
+    All-append IsFreeCell (file_row layout start) (text_cells LineAndColumn text) (file_row-free layout start) (text_cells-free LineAndColumn text (origin_text-free layout.anonymized path place))
 
 -- and so are the heads of snippets
-pub primary_head-free : (layout : OriginLayout) (first : Bool) (path : List ℕ) (place : OriginPlace) → All IsFree (primary_head layout first path place)
+pub primary_head-free : (layout : OriginLayout) (first : Bool) (path : List ℕ) (place : OriginLocation) → All IsFree (primary_head layout first path place)
 primary_head-free layout first path place =
     primary_head-each IsFree layout (separator_row-free layout.decor layout.gutter) path place (λ start. origin_row-free layout start path place) first
 
-pub secondary_head-free : (layout : OriginLayout) (path : List ℕ) (place : OriginPlace) → All IsFree (secondary_head layout path place)
+pub secondary_head-free : (layout : OriginLayout) (path : List ℕ) (place : OriginLocation) → All IsFree (secondary_head layout path place)
 secondary_head-free layout path place =
     secondary_head-each IsFree layout (separator_row-free layout.decor layout.gutter) path place (λ start. origin_row-free layout start path place)
 

@@ -8,12 +8,12 @@ use Rattle.snippet_style.specs.declared.glyphs.DecorStyle.{DecorStyle}
 use Rattle.snippet_style.specs.declared.glyphs.DecorStyle.TheVariants.{Ascii, Unicode}
 use Rattle.snippet_style.specs.declared.role.ElementStyle.TheVariants.{LineAndColumn, LineNumber}
 use Rattle.snippet_style.specs.Glyphs.{closing_of, separator_of}
-use Rattle.snippet_style.specs.Cell.{Cell, SPACE, drawn}
-use Rattle.snippet_style.proofs.CellLemmas.{All-drawn, length-drawn}
+use Rattle.snippet_style.specs.Cell.{Cell, SPACE, text_cells}
+use Rattle.snippet_style.proofs.CellLemmas.{All-text_cells, length-text_cells}
 use Rattle.snippet_model.specs.Rows.{HasNoNumber}
 use Rattle.snippet_titles.specs.declared.origin.FileStart.{FileStart}
 use Rattle.snippet_titles.specs.declared.origin.FileStart.TheVariants.{Alone, First, Later, Secondary}
-use Rattle.snippet_titles.specs.declared.origin.OriginPlace.{OriginPlace}
+use Rattle.snippet_titles.specs.declared.origin.OriginLocation.{OriginLocation}
 use Rattle.snippet_titles.specs.declared.origin.OriginLayout.{OriginLayout}
 use Rattle.snippet_titles.specs.Origin.{file_glyph, file_row, origin_row, origin_text, padding_row, primary_head, secondary_head, nameless_head}
 use Rattle.snippet_style.specs.Separators.{separator_row, closing_row}
@@ -32,7 +32,7 @@ glyphs-unnumbered Later Unicode = refl
 glyphs-unnumbered Secondary Ascii = refl
 glyphs-unnumbered Secondary Unicode = refl
 
--- cells that hold no letter or digit and reach past the gutter, with others behind them
+-- cells that hold no letter or digit and reach past the gutter, with others after them
 abbrev pub IsPlain : Cell → Type 0
 IsPlain cell = is_ascii_alphanumeric cell.ch ≡ false
 
@@ -45,17 +45,17 @@ spaces-plain : (n : ℕ) → All IsPlain (replicate n SPACE)
 spaces-plain n = All-replicate IsPlain n SPACE refl
 
 -- no number stands in the rows that set others off
-behind_spaces-unnumbered : (gutter : ℕ) (others : List Cell) → HasNoNumber gutter (replicate (gutter + 1) SPACE ++ others)
-behind_spaces-unnumbered gutter others =
+after_spaces-unnumbered : (gutter : ℕ) (others : List Cell) → HasNoNumber gutter (replicate (gutter + 1) SPACE ++ others)
+after_spaces-unnumbered gutter others =
     front-unnumbered gutter (replicate (gutter + 1) SPACE) others (omega (arith, length-replicate (gutter + 1) SPACE)) (spaces-plain (gutter + 1))
 
 pub separator_row-unnumbered : (decor : DecorStyle) (gutter : ℕ) → HasNoNumber gutter (separator_row decor gutter)
 separator_row-unnumbered decor gutter =
-    behind_spaces-unnumbered gutter (drawn LineNumber (separator_of decor ∷ []))
+    after_spaces-unnumbered gutter (text_cells LineNumber (separator_of decor ∷ []))
 
 pub closing_row-unnumbered : (decor : DecorStyle) (gutter : ℕ) → HasNoNumber gutter (closing_row decor gutter)
 closing_row-unnumbered decor gutter =
-    behind_spaces-unnumbered gutter (drawn LineNumber (closing_of decor))
+    after_spaces-unnumbered gutter (text_cells LineNumber (closing_of decor))
 
 pub padding_row-unnumbered : (decor : DecorStyle) (gutter : ℕ) (last : Bool) → HasNoNumber gutter (padding_row decor gutter last)
 padding_row-unnumbered decor gutter true = closing_row-unnumbered decor gutter
@@ -66,29 +66,29 @@ file_row-long : (layout : OriginLayout) (start : FileStart) → layout.gutter < 
 unfolding file_row
 file_row-long layout start =
     let glyph : List ℕ = file_glyph start layout.decor in
-    omega (arith, length-append (replicate layout.gutter SPACE) (drawn LineNumber glyph), length-replicate layout.gutter SPACE, length-drawn LineNumber glyph, file_glyph-some start layout.decor)
+    omega (arith, length-append (replicate layout.gutter SPACE) (text_cells LineNumber glyph), length-replicate layout.gutter SPACE, length-text_cells LineNumber glyph, file_glyph-some start layout.decor)
 
 file_row-plain : (layout : OriginLayout) (start : FileStart) → All IsPlain (file_row layout start)
 unfolding file_row
 file_row-plain layout start =
     let glyph : List ℕ = file_glyph start layout.decor in
-    All-append IsPlain (replicate layout.gutter SPACE) (drawn LineNumber glyph) (spaces-plain layout.gutter) (All-drawn IsPlain LineNumber glyph (each-fails is_ascii_alphanumeric glyph (glyphs-unnumbered start layout.decor)))
+    All-append IsPlain (replicate layout.gutter SPACE) (text_cells LineNumber glyph) (spaces-plain layout.gutter) (All-text_cells IsPlain LineNumber glyph (each-fails is_ascii_alphanumeric glyph (glyphs-unnumbered start layout.decor)))
 
-pub origin_row-unnumbered : (layout : OriginLayout) (start : FileStart) (path : List ℕ) (place : OriginPlace) → HasNoNumber layout.gutter (origin_row layout start path place)
+pub origin_row-unnumbered : (layout : OriginLayout) (start : FileStart) (path : List ℕ) (place : OriginLocation) → HasNoNumber layout.gutter (origin_row layout start path place)
 unfolding origin_row
 origin_row-unnumbered layout start path place =
-    front-unnumbered layout.gutter (file_row layout start) (drawn LineAndColumn (origin_text layout.anonymized path place)) (file_row-long layout start) (file_row-plain layout start)
+    front-unnumbered layout.gutter (file_row layout start) (text_cells LineAndColumn (origin_text layout.anonymized path place)) (file_row-long layout start) (file_row-plain layout start)
 
 pub file_row-unnumbered : (layout : OriginLayout) (start : FileStart) → HasNoNumber layout.gutter (file_row layout start)
 file_row-unnumbered layout start c within =
     All-get_or IsPlain (file_row layout start) c SPACE (omega (arith, within, file_row-long layout start)) (file_row-plain layout start)
 
 -- nor in the heads of snippets
-pub primary_head-unnumbered : (layout : OriginLayout) (first : Bool) (path : List ℕ) (place : OriginPlace) → All (HasNoNumber layout.gutter) (primary_head layout first path place)
+pub primary_head-unnumbered : (layout : OriginLayout) (first : Bool) (path : List ℕ) (place : OriginLocation) → All (HasNoNumber layout.gutter) (primary_head layout first path place)
 primary_head-unnumbered layout first path place =
     primary_head-each (HasNoNumber layout.gutter) layout (separator_row-unnumbered layout.decor layout.gutter) path place (λ start. origin_row-unnumbered layout start path place) first
 
-pub secondary_head-unnumbered : (layout : OriginLayout) (path : List ℕ) (place : OriginPlace) → All (HasNoNumber layout.gutter) (secondary_head layout path place)
+pub secondary_head-unnumbered : (layout : OriginLayout) (path : List ℕ) (place : OriginLocation) → All (HasNoNumber layout.gutter) (secondary_head layout path place)
 secondary_head-unnumbered layout path place =
     secondary_head-each (HasNoNumber layout.gutter) layout (separator_row-unnumbered layout.decor layout.gutter) path place (λ start. origin_row-unnumbered layout start path place)
 

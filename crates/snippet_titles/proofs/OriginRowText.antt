@@ -4,15 +4,15 @@ use Rattle.std.specs.Fmt.{decimal}
 use Rattle.std.proofs.lemmas.List.{append_assoc, length-append, length-replicate}
 use Rattle.std.proofs.Math.Seq.{drop-append_seam}
 use Rattle.snippet_style.specs.declared.role.ElementStyle.TheVariants.{LineAndColumn, LineNumber}
-use Rattle.snippet_style.specs.Cell.{SPACE, drawn}
+use Rattle.snippet_style.specs.Cell.{SPACE, text_cells}
 use Rattle.snippet_grid.specs.Print.{row_text}
-use Rattle.snippet_style.proofs.CellLemmas.{length-drawn}
+use Rattle.snippet_style.proofs.CellLemmas.{length-text_cells}
 use Rattle.snippet_text.specs.Normalized.{norm}
 use Rattle.snippet_titles.specs.declared.origin.FileStart.{FileStart}
-use Rattle.snippet_titles.specs.declared.origin.OriginPlace.{OriginPlace}
+use Rattle.snippet_titles.specs.declared.origin.OriginLocation.{OriginLocation}
 use Rattle.snippet_titles.specs.declared.origin.OriginLayout.{OriginLayout}
 use Rattle.snippet_titles.specs.Origin.{line_name, file_glyph, file_row, origin_row, origin_text}
-use Rattle.snippet_titles.proofs.TextLemmas.{row_text-append, row_text-drawn, row_text-spaces}
+use Rattle.snippet_titles.proofs.TextLemmas.{row_text-append, row_text-text_cells, row_text-spaces}
 
 -- what leads to the path: spaces and a glyph
 abbrev pub front_text : OriginLayout → FileStart → List ℕ
@@ -22,23 +22,23 @@ row_text-file : (layout : OriginLayout) (start : FileStart) → row_text (file_r
 unfolding file_row
 row_text-file layout start =
     let glyph : List ℕ = file_glyph start layout.decor in
-    row_text-append (replicate layout.gutter SPACE) (drawn LineNumber glyph) ∙ ap (λ cs. cs ++ row_text (drawn LineNumber glyph)) (row_text-spaces layout.gutter) ∙ ap (λ cs. replicate layout.gutter 32 ++ cs) (row_text-drawn LineNumber glyph)
+    row_text-append (replicate layout.gutter SPACE) (text_cells LineNumber glyph) ∙ ap (λ cs. cs ++ row_text (text_cells LineNumber glyph)) (row_text-spaces layout.gutter) ∙ ap (λ cs. replicate layout.gutter 32 ++ cs) (row_text-text_cells LineNumber glyph)
 
 -- the row's characters end with the path and its place
-pub row_text-origin : (layout : OriginLayout) (start : FileStart) (path : List ℕ) (place : OriginPlace) → row_text (origin_row layout start path place) ≡ front_text layout start ++ origin_text layout.anonymized path place
+pub row_text-origin : (layout : OriginLayout) (start : FileStart) (path : List ℕ) (place : OriginLocation) → row_text (origin_row layout start path place) ≡ front_text layout start ++ origin_text layout.anonymized path place
 unfolding origin_row
 row_text-origin layout start path place =
     let text : List ℕ = origin_text layout.anonymized path place in
-    row_text-append (file_row layout start) (drawn LineAndColumn text) ∙ ap (λ cs. cs ++ row_text (drawn LineAndColumn text)) (row_text-file layout start) ∙ ap (λ cs. front_text layout start ++ cs) (row_text-drawn LineAndColumn text)
+    row_text-append (file_row layout start) (text_cells LineAndColumn text) ∙ ap (λ cs. cs ++ row_text (text_cells LineAndColumn text)) (row_text-file layout start) ∙ ap (λ cs. front_text layout start ++ cs) (row_text-text_cells LineAndColumn text)
 
--- they stand behind the glyph
-pub origin_row-behind : (layout : OriginLayout) (start : FileStart) (path : List ℕ) (place : OriginPlace) → drop (layout.gutter + length (file_glyph start layout.decor)) (origin_row layout start path place) ≡ drawn LineAndColumn (origin_text layout.anonymized path place)
+-- they stand after the glyph
+pub origin_row-after : (layout : OriginLayout) (start : FileStart) (path : List ℕ) (place : OriginLocation) → drop (layout.gutter + length (file_glyph start layout.decor)) (origin_row layout start path place) ≡ text_cells LineAndColumn (origin_text layout.anonymized path place)
 unfolding origin_row file_row
-origin_row-behind layout start path place =
+origin_row-after layout start path place =
     let glyph : List ℕ = file_glyph start layout.decor in
     let text : List ℕ = origin_text layout.anonymized path place in
-    let size : length (file_row layout start) ≡ layout.gutter + length glyph = omega (arith, length-append (replicate layout.gutter SPACE) (drawn LineNumber glyph), length-replicate layout.gutter SPACE, length-drawn LineNumber glyph) in
-    ap (λ n. drop n (file_row layout start ++ drawn LineAndColumn text)) (sym size) ∙ drop-append_seam (file_row layout start) (drawn LineAndColumn text)
+    let size : length (file_row layout start) ≡ layout.gutter + length glyph = omega (arith, length-append (replicate layout.gutter SPACE) (text_cells LineNumber glyph), length-replicate layout.gutter SPACE, length-text_cells LineNumber glyph) in
+    ap (λ n. drop n (file_row layout start ++ text_cells LineAndColumn text)) (sym size) ∙ drop-append_seam (file_row layout start) (text_cells LineAndColumn text)
 
 -- a path whose line and column are both named: the path, a colon, the line, a colon, the column
 pub origin_text-named : (anonymized : Bool) (path : List ℕ) (line column : ℕ) → origin_text anonymized path (record { line = Some line; column = Some column }) ≡ norm (chars path) ++ codes ":" ++ line_name anonymized line ++ codes ":" ++ decimal column

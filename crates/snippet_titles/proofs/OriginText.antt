@@ -1,4 +1,4 @@
--- The characters of a path and of the place behind it.
+-- The characters of a path and of the place after it.
 use Rattle.std.proofs.Common.{◌≡◌, ℕ, ◌<◌, Bool, true, false, Option, None, Some, List, [], ◌∷◌, ◌++◌, All, chars, codes, ap, ◌∙◌, arith}
 use Rattle.std.specs.Fmt.{decimal}
 use Rattle.std.specs.Str.{IsUtf8}
@@ -6,11 +6,11 @@ use Rattle.std.proofs.lemmas.List.Elements.{All-nil, All-cons, All-append, All-w
 use Rattle.std.proofs.lemmas.Str.{chars-append, chars-IsAscii}
 use Rattle.std.proofs.lemmas.Str.Ascii.{IsAscii-from_all}
 use Rattle.snippet_text.specs.Normalized.{norm}
-use Rattle.snippet_titles.specs.declared.origin.OriginPlace.{OriginPlace}
+use Rattle.snippet_titles.specs.declared.origin.OriginLocation.{OriginLocation}
 use Rattle.snippet_titles.specs.Origin.{line_name, column_text, line_text, place_text, origin_text}
 use Rattle.snippet_titles.proofs.DigitLemmas.{IsDigit, decimal-all}
 
--- a fact that holds of the digits, of a colon and of an L holds of each character behind a path
+-- a fact that holds of the digits, of a colon and of an L holds of each character after a path
 module _ (P : ℕ → Type 0) (digit : (c : ℕ) → IsDigit c → P c) (colon : P 58) (letter : P 76) where
   decimal-each : (n : ℕ) → All P (decimal n)
   decimal-each n = All-weaker IsDigit P digit (decimal n) (decimal-all n)
@@ -28,16 +28,16 @@ module _ (P : ℕ → Type 0) (digit : (c : ℕ) → IsDigit c → P c) (colon :
   line_text-each anonymized (Some line) column =
       All-append P (codes ":" ++ line_name anonymized line) (column_text column) (All-cons P 58 (line_name anonymized line) colon (line_name-each anonymized line)) (column_text-each column)
 
-  pub place_text-each : (anonymized : Bool) (place : OriginPlace) → All P (place_text anonymized place)
+  pub place_text-each : (anonymized : Bool) (place : OriginLocation) → All P (place_text anonymized place)
   place_text-each anonymized place = line_text-each anonymized place.line place.column
 
 -- they are their own bytes
-place_text-chars : (anonymized : Bool) (place : OriginPlace) → chars (place_text anonymized place) ≡ place_text anonymized place
+place_text-chars : (anonymized : Bool) (place : OriginLocation) → chars (place_text anonymized place) ≡ place_text anonymized place
 place_text-chars anonymized place =
     chars-IsAscii (place_text anonymized place) (IsAscii-from_all (place_text anonymized place) (place_text-each (λ c. c < 128) (λ c is. omega (arith, is.1)) (omega arith) (omega arith) anonymized place))
 
 -- a normalised path, and the place added to it
-pub origin_text-added : (path before after : List ℕ) (anonymized : Bool) (place : OriginPlace) → IsUtf8 before → chars before ≡ norm (chars path) → after ≡ before ++ place_text anonymized place → chars after ≡ origin_text anonymized path place
+pub origin_text-added : (path before after : List ℕ) (anonymized : Bool) (place : OriginLocation) → IsUtf8 before → chars before ≡ norm (chars path) → after ≡ before ++ place_text anonymized place → chars after ≡ origin_text anonymized path place
 unfolding origin_text
 origin_text-added path before after anonymized place utf8 shown added =
     ap chars added ∙ chars-append before (place_text anonymized place) utf8 ∙ ap (λ cs. cs ++ chars (place_text anonymized place)) shown ∙ ap (λ cs. norm (chars path) ++ cs) (place_text-chars anonymized place)

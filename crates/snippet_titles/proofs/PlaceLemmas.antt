@@ -10,22 +10,22 @@ use Rattle.std.proofs.lemmas.List.Splits.{length-slice_split}
 use Rattle.std.proofs.lemmas.List.{append-nil, append_assoc, get_or-map, get_or_past, length-map, length-append, places}
 use Rattle.std.proofs.lemmas.List.Elements.{All-nil, All-append, All-get_or}
 use Rattle.snippet_grid.specs.Grid.{cell_at, linked}
-use Rattle.snippet_style.specs.Cell.{Cell, SPACE, drawn}
+use Rattle.snippet_style.specs.Cell.{Cell, SPACE, text_cells}
 use Rattle.snippet_style.specs.declared.role.ElementStyle.{ElementStyle}
-use Rattle.snippet_style.proofs.CellLemmas.{length-drawn}
+use Rattle.snippet_style.proofs.CellLemmas.{length-text_cells}
 use Rattle.snippet_text.specs.Normalized.{norm}
 use Rattle.snippet_model.specs.declared.snippet.Id.{Id}
 use Rattle.snippet_model.specs.Heading.{Heading, is_hidden}
 use Rattle.snippet_model.specs.Level.{name_of}
 use Rattle.snippet_titles.specs.declared.style.HeadingRoles.{HeadingRoles}
 use Rattle.snippet_titles.specs.declared.style.TitleStyle.{TitleStyle}
-use Rattle.snippet_titles.specs.Heading.{address_of, bracketed_cells, closing_of, colon_of, drawn_text, heading_lines, heading_rows, id_cells, indent_cells, label_cells, label_width, lines_below, linked_to, opening_of, roles_of, sign_cells}
+use Rattle.snippet_titles.specs.Heading.{address_of, bracketed_cells, closing_of, colon_of, shown_text, heading_lines, heading_rows, id_cells, indent_cells, label_cells, label_width, lines_below, linked_to, opening_of, roles_of, sign_cells}
 use Rattle.snippet_titles.specs.Shown.{LinksId, id_start, is_id_cell}
 use Rattle.snippet_titles.specs.Title.{id_address, id_chars}
 use Rattle.snippet_titles.proofs.EndLemmas.{row_at-trimmed}
 use Rattle.snippet_titles.proofs.LinkLemmas.{IsUnlinked, drawn_unlinked, indent_unlinked, sign_unlinked}
 
--- no cell of such a row links to anything, nor does any behind it
+-- no cell of such a row links to anything, nor does any after it
 unlinked_at : (row : List Cell) → All IsUnlinked row → (c : ℕ) → (get_or row c SPACE).link ≡ None
 unlinked_at row all c =
     elim (cases_lt c (length row)) [
@@ -34,10 +34,10 @@ unlinked_at row all c =
     ]
 
 -- in cells that link to an address each does
-linked_at : (address : Option (List ℕ)) (r : ElementStyle) (cs : List ℕ) (c : ℕ) → c < length cs → (get_or (linked_to address (drawn r cs)) c SPACE).link ≡ address
-linked_at None r cs c within = unlinked_at (drawn r cs) (drawn_unlinked r cs) c
+linked_at : (address : Option (List ℕ)) (r : ElementStyle) (cs : List ℕ) (c : ℕ) → c < length cs → (get_or (linked_to address (text_cells r cs)) c SPACE).link ≡ address
+linked_at None r cs c within = unlinked_at (text_cells r cs) (drawn_unlinked r cs) c
 linked_at (Some url) r cs c within =
-    ap (λ (cell : Cell). cell.link) (get_or-map (linked url) (drawn r cs) c SPACE SPACE (omega (arith, within, length-drawn r cs)))
+    ap (λ (cell : Cell). cell.link) (get_or-map (linked url) (text_cells r cs) c SPACE SPACE (omega (arith, within, length-text_cells r cs)))
 
 length-linked_to : (address : Option (List ℕ)) (cells : List Cell) → length (linked_to address cells) ≡ length cells
 length-linked_to None cells = refl
@@ -52,13 +52,13 @@ module _ (xs ys zs : List Cell) where
   other_parts first third c outside =
       elim (cases_lt c (length xs)) [
         | inl left ↦ (let same : get_or (xs ++ (ys ++ zs)) c SPACE ≡ get_or xs c SPACE = grind (arith, places) in ap (λ (cell : Cell). cell.link) same ∙ unlinked_at xs first c)
-        | inr behind ↦ elim (cases_lt c (length xs + length ys)) [
-          | inl inside ↦ absurd (outside (omega (arith, behind)) inside)
+        | inr after ↦ elim (cases_lt c (length xs + length ys)) [
+          | inl inside ↦ absurd (outside (omega (arith, after)) inside)
           | inr right ↦ (let same : get_or (xs ++ (ys ++ zs)) c SPACE ≡ get_or zs (c - length xs - length ys) SPACE = grind (arith, places) in ap (λ (cell : Cell). cell.link) same ∙ unlinked_at zs third (c - length xs - length ys))
         ]
       ]
 
--- a first row in three parts: what stands before an id's text, the text, and what stands behind it
+-- a first row in three parts: what stands before an id's text, the text, and what stands after it
 regrouped : (s n o l k c e : List Cell) → (s ++ ((n ++ ((o ++ l) ++ k)) ++ c)) ++ e ≡ (s ++ (n ++ o)) ++ (l ++ ((k ++ c) ++ e))
 regrouped s n o l k c e =
     let p : List Cell = n ++ o in
@@ -72,13 +72,13 @@ module _ (hyperlink : Bool) (style : TitleStyle) (roles : HeadingRoles) (heading
   name_chars = norm (chars (name_of heading.level))
 
   abbrev name : List Cell
-  name = drawn roles.label name_chars
+  name = text_cells roles.label name_chars
 
   abbrev colon : List Cell
-  colon = drawn roles.colon (colon_of hidden heading.id)
+  colon = text_cells roles.colon (colon_of hidden heading.id)
 
   abbrev rest : List Cell
-  rest = drawn roles.text line
+  rest = text_cells roles.text line
 
   abbrev row : List Cell
   row = (sign_cells style ++ label_cells hyperlink roles heading) ++ rest
@@ -86,48 +86,48 @@ module _ (hyperlink : Bool) (style : TitleStyle) (roles : HeadingRoles) (heading
   -- where the id shows a text
   module _ (id : Id) (text : List ℕ) (own : heading.id ≡ Some id) (given : option_map cow_str_bytes id.id ≡ Some text) where
     abbrev opening : List Cell
-    opening = drawn roles.label (opening_of hidden)
+    opening = text_cells roles.label (opening_of hidden)
 
     abbrev closing : List Cell
-    closing = drawn roles.label (closing_of hidden)
+    closing = text_cells roles.label (closing_of hidden)
 
     abbrev before : List Cell
     before = sign_cells style ++ (name ++ opening)
 
     abbrev shown : List Cell
-    shown = linked_to (address_of hyperlink id) (drawn roles.label (norm (chars text)))
+    shown = linked_to (address_of hyperlink id) (text_cells roles.label (norm (chars text)))
 
-    abbrev behind : List Cell
-    behind = closing ++ colon ++ rest
+    abbrev after : List Cell
+    after = closing ++ colon ++ rest
 
-    in_parts : row ≡ before ++ (shown ++ behind)
+    in_parts : row ≡ before ++ (shown ++ after)
     unfolding label_cells
     in_parts =
         ap (λ (i : Option Id). (sign_cells style ++ (name ++ id_cells hyperlink hidden roles.label i ++ colon)) ++ rest) own ∙ ap (λ t. (sign_cells style ++ (name ++ bracketed_cells hidden roles.label (address_of hyperlink id) t ++ colon)) ++ rest) given ∙ regrouped (sign_cells style) name opening shown closing colon rest
 
     length-before : length before ≡ id_start style heading
     length-before =
-        omega (arith, length-append (sign_cells style) (name ++ opening), length-append name opening, length-drawn roles.label name_chars, length-drawn roles.label (opening_of hidden))
+        omega (arith, length-append (sign_cells style) (name ++ opening), length-append name opening, length-text_cells roles.label name_chars, length-text_cells roles.label (opening_of hidden))
 
     length-shown : length shown ≡ length (norm (chars text))
     length-shown =
-        length-linked_to (address_of hyperlink id) (drawn roles.label (norm (chars text))) ∙ length-drawn roles.label (norm (chars text))
+        length-linked_to (address_of hyperlink id) (text_cells roles.label (norm (chars text))) ∙ length-text_cells roles.label (norm (chars text))
 
     before_unlinked : All IsUnlinked before
     before_unlinked =
         All-append IsUnlinked (sign_cells style) (name ++ opening) (sign_unlinked style) (All-append IsUnlinked name opening (drawn_unlinked roles.label name_chars) (drawn_unlinked roles.label (opening_of hidden)))
 
-    behind_unlinked : All IsUnlinked behind
-    behind_unlinked =
+    after_unlinked : All IsUnlinked after
+    after_unlinked =
         All-append IsUnlinked (closing ++ colon) rest (All-append IsUnlinked closing colon (drawn_unlinked roles.label (closing_of hidden)) (drawn_unlinked roles.colon (colon_of hidden heading.id))) (drawn_unlinked roles.text line)
 
     text_linked : (c : ℕ) → c < length (norm (chars text)) → (get_or row (id_start style heading + c) SPACE).link ≡ address_of hyperlink id
     text_linked c within =
-        ap (λ (r : List Cell). (get_or r (id_start style heading + c) SPACE).link) in_parts ∙ ap (λ n. (get_or (before ++ (shown ++ behind)) (n + c) SPACE).link) (sym length-before) ∙ ap (λ (cell : Cell). cell.link) (second_part before shown behind c (omega (arith, within, length-shown))) ∙ linked_at (address_of hyperlink id) roles.label (norm (chars text)) c within
+        ap (λ (r : List Cell). (get_or r (id_start style heading + c) SPACE).link) in_parts ∙ ap (λ n. (get_or (before ++ (shown ++ after)) (n + c) SPACE).link) (sym length-before) ∙ ap (λ (cell : Cell). cell.link) (second_part before shown after c (omega (arith, within, length-shown))) ∙ linked_at (address_of hyperlink id) roles.label (norm (chars text)) c within
 
     others_unlinked : (c : ℕ) → (id_start style heading ≤ c → c < id_start style heading + length (norm (chars text)) → ⊥) → (get_or row c SPACE).link ≡ None
     others_unlinked c outside =
-        ap (λ (r : List Cell). (get_or r c SPACE).link) in_parts ∙ other_parts before shown behind before_unlinked behind_unlinked c (λ from to. outside (omega (arith, from, length-before)) (omega (arith, to, length-before, length-shown)))
+        ap (λ (r : List Cell). (get_or r c SPACE).link) in_parts ∙ other_parts before shown after before_unlinked after_unlinked c (λ from to. outside (omega (arith, from, length-before)) (omega (arith, to, length-before, length-shown)))
 
   -- where no id shows a text
   bare_unlinked : id_cells hyperlink hidden roles.label heading.id ≡ [] → (c : ℕ) → (get_or row c SPACE).link ≡ None
@@ -158,11 +158,11 @@ module _ (hyperlink : Bool) (style : TitleStyle) (roles : HeadingRoles) (heading
 first_places : (hyperlink : Bool) (style : TitleStyle) (roles : HeadingRoles) (heading : Heading) (line : List ℕ) → LinksIn hyperlink style roles heading line heading.id
 first_places hyperlink style roles heading line = links_in hyperlink style roles heading line heading.id refl
 
-further_at : (further : List Cell) (r : ElementStyle) (lines : List (List ℕ)) (k c : ℕ) → All IsUnlinked further → (cell_at (map (λ l. further ++ drawn r l) lines) k c).link ≡ None
+further_at : (further : List Cell) (r : ElementStyle) (lines : List (List ℕ)) (k c : ℕ) → All IsUnlinked further → (cell_at (map (λ l. further ++ text_cells r l) lines) k c).link ≡ None
 further_at further r lines k c none =
     elim (cases_lt k (length lines)) [
-      | inl within ↦ ap (λ (row : List Cell). (get_or row c SPACE).link) (get_or-map (λ l. further ++ drawn r l) lines k [] [] within) ∙ unlinked_at (further ++ drawn r (get_or lines k [])) (All-append IsUnlinked further (drawn r (get_or lines k [])) none (drawn_unlinked r (get_or lines k []))) c
-      | inr past ↦ ap (λ (row : List Cell). (get_or row c SPACE).link) (get_or_past (map (λ l. further ++ drawn r l) lines) k [] (omega (arith, past, length-map lines (λ l. further ++ drawn r l))))
+      | inl within ↦ ap (λ (row : List Cell). (get_or row c SPACE).link) (get_or-map (λ l. further ++ text_cells r l) lines k [] [] within) ∙ unlinked_at (further ++ text_cells r (get_or lines k [])) (All-append IsUnlinked further (text_cells r (get_or lines k [])) none (drawn_unlinked r (get_or lines k []))) c
+      | inr past ↦ ap (λ (row : List Cell). (get_or row c SPACE).link) (get_or_past (map (λ l. further ++ text_cells r l) lines) k [] (omega (arith, past, length-map lines (λ l. further ++ text_cells r l))))
     ]
 
 -- what the test for a cell of the id says
@@ -188,11 +188,11 @@ module _ (hyperlink : Bool) (style : TitleStyle) (roles : HeadingRoles) (heading
   abbrev address : Bool → Option (List ℕ)
   address inside = cond inside (id_address hyperlink heading.id) None
 
-  places_in : (line : List ℕ) (below : List (List Cell)) → ((k c : ℕ) → (cell_at below k c).link ≡ None) → LinksId hyperlink style heading ((label ++ drawn roles.text line) ∷ below)
+  places_in : (line : List ℕ) (below : List (List Cell)) → ((k c : ℕ) → (cell_at below k c).link ≡ None) → LinksId hyperlink style heading ((label ++ text_cells roles.text line) ∷ below)
   places_in line below none =
       let places = first_places hyperlink style roles heading line in
       let start : ℕ = id_start style heading in
-      let first : List Cell = label ++ drawn roles.text line in
+      let first : List Cell = label ++ text_cells roles.text line in
       λ i c. elim (cases_Bool (is_id_cell style heading i c)) [
         | inl inside ↦
             let parts = id_cell style heading i c inside in
@@ -210,7 +210,7 @@ module _ (hyperlink : Bool) (style : TitleStyle) (roles : HeadingRoles) (heading
   lines_places : (further : List Cell) (lines : List (List ℕ)) → 0 < length lines → All IsUnlinked further → LinksId hyperlink style heading (lines_below label further roles.text lines)
   lines_places further [] some none = absurd (omega (arith, some))
   lines_places further (line ∷ lines) some none =
-      places_in line (map (λ l. further ++ drawn roles.text l) lines) (λ k c. further_at further roles.text lines k c none)
+      places_in line (map (λ l. further ++ text_cells roles.text l) lines) (λ k c. further_at further roles.text lines k c none)
 
 -- in the rows of a heading
 pub heading_rows-places : (hyperlink : Bool) (style : TitleStyle) (heading : Heading) → LinksId hyperlink style heading (heading_rows hyperlink style heading)
@@ -220,4 +220,4 @@ heading_rows-places hyperlink style heading =
     let first : List Cell = sign_cells style ++ label_cells hyperlink roles heading in
     let further : List Cell = indent_cells style (label_width heading) in
     let lines : List (List ℕ) = heading_lines heading in
-    λ i c. ap (λ (row : List Cell). (get_or row c SPACE).link) (row_at-trimmed (lines_below first further roles.text lines) i) ∙ lines_places hyperlink style roles heading further lines (omega (arith, length-slice_split (λ ch. ch == 10) (drawn_text heading))) (indent_unlinked style (label_width heading)) i c
+    λ i c. ap (λ (row : List Cell). (get_or row c SPACE).link) (row_at-trimmed (lines_below first further roles.text lines) i) ∙ lines_places hyperlink style roles heading further lines (omega (arith, length-slice_split (λ ch. ch == 10) (shown_text heading))) (indent_unlinked style (label_width heading)) i c

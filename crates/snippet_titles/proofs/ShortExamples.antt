@@ -17,7 +17,7 @@ abbrev error_of : LevelName → List ℕ → Heading
 error_of name text =
     record { level = record { name = name; kind = Error }; id = None; text = text; allows_styling = false }
 
--- a path stands before the label, and another text behind the title's
+-- a path stands before the label, and another text after the title's
 path_before : short_texts (codes "src/main.rs:1:5: ") (codes ": here") (error_of Standard (codes "unused")) ≡ codes "src/main.rs:1:5: error: unused: here" ∷ []
 unfolding chars norm
 path_before = refl
@@ -26,12 +26,12 @@ rows : plain_text (short_rows false (codes "src/main.rs:1:5: ") (codes ": here")
 unfolding chars norm label_cells short_rows
 rows = refl
 
--- where there are two lines it stands behind the first one, and the second one below the label's width
+-- where there are two lines it stands after the first one, and the second one below the label's width
 two_lines : plain_text (short_rows false (codes "a.rs: ") (codes ": here") (error_of Standard (codes "one\ntwo"))) ≡ codes "a.rs: error: one: here\n       two"
 unfolding chars norm char_width unicode_width label_cells short_rows
 two_lines = refl
 
--- a text behind an empty title makes its row
+-- a text after an empty title makes its row
 empty_title : plain_text (short_rows false [] (codes ": here") (error_of Hidden [])) ≡ codes ": here"
 unfolding chars norm label_cells short_rows
 empty_title = refl

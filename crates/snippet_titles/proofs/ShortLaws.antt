@@ -6,85 +6,85 @@ use Rattle.std.proofs.lemmas.List.Elements.{All-nil, All-append, All-cons, All-h
 use Rattle.std.proofs.lemmas.List.Splits.{length-slice_split}
 use Rattle.snippet_style.specs.declared.role.ElementStyle.TheVariants.{LineAndColumn, NoStyle}
 use Rattle.snippet_grid.specs.Grid.{row_at}
-use Rattle.snippet_style.specs.Cell.{Cell, drawn}
+use Rattle.snippet_style.specs.Cell.{Cell, text_cells}
 use Rattle.snippet_grid.specs.Print.{row_text}
-use Rattle.snippet_grid.specs.Woven.{links_behind, links_of}
+use Rattle.snippet_grid.specs.Woven.{links_after, links_of}
 use Rattle.snippet_text.specs.Normalized.{is_listed}
 use Rattle.snippet_model.specs.Heading.{Heading}
 use Rattle.snippet_titles.specs.declared.style.HeadingRoles.{HeadingRoles}
 use Rattle.snippet_titles.specs.declared.style.TitleStyle.TheVariants.{Short}
-use Rattle.snippet_titles.specs.Heading.{drawn_text, heading_lines, indent_cells, label_cells, label_text, label_width, lines_below, roles_of}
+use Rattle.snippet_titles.specs.Heading.{shown_text, heading_lines, indent_cells, label_cells, label_text, label_width, lines_below, roles_of}
 use Rattle.snippet_titles.specs.Short.{short_rows, short_texts, with_end}
 use Rattle.snippet_titles.specs.Shown.{IsFreeButText}
 use Rattle.snippet_titles.specs.Title.{id_links}
 use Rattle.snippet_titles.proofs.EndLemmas.{row_at-trimmed}
 use Rattle.snippet_titles.proofs.FreeLemmas.{All-slice_split, All-trimmed, IsFree, IsOwn, from_free, indent-all, label-all, lines-all, own_text, own_unlisted, row-all}
-use Rattle.snippet_titles.proofs.LinkLemmas.{IsUnlinked, drawn_unlinked, indent_unlinked, label-links, lines-links, links-before, links-behind, trimmed-links}
-use Rattle.snippet_titles.proofs.TextLemmas.{row_text-append, row_text-behind, row_text-drawn, row_text-label, text_at, texts_of_lines}
+use Rattle.snippet_titles.proofs.LinkLemmas.{IsUnlinked, drawn_unlinked, indent_unlinked, label-links, lines-links, links-before, links-after, trimmed-links}
+use Rattle.snippet_titles.proofs.TextLemmas.{row_text-append, row_text-after, row_text-text_cells, row_text-label, text_at, texts_of_lines}
 
 -- the row that a text and a label begin
-first_text : (hyperlink : Bool) (roles : HeadingRoles) (before : List ℕ) (heading : Heading) → row_text (drawn LineAndColumn before ++ label_cells hyperlink roles heading) ≡ before ++ label_text heading
+first_text : (hyperlink : Bool) (roles : HeadingRoles) (before : List ℕ) (heading : Heading) → row_text (text_cells LineAndColumn before ++ label_cells hyperlink roles heading) ≡ before ++ label_text heading
 first_text hyperlink roles before heading =
     let label : List Cell = label_cells hyperlink roles heading in
-    row_text-append (drawn LineAndColumn before) label ∙ ap (λ cs. cs ++ row_text label) (row_text-drawn LineAndColumn before) ∙ ap (λ cs. before ++ cs) (row_text-label hyperlink roles heading)
+    row_text-append (text_cells LineAndColumn before) label ∙ ap (λ cs. cs ++ row_text label) (row_text-text_cells LineAndColumn before) ∙ ap (λ cs. before ++ cs) (row_text-label hyperlink roles heading)
 
--- a text behind the first row
-with_end-texts : (behind : List ℕ) (rows : List (List Cell)) → map row_text (with_end (drawn NoStyle behind) rows) ≡ with_end behind (map row_text rows)
-with_end-texts behind [] = ap (λ t. t ∷ []) (row_text-drawn NoStyle behind)
-with_end-texts behind (row ∷ rows) =
-    ap (λ t. t ∷ map row_text rows) (row_text-behind row (row_text row) NoStyle behind refl)
+-- a text after the first row
+with_end-texts : (after : List ℕ) (rows : List (List Cell)) → map row_text (with_end (text_cells NoStyle after) rows) ≡ with_end after (map row_text rows)
+with_end-texts after [] = ap (λ t. t ∷ []) (row_text-text_cells NoStyle after)
+with_end-texts after (row ∷ rows) =
+    ap (λ t. t ∷ map row_text rows) (row_text-after row (row_text row) NoStyle after refl)
 
 -- the text of each row
-pub short-texts : (hyperlink : Bool) (before behind : List ℕ) (heading : Heading) (i : ℕ) → row_text (row_at (short_rows hyperlink before behind heading) i) ≡ slice_index_or (short_texts before behind heading) i []
+pub short-texts : (hyperlink : Bool) (before after : List ℕ) (heading : Heading) (i : ℕ) → row_text (row_at (short_rows hyperlink before after heading) i) ≡ slice_index_or (short_texts before after heading) i []
 unfolding short_rows
-short-texts hyperlink before behind heading i =
+short-texts hyperlink before after heading i =
     let roles : HeadingRoles = roles_of Short heading.level.kind heading.allows_styling in
-    let first : List Cell = drawn LineAndColumn before ++ label_cells hyperlink roles heading in
+    let first : List Cell = text_cells LineAndColumn before ++ label_cells hyperlink roles heading in
     let further : List Cell = indent_cells Short (label_width heading) in
     let rows : List (List Cell) = lines_below first further roles.text (heading_lines heading) in
-    let all : List (List Cell) = with_end (drawn NoStyle behind) rows in
-    ap row_text (row_at-trimmed all i) ∙ text_at all i ∙ ap (λ ts. slice_index_or ts i []) (with_end-texts behind rows ∙ ap (with_end behind) (texts_of_lines first further (before ++ label_text heading) roles.text (heading_lines heading) (first_text hyperlink roles before heading)))
+    let all : List (List Cell) = with_end (text_cells NoStyle after) rows in
+    ap row_text (row_at-trimmed all i) ∙ text_at all i ∙ ap (λ ts. slice_index_or ts i []) (with_end-texts after rows ∙ ap (with_end after) (texts_of_lines first further (before ++ label_text heading) roles.text (heading_lines heading) (first_text hyperlink roles before heading)))
 
--- a text behind the first row links to nothing
+-- a text after the first row links to nothing
 with_end-links : (cells : List Cell) (rows : List (List Cell)) → All IsUnlinked cells → links_of (with_end cells rows) ≡ links_of rows
-with_end-links cells [] none = append-nil (links_behind None cells) ∙ links-behind None [] cells none
+with_end-links cells [] none = append-nil (links_after None cells) ∙ links-after None [] cells none
 with_end-links cells (row ∷ rows) none =
-    ap (λ (urls : List (List ℕ)). urls ++ links_of rows) (links-behind None row cells none)
+    ap (λ (urls : List (List ℕ)). urls ++ links_of rows) (links-after None row cells none)
 
 -- the addresses that the rows link to
-pub short-links : (hyperlink : Bool) (before behind : List ℕ) (heading : Heading) → links_of (short_rows hyperlink before behind heading) ≡ id_links hyperlink heading.id
+pub short-links : (hyperlink : Bool) (before after : List ℕ) (heading : Heading) → links_of (short_rows hyperlink before after heading) ≡ id_links hyperlink heading.id
 unfolding short_rows
-short-links hyperlink before behind heading =
+short-links hyperlink before after heading =
     let roles : HeadingRoles = roles_of Short heading.level.kind heading.allows_styling in
     let label : List Cell = label_cells hyperlink roles heading in
-    let first : List Cell = drawn LineAndColumn before ++ label in
+    let first : List Cell = text_cells LineAndColumn before ++ label in
     let further : List Cell = indent_cells Short (label_width heading) in
     let lines : List (List ℕ) = heading_lines heading in
     let rows : List (List Cell) = lines_below first further roles.text lines in
-    trimmed-links (with_end (drawn NoStyle behind) rows) ∙ with_end-links (drawn NoStyle behind) rows (drawn_unlinked NoStyle behind) ∙ lines-links first further roles.text lines (omega (arith, length-slice_split (λ c. c == 10) (drawn_text heading))) (indent_unlinked Short (label_width heading)) ∙ links-before (drawn LineAndColumn before) label (drawn_unlinked LineAndColumn before) ∙ label-links hyperlink roles heading
+    trimmed-links (with_end (text_cells NoStyle after) rows) ∙ with_end-links (text_cells NoStyle after) rows (drawn_unlinked NoStyle after) ∙ lines-links first further roles.text lines (omega (arith, length-slice_split (λ c. c == 10) (shown_text heading))) (indent_unlinked Short (label_width heading)) ∙ links-before (text_cells LineAndColumn before) label (drawn_unlinked LineAndColumn before) ∙ label-links hyperlink roles heading
 
 -- what holds of each character that isn't listed, and of those of the title's text, holds of those of each row, where no
--- character of the texts before and behind is listed
+-- character of the texts before and after is listed
 module _ (P : ℕ → Type 0) (free : (c : ℕ) → IsFree c → P c) where
-  with_end-all : (behind : List ℕ) (rows : List (List Cell)) → All P behind → All (λ row. All P (row_text row)) rows → All (λ row. All P (row_text row)) (with_end (drawn NoStyle behind) rows)
-  with_end-all behind [] more all =
-      All-cons (λ row. All P (row_text row)) (drawn NoStyle behind) [] (row-all P free [] NoStyle (All-nil P) behind more) (All-nil (λ row. All P (row_text row)))
-  with_end-all behind (row ∷ rows) more all =
-      All-cons (λ r. All P (row_text r)) (row ++ drawn NoStyle behind) rows (row-all P free row NoStyle (All-head (λ r. All P (row_text r)) row rows all) behind more) (All-tail (λ r. All P (row_text r)) row rows all)
+  with_end-all : (after : List ℕ) (rows : List (List Cell)) → All P after → All (λ row. All P (row_text row)) rows → All (λ row. All P (row_text row)) (with_end (text_cells NoStyle after) rows)
+  with_end-all after [] more all =
+      All-cons (λ row. All P (row_text row)) (text_cells NoStyle after) [] (row-all P free [] NoStyle (All-nil P) after more) (All-nil (λ row. All P (row_text row)))
+  with_end-all after (row ∷ rows) more all =
+      All-cons (λ r. All P (row_text r)) (row ++ text_cells NoStyle after) rows (row-all P free row NoStyle (All-head (λ r. All P (row_text r)) row rows all) after more) (All-tail (λ r. All P (row_text r)) row rows all)
 
-  short_rows-all : (hyperlink : Bool) (before behind : List ℕ) (heading : Heading) → All IsFree before → All IsFree behind → All P (drawn_text heading) → All (λ row. All P (row_text row)) (short_rows hyperlink before behind heading)
+  short_rows-all : (hyperlink : Bool) (before after : List ℕ) (heading : Heading) → All IsFree before → All IsFree after → All P (shown_text heading) → All (λ row. All P (row_text row)) (short_rows hyperlink before after heading)
   unfolding short_rows
-  short_rows-all hyperlink before behind heading front back all =
+  short_rows-all hyperlink before after heading front back all =
       let roles : HeadingRoles = roles_of Short heading.level.kind heading.allows_styling in
-      let first : List Cell = drawn LineAndColumn before ++ label_cells hyperlink roles heading in
+      let first : List Cell = text_cells LineAndColumn before ++ label_cells hyperlink roles heading in
       let further : List Cell = indent_cells Short (label_width heading) in
       let lines : List (List ℕ) = heading_lines heading in
       let rows : List (List Cell) = lines_below first further roles.text lines in
       let begun : All P (row_text first) = subst (All P) (sym (first_text hyperlink roles before heading)) (All-append P before (label_text heading) (from_free P free before front) (label-all P free heading)) in
-      let below : All (λ row. All P (row_text row)) rows = lines-all P free first further roles.text lines begun (indent-all P free Short (label_width heading)) (All-slice_split P (λ c. c == 10) (drawn_text heading) all) in
-      All-trimmed (λ row. All P (row_text row)) (with_end (drawn NoStyle behind) rows) (with_end-all behind rows (from_free P free behind back) below)
+      let below : All (λ row. All P (row_text row)) rows = lines-all P free first further roles.text lines begun (indent-all P free Short (label_width heading)) (All-slice_split P (λ c. c == 10) (shown_text heading) all) in
+      All-trimmed (λ row. All P (row_text row)) (with_end (text_cells NoStyle after) rows) (with_end-all after rows (from_free P free after back) below)
 
 -- each listed character of the rows stands in the title's text, and that is trusted
-pub short-free : (hyperlink : Bool) (before behind : List ℕ) (heading : Heading) → All (λ c. is_listed c ≡ false) before → All (λ c. is_listed c ≡ false) behind → All (IsFreeButText heading) (short_rows hyperlink before behind heading)
-short-free hyperlink before behind heading front back =
-    short_rows-all (IsOwn heading) (own_unlisted heading) hyperlink before behind heading front back (own_text heading heading.allows_styling refl)
+pub short-free : (hyperlink : Bool) (before after : List ℕ) (heading : Heading) → All (λ c. is_listed c ≡ false) before → All (λ c. is_listed c ≡ false) after → All (IsFreeButText heading) (short_rows hyperlink before after heading)
+short-free hyperlink before after heading front back =
+    short_rows-all (IsOwn heading) (own_unlisted heading) hyperlink before after heading front back (own_text heading heading.allows_styling refl)

@@ -2,7 +2,7 @@
 use Rattle.std.proofs.Common.{◌≡◌, ℕ, ◌-◌, List, [], ◌∷◌, ◌++◌, length, replicate, take, Bool, refl, sym, ap, ◌∙◌, arith}
 use Rattle.std.proofs.lemmas.List.{append-nil, places, same_lists}
 use Rattle.snippet_grid.specs.Grid.{row_at}
-use Rattle.snippet_style.specs.Cell.{Cell, drawn, written}
+use Rattle.snippet_style.specs.Cell.{Cell, text_cells, written}
 use Rattle.snippet_style.specs.declared.role.ElementStyle.TheVariants.{LineAndColumn, NoStyle}
 use Rattle.snippet_model.specs.declared.level.Level.{Level}
 use Rattle.snippet_model.specs.Heading.{Heading}
@@ -25,7 +25,7 @@ first_written base [] (r ∷ rows) new =
 first_written base (cell ∷ cells) rows new =
     same_lists _ _ (unfold written in grind (arith, places)) (λ k d h. unfold written in grind (arith, places))
 
--- cells behind those of the first of some rows
+-- cells after those of the first of some rows
 on_top-full : (row : List Cell) (cell : Cell) (cells : List Cell) (rows : List (List Cell)) → on_top (row ++ cell ∷ cells) rows ≡ (row ++ cell ∷ cells) ∷ rows
 on_top-full [] cell cells rows = refl
 on_top-full (r ∷ row) cell cells rows = refl
@@ -40,14 +40,14 @@ appended-first base (r ∷ rows) row (cell ∷ cells) at =
     let here : row_at there row ≡ r = ap (λ n. row_at there n) at ∙ get_or-append_seam base (trimmed (r ∷ rows)) ∙ row_at-trimmed (r ∷ rows) 0 in
     appended-is there row (cell ∷ cells) (omega arith) ∙ ap (λ (first : List Cell). written [] there row ((first ++ cell ∷ cells) ∷ [])) here ∙ ap (λ n. written [] there n ((r ++ cell ∷ cells) ∷ [])) at ∙ first_written base r (trimmed rows) (r ++ cell ∷ cells) ∙ ap (λ (rs : List (List Cell)). base ++ rs) (sym (on_top-full r cell cells (trimmed rows)))
 
--- a text, a label and a heading's text behind it, and a text behind the first row
-pub short_drawn : (old one two three new : List (List Cell)) (row : ℕ) (hyperlink : Bool) (before behind : List ℕ) (heading : Heading) (level : Level) (trusted : Bool) (roles : HeadingRoles) → row ≡ length old → level ≡ heading.level → trusted ≡ heading.allows_styling → roles ≡ roles_of Short level.kind trusted → one ≡ appended old row (drawn LineAndColumn before) → two ≡ appended one row (label_cells hyperlink roles heading) → three ≡ take row two ++ trimmed (lines_below (row_at two row) (indent_cells Short (label_width heading)) roles.text (heading_lines heading)) → new ≡ appended three row (drawn NoStyle behind) → new ≡ old ++ short_rows hyperlink before behind heading
+-- a text, a label and a heading's text after it, and a text after the first row
+pub short_drawn : (old one two three new : List (List Cell)) (row : ℕ) (hyperlink : Bool) (before after : List ℕ) (heading : Heading) (level : Level) (trusted : Bool) (roles : HeadingRoles) → row ≡ length old → level ≡ heading.level → trusted ≡ heading.allows_styling → roles ≡ roles_of Short level.kind trusted → one ≡ appended old row (text_cells LineAndColumn before) → two ≡ appended one row (label_cells hyperlink roles heading) → three ≡ take row two ++ trimmed (lines_below (row_at two row) (indent_cells Short (label_width heading)) roles.text (heading_lines heading)) → new ≡ appended three row (text_cells NoStyle after) → new ≡ old ++ short_rows hyperlink before after heading
 unfolding short_rows
-short_drawn old one two three new row hyperlink before behind heading level trusted roles at leveled trusts roles_are first second third fourth =
-    let begun = label_begun old one two row (drawn LineAndColumn before) (label_cells hyperlink roles heading) at first second in
+short_drawn old one two three new row hyperlink before after heading level trusted roles at leveled trusts roles_are first second third fourth =
+    let begun = label_begun old one two row (text_cells LineAndColumn before) (label_cells hyperlink roles heading) at first second in
     let known : roles ≡ roles_of Short heading.level.kind heading.allows_styling = roles_known Short heading level trusted roles leveled trusts roles_are in
     let further : List Cell = indent_cells Short (label_width heading) in
     let lines : List (List ℕ) = heading_lines heading in
-    let front : List Cell = drawn LineAndColumn before ++ label_cells hyperlink roles heading in
+    let front : List Cell = text_cells LineAndColumn before ++ label_cells hyperlink roles heading in
     let drawn_are : three ≡ old ++ trimmed (lines_below front further roles.text lines) = third ∙ ap (λ rs. rs ++ trimmed (lines_below (row_at two row) further roles.text lines)) begun.0 ∙ ap (λ (r : List Cell). old ++ trimmed (lines_below r further roles.text lines)) begun.1 in
-    fourth ∙ ap (λ rs. appended rs row (drawn NoStyle behind)) drawn_are ∙ appended-first old (lines_below front further roles.text lines) row (drawn NoStyle behind) at ∙ ap (λ (rs : HeadingRoles). old ++ trimmed (with_end (drawn NoStyle behind) (lines_below (drawn LineAndColumn before ++ label_cells hyperlink rs heading) further rs.text lines))) known
+    fourth ∙ ap (λ rs. appended rs row (text_cells NoStyle after)) drawn_are ∙ appended-first old (lines_below front further roles.text lines) row (text_cells NoStyle after) at ∙ ap (λ (rs : HeadingRoles). old ++ trimmed (with_end (text_cells NoStyle after) (lines_below (text_cells LineAndColumn before ++ label_cells hyperlink rs heading) further rs.text lines))) known

@@ -5,7 +5,7 @@ use Rattle.std.specs.Option.{option_map}
 use Rattle.std.proofs.lemmas.Bool.{cases_lt}
 use Rattle.std.proofs.lemmas.List.{get_or-map, get_or_past, length-map, map-append}
 use Rattle.snippet_grid.specs.Grid.{row_at}
-use Rattle.snippet_style.specs.Cell.{Cell, SPACE, drawn}
+use Rattle.snippet_style.specs.Cell.{Cell, SPACE, text_cells}
 use Rattle.snippet_grid.specs.Print.{row_text}
 use Rattle.snippet_style.specs.declared.role.ElementStyle.{ElementStyle}
 use Rattle.snippet_text.specs.Normalized.{norm}
@@ -18,10 +18,10 @@ use Rattle.snippet_titles.specs.Heading.{address_of, bracketed_cells, bracketed_
 use Rattle.snippet_titles.specs.Shown.{heading_texts, texts_below}
 use Rattle.snippet_titles.proofs.EndLemmas.{refilled, row_at-trimmed}
 
--- the characters of drawn cells, of spaces, and of cells behind others
-pub row_text-drawn : (r : ElementStyle) (cs : List ℕ) → row_text (drawn r cs) ≡ cs
-row_text-drawn r [] = refl
-row_text-drawn r (c ∷ cs) = ap (λ ds. c ∷ ds) (row_text-drawn r cs)
+-- the characters of drawn cells, of spaces, and of cells after others
+pub row_text-text_cells : (r : ElementStyle) (cs : List ℕ) → row_text (text_cells r cs) ≡ cs
+row_text-text_cells r [] = refl
+row_text-text_cells r (c ∷ cs) = ap (λ ds. c ∷ ds) (row_text-text_cells r cs)
 
 pub row_text-spaces : (n : ℕ) → row_text (replicate n SPACE) ≡ replicate n 32
 row_text-spaces zero = refl
@@ -36,7 +36,7 @@ row_text-linked None cells = refl
 row_text-linked (Some url) [] = refl
 row_text-linked (Some url) (cell ∷ cells) = ap (λ ds. cell.ch ∷ ds) (row_text-linked (Some url) cells)
 
--- three texts, drawn one behind the other
+-- three texts, drawn one after the other
 row_text-three : (xs ys zs : List Cell) (a b c : List ℕ) → row_text xs ≡ a → row_text ys ≡ b → row_text zs ≡ c → row_text (xs ++ ys ++ zs) ≡ a ++ b ++ c
 row_text-three xs ys zs a b c first second third =
     row_text-append (xs ++ ys) zs ∙ ap (λ cs. cs ++ row_text zs) (row_text-append xs ys) ∙ ap (λ cs. (cs ++ row_text ys) ++ row_text zs) first ∙ ap (λ cs. (a ++ cs) ++ row_text zs) second ∙ ap (λ cs. (a ++ b) ++ cs) third
@@ -45,7 +45,7 @@ row_text-three xs ys zs a b c first second third =
 row_text-bracketed : (hidden : Bool) (r : ElementStyle) (address text : Option (List ℕ)) → row_text (bracketed_cells hidden r address text) ≡ bracketed_text hidden text
 row_text-bracketed hidden r address None = refl
 row_text-bracketed hidden r address (Some text) =
-    row_text-three (drawn r (opening_of hidden)) (linked_to address (drawn r (norm (chars text)))) (drawn r (closing_of hidden)) _ _ _ (row_text-drawn r (opening_of hidden)) (row_text-linked address (drawn r (norm (chars text))) ∙ row_text-drawn r (norm (chars text))) (row_text-drawn r (closing_of hidden))
+    row_text-three (text_cells r (opening_of hidden)) (linked_to address (text_cells r (norm (chars text)))) (text_cells r (closing_of hidden)) _ _ _ (row_text-text_cells r (opening_of hidden)) (row_text-linked address (text_cells r (norm (chars text))) ∙ row_text-text_cells r (norm (chars text))) (row_text-text_cells r (closing_of hidden))
 
 pub row_text-id : (hyperlink hidden : Bool) (r : ElementStyle) (id : Option Id) → row_text (id_cells hyperlink hidden r id) ≡ id_text hidden id
 row_text-id hyperlink hidden r None = refl
@@ -56,22 +56,22 @@ pub row_text-label : (hyperlink : Bool) (roles : HeadingRoles) (heading : Headin
 unfolding label_cells
 row_text-label hyperlink roles heading =
     let hidden : Bool = is_hidden heading.level.name in
-    row_text-three (drawn roles.label (norm (chars (name_of heading.level)))) (id_cells hyperlink hidden roles.label heading.id) (drawn roles.colon (colon_of hidden heading.id)) _ _ _ (row_text-drawn roles.label (norm (chars (name_of heading.level)))) (row_text-id hyperlink hidden roles.label heading.id) (row_text-drawn roles.colon (colon_of hidden heading.id))
+    row_text-three (text_cells roles.label (norm (chars (name_of heading.level)))) (id_cells hyperlink hidden roles.label heading.id) (text_cells roles.colon (colon_of hidden heading.id)) _ _ _ (row_text-text_cells roles.label (norm (chars (name_of heading.level)))) (row_text-id hyperlink hidden roles.label heading.id) (row_text-text_cells roles.colon (colon_of hidden heading.id))
 
 -- the texts of the rows of lines
-pub row_text-behind : (cells : List Cell) (text : List ℕ) (r : ElementStyle) (line : List ℕ) → row_text cells ≡ text → row_text (cells ++ drawn r line) ≡ text ++ line
-row_text-behind cells text r line is =
-    row_text-append cells (drawn r line) ∙ ap (λ cs. cs ++ row_text (drawn r line)) is ∙ ap (λ cs. text ++ cs) (row_text-drawn r line)
+pub row_text-after : (cells : List Cell) (text : List ℕ) (r : ElementStyle) (line : List ℕ) → row_text cells ≡ text → row_text (cells ++ text_cells r line) ≡ text ++ line
+row_text-after cells text r line is =
+    row_text-append cells (text_cells r line) ∙ ap (λ cs. cs ++ row_text (text_cells r line)) is ∙ ap (λ cs. text ++ cs) (row_text-text_cells r line)
 
-further_texts : (further : List Cell) (r : ElementStyle) (lines : List (List ℕ)) → map row_text (map (λ l. further ++ drawn r l) lines) ≡ map (λ l. row_text further ++ l) lines
+further_texts : (further : List Cell) (r : ElementStyle) (lines : List (List ℕ)) → map row_text (map (λ l. further ++ text_cells r l) lines) ≡ map (λ l. row_text further ++ l) lines
 further_texts further r [] = refl
 further_texts further r (line ∷ lines) =
-    ap (λ t. t ∷ map row_text (map (λ l. further ++ drawn r l) lines)) (row_text-behind further (row_text further) r line refl) ∙ ap (λ ts. (row_text further ++ line) ∷ ts) (further_texts further r lines)
+    ap (λ t. t ∷ map row_text (map (λ l. further ++ text_cells r l) lines)) (row_text-after further (row_text further) r line refl) ∙ ap (λ ts. (row_text further ++ line) ∷ ts) (further_texts further r lines)
 
 pub texts_of_lines : (first further : List Cell) (text : List ℕ) (r : ElementStyle) (lines : List (List ℕ)) → row_text first ≡ text → map row_text (lines_below first further r lines) ≡ texts_below text (row_text further) lines
 texts_of_lines first further text r [] is = refl
 texts_of_lines first further text r (line ∷ lines) is =
-    ap (λ t. t ∷ map row_text (map (λ l. further ++ drawn r l) lines)) (row_text-behind first text r line is) ∙ ap (λ ts. (text ++ line) ∷ ts) (further_texts further r lines)
+    ap (λ t. t ∷ map row_text (map (λ l. further ++ text_cells r l) lines)) (row_text-after first text r line is) ∙ ap (λ ts. (text ++ line) ∷ ts) (further_texts further r lines)
 
 -- the text of a row, which is empty where it isn't there
 pub text_at : (rows : List (List Cell)) (k : ℕ) → row_text (row_at rows k) ≡ get_or (map row_text rows) k []
@@ -94,7 +94,7 @@ heading_rows-texts hyperlink style heading k =
 -- no row stands below those of the lines
 lines_count : (first further : List Cell) (r : ElementStyle) (lines : List (List ℕ)) → length (lines_below first further r lines) ≡ length lines
 lines_count first further r [] = refl
-lines_count first further r (line ∷ lines) = ap suc (length-map lines (λ l. further ++ drawn r l))
+lines_count first further r (line ∷ lines) = ap suc (length-map lines (λ l. further ++ text_cells r l))
 
 texts_count : (first further : List ℕ) (lines : List (List ℕ)) → length (texts_below first further lines) ≡ length lines
 texts_count first further [] = refl

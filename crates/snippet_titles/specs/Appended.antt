@@ -4,7 +4,7 @@ use Rattle.snippet_grid.specs.Grid.{row_at, cells_written, cells_linked}
 use Rattle.snippet_style.specs.Cell.{Cell}
 use Rattle.snippet_titles.specs.Heading.{trimmed}
 
--- the grid with these cells behind those of a row; where there are none it stays as it is, and no row is made
+-- the grid with these cells after those of a row; where there are none it stays as it is, and no row is made
 abbrev pub appended : List (List Cell) → ℕ → List Cell → List (List Cell)
 appended rows row [] = rows
 appended rows row (cell ∷ cells) = cells_written rows row (length (row_at rows row)) (cell ∷ cells)

@@ -9,7 +9,7 @@ use Rattle.snippet_style.specs.declared.role.ElementStyle.{ElementStyle}
 use Rattle.snippet_style.specs.declared.role.ElementStyle.TheVariants as role
 use Rattle.snippet_style.specs.declared.role.LevelInner.{LevelInner}
 use Rattle.snippet_grid.specs.Grid.{linked}
-use Rattle.snippet_style.specs.Cell.{Cell, SPACE, unlinked_cell, drawn}
+use Rattle.snippet_style.specs.Cell.{Cell, SPACE, unlinked_cell, text_cells}
 use Rattle.snippet_text.specs.Normalized.{norm}
 use Rattle.snippet_text.specs.Width.{width_of}
 use Rattle.snippet_model.specs.declared.snippet.Id.{Id}
@@ -20,8 +20,8 @@ use Rattle.snippet_titles.specs.declared.style.TitleStyle.{TitleStyle}
 use Rattle.snippet_titles.specs.declared.style.TitleStyle.TheVariants.{Title, Short, Message}
 
 -- the characters of a text as it is drawn: a trusted one as it is, any other normalised
-abbrev pub drawn_text : Heading → List ℕ
-drawn_text heading = if heading.allows_styling then chars heading.text else norm (chars heading.text)
+abbrev pub shown_text : Heading → List ℕ
+shown_text heading = if heading.allows_styling then chars heading.text else norm (chars heading.text)
 
 -- the address that an id's text links to, where links are on and it has one
 abbrev pub address_of : Bool → Id → Option (List ℕ)
@@ -43,7 +43,7 @@ closing_of hidden = if hidden then [] else codes "]"
 abbrev pub bracketed_cells : Bool → ElementStyle → Option (List ℕ) → Option (List ℕ) → List Cell
 bracketed_cells hidden role address None = []
 bracketed_cells hidden role address (Some text) =
-    drawn role (opening_of hidden) ++ linked_to address (drawn role (norm (chars text))) ++ drawn role (closing_of hidden)
+    text_cells role (opening_of hidden) ++ linked_to address (text_cells role (norm (chars text))) ++ text_cells role (closing_of hidden)
 
 -- the cells of an id, where there is one
 abbrev pub id_cells : Bool → Bool → ElementStyle → Option Id → List Cell
@@ -64,7 +64,7 @@ colon_of hidden id = if hidden && not (is_set id) then [] else codes ": "
 unfoldable pub label_cells : Bool → HeadingRoles → Heading → List Cell
 label_cells hyperlink roles heading =
     let hidden = is_hidden heading.level.name in
-    drawn roles.label (norm (chars (name_of heading.level))) ++ id_cells hyperlink hidden roles.label heading.id ++ drawn roles.colon (colon_of hidden heading.id)
+    text_cells roles.label (norm (chars (name_of heading.level))) ++ id_cells hyperlink hidden roles.label heading.id ++ text_cells roles.colon (colon_of hidden heading.id)
 
 -- its characters: those of an id, and of all of it
 abbrev pub bracketed_text : Bool → Option (List ℕ) → List ℕ
@@ -115,18 +115,18 @@ note_bar_of Ascii followed = SPACE
 note_bar_of Unicode true = unlinked_cell role.LineNumber 0x2502
 note_bar_of Unicode false = SPACE
 
--- the cells of the gutter that a heading stands behind
+-- the cells of the gutter that a heading stands after
 abbrev pub gutter_of : TitleStyle → ℕ
 gutter_of Title = 0
 gutter_of Short = 0
 gutter_of (Message place) = place.gutter
 
--- what a heading's first row begins with: nothing for a title, and for a message the sign behind the gutter
+-- what a heading's first row begins with: nothing for a title, and for a message the sign after the gutter
 abbrev pub sign_cells : TitleStyle → List Cell
 sign_cells Title = []
 sign_cells Short = []
 sign_cells (Message place) =
-    replicate (place.gutter + 1) SPACE ++ drawn role.LineNumber (note_sign_of place.decor place.followed)
+    replicate (place.gutter + 1) SPACE ++ text_cells role.LineNumber (note_sign_of place.decor place.followed)
 
 -- what a further row begins with, below a label of this width: as many spaces, and in a message three more than the gutter is
 -- wide, of which one gives its place to the stroke
@@ -136,11 +136,11 @@ indent_cells Short width = replicate width SPACE
 indent_cells (Message place) width =
     replicate (place.gutter + 1) SPACE ++ note_bar_of place.decor place.followed ∷ replicate (width + 1) SPACE
 
--- the rows of lines: the first line stands behind these cells, each further one behind those
+-- the rows of lines: the first line stands after these cells, each further one after those
 abbrev pub lines_below : List Cell → List Cell → ElementStyle → List (List ℕ) → List (List Cell)
 lines_below first further role [] = []
 lines_below first further role (line ∷ lines) =
-    (first ++ drawn role line) ∷ map (λ l. further ++ drawn role l) lines
+    (first ++ text_cells role line) ∷ map (λ l. further ++ text_cells role l) lines
 
 -- one row more on top of others; but where it has no cells and there are no others there is no row
 abbrev pub on_top : List Cell → List (List Cell) → List (List Cell)
@@ -155,9 +155,9 @@ trimmed (row ∷ rows) = on_top row (trimmed rows)
 
 -- the lines of a heading: the characters of its text as it is drawn, cut at each line feed
 abbrev pub heading_lines : Heading → List (List ℕ)
-heading_lines heading = slice_split (λ c. c == 10) (drawn_text heading)
+heading_lines heading = slice_split (λ c. c == 10) (shown_text heading)
 
--- the rows of a heading, with links or without: a row for each line of its text, the first behind the label and each further
+-- the rows of a heading, with links or without: a row for each line of its text, the first after the label and each further
 -- one below its text; those at the end that have no cells aren't there
 unfoldable pub heading_rows : Bool → TitleStyle → Heading → List (List Cell)
 heading_rows hyperlink style heading =

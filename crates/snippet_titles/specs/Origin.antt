@@ -1,4 +1,4 @@
--- The rows of a path: what leads from the gutter to it, the path with the place behind it, and the rows that set it off.
+-- The rows of a path: what leads from the gutter to it, the path with the place after it, and the rows that set it off.
 use Rattle.std.specs.Prelude.{ℕ, Bool, true, false, Option, None, Some, List, [], ◌∷◌, ◌++◌, chars, codes, replicate, if◌then◌else◌}
 use Rattle.std.specs.Fmt.{decimal}
 use Rattle.snippet_style.specs.declared.glyphs.DecorStyle.{DecorStyle}
@@ -6,14 +6,14 @@ use Rattle.snippet_style.specs.declared.glyphs.DecorStyle.TheVariants.{Ascii, Un
 use Rattle.snippet_style.specs.declared.role.ElementStyle.TheVariants.{LineAndColumn, LineNumber}
 use Rattle.snippet_style.specs.Glyphs.{file_start_of}
 use Rattle.snippet_style.specs.Separators.{closing_row, separator_row}
-use Rattle.snippet_style.specs.Cell.{Cell, SPACE, drawn}
+use Rattle.snippet_style.specs.Cell.{Cell, SPACE, text_cells}
 use Rattle.snippet_text.specs.Normalized.{norm}
 use Rattle.snippet_titles.specs.declared.origin.FileStart.{FileStart}
 use Rattle.snippet_titles.specs.declared.origin.FileStart.TheVariants.{Alone, First, Later, Secondary}
-use Rattle.snippet_titles.specs.declared.origin.OriginPlace.{OriginPlace}
+use Rattle.snippet_titles.specs.declared.origin.OriginLocation.{OriginLocation}
 use Rattle.snippet_titles.specs.declared.origin.OriginLayout.{OriginLayout}
 
--- how a line is named behind a path: by its number, or as `LL` where the lines of paths are anonymized
+-- how a line is named after a path: by its number, or as `LL` where the lines of paths are anonymized
 abbrev pub line_name : Bool → ℕ → List ℕ
 line_name true line = codes "LL"
 line_name false line = decimal line
@@ -23,16 +23,16 @@ abbrev pub column_text : Option ℕ → List ℕ
 column_text None = []
 column_text (Some column) = codes ":" ++ decimal column
 
--- what stands behind a path: a colon and the line, and behind these the column; nothing where there is no line
+-- what stands after a path: a colon and the line, and after these the column; nothing where there is no line
 abbrev pub line_text : Bool → Option ℕ → Option ℕ → List ℕ
 line_text anonymized None column = []
 line_text anonymized (Some line) column = codes ":" ++ line_name anonymized line ++ column_text column
 
-abbrev pub place_text : Bool → OriginPlace → List ℕ
+abbrev pub place_text : Bool → OriginLocation → List ℕ
 place_text anonymized place = line_text anonymized place.line place.column
 
--- a path, normalised, with the place behind it
-unfoldable pub origin_text : Bool → List ℕ → OriginPlace → List ℕ
+-- a path, normalised, with the place after it
+unfoldable pub origin_text : Bool → List ℕ → OriginLocation → List ℕ
 origin_text anonymized path place = norm (chars path) ++ place_text anonymized place
 
 -- what leads from the gutter to a path: '--> ', or '::: ' to any but the group's primary file. In Unicode ' ─▸ ' where the
@@ -49,12 +49,12 @@ file_glyph Secondary Unicode = codes " ⸬  "
 -- a row that leads to a file without naming it: the gutter is empty, and the glyph stands from cell `gutter` on
 unfoldable pub file_row : OriginLayout → FileStart → List Cell
 file_row layout start =
-    replicate layout.gutter SPACE ++ drawn LineNumber (file_glyph start layout.decor)
+    replicate layout.gutter SPACE ++ text_cells LineNumber (file_glyph start layout.decor)
 
--- the row of a path: the same, and behind it the path with its place
-unfoldable pub origin_row : OriginLayout → FileStart → List ℕ → OriginPlace → List Cell
+-- the row of a path: the same, and after it the path with its place
+unfoldable pub origin_row : OriginLayout → FileStart → List ℕ → OriginLocation → List Cell
 origin_row layout start path place =
-    file_row layout start ++ drawn LineAndColumn (origin_text layout.anonymized path place)
+    file_row layout start ++ text_cells LineAndColumn (origin_text layout.anonymized path place)
 
 -- the row of a padding: the separator row, or the closing row where nothing follows
 abbrev pub padding_row : DecorStyle → ℕ → Bool → List Cell
@@ -75,12 +75,12 @@ opening_head layout first = opening_rows layout.decor layout first
 
 -- what a snippet with a path begins with where it is the group's primary one, as the first element or as a later one: the
 -- row of the path, and a separator row
-abbrev pub primary_head : OriginLayout → Bool → List ℕ → OriginPlace → List (List Cell)
+abbrev pub primary_head : OriginLayout → Bool → List ℕ → OriginLocation → List (List Cell)
 primary_head layout first path place =
     origin_row layout (primary_start first) path place ∷ separator_row layout.decor layout.gutter ∷ []
 
 -- the same where it isn't primary: the row of the path between two separator rows
-abbrev pub secondary_head : OriginLayout → List ℕ → OriginPlace → List (List Cell)
+abbrev pub secondary_head : OriginLayout → List ℕ → OriginLocation → List (List Cell)
 secondary_head layout path place =
     separator_row layout.decor layout.gutter ∷ origin_row layout Secondary path place ∷ separator_row layout.decor layout.gutter ∷ []
 
@@ -89,8 +89,8 @@ abbrev pub nameless_head : OriginLayout → List (List Cell)
 nameless_head layout = separator_row layout.decor layout.gutter ∷ file_row layout Secondary ∷ []
 
 -- what a snippet begins with: whether it is the group's primary one, and the first element, with its path, if it has one, and
--- the place that is named behind that
-abbrev pub snippet_head : OriginLayout → Bool → Bool → Option (List ℕ) → OriginPlace → List (List Cell)
+-- the place that is named after that
+abbrev pub snippet_head : OriginLayout → Bool → Bool → Option (List ℕ) → OriginLocation → List (List Cell)
 snippet_head layout true first None place = opening_head layout first
 snippet_head layout true first (Some path) place = primary_head layout first path place
 snippet_head layout false first None place = nameless_head layout

@@ -10,12 +10,12 @@ use Rattle.snippet_titles.specs.declared.style.TitleStyle.{TitleStyle}
 use Rattle.snippet_titles.specs.Heading.{heading_lines, indent_cells, label_text, label_width, opening_of, sign_cells}
 use Rattle.snippet_titles.specs.Title.{id_address, id_chars}
 
--- the texts of lines: the first stands behind these characters, each further one behind those
+-- the texts of lines: the first stands after these characters, each further one after those
 abbrev pub texts_below : List ℕ → List ℕ → List (List ℕ) → List (List ℕ)
 texts_below first further [] = []
 texts_below first further (line ∷ lines) = (first ++ line) ∷ map (λ l. further ++ l) lines
 
--- the text of each row of a heading: its first line behind the sign and the label, each further one below its text
+-- the text of each row of a heading: its first line after the sign and the label, each further one below its text
 abbrev pub heading_texts : TitleStyle → Heading → List (List ℕ)
 heading_texts style heading =
     texts_below (row_text (sign_cells style) ++ label_text heading) (row_text (indent_cells style (label_width heading))) (heading_lines heading)

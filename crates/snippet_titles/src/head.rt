@@ -3,7 +3,7 @@ ghost use Rattle.std.specs.Prelude.{◌≡◌, ◌+◌, ◌^◌, ◌<◌, ◌++�
 ghost use Rattle.snippet_titles.specs.Origin.{nameless_head, opening_head, primary_head, secondary_head};
 ghost use Rattle.snippet_titles.specs.Origin as spec;
 
-use crate::origin::{FileStart, OriginLayout, OriginPlace, begin_file_row, draw_origin};
+use crate::origin::{FileStart, OriginLayout, OriginLocation, begin_file_row, draw_origin};
 use crate::padding::draw_separator;
 use snippet_grid::StyledBuffer;
 use snippet_style::DecorStyle;
@@ -55,7 +55,7 @@ pub fn draw_primary_head(
     layout: OriginLayout,
     first: bool,
     path: &str,
-    place: OriginPlace,
+    place: OriginLocation,
 ) -> Result<(), AllocError>
     requires narrow { layout.gutter < 2 ^ 63 + 2 ^ 32 }
     ensures rows { OnOk result (buffer.new ≡ buffer.old ++ primary_head layout first path.now place) }
@@ -80,7 +80,7 @@ pub fn draw_secondary_head(
     buffer: &mut StyledBuffer,
     layout: OriginLayout,
     path: &str,
-    place: OriginPlace,
+    place: OriginLocation,
 ) -> Result<(), AllocError>
     requires narrow { layout.gutter < 2 ^ 63 + 2 ^ 32 }
     ensures rows { OnOk result (buffer.new ≡ buffer.old ++ secondary_head layout path.now place) }

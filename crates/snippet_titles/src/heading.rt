@@ -7,11 +7,11 @@ ghost use Rattle.snippet_model.specs.Fits.{IdFits};
 ghost use Rattle.snippet_model.specs.Heading.{HeadingFits};
 ghost use Rattle.snippet_model.specs.Heading as model;
 ghost use Rattle.snippet_titles.specs.Appended.{IsAtEnd, appended};
-ghost use Rattle.snippet_titles.specs.Heading.{drawn_text, gutter_of, heading_rows, indent_cells, label_cells, trimmed};
+ghost use Rattle.snippet_titles.specs.Heading.{shown_text, gutter_of, heading_rows, indent_cells, label_cells, trimmed};
 ghost use Rattle.snippet_titles.specs.Heading as spec;
 ghost use Rattle.snippet_titles.specs.Shown.{IsFreeButText, LinksId, heading_texts};
 ghost use Rattle.snippet_grid.specs.Grid.{row_at};
-ghost use Rattle.snippet_style.specs.Cell.{drawn};
+ghost use Rattle.snippet_style.specs.Cell.{text_cells};
 ghost use Rattle.snippet_grid.specs.Print.{row_text};
 ghost use Rattle.snippet_text.specs.Normalized.{norm};
 ghost use Rattle.snippet_text.specs.Width.{width_of};
@@ -57,7 +57,7 @@ pub fn draw_heading<'a>(
     draw_text(alloc, buffer, row, style, roles.text, heading)
 }
 
-/// Draws what stands before a heading's text behind the cells of a row, of which there are `start`.
+/// Draws what stands before a heading's text after the cells of a row, of which there are `start`.
 pub(crate) fn draw_label<'a>(
     alloc: Global,
     buffer: &mut StyledBuffer<'a>,
@@ -144,7 +144,7 @@ fn id_width(hidden: bool, id: Option<&Id>) -> usize
 
 /// A heading's text as it is drawn: a trusted one as it is, any other normalised.
 fn text_of(alloc: Global, heading: &dyn MessageOrTitle) -> Result<CowStr<'_>, AllocError>
-    ensures value { IfOk result (λ text. chars (cow_str_bytes text) ≡ drawn_text (heading_of heading.now)) }
+    ensures value { IfOk result (λ text. chars (cow_str_bytes text) ≡ shown_text (heading_of heading.now)) }
 {
     if heading.allows_styling() {
         Ok(CowStr::Borrowed(heading.text()))
@@ -153,7 +153,7 @@ fn text_of(alloc: Global, heading: &dyn MessageOrTitle) -> Result<CowStr<'_>, Al
     }
 }
 
-/// Draws a heading's text behind the cells of the grid's last row; each further line of it stands in a row of its own, below a
+/// Draws a heading's text after the cells of the grid's last row; each further line of it stands in a row of its own, below a
 /// label of its width.
 pub(crate) fn draw_text(
     alloc: Global,
@@ -181,7 +181,7 @@ pub(crate) fn draw_text(
     )
 }
 
-/// Draws a text behind the cells of the grid's last row; each further line of it stands in a row of its own, below a label of
+/// Draws a text after the cells of the grid's last row; each further line of it stands in a row of its own, below a label of
 /// this width.
 fn draw_lines(
     buffer: &mut StyledBuffer,
@@ -222,7 +222,7 @@ fn draw_further_line(
     requires empty { row_at buffer.old row ≡ [] }
     requires narrow { gutter_of style < 2 ^ 32 }
     requires width { width < 2 ^ 62 }
-    ensures drawn { OnOk result (buffer.new ≡ appended buffer.old row (indent_cells style width ++ drawn role (chars line.now))) }
+    ensures drawn { OnOk result (buffer.new ≡ appended buffer.old row (indent_cells style width ++ text_cells role (chars line.now))) }
 {
     draw_indent(buffer, row, style, width)?;
     extend_row(buffer, row, line, role)?;

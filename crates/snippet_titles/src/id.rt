@@ -16,7 +16,7 @@ use snippet_style::ElementStyle;
 use snippet_text::{CowStr, normalized};
 use std::alloc::{AllocError, Global};
 
-/// Draws an id behind a row's cells, of which there are `start`: in brackets, unless the level's name is hidden. Its text
+/// Draws an id after a row's cells, of which there are `start`: in brackets, unless the level's name is hidden. Its text
 /// links to its URL where links are on.
 ///
 ///     [E0308]
@@ -74,7 +74,7 @@ pub(crate) fn opening_bracket(hidden: bool) -> &'static str
     if hidden { "" } else { "[" }
 }
 
-/// What stands behind an id's text.
+/// What stands after an id's text.
 pub(crate) fn closing_bracket(hidden: bool) -> &'static str
     ensures value { chars result.now ≡ spec.closing_of hidden }
     ensures short { length result.now ≤ 1 }

@@ -1,4 +1,4 @@
-//! The row of a path, and of the place behind it.
+//! The row of a path, and of the place after it.
 ghost use Rattle.std.specs.Prelude.{◌≡◌, ◌+◌, ◌^◌, ◌<◌, ◌∷◌, ◌++◌, [], length, chars, string_bytes, OnOk, IfOk};
 ghost use Rattle.snippet_text.specs.Normalized.{norm};
 ghost use Rattle.snippet_titles.specs.Origin as spec;
@@ -23,9 +23,9 @@ pub enum FileStart {
     Secondary,
 }
 
-/// A place in a file, as it stands behind the file's path.
+/// A place in a file, as it stands after the file's path.
 #[derive(Clone, Copy, Debug, PartialEq, Eq)]
-pub struct OriginPlace {
+pub struct OriginLocation {
     /// The number of the line.
     pub line: Option<usize>,
     /// The column, counted in characters from 1. It is shown only where there is a line.
@@ -40,11 +40,11 @@ pub struct OriginPlace {
 /// ```
 #[derive(Clone, Copy, Debug)]
 pub struct OriginLayout {
-    /// The number of cells that line numbers are set right in.
+    /// The number of cells that line numbers are right-aligned in.
     pub gutter: usize,
     /// The glyphs of the strokes.
     pub decor: DecorStyle,
-    /// Whether each line behind a path is named `LL`.
+    /// Whether each line after a path is named `LL`.
     pub anonymized: bool,
 }
 
@@ -64,7 +64,7 @@ impl FileStart {
     }
 }
 
-/// A path, normalised, with the place behind it: `src/main.rs:3:5`. Where lines are anonymized, the line is named `LL`.
+/// A path, normalised, with the place after it: `src/main.rs:3:5`. Where lines are anonymized, the line is named `LL`.
 ///
 /// # Errors
 ///
@@ -72,7 +72,7 @@ impl FileStart {
 pub fn origin_text(
     alloc: Global,
     path: &str,
-    place: OriginPlace,
+    place: OriginLocation,
     anonymized: bool,
 ) -> Result<String, AllocError>
     ensures value { IfOk result (λ t. chars (string_bytes t) ≡ spec.origin_text anonymized path.now place) }
@@ -89,8 +89,8 @@ fn shown_path(alloc: Global, path: &str) -> Result<String, AllocError>
     normalize_untrusted_str(alloc, path)
 }
 
-/// Adds the place that stands behind a path.
-fn push_place(text: &mut String, place: OriginPlace, anonymized: bool) -> Result<(), AllocError>
+/// Adds the place that stands after a path.
+fn push_place(text: &mut String, place: OriginLocation, anonymized: bool) -> Result<(), AllocError>
     ensures added { OnOk result (string_bytes text.new ≡ string_bytes text.old ++ place_text anonymized place) }
 {
     let Some(line) = place.line else {
@@ -130,7 +130,7 @@ pub fn draw_origin(
     layout: OriginLayout,
     start: FileStart,
     path: &str,
-    place: OriginPlace,
+    place: OriginLocation,
 ) -> Result<(), AllocError>
     requires narrow { layout.gutter < 2 ^ 63 + 2 ^ 32 }
     ensures row { OnOk result (buffer.new ≡ buffer.old ++ origin_row layout start path.now place ∷ []) }

@@ -1,17 +1,17 @@
-//! The rows that a heading is drawn into: what is added behind their cells.
+//! The rows that a heading is drawn into: what is added after their cells.
 ghost use Rattle.std.specs.Prelude.{◌≡◌, ◌+◌, ◌^◌, ◌<◌, [], chars, length, replicate, OnOk};
 ghost use Rattle.std.specs.Option.{option_copied};
 ghost use Rattle.snippet_titles.specs.Appended.{appended, linked_from};
 ghost use Rattle.snippet_titles.specs.Heading.{gutter_of, indent_cells, sign_cells};
 ghost use Rattle.snippet_grid.specs.Grid.{row_at};
-ghost use Rattle.snippet_style.specs.Cell.{SPACE, drawn};
+ghost use Rattle.snippet_style.specs.Cell.{SPACE, text_cells};
 
 use crate::style::TitleStyle;
 use snippet_grid::StyledBuffer;
 use snippet_style::ElementStyle;
 use std::alloc::AllocError;
 
-/// Adds a text behind the cells of a row. An empty one makes no row.
+/// Adds a text after the cells of a row. An empty one makes no row.
 pub(crate) fn extend_row(
     buffer: &mut StyledBuffer,
     row: usize,
@@ -19,7 +19,7 @@ pub(crate) fn extend_row(
     role: ElementStyle,
 ) -> Result<(), AllocError>
     requires row { row + 1 < 2 ^ 64 }
-    ensures extended { OnOk result (buffer.new ≡ appended buffer.old row (drawn role (chars text.now))) }
+    ensures extended { OnOk result (buffer.new ≡ appended buffer.old row (text_cells role (chars text.now))) }
 {
     buffer.append(row, text, role)?;
     Ok(())
@@ -40,7 +40,7 @@ pub(crate) fn link_from<'a>(
     Ok(())
 }
 
-/// Adds so many spaces behind the cells of a row, of which there are `end`.
+/// Adds so many spaces after the cells of a row, of which there are `end`.
 pub(crate) fn add_spaces(
     buffer: &mut StyledBuffer,
     row: usize,

@@ -11,7 +11,7 @@ use snippet_model::MessageOrTitle;
 use snippet_style::{ElementStyle, char_count};
 use std::alloc::{AllocError, Global};
 
-/// Draws a title in the short form below all that stands in the grid: behind a text, and its first row goes on with another.
+/// Draws a title in the short form below all that stands in the grid: after a text, and its first row goes on with another.
 ///
 ///     src/main.rs:1:5: error: unused: here
 ///
@@ -23,12 +23,12 @@ pub fn draw_short<'a>(
     buffer: &mut StyledBuffer<'a>,
     hyperlink: bool,
     before: &str,
-    behind: &str,
+    after: &str,
     heading: &'a dyn MessageOrTitle,
 ) -> Result<(), AllocError>
     requires fits { HeadingFits (heading_of heading.now) }
     requires short { length (chars before.now) < 2 ^ 59 }
-    ensures rows { OnOk result (buffer.new ≡ buffer.old ++ short_rows hyperlink (chars before.now) (chars behind.now) (heading_of heading.now)) }
+    ensures rows { OnOk result (buffer.new ≡ buffer.old ++ short_rows hyperlink (chars before.now) (chars after.now) (heading_of heading.now)) }
 {
     let row = buffer.num_lines();
     let roles = roles_of(
@@ -47,5 +47,5 @@ pub fn draw_short<'a>(
         heading,
     )?;
     draw_text(alloc, buffer, row, TitleStyle::Short, roles.text, heading)?;
-    extend_row(buffer, row, behind, ElementStyle::NoStyle)
+    extend_row(buffer, row, after, ElementStyle::NoStyle)
 }

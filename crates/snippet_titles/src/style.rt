@@ -8,7 +8,7 @@ use snippet_style::{DecorStyle, ElementStyle, LevelInner};
 
 /// The place of a message, below the rows of an element of its group.
 #[derive(Clone, Copy)]
-pub struct MessagePlace {
+pub struct MessageContext {
     /// The cells of the gutter.
     pub gutter: usize,
     /// The strokes that are drawn.
@@ -25,7 +25,7 @@ pub enum TitleStyle {
     /// A report's short form consists of it.
     Short,
     /// It stands below the rows of an element.
-    Message(MessagePlace),
+    Message(MessageContext),
 }
 
 /// The roles of a heading's parts.
@@ -33,7 +33,7 @@ pub enum TitleStyle {
 pub struct HeadingRoles {
     /// That of the level's name and the id.
     pub label: ElementStyle,
-    /// That of the colon behind them.
+    /// That of the colon after them.
     pub colon: ElementStyle,
     /// That of the text.
     pub text: ElementStyle,
@@ -72,7 +72,7 @@ fn title_roles(short: bool, kind: LevelInner, trusted: bool) -> HeadingRoles
     }
 }
 
-impl MessagePlace {
+impl MessageContext {
     /// What leads from the gutter to the message.
     pub(crate) fn sign(self) -> &'static str
         ensures value { chars result.now ≡ spec.note_sign_of self.decor self.followed }

@@ -86,7 +86,7 @@ among_put : {X : Type 0} (before : X → X → Bool) (y : X) (xs : List X) (x : 
 among_put before y [] x here = here
 among_put before y (z ∷ zs) x here =
     elim (cases_Bool (before z y)) [
-      | inl behind ↦ subst (λ ys. Among ys x) (sym (cond-true (before z y) (z ∷ put_in before y zs) (y ∷ z ∷ zs) behind)) (passed (among_put before y zs x) here)
+      | inl after ↦ subst (λ ys. Among ys x) (sym (cond-true (before z y) (z ∷ put_in before y zs) (y ∷ z ∷ zs) after)) (passed (among_put before y zs x) here)
       | inr here' ↦ subst (λ ys. Among ys x) (sym (cond-false (before z y) (z ∷ put_in before y zs) (y ∷ z ∷ zs) here')) here
     ]
   where
@@ -99,7 +99,7 @@ put_cases : {X : Type 0} (before : X → X → Bool) (y : X) (xs : List X) (x : 
 put_cases before y [] x here = here
 put_cases before y (z ∷ zs) x here =
     elim (cases_Bool (before z y)) [
-      | inl behind ↦ passed (put_cases before y zs x) (subst (λ ys. Among ys x) (cond-true (before z y) (z ∷ put_in before y zs) (y ∷ z ∷ zs) behind) here)
+      | inl after ↦ passed (put_cases before y zs x) (subst (λ ys. Among ys x) (cond-true (before z y) (z ∷ put_in before y zs) (y ∷ z ∷ zs) after) here)
       | inr here' ↦ subst (λ ys. Among ys x) (cond-false (before z y) (z ∷ put_in before y zs) (y ∷ z ∷ zs) here') here
     ]
   where
@@ -150,9 +150,9 @@ all_pass p [] x all here = absurd here
 all_pass p (z ∷ zs) x all (inl same) = ap p (sym same) ∙ (and_parts (p z) (list_all p zs) all).0
 all_pass p (z ∷ zs) x all (inr later) = all_pass p zs x (and_parts (p z) (list_all p zs) all).1 later
 
-among_behind : {X : Type 0} (o : Option X) (xs : List X) (x : X) → Among xs x → Among (cons_option o xs) x
-among_behind None xs x here = here
-among_behind (Some w) xs x here = inr here
+among_after : {X : Type 0} (o : Option X) (xs : List X) (x : X) → Among xs x → Among (cons_option o xs) x
+among_after None xs x here = here
+among_after (Some w) xs x here = inr here
 
 -- what a partial function gives of an element
 pub among_filter_map : {X Y : Type 0} (h : X → Option Y) (xs : List X) (x : X) (y : Y) → Among xs x → h x ≡ Some y → Among (filter_map h xs) y
@@ -160,7 +160,7 @@ among_filter_map h [] x y here is = absurd here
 among_filter_map h (z ∷ zs) x y (inl same) is =
     subst (λ o. Among (cons_option o (filter_map h zs)) y) (sym (ap h same ∙ is)) (inl refl)
 among_filter_map h (z ∷ zs) x y (inr later) is =
-    among_behind (h z) (filter_map h zs) y (among_filter_map h zs x y later is)
+    among_after (h z) (filter_map h zs) y (among_filter_map h zs x y later is)
 
 -- ---- the least and the greatest number of a list
 

@@ -13,12 +13,12 @@ use Rattle.snippet_lines.specs.Span.{IsSpan}
 use Rattle.snippet_view.proofs.KeptPartLemmas.{none-unkept, unseen-unkept}
 use Rattle.snippet_view.proofs.ShownLemmas.{same-kept}
 
--- some lines behind one of a number, if there is one before, with each single line between two
+-- some lines after one of a number, if there is one before, with each single line between two
 abbrev pub filled : Source → Option ℕ → List KeptLine → List KeptLine
 filled s before [] = []
 filled s before (l ∷ ls) = lines_between s before l.number ++ l ∷ filled s (Some l.number) ls
 
--- some lines behind line j, with each single line between two
+-- some lines after line j, with each single line between two
 abbrev pub rest_between : ℕ → List ℕ → List ℕ
 rest_between j [] = []
 rest_between j (k ∷ ks) = cond (eqb k (j + 2)) ((j + 1) ∷ k ∷ rest_between k ks) (k ∷ rest_between k ks)

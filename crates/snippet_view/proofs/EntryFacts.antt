@@ -11,7 +11,7 @@ use Rattle.std.proofs.lemmas.List.Sums.{sum_by-cons, sum_by-append}
 use Rattle.snippet_model.specs.declared.snippet.Annotation.{Annotation}
 use Rattle.snippet_model.specs.declared.snippet.AnnotationKind.{AnnotationKind}
 use Rattle.snippet_model.specs.Fits.{AnnotationFits, TextFits}
-use Rattle.snippet_view.specs.declared.depths.LongPlace.{LongPlace}
+use Rattle.snippet_view.specs.declared.depths.LongExtent.{LongExtent}
 use Rattle.snippet_view.specs.declared.entries.AnnotatedLineInfo.{AnnotatedLineInfo}
 use Rattle.snippet_lines.specs.declared.place.Loc.{Loc}
 use Rattle.snippet_view.specs.Annotated.{PartEntry, seen_part, KeptLine, seen_kept, kept_line, is_short, is_long, long_entry, long_place, long_places, long_spans, long_parts, depth_of, deepest, single_part, bar_lines, made_parts, parts_on}
@@ -132,7 +132,7 @@ labels-fit s marks ks infos same fit =
 
 -- ---- depths
 
-place-holds : (f : LongPlace → ℕ) (P : ℕ → Type 0) (p : LongPlace) (ps : List LongPlace) → list_any (same_place p) ps ≡ true → All P (map f ps) → P (f p)
+place-holds : (f : LongExtent → ℕ) (P : ℕ → Type 0) (p : LongExtent) (ps : List LongExtent) → list_any (same_place p) ps ≡ true → All P (map f ps) → P (f p)
 place-holds f P p [] among all = cc
 place-holds f P p (q ∷ ps) among all =
     elim (or_cases (same_place p q) (list_any (same_place p) ps) among) [

@@ -7,7 +7,7 @@ use Rattle.std.proofs.lemmas.List.Folds.{list_any_at, list_any_none}
 use Rattle.snippet_model.specs.declared.snippet.Annotation.{Annotation}
 use Rattle.snippet_model.specs.declared.snippet.AnnotationKind.{AnnotationKind}
 use Rattle.snippet_view.specs.Annotated.{PartEntry, is_short, is_long, long_entry, depth_of, single_part, made_parts, parts_on, bar_lines}
-use Rattle.snippet_view.specs.Kept.{beginning, has_bar, is_weak_line, keeps}
+use Rattle.snippet_view.specs.Kept.{beginning, has_bar, is_trivial_line, keeps}
 use Rattle.snippet_lines.specs.Lines.{Source, source_lines}
 use Rattle.snippet_view.specs.Mark.{is_marking, touches}
 use Rattle.snippet_view.specs.Marked.{first_line, last_line}
@@ -69,11 +69,11 @@ keeps-unmarked source a k unmarked there =
 
 keeps-bar : (source : List ℕ) (a : Annotation) (k : ℕ) → IsBarLine source (first_line source a) (last_line source a) k → keeps source k a ≡ true
 keeps-bar source a k bar =
-    let shown : Bool = list_any (λ j. not (is_weak_line source j)) (range_with_len k (beginning source a - k)) in
-    let closing : Bool = eqb (k + 1) (last_line source a) && ltb (beginning source a) k && not (is_weak_line source k) in
+    let shown : Bool = list_any (λ j. not (is_trivial_line source j)) (range_with_len k (beginning source a - k)) in
+    let closing : Bool = eqb (k + 1) (last_line source a) && ltb (beginning source a) k && not (is_trivial_line source k) in
     let there : has_bar source a k ≡ true = and_from (ltb (first_line source a) k) (shown || closing) (lt-ltb (first_line source a) k bar.from) (elim bar.shown [
       | inl t ↦ or_left shown closing t
-      | inr t ↦ or_right shown closing (and_from (eqb (k + 1) (last_line source a) && ltb (beginning source a) k) (not (is_weak_line source k)) (and_from (eqb (k + 1) (last_line source a)) (ltb (beginning source a) k) (eq-eqb (k + 1) (last_line source a) t.0) t.1) t.2)
+      | inr t ↦ or_right shown closing (and_from (eqb (k + 1) (last_line source a) && ltb (beginning source a) k) (not (is_trivial_line source k)) (and_from (eqb (k + 1) (last_line source a)) (ltb (beginning source a) k) (eq-eqb (k + 1) (last_line source a) t.0) t.1) t.2)
     ]) in
     fourth-of-four (eqb k (first_line source a)) (eqb k (last_line source a)) (not (is_marking a.kind)) (has_bar source a k) (touches source a k) (touched source a k (omega (arith, bar.from)) bar.to) there
 

@@ -13,9 +13,9 @@ pub mod PartLemmas
 pub mod PlaceBounds
 pub mod RawDepthLemmas
 pub mod ShownFacts
-pub mod NamedPlaceLaws
-pub mod NamedPlaceLemmas
+pub mod LocationLaws
+pub mod LocationLemmas
 pub mod NearLemmas
 pub mod ShownLemmas
-pub mod WeakLemmas
+pub mod TrivialLemmas
 pub mod WindowLemmas

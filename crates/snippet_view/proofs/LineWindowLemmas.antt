@@ -21,7 +21,7 @@ scalars_front (x ∷ xs) ys all =
     let rest = scalars_front xs ys (grind arith) in
     grind arith
 
--- a text, cut behind its first n characters
+-- a text, cut after its first n characters
 pub text_parts : (text : List ℕ) (n : ℕ) → IsUtf8 text → text ≡ encode_utf8_all (take n (chars text)) ++ encode_utf8_all (drop n (chars text))
 text_parts text n utf8 =
     sym (encodes-chars text utf8) ∙ ap encode_utf8_all (sym (take-append-drop n (chars text))) ∙ encodes-append (take n (chars text)) (drop n (chars text))
@@ -78,7 +78,7 @@ pub bytes_next : (text : List ℕ) (n at c : ℕ) → IsUtf8 text → IsNext (ch
 bytes_next text n at c utf8 next is =
     omega (arith, is, bytes_within text (n + 1) utf8, ap bytes_of (take-next (chars text) n c next), bytes-push (take n (chars text)) c)
 
--- the characters so far don't reach so many columns: what is left is reached behind them
+-- the characters so far don't reach so many columns: what is left is reached after them
 pub record ReachesSoFar (columns : ℕ) (cs : List ℕ) (n at width : ℕ) : Type 0 where
   pub bytes : at ≡ bytes_of (take n cs)
   pub width_is : width ≡ width_of (take n cs)
@@ -120,7 +120,7 @@ reaches_all columns cs n at width all so_far =
     let stop : reaching (columns - width) (drop n cs) ≡ 0 = ap (reaching (columns - width)) (drop_all n cs (omega arith)) in
     omega (arith, so_far.rest, stop)
 
--- the characters so far fit, and so much is left behind them
+-- the characters so far fit, and so much is left after them
 pub record FitsSoFar (columns : ℕ) (cs : List ℕ) (n at left : ℕ) : Type 0 where
   pub bytes : at ≡ bytes_of (take n cs)
   pub width_is : left + width_of (take n cs) ≡ columns
@@ -157,7 +157,7 @@ fits_all columns cs n at left all so_far =
     let stop : fitting left (drop n cs) ≡ 0 = ap (fitting left) (drop_all n cs (omega arith)) in
     omega (arith, so_far.rest, stop)
 
--- the last characters, from this one on, reach so many columns: so do those behind it, or it is the first that is needed
+-- the last characters, from this one on, reach so many columns: so do those after it, or it is the first that is needed
 pub record LastSoFar (columns : ℕ) (cs : List ℕ) (n width count : ℕ) : Type 0 where
   pub width_is : width ≡ width_of (drop n cs)
   pub count_is : count + n ≡ length cs
@@ -175,25 +175,25 @@ reaching_last-here k c cs few = ap (λ b. cond b (reaching_last k cs) (length cs
 pub last_start : (columns : ℕ) (cs : List ℕ) (width count : ℕ) → width ≡ width_of cs → count ≡ length cs → LastSoFar columns cs 0 width count
 last_start columns cs width count is_width is_count = record { width_is = is_width; count_is = omega arith; rest = refl }
 
--- the width behind a character
-pub width_behind : (cs : List ℕ) (n c width w : ℕ) → IsNext cs n c → w ≡ char_width c → width ≡ width_of (drop n cs) → width ≡ w + width_of (drop (n + 1) cs)
-width_behind cs n c width w next is_width is =
+-- the width after a character
+pub width_after : (cs : List ℕ) (n c width w : ℕ) → IsNext cs n c → w ≡ char_width c → width ≡ width_of (drop n cs) → width ≡ w + width_of (drop (n + 1) cs)
+width_after cs n c width w next is_width is =
     is ∙ ap width_of (drop-next cs n c next) ∙ width-cons c (drop (n + 1) cs) ∙ ap (λ k. k + width_of (drop (n + 1) cs)) (sym is_width)
 
 pub last_next : (columns : ℕ) (cs : List ℕ) (n m width count c w : ℕ) → IsNext cs n c → m ≡ n + 1 → w ≡ char_width c → columns ≤ width - w → LastSoFar columns cs n width count → LastSoFar columns cs m (width - w) (count - 1)
 last_next columns cs n m width count c w next one is_width more so_far =
-    let behind = width_behind cs n c width w next is_width so_far.width_is in
+    let after = width_after cs n c width w next is_width so_far.width_is in
     let same : drop m cs ≡ drop (n + 1) cs = ap (λ k. drop k cs) one in
     record {
-      width_is = omega (arith, behind, ap width_of same);
+      width_is = omega (arith, after, ap width_of same);
       count_is = omega (arith, so_far.count_is, next.0, one);
-      rest = so_far.rest ∙ ap (reaching_last columns) (drop-next cs n c next) ∙ reaching_last-more columns c (drop (n + 1) cs) (omega (arith, behind, more)) ∙ ap (reaching_last columns) (sym same);
+      rest = so_far.rest ∙ ap (reaching_last columns) (drop-next cs n c next) ∙ reaching_last-more columns c (drop (n + 1) cs) (omega (arith, after, more)) ∙ ap (reaching_last columns) (sym same);
     }
 
 pub last_here : (columns : ℕ) (cs : List ℕ) (n width count c w : ℕ) → IsNext cs n c → w ≡ char_width c → width - w < columns → LastSoFar columns cs n width count → count ≡ reaching_last columns cs
 last_here columns cs n width count c w next is_width few so_far =
-    let behind = width_behind cs n c width w next is_width so_far.width_is in
-    let here = so_far.rest ∙ ap (reaching_last columns) (drop-next cs n c next) ∙ reaching_last-here columns c (drop (n + 1) cs) (omega (arith, behind, few)) in
+    let after = width_after cs n c width w next is_width so_far.width_is in
+    let here = so_far.rest ∙ ap (reaching_last columns) (drop-next cs n c next) ∙ reaching_last-here columns c (drop (n + 1) cs) (omega (arith, after, few)) in
     omega (arith, here, so_far.count_is, length-drop (n + 1) cs, next.0)
 
 pub last_all : (columns : ℕ) (cs : List ℕ) (n width count : ℕ) → n ≡ length cs → LastSoFar columns cs n width count → count ≡ reaching_last columns cs
@@ -213,7 +213,7 @@ pub part_short : (n k : ℕ) (cs rest inner : List ℕ) → rest ≡ drop n cs �
 part_short n k cs rest inner rest_is inner_is =
     omega (arith, ap length rest_is, ap length inner_is, length-take k rest, length-drop n cs)
 
--- what a line's window begins with and what stands behind it are few cells
+-- what a line's window begins with and what stands after it are few cells
 pub start_few : (start : Option ℕ) (columns : ℕ) → columns < 2 ^ 58 + 1 → IfSome start (λ s. s < columns + 4) → unwrap_or start 0 < 2 ^ 59
 start_few None columns narrow few = omega arith
 start_few (Some s) columns narrow few = omega (arith, narrow, few)

@@ -8,13 +8,13 @@ use Rattle.std.proofs.lemmas.List.{map-append}
 use Rattle.snippet_text.specs.Width.{width_of}
 use Rattle.snippet_model.specs.declared.snippet.Annotation.{Annotation}
 use Rattle.snippet_model.specs.declared.snippet.AnnotationKind.TheVariants.{Primary}
-use Rattle.snippet_view.specs.declared.depths.LongPlace.{LongPlace}
+use Rattle.snippet_view.specs.declared.depths.LongExtent.{LongExtent}
 use Rattle.snippet_view.specs.declared.entries.AnnotatedLineInfo.{AnnotatedLineInfo}
 use Rattle.snippet_view.specs.declared.entries.LineAnnotation.{LineAnnotation}
 use Rattle.snippet_view.specs.declared.entries.LineAnnotationType.{LineAnnotationType}
 use Rattle.snippet_view.specs.declared.entries.LineAnnotationType.TheVariants.{Singleline, MultilineEnd}
 use Rattle.snippet_lines.specs.declared.place.Loc.{Loc}
-use Rattle.snippet_view.specs.Annotated.{PartEntry, seen_part, long_entry, long_place, is_long, is_short, stands_before, long_spans, long_places, bar_lines, bar_part, single_part, start_part, end_part, span_parts, stands_among, drawn, is_drawn_primary, long_parts, made_parts, parts_on, KeptLine, seen_kept, kept_line, annotated_lines}
+use Rattle.snippet_view.specs.Annotated.{PartEntry, seen_part, long_entry, long_place, is_long, is_short, stands_before, long_spans, long_places, bar_lines, bar_part, single_part, start_part, end_part, span_parts, stands_among, promoted, is_promoted, long_parts, made_parts, parts_on, KeptLine, seen_kept, kept_line, annotated_lines}
 use Rattle.snippet_view.specs.Depths.{same_place, depth_among}
 use Rattle.snippet_view.specs.Kept.{keeps, kept_lines}
 use Rattle.snippet_lines.specs.Lines.{Source, source_lines}
@@ -22,7 +22,7 @@ use Rattle.snippet_view.specs.Margin.{Bounds, margin_bounds}
 use Rattle.snippet_view.specs.Mark.{is_marking, is_marked_on, is_single_line, is_wide, start_column}
 use Rattle.snippet_view.specs.Marked.{Entry, first_line, last_line}
 use Rattle.snippet_view.specs.Measures.{bounds_for, bounds_of_lines, columns_of, end_with, ends_of, entries_of, greatest, is_bar, least, margin_of, span_columns, span_ends, texts_of, whitespaces_of, widths_of, with_columns}
-use Rattle.snippet_lines.specs.Place.{end_location, line_of, location_of, locations_of, place_of, prefix_at, start_location, steps_behind_text}
+use Rattle.snippet_lines.specs.Place.{end_location, line_of, location_of, locations_of, place_of, prefix_at, start_location, steps_after_text}
 use Rattle.snippet_lines.specs.Span.{IsSpan}
 use Rattle.snippet_view.specs.Window.{chars_at, end_mark_column, is_near, is_near_left, is_near_span, leading_whitespace, stands_whole}
 use Rattle.snippet_view.proofs.AmongLemmas.{Among, all_among, among_left, among_right, append_cases, among_map, map_cases, among_filter, filter_cases, among_flat_map, flat_map_cases, among_in_order, in_order_cases, among_range, any_among, any_cases, least_same, greatest_same, least_le, greatest_most, all_pass, among_filter_map}
@@ -98,13 +98,13 @@ long_span g s a long =
     ap (λ b. cond (not b) [] (cond (is_single_line s.text a) (measured g (single_part s a)) (measured_long g (long_entry s a)))) both.0 ∙ ap (λ b. cond b (measured g (single_part s a)) (measured_long g (long_entry s a))) (not-true (is_single_line s.text a) both.1)
 
 -- the kind with which a span is drawn isn't measured
-drawn_start : (g : Measure) (before : List Entry) (e : Entry) (depth : ℕ) → measured g (start_part (drawn before e) depth) ≡ measured g (start_part e 0)
+drawn_start : (g : Measure) (before : List Entry) (e : Entry) (depth : ℕ) → measured g (start_part (promoted before e) depth) ≡ measured g (start_part e 0)
 drawn_start g before e depth =
-    elim (is_drawn_primary before e) as (λ b. measured g (start_part (cond b (record e { kind = Primary }) e) depth) ≡ measured g (start_part e 0)) [ true ↦ refl | false ↦ refl ]
+    elim (is_promoted before e) as (λ b. measured g (start_part (cond b (record e { kind = Primary }) e) depth) ≡ measured g (start_part e 0)) [ true ↦ refl | false ↦ refl ]
 
-drawn_end : (g : Measure) (before : List Entry) (e : Entry) (part : LineAnnotationType) → measured g (end_part (drawn before e) part) ≡ measured g (end_part e Singleline)
+drawn_end : (g : Measure) (before : List Entry) (e : Entry) (part : LineAnnotationType) → measured g (end_part (promoted before e) part) ≡ measured g (end_part e Singleline)
 drawn_end g before e part =
-    elim (is_drawn_primary before e) as (λ b. measured g (end_part (cond b (record e { kind = Primary }) e) part) ≡ measured g (end_part e Singleline)) [ true ↦ refl | false ↦ refl ]
+    elim (is_promoted before e) as (λ b. measured g (end_part (cond b (record e { kind = Primary }) e) part) ≡ measured g (end_part e Singleline)) [ true ↦ refl | false ↦ refl ]
 
 -- ---- what is measured of the parts is measured of the spans
 
@@ -115,28 +115,28 @@ bars_none e depth first ks p here some =
     let none : has_columns p ≡ false = ap has_columns (sym bar.2) in
     absurd cc
 
-span_part : (g : Measure) (s : Source) (before : List Entry) (depth : ℕ) (again : Bool) (e : Entry) (p : PartEntry) (c : ℕ) → Among (span_parts s depth again (drawn before e)) p → has_columns p ≡ true → Among (measured g p) c → Among (measured_long g e) c
+span_part : (g : Measure) (s : Source) (before : List Entry) (depth : ℕ) (again : Bool) (e : Entry) (p : PartEntry) (c : ℕ) → Among (span_parts s depth again (promoted before e)) p → has_columns p ≡ true → Among (measured g p) c → Among (measured_long g e) c
 span_part g s before depth true e p c (inl same) some inside =
     among_right (measured g (start_part e 0)) (measured g (end_part e Singleline)) c (subst (λ ns. Among ns c) (ap (measured g) (sym same) ∙ drawn_end g before e Singleline) inside)
 span_part g s before depth true e p c (inr later) some inside = elim later [ ]
 span_part g s before depth false e p c (inl same) some inside =
     among_left (measured g (start_part e 0)) (measured g (end_part e Singleline)) c (subst (λ ns. Among ns c) (ap (measured g) (sym same) ∙ drawn_start g before e depth) inside)
 span_part g s before depth false e p c (inr later) some inside =
-    let x = drawn before e in
+    let x = promoted before e in
     let lines = bar_lines s.text (x.start.line - s.first) (x.end.line - s.first) in
     elim (append_cases (map (λ k. bar_part x depth (s.first + k)) lines) (end_part x (MultilineEnd depth) ∷ []) p later) [
       | inl bar ↦ absurd (bars_none x depth s.first lines p bar some)
       | inr last ↦ closing last
     ]
   where
-    closing : Among (end_part (drawn before e) (MultilineEnd depth) ∷ []) p → Among (measured_long g e) c
+    closing : Among (end_part (promoted before e) (MultilineEnd depth) ∷ []) p → Among (measured_long g e) c
     closing (inl same) = among_right (measured g (start_part e 0)) (measured g (end_part e Singleline)) c (subst (λ ns. Among ns c) (ap (measured g) (sym same) ∙ drawn_end g before e (MultilineEnd depth)) inside)
     closing (inr none) = absurd none
 
-long_part : (g : Measure) (s : Source) (places : List LongPlace) (before es : List Entry) (p : PartEntry) (c : ℕ) → Among (long_parts s places before es) p → has_columns p ≡ true → Among (measured g p) c → (e : Entry) × Among es e × Among (measured_long g e) c
+long_part : (g : Measure) (s : Source) (places : List LongExtent) (before es : List Entry) (p : PartEntry) (c : ℕ) → Among (long_parts s places before es) p → has_columns p ≡ true → Among (measured g p) c → (e : Entry) × Among es e × Among (measured_long g e) c
 long_part g s places before [] p c here some inside = absurd here
 long_part g s places before (e ∷ later) p c here some inside =
-    elim (append_cases (span_parts s (depth_among places (long_place e)) (stands_among e later) (drawn before e)) (long_parts s places (before ++ e ∷ []) later) p here) [
+    elim (append_cases (span_parts s (depth_among places (long_place e)) (stands_among e later) (promoted before e)) (long_parts s places (before ++ e ∷ []) later) p here) [
       | inl first ↦ (e, inl refl, span_part g s before (depth_among places (long_place e)) (stands_among e later) e p c first some inside)
       | inr rest ↦ (let more = long_part g s places (before ++ e ∷ []) later p c rest some inside in (more.0, inr more.1, more.2))
     ]
@@ -180,13 +180,13 @@ parts_there g fold s marks c here =
 
 -- ---- what is measured of the spans is measured of the parts
 
-drawn_start_line : (before : List Entry) (e : Entry) → (drawn before e).start.line ≡ e.start.line
+drawn_start_line : (before : List Entry) (e : Entry) → (promoted before e).start.line ≡ e.start.line
 drawn_start_line before e =
-    elim (is_drawn_primary before e) as (λ b. (cond b (record e { kind = Primary }) e).start.line ≡ e.start.line) [ true ↦ refl | false ↦ refl ]
+    elim (is_promoted before e) as (λ b. (cond b (record e { kind = Primary }) e).start.line ≡ e.start.line) [ true ↦ refl | false ↦ refl ]
 
-drawn_end_line : (before : List Entry) (e : Entry) → (drawn before e).end.line ≡ e.end.line
+drawn_end_line : (before : List Entry) (e : Entry) → (promoted before e).end.line ≡ e.end.line
 drawn_end_line before e =
-    elim (is_drawn_primary before e) as (λ b. (cond b (record e { kind = Primary }) e).end.line ≡ e.end.line) [ true ↦ refl | false ↦ refl ]
+    elim (is_promoted before e) as (λ b. (cond b (record e { kind = Primary }) e).end.line ≡ e.end.line) [ true ↦ refl | false ↦ refl ]
 
 -- a part with columns on this line, of which these numbers are measured
 abbrev Stands : Measure → List PartEntry → ℕ → List ℕ → Type 0
@@ -194,40 +194,40 @@ Stands g ps line ns =
     (p : PartEntry) × Among ps p × (has_columns p ≡ true) × (p.entry.start.line ≡ line) × (measured g p ≡ ns)
 
 -- the end of a span has a part
-span_end : (g : Measure) (s : Source) (before : List Entry) (depth : ℕ) (again : Bool) (e : Entry) → Stands g (span_parts s depth again (drawn before e)) e.end.line (measured g (end_part e Singleline))
+span_end : (g : Measure) (s : Source) (before : List Entry) (depth : ℕ) (again : Bool) (e : Entry) → Stands g (span_parts s depth again (promoted before e)) e.end.line (measured g (end_part e Singleline))
 span_end g s before depth true e =
-    (end_part (drawn before e) Singleline, inl refl, refl, drawn_end_line before e, drawn_end g before e Singleline)
+    (end_part (promoted before e) Singleline, inl refl, refl, drawn_end_line before e, drawn_end g before e Singleline)
 span_end g s before depth false e =
-    let x = drawn before e in
+    let x = promoted before e in
     let bars = map (λ k. bar_part x depth (s.first + k)) (bar_lines s.text (x.start.line - s.first) (x.end.line - s.first)) in
     let p = end_part x (MultilineEnd depth) in
     (p, inr (among_right bars (p ∷ []) p (inl refl)), refl, drawn_end_line before e, drawn_end g before e (MultilineEnd depth))
 
-end_there : (g : Measure) (s : Source) (places : List LongPlace) (before es : List Entry) (e : Entry) → Among es e → Stands g (long_parts s places before es) e.end.line (measured g (end_part e Singleline))
+end_there : (g : Measure) (s : Source) (places : List LongExtent) (before es : List Entry) (e : Entry) → Among es e → Stands g (long_parts s places before es) e.end.line (measured g (end_part e Singleline))
 end_there g s places before [] e here = absurd here
 end_there g s places before (d ∷ later) e (inl same) =
     let depth = depth_among places (long_place d) in
     let again = stands_among d later in
     let found = span_end g s before depth again d in
-    (found.0, among_left (span_parts s depth again (drawn before d)) (long_parts s places (before ++ d ∷ []) later) found.0 found.1, found.2, found.3 ∙ ap (λ (x : Entry). x.end.line) same, found.4 ∙ ap (λ (x : Entry). measured g (end_part x Singleline)) same)
+    (found.0, among_left (span_parts s depth again (promoted before d)) (long_parts s places (before ++ d ∷ []) later) found.0 found.1, found.2, found.3 ∙ ap (λ (x : Entry). x.end.line) same, found.4 ∙ ap (λ (x : Entry). measured g (end_part x Singleline)) same)
 end_there g s places before (d ∷ later) e (inr more) =
     let depth = depth_among places (long_place d) in
     let again = stands_among d later in
     let found = end_there g s places (before ++ d ∷ []) later e more in
-    (found.0, among_right (span_parts s depth again (drawn before d)) (long_parts s places (before ++ d ∷ []) later) found.0 found.1, found.2, found.3, found.4)
+    (found.0, among_right (span_parts s depth again (promoted before d)) (long_parts s places (before ++ d ∷ []) later) found.0 found.1, found.2, found.3, found.4)
 
 -- of the spans of one place the last has a part at its start
-abbrev StandsSomewhere : Measure → Source → List LongPlace → List Entry → List Entry → Entry → Type 0
+abbrev StandsSomewhere : Measure → Source → List LongExtent → List Entry → List Entry → Entry → Type 0
 StandsSomewhere g s places before es e =
     (d : Entry) × Among es d × (d.start.byte ≡ e.start.byte) × Stands g (long_parts s places before es) d.start.line (measured g (start_part d 0))
 
-later_stands : (g : Measure) (s : Source) (places : List LongPlace) (before later : List Entry) (d e : Entry) → StandsSomewhere g s places (before ++ d ∷ []) later e → StandsSomewhere g s places before (d ∷ later) e
+later_stands : (g : Measure) (s : Source) (places : List LongExtent) (before later : List Entry) (d e : Entry) → StandsSomewhere g s places (before ++ d ∷ []) later e → StandsSomewhere g s places before (d ∷ later) e
 later_stands g s places before later d e found =
-    let first = span_parts s (depth_among places (long_place d)) (stands_among d later) (drawn before d) in
+    let first = span_parts s (depth_among places (long_place d)) (stands_among d later) (promoted before d) in
     let part = found.3 in
     (found.0, inr found.1, found.2, (part.0, among_right first (long_parts s places (before ++ d ∷ []) later) part.0 part.1, part.2, part.3, part.4))
 
-start_there : (g : Measure) (s : Source) (places : List LongPlace) (before es : List Entry) (e : Entry) → Among es e → StandsSomewhere g s places before es e
+start_there : (g : Measure) (s : Source) (places : List LongExtent) (before es : List Entry) (e : Entry) → Among es e → StandsSomewhere g s places before es e
 start_there g s places before [] e here = absurd here
 start_there g s places before (d ∷ later) e (inr more) =
     later_stands g s places before later d e (start_there g s places (before ++ d ∷ []) later e more)
@@ -242,9 +242,9 @@ start_there g s places before (d ∷ later) e (inl same) =
           let found = start_there g s places (before ++ d ∷ []) later next.0 next.1 in
           later_stands g s places before later d e (found.0, found.1, found.2 ∙ sym byte ∙ ap (λ (x : Entry). x.start.byte) same, found.3)
       | inr last ↦
-          let p = start_part (drawn before d) depth in
-          let here : Among (span_parts s depth (stands_among d later) (drawn before d)) p = subst (λ b. Among (span_parts s depth b (drawn before d)) p) (sym last) (inl refl) in
-          (d, inl refl, ap (λ (x : Entry). x.start.byte) same, (p, among_left (span_parts s depth (stands_among d later) (drawn before d)) rest p here, refl, drawn_start_line before d, drawn_start g before d depth))
+          let p = start_part (promoted before d) depth in
+          let here : Among (span_parts s depth (stands_among d later) (promoted before d)) p = subst (λ b. Among (span_parts s depth b (promoted before d)) p) (sym last) (inl refl) in
+          (d, inl refl, ap (λ (x : Entry). x.start.byte) same, (p, among_left (span_parts s depth (stands_among d later) (promoted before d)) rest p here, refl, drawn_start_line before d, drawn_start g before d depth))
     ]
 
 -- the lines on which a span starts and ends are kept
@@ -350,8 +350,8 @@ margin_of_kept room fold s marks infos kept spans =
     let all_ends : ends_of es ≡ measured_parts ends (kept_parts fold s marks) = single_list (λ (e : LineAnnotation). end_with e.end.display (option_copied e.label)) (with_columns es) ∙ measured_entries ends es ∙ ap (measured_parts ends) same_parts in
     let low : unwrap_or (least (columns_of es)) 0 ≡ unwrap_or (least (flat_map (span_columns s) marks)) 0 = ap (λ ns. unwrap_or (least ns) 0) all_columns ∙ least_same (measured_parts columns (kept_parts fold s marks)) (flat_map (span_columns s) marks) (parts_there columns fold s marks) (λ c. parts_back columns fold s marks c spans) in
     let high : greatest (columns_of es) ≡ greatest (flat_map (span_columns s) marks) = ap greatest all_columns ∙ greatest_same (measured_parts columns (kept_parts fold s marks)) (flat_map (span_columns s) marks) (parts_there columns fold s marks) (λ c. parts_back columns fold s marks c spans) in
-    let behind : greatest (ends_of es) ≡ greatest (flat_map (span_ends s) marks) = ap greatest all_ends ∙ greatest_same (measured_parts ends (kept_parts fold s marks)) (flat_map (span_ends s) marks) (parts_there ends fold s marks) (λ c. parts_back ends fold s marks c spans) in
-    ap (λ ts. bounds_for room (whitespaces_of ts) (columns_of es) (ends_of es) (widths_of ts)) same_texts ∙ ap (λ n. margin_bounds (unwrap_or (least (whitespaces_of texts)) 0) n (greatest (columns_of es)) (greatest (ends_of es)) room (greatest (widths_of texts))) low ∙ ap (λ n. margin_bounds (unwrap_or (least (whitespaces_of texts)) 0) (unwrap_or (least (flat_map (span_columns s) marks)) 0) n (greatest (ends_of es)) room (greatest (widths_of texts))) high ∙ ap (λ n. margin_bounds (unwrap_or (least (whitespaces_of texts)) 0) (unwrap_or (least (flat_map (span_columns s) marks)) 0) (greatest (flat_map (span_columns s) marks)) n room (greatest (widths_of texts))) behind
+    let after : greatest (ends_of es) ≡ greatest (flat_map (span_ends s) marks) = ap greatest all_ends ∙ greatest_same (measured_parts ends (kept_parts fold s marks)) (flat_map (span_ends s) marks) (parts_there ends fold s marks) (λ c. parts_back ends fold s marks c spans) in
+    ap (λ ts. bounds_for room (whitespaces_of ts) (columns_of es) (ends_of es) (widths_of ts)) same_texts ∙ ap (λ n. margin_bounds (unwrap_or (least (whitespaces_of texts)) 0) n (greatest (columns_of es)) (greatest (ends_of es)) room (greatest (widths_of texts))) low ∙ ap (λ n. margin_bounds (unwrap_or (least (whitespaces_of texts)) 0) (unwrap_or (least (flat_map (span_columns s) marks)) 0) n (greatest (ends_of es)) room (greatest (widths_of texts))) high ∙ ap (λ n. margin_bounds (unwrap_or (least (whitespaces_of texts)) 0) (unwrap_or (least (flat_map (span_columns s) marks)) 0) (greatest (flat_map (span_columns s) marks)) n room (greatest (widths_of texts))) after
 
 -- ---- where nothing is cut on the left
 
@@ -385,7 +385,7 @@ end_display : (s : Source) (start end : ℕ) → (end_location s start end).disp
 unfolding end_location location_of place_of
 end_display s start end =
     let ls = source_lines s.text in
-    ap (λ b. width_of (chars (prefix_at ls (line_of ls end) end)) + cond b 0 (steps_behind_text s.text end)) (same_lines s.first (line_of ls start) (line_of ls end))
+    ap (λ b. width_of (chars (prefix_at ls (line_of ls end) end)) + cond b 0 (steps_after_text s.text end)) (same_lines s.first (line_of ls start) (line_of ls end))
 
 end_mark : (s : Source) (a : Annotation) → is_single_line s.text a ≡ false → (long_entry s a).end.display - 1 ≡ end_mark_column s.text a
 end_mark s a several =
@@ -450,8 +450,8 @@ uncut_left left room widest rest none fits =
     let kept : Bounds = record { left = left; right = max widest left } in
     ap (λ (b : Bounds). b.left) (cond-true (leb (max widest left - left) room) kept rest here) ∙ none
 
-margin_near : (whitespace first last behind room widest : ℕ) → min whitespace first ≤ 26 → widest ≤ room → (margin_bounds whitespace first last behind room widest).left ≡ 0
-margin_near whitespace first last behind room widest near fits =
+margin_near : (whitespace first last after room widest : ℕ) → min whitespace first ≤ 26 → widest ≤ room → (margin_bounds whitespace first last after room widest).left ≡ 0
+margin_near whitespace first last after room widest near fits =
     let blank : ℕ = min whitespace first - 6 in
     uncut_left (cond (ltb 20 blank) (blank - 16) 0) room widest _ (cond-false (ltb 20 blank) (blank - 16) 0 (grind (arith, nat_tests))) fits
 

@@ -29,18 +29,18 @@ reaching-zero : (n : ℕ) (cs : List ℕ) → n ≡ 0 → reaching n cs ≡ 0
 reaching-zero n cs none = ap (λ k. reaching k cs) none ∙ reaching-none cs
 
 -- characters that don't reach so many columns are among those that do
-reaching_behind : (n : ℕ) (a b : List ℕ) → (0 < length a → width_of a < n) → reaching n (a ++ b) ≡ length a + reaching (n - width_of a) b
-reaching_behind n [] b few =
+reaching_after : (n : ℕ) (a b : List ℕ) → (0 < length a → width_of a < n) → reaching n (a ++ b) ≡ length a + reaching (n - width_of a) b
+reaching_after n [] b few =
     let same : n - 0 ≡ n = omega arith in
     omega (arith, ap (λ k. reaching k b) same)
-reaching_behind n (c ∷ a) b few =
+reaching_after n (c ∷ a) b few =
     let wide = width-cons c a in
     let less : width_of (c ∷ a) < n = few (omega arith) in
-    let rest = reaching_behind (n - char_width c) a b (λ _. omega (arith, less, wide)) in
+    let rest = reaching_after (n - char_width c) a b (λ _. omega (arith, less, wide)) in
     let same : (n - char_width c) - width_of a ≡ n - width_of (c ∷ a) = omega (arith, wide) in
     omega (arith, reaching-cons n c (a ++ b) (omega (arith, less)), rest, ap (λ k. reaching k b) same)
 
--- those that do are found without what stands behind them
+-- those that do are found without what stands after them
 reaching_within : (n : ℕ) (a b : List ℕ) → n ≤ width_of a → reaching n (a ++ b) ≡ reaching n a
 reaching_within n [] b enough = reaching-zero n b (omega (arith, enough))
 reaching_within n (c ∷ a) b enough =
@@ -66,8 +66,8 @@ reaching_width n (c ∷ cs) more =
     elim (cases_lt 0 n) [
       | inl some ↦
           let is = reaching-cons n c cs some in
-          let more_behind : 0 < length (drop (reaching (n - char_width c) cs) cs) = omega (arith, more, ap (λ k. length (drop k (c ∷ cs))) is, ap length (drop-cons (reaching (n - char_width c) cs) c cs)) in
-          let rest = reaching_width (n - char_width c) cs more_behind in
+          let more_after : 0 < length (drop (reaching (n - char_width c) cs) cs) = omega (arith, more, ap (λ k. length (drop k (c ∷ cs))) is, ap length (drop-cons (reaching (n - char_width c) cs) c cs)) in
+          let rest = reaching_width (n - char_width c) cs more_after in
           omega (arith, ap (λ k. width_of (take k (c ∷ cs))) is, ap width_of (take-cons (reaching (n - char_width c) cs) c cs), width-cons c (take (reaching (n - char_width c) cs) cs), rest)
       | inr none ↦ omega arith
     ]
@@ -113,38 +113,38 @@ falls_short n cs some =
     ]
 
 -- a list has an element, or is empty
-by_behind : (P : List ℕ → Type 0) (behind : List ℕ) → P [] → (0 < length behind → P behind) → P behind
-by_behind P [] none some = none
-by_behind P (c ∷ cs) none some = some (omega arith)
+by_after : (P : List ℕ → Type 0) (after : List ℕ) → P [] → (0 < length after → P after) → P after
+by_after P [] none some = none
+by_after P (c ∷ cs) none some = some (omega arith)
 
 -- what stands before a part ends left of this column, and the part reaches it
-pub near_reaching : (left skipped : ℕ) (before part behind : List ℕ) → skipped ≡ width_of before → (0 < length before → skipped < left) → (0 < length behind → left - skipped ≤ width_of part) → reaching left (before ++ (part ++ behind)) ≡ length before + reaching (left - skipped) part
-near_reaching left skipped before part behind is starts reaches =
-    let within : reaching (left - skipped) (part ++ behind) ≡ reaching (left - skipped) part =
-    by_behind (λ b. reaching (left - skipped) (part ++ b) ≡ reaching (left - skipped) part) behind (ap (reaching (left - skipped)) (append-nil part)) (λ some. reaching_within (left - skipped) part behind (reaches some)) in
+pub near_reaching : (left skipped : ℕ) (before part after : List ℕ) → skipped ≡ width_of before → (0 < length before → skipped < left) → (0 < length after → left - skipped ≤ width_of part) → reaching left (before ++ (part ++ after)) ≡ length before + reaching (left - skipped) part
+near_reaching left skipped before part after is starts reaches =
+    let within : reaching (left - skipped) (part ++ after) ≡ reaching (left - skipped) part =
+    by_after (λ b. reaching (left - skipped) (part ++ b) ≡ reaching (left - skipped) part) after (ap (reaching (left - skipped)) (append-nil part)) (λ some. reaching_within (left - skipped) part after (reaches some)) in
     let same : left - width_of before ≡ left - skipped = omega (arith, is) in
-    omega (arith, reaching_behind left before (part ++ behind) (λ some. omega (arith, is, starts some)), ap (λ k. reaching k (part ++ behind)) same, within)
+    omega (arith, reaching_after left before (part ++ after) (λ some. omega (arith, is, starts some)), ap (λ k. reaching k (part ++ after)) same, within)
 
-pub near_dropped : (left skipped : ℕ) (before part behind : List ℕ) → skipped ≡ width_of before → (0 < length before → skipped < left) → (0 < length behind → left - skipped ≤ width_of part) → width_of (take (reaching left (before ++ (part ++ behind))) (before ++ (part ++ behind))) ≡ skipped + width_of (take (reaching (left - skipped) part) part)
-near_dropped left skipped before part behind is starts reaches =
-    let all = before ++ (part ++ behind) in
+pub near_dropped : (left skipped : ℕ) (before part after : List ℕ) → skipped ≡ width_of before → (0 < length before → skipped < left) → (0 < length after → left - skipped ≤ width_of part) → width_of (take (reaching left (before ++ (part ++ after))) (before ++ (part ++ after))) ≡ skipped + width_of (take (reaching (left - skipped) part) part)
+near_dropped left skipped before part after is starts reaches =
+    let all = before ++ (part ++ after) in
     let n = reaching (left - skipped) part in
-    let front : take (reaching left all) all ≡ before ++ take n part = ap (λ k. take k all) (near_reaching left skipped before part behind is starts reaches) ∙ take-append-add before (part ++ behind) n ∙ ap (λ cs. before ++ cs) (take-append-le n part behind (reaching_length (left - skipped) part)) in
+    let front : take (reaching left all) all ≡ before ++ take n part = ap (λ k. take k all) (near_reaching left skipped before part after is starts reaches) ∙ take-append-add before (part ++ after) n ∙ ap (λ cs. before ++ cs) (take-append-le n part after (reaching_length (left - skipped) part)) in
     omega (arith, ap width_of front, sum_by-append char_width before (take n part), is)
 
-pub near_rest : (left skipped : ℕ) (before part behind : List ℕ) → skipped ≡ width_of before → (0 < length before → skipped < left) → (0 < length behind → left - skipped ≤ width_of part) → drop (reaching left (before ++ (part ++ behind))) (before ++ (part ++ behind)) ≡ drop (reaching (left - skipped) part) part ++ behind
-near_rest left skipped before part behind is starts reaches =
-    let all = before ++ (part ++ behind) in
+pub near_rest : (left skipped : ℕ) (before part after : List ℕ) → skipped ≡ width_of before → (0 < length before → skipped < left) → (0 < length after → left - skipped ≤ width_of part) → drop (reaching left (before ++ (part ++ after))) (before ++ (part ++ after)) ≡ drop (reaching (left - skipped) part) part ++ after
+near_rest left skipped before part after is starts reaches =
+    let all = before ++ (part ++ after) in
     let n = reaching (left - skipped) part in
-    ap (λ k. drop k all) (near_reaching left skipped before part behind is starts reaches) ∙ drop-append-add before (part ++ behind) n ∙ drop-append-le n part behind (reaching_length (left - skipped) part)
+    ap (λ k. drop k all) (near_reaching left skipped before part after is starts reaches) ∙ drop-append-add before (part ++ after) n ∙ drop-append-le n part after (reaching_length (left - skipped) part)
 
--- the characters that fit behind it are found in the part, if it is wider than they are
-pub near_inner : (columns reached : ℕ) (part behind rest : List ℕ) → rest ≡ drop reached part ++ behind → (0 < length behind → columns + width_of (take reached part) < width_of part) → take (fitting columns rest) rest ≡ take (fitting columns (drop reached part)) (drop reached part)
-near_inner columns reached part behind rest is enough =
+-- the characters that fit after it are found in the part, if it is wider than they are
+pub near_inner : (columns reached : ℕ) (part after rest : List ℕ) → rest ≡ drop reached part ++ after → (0 < length after → columns + width_of (take reached part) < width_of part) → take (fitting columns rest) rest ≡ take (fitting columns (drop reached part)) (drop reached part)
+near_inner columns reached part after rest is enough =
     let near = drop reached part in
     let wide : width_of part ≡ width_of (take reached part) + width_of near = ap width_of (sym (take-append-drop reached part)) ∙ sum_by-append char_width (take reached part) near in
-    let found : take (fitting columns (near ++ behind)) (near ++ behind) ≡ take (fitting columns near) near =
-    by_behind (λ b. take (fitting columns (near ++ b)) (near ++ b) ≡ take (fitting columns near) near) behind (ap (λ cs. take (fitting columns cs) cs) (append-nil near)) (λ some. ap (λ k. take k (near ++ behind)) (fitting_within columns near behind (omega (arith, wide, enough some))) ∙ take-append-le (fitting columns near) near behind (fitting_length columns near)) in
+    let found : take (fitting columns (near ++ after)) (near ++ after) ≡ take (fitting columns near) near =
+    by_after (λ b. take (fitting columns (near ++ b)) (near ++ b) ≡ take (fitting columns near) near) after (ap (λ cs. take (fitting columns cs) cs) (append-nil near)) (λ some. ap (λ k. take k (near ++ after)) (fitting_within columns near after (omega (arith, wide, enough some))) ∙ take-append-le (fitting columns near) near after (fitting_length columns near)) in
     ap (λ cs. take (fitting columns cs) cs) is ∙ found
 
 -- the part that is made so
@@ -155,7 +155,7 @@ near_holds room left right skipped columns cs rest part is_skipped is_rest is_co
     let whole : take m rest ++ drop m rest ≡ rest = take-append-drop m rest in
     record {
       before = take n cs;
-      behind = drop m rest;
+      after = drop m rest;
       text_is = sym (ap (λ xs. take n cs ++ (xs ++ drop m rest)) is_part ∙ ap (λ xs. take n cs ++ xs) (whole ∙ is_rest) ∙ take-append-drop n cs);
       skipped_is = is_skipped;
       starts = λ some. omega (arith, is_skipped, falls_short (window_left left cs) cs some);
@@ -172,7 +172,7 @@ right_is room left right width result line is value =
 pub window_dropped : (room left right skipped l : ℕ) (line part : List ℕ) → HoldsWindow room left right line skipped part → l ≡ window_left left line → skipped + width_of (take (reaching (l - skipped) part) part) ≡ width_of (dropped_part left line)
 window_dropped room left right skipped l line part holds is =
     let from = window_left left line in
-    let found = ap (λ xs. width_of (take (reaching from xs) xs)) holds.text_is ∙ near_dropped from skipped holds.before part holds.behind holds.skipped_is holds.starts (λ some. omega (arith, holds.reaches some)) in
+    let found = ap (λ xs. width_of (take (reaching from xs) xs)) holds.text_is ∙ near_dropped from skipped holds.before part holds.after holds.skipped_is holds.starts (λ some. omega (arith, holds.reaches some)) in
     ap (λ k. skipped + width_of (take (reaching (k - skipped) part) part)) is ∙ sym found
 
 pub window_inner : (room left right skipped l n : ℕ) (line part rest inner : List ℕ) → HoldsWindow room left right line skipped part → l ≡ window_left left line → n ≡ window_columns room left right line → width_of (take (reaching (l - skipped) part) part) < (l - skipped) + 4 → rest ≡ drop (reaching (l - skipped) part) part → inner ≡ take (fitting n rest) rest → inner ≡ inner_part room left right line
@@ -181,8 +181,8 @@ window_inner room left right skipped l n line part rest inner holds is_left is_c
     let columns = window_columns room left right line in
     let reached = reaching (from - skipped) part in
     let few : width_of (take reached part) < (from - skipped) + 4 = omega (arith, near, ap (λ k. width_of (take (reaching (k - skipped) part) part)) is_left, is_left) in
-    let behind = ap (λ xs. drop (reaching from xs) xs) holds.text_is ∙ near_rest from skipped holds.before part holds.behind holds.skipped_is holds.starts (λ some. omega (arith, holds.reaches some)) in
-    let found = near_inner columns reached part holds.behind (drop (reaching from line) line) behind (λ some. omega (arith, holds.reaches some, few)) in
+    let after = ap (λ xs. drop (reaching from xs) xs) holds.text_is ∙ near_rest from skipped holds.before part holds.after holds.skipped_is holds.starts (λ some. omega (arith, holds.reaches some)) in
+    let found = near_inner columns reached part holds.after (drop (reaching from line) line) after (λ some. omega (arith, holds.reaches some, few)) in
     let here = is_rest ∙ ap (λ k. drop (reaching (k - skipped) part) part) is_left in
     is_inner ∙ ap (λ k. take (fitting k rest) rest) is_columns ∙ ap (λ xs. take (fitting columns xs) xs) here ∙ sym found
 
@@ -223,11 +223,11 @@ holds_norm room left right skipped line part holds =
     let from : window_left left (norm line) ≡ window_left left line = ap (min left) (width_of-norm line) in
     record {
       before = norm holds.before;
-      behind = norm holds.behind;
-      text_is = ap norm holds.text_is ∙ norm-append holds.before (part ++ holds.behind) ∙ ap (λ cs. norm holds.before ++ cs) (norm-append part holds.behind);
+      after = norm holds.after;
+      text_is = ap norm holds.text_is ∙ norm-append holds.before (part ++ holds.after) ∙ ap (λ cs. norm holds.before ++ cs) (norm-append part holds.after);
       skipped_is = holds.skipped_is ∙ sym (width_of-norm holds.before);
       starts = λ some. omega (arith, holds.starts (norm_some holds.before some), from);
-      reaches = λ some. omega (arith, holds.reaches (norm_some holds.behind some), from, same_columns room left right line, width_of-norm part);
+      reaches = λ some. omega (arith, holds.reaches (norm_some holds.after some), from, same_columns room left right line, width_of-norm part);
     }
 
 pub part_of_norm : (margin : Margin) (width skipped : ℕ) (line near part : List ℕ) → width ≡ width_of line → part ≡ norm near → HoldsWindow margin.term_width (bounds_of margin).left (bounds_of margin).right line skipped near → IsPartOf margin (norm line) width skipped part

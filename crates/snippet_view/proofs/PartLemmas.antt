@@ -7,12 +7,12 @@ use Rattle.std.proofs.lemmas.List.FromFn.{length-range_with_len, get_or-range_wi
 use Rattle.snippet_model.specs.declared.snippet.Annotation.{Annotation}
 use Rattle.snippet_model.specs.declared.snippet.AnnotationKind.{AnnotationKind}
 use Rattle.snippet_model.specs.declared.snippet.AnnotationKind.TheVariants.{Primary}
-use Rattle.snippet_view.specs.declared.depths.LongPlace.{LongPlace}
+use Rattle.snippet_view.specs.declared.depths.LongExtent.{LongExtent}
 use Rattle.snippet_view.specs.declared.entries.LineAnnotationType.TheVariants.{Singleline, MultilineEnd}
-use Rattle.snippet_view.specs.Annotated.{PartEntry, is_short, is_long, long_entry, long_place, long_places, long_spans, stands_before, depth_of, single_part, start_part, bar_part, end_part, bar_lines, span_parts, long_parts, made_parts, drawn, is_drawn_primary}
+use Rattle.snippet_view.specs.Annotated.{PartEntry, is_short, is_long, long_entry, long_place, long_places, long_spans, stands_before, depth_of, single_part, start_part, bar_part, end_part, bar_lines, span_parts, long_parts, made_parts, promoted, is_promoted}
 use Rattle.snippet_lines.specs.Order.{put_in, ordered_by}
 use Rattle.snippet_view.specs.Depths.{depth_among, same_place}
-use Rattle.snippet_view.specs.Kept.{is_weak_line}
+use Rattle.snippet_view.specs.Kept.{is_trivial_line}
 use Rattle.snippet_lines.specs.Lines.{Source}
 use Rattle.snippet_view.specs.Marked.{Entry}
 
@@ -53,20 +53,20 @@ All-unmapped P f (x ∷ xs) all = All-cons (λ x. P (f x)) x xs (All-head P (f x
 pub record IsBarLine (source : List ℕ) (first last k : ℕ) : Type 0 where
   pub from : first < k
   pub to : k ≤ last
-  pub shown : (list_any (λ j. not (is_weak_line source j)) (range_with_len k (min (first + 4) last - k)) ≡ true) ⊎ ((k + 1 ≡ last) × (ltb (min (first + 4) last) k ≡ true) × (not (is_weak_line source k) ≡ true))
+  pub shown : (list_any (λ j. not (is_trivial_line source j)) (range_with_len k (min (first + 4) last - k)) ≡ true) ⊎ ((k + 1 ≡ last) × (ltb (min (first + 4) last) k ≡ true) × (not (is_trivial_line source k) ≡ true))
 
 pub bar-lines : (source : List ℕ) (first last : ℕ) → All (IsBarLine source first last) (bar_lines source first last)
 bar-lines source first last =
     let beginning : ℕ = min (first + 4) last in
-    let test = λ (k : ℕ). list_any (λ j. not (is_weak_line source j)) (range_with_len k (beginning - k)) in
-    let closing : Bool = ltb beginning (last - 1) && not (is_weak_line source (last - 1)) in
+    let test = λ (k : ℕ). list_any (λ j. not (is_trivial_line source j)) (range_with_len k (beginning - k)) in
+    let closing : Bool = ltb beginning (last - 1) && not (is_trivial_line source (last - 1)) in
     All-append (IsBarLine source first last) (filter test (range_with_len (first + 1) (beginning - first))) (cond closing ((last - 1) ∷ []) [])
     (All-filtered test (IsBarLine source first last) (range_with_len (first + 1) (beginning - first)) (All-weaker (λ k. (first + 1 ≤ k) × (k < first + 1 + (beginning - first))) (λ k. test k ≡ true → IsBarLine source first last k) (λ k within passes. record { from = omega (arith, within.0); to = omega (arith, within.1); shown = inl passes }) (range_with_len (first + 1) (beginning - first)) (All-range (first + 1) (beginning - first))))
     (cond_both closing ((last - 1) ∷ []) [] (All (IsBarLine source first last)) (λ there. All-cons (IsBarLine source first last) (last - 1) [] (last-bar there) (All-nil (IsBarLine source first last))) (λ _. All-nil (IsBarLine source first last)))
   where
-    last-bar : (ltb (min (first + 4) last) (last - 1) && not (is_weak_line source (last - 1))) ≡ true → IsBarLine source first last (last - 1)
+    last-bar : (ltb (min (first + 4) last) (last - 1) && not (is_trivial_line source (last - 1))) ≡ true → IsBarLine source first last (last - 1)
     last-bar there =
-        let parts = and_parts (ltb (min (first + 4) last) (last - 1)) (not (is_weak_line source (last - 1))) there in
+        let parts = and_parts (ltb (min (first + 4) last) (last - 1)) (not (is_trivial_line source (last - 1))) there in
         let less : min (first + 4) last < last - 1 = ltb-true (min (first + 4) last) (last - 1) parts.0 in
         record { from = omega arith; to = omega arith; shown = inr (omega arith, parts.0, parts.1) }
 
@@ -86,15 +86,15 @@ span-all P s depth false e holds =
     All-cons P (start_part e depth) (bars ++ end_part e (MultilineEnd depth) ∷ []) holds.start (All-append P bars (end_part e (MultilineEnd depth) ∷ []) (All-map P (λ k. bar_part e depth (s.first + k)) (bar_lines s.text (e.start.line - s.first) (e.end.line - s.first)) holds.bars) (All-cons P (end_part e (MultilineEnd depth)) [] holds.end (All-nil P)))
 
 -- a span as it is drawn has another kind at most
-drawn-all : (P : PartEntry → Type 0) (s : Source) (depth : ℕ) (before : List Entry) (e : Entry) → ((kind : AnnotationKind) → HoldsOfSpan P s depth (record e { kind = kind })) → HoldsOfSpan P s depth (drawn before e)
+drawn-all : (P : PartEntry → Type 0) (s : Source) (depth : ℕ) (before : List Entry) (e : Entry) → ((kind : AnnotationKind) → HoldsOfSpan P s depth (record e { kind = kind })) → HoldsOfSpan P s depth (promoted before e)
 drawn-all P s depth before e holds =
-    cond_both (is_drawn_primary before e) (record e { kind = Primary }) e (HoldsOfSpan P s depth) (λ _. holds Primary) (λ _. holds e.kind)
+    cond_both (is_promoted before e) (record e { kind = Primary }) e (HoldsOfSpan P s depth) (λ _. holds Primary) (λ _. holds e.kind)
 
-long-all : (P : PartEntry → Type 0) (s : Source) (places : List LongPlace) (before es : List Entry) → All (λ e. (kind : AnnotationKind) → HoldsOfSpan P s (depth_among places (long_place e)) (record e { kind = kind })) es → All P (long_parts s places before es)
+long-all : (P : PartEntry → Type 0) (s : Source) (places : List LongExtent) (before es : List Entry) → All (λ e. (kind : AnnotationKind) → HoldsOfSpan P s (depth_among places (long_place e)) (record e { kind = kind })) es → All P (long_parts s places before es)
 long-all P s places before [] all = All-nil P
 long-all P s places before (e ∷ later) all =
     let Q = λ (e : Entry). (kind : AnnotationKind) → HoldsOfSpan P s (depth_among places (long_place e)) (record e { kind = kind }) in
-    All-append P (span_parts s (depth_among places (long_place e)) (list_any (λ d. same_place (long_place e) (long_place d)) later) (drawn before e)) (long_parts s places (before ++ e ∷ []) later) (span-all P s (depth_among places (long_place e)) (list_any (λ d. same_place (long_place e) (long_place d)) later) (drawn before e) (drawn-all P s (depth_among places (long_place e)) before e (All-head Q e later all))) (long-all P s places (before ++ e ∷ []) later (All-tail Q e later all))
+    All-append P (span_parts s (depth_among places (long_place e)) (list_any (λ d. same_place (long_place e) (long_place d)) later) (promoted before e)) (long_parts s places (before ++ e ∷ []) later) (span-all P s (depth_among places (long_place e)) (list_any (λ d. same_place (long_place e) (long_place d)) later) (promoted before e) (drawn-all P s (depth_among places (long_place e)) before e (All-head Q e later all))) (long-all P s places (before ++ e ∷ []) later (All-tail Q e later all))
 
 -- what holds of the entries of each span of several lines holds of those of all of them
 pub longs-all : (P : PartEntry → Type 0) (s : Source) (marks : List Annotation) → ((a : Annotation) → Contains marks a → is_long s.text a ≡ true → (kind : AnnotationKind) → HoldsOfSpan P s (depth_of s marks a) (record (long_entry s a) { kind = kind })) → All P (long_parts s (long_places s marks) [] (long_spans s marks))

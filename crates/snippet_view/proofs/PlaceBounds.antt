@@ -6,7 +6,7 @@ use Rattle.snippet_style.proofs.CellLemmas.{length-chars_le}
 use Rattle.snippet_text.proofs.WidthBounds.{width_of-chars}
 use Rattle.snippet_lines.specs.declared.place.Loc.{Loc}
 use Rattle.snippet_lines.specs.Lines.{Source, source_lines, text_at, start_of}
-use Rattle.snippet_lines.specs.Place.{line_of, prefix_at, place_of, location_of, steps_behind_text, start_location, end_location, locations_of}
+use Rattle.snippet_lines.specs.Place.{line_of, prefix_at, place_of, location_of, steps_after_text, start_location, end_location, locations_of}
 use Rattle.snippet_lines.proofs.LinesLemmas.{length-text_at-source}
 use Rattle.snippet_lines.proofs.PlaceLemmas.{start_location-column, place_of-column}
 
@@ -16,8 +16,8 @@ place-column source b =
     let k : ℕ = line_of (source_lines source) b in
     omega (arith, place_of-column source b, width_of-chars (prefix_at (source_lines source) k b), length-take (b - start_of (source_lines source) k) (text_at (source_lines source) k), length-text_at-source source k)
 
-steps-bound : (source : List ℕ) (b : ℕ) → steps_behind_text source b ≤ 1
-unfolding steps_behind_text
+steps-bound : (source : List ℕ) (b : ℕ) → steps_after_text source b ≤ 1
+unfolding steps_after_text
 steps-bound source b =
     let k : ℕ = line_of (source_lines source) b in
     cond_both (ltb (start_of (source_lines source) k + length (text_at (source_lines source) k)) b) 1 0 (λ n. n ≤ 1) (λ _. omega arith) (λ _. omega arith)
@@ -29,8 +29,8 @@ location-column s b = place-column s.text b
 end-location-column : (s : Source) (start end : ℕ) → (end_location s start end).display ≤ 4 * length s.text + 1
 unfolding end_location
 end-location-column s start end =
-    let more : ℕ = cond (eqb (location_of s start).line (location_of s end).line) 0 (steps_behind_text s.text end) in
-    let one : more ≤ 1 = cond_both (eqb (location_of s start).line (location_of s end).line) 0 (steps_behind_text s.text end) (λ n. n ≤ 1) (λ _. omega arith) (λ _. steps-bound s.text end) in
+    let more : ℕ = cond (eqb (location_of s start).line (location_of s end).line) 0 (steps_after_text s.text end) in
+    let one : more ≤ 1 = cond_both (eqb (location_of s start).line (location_of s end).line) 0 (steps_after_text s.text end) (λ n. n ≤ 1) (λ _. omega arith) (λ _. steps-bound s.text end) in
     omega (arith, location-column s end, one)
 
 pub start-column-bound : (s : Source) (start end : ℕ) → (locations_of s start end).0.display ≤ 4 * length s.text
@@ -57,8 +57,8 @@ start-location-character s start = omega (arith, place-character s.text start, s
 end-location-character : (s : Source) (start end : ℕ) → (end_location s start end).char ≤ length s.text + 1
 unfolding end_location location_of
 end-location-character s start end =
-    let more : ℕ = cond (eqb (location_of s start).line (location_of s end).line) 0 (steps_behind_text s.text end) in
-    let one : more ≤ 1 = cond_both (eqb (location_of s start).line (location_of s end).line) 0 (steps_behind_text s.text end) (λ n. n ≤ 1) (λ _. omega arith) (λ _. steps-bound s.text end) in
+    let more : ℕ = cond (eqb (location_of s start).line (location_of s end).line) 0 (steps_after_text s.text end) in
+    let one : more ≤ 1 = cond_both (eqb (location_of s start).line (location_of s end).line) 0 (steps_after_text s.text end) (λ n. n ≤ 1) (λ _. omega arith) (λ _. steps-bound s.text end) in
     omega (arith, place-character s.text end, one)
 
 pub start-character-bound : (s : Source) (start end : ℕ) → (locations_of s start end).0.char ≤ length s.text + 1

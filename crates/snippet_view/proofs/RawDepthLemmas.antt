@@ -2,47 +2,47 @@
 use Rattle.std.proofs.Common.{◌≡◌, ℕ, zero, suc, ◌+◌, ◌<◌, ◌≤◌, true, false, ◌&&◌, cond, eqb, max, fold, drop, List, [], ◌∷◌, map, length, get_or, inl, inr, refl, sym, ap, subst, ◌∙◌, arith}
 use Rattle.std.specs.List.{list_any}
 use Rattle.std.proofs.lemmas.Bool.{cases_Bool, eqb-true, eq-eqb, and_from, and_parts, or_left, or_right, cond-true, cond-false, both_ways, false_from_ne_true}
-use Rattle.snippet_view.specs.declared.depths.LongPlace.{LongPlace}
+use Rattle.snippet_view.specs.declared.depths.LongExtent.{LongExtent}
 use Rattle.snippet_view.specs.Depths.{same_place, share_line, places_of, raw_depth, raw_depth_among, greatest_raw_depth, greatest_depth, raw_depths}
 
 -- ---- places
 
-same_fields : (a b c d a' b' c' d' : ℕ) → a ≡ a' → b ≡ b' → c ≡ c' → d ≡ d' → ◌≡◌ {A = LongPlace} (record { from = a; to = b; first = c; last = d }) (record { from = a'; to = b'; first = c'; last = d' })
+same_fields : (a b c d a' b' c' d' : ℕ) → a ≡ a' → b ≡ b' → c ≡ c' → d ≡ d' → ◌≡◌ {A = LongExtent} (record { from = a; to = b; first = c; last = d }) (record { from = a'; to = b'; first = c'; last = d' })
 same_fields a b c d a' b' c' d' e f g h = cc
 
-pub same-true : (p q : LongPlace) → same_place p q ≡ true → p ≡ q
+pub same-true : (p q : LongExtent) → same_place p q ≡ true → p ≡ q
 same-true p q same =
     let abcd = and_parts (eqb p.from q.from) (eqb p.to q.to && (eqb p.first q.first && eqb p.last q.last)) same in
     let bcd = and_parts (eqb p.to q.to) (eqb p.first q.first && eqb p.last q.last) abcd.1 in
     let cd = and_parts (eqb p.first q.first) (eqb p.last q.last) bcd.1 in
     same_fields p.from p.to p.first p.last q.from q.to q.first q.last (eqb-true p.from q.from abcd.0) (eqb-true p.to q.to bcd.0) (eqb-true p.first q.first cd.0) (eqb-true p.last q.last cd.1)
 
-pub same-refl : (p : LongPlace) → same_place p p ≡ true
+pub same-refl : (p : LongExtent) → same_place p p ≡ true
 same-refl p =
     and_from (eqb p.from p.from) (eqb p.to p.to && (eqb p.first p.first && eqb p.last p.last)) (eq-eqb p.from p.from refl) (and_from (eqb p.to p.to) (eqb p.first p.first && eqb p.last p.last) (eq-eqb p.to p.to refl) (and_from (eqb p.first p.first) (eqb p.last p.last) (eq-eqb p.first p.first refl) (eq-eqb p.last p.last refl)))
 
 -- a place whose span stands again isn't taken here, and another one is
-pub places-again : (p : LongPlace) (ps : List LongPlace) → list_any (same_place p) ps ≡ true → places_of (p ∷ ps) ≡ places_of ps
+pub places-again : (p : LongExtent) (ps : List LongExtent) → list_any (same_place p) ps ≡ true → places_of (p ∷ ps) ≡ places_of ps
 places-again p ps holds = cond-true (list_any (same_place p) ps) (places_of ps) (p ∷ places_of ps) holds
 
-pub places-new : (p : LongPlace) (ps : List LongPlace) → list_any (same_place p) ps ≡ false → places_of (p ∷ ps) ≡ p ∷ places_of ps
+pub places-new : (p : LongExtent) (ps : List LongExtent) → list_any (same_place p) ps ≡ false → places_of (p ∷ ps) ≡ p ∷ places_of ps
 places-new p ps fails = cond-false (list_any (same_place p) ps) (places_of ps) (p ∷ places_of ps) fails
 
-among-here : (p : LongPlace) (later : List LongPlace) → raw_depth_among (p ∷ later) p ≡ raw_depth p later
+among-here : (p : LongExtent) (later : List LongExtent) → raw_depth_among (p ∷ later) p ≡ raw_depth p later
 among-here p later = cond-true (same_place p p) (raw_depth p later) (raw_depth_among later p) (same-refl p)
 
-among-past : (p q : LongPlace) (later : List LongPlace) → same_place p q ≡ false → raw_depth_among (q ∷ later) p ≡ raw_depth_among later p
+among-past : (p q : LongExtent) (later : List LongExtent) → same_place p q ≡ false → raw_depth_among (q ∷ later) p ≡ raw_depth_among later p
 among-past p q later fails = cond-false (same_place p q) (raw_depth q later) (raw_depth_among later p) fails
 
 -- a place that stands again has the depth that it has there
-pub among-behind : (q p : LongPlace) (ps : List LongPlace) → list_any (same_place p) ps ≡ true → raw_depth_among (places_of (q ∷ ps)) p ≡ raw_depth_among (places_of ps) p
-among-behind q p ps again =
+pub among-after : (q p : LongExtent) (ps : List LongExtent) → list_any (same_place p) ps ≡ true → raw_depth_among (places_of (q ∷ ps)) p ≡ raw_depth_among (places_of ps) p
+among-after q p ps again =
     elim (cases_Bool (list_any (same_place q) ps)) [
       | inl holds ↦ ap (λ qs. raw_depth_among qs p) (places-again q ps holds)
-      | inr fails ↦ ap (λ qs. raw_depth_among qs p) (places-new q ps fails) ∙ among-past p q (places_of ps) (false_from_ne_true (same_place p q) (λ same. both_ways (list_any (same_place q) ps) fails (subst (λ (r : LongPlace). list_any (same_place r) ps ≡ true) (same-true p q same) again)))
+      | inr fails ↦ ap (λ qs. raw_depth_among qs p) (places-new q ps fails) ∙ among-past p q (places_of ps) (false_from_ne_true (same_place p q) (λ same. both_ways (list_any (same_place q) ps) fails (subst (λ (r : LongExtent). list_any (same_place r) ps ≡ true) (same-true p q same) again)))
     ]
 
-pub among-new : (p : LongPlace) (ps : List LongPlace) → list_any (same_place p) ps ≡ false → raw_depth_among (places_of (p ∷ ps)) p ≡ raw_depth p (places_of ps)
+pub among-new : (p : LongExtent) (ps : List LongExtent) → list_any (same_place p) ps ≡ false → raw_depth_among (places_of (p ∷ ps)) p ≡ raw_depth p (places_of ps)
 among-new p ps fails = ap (λ qs. raw_depth_among qs p) (places-new p ps fails) ∙ among-here p (places_of ps)
 
 -- ---- raw depths
@@ -57,7 +57,7 @@ unfolding max_of
 fold-max m [] = omega arith
 fold-max m (n ∷ ns) = let h : fold max (max m n) ns ≡ max (max m n) (max_of ns) = fold-max (max m n) ns in omega arith
 
-pub among-most : (ps : List LongPlace) (p : LongPlace) → raw_depth_among ps p ≤ greatest_raw_depth ps
+pub among-most : (ps : List LongExtent) (p : LongExtent) → raw_depth_among ps p ≤ greatest_raw_depth ps
 among-most [] p = omega arith
 among-most (q ∷ ps) p =
     let h : raw_depth_among ps p ≤ greatest_raw_depth ps = among-most ps p in
@@ -67,7 +67,7 @@ among-most (q ∷ ps) p =
     ]
 
 -- the greatest raw depth of places is that of the spans
-pub greatest-is : (ps : List LongPlace) → greatest_depth ps ≡ max_of (raw_depths ps)
+pub greatest-is : (ps : List LongExtent) → greatest_depth ps ≡ max_of (raw_depths ps)
 unfolding max_of
 greatest-is [] = refl
 greatest-is (p ∷ ps) =
@@ -97,29 +97,29 @@ map-agree f g (x ∷ xs) same =
     let t : map f xs ≡ map g xs = map-agree f g xs (λ k d within. same (suc k) d (omega arith)) in
     cc
 
-pub any-at : (ps : List LongPlace) (k : ℕ) (d : LongPlace) → k < length ps → list_any (same_place (get_or ps k d)) ps ≡ true
+pub any-at : (ps : List LongExtent) (k : ℕ) (d : LongExtent) → k < length ps → list_any (same_place (get_or ps k d)) ps ≡ true
 any-at [] k d within = absurd (omega arith)
 any-at (p ∷ ps) zero d within = or_left (same_place p p) (list_any (same_place p) ps) (same-refl p)
 any-at (p ∷ ps) (suc k) d within = or_right (same_place (get_or ps k d) p) (list_any (same_place (get_or ps k d)) ps) (any-at ps k d (omega arith))
 
 -- each is the raw depth of its place among all
-pub raw_depths-are : (ps : List LongPlace) → raw_depths ps ≡ map (raw_depth_among (places_of ps)) ps
+pub raw_depths-are : (ps : List LongExtent) → raw_depths ps ≡ map (raw_depth_among (places_of ps)) ps
 raw_depths-are [] = refl
 raw_depths-are (p ∷ ps) =
-    ap (λ ns. raw_depth_among (places_of (p ∷ ps)) p ∷ ns) (raw_depths-are ps ∙ map-agree (raw_depth_among (places_of ps)) (raw_depth_among (places_of (p ∷ ps))) ps (λ k d within. sym (among-behind p (get_or ps k d) ps (any-at ps k d within))))
+    ap (λ ns. raw_depth_among (places_of (p ∷ ps)) p ∷ ns) (raw_depths-are ps ∙ map-agree (raw_depth_among (places_of ps)) (raw_depth_among (places_of (p ∷ ps))) ps (λ k d within. sym (among-after p (get_or ps k d) ps (any-at ps k d within))))
 
-pub length-raw_depths : (ps : List LongPlace) → length (raw_depths ps) ≡ length ps
+pub length-raw_depths : (ps : List LongExtent) → length (raw_depths ps) ≡ length ps
 length-raw_depths [] = refl
 length-raw_depths (p ∷ ps) = ap (λ n. suc n) (length-raw_depths ps)
 
-pub raw_depths-drop : (i : ℕ) (ps : List LongPlace) → drop i (raw_depths ps) ≡ raw_depths (drop i ps)
+pub raw_depths-drop : (i : ℕ) (ps : List LongExtent) → drop i (raw_depths ps) ≡ raw_depths (drop i ps)
 raw_depths-drop zero ps = refl
 raw_depths-drop (suc i) [] = refl
 raw_depths-drop (suc i) (p ∷ ps) = raw_depths-drop i ps
 
 -- ---- how great raw depths are
 
-raw_depth-bound : (p : LongPlace) (qs : List LongPlace) → raw_depth p qs ≤ length qs + 1
+raw_depth-bound : (p : LongExtent) (qs : List LongExtent) → raw_depth p qs ≤ length qs + 1
 raw_depth-bound p [] = omega arith
 raw_depth-bound p (q ∷ qs) =
     let a : raw_depth p qs ≤ length qs + 1 = raw_depth-bound p qs in
@@ -129,11 +129,11 @@ raw_depth-bound p (q ∷ qs) =
       | inr fails ↦ let e : cond (share_line p q) (raw_depth q qs + 1) 1 ≡ 1 = cond-false (share_line p q) (raw_depth q qs + 1) 1 fails in omega arith
     ]
 
-pub greatest-bound : (ps : List LongPlace) → greatest_raw_depth ps ≤ length ps
+pub greatest-bound : (ps : List LongExtent) → greatest_raw_depth ps ≤ length ps
 greatest-bound [] = omega arith
 greatest-bound (p ∷ ps) = omega (arith, raw_depth-bound p ps, greatest-bound ps)
 
-pub places-bound : (ps : List LongPlace) → length (places_of ps) ≤ length ps
+pub places-bound : (ps : List LongExtent) → length (places_of ps) ≤ length ps
 places-bound [] = omega arith
 places-bound (p ∷ ps) =
     let h : length (places_of ps) ≤ length ps = places-bound ps in
@@ -142,7 +142,7 @@ places-bound (p ∷ ps) =
       | inr fails ↦ rw (places-new p ps fails) (omega arith)
     ]
 
-pub raw_depths-bound : (ps : List LongPlace) (i d : ℕ) → i < length ps → get_or (raw_depths ps) i d ≤ length ps
+pub raw_depths-bound : (ps : List LongExtent) (i d : ℕ) → i < length ps → get_or (raw_depths ps) i d ≤ length ps
 raw_depths-bound [] i d within = absurd (omega arith)
 raw_depths-bound (p ∷ ps) zero d within = omega (arith, among-most (places_of (p ∷ ps)) p, greatest-bound (places_of (p ∷ ps)), places-bound (p ∷ ps))
 raw_depths-bound (p ∷ ps) (suc i) d within = let h : get_or (raw_depths ps) i d ≤ length ps = raw_depths-bound ps i d (omega arith) in omega arith

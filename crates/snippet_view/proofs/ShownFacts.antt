@@ -15,7 +15,7 @@ use Rattle.snippet_lines.proofs.PlaceLemmas.{line_of-within}
 
 -- ---- order
 
--- each number is `from` or more, below `to`, and below those behind it
+-- each number is `from` or more, below `to`, and below those after it
 Rises : ℕ → ℕ → List ℕ → Type 0
 Rises from to [] = Unit {0}
 Rises from to (k ∷ ks) = (from ≤ k) × (k < to) × Rises (k + 1) to ks

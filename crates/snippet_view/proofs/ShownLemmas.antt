@@ -31,19 +31,19 @@ filter-map p f (x ∷ xs) =
 -- ---- entries of a line in a sorted list
 
 pub on-line : {X : Type 0} (line : X → ℕ) (xs : List X) (n from to m : ℕ) → to ≡ from + m → ((j : ℕ) (d : X) → j < from → j < length xs → line (get_or xs j d) < n) → ((j : ℕ) (d : X) → from ≤ j → j < length xs → n ≤ line (get_or xs j d)) → ((j : ℕ) (d : X) → j < to → j < length xs → line (get_or xs j d) ≤ n) → ((j : ℕ) (d : X) → to ≤ j → j < length xs → n < line (get_or xs j d)) → take m (drop from xs) ≡ filter (λ e. eqb (line e) n) xs
-on-line line [] n zero to zero is below from' upto behind = refl
-on-line line [] n zero to (suc m) is below from' upto behind = refl
-on-line line [] n (suc from) to zero is below from' upto behind = refl
-on-line line [] n (suc from) to (suc m) is below from' upto behind = refl
-on-line line (x ∷ xs) n (suc from) to m is below from' upto behind =
-    on-line line xs n from (to - 1) m (omega arith) (λ j d a b. below (suc j) d (omega arith) (omega arith)) (λ j d a b. from' (suc j) d (omega arith) (omega arith)) (λ j d a b. upto (suc j) d (omega arith) (omega arith)) (λ j d a b. behind (suc j) d (omega arith) (omega arith))
+on-line line [] n zero to zero is below from' upto after = refl
+on-line line [] n zero to (suc m) is below from' upto after = refl
+on-line line [] n (suc from) to zero is below from' upto after = refl
+on-line line [] n (suc from) to (suc m) is below from' upto after = refl
+on-line line (x ∷ xs) n (suc from) to m is below from' upto after =
+    on-line line xs n from (to - 1) m (omega arith) (λ j d a b. below (suc j) d (omega arith) (omega arith)) (λ j d a b. from' (suc j) d (omega arith) (omega arith)) (λ j d a b. upto (suc j) d (omega arith) (omega arith)) (λ j d a b. after (suc j) d (omega arith) (omega arith))
     ∙ sym (cond-false (eqb (line x) n) (x ∷ filter (λ e. eqb (line e) n) xs) (filter (λ e. eqb (line e) n) xs) (ne_eqb (line x) n (λ same. absurd (omega (arith, same, below 0 x (omega arith) (omega arith))))))
-on-line line (x ∷ xs) n zero to (suc m) is below from' upto behind =
-    ap (λ ys. x ∷ ys) (on-line line xs n zero (to - 1) m (omega arith) (λ j d a b. absurd (omega arith)) (λ j d a b. from' (suc j) d (omega arith) (omega arith)) (λ j d a b. upto (suc j) d (omega arith) (omega arith)) (λ j d a b. behind (suc j) d (omega arith) (omega arith)))
+on-line line (x ∷ xs) n zero to (suc m) is below from' upto after =
+    ap (λ ys. x ∷ ys) (on-line line xs n zero (to - 1) m (omega arith) (λ j d a b. absurd (omega arith)) (λ j d a b. from' (suc j) d (omega arith) (omega arith)) (λ j d a b. upto (suc j) d (omega arith) (omega arith)) (λ j d a b. after (suc j) d (omega arith) (omega arith)))
     ∙ sym (cond-true (eqb (line x) n) (x ∷ filter (λ e. eqb (line e) n) xs) (filter (λ e. eqb (line e) n) xs) (eq-eqb (line x) n (omega (arith, from' 0 x (omega arith) (omega arith), upto 0 x (omega arith) (omega arith)))))
-on-line line (x ∷ xs) n zero to zero is below from' upto behind =
-    on-line line xs n zero zero zero (omega arith) (λ j d a b. absurd (omega arith)) (λ j d a b. from' (suc j) d (omega arith) (omega arith)) (λ j d a b. absurd (omega arith)) (λ j d a b. behind (suc j) d (omega arith) (omega arith))
-    ∙ sym (cond-false (eqb (line x) n) (x ∷ filter (λ e. eqb (line e) n) xs) (filter (λ e. eqb (line e) n) xs) (ne_eqb (line x) n (λ same. absurd (omega (arith, same, behind 0 x (omega arith) (omega arith))))))
+on-line line (x ∷ xs) n zero to zero is below from' upto after =
+    on-line line xs n zero zero zero (omega arith) (λ j d a b. absurd (omega arith)) (λ j d a b. from' (suc j) d (omega arith) (omega arith)) (λ j d a b. absurd (omega arith)) (λ j d a b. after (suc j) d (omega arith) (omega arith))
+    ∙ sym (cond-false (eqb (line x) n) (x ∷ filter (λ e. eqb (line e) n) xs) (filter (λ e. eqb (line e) n) xs) (ne_eqb (line x) n (λ same. absurd (omega (arith, same, after 0 x (omega arith) (omega arith))))))
 
 -- ---- a stable sort by lines
 
@@ -79,10 +79,10 @@ pub same-kept : (number number' : ℕ) (text text' : List ℕ) (parts parts' : L
 same-kept number number' text text' parts parts' keep keep' a b c d = cc
 
 pub from-to : {X : Type 0} (line : X → ℕ) (none : X) (xs : List X) (n from to : ℕ) → from ≤ length xs → ((j : ℕ) (d : X) → j < from → j < length xs → line (get_or xs j d) < n) → ((j : ℕ) (d : X) → to ≤ j → j < length xs → n < line (get_or xs j d)) → from ≤ to
-from-to line none xs n from to within below behind =
+from-to line none xs n from to within below after =
     elim (cases_lt to from) [
       | inr le ↦ le
-      | inl less ↦ absurd (omega (arith, below to none less (omega arith), behind to none (omega arith) (omega arith)))
+      | inl less ↦ absurd (omega (arith, below to none less (omega arith), after to none (omega arith) (omega arith)))
     ]
 
 -- ---- depths of annotations

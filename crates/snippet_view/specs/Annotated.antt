@@ -6,14 +6,14 @@ use Rattle.std.specs.Cow.{cow_str_bytes}
 use Rattle.snippet_model.specs.AnnotationKind.{is_primary}
 use Rattle.snippet_model.specs.declared.snippet.Annotation.{Annotation}
 use Rattle.snippet_model.specs.declared.snippet.AnnotationKind.TheVariants.{Primary}
-use Rattle.snippet_view.specs.declared.depths.LongPlace.{LongPlace}
+use Rattle.snippet_view.specs.declared.depths.LongExtent.{LongExtent}
 use Rattle.snippet_view.specs.declared.entries.AnnotatedLineInfo.{AnnotatedLineInfo}
 use Rattle.snippet_view.specs.declared.entries.LineAnnotation.{LineAnnotation}
 use Rattle.snippet_view.specs.declared.entries.LineAnnotationType.{LineAnnotationType}
 use Rattle.snippet_view.specs.declared.entries.LineAnnotationType.TheVariants.{Singleline, MultilineStart, MultilineEnd, MultilineLine}
 use Rattle.snippet_lines.specs.declared.place.Loc.{Loc}
 use Rattle.snippet_view.specs.Depths.{same_place, comes_before, greatest_depth, depth_among}
-use Rattle.snippet_view.specs.Kept.{is_weak_line, kept_lines}
+use Rattle.snippet_view.specs.Kept.{is_trivial_line, kept_lines}
 use Rattle.snippet_lines.specs.Lines.{source_lines, text_at, Source}
 use Rattle.snippet_lines.specs.Order.{ordered_by}
 use Rattle.snippet_view.specs.Mark.{is_marking, is_single_line, touches}
@@ -37,7 +37,7 @@ long_entry s a =
     record { start = at.0; end = at.1; kind = a.kind; label = option_map cow_str_bytes a.label; highlight_source = a.highlight_source }
 
 -- its place: its bytes, and the numbers of its first and its last line
-abbrev pub long_place : Entry → LongPlace
+abbrev pub long_place : Entry → LongExtent
 long_place e = record { from = e.start.byte; to = e.end.byte; first = e.start.line; last = e.end.line }
 
 -- whether an annotation is a span of several lines of a kind that is marked
@@ -51,7 +51,7 @@ stands_before d e = comes_before (long_place d) (long_place e)
 abbrev pub long_spans : Source → List Annotation → List Entry
 long_spans s marks = ordered_by stands_before (map (long_entry s) (filter (is_long s.text) marks))
 
-abbrev pub long_places : Source → List Annotation → List LongPlace
+abbrev pub long_places : Source → List Annotation → List LongExtent
 long_places s marks = map long_place (long_spans s marks)
 
 -- the depth of an annotation of several lines, and the greatest one
@@ -63,12 +63,12 @@ deepest s marks = greatest_depth (long_places s marks)
 
 -- ---- entries
 
--- the lines behind the first beside which a span of several lines has bars, from 0: in its beginning up to the last one
--- that isn't weak, and the line before its last, if that lies behind and isn't weak
+-- the lines after the first beside which a span of several lines has bars, from 0: in its beginning up to the last one
+-- that isn't trivial, and the line before its last, if that lies after it and isn't trivial
 abbrev pub bar_lines : List ℕ → ℕ → ℕ → List ℕ
 bar_lines source first last =
     let beginning = min (first + 4) last in
-    filter (λ k. list_any (λ j. not (is_weak_line source j)) (range_with_len k (beginning - k))) (range_with_len (first + 1) (beginning - first)) ++ (if nat_lt beginning (last - 1) && not (is_weak_line source (last - 1)) then (last - 1) ∷ [] else [])
+    filter (λ k. list_any (λ j. not (is_trivial_line source j)) (range_with_len k (beginning - k))) (range_with_len (first + 1) (beginning - first)) ++ (if nat_lt beginning (last - 1) && not (is_trivial_line source (last - 1)) then (last - 1) ∷ [] else [])
 
 -- the entry of a span on one line
 abbrev pub single_part : Source → Annotation → PartEntry
@@ -101,18 +101,18 @@ abbrev pub stands_among : Entry → List Entry → Bool
 stands_among e ds = list_any (λ d. same_place (long_place e) (long_place d)) ds
 
 -- a span as it is drawn: primary where it is, or one before it that has its place
-abbrev pub is_drawn_primary : List Entry → Entry → Bool
-is_drawn_primary before e =
+abbrev pub is_promoted : List Entry → Entry → Bool
+is_promoted before e =
     is_primary e.kind || list_any (λ d. is_primary d.kind && same_place (long_place e) (long_place d)) before
 
-abbrev pub drawn : List Entry → Entry → Entry
-drawn before e = if is_drawn_primary before e then record e { kind = Primary } else e
+abbrev pub promoted : List Entry → Entry → Entry
+promoted before e = if is_promoted before e then record e { kind = Primary } else e
 
 -- the entries of spans of several lines in their order, all of which have these places
-abbrev pub long_parts : Source → List LongPlace → List Entry → List Entry → List PartEntry
+abbrev pub long_parts : Source → List LongExtent → List Entry → List Entry → List PartEntry
 long_parts s places before [] = []
 long_parts s places before (e ∷ later) =
-    span_parts s (depth_among places (long_place e)) (stands_among e later) (drawn before e) ++ long_parts s places (before ++ e ∷ []) later
+    span_parts s (depth_among places (long_place e)) (stands_among e later) (promoted before e) ++ long_parts s places (before ++ e ∷ []) later
 
 -- whether an annotation is a span on one line of a kind that is marked
 abbrev pub is_short : List ℕ → Annotation → Bool

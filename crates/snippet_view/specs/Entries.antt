@@ -35,6 +35,6 @@ HasDepthWithin deepest (MultilineLine depth) = (0 < depth) × (depth ≤ deepest
 abbrev pub is_untouched : List ℕ → List Annotation → ℕ → Bool
 is_untouched source marks k = list_all (λ a. not (is_marking a.kind && touches source a k && not (is_single_line source a))) marks
 
--- each number is below those behind it
+-- each number is below those after it
 abbrev pub Ascends : List ℕ → Type 0
 Ascends ks = (i j d : ℕ) → i < j → j < length ks → slice_index_or ks i d < slice_index_or ks j d

@@ -27,22 +27,22 @@ is_comment (c ∷ d ∷ e ∷ cs) = c == 47 && d == 47 && not (e == 47 || e == 3
 is_comment cs = false
 
 -- whether a line says little: it is blank, a bracket, or a comment
-abbrev pub is_weak : List ℕ → Bool
-is_weak line = length (trimmed line) == 0 || is_bracket (trimmed line) || is_comment (trimmed line)
+abbrev pub is_trivial : List ℕ → Bool
+is_trivial line = length (trimmed line) == 0 || is_bracket (trimmed line) || is_comment (trimmed line)
 
--- whether line k of a source is weak
-abbrev pub is_weak_line : List ℕ → ℕ → Bool
-is_weak_line source k = is_weak (chars (text_at (source_lines source) k))
+-- whether line k of a source is trivial
+abbrev pub is_trivial_line : List ℕ → ℕ → Bool
+is_trivial_line source k = is_trivial (chars (text_at (source_lines source) k))
 
--- of a span of several lines: the line up to which its beginning is shown, four behind the first at most
+-- of a span of several lines: the line up to which its beginning is shown, four after the first at most
 abbrev pub beginning : List ℕ → Annotation → ℕ
 beginning source a = min (first_line source a + 4) (last_line source a)
 
 -- whether a span of several lines has a bar beside line k, between its first and its last: in its beginning up to the
--- last line that isn't weak, and beside the line before its last, if that isn't weak
+-- last line that isn't trivial, and beside the line before its last, if that isn't trivial
 abbrev pub has_bar : List ℕ → Annotation → ℕ → Bool
 has_bar source a k =
-    nat_lt (first_line source a) k && (list_any (λ j. not (is_weak_line source j)) (range_with_len k (beginning source a - k)) || (k + 1 == last_line source a && nat_lt (beginning source a) k && not (is_weak_line source k)))
+    nat_lt (first_line source a) k && (list_any (λ j. not (is_trivial_line source j)) (range_with_len k (beginning source a - k)) || (k + 1 == last_line source a && nat_lt (beginning source a) k && not (is_trivial_line source k)))
 
 -- whether a span keeps line k: its first and its last line, each line of a `Visible` span, and else those with a bar
 abbrev pub keeps : List ℕ → ℕ → Annotation → Bool

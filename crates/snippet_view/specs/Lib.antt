@@ -8,9 +8,9 @@ pub mod Margin
 pub mod Mark
 pub mod Marked
 pub mod Measures
-pub mod NamedPlace
+pub mod Location
 pub mod NearPart
 pub mod OnLine
 pub mod Prepare
-pub mod Weak
+pub mod Trivial
 pub mod Window

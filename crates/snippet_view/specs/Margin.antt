@@ -21,8 +21,8 @@ room_from room left = record { left = left; right = capped_sum left room }
 
 -- the bounds of a snippet's window in a room of so many columns, where the whitespace that all its lines begin with has
 -- this width, its spans reach from column `first` to column `last`, their labels to column `label_end`, and its widest line
--- has this width. Six columns stay free around the spans and behind the labels, for the placeholders.
--- Of whitespace that is wider than 20 columns, less those six, all but 16 is cut. If a line then still reaches behind the
+-- has this width. Six columns stay free around the spans and after the labels, for the placeholders.
+-- Of whitespace that is wider than 20 columns, less those six, all but 16 is cut. If a line then still reaches past the
 -- room, the room begins, with the first of these that brings all of it inside, where the whitespace ends; or farther right,
 -- with spans and labels in the middle; or with the spans so that two fifths of what is left stand before them. If nothing
 -- does, the spans alone are shown
@@ -31,11 +31,11 @@ margin_bounds whitespace first last label_end room widest =
     let blank = min whitespace first - 6 in
     let from = first - 6 in
     let to = capped_sum last 6 in
-    let behind = capped_sum label_end 6 in
+    let after = capped_sum label_end 6 in
     let left = if nat_lt 20 blank then blank - 16 else 0 in
     let right = max widest left in
     if nat_le (right - left) room then record { left = left; right = right }
-    else if nat_le (behind - blank) room && nat_le blank behind then room_from room blank
-    else if nat_le (behind - from) room then room_from room (from - (room - (behind - from)) / 2)
+    else if nat_le (after - blank) room && nat_le blank after then room_from room blank
+    else if nat_le (after - from) room then room_from room (from - (room - (after - from)) / 2)
     else if nat_le (to - from) room then room_from room (from - (room - (to - from)) / 5 * 2)
     else record { left = from; right = to }

@@ -27,7 +27,7 @@ pub record Entry : Type 0 where
 abbrev pub seen_entry : LineAnnotation → Entry
 seen_entry e = record { start = e.start; end = e.end; kind = e.kind; label = option_copied e.label; highlight_source = e.highlight_source }
 
--- the end of an entry that starts and ends at these: at least one column behind the start
+-- the end of an entry that starts and ends at these: at least one column after the start
 abbrev pub widened : Loc → Loc → Loc
 widened start end = record end { display = max end.display (start.display + 1) }
 

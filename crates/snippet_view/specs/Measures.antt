@@ -32,7 +32,7 @@ abbrev pub bounds_for : ℕ → List ℕ → List ℕ → List ℕ → List ℕ 
 bounds_for room whitespaces columns ends widths =
     margin_bounds (unwrap_or (least whitespaces) 0) (unwrap_or (least columns) 0) (greatest columns) (greatest ends) room (greatest widths)
 
--- the column behind a label, if there is one, which stands one column behind the end of its mark; else that end
+-- the column after a label, if there is one, which stands one column after the end of its mark; else that end
 abbrev pub end_with : ℕ → Option (List ℕ) → ℕ
 end_with end None = end
 end_with end (Some label) = capped_sum end (width_of (chars label) + 1)
@@ -66,7 +66,7 @@ with_columns es = filter (λ e. not (is_bar e.annotation_type)) es
 abbrev pub entries_of : List AnnotatedLineInfo → List LineAnnotation
 entries_of infos = flat_map (λ info. info.annotations.items) infos
 
--- the columns at which entries start and end, and those behind their labels
+-- the columns at which entries start and end, and those after their labels
 abbrev pub columns_of : List LineAnnotation → List ℕ
 columns_of es = flat_map (λ e. e.start.display ∷ e.end.display ∷ []) (with_columns es)
 
@@ -90,7 +90,7 @@ bounds_of_lines room infos =
     let es = entries_of infos in
     bounds_for room (whitespaces_of (texts_of infos)) (columns_of es) (ends_of es) (widths_of (texts_of infos))
 
--- an entry that has columns stands behind the padding of a margin, if lines are cut on the left
+-- an entry that has columns stands after the padding of a margin, if lines are cut on the left
 abbrev pub StandsClear : Margin → LineAnnotation → Type 0
 StandsClear margin e =
     is_bar e.annotation_type ≡ false → 0 < (bounds_of margin).left → (bounds_of margin).left + 6 ≤ e.start.display
@@ -104,7 +104,7 @@ span_columns source a =
     let end = at.1.display in
     if not (is_marking a.kind) then [] else (if is_single_line source.text a then start ∷ (widened at.0 at.1).display ∷ [] else start ∷ (start + 1) ∷ (end - 1) ∷ end ∷ [])
 
--- the columns behind a span's marks: that of its last one with its label
+-- the columns after a span's marks: that of its last one with its label
 abbrev pub span_ends : Source → Annotation → List ℕ
 span_ends source a =
     let at = locations_of source a.span.start a.span.end in

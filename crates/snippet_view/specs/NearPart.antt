@@ -13,15 +13,15 @@ falling_short columns cs = if columns == 0 then 0 else fitting (columns - 1) cs
 abbrev pub window_columns : ℕ → ℕ → ℕ → List ℕ → ℕ
 window_columns room left right text = window_right room left right text - window_left left text
 
--- `part` is a part of a text, behind so many columns, that holds the window of the text: the characters before it end left
--- of the window, and it reaches behind the window by more than a character's columns, unless no character stands behind it
+-- `part` is a part of a text, after so many columns, that holds the window of the text: the characters before it end left
+-- of the window, and it reaches past the window by more than a character's columns, unless no character stands after it
 pub record HoldsWindow (room left right : ℕ) (text : List ℕ) (skipped : ℕ) (part : List ℕ) : Type 0 where
   pub before : List ℕ
-  pub behind : List ℕ
-  pub text_is : text ≡ before ++ (part ++ behind)
+  pub after : List ℕ
+  pub text_is : text ≡ before ++ (part ++ after)
   pub skipped_is : skipped ≡ width_of before
   pub starts : 0 < length before → skipped < window_left left text
-  pub reaches : 0 < length behind → (window_left left text - skipped) + window_columns room left right text + 4 ≤ width_of part
+  pub reaches : 0 < length after → (window_left left text - skipped) + window_columns room left right text + 4 ≤ width_of part
 
 -- that part of a line of this width, between the bounds of a margin
 abbrev pub IsPartOf : Margin → List ℕ → ℕ → ℕ → List ℕ → Type 0

@@ -36,7 +36,7 @@ abbrev pub bytes_of : List ℕ → ℕ
 bytes_of cs = length (encode_utf8_all cs)
 
 -- where the window of a text begins, and where it ends, in columns, in a room of so many: at these bounds, but a text
--- that fits behind its beginning isn't cut at the right
+-- that fits after its beginning isn't cut at the right
 abbrev pub window_left : ℕ → List ℕ → ℕ
 window_left left text = min left (width_of text)
 
@@ -60,7 +60,7 @@ reaching_last columns (c ∷ cs) =
     if nat_le columns (width_of cs) then reaching_last columns cs else length cs + 1
 
 -- where lines are cut on the left, the first characters in the window, as many as reach the width of the placeholder, give
--- their place to it: these are the columns that they take, and the characters behind them
+-- their place to it: these are the columns that they take, and the characters after them
 abbrev pub covered_columns : ℕ → List ℕ → List ℕ → Option ℕ
 covered_columns left placeholder inner =
     if left == 0 then None else Some (width_of (take (reaching (width_of placeholder) inner) inner))
@@ -77,8 +77,8 @@ covered_end room left right placeholder text =
     let at = unwrap_or (covered_columns left placeholder inner) 0 + length (uncovered_part left placeholder inner) in
     if nat_lt (window_right room left right text) (width_of text) then Some (at - reaching_last (width_of placeholder) inner) else None
 
--- a text, which stands behind as many columns, if lines are cut on the left, with the placeholder at their beginning. If
--- nothing stands behind them, there is the placeholder alone
+-- a text, which stands after as many columns, if lines are cut on the left, with the placeholder at their beginning. If
+-- nothing stands after them, there is the placeholder alone
 abbrev pub begun_with : List ℕ → Option ℕ → List ℕ → List ℕ
 begun_with placeholder None text = text
 begun_with placeholder (Some columns) text =
@@ -127,7 +127,7 @@ is_near None = false
 is_near (Some columns) = nat_le columns 26
 
 -- the column of the mark at the end of a span of several lines: it is one column wide, and ends where the span does, which
--- is one column farther right where the span ends behind the end of its line's text
+-- is one column farther right where the span ends after the end of its line's text
 abbrev pub end_mark_column : List ℕ → Annotation → ℕ
 end_mark_column source a =
     (end_location (record { text = source; first = 0 }) a.span.start a.span.end).display - 1
@@ -137,7 +137,7 @@ abbrev pub is_near_span : List ℕ → Annotation → Bool
 is_near_span source a =
     is_marking a.kind && (nat_le (start_column source a) 26 || (not (is_single_line source a) && nat_le (end_mark_column source a) 26))
 
--- whether nothing is cut from the left of these lines: all are blank, or one begins behind its whitespace within those
+-- whether nothing is cut from the left of these lines: all are blank, or one begins after its whitespace within those
 -- columns, or a span does, or none is marked
 abbrev pub is_near_left : List ℕ → List ℕ → List Annotation → Bool
 is_near_left source kept marks =

@@ -2,7 +2,7 @@
 ghost use Rattle.std.specs.Prelude.{◌≡◌, ◌+◌, ◌-◌, ◌^◌, ◌≤◌, ◌<◌, true, All, Contains, ◌∷◌, length, map, fold, max, IfOk};
 ghost use Rattle.std.specs.List.{AllWithin};
 ghost use Rattle.std.specs.List.Sorted.{IsNonDecreasingBy};
-ghost use Rattle.snippet_view.specs.declared.depths.LongPlace.{LongPlace};
+ghost use Rattle.snippet_view.specs.declared.depths.LongExtent.{LongExtent};
 ghost use Rattle.snippet_view.specs.Depths as spec;
 ghost use Rattle.snippet_view.specs.Depths.{share_line, IsLongestChain};
 
@@ -10,7 +10,7 @@ use std::alloc::{AllocError, Global};
 
 /// The place of a span of several lines.
 #[derive(Clone, Copy, Debug, PartialEq, Eq)]
-pub struct LongPlace {
+pub struct LongExtent {
     /// The byte at which it starts.
     pub from: usize,
     /// The byte at which it ends.
@@ -27,8 +27,8 @@ pub struct LongPlace {
 /// different places that share a line have different depths. The greatest depth is the length of a longest list of
 /// places, in their order, in which each shares a line with the next; 0 without places.
 ///
-/// The one error is want of memory.
-pub fn depths(alloc: Global, places: &[LongPlace]) -> Result<(usize, Vec<usize>), AllocError>
+/// The one error is that memory ran out.
+pub fn depths(alloc: Global, places: &[LongExtent]) -> Result<(usize, Vec<usize>), AllocError>
     requires ordered { IsNonDecreasingBy (λ p. p.first) places.now }
     requires lines { All (λ p. p.first ≤ p.last) places.now }
     ensures greatest { IfOk result (λ d. d.0 ≡ spec.greatest_depth places.now) }
@@ -36,7 +36,7 @@ pub fn depths(alloc: Global, places: &[LongPlace]) -> Result<(usize, Vec<usize>)
     ensures value { IfOk result (λ d. d.1.items ≡ map (spec.depth_among places.now) places.now) }
     ensures within { IfOk result (λ d. All (λ depth. (1 ≤ depth) × (depth ≤ d.0)) d.1.items) }
     // Two spans that share a line and have one depth have one place.
-    ensures distinct { (p q : LongPlace) → Contains places.now p → Contains places.now q → share_line p q ≡ true
+    ensures distinct { (p q : LongExtent) → Contains places.now p → Contains places.now q → share_line p q ≡ true
         → spec.depth_among places.now p ≡ spec.depth_among places.now q → p ≡ q }
 {
     let mut depths = raw_depths(alloc, places)?;
@@ -57,7 +57,7 @@ fn turn(depths: &mut [usize], greatest: usize)
 }
 
 /// The raw depths of spans at some places.
-fn raw_depths(alloc: Global, places: &[LongPlace]) -> Result<Vec<usize>, AllocError>
+fn raw_depths(alloc: Global, places: &[LongExtent]) -> Result<Vec<usize>, AllocError>
     requires ordered { IsNonDecreasingBy (λ p. p.first) places.now }
     requires lines { All (λ p. p.first ≤ p.last) places.now }
     ensures value { IfOk result (λ raws. raws.items ≡ spec.raw_depths places.now) }
@@ -70,9 +70,9 @@ fn raw_depths(alloc: Global, places: &[LongPlace]) -> Result<Vec<usize>, AllocEr
 }
 
 /// The raw depth of a span at a place, of which the later ones have these.
-fn raw_depth(place: LongPlace, later: &[LongPlace], raws: &[usize]) -> usize
+fn raw_depth(place: LongExtent, later: &[LongExtent], raws: &[usize]) -> usize
     requires ordered { IsNonDecreasingBy (λ p. p.first) later.now }
-    requires behind { All (λ p. place.first ≤ p.first) later.now }
+    requires after { All (λ p. place.first ≤ p.first) later.now }
     requires lines { All (λ p. p.first ≤ p.last) later.now }
     requires own_lines { place.first ≤ place.last }
     requires raws { raws.now ≡ spec.raw_depths later.now }
@@ -90,11 +90,11 @@ fn raw_depth(place: LongPlace, later: &[LongPlace], raws: &[usize]) -> usize
 }
 
 /// How many of some places start on a line or above.
-pub(crate) fn starting_by(places: &[LongPlace], line: usize) -> usize
+pub(crate) fn starting_by(places: &[LongExtent], line: usize) -> usize
     requires ordered { IsNonDecreasingBy (λ p. p.first) places.now }
     ensures within { result ≤ length places.now }
     ensures by { AllWithin (λ p. p.first ≤ line) places.now 0 result }
-    ensures behind { AllWithin (λ p. line < p.first) places.now result (length places.now) }
+    ensures after { AllWithin (λ p. line < p.first) places.now result (length places.now) }
 {
     places.partition_point(|p| p.first <= line)
 }

@@ -8,7 +8,7 @@ use snippet_model::snippet::AnnotationKind;
 pub struct LineAnnotation<'a> {
     /// Where it starts.
     pub start: Loc,
-    /// Where it ends; on one line at least one column behind its start.
+    /// Where it ends; on one line at least one column after its start.
     pub end: Loc,
     /// How it is marked.
     pub kind: AnnotationKind,

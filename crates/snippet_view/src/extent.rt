@@ -46,7 +46,7 @@ struct Extent {
     first: Option<usize>,
     /// The greatest such column, or 0.
     last: usize,
-    /// The greatest column behind a label, or behind a mark that has none, or 0.
+    /// The greatest column after a label, or after a mark that has none, or 0.
     label_end: usize,
     /// The width of the widest line.
     widest: usize,
@@ -119,7 +119,7 @@ fn is_bar(part: LineAnnotationType) -> bool
     matches!(part, LineAnnotationType::MultilineLine(_))
 }
 
-/// The column behind an entry's label, or behind its mark where it has none.
+/// The column after an entry's label, or after its mark where it has none.
 fn label_end(entry: &LineAnnotation) -> usize
     requires label { IfSome entry.now.label (λ t. length t.now < 2 ^ 56) }
     ensures value { result ≡ end_with entry.now.end.display (option_copied entry.now.label) }

@@ -16,7 +16,7 @@ use snippet_text::{char_width, str_width};
 ///     ...d, e);  f(g, h...
 ///     |  |             |
 ///     |  |             `end`: the cell of the placeholder on the right
-///     |  `text` stands here, behind the `start` columns that the placeholder took
+///     |  `text` stands here, after the `start` columns that the placeholder took
 ///     the first cell; left of it `dropped` columns of the line aren't shown
 /// ```
 #[derive(Clone, Copy, Debug)]
@@ -25,14 +25,14 @@ pub struct LineWindow<'a> {
     pub dropped: usize,
     /// Where lines are cut on the left: the columns of the characters that give their place to the placeholder.
     pub start: Option<usize>,
-    /// What is shown behind them.
+    /// What is shown after them.
     pub text: &'a str,
     /// Where the line is cut on the right: the cell from which on the placeholder stands, from 0.
     pub end: Option<usize>,
 }
 
 /// The window of a line of so many columns, between the bounds of a margin. Of the line's normalised text `text` is the part,
-/// behind `skipped` columns, that holds the window.
+/// after `skipped` columns, that holds the window.
 pub fn window_of<'a>(
     margin: Margin,
     placeholder: &str,
@@ -63,7 +63,7 @@ pub fn window_of<'a>(
 {
     let left = margin.left(width);
     let right = margin.right(width);
-    let (reached, rest) = behind_columns(text, left - skipped);
+    let (reached, rest) = after_columns(text, left - skipped);
     let (inner, inner_width) = within_columns(rest, right.saturating_sub(left));
     let columns = str_width(placeholder);
     let (start, shown) = uncovered(margin, columns, inner);
@@ -82,7 +82,7 @@ pub fn window_of<'a>(
 }
 
 /// The columns of a window's first characters that give their place to a placeholder of this width, if lines are cut on the
-/// left, and what stands behind them.
+/// left, and what stands after them.
 fn uncovered<'a>(margin: Margin, columns: usize, inner: &'a str) -> (Option<usize>, &'a str)
     requires few { columns < 2 ^ 60 }
     ensures start { (placeholder : List ℕ) → columns ≡ width_of placeholder
@@ -92,15 +92,15 @@ fn uncovered<'a>(margin: Margin, columns: usize, inner: &'a str) -> (Option<usiz
         → chars result.1.now ≡ uncovered_part (bounds_of margin).left placeholder (chars inner.now) }
 {
     if margin.was_cut_left() {
-        let (skipped, shown) = behind_columns(inner, columns);
+        let (skipped, shown) = after_columns(inner, columns);
         (Some(skipped), shown)
     } else {
         (None, inner)
     }
 }
 
-/// The width of the fewest characters that reach so many columns, or of all, and what stands behind them.
-fn behind_columns(text: &str, columns: usize) -> (usize, &str)
+/// The width of the fewest characters that reach so many columns, or of all, and what stands after them.
+fn after_columns(text: &str, columns: usize) -> (usize, &str)
     requires few { columns < 2 ^ 60 }
     ensures width { let cs = chars text.now in result.0 ≡ width_of (take (reaching columns cs) cs) }
     ensures near { result.0 < columns + 4 }
@@ -165,11 +165,11 @@ fn last_reaching(text: &str, width: usize, columns: usize) -> usize
     let mut width = width;
     let mut count = char_count(text);
     for c in text.chars() {
-        let behind = width - char_width(c);
-        if behind < columns {
+        let after = width - char_width(c);
+        if after < columns {
             return count;
         }
-        width = behind;
+        width = after;
         count -= 1;
     }
     count

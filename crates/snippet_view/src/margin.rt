@@ -16,7 +16,7 @@ const KEPT_WHITESPACE: usize = 16;
 pub struct Margin {
     /// The column at which lines begin to be shown.
     computed_left: usize,
-    /// The column behind the last one that is shown.
+    /// The column after the last one that is shown.
     computed_right: usize,
     /// The room: how many columns of a line may be shown.
     pub term_width: usize,
@@ -26,7 +26,7 @@ impl Margin {
     /// The bounds of a snippet, in a room of `term_width` columns.
     ///
     /// `whitespace_left` is the width of the whitespace that all lines begin with, `span_left` and `span_right` are the
-    /// least and the greatest column of its spans, `label_right` is the column behind its labels, and `max_line_len` the
+    /// least and the greatest column of its spans, `label_right` is the column after its labels, and `max_line_len` the
     /// width of its widest line.
     pub fn new(
         whitespace_left: usize,
@@ -40,22 +40,22 @@ impl Margin {
             ≡ margin_bounds whitespace_left span_left span_right label_right term_width max_line_len }
         ensures room { result.term_width ≡ term_width }
         ensures ordered { span_left ≤ span_right → (bounds_of result).left ≤ (bounds_of result).right }
-        // Where lines are cut on the left, the first span stands behind the padding.
+        // Where lines are cut on the left, the first span stands after the padding.
         ensures padded { 0 < (bounds_of result).left → (bounds_of result).left + 6 ≤ span_left }
     {
         let blank = whitespace_left.min(span_left).saturating_sub(PADDING);
         let from = span_left.saturating_sub(PADDING);
         let to = span_right.saturating_add(PADDING);
-        let behind = label_right.saturating_add(PADDING);
+        let after = label_right.saturating_add(PADDING);
         let left = cut_whitespace(blank);
         let right = max_line_len.max(left);
         if right - left <= term_width {
             // All fits, once whitespace is cut.
             Margin::between(left, right, term_width)
-        } else if behind.saturating_sub(blank) <= term_width && blank <= behind {
+        } else if after.saturating_sub(blank) <= term_width && blank <= after {
             Margin::with_room_from(blank, term_width)
-        } else if behind.saturating_sub(from) <= term_width {
-            let free = term_width - behind.saturating_sub(from);
+        } else if after.saturating_sub(from) <= term_width {
+            let free = term_width - after.saturating_sub(from);
             Margin::with_room_from(from.saturating_sub(free / 2), term_width)
         } else if to.saturating_sub(from) <= term_width {
             let free = term_width - to.saturating_sub(from);
@@ -103,7 +103,7 @@ impl Margin {
         self.computed_left.min(line_len)
     }
 
-    /// The column behind the last one that is shown of a line of this width: its end where the room holds the line from the
+    /// The column after the last one that is shown of a line of this width: its end where the room holds the line from the
     /// left bound on.
     pub fn right(&self, line_len: usize) -> usize
         ensures value { let bounds = bounds_of self.now in

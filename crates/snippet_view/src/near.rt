@@ -42,15 +42,15 @@ pub fn near_part<'a>(margin: Margin, line: &'a str, width: usize) -> NearPart<'a
 {
     let left = margin.left(width);
     let columns = margin.right(width).saturating_sub(left);
-    let (skipped, rest) = behind_fewer(line, left);
+    let (skipped, rest) = after_fewer(line, left);
     NearPart {
         skipped,
         text: part_reaching(rest, left - skipped + columns + WIDEST),
     }
 }
 
-/// The columns of the most characters that take fewer columns than these, and what stands behind them.
-fn behind_fewer(text: &str, columns: usize) -> (usize, &str)
+/// The columns of the most characters that take fewer columns than these, and what stands after them.
+fn after_fewer(text: &str, columns: usize) -> (usize, &str)
     ensures width { let cs = chars text.now in result.0 ≡ width_of (take (falling_short columns cs) cs) }
     ensures within { result.0 ≤ columns }
     ensures near { columns ≤ width_of (chars text.now) → columns ≤ result.0 + 4 }

@@ -113,7 +113,7 @@ const ANSWERED: [(&str, &str, &str); 11] = [
     (
         "{\"id\": \"a\"",
         "",
-        "line 1: no JSON: EOF while parsing at line 1 column 10",
+        "line 1: not valid JSON: EOF while parsing at line 1 column 10",
     ),
     (
         "{\"id\": \"a\", \"groups\": [], \"sheets\": [{\"none\": {\"effects\": [\"BOLD\", \"bold\"]}}]}",
@@ -147,7 +147,7 @@ const ANSWERED: [(&str, &str, &str); 11] = [
     ),
 ];
 
-/// What is answered to these lines, and behind it what is told.
+/// What is answered to these lines, and after it what is told.
 fn answered(alloc: Global, lines: &str) -> Result<(Vec<u8>, String), Fail> {
     let mut out = Vec::new(alloc);
     let mut is_first = true;
@@ -276,7 +276,7 @@ const ROW_TEXTS: &str =
 {"id": "empty-report", "ok": [""]}
 "#;
 
-// Each row gives its text where memory is ample: a library that always answers want of memory fails here.
+// Each row gives its text where memory is ample: a library that always answers that it is out of memory fails here.
 #[test]
 fn every_row_renders(rt: HostRuntime) -> Result<(), Fail> {
     let mut told = Vec::new(rt.alloc());

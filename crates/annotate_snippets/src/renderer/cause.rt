@@ -14,21 +14,21 @@ ghost use Rattle.snippet_view.specs.Entries.{AllEntries, HasCharacterRoom};
 ghost use Rattle.annotate_snippets.specs.Drawn.{AddsCause, AddsCauseLines, HasRoomFor};
 ghost use Rattle.annotate_snippets.specs.Prepared.{IsCausePrepared};
 ghost use Rattle.annotate_snippets.specs.Rows as spec;
-ghost use Rattle.annotate_snippets.specs.Rows.{cause_head, rows_behind_cause};
+ghost use Rattle.annotate_snippets.specs.Rows.{cause_head, rows_after_cause};
 
 use crate::renderer::Renderer;
+use crate::renderer::element_context::ElementContext;
 use crate::renderer::elements::origin_layout;
 use crate::renderer::frame::Frame;
 use crate::renderer::gutter::line_numbers;
 use crate::renderer::preprocess::PreparedCause;
-use crate::renderer::surroundings::Surroundings;
 use snippet_grid::StyledBuffer;
 use snippet_parts::{
     AnnotatedLineInfo, margin_for, primary_place, secondary_place, with_lines_between,
 };
 use snippet_strokes::{Layout, draw_snippet};
 use snippet_titles::{
-    OriginPlace, draw_closing, draw_nameless_head, draw_opening_head, draw_primary_head,
+    OriginLocation, draw_closing, draw_nameless_head, draw_opening_head, draw_primary_head,
     draw_secondary_head, draw_separator,
 };
 use std::alloc::{AllocError, Global};
@@ -43,7 +43,7 @@ pub fn draw_cause(
     buffer: &mut StyledBuffer,
     renderer: &Renderer,
     frame: Frame,
-    around: Surroundings,
+    around: ElementContext,
     cause: PreparedCause<'_>,
 ) -> Result<(), AllocError>
     requires prepared { IsCausePrepared cause }
@@ -53,7 +53,7 @@ pub fn draw_cause(
 {
     draw_cause_head(alloc, buffer, renderer, frame, around, &cause)?;
     draw_cause_lines(alloc, buffer, renderer, frame, around.closes(), cause)?;
-    draw_behind(buffer, renderer, frame, around)
+    draw_after(buffer, renderer, frame, around)
 }
 
 /// Draws what an annotated snippet begins with below all that stands in the grid.
@@ -62,7 +62,7 @@ fn draw_cause_head(
     buffer: &mut StyledBuffer,
     renderer: &Renderer,
     frame: Frame,
-    around: Surroundings,
+    around: ElementContext,
     cause: &PreparedCause<'_>,
 ) -> Result<(), AllocError>
     requires prepared { IsCausePrepared cause.now }
@@ -78,7 +78,7 @@ fn draw_cause_head(
         };
     };
     let path = path.as_str();
-    let place = named_place(around.primary, &cause.kept);
+    let place = location(around.primary, &cause.kept);
     if around.primary {
         draw_primary_head(alloc, buffer, layout, around.first, path, place)
     } else {
@@ -87,7 +87,7 @@ fn draw_cause_head(
 }
 
 /// The place that the head of a snippet names, given its lines that are kept.
-pub fn named_place(primary: bool, kept: &[AnnotatedLineInfo<'_>]) -> OriginPlace
+pub fn location(primary: bool, kept: &[AnnotatedLineInfo<'_>]) -> OriginLocation
     requires room { AllEntries HasCharacterRoom kept.now }
     ensures value { result ≡ spec.place_named primary (map seen_kept kept.now) }
 {
@@ -97,11 +97,11 @@ pub fn named_place(primary: bool, kept: &[AnnotatedLineInfo<'_>]) -> OriginPlace
         secondary_place(kept)
     };
     match place {
-        Some(place) => OriginPlace {
+        Some(place) => OriginLocation {
             line: Some(place.line),
             column: place.column,
         },
-        None => OriginPlace {
+        None => OriginLocation {
             line: None,
             column: None,
         },
@@ -137,18 +137,18 @@ fn draw_cause_lines(
 
 /// Draws what stands below an annotated snippet's lines, below all that stands in the grid: what sets off a message, or
 /// closes the group.
-fn draw_behind(
+fn draw_after(
     buffer: &mut StyledBuffer,
     renderer: &Renderer,
     frame: Frame,
-    around: Surroundings,
+    around: ElementContext,
 ) -> Result<(), AllocError>
     requires narrow { frame.gutter ≤ 20 }
-    ensures rows { OnOk result (buffer.new ≡ buffer.old ++ rows_behind_cause renderer.now frame around) }
+    ensures rows { OnOk result (buffer.new ≡ buffer.old ++ rows_after_cause renderer.now frame around) }
 {
     if around.place.is_first() && around.next.is_message() {
         draw_separator(buffer, frame.gutter, renderer.decor_style)
-    } else if around.closes_behind() {
+    } else if around.closes_after() {
         draw_closing(buffer, frame.gutter, renderer.decor_style)
     } else {
         Ok(())

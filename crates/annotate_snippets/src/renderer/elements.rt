@@ -12,15 +12,15 @@ ghost use Rattle.snippet_model.specs.Fits.{MessageFits};
 
 use crate::renderer::Renderer;
 use crate::renderer::cause::draw_cause;
+use crate::renderer::element_context::{ElementContext, GroupPosition, contexts_of};
 use crate::renderer::frame::Frame;
 use crate::renderer::preprocess::PreparedElement;
 use crate::renderer::suggestions::draw_patches;
-use crate::renderer::surroundings::{GroupPlace, Surroundings, surroundings_of};
 use snippet_grid::StyledBuffer;
 use snippet_model::snippet::{Message, Origin};
 use snippet_titles::{
-    FileStart, MessagePlace, OriginLayout, OriginPlace, TitleStyle, draw_closing, draw_heading,
-    draw_origin, draw_padding,
+    FileStart, MessageContext, OriginLayout, OriginLocation, TitleStyle, draw_closing,
+    draw_heading, draw_origin, draw_padding,
 };
 use std::alloc::{AllocError, Global};
 
@@ -35,7 +35,7 @@ pub fn draw_elements<'a>(
     buffer: &mut StyledBuffer<'a>,
     renderer: &Renderer,
     frame: Frame,
-    place: GroupPlace,
+    place: GroupPosition,
     file: Option<&str>,
     elements: Vec<PreparedElement<'a>>,
 ) -> Result<(), AllocError>
@@ -45,7 +45,7 @@ pub fn draw_elements<'a>(
     requires narrow { frame.code < 2 ^ 63 + 2 ^ 32 }
     ensures added { OnOk result (AddsElements renderer.now frame place (option_copied file.entry) (map element_of elements.entry.items) buffer.old buffer.new) }
 {
-    let around = surroundings_of(alloc, place, file, &elements)?;
+    let around = contexts_of(alloc, place, file, &elements)?;
     for (i, element) in elements.into_iter().enumerate() {
         draw_element(alloc, buffer, renderer, frame, around[i], element)?;
     }
@@ -58,7 +58,7 @@ fn draw_element<'a>(
     buffer: &mut StyledBuffer<'a>,
     renderer: &Renderer,
     frame: Frame,
-    around: Surroundings,
+    around: ElementContext,
     element: PreparedElement<'a>,
 ) -> Result<(), AllocError>
     requires prepared { IsElementPrepared element }
@@ -98,14 +98,14 @@ fn draw_message<'a>(
     buffer: &mut StyledBuffer<'a>,
     renderer: &Renderer,
     frame: Frame,
-    around: Surroundings,
+    around: ElementContext,
     message: &'a Message<'a>,
 ) -> Result<(), AllocError>
     requires fits { MessageFits message.now }
     requires narrow { frame.gutter ≤ 20 }
     ensures rows { OnOk result (buffer.new ≡ buffer.old ++ message_rows renderer.now frame around message.now) }
 {
-    let place = MessagePlace {
+    let place = MessageContext {
         gutter: frame.gutter,
         decor: renderer.decor_style,
         followed: !around.next.is_nothing(),
@@ -129,27 +129,27 @@ fn draw_place(
     buffer: &mut StyledBuffer,
     renderer: &Renderer,
     frame: Frame,
-    around: Surroundings,
+    around: ElementContext,
     origin: &Origin<'_>,
 ) -> Result<(), AllocError>
     requires narrow { frame.gutter ≤ 20 }
     ensures rows { OnOk result (buffer.new ≡ buffer.old ++ origin_rows renderer.now frame around origin.now) }
 {
     let layout = origin_layout(renderer, frame);
-    let place = OriginPlace {
+    let place = OriginLocation {
         line: origin.line,
         column: origin.char_column,
     };
     let start = origin_start(around);
     draw_origin(alloc, buffer, layout, start, origin.path.as_str(), place)?;
-    if around.closes_behind() {
+    if around.closes_after() {
         draw_closing(buffer, frame.gutter, renderer.decor_style)?;
     }
     Ok(())
 }
 
 /// What leads to the path of a place without source.
-fn origin_start(around: Surroundings) -> FileStart
+fn origin_start(around: ElementContext) -> FileStart
     ensures value { result ≡ spec.origin_start around }
 {
     if !around.primary {

@@ -15,14 +15,14 @@ pub enum RenderError {
     /// The short form was asked for, and the first group has no title.
     #[error("a short message needs a title")]
     NoTitle,
-    /// A span starts behind its end.
+    /// A span starts after its end.
     #[error("group {group}, element {element}, marker {marker}: span is reversed")]
     SpanReversed {
         group: usize,
         element: usize,
         marker: usize,
     },
-    /// A span ends more than one byte behind the source.
+    /// A span ends more than one byte after the source.
     #[error("group {group}, element {element}, marker {marker}: span ends past the source")]
     SpanPastEnd {
         group: usize,
@@ -36,7 +36,7 @@ pub enum RenderError {
         element: usize,
         marker: usize,
     },
-    /// Two patches of a snippet overlap: in the order by start, then end, else as given, the one ends behind the start of
+    /// Two patches of a snippet overlap: in the order by start, then end, else as given, the one ends after the start of
     /// the other. Of several such pairs it is the one with the least first number, then the least second.
     #[error("group {group}, element {element}: markers {first} and {second} overlap")]
     PatchesOverlap {
@@ -45,7 +45,7 @@ pub enum RenderError {
         first: usize,
         second: usize,
     },
-    /// The number behind that of a snippet's last line doesn't fit in a `usize`.
+    /// The number after that of a snippet's last line doesn't fit in a `usize`.
     #[error("group {group}, element {element}: line numbers are too large")]
     LineNumberTooLarge {
         group: usize,

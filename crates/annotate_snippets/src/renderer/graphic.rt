@@ -13,12 +13,12 @@ ghost use Rattle.annotate_snippets.specs.Page.{PrintsGrids};
 ghost use Rattle.annotate_snippets.specs.Prepared.{IsGroupDrawable, IsGroupPrepared, element_of};
 
 use crate::renderer::Renderer;
+use crate::renderer::element_context::{GroupPosition, next_of};
 use crate::renderer::elements::draw_elements;
 use crate::renderer::frame::{Frame, frame_for};
 use crate::renderer::gutter::gutter_of;
 use crate::renderer::paths::{primary_path, report_file};
 use crate::renderer::preprocess::{PreparedGroup, prepare_groups};
-use crate::renderer::surroundings::{GroupPlace, next_of};
 use crate::renderer::title::draw_title;
 use snippet_grid::StyledBuffer;
 use snippet_model::snippet::Group;
@@ -53,7 +53,7 @@ pub fn grids<'a>(
     let mut grids = Vec::new(alloc);
     for (i, group) in prepared.into_iter().enumerate() {
         let frame = frame_for(gutter, group.depth());
-        let place = GroupPlace::at(groups.len(), i);
+        let place = GroupPosition::at(groups.len(), i);
         let file = primary_path(group.group).or(file);
         grids.push(draw_group(alloc, renderer, frame, place, file, group)?)?;
     }
@@ -66,7 +66,7 @@ fn draw_group<'a>(
     alloc: Global,
     renderer: &Renderer,
     frame: Frame,
-    place: GroupPlace,
+    place: GroupPosition,
     file: Option<&str>,
     group: PreparedGroup<'a>,
 ) -> Result<GroupGrid<'a>, AllocError>

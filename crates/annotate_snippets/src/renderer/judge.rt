@@ -2,7 +2,7 @@
 ghost use Rattle.std.specs.Prelude.{◌≡◌, ◌+◌, ◌<◌, ◌^◌};
 ghost use Rattle.std.specs.Option.{SomeIff};
 ghost use Rattle.snippet_model.specs.declared.snippet.Element.TheVariants.{Cause, Suggestion};
-ghost use Rattle.annotate_snippets.specs.Fault.{refusal_of, span_faults, number_behind, added_lines, element_faults, end_faults, faults_from, first_of, number_faults};
+ghost use Rattle.annotate_snippets.specs.Fault.{refusal_of, span_faults, number_after_lines, added_lines, element_faults, end_faults, faults_from, first_of, number_faults};
 ghost use Rattle.annotate_snippets.specs.Fault as spec;
 
 use crate::renderer::error::RenderError;
@@ -112,9 +112,9 @@ fn first_of_suggestion(
     missing_number(group, element, end)
 }
 
-/// The fault that the number behind that of a source's last line doesn't fit.
+/// The fault that the number after that of a source's last line doesn't fit.
 fn end_fault(group: usize, element: usize, line_start: usize, source: &str) -> Option<RenderError>
-    ensures value { result ≡ first_of (number_faults group element (number_behind line_start source.now)) }
+    ensures value { result ≡ first_of (number_faults group element (number_after_lines line_start source.now)) }
 {
     // A source has at most one line more than bytes. Where so many fit, they needn't be counted.
     if source.len() < usize::MAX - line_start {
@@ -123,7 +123,7 @@ fn end_fault(group: usize, element: usize, line_start: usize, source: &str) -> O
     missing_number(group, element, end_number(line_start, source))
 }
 
-/// The fault that the number behind that of a snippet's last line is missing, since it doesn't fit.
+/// The fault that the number after that of a snippet's last line is missing, since it doesn't fit.
 fn missing_number(group: usize, element: usize, end: Option<usize>) -> Option<RenderError>
     ensures value { result ≡ first_of (end_faults group element end) }
 {
@@ -174,9 +174,9 @@ fn refusal(group: usize, element: usize, marker: usize, fault: SpanFault) -> Ren
     }
 }
 
-/// The number behind that of a source's last line, where it fits.
+/// The number after that of a source's last line, where it fits.
 fn end_number(line_start: usize, source: &str) -> Option<usize>
-    ensures value { SomeIff result (number_behind line_start source.now < 2 ^ 64) (number_behind line_start source.now) }
+    ensures value { SomeIff result (number_after_lines line_start source.now < 2 ^ 64) (number_after_lines line_start source.now) }
 {
     line_start.checked_add(newline_count(source) + 1)
 }
@@ -184,8 +184,8 @@ fn end_number(line_start: usize, source: &str) -> Option<usize>
 /// The same with the lines that some patches may add.
 fn patched_end_number(line_start: usize, source: &str, patches: &[Patch]) -> Option<usize>
     ensures value { SomeIff result
-        (number_behind line_start source.now + added_lines patches.now < 2 ^ 64)
-        (number_behind line_start source.now + added_lines patches.now) }
+        (number_after_lines line_start source.now + added_lines patches.now < 2 ^ 64)
+        (number_after_lines line_start source.now + added_lines patches.now) }
 {
     let mut end = end_number(line_start, source)?;
     for patch in patches {

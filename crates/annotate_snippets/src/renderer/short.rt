@@ -1,4 +1,4 @@
-//! The short form: the title of a report's first group, behind the place of its first annotated snippet and before the labels
+//! The short form: the title of a report's first group, after the place of its first annotated snippet and before the labels
 //! of that.
 //!
 //! ```text
@@ -12,7 +12,7 @@ ghost use Rattle.annotate_snippets.specs.Short as spec;
 ghost use Rattle.annotate_snippets.specs.Short.{joined_labels, place_of_cause, primary_labels, short_form};
 
 use crate::renderer::Renderer;
-use crate::renderer::cause::named_place;
+use crate::renderer::cause::location;
 use crate::renderer::graphic::GroupGrid;
 use crate::renderer::preprocess::prepare_cause;
 use snippet_grid::StyledBuffer;
@@ -40,14 +40,14 @@ pub fn short_grid<'a>(
 {
     let cause = first_cause(group);
     let before = place_before(alloc, renderer, cause)?;
-    let behind = labels_behind(alloc, cause)?;
+    let after = labels_after(alloc, cause)?;
     let mut buffer = StyledBuffer::new(alloc);
     draw_short(
         alloc,
         &mut buffer,
         renderer.hyperlink,
         before.as_str(),
-        behind.as_str(),
+        after.as_str(),
         title,
     )?;
     Ok(GroupGrid {
@@ -100,15 +100,15 @@ fn place_of<'a>(
         return Ok(String::new(alloc));
     };
     let prepared = prepare_cause(alloc, snippet)?;
-    let place = named_place(true, &prepared.kept);
+    let place = location(true, &prepared.kept);
     let anonymized = renderer.anonymized_origin_line_numbers;
     let mut text = origin_text(alloc, path.as_str(), place, anonymized)?;
     text.push_str(": ")?;
     Ok(text)
 }
 
-/// What stands behind the title's first row: the labels of an annotated snippet's primary spans that aren't blank.
-fn labels_behind(
+/// What stands after the title's first row: the labels of an annotated snippet's primary spans that aren't blank.
+fn labels_after(
     alloc: Global,
     cause: Option<&Snippet<'_, Annotation<'_>>>,
 ) -> Result<String, AllocError>
@@ -120,7 +120,7 @@ fn labels_behind(
     }
 }
 
-/// The labels of primary spans that aren't blank, in a row behind a colon.
+/// The labels of primary spans that aren't blank, in a row after a colon.
 fn labels_of(alloc: Global, annotations: &[Annotation<'_>]) -> Result<String, AllocError>
     ensures value { IfOk result (λ text. chars (string_bytes text) ≡ joined_labels (primary_labels annotations.now)) }
 {
@@ -131,7 +131,7 @@ fn labels_of(alloc: Global, annotations: &[Annotation<'_>]) -> Result<String, Al
     Ok(text)
 }
 
-/// Adds an annotation's label behind the others, if it is primary and its label isn't blank.
+/// Adds an annotation's label after the others, if it is primary and its label isn't blank.
 fn push_label(
     alloc: Global,
     text: &mut String,

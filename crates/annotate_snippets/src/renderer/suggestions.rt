@@ -16,13 +16,13 @@ ghost use Rattle.annotate_snippets.specs.Around.{HasPathFor, begins_in_row_above
 ghost use Rattle.annotate_snippets.specs.Rows as spec;
 
 use crate::renderer::Renderer;
+use crate::renderer::element_context::ElementContext;
 use crate::renderer::elements::origin_layout;
 use crate::renderer::frame::Frame;
 use crate::renderer::gutter::line_numbers;
-use crate::renderer::surroundings::Surroundings;
 use snippet_grid::StyledBuffer;
 use snippet_suggest::{PreparedSuggestion, SuggestionLayout, SuggestionStart, draw_suggestion};
-use snippet_titles::{OriginPlace, draw_primary_head};
+use snippet_titles::{OriginLocation, draw_primary_head};
 use std::alloc::{AllocError, Global};
 
 /// Draws a snippet of patches below all that stands in the grid, or from its last row on.
@@ -35,7 +35,7 @@ pub fn draw_patches(
     buffer: &mut StyledBuffer,
     renderer: &Renderer,
     frame: Frame,
-    around: Surroundings,
+    around: ElementContext,
     suggestion: &PreparedSuggestion<'_>,
 ) -> Result<(), AllocError>
     requires prepared { IsPrepared suggestion.now }
@@ -80,19 +80,19 @@ fn draw_path(
 }
 
 /// The place at which the first patch starts.
-fn first_place(suggestion: &PreparedSuggestion<'_>) -> OriginPlace
+fn first_place(suggestion: &PreparedSuggestion<'_>) -> OriginLocation
     requires prepared { IsPrepared suggestion.now }
     ensures value { result ≡ spec.patch_place suggestion.now.snippet.now }
 {
     let Some(patch) = suggestion.splice.patches.first() else {
-        return OriginPlace {
+        return OriginLocation {
             line: None,
             column: None,
         };
     };
     let span = patch.span.start..patch.span.end;
     let (start, _) = suggestion.map.span_to_locations(span);
-    OriginPlace {
+    OriginLocation {
         line: Some(start.line),
         column: Some(start.char + 1),
     }

@@ -17,19 +17,19 @@ ghost use Rattle.snippet_text_form.specs.Heading.{heading_form};
 ghost use Rattle.snippet_text_form.specs.declared.heading.HeadingKind.TheVariants as kind;
 
 use crate::renderer::Renderer;
+use crate::renderer::element_context::first_two_share;
 use crate::renderer::paths::{is_same_file, path_of, primary_path, report_file};
 use crate::renderer::preprocess::{PreparedElement, PreparedGroup, prepare_groups};
-use crate::renderer::surroundings::first_two_share;
 use snippet_model::snippet::{Group, Title};
 use snippet_suggest::PreparedSuggestion;
 use snippet_text_form::{
-    HeadingKind, SuggestionPlace, TextForm, add_cause, add_heading, add_origin, add_suggestion,
+    HeadingKind, SuggestionContext, TextForm, add_cause, add_heading, add_origin, add_suggestion,
 };
 use std::alloc::{AllocError, Global};
 
 /// The suggestion right before an element.
 #[derive(Clone, Copy)]
-pub struct Before<'r> {
+pub struct PreviousSuggestion<'r> {
     /// The path of its file.
     pub path: Option<&'r str>,
     /// Its number in a row of suggestions for that file, from 1.
@@ -111,13 +111,13 @@ fn add_elements<'a>(
     Ok(())
 }
 
-/// Adds an element. A suggestion stands behind this one, if there is one, and another for its file may follow.
+/// Adds an element. A suggestion stands after this one, if there is one, and another for its file may follow.
 fn add_element<'a>(
     alloc: Global,
     form: &mut TextForm<'a>,
     renderer: &Renderer,
     file: Option<&str>,
-    before: Option<Before<'_>>,
+    before: Option<PreviousSuggestion<'_>>,
     followed: bool,
     element: &PreparedElement<'a>,
 ) -> Result<(), AllocError>
@@ -152,24 +152,24 @@ fn add_element<'a>(
 /// Where a suggestion stands among others, given the one right before it, and whether another for its file follows.
 fn suggestion_place(
     file: Option<&str>,
-    before: Option<Before<'_>>,
+    before: Option<PreviousSuggestion<'_>>,
     followed: bool,
     suggestion: &PreparedSuggestion<'_>,
-) -> SuggestionPlace
+) -> SuggestionContext
     requires small { IfSome before (λ b. b.number + 1 < 2 ^ 64) }
     ensures value { result ≡ spec.suggestion_place (option_copied file.entry) (before_seen before.entry) followed suggestion.now.snippet.now }
 {
     let path = path_of(&suggestion.snippet.path);
-    let number = number_behind(before, path);
-    let several = goes_on(before, path) || followed;
-    SuggestionPlace {
+    let number = option_number(before, path);
+    let several = continues(before, path) || followed;
+    SuggestionContext {
         option: several.then_some(number),
         names_path: path.is_some() && !is_same_file(known_file(file, before), path),
     }
 }
 
 /// The file that a suggestion needn't name: that of the one right before it, or else the group's.
-fn known_file<'r>(file: Option<&'r str>, before: Option<Before<'r>>) -> Option<&'r str>
+fn known_file<'r>(file: Option<&'r str>, before: Option<PreviousSuggestion<'r>>) -> Option<&'r str>
     ensures value { option_copied result ≡ spec.known_file (option_copied file.entry) (before_seen before.entry) }
 {
     match before {
@@ -179,8 +179,8 @@ fn known_file<'r>(file: Option<&'r str>, before: Option<Before<'r>>) -> Option<&
 }
 
 /// Whether a suggestion for this path goes on a row of suggestions for one file.
-fn goes_on(before: Option<Before<'_>>, path: Option<&str>) -> bool
-    ensures value { result ≡ spec.goes_on (before_seen before.entry) (option_copied path.entry) }
+fn continues(before: Option<PreviousSuggestion<'_>>, path: Option<&str>) -> bool
+    ensures value { result ≡ spec.continues (before_seen before.entry) (option_copied path.entry) }
 {
     match before {
         Some(before) => is_same_file(before.path, path),
@@ -189,9 +189,9 @@ fn goes_on(before: Option<Before<'_>>, path: Option<&str>) -> bool
 }
 
 /// Its number in that row, from 1.
-fn number_behind(before: Option<Before<'_>>, path: Option<&str>) -> usize
+fn option_number(before: Option<PreviousSuggestion<'_>>, path: Option<&str>) -> usize
     requires small { IfSome before (λ b. b.number + 1 < 2 ^ 64) }
-    ensures value { result ≡ spec.number_behind (before_seen before.entry) (option_copied path.entry) }
+    ensures value { result ≡ spec.option_number (before_seen before.entry) (option_copied path.entry) }
 {
     match before {
         Some(before) if is_same_file(before.path, path) => before.number + 1,
@@ -199,11 +199,11 @@ fn number_behind(before: Option<Before<'_>>, path: Option<&str>) -> usize
     }
 }
 
-/// What stands right before the element behind this one.
+/// What stands right before the element after this one.
 fn before_next<'r>(
-    before: Option<Before<'r>>,
+    before: Option<PreviousSuggestion<'r>>,
     element: &'r PreparedElement<'_>,
-) -> Option<Before<'r>>
+) -> Option<PreviousSuggestion<'r>>
     requires small { IfSome before (λ b. b.number + 1 < 2 ^ 64) }
     ensures value { before_seen result ≡ spec.before_next (before_seen before.entry) (element_of element.now) }
 {
@@ -211,6 +211,6 @@ fn before_next<'r>(
         return None;
     };
     let path = path_of(&suggestion.snippet.path);
-    let number = number_behind(before, path);
-    Some(Before { path, number })
+    let number = option_number(before, path);
+    Some(PreviousSuggestion { path, number })
 }

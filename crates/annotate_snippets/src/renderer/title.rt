@@ -4,8 +4,8 @@ ghost use Rattle.snippet_model.specs.Fits.{TitleFits};
 ghost use Rattle.annotate_snippets.specs.Rows.{title_part};
 
 use crate::renderer::Renderer;
+use crate::renderer::element_context::{GroupPosition, Next};
 use crate::renderer::frame::Frame;
-use crate::renderer::surroundings::{GroupPlace, Next};
 use snippet_grid::StyledBuffer;
 use snippet_model::snippet::Title;
 use snippet_titles::{draw_closing, draw_separator};
@@ -26,7 +26,7 @@ pub fn draw_title<'a>(
     buffer: &mut StyledBuffer<'a>,
     renderer: &Renderer,
     frame: Frame,
-    place: GroupPlace,
+    place: GroupPosition,
     next: Next,
     title: &'a Title<'a>,
 ) -> Result<(), AllocError>

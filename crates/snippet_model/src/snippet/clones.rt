@@ -6,7 +6,7 @@ use super::{Annotation, Element, Group, Patch, Snippet};
 use std::alloc::AllocError;
 
 impl<'a> Snippet<'a, Annotation<'a>> {
-    /// A copy: the same source, settings and markers. The one error is want of memory.
+    /// A copy: the same source, settings and markers. The one error is that memory ran out.
     pub fn clone(&self) -> Result<Snippet<'a, Annotation<'a>>, AllocError>
         ensures same { IfOk result (SameSnippet SameAnnotation self.now) }
     {
@@ -22,7 +22,7 @@ impl<'a> Snippet<'a, Annotation<'a>> {
 }
 
 impl<'a> Snippet<'a, Patch<'a>> {
-    /// A copy: the same source, settings and markers. The one error is want of memory.
+    /// A copy: the same source, settings and markers. The one error is that memory ran out.
     pub fn clone(&self) -> Result<Snippet<'a, Patch<'a>>, AllocError>
         ensures same { IfOk result (SameSnippet SamePatch self.now) }
     {
@@ -38,7 +38,7 @@ impl<'a> Snippet<'a, Patch<'a>> {
 }
 
 impl<'a> Element<'a> {
-    /// A copy: an element of the same kind that says the same. The one error is want of memory.
+    /// A copy: an element of the same kind that says the same. The one error is that memory ran out.
     pub fn clone(&self) -> Result<Element<'a>, AllocError>
         ensures same { IfOk result (SameElement self.now) }
     {
@@ -53,7 +53,7 @@ impl<'a> Element<'a> {
 }
 
 impl<'a> Group<'a> {
-    /// A copy: the same title and elements. The one error is want of memory.
+    /// A copy: the same title and elements. The one error is that memory ran out.
     pub fn clone(&self) -> Result<Group<'a>, AllocError>
         ensures same { IfOk result (SameGroup self.now) }
     {

@@ -41,7 +41,7 @@ impl<'a> Group<'a> {
         self.title.is_none() && self.elements.is_empty()
     }
 
-    /// The group with one more element behind those it has. The one error is want of memory.
+    /// The group with one more element after those it has. The one error is that memory ran out.
     pub fn element(mut self, element: Element<'a>) -> Result<Group<'a>, AllocError>
         ensures title { IfOk result (λ g. g.title ≡ self.entry.title) }
         ensures level { IfOk result (λ g. g.level ≡ self.entry.level) }
@@ -52,7 +52,7 @@ impl<'a> Group<'a> {
         Ok(self)
     }
 
-    /// The group with these elements behind those it has, in their order. The one error is want of memory.
+    /// The group with these elements after those it has, in their order. The one error is that memory ran out.
     pub fn elements<I: IntoIterator<Item = Element<'a>>>(
         mut self,
         elements: I,

@@ -6,7 +6,7 @@ use super::{Annotation, Patch, Snippet};
 use std::alloc::AllocError;
 
 impl<'a> Snippet<'a, Annotation<'a>> {
-    /// The snippet with one more annotation behind those it has. The one error is want of memory.
+    /// The snippet with one more annotation after those it has. The one error is that memory ran out.
     pub fn annotation(
         mut self,
         annotation: Annotation<'a>,
@@ -23,7 +23,7 @@ impl<'a> Snippet<'a, Annotation<'a>> {
         Ok(self)
     }
 
-    /// The snippet with these annotations behind those it has, in their order. The one error is want of memory.
+    /// The snippet with these annotations after those it has, in their order. The one error is that memory ran out.
     pub fn annotations<I: IntoIterator<Item = Annotation<'a>>>(
         mut self,
         annotations: I,
@@ -44,7 +44,7 @@ impl<'a> Snippet<'a, Annotation<'a>> {
 }
 
 impl<'a> Snippet<'a, Patch<'a>> {
-    /// The snippet with one more patch behind those it has. The one error is want of memory.
+    /// The snippet with one more patch after those it has. The one error is that memory ran out.
     pub fn patch(mut self, patch: Patch<'a>) -> Result<Snippet<'a, Patch<'a>>, AllocError>
         ensures patches { IfOk result
             (λ s. s.markers.items ≡ self.entry.markers.items ++ patch.entry ∷ []) }
@@ -58,7 +58,7 @@ impl<'a> Snippet<'a, Patch<'a>> {
         Ok(self)
     }
 
-    /// The snippet with these patches behind those it has, in their order. The one error is want of memory.
+    /// The snippet with these patches after those it has, in their order. The one error is that memory ran out.
     pub fn patches<I: IntoIterator<Item = Patch<'a>>>(
         mut self,
         patches: I,

@@ -35,7 +35,7 @@ impl<'a> Origin<'a> {
         }
     }
 
-    /// The number of the line, shown behind the path as it is given.
+    /// The number of the line, shown after the path as it is given.
     pub fn line(mut self, line: usize) -> Origin<'a>
         ensures changed { result ≡ record self.entry { line = Some line } }
     {
@@ -43,7 +43,7 @@ impl<'a> Origin<'a> {
         self
     }
 
-    /// The column, counted in characters from 1 and shown behind the line as it is given. Rows of origins show it only
+    /// The column, counted in characters from 1 and shown after the line as it is given. Rows of origins show it only
     /// where there is a line.
     pub fn char_column(mut self, char_column: usize) -> Origin<'a>
         ensures changed { result ≡ record self.entry { char_column = Some char_column } }

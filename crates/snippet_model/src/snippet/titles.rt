@@ -43,7 +43,7 @@ fn with_url<'a>(had: Option<Id<'a>>, url: CowStr<'a>) -> Id<'a>
 }
 
 impl<'a> Title<'a> {
-    /// The title with this identifier, as `E0308`, which is shown in brackets behind the level's name. An address that
+    /// The title with this identifier, as `E0308`, which is shown in brackets after the level's name. An address that
     /// was given stays.
     pub fn id(self, id: &'a str) -> Title<'a>
         ensures changed { result ≡ record self.entry {
@@ -90,7 +90,7 @@ impl<'a> Title<'a> {
         }
     }
 
-    /// A group with this title and one element. The one error is want of memory.
+    /// A group with this title and one element. The one error is that memory ran out.
     pub fn element(self, alloc: Global, element: Element<'a>) -> Result<Group<'a>, AllocError>
         ensures title { IfOk result (λ g. g.title ≡ Some self.entry) }
         ensures level { IfOk result (λ g. g.level ≡ self.entry.level.kind) }
@@ -99,7 +99,7 @@ impl<'a> Title<'a> {
         Group::with_title(alloc, self).element(element)
     }
 
-    /// A group with this title and these elements, in their order. The one error is want of memory.
+    /// A group with this title and these elements, in their order. The one error is that memory ran out.
     pub fn elements<I: IntoIterator<Item = Element<'a>>>(
         self,
         alloc: Global,

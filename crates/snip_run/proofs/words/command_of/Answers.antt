@@ -22,9 +22,9 @@ within ws at count old new inside taken =
     let t = subst (λ (rest : List (Bor Word)). TakesOption rest old new count) (sliced ws at) taken in
     omega (arith, t.within, length-drop at ws)
 
--- what the loop keeps goes on behind an option
-behind : (ws : List (Bor Word)) (at count : ℕ) (old new : Options) → Continues (words_at ws) (words_at (drop at ws)) old → TakesOption (take (length ws - at) (drop at ws)) old new count → Continues (words_at ws) (words_at (drop (at + count) ws)) new
-behind ws at count old new so_far taken =
+-- what the loop keeps goes on after an option
+after : (ws : List (Bor Word)) (at count : ℕ) (old new : Options) → Continues (words_at ws) (words_at (drop at ws)) old → TakesOption (take (length ws - at) (drop at ws)) old new count → Continues (words_at ws) (words_at (drop (at + count) ws)) new
+after ws at count old new so_far taken =
     let t = subst (λ (rest : List (Bor Word)). TakesOption rest old new count) (sliced ws at) taken in
     let begins = t.begins ∙ ap (λ (rest : List (Bor Word)). words_of t.setting ++ words_at rest) (drop-drop at count ws) in
     continues_more (words_at ws) (words_at (drop at ws)) (words_at (drop (at + count) ws)) old new t.setting so_far t.sound begins t.options
@@ -33,7 +33,7 @@ pub loop-changed-preserved : goal.loop-changed-preserved
 loop-changed-preserved c =
     record {
       within = within c.args.words.now c.loop-changed.at c.in-Some.count c.loop-changed.options c.in-Some.changed c.loop-changed.invariant.within c.in-Some.ensures.taken;
-      so_far = behind c.args.words.now c.loop-changed.at c.in-Some.count c.loop-changed.options c.in-Some.changed c.loop-changed.invariant.so_far c.in-Some.ensures.taken;
+      so_far = after c.args.words.now c.loop-changed.at c.in-Some.count c.loop-changed.options c.in-Some.changed c.loop-changed.invariant.so_far c.in-Some.ensures.taken;
     }
 
 begins_none : (ws : List (Bor Word)) (at : ℕ) → BeginsNone (words_at (take (length ws - at) (drop at ws))) → BeginsNone (words_at (drop at ws))

@@ -1,12 +1,12 @@
 use Rattle.std.proofs.Common.{arith, get_or}
 use Rattle.std.proofs.lemmas.List.{get_or_default}
 use Rattle.snippet_grid.proofs.RunLemmas.{none}
-use Rattle.snippet_grid.proofs.PieceLemmas.{IsFront-none, IsFront-some, begin_behind}
+use Rattle.snippet_grid.proofs.PieceLemmas.{IsFront-none, IsFront-some, begin_after}
 use Rattle.snippet_grid.proofs.put.front_of.Goals as goal
 
 pub returns-then-run-first : goal.returns-then-run-first
 returns-then-run-first c =
-    record { front = IsFront-none c.args.text.now c.args.touched.now c.args.run.now (begin_behind c.args.text.now c.args.run.now c.args.touched.now c.args.run.now.cell none c.requires.touched c.if-run-first.true) }
+    record { front = IsFront-none c.args.text.now c.args.touched.now c.args.run.now (begin_after c.args.text.now c.args.run.now c.args.touched.now c.args.run.now.cell none c.requires.touched c.if-run-first.true) }
 
 pub returns : goal.returns
 returns c =

@@ -7,7 +7,7 @@ use Rattle.snippet_grid.proofs.RunLemmas.{none}
 use Rattle.snippet_grid.proofs.PutLemmas.{AllFit, AreOrdered, AreApart, fits_all}
 use Rattle.snippet_grid.proofs.StretchLemmas.{stretch}
 use Rattle.snippet_grid.proofs.TouchLemmas.{IsPut-added, IsPut-touched, touched_stretch}
-use Rattle.snippet_grid.specs.Runs.{IsRun, GoesOn, IsClear, Touches, ArePieces, Precedes}
+use Rattle.snippet_grid.specs.Runs.{IsRun, Continues, IsClear, Touches, ArePieces, Precedes}
 use Rattle.snippet_grid.specs.declared.runs.Run.{Run}
 use Rattle.snippet_grid.proofs.put.put_run.Goals as goal
 
@@ -16,8 +16,8 @@ returns-then-are_before-clause-ok c =
     let before = subst (λ (l : List Run). All (λ x. Precedes x c.args.run.now) l) c.as_slice-old.ensures.value (c.are_before.ensures.yes c.if-are_before.true) in
     on_ok_three c.add_run.result (λ shows are adds. IsPut-added (string_bytes c.args.text.now) (string_bytes c.add_run.new.text) c.args.runs.now.items c.add_run.new.runs.items c.args.run.now shows are c.requires.ordered c.requires.apart before adds) c.add_run.ensures.ok c.add_run.ensures.are_runs c.add_run.ensures.adds
 
-pub returns-then-goes_on-clause-ok : goal.returns-then-goes_on-clause-ok
-returns-then-goes_on-clause-ok c =
+pub returns-then-continues-clause-ok : goal.returns-then-continues-clause-ok
+returns-then-continues-clause-ok c =
     let old = string_bytes c.args.text.now in
     let new = string_bytes c.join.new.text in
     let is = c.as_slice-old.ensures.value in
@@ -28,14 +28,14 @@ returns-then-goes_on-clause-ok c =
     let first = c.index_mut.result.now in
     let high : end ≤ length items = subst (λ (l : List Run). end ≤ length l) is c.begun_by-end.ensures.within in
     let same = ap (λ (l : List Run). get_or l start none) is ∙ get_or_default items start none first (omega (arith, c.if-end-start-eq1.true, high)) ∙ sym c.index_mut.ensures.value in
-    let goes = subst (λ x. GoesOn x run) same (c.goes_on.ensures.yes c.if-goes_on.true) in
+    let goes = subst (λ x. Continues x run) same (c.continues.ensures.yes c.if-continues.true) in
     let above : (k : ℕ) (d : Run) → k < start → IsClear (get_or items k d) run = subst (λ (l : List Run). (k : ℕ) (d : Run) → k < start → IsClear (get_or l k d) run) is c.first_touched-start.ensures.before in
     let touch : (k : ℕ) (d : Run) → start ≤ k → k < end → Touches (get_or items k d) run = subst (λ (l : List Run). (k : ℕ) (d : Run) → start ≤ k → k < end → Touches (get_or l k d) run) is c.first_touched-start.ensures.touch in
     let below : (k : ℕ) (d : Run) → end ≤ k → k < length items → IsClear run (get_or items k d) = subst (λ (l : List Run). (k : ℕ) (d : Run) → end ≤ k → k < length l → IsClear run (get_or l k d)) is c.begun_by-end.ensures.later in
     on_ok_weaker c.join.result (λ joined. IsPut-one old new items run first c.join.new.first start end (omega (arith, c.if-end-start-eq1.true)) high c.index_mut.ensures.value above touch below c.requires.runs c.requires.ordered c.requires.apart c.join.ensures.text c.requires.run goes joined) c.join.ensures.ok
 
-pub returns-then-goes_on-clause-err : goal.returns-then-goes_on-clause-err
-returns-then-goes_on-clause-err c =
+pub returns-then-continues-clause-err : goal.returns-then-continues-clause-err
+returns-then-continues-clause-err c =
     let items = c.args.runs.now.items in
     let start = c.first_touched-start.result in
     on_err_weaker c.join.result (λ same. ap (λ (x : Run). set items start x) (same ∙ c.index_mut.ensures.value) ∙ set-get_or items start c.index_mut.result.now) c.join.ensures.err
@@ -95,8 +95,8 @@ join-requires-clause-first c =
     let within : c.first_touched-start.result < length c.args.runs.now.items = subst (λ (l : List Run). c.first_touched-start.result < length l) c.as_slice-old.ensures.value (omega (arith, c.if-end-start-eq1.true, c.begun_by-end.ensures.within)) in
     subst (λ (x : Run). IsRun (string_bytes c.args.text.now) x) (sym c.index_mut.ensures.value) (c.requires.runs c.first_touched-start.result first within)
 
-pub join-requires-clause-goes_on : goal.join-requires-clause-goes_on
-join-requires-clause-goes_on c =
+pub join-requires-clause-continues : goal.join-requires-clause-continues
+join-requires-clause-continues c =
     let is = c.as_slice-old.ensures.value in
     let items = c.args.runs.now.items in
     let start = c.first_touched-start.result in
@@ -105,5 +105,5 @@ join-requires-clause-goes_on c =
     let first = c.index_mut.result.now in
     let high : end ≤ length items = subst (λ (l : List Run). end ≤ length l) is c.begun_by-end.ensures.within in
     let same = ap (λ (l : List Run). get_or l start none) is ∙ get_or_default items start none first (omega (arith, c.if-end-start-eq1.true, high)) ∙ sym c.index_mut.ensures.value in
-    let goes = subst (λ x. GoesOn x run) same (c.goes_on.ensures.yes c.if-goes_on.true) in
+    let goes = subst (λ x. Continues x run) same (c.continues.ensures.yes c.if-continues.true) in
     goes

@@ -3,7 +3,7 @@ use Rattle.std.proofs.lemmas.Bool.{cases_lt}
 use Rattle.std.proofs.lemmas.List.{length-set, get_or-set_same, get_or-set_other, get_or_past}
 use Rattle.std.specs.Str.{chars}
 use Rattle.snippet_grid.proofs.GridChanged.{IsExchanged, IsGrid-put}
-use Rattle.snippet_style.proofs.CellLemmas.{length-drawn}
+use Rattle.snippet_style.proofs.CellLemmas.{length-text_cells}
 use Rattle.snippet_grid.proofs.GridShown.{on_err_from, IsGrid-grown, grid_grown, width_shown}
 use Rattle.snippet_grid.proofs.PutLemmas.{AreOrdered, AreApart, IsRow-stretch}
 use Rattle.snippet_grid.proofs.ReplaceLemmas.{cells_replaced_empty, cells_replaced_past}
@@ -11,7 +11,7 @@ use Rattle.snippet_grid.proofs.ReplacedRow.{grid_replaced, FitIn-replaced}
 use Rattle.snippet_grid.proofs.RowPut.{RowAt-read, begins_fit, row_ends, put_length, length-stretch}
 use Rattle.snippet_grid.proofs.StretchLemmas.{stretch}
 use Rattle.snippet_grid.specs.Changes.{ShowsReplaced}
-use Rattle.snippet_style.specs.Cell.{drawn}
+use Rattle.snippet_style.specs.Cell.{text_cells}
 use Rattle.snippet_grid.specs.Runs.{IsRun, EndsBy, FitIn, grid_shown}
 use Rattle.snippet_grid.specs.declared.runs.Run.{Run}
 use Rattle.snippet_grid.proofs.replace.replace_cells.Goals as goal
@@ -19,7 +19,7 @@ use Rattle.snippet_grid.proofs.replace.replace_cells.Goals as goal
 pub returns-then-end-start-clause-ok : goal.returns-then-end-start-clause-ok
 returns-then-end-start-clause-ok c =
     let rows = grid_shown (string_bytes c.args.text.now) c.args.runs.now.items c.args.widths.now.items in
-    let cells = drawn c.args.role (chars c.args.word.now) in
+    let cells = text_cells c.args.role (chars c.args.word.now) in
     let width = width_shown (string_bytes c.args.text.now) c.args.runs.now.items c.args.widths.now.items c.args.row in
     let lent = ap (λ (w : List ℕ). get_or w c.args.row 0) c.deref.ensures.value in
     elim (cases_lt c.args.start c.args.end) [
@@ -70,8 +70,8 @@ returns c =
     let fresh = c.replaced_row.new.spare.runs.items in
     let w = c.args.widths.now.items in
     let v = set w row c.in-Some.wide in
-    let cells = drawn c.args.role (chars c.args.word.now) in
-    let long = length-drawn c.args.role (chars c.args.word.now) in
+    let cells = text_cells c.args.role (chars c.args.word.now) in
+    let long = length-text_cells c.args.role (chars c.args.word.now) in
     let was : c.width_of-width.result ≡ get_or w row 0 = c.width_of-width.ensures.value ∙ ap (λ (u : List ℕ). get_or u row 0) c.deref.ensures.value in
     let some : c.args.start < c.args.end = omega (arith, c.if-end-start.false) in
     let within : c.args.end ≤ get_or w row 0 = omega (arith, was, c.if-width-end.false) in

@@ -2,27 +2,27 @@ use Rattle.std.proofs.Common.{string_bytes, arith, ◌-◌, ◌<◌, ◌≡◌, 
 use Rattle.std.proofs.lemmas.List.{get_or_default, set-get_or}
 use Rattle.std.proofs.lemmas.Result.{on_ok_weaker, on_err_weaker}
 use Rattle.std.proofs.lemmas.List.Elements.{All-set, All-push}
-use Rattle.snippet_grid.specs.Runs.{IsRun, GoesOn, Differ}
+use Rattle.snippet_grid.specs.Runs.{IsRun, Continues, Differ}
 use Rattle.snippet_grid.specs.declared.runs.Run.{Run}
 use Rattle.snippet_grid.proofs.ShownLemmas.{All-IsRun-grown, ShowsMore-joined, ShowsMore-pushed, AddsRun-pushed, AddsRun-joined}
 use Rattle.snippet_grid.proofs.runs.add_run.Goals as goal
-use Rattle.snippet_grid.proofs.runs.add_run.Goals.{then-len-gt0+else-goes_on, else-len-gt0}
+use Rattle.snippet_grid.proofs.runs.add_run.Goals.{then-len-gt0+else-continues, else-len-gt0}
 
 -- the run goes on where the last one ends
-goes_there : (c : goal.After-runs-1) → GoesOn c.index_mut.result.now c.args.run.now
+goes_there : (c : goal.After-runs-1) → Continues c.index_mut.result.now c.args.run.now
 goes_there c =
     let runs = c.args.runs.now.items in
     let i : ℕ = c.len-len.result - 1 in
     let last = c.index_mut.result.now in
     let same = c.index-last.ensures ∙ get_or_default runs i c.index-last.result.now last (omega arith) ∙ sym c.index_mut.ensures.value in
-    subst (λ x. GoesOn x c.args.run.now) same (c.goes_on.ensures.yes c.if-goes_on.true)
+    subst (λ x. Continues x c.args.run.now) same (c.continues.ensures.yes c.if-continues.true)
 
-pub returns-then-goes_on-clause-ok : goal.returns-then-goes_on-clause-ok
-returns-then-goes_on-clause-ok c =
+pub returns-then-continues-clause-ok : goal.returns-then-continues-clause-ok
+returns-then-continues-clause-ok c =
     on_ok_weaker c.join.result (λ joined. ShowsMore-joined (string_bytes c.args.text.now) (string_bytes c.join.new.text) c.args.runs.now.items _ c.index_mut.result.now c.args.run.now c.join.new.first (omega arith) c.index_mut.ensures.value c.join.ensures.text c.requires.runs c.requires.run (goes_there c) joined) c.join.ensures.ok
 
-pub returns-then-goes_on-clause-are_runs : goal.returns-then-goes_on-clause-are_runs
-returns-then-goes_on-clause-are_runs c =
+pub returns-then-continues-clause-are_runs : goal.returns-then-continues-clause-are_runs
+returns-then-continues-clause-are_runs c =
     on_ok_weaker c.join.result (λ joined. All-set (λ x. IsRun (string_bytes c.join.new.text) x) c.args.runs.now.items _ c.join.new.first joined.is_run (All-IsRun-grown (string_bytes c.args.text.now) (string_bytes c.join.new.text) c.args.runs.now.items c.join.ensures.text c.requires.runs)) c.join.ensures.ok
 
 pub returns-clause-ok : goal.returns-clause-ok
@@ -33,12 +33,12 @@ pub returns-clause-are_runs : goal.returns-clause-are_runs
 returns-clause-are_runs c =
     subst (λ (xs : List Run). All (λ x. IsRun (string_bytes c.args.text.now) x) xs) (sym c.in_ok-push.ensures.items) (All-push (λ x. IsRun (string_bytes c.args.text.now) x) c.args.runs.now.items c.args.run.now c.requires.runs c.requires.run)
 
-pub returns-then-goes_on-clause-adds : goal.returns-then-goes_on-clause-adds
-returns-then-goes_on-clause-adds c =
+pub returns-then-continues-clause-adds : goal.returns-then-continues-clause-adds
+returns-then-continues-clause-adds c =
     on_ok_weaker c.join.result (λ joined. AddsRun-joined (string_bytes c.args.text.now) (string_bytes c.join.new.text) c.args.runs.now.items _ c.index_mut.result.now c.args.run.now c.join.new.first (omega arith) c.index_mut.ensures.value (goes_there c) joined) c.join.ensures.ok
 
-pub returns-then-goes_on-clause-err : goal.returns-then-goes_on-clause-err
-returns-then-goes_on-clause-err c =
+pub returns-then-continues-clause-err : goal.returns-then-continues-clause-err
+returns-then-continues-clause-err c =
     let runs = c.args.runs.now.items in
     let i : ℕ = c.len-len.result - 1 in
     on_err_weaker c.join.result (λ same. ap (λ (x : Run). set runs i x) (same ∙ c.index_mut.ensures.value) ∙ set-get_or runs i c.index_mut.result.now) c.join.ensures.err
@@ -47,10 +47,10 @@ pub returns-clause-adds : goal.returns-clause-adds
 returns-clause-adds c =
     let runs = c.args.runs.now.items in
     let differs : (d : Run) → 0 < length runs → Differ (get_or runs (length runs - 1) d) c.args.run.now = λ d some. elim c.if-len-gt0.branch [
-      | then-len-gt0+else-goes_on w ↦
+      | then-len-gt0+else-continues w ↦
           let place : c.len-len.result - 1 ≡ length runs - 1 = omega arith in
           let read : w.index-last.result.now ≡ get_or runs (length runs - 1) d = w.index-last.ensures ∙ ap (λ k. get_or runs k w.index-last.result.now) place ∙ get_or_default runs (length runs - 1) w.index-last.result.now d (omega arith) in
-          subst (λ x. Differ x c.args.run.now) read (w.goes_on.ensures.no w.if-goes_on.false)
+          subst (λ x. Differ x c.args.run.now) read (w.continues.ensures.no w.if-continues.false)
       | else-len-gt0 w ↦ absurd (omega (arith, some, w.if-len-gt0.false))
     ] in
     AddsRun-pushed runs c.push.new.self.items c.args.run.now (λ k d within. (c.requires.runs k d within).some) differs c.in_ok-push.ensures.items

@@ -1,7 +1,7 @@
 use Rattle.std.proofs.Common.{◌∙◌, ap, arith, sym, subst, string_bytes, List, ℕ}
 use Rattle.std.proofs.lemmas.Result.{on_ok_weaker, on_err_weaker}
 use Rattle.snippet_grid.specs.Grid.{cells_written}
-use Rattle.snippet_style.specs.Cell.{Cell, drawn}
+use Rattle.snippet_style.specs.Cell.{Cell, text_cells}
 use Rattle.snippet_grid.specs.Runs.{BeginsWith, run_chars, grid_shown}
 use Rattle.snippet_grid.proofs.StretchLemmas.{BeginsWith-same}
 use Rattle.snippet_grid.proofs.GridShown.{on_err_from, IsGrid-grown, grid_grown}
@@ -34,7 +34,7 @@ returns-clause-ok c =
     let is = c.in_ok-run.ensures.ok in
     let seen = run_chars (string_bytes c.push_word.new.text) run in
     let was = grid_shown (string_bytes c.args.text.now) c.args.runs.now.items c.args.widths.now.items in
-    on_ok_weaker c.place_run.result (λ written. written ∙ ap (λ (rows : List (List Cell)). cells_written rows run.row run.cell (drawn run.role seen)) (grid_grown (string_bytes c.args.text.now) (string_bytes c.push_word.new.text) c.args.runs.now.items c.make_first_room.new.runs.items c.args.widths.now.items c.make_first_room.new.widths.items grows c.make_first_room.ensures.runs c.make_first_room.ensures.widths c.requires.grid) ∙ ap (λ r. cells_written was r run.cell (drawn run.role seen)) is.row_is ∙ ap (λ at. cells_written was c.args.row at (drawn run.role seen)) is.cell_is ∙ ap (λ role. cells_written was c.args.row c.args.at (drawn role seen)) is.role_is ∙ ap (λ (cs : List ℕ). cells_written was c.args.row c.args.at (drawn c.args.role cs)) is.chars_are) c.place_run.ensures.ok
+    on_ok_weaker c.place_run.result (λ written. written ∙ ap (λ (rows : List (List Cell)). cells_written rows run.row run.cell (text_cells run.role seen)) (grid_grown (string_bytes c.args.text.now) (string_bytes c.push_word.new.text) c.args.runs.now.items c.make_first_room.new.runs.items c.args.widths.now.items c.make_first_room.new.widths.items grows c.make_first_room.ensures.runs c.make_first_room.ensures.widths c.requires.grid) ∙ ap (λ r. cells_written was r run.cell (text_cells run.role seen)) is.row_is ∙ ap (λ at. cells_written was c.args.row at (text_cells run.role seen)) is.cell_is ∙ ap (λ role. cells_written was c.args.row c.args.at (text_cells role seen)) is.role_is ∙ ap (λ (cs : List ℕ). cells_written was c.args.row c.args.at (text_cells c.args.role cs)) is.chars_are) c.place_run.ensures.ok
 
 pub place_run-requires-clause-run : goal.place_run-requires-clause-run
 place_run-requires-clause-run c = c.in_ok-run.ensures.ok.is_run

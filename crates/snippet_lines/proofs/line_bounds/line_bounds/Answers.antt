@@ -11,10 +11,10 @@ bounds c =
     let end : ℕ = c.line_end.result in
     let bytes : List ℕ = c.as_bytes-bytes.result.now in
     let before = c.line_start.ensures in
-    let behind = c.line_end.ensures in
+    let after = c.line_end.ensures in
     let at : c.min-at.result ≡ min c.args.byte (length bytes - 1) = c.min-at.ensures ∙ ap (min c.args.byte) c.saturating_sub.ensures in
     subst (λ s. (start ≡ start_of (source_lines s) (line_of (source_lines s) c.args.byte)) × (end ≡ start_of (source_lines s) (line_of (source_lines s) c.args.byte + 1))) c.as_bytes-bytes.ensures.value
-    (bounds-around bytes c.args.byte c.min-at.result start end at before.before before.opens before.none behind.within behind.behind behind.closes behind.none)
+    (bounds-around bytes c.args.byte c.min-at.result start end at before.before before.opens before.none after.within after.after after.closes after.none)
 
 pub returns-clause-start : goal.returns-clause-start
 returns-clause-start c = (bounds c).0

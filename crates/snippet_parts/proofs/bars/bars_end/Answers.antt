@@ -1,12 +1,12 @@
 use Rattle.std.proofs.Common.{◌+◌, ◌-◌, min, not, ap, sym, ◌∙◌, arith}
-use Rattle.snippet_view.specs.Kept.{is_weak_line}
+use Rattle.snippet_view.specs.Kept.{is_trivial_line}
 use Rattle.snippet_parts.proofs.BarLemmas.{bars-found, bars-none}
 use Rattle.snippet_parts.proofs.bars.bars_end.Goals as goal
 
-pub returns-then-not-is_weak_line-clause-bars : goal.returns-then-not-is_weak_line-clause-bars
-returns-then-not-is_weak_line-clause-bars c k past =
-    bars-found (λ j. not (is_weak_line c.args.source.now.text j)) c.loop-line.line (c.loop-line.line - 1) (min (c.args.first + 4) c.args.last) k (omega arith) (omega (arith, c.beginning-line.ensures.value)) c.loop-line.invariant (ap not (sym c.is_weak_line.ensures.value) ∙ ap not c.if-not-is_weak_line.true)
+pub returns-then-not-is_trivial_line-clause-bars : goal.returns-then-not-is_trivial_line-clause-bars
+returns-then-not-is_trivial_line-clause-bars c k past =
+    bars-found (λ j. not (is_trivial_line c.args.source.now.text j)) c.loop-line.line (c.loop-line.line - 1) (min (c.args.first + 4) c.args.last) k (omega arith) (omega (arith, c.beginning-line.ensures.value)) c.loop-line.invariant (ap not (sym c.is_trivial_line.ensures.value) ∙ ap not c.if-not-is_trivial_line.true)
 
 pub returns-clause-bars : goal.returns-clause-bars
 returns-clause-bars c k past =
-    bars-none (λ j. not (is_weak_line c.args.source.now.text j)) c.loop-line.line c.args.first (min (c.args.first + 4) c.args.last) k (omega arith) past c.loop-line.invariant
+    bars-none (λ j. not (is_trivial_line c.args.source.now.text j)) c.loop-line.line c.args.first (min (c.args.first + 4) c.args.last) k (omega arith) past c.loop-line.invariant

@@ -1,9 +1,9 @@
 use Rattle.std.proofs.Common.{◌≡◌, ◌+◌, ◌-◌, min, false, not}
 use Rattle.std.specs.List.{list_any, range_with_len}
-use Rattle.snippet_view.specs.Kept.{is_weak_line}
+use Rattle.snippet_view.specs.Kept.{is_trivial_line}
 use Rattle.snippet_parts.proofs.bars.bars_end.Given as goal
 
--- the lines of the beginning from here on are weak
+-- the lines of the beginning from here on are trivial
 abbrev pub invariant-loop-line : goal.invariant-loop-line
 invariant-loop-line l =
-    (list_any (λ j. not (is_weak_line l.source.text j)) (range_with_len l.line (min (l.first + 4) l.last - l.line)) ≡ false)
+    (list_any (λ j. not (is_trivial_line l.source.text j)) (range_with_len l.line (min (l.first + 4) l.last - l.line)) ≡ false)

@@ -4,7 +4,7 @@ use Rattle.snippet_view.specs.Annotated.{seen_kept}
 use Rattle.snippet_view.proofs.BetweenLemmas.{filled}
 use Rattle.snippet_parts.proofs.between.with_lines_between.Given as goal
 
--- the lines so far, and behind them those of the lines that are left
+-- the lines so far, and after them those of the lines that are left
 abbrev pub invariant-loop-info : goal.invariant-loop-info
 invariant-loop-info l = record {
   lines : map seen_kept l.shown.items ++ filled l.source l.before (map seen_kept (into_iter_items l.info-iterator)) ≡ filled l.source None (map seen_kept l.fn.kept.items);

@@ -2,7 +2,7 @@ use Rattle.std.proofs.Common.{List, ◌≡◌, ◌+◌, ◌-◌, ◌≤◌, ℕ,
 use mir.Val.{bool_byte}
 use Rattle.std.specs.List.{list_any, range_with_len}
 use Rattle.snippet_model.specs.declared.snippet.Annotation.{Annotation}
-use Rattle.snippet_view.specs.Kept.{is_weak_line}
+use Rattle.snippet_view.specs.Kept.{is_trivial_line}
 use Rattle.snippet_view.specs.Mark.{is_marking}
 use Rattle.snippet_view.specs.Marked.{first_line}
 use Rattle.snippet_parts.proofs.KeptLemmas.{keeps-ends, last_bar-is, last_bar-apart}
@@ -11,7 +11,7 @@ use Rattle.snippet_parts.proofs.kept.kept_stretches.Goals as goal
 -- whether a span keeps line k, by its first and its last line
 abbrev keeps_by : List ℕ → Annotation → ℕ → ℕ → ℕ → Bool
 keeps_by source a k f l =
-    leb f k && leb k l && (eqb k f || eqb k l || not (is_marking a.kind) || (ltb f k && (list_any (λ j. not (is_weak_line source j)) (range_with_len k (min (f + 4) l - k)) || (eqb (k + 1) l && ltb (min (f + 4) l) k && not (is_weak_line source k)))))
+    leb f k && leb k l && (eqb k f || eqb k l || not (is_marking a.kind) || (ltb f k && (list_any (λ j. not (is_trivial_line source j)) (range_with_len k (min (f + 4) l - k)) || (eqb (k + 1) l && ltb (min (f + 4) l) k && not (is_trivial_line source k)))))
 
 one-at-most : (b : Bool) (n : ℕ) → n ≡ bool_byte b → n ≤ 1
 one-at-most true n is = omega (arith, is)
@@ -24,8 +24,8 @@ returns-clause-value c k =
     let f : ℕ = c.touched-all.result.first in
     let l : ℕ = c.touched-all.result.last in
     let m : ℕ = min (f + 4) l in
-    let shown : Bool = list_any (λ j. not (is_weak_line source j)) (range_with_len k (m - k)) in
-    let last_bar : Bool = eqb (k + 1) l && ltb m k && not (is_weak_line source k) in
+    let shown : Bool = list_any (λ j. not (is_trivial_line source j)) (range_with_len k (m - k)) in
+    let last_bar : Bool = eqb (k + 1) l && ltb m k && not (is_trivial_line source k) in
     let marked : is_marking a.kind ≡ true = sym c.is_marking.ensures.value ∙ c.if-not-is_marking.false in
-    let main : ((leb f k && leb k c.bars_end.result) || (leb (l - c.from-closing.result) k && leb k l)) ≡ (leb f k && leb k l && (eqb k f || eqb k l || not (is_marking a.kind) || (ltb f k && (shown || last_bar)))) = keeps-ends f l c.bars_end.result (l - c.from-closing.result) k (is_marking a.kind) shown last_bar (omega arith) c.bars_end.ensures.from (omega (arith, c.bars_end.ensures.to)) marked (c.bars_end.ensures.bars k) (last_bar-is l k m (is_weak_line source) c.from-closing.result c.has_closing_bar.result (omega arith) c.has_closing_bar.ensures.value (λ e. c.from-closing.ensures ∙ ap bool_byte e) (λ e. c.from-closing.ensures ∙ ap bool_byte e)) (last_bar-apart l k m (is_weak_line source)) (omega arith) (omega (arith, one-at-most c.has_closing_bar.result c.from-closing.result c.from-closing.ensures)) in
+    let main : ((leb f k && leb k c.bars_end.result) || (leb (l - c.from-closing.result) k && leb k l)) ≡ (leb f k && leb k l && (eqb k f || eqb k l || not (is_marking a.kind) || (ltb f k && (shown || last_bar)))) = keeps-ends f l c.bars_end.result (l - c.from-closing.result) k (is_marking a.kind) shown last_bar (omega arith) c.bars_end.ensures.from (omega (arith, c.bars_end.ensures.to)) marked (c.bars_end.ensures.bars k) (last_bar-is l k m (is_trivial_line source) c.from-closing.result c.has_closing_bar.result (omega arith) c.has_closing_bar.ensures.value (λ e. c.from-closing.ensures ∙ ap bool_byte e) (λ e. c.from-closing.ensures ∙ ap bool_byte e)) (last_bar-apart l k m (is_trivial_line source)) (omega arith) (omega (arith, one-at-most c.has_closing_bar.result c.from-closing.result c.from-closing.ensures)) in
     main ∙ ap (λ n. keeps_by source a k n l) c.touched-all.ensures.first ∙ ap (λ n. keeps_by source a k (first_line source a) n) c.touched-all.ensures.last

@@ -4,10 +4,10 @@ use Rattle.std.proofs.lemmas.List.Elements.{All-take, All-weaker}
 use Rattle.snippet_style.specs.Cell.{Cell}
 use Rattle.snippet_strokes.specs.declared.layout.Layout.{Layout}
 use Rattle.snippet_strokes.specs.declared.positions.PlacedEntry.{PlacedEntry}
-use Rattle.snippet_strokes.specs.Painting.{DrawsFrom, HasRows, KeepsRails}
+use Rattle.snippet_strokes.specs.Painting.{DrawsFrom, HasRows, KeepsBarCells}
 use Rattle.snippet_strokes.specs.Strokes.{connector_of, connectors_of}
 use Rattle.snippet_strokes.specs.Writes.{IsWithin, Write, painted}
-use Rattle.snippet_strokes.proofs.BarWrites.{KeepsRails-painted, connectors_none, connectors_rails, connectors_within}
+use Rattle.snippet_strokes.proofs.BarWrites.{KeepsBarCells-painted, connectors_none, connectors_bar_cells, connectors_within}
 use Rattle.snippet_strokes.proofs.WriteLaws.{DrawsFrom-painted, painted-count}
 use Rattle.snippet_strokes.proofs.WriteLemmas.{painted_more}
 use Rattle.snippet_strokes.proofs.connectors.draw_connectors.Goals as goal
@@ -42,6 +42,6 @@ returns c =
     record {
       painted = is;
       draws = subst (DrawsFrom row (layout.gutter + 3) old) (sym is) (DrawsFrom-painted row (layout.gutter + 3) ws old (connectors_within layout row (length old) es c.requires.rows));
-      rails = subst (KeepsRails layout old) (sym is) (KeepsRails-painted layout ws old (connectors_rails layout row es));
+      bar_cells = subst (KeepsBarCells layout old) (sym is) (KeepsBarCells-painted layout ws old (connectors_bar_cells layout row es));
       none = λ none. is ∙ ap (λ xs. painted xs old) (connectors_none layout row es none);
     }

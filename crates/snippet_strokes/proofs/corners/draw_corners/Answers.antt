@@ -4,34 +4,34 @@ use Rattle.std.proofs.lemmas.List.Elements.{All-take}
 use Rattle.snippet_style.specs.Cell.{Cell}
 use Rattle.snippet_strokes.specs.declared.layout.Layout.{Layout}
 use Rattle.snippet_strokes.specs.declared.positions.PlacedEntry.{PlacedEntry}
-use Rattle.snippet_strokes.specs.Entries.{HasRail}
-use Rattle.snippet_strokes.specs.Painting.{DrawsRails, HasRows}
+use Rattle.snippet_strokes.specs.Entries.{HasBarCell}
+use Rattle.snippet_strokes.specs.Painting.{DrawsBarCells, HasRows}
 use Rattle.snippet_strokes.specs.Strokes.{corner_of, corners_of}
 use Rattle.snippet_strokes.specs.Writes.{Write, painted}
-use Rattle.snippet_strokes.proofs.BarWrites.{DrawsRails-painted, corners_bars, corners_none}
+use Rattle.snippet_strokes.proofs.BarWrites.{DrawsBarCells-painted, corners_bars, corners_none}
 use Rattle.snippet_strokes.proofs.WriteLemmas.{painted_more}
 use Rattle.snippet_strokes.proofs.corners.draw_corners.Goals as goal
 
 -- bars add no row
-count_kept : (layout : Layout) (row i : ℕ) (es : List PlacedEntry) (old mid : List (List Cell)) → mid ≡ painted (corners_of layout row (length old) (take i es)) old → All (λ (e : PlacedEntry). HasRail layout e.entry) es → All (HasRows (row + 1) (length old)) es → length mid ≡ length old
-count_kept layout row i es old mid so_far rails rows =
+count_kept : (layout : Layout) (row i : ℕ) (es : List PlacedEntry) (old mid : List (List Cell)) → mid ≡ painted (corners_of layout row (length old) (take i es)) old → All (λ (e : PlacedEntry). HasBarCell layout e.entry) es → All (HasRows (row + 1) (length old)) es → length mid ≡ length old
+count_kept layout row i es old mid so_far bar_cells rows =
     let n = length old in
     let ws : List Write = corners_of layout row n (take i es) in
-    ap length so_far ∙ (DrawsRails-painted layout row n ws old refl (corners_bars layout row n (take i es) (All-take (λ (e : PlacedEntry). HasRail layout e.entry) i es rails) (All-take (HasRows (row + 1) n) i es rows))).draws.count
+    ap length so_far ∙ (DrawsBarCells-painted layout row n ws old refl (corners_bars layout row n (take i es) (All-take (λ (e : PlacedEntry). HasBarCell layout e.entry) i es bar_cells) (All-take (HasRows (row + 1) n) i es rows))).draws.count
 
 pub draw_corner-requires-clause-small : goal.draw_corner-requires-clause-small
 draw_corner-requires-clause-small c =
-    omega (arith, count_kept c.args.layout c.args.row c.loop-entry.entry-index c.args.placed.now c.args.buffer.now c.loop-entry.buffer c.loop-entry.invariant c.requires.rails c.requires.rows, c.requires.small)
+    omega (arith, count_kept c.args.layout c.args.row c.loop-entry.entry-index c.args.placed.now c.args.buffer.now c.loop-entry.buffer c.loop-entry.invariant c.requires.bar_cells c.requires.rows, c.requires.small)
 
 pub draw_corner-requires-clause-rows : goal.draw_corner-requires-clause-rows
 draw_corner-requires-clause-rows c =
-    subst (λ n. HasRows (c.args.row + 1) n c.entry-item.result) (sym (count_kept c.args.layout c.args.row c.loop-entry.entry-index c.args.placed.now c.args.buffer.now c.loop-entry.buffer c.loop-entry.invariant c.requires.rails c.requires.rows)) (subst (HasRows (c.args.row + 1) (length c.args.buffer.now)) (sym c.entry-item.is) (c.requires.rows c.loop-entry.entry-index c.entry-item.result c.loop-entry-test.true))
+    subst (λ n. HasRows (c.args.row + 1) n c.entry-item.result) (sym (count_kept c.args.layout c.args.row c.loop-entry.entry-index c.args.placed.now c.args.buffer.now c.loop-entry.buffer c.loop-entry.invariant c.requires.bar_cells c.requires.rows)) (subst (HasRows (c.args.row + 1) (length c.args.buffer.now)) (sym c.entry-item.is) (c.requires.rows c.loop-entry.entry-index c.entry-item.result c.loop-entry-test.true))
 
 pub loop-entry-preserved : goal.loop-entry-preserved
 loop-entry-preserved c =
     let old = c.args.buffer.now in
     let mid = c.loop-entry.buffer in
-    let kept = count_kept c.args.layout c.args.row c.loop-entry.entry-index c.args.placed.now old mid c.loop-entry.invariant c.requires.rails c.requires.rows in
+    let kept = count_kept c.args.layout c.args.row c.loop-entry.entry-index c.args.placed.now old mid c.loop-entry.invariant c.requires.bar_cells c.requires.rows in
     c.in_ok-draw_corner.ensures.painted ∙ ap (λ n. painted (corner_of c.args.layout c.args.row n c.entry-item.result) mid) kept ∙ painted_more (corner_of c.args.layout c.args.row (length old)) c.args.placed.now c.loop-entry.entry-index c.entry-item.result old mid c.loop-entry-test.true c.entry-item.is c.loop-entry.invariant
 
 pub returns : goal.returns
@@ -45,6 +45,6 @@ returns c =
     let is : c.loop-entry.buffer ≡ painted ws old = c.loop-entry.invariant ∙ ap (λ xs. painted (corners_of layout row n xs) old) (take_all c.loop-entry.entry-index es (omega (arith, c.loop-entry-test.false))) in
     record {
       painted = is;
-      draws = subst (DrawsRails layout row old) (sym is) (DrawsRails-painted layout row n ws old refl (corners_bars layout row n es c.requires.rails c.requires.rows));
+      draws = subst (DrawsBarCells layout row old) (sym is) (DrawsBarCells-painted layout row n ws old refl (corners_bars layout row n es c.requires.bar_cells c.requires.rows));
       none = λ none. is ∙ ap (λ xs. painted xs old) (corners_none layout row n es none);
     }

@@ -42,7 +42,7 @@ returns c =
           | inl there ↦ elim (cases_lt k c.max.result) [
             | inl less ↦ reads.before k less
             | inr reached ↦ elim (cases_lt k to) [
-              | inr out ↦ reads.behind k (omega (arith, last, out))
+              | inr out ↦ reads.after k (omega (arith, last, out))
               | inl left ↦ absurd (false≢true (sym none ∙ and_from (nat_le from k) (nat_lt k to) (le-leb from k (first_there k there reached)) (lt-ltb k to left)))
             ]
           ]

@@ -1,7 +1,7 @@
 use Rattle.std.proofs.Common.{◌≡◌, ◌∙◌, ap, sym, chars, true}
 use Rattle.std.proofs.lemmas.List.Elements.{All-same}
 use Rattle.std.proofs.lemmas.Result.{on_ok_weaker}
-use Rattle.snippet_strokes.specs.Rails.{HasRoom, ends_of_bars, is_whole_line}
+use Rattle.snippet_strokes.specs.Bars.{HasRoom, ends_of_bars, is_whole_line}
 use Rattle.snippet_strokes.proofs.OpenLemmas.{room_ends}
 use Rattle.snippet_strokes.proofs.WholeLineLemmas.{whole_added}
 use Rattle.snippet_text.specs.Normalized.{norm}
@@ -10,7 +10,7 @@ use Rattle.snippet_strokes.proofs.snippet.draw_entries.Goals as goal
 pub draw_bars-requires-clause-room : goal.draw_bars-requires-clause-room
 draw_bars-requires-clause-room c =
     let es = c.args.info.now.annotations.items in
-    All-same (HasRoom c.args.layout) c.args.ends.now (ends_of_bars es) c.requires.ends (room_ends c.args.layout es c.requires.rails)
+    All-same (HasRoom c.args.layout) c.args.ends.now (ends_of_bars es) c.requires.ends (room_ends c.args.layout es c.requires.bar_cells)
 
 pub returns-then-branch : goal.returns-then-branch
 returns-then-branch c =

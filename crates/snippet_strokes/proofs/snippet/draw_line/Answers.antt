@@ -4,7 +4,7 @@ use Rattle.std.proofs.lemmas.List.Elements.{All-same}
 use Rattle.snippet_view.specs.declared.entries.LineAnnotation.{LineAnnotation}
 use Rattle.snippet_grid.specs.Grid.{row_at}
 use Rattle.snippet_strokes.specs.Entries.{is_end_part}
-use Rattle.snippet_strokes.specs.Rails.{HasRoom}
+use Rattle.snippet_strokes.specs.Bars.{HasRoom}
 use Rattle.snippet_strokes.specs.Rows.{IsHighlighted}
 use Rattle.snippet_strokes.proofs.OpenLemmas.{room_apart}
 use Rattle.snippet_strokes.proofs.SnippetLemmas.{clear_entries, line_added}

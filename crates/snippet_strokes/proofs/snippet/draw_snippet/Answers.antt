@@ -2,8 +2,8 @@ use Rattle.std.proofs.Common.{◌≡◌, ◌∙◌, ◌+◌, ◌-◌, take, ◌=
 use Rattle.std.proofs.lemmas.List.{take_rest}
 use Rattle.std.proofs.lemmas.List.Elements.{All-nil, All-same}
 use Rattle.snippet_view.specs.declared.entries.AnnotatedLineInfo.{AnnotatedLineInfo}
-use Rattle.snippet_strokes.specs.Entries.{HasRail}
-use Rattle.snippet_strokes.specs.Rails.{AddsGap, HasRoom}
+use Rattle.snippet_strokes.specs.Entries.{HasBarCell}
+use Rattle.snippet_strokes.specs.Bars.{AddsGap, HasRoom}
 use Rattle.snippet_strokes.specs.Snippet.{AddsLine}
 use Rattle.snippet_strokes.proofs.OpenLemmas.{room_below}
 use Rattle.snippet_strokes.proofs.SnippetLemmas.{AddsLines-none, AddsLines-next, AddsSnippet-from_lines}
@@ -25,8 +25,8 @@ draw_gap-requires-clause-room c =
     let layout = c.args.layout in
     let info = c.index-infos-i.result in
     let before = All-same (HasRoom layout) c.deref.result.now c.loop-i.open_bars.items c.deref.ensures.value c.loop-i.invariant.0 in
-    let rails : All (HasRail layout) info.annotations.items = subst (λ (x : AnnotatedLineInfo). All (HasRail layout) x.annotations.items) (sym c.index-infos-i.is) (c.requires.rails c.loop-i.i info c.loop-i-test.true) in
-    All-same (HasRoom layout) c.deref-in-loop-i.result.now _ (c.deref-in-loop-i.ensures.value ∙ c.in_ok-open_bars.ensures.bars) (room_below layout c.deref.result.now info.annotations.items before rails)
+    let bar_cells : All (HasBarCell layout) info.annotations.items = subst (λ (x : AnnotatedLineInfo). All (HasBarCell layout) x.annotations.items) (sym c.index-infos-i.is) (c.requires.bar_cells c.loop-i.i info c.loop-i-test.true) in
+    All-same (HasRoom layout) c.deref-in-loop-i.result.now _ (c.deref-in-loop-i.ensures.value ∙ c.in_ok-open_bars.ensures.bars) (room_below layout c.deref.result.now info.annotations.items before bar_cells)
 
 pub loop-i-preserved : goal.loop-i-preserved
 loop-i-preserved c =
@@ -45,8 +45,8 @@ loop-i-preserved c =
     let rest : take (length infos - (i + 1)) (drop (i + 1) infos) ≡ drop (i + 1) infos = take_rest infos (i + 1) in
     let gap = subst (λ xs. AddsGap layout info.line_index xs mid new) rest c.in_ok-draw_gap.ensures.added in
     let before = All-same (HasRoom layout) c.deref.result.now c.loop-i.open_bars.items c.deref.ensures.value c.loop-i.invariant.0 in
-    let rails : All (HasRail layout) info.annotations.items = subst (λ (x : AnnotatedLineInfo). All (HasRail layout) x.annotations.items) (sym c.index-infos-i.is) (c.requires.rails i info c.loop-i-test.true) in (
-      All-same (HasRoom layout) c.in_ok-open_bars.open_bars.items _ c.in_ok-open_bars.ensures.bars (room_below layout c.deref.result.now info.annotations.items before rails),
+    let bar_cells : All (HasBarCell layout) info.annotations.items = subst (λ (x : AnnotatedLineInfo). All (HasBarCell layout) x.annotations.items) (sym c.index-infos-i.is) (c.requires.bar_cells i info c.loop-i-test.true) in (
+      All-same (HasRoom layout) c.in_ok-open_bars.open_bars.items _ c.in_ok-open_bars.ensures.bars (room_below layout c.deref.result.now info.annotations.items before bar_cells),
       AddsLines-next layout c.args.margin c.args.numbers c.args.closes infos i info c.args.buffer.now old mid new c.loop-i-test.true c.index-infos-i.is c.loop-i.invariant.1 line gap,
     )
 

@@ -1,5 +1,5 @@
 use Rattle.std.proofs.Common.{All}
-use Rattle.snippet_strokes.specs.Rails.{HasRoom}
+use Rattle.snippet_strokes.specs.Bars.{HasRoom}
 use Rattle.snippet_strokes.proofs.SnippetLemmas.{AddsLines}
 use Rattle.snippet_strokes.proofs.snippet.draw_snippet.Given as goal
 

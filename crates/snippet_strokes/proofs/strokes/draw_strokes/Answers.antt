@@ -4,12 +4,12 @@ use Rattle.std.proofs.lemmas.List.{length_push, length-map}
 use Rattle.std.proofs.lemmas.List.Sorted.{All-permutation, IsPermutation-map, IsPermutation-trans, length_permutation}
 use Rattle.snippet_view.specs.declared.entries.LineAnnotation.{LineAnnotation}
 use Rattle.snippet_strokes.specs.declared.positions.PlacedEntry.{PlacedEntry}
-use Rattle.snippet_strokes.specs.Painting.{AreMarked, HasRows, MarksStarts, StandsFrom, DrawsFrom, DrawsRails}
+use Rattle.snippet_strokes.specs.Painting.{AreMarked, HasRows, MarksStarts, StandsFrom, DrawsFrom, DrawsBarCells}
 use Rattle.snippet_strokes.specs.Positions.{HasItsLabel, has_label, has_stem, row_count}
 use Rattle.snippet_grid.specs.Grid.{cells_written}
-use Rattle.snippet_style.specs.Cell.{drawn}
-use Rattle.snippet_strokes.specs.Entries.{HasPlace, HasRail, is_single, label_role, label_text, shifted, wide_entries}
-use Rattle.snippet_strokes.proofs.ShiftLemmas.{shifted_places, shifted_rails}
+use Rattle.snippet_style.specs.Cell.{text_cells}
+use Rattle.snippet_strokes.specs.Entries.{HasPlace, HasBarCell, is_single, label_role, label_text, shifted, wide_entries}
+use Rattle.snippet_strokes.proofs.ShiftLemmas.{shifted_places, shifted_bars}
 use Rattle.snippet_strokes.specs.Rows.{bare_row}
 use Rattle.snippet_style.specs.Separators.{separator_row}
 use Rattle.snippet_strokes.proofs.PositionLemmas.{entries_all, row_count_some, positions_of_placed}
@@ -50,15 +50,15 @@ overlapping-requires c = record { columns = subst (All (λ (e : PlacedEntry). Ha
 pub draw_connectors-requires-clause-columns : goal.draw_connectors-requires-clause-columns
 draw_connectors-requires-clause-columns c = subst (All (λ (e : PlacedEntry). HasPlace e.entry)) (sym c.deref-3.ensures.value) (entries_all HasPlace (map (shifted c.args.dropped) c.args.entries.now) c.in_ok-placed.placed.items c.in_ok-placed.ensures.placed.same (shifted_places c.args.dropped c.args.entries.now c.requires.columns))
 
-pub draw_connectors-requires-clause-rails : goal.draw_connectors-requires-clause-rails
-draw_connectors-requires-clause-rails c = subst (All (λ (e : PlacedEntry). HasRail c.args.layout e.entry)) (sym c.deref-3.ensures.value) (entries_all (HasRail c.args.layout) (map (shifted c.args.dropped) c.args.entries.now) c.in_ok-placed.placed.items c.in_ok-placed.ensures.placed.same (shifted_rails c.args.layout c.args.dropped c.args.entries.now c.requires.rails))
+pub draw_connectors-requires-clause-bar_cells : goal.draw_connectors-requires-clause-bar_cells
+draw_connectors-requires-clause-bar_cells c = subst (All (λ (e : PlacedEntry). HasBarCell c.args.layout e.entry)) (sym c.deref-3.ensures.value) (entries_all (HasBarCell c.args.layout) (map (shifted c.args.dropped) c.args.entries.now) c.in_ok-placed.placed.items c.in_ok-placed.ensures.placed.same (shifted_bars c.args.layout c.args.dropped c.args.entries.now c.requires.bar_cells))
 
 pub draw_connectors-requires-clause-rows : goal.draw_connectors-requires-clause-rows
 draw_connectors-requires-clause-rows c =
     subst (All (HasRows c.in_ok-below.below (length c.begin_rows.new.buffer))) (sym c.deref-3.ensures.value) (rows_ready c.in_ok-placed.placed.items c.args.buffer.now c.begin_rows.new.buffer (separator_row c.args.layout.decor c.args.layout.gutter) (bare_row c.args.layout.decor c.args.layout.gutter c.args.closes) c.row_count.result c.in_ok-below.below (length c.begin_rows.new.buffer) (c.row_count.ensures.value ∙ ap row_count c.deref-2.ensures.value) c.in_ok-below.ensures.row c.in_ok-below.ensures.added refl)
 
-pub draw_corners-requires-clause-rails : goal.draw_corners-requires-clause-rails
-draw_corners-requires-clause-rails c = subst (All (λ (e : PlacedEntry). HasRail c.args.layout e.entry)) (sym c.deref-4.ensures.value) (entries_all (HasRail c.args.layout) (map (shifted c.args.dropped) c.args.entries.now) c.in_ok-placed.placed.items c.in_ok-placed.ensures.placed.same (shifted_rails c.args.layout c.args.dropped c.args.entries.now c.requires.rails))
+pub draw_corners-requires-clause-bar_cells : goal.draw_corners-requires-clause-bar_cells
+draw_corners-requires-clause-bar_cells c = subst (All (λ (e : PlacedEntry). HasBarCell c.args.layout e.entry)) (sym c.deref-4.ensures.value) (entries_all (HasBarCell c.args.layout) (map (shifted c.args.dropped) c.args.entries.now) c.in_ok-placed.placed.items c.in_ok-placed.ensures.placed.same (shifted_bars c.args.layout c.args.dropped c.args.entries.now c.requires.bar_cells))
 
 pub draw_corners-requires-clause-small : goal.draw_corners-requires-clause-small
 draw_corners-requires-clause-small c = omega (arith, c.in_ok-draw_connectors.ensures.draws.count, c.in_ok-below.ensures.small)
@@ -106,9 +106,9 @@ cut_wide-requires-clause-columns c =
 
 pub cut_wide-requires-clause-count : goal.cut_wide-requires-clause-count
 cut_wide-requires-clause-count c =
-    ap length c.deref-8.ensures.value ∙ c.in_ok-met.ensures.count ∙ ap length c.deref.ensures.value ∙ sym (length_permutation c.in_ok-placed.placed.items c.draw_marks.new.placed.items c.in_ok-draw_marks.ensures.same) ∙ sym (ap length c.deref-7.ensures.value)
+    ap length c.deref-8.ensures.value ∙ c.in_ok-overlapped.ensures.count ∙ ap length c.deref.ensures.value ∙ sym (length_permutation c.in_ok-placed.placed.items c.draw_marks.new.placed.items c.in_ok-draw_marks.ensures.same) ∙ sym (ap length c.deref-7.ensures.value)
 
--- no row is added or taken behind those that are begun
+-- no row is added or taken after those that are begun
 pub cut_wide-requires-clause-rows : goal.cut_wide-requires-clause-rows
 cut_wide-requires-clause-rows c =
     let count = c.row_count.ensures.value ∙ ap row_count c.deref-2.ensures.value in
@@ -130,7 +130,7 @@ returns-then-is_empty c =
     let es = map (shifted c.args.dropped) c.args.entries.now in
     let given : length c.args.entries.now ≡ 0 = grind arith in
     let none : length es ≡ 0 = length-map c.args.entries.now (shifted c.args.dropped) ∙ given in
-    record { added = on_ok_weaker c.close_below.result (λ adds above plain old_is bare_rails. strokes_none c.args.layout c.args.room c.args.closes es above plain c.args.buffer.now c.close_below.new.buffer c.requires.place none old_is bare_rails adds) c.close_below.ensures.added; painted = on_ok_weaker c.close_below.result (λ _ some _. absurd (omega (arith, given, some))) c.close_below.ensures.added }
+    record { added = on_ok_weaker c.close_below.result (λ adds above plain old_is bare_bars. strokes_none c.args.layout c.args.room c.args.closes es above plain c.args.buffer.now c.close_below.new.buffer c.requires.place none old_is bare_bars adds) c.close_below.ensures.added; painted = on_ok_weaker c.close_below.result (λ _ some _. absurd (omega (arith, given, some))) c.close_below.ensures.added }
 
 pub returns : goal.returns
 returns c =
@@ -158,18 +158,18 @@ returns c =
     let labels = subst (λ ps. (from : ℕ) → All (λ (e : PlacedEntry). StandsFrom layout.code from e.entry) ps → DrawsFrom below from stemmed labelled) c.deref-6.ensures.value c.in_ok-draw_labels.ensures.draws in
     let stem_starts = subst (λ ps. MarksStarts layout.code ps barred stemmed) c.deref-5.ensures.value c.in_ok-draw_stems.ensures.starts in
     let no_labels = subst (λ ps. All (λ e. has_label e ≡ false) ps → labelled ≡ stemmed) c.deref-6.ensures.value c.in_ok-draw_labels.ensures.none in
-    let lone = subst (λ ps. (e : PlacedEntry) → ps ≡ e ∷ [] → e.position ≡ 0 → 0 < e.entry.end.display → has_label e ≡ true → labelled ≡ cells_written stemmed below (layout.code + e.entry.end.display + 1) (drawn (label_role e.entry.kind) (label_text e.entry))) c.deref-6.ensures.value c.in_ok-draw_labels.ensures.lone in
+    let lone = subst (λ ps. (e : PlacedEntry) → ps ≡ e ∷ [] → e.position ≡ 0 → 0 < e.entry.end.display → has_label e ≡ true → labelled ≡ cells_written stemmed below (layout.code + e.entry.end.display + 1) (text_cells (label_role e.entry.kind) (label_text e.entry))) c.deref-6.ensures.value c.in_ok-draw_labels.ensures.lone in
     let wide : wide_entries c.args.room layout.decor (map f c.deref-7.result.now) ≡ wide_entries c.args.room layout.decor es = ap (λ ps. wide_entries c.args.room layout.decor (map f ps)) c.deref-7.ensures.value ∙ wide_entries-permutation c.args.room layout.decor es (map f after) (IsPermutation-trans es (map f placed) (map f after) c.in_ok-placed.ensures.placed.same (IsPermutation-map f placed after c.in_ok-draw_marks.ensures.same)) in
     let places : All (λ (e : PlacedEntry). HasPlace e.entry) placed = entries_all HasPlace es placed c.in_ok-placed.ensures.placed.same (shifted_places c.args.dropped c.args.entries.now c.requires.columns) in
     let written : All (StandsWhole layout below labelled) placed = subst (λ (ps : List PlacedEntry). ArePlaced es ps → All (StandsWhole layout below labelled) ps) c.deref-6.ensures.value (c.in_ok-draw_labels.ensures.stand es) c.in_ok-placed.ensures.placed in
     let stands : All (StandsWhole layout below new) placed = c.in_ok-draw_marks.ensures.stand es c.in_ok-placed.ensures.placed places written in
     record {
-      added = on_ok_weaker c.cut_wide.result (λ cut above plain old_is bare_rails.
+      added = on_ok_weaker c.cut_wide.result (λ cut above plain old_is bare_bars.
           let long : length above + 1 ≡ length c.args.buffer.now = sym (ap length old_is ∙ length_push above plain) in
           let source_row : c.args.row ≡ length above = omega (arith, long, c.requires.last) in
           let marks_row : below ≡ length above + 1 = c.in_ok-below.ensures.row ∙ sym long in
           let begins : begun ≡ (above ++ plain ∷ []) ++ replicate (row_count placed - 1) sep ++ end ∷ [] = c.in_ok-below.ensures.added ∙ ap (λ n. c.args.buffer.now ++ replicate (n - 1) sep ++ end ∷ []) count ∙ ap (λ old. old ++ replicate (row_count placed - 1) sep ++ end ∷ []) old_is in
-          strokes_drawn layout c.args.room c.args.closes es placed above plain begun joined barred stemmed labelled new c.requires.place c.in_ok-placed.ensures.placed places bare_rails begins (subst (λ n. DrawsFrom n (layout.gutter + 3) begun joined) marks_row c.in_ok-draw_connectors.ensures.draws) c.in_ok-draw_connectors.ensures.rails no_lines (subst (λ n. DrawsRails layout n joined barred) source_row c.in_ok-draw_corners.ensures.draws) no_bars (subst (λ n. (from : ℕ) → All (λ (e : PlacedEntry). StandsFrom layout.code from e.entry) placed → DrawsFrom n from barred stemmed) marks_row stems) no_stems (subst (λ n. (from : ℕ) → All (λ (e : PlacedEntry). StandsFrom layout.code from e.entry) placed → DrawsFrom n from stemmed labelled) marks_row labels) stem_starts c.in_ok-draw_labels.ensures.starts no_labels (subst (λ n. (e : PlacedEntry) → placed ≡ e ∷ [] → e.position ≡ 0 → 0 < e.entry.end.display → has_label e ≡ true → labelled ≡ cells_written stemmed n (layout.code + e.entry.end.display + 1) (drawn (label_role e.entry.kind) (label_text e.entry))) marks_row lone) (subst (λ n. AreMarked layout placed n labelled new) marks_row c.in_ok-draw_marks.ensures.marked) (subst (λ n. All (StandsWhole layout n new) placed) marks_row stands) c.cut_wide.new.buffer (wide_entries c.args.room layout.decor (map f c.deref-7.result.now)) some wide (λ up source marks rest same. cut up source marks rest (same ∙ sym source_row))) c.cut_wide.ensures.cut;
+          strokes_drawn layout c.args.room c.args.closes es placed above plain begun joined barred stemmed labelled new c.requires.place c.in_ok-placed.ensures.placed places bare_bars begins (subst (λ n. DrawsFrom n (layout.gutter + 3) begun joined) marks_row c.in_ok-draw_connectors.ensures.draws) c.in_ok-draw_connectors.ensures.bar_cells no_lines (subst (λ n. DrawsBarCells layout n joined barred) source_row c.in_ok-draw_corners.ensures.draws) no_bars (subst (λ n. (from : ℕ) → All (λ (e : PlacedEntry). StandsFrom layout.code from e.entry) placed → DrawsFrom n from barred stemmed) marks_row stems) no_stems (subst (λ n. (from : ℕ) → All (λ (e : PlacedEntry). StandsFrom layout.code from e.entry) placed → DrawsFrom n from stemmed labelled) marks_row labels) stem_starts c.in_ok-draw_labels.ensures.starts no_labels (subst (λ n. (e : PlacedEntry) → placed ≡ e ∷ [] → e.position ≡ 0 → 0 < e.entry.end.display → has_label e ≡ true → labelled ≡ cells_written stemmed n (layout.code + e.entry.end.display + 1) (text_cells (label_role e.entry.kind) (label_text e.entry))) marks_row lone) (subst (λ n. AreMarked layout placed n labelled new) marks_row c.in_ok-draw_marks.ensures.marked) (subst (λ n. All (StandsWhole layout n new) placed) marks_row stands) c.cut_wide.new.buffer (wide_entries c.args.room layout.decor (map f c.deref-7.result.now)) some wide (λ up source marks rest same. cut up source marks rest (same ∙ sym source_row))) c.cut_wide.ensures.cut;
       painted = on_ok_weaker c.cut_wide.result (λ cut _ none.
           let rows : List (List Cell) = c.args.buffer.now ++ replicate (row_count placed - 1) sep ++ end ∷ [] in
           let begun_is : begun ≡ rows = c.in_ok-below.ensures.added ∙ ap (λ n. c.args.buffer.now ++ replicate (n - 1) sep ++ end ∷ []) count in

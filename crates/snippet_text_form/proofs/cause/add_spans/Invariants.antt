@@ -1,4 +1,4 @@
--- Of the further spans so far those with a label stand behind the first.
+-- Of the further spans so far those with a label stand after the first.
 use Rattle.std.proofs.Common.{◌≡◌, ◌++◌, None, filter, map, take, chars}
 use Rattle.std.specs.List.{flat_map}
 use Rattle.snippet_text_form.specs.Cause.{has_label, span_form}

@@ -1,13 +1,13 @@
 use Rattle.std.proofs.Common.{◌∙◌, ◌+◌, ◌++◌, ap, replicate}
-use Rattle.snippet_style.specs.Cell.{SPACE, drawn}
+use Rattle.snippet_style.specs.Cell.{SPACE, text_cells}
 use Rattle.snippet_style.specs.declared.role.ElementStyle.TheVariants.{LineNumber}
 use Rattle.snippet_titles.specs.Appended.{appended}
-use Rattle.snippet_titles.proofs.RowLemmas.{behind_gutter, some_sign}
+use Rattle.snippet_titles.proofs.RowLemmas.{after_gutter, some_sign}
 use Rattle.snippet_titles.proofs.row.draw_sign.Goals as goal
 
 pub returns-in_ok-puts : goal.returns-in_ok-puts
 returns-in_ok-puts c =
     let place = c.in-Message.place in
     record {
-      extended = rw c.in-Message.is (behind_gutter _ _ _ (place.gutter + 1) _ c.requires.empty (some_sign place.decor place.followed _ c.sign.ensures.value) (c.in_ok-puts.ensures.ok c.sign.ensures.some) ∙ ap (λ cs. appended c.args.buffer.now c.args.row (replicate (place.gutter + 1) SPACE ++ drawn LineNumber cs)) c.sign.ensures.value);
+      extended = rw c.in-Message.is (after_gutter _ _ _ (place.gutter + 1) _ c.requires.empty (some_sign place.decor place.followed _ c.sign.ensures.value) (c.in_ok-puts.ensures.ok c.sign.ensures.some) ∙ ap (λ cs. appended c.args.buffer.now c.args.row (replicate (place.gutter + 1) SPACE ++ text_cells LineNumber cs)) c.sign.ensures.value);
     }

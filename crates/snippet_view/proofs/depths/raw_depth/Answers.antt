@@ -8,7 +8,7 @@ bounds-raws-i c = omega (arith, ap length c.requires.raws ∙ length-raw_depths 
 
 pub returns-then-eq : goal.returns-then-eq
 returns-then-eq c =
-    let near = near_up_to c.args.place c.starting_by-near.result c.args.later.now c.starting_by-near.ensures.within (λ j d below. c.starting_by-near.ensures.by j d (omega arith) below) c.starting_by-near.ensures.behind c.requires.behind c.requires.lines in
+    let near = near_up_to c.args.place c.starting_by-near.result c.args.later.now c.starting_by-near.ensures.within (λ j d below. c.starting_by-near.ensures.by j d (omega arith) below) c.starting_by-near.ensures.after c.requires.after c.requires.lines in
     record { value = found_at c.args.place c.args.later.now c.args.raws.now c.starting_by-near.result c.loop-i.i c.loop-i.deepest c.requires.raws c.starting_by-near.ensures.within c.loop-i-test.true c.requires.own_lines near c.loop-i.invariant.0 (sym c.eq.ensures ∙ c.if-eq.true) }
 
 pub bounds-raws-i-in-loop-i : goal.bounds-raws-i-in-loop-i
@@ -24,5 +24,5 @@ overflow_add-result c = omega (arith, c.loop-i.invariant.1)
 
 pub returns : goal.returns
 returns c =
-    let near = near_up_to c.args.place c.starting_by-near.result c.args.later.now c.starting_by-near.ensures.within (λ j d below. c.starting_by-near.ensures.by j d (omega arith) below) c.starting_by-near.ensures.behind c.requires.behind c.requires.lines in
+    let near = near_up_to c.args.place c.starting_by-near.result c.args.later.now c.starting_by-near.ensures.within (λ j d below. c.starting_by-near.ensures.by j d (omega arith) below) c.starting_by-near.ensures.after c.requires.after c.requires.lines in
     record { value = found_none c.args.place c.args.later.now c.args.raws.now c.starting_by-near.result c.loop-i.i c.loop-i.deepest c.requires.raws c.starting_by-near.ensures.within c.loop-i-test.false c.requires.own_lines near c.loop-i.invariant.0 }

@@ -1,11 +1,11 @@
 use Rattle.std.proofs.Common.{◌≡◌, ◌+◌, ◌-◌, drop, subst, ◌∙◌, arith}
 use Rattle.std.proofs.lemmas.List.{length-set}
 use Rattle.snippet_view.specs.Depths.{raw_depths}
-use Rattle.snippet_view.proofs.DepthSearchLemmas.{behind_in, filled}
+use Rattle.snippet_view.proofs.DepthSearchLemmas.{after_in, filled}
 use Rattle.snippet_view.proofs.depths.raw_depths.Goals as goal
 
-pub raw_depth-requires-clause-behind : goal.raw_depth-requires-clause-behind
-raw_depth-requires-clause-behind c = behind_in c.args.places.now (c.loop-i.i - 1) (c.loop-i.i - 1 + 1) c.requires.ordered (omega arith) (omega arith)
+pub raw_depth-requires-clause-after : goal.raw_depth-requires-clause-after
+raw_depth-requires-clause-after c = after_in c.args.places.now (c.loop-i.i - 1) (c.loop-i.i - 1 + 1) c.requires.ordered (omega arith) (omega arith)
 
 pub loop-i-preserved : goal.loop-i-preserved
 loop-i-preserved c =

@@ -11,7 +11,7 @@ returns-clause-holds c =
     let bounds = bounds_of c.args.margin in
     let cs = chars c.args.line.now in
     let left : c.left-left.result ≡ window_left bounds.left cs = c.left-left.ensures.value ∙ ap (min bounds.left) c.requires.width in
-    let skipped = c.behind_fewer-skipped.ensures.width ∙ ap (λ n. width_of (take (falling_short n cs) cs)) left in
-    let rest = c.behind_fewer-skipped.ensures.rest ∙ ap (λ n. drop (falling_short n cs) cs) left in
+    let skipped = c.after_fewer-skipped.ensures.width ∙ ap (λ n. width_of (take (falling_short n cs) cs)) left in
+    let rest = c.after_fewer-skipped.ensures.rest ∙ ap (λ n. drop (falling_short n cs) cs) left in
     let right = right_is c.args.margin.term_width bounds.left bounds.right c.args.width c.right.result cs c.requires.width c.right.ensures.value in
-    near_holds c.args.margin.term_width bounds.left bounds.right c.behind_fewer-skipped.result.0 _ cs (chars c.behind_fewer-skipped.result.1.now) (chars c.part_reaching.result.now) skipped rest (omega (arith, left, c.saturating_sub-columns.ensures, right)) c.part_reaching.ensures.value
+    near_holds c.args.margin.term_width bounds.left bounds.right c.after_fewer-skipped.result.0 _ cs (chars c.after_fewer-skipped.result.1.now) (chars c.part_reaching.result.now) skipped rest (omega (arith, left, c.saturating_sub-columns.ensures, right)) c.part_reaching.ensures.value

@@ -7,8 +7,8 @@ use Rattle.annotate_snippets.specs.Gutter.{numbered_source}
 use Rattle.annotate_snippets.proofs.renderer.cause.draw_cause_head.Goals as goal
 
 -- src/renderer/cause.rt:87:9
-pub named_place-place-requires : goal.named_place-place-requires
-named_place-place-requires c =
+pub location-place-requires : goal.location-place-requires
+location-place-requires c =
     let p = c.requires.prepared in
     let s = c.args.cause.now.snippet.now in
     let kept : map seen_kept c.deref.result.now ≡ annotated_lines s.fold (numbered_source s) s.markers.items = ap (map seen_kept) c.deref.ensures.value ∙ p.kept_are in

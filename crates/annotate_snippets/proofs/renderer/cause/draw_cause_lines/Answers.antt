@@ -14,11 +14,11 @@ use Rattle.snippet_view.specs.Margin.{bounds_of}
 use Rattle.snippet_view.specs.Measures.{margin_of}
 use Rattle.snippet_strokes.specs.Snippet.{AreLinesShown}
 use Rattle.annotate_snippets.specs.Drawn.{layout_in}
-use Rattle.annotate_snippets.specs.Gutter.{code_behind, numbered_source}
+use Rattle.annotate_snippets.specs.Gutter.{code_after, numbered_source}
 use Rattle.annotate_snippets.specs.Prepared.{IsCausePrepared}
 use Rattle.annotate_snippets.specs.declared.renderer.preprocess.PreparedCause.{PreparedCause}
 use Rattle.annotate_snippets.proofs.GutterLemmas.{numbers_fit}
-use Rattle.annotate_snippets.proofs.PartsFacts.{lines_labels, lines_places, lines_rails, lines_texts, bounds_of_kept, shown_clear}
+use Rattle.annotate_snippets.proofs.PartsFacts.{lines_labels, lines_places, lines_bar_cells, lines_texts, bounds_of_kept, shown_clear}
 use Rattle.annotate_snippets.proofs.renderer.cause.draw_cause_lines.Goals as goal
 use Rattle.annotate_snippets.proofs.renderer.cause.draw_cause_lines.Goals.{After-deref, After-deref-2}
 
@@ -51,8 +51,8 @@ shown_is : (c : After-deref-2) → map seen_kept c.deref-2.result.now ≡ map (k
 shown_is c =
     shown_of c.args.cause c.requires.prepared c.args.cause.map refl c.in_ok-lines.lines.items c.deref-2.result.now c.deref-2.ensures.value c.in_ok-lines.ensures.value
 
--- the code stands at least three cells behind the gutter
-code_at_least : (gutter depth : ℕ) → gutter + 3 ≤ code_behind gutter depth
+-- the code stands at least three cells after the gutter
+code_at_least : (gutter depth : ℕ) → gutter + 3 ≤ code_after gutter depth
 code_at_least gutter depth =
     elim (cases_Bool (depth == 0)) [
       | inl none ↦ omega (arith, ap (λ b. cond b (gutter + 3) (gutter + 3 + depth + 1)) none)
@@ -86,10 +86,10 @@ draw_snippet-requires-clause-clear c =
     let s = c.args.cause.snippet.now in
     shown_clear (numbered_source s) s.markers.items c.requires.prepared.drawable.spans s.fold c.deref.result.now c.deref-2.result.now c.margin_for-margin.result (ap (map seen_kept) c.deref.ensures.value ∙ c.requires.prepared.kept_are) (shown_is c) c.margin_for-margin.ensures.clear
 
-pub draw_snippet-requires-clause-rails : goal.draw_snippet-requires-clause-rails
-draw_snippet-requires-clause-rails c =
+pub draw_snippet-requires-clause-bar_cells : goal.draw_snippet-requires-clause-bar_cells
+draw_snippet-requires-clause-bar_cells c =
     let s = c.args.cause.snippet.now in
-    lines_rails (numbered_source s) s.markers.items c.requires.prepared.drawable.spans (shown_lines s.fold (cow_str_bytes s.source) s.markers.items) c.deref-2.result.now (shown_is c) (record { gutter = c.args.frame.gutter; code = c.args.frame.code; decor = c.args.renderer.now.decor_style }) c.requires.room.bars
+    lines_bar_cells (numbered_source s) s.markers.items c.requires.prepared.drawable.spans (shown_lines s.fold (cow_str_bytes s.source) s.markers.items) c.deref-2.result.now (shown_is c) (record { gutter = c.args.frame.gutter; code = c.args.frame.code; decor = c.args.renderer.now.decor_style }) c.requires.room.bars
 
 pub draw_snippet-requires-clause-labels : goal.draw_snippet-requires-clause-labels
 draw_snippet-requires-clause-labels c =

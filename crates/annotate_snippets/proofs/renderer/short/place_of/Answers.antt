@@ -8,15 +8,15 @@ use Rattle.snippet_view.specs.Annotated.{annotated_lines, seen_kept}
 use Rattle.snippet_view.specs.Kept.{kept_lines}
 use Rattle.snippet_view.proofs.EntryFacts.{characters-fit}
 use Rattle.snippet_titles.specs.Origin.{origin_text}
-use Rattle.snippet_titles.specs.declared.origin.OriginPlace.{OriginPlace}
+use Rattle.snippet_titles.specs.declared.origin.OriginLocation.{OriginLocation}
 use Rattle.annotate_snippets.specs.Around.{path_bytes}
 use Rattle.annotate_snippets.specs.Gutter.{numbered_source}
 use Rattle.annotate_snippets.specs.Rows.{place_named}
 use Rattle.annotate_snippets.proofs.ShortLemmas.{PlaceFits, place-added, place-of_none, place-of_path, place-short}
 use Rattle.annotate_snippets.proofs.renderer.short.place_of.Goals as goal
 
-pub named_place-place-requires : goal.named_place-place-requires
-named_place-place-requires c =
+pub location-place-requires : goal.location-place-requires
+location-place-requires c =
     let p = c.in_ok-prepared.ensures.prepared in
     let s = c.in_ok-prepared.prepared.snippet.now in
     let kept : map seen_kept c.deref.result.now ≡ annotated_lines s.fold (numbered_source s) s.markers.items = ap (map seen_kept) c.deref.ensures.value ∙ p.kept_are in
@@ -34,8 +34,8 @@ returns c =
     let s = c.in_ok-prepared.prepared.snippet.now in
     let p = c.in_ok-prepared.ensures.prepared in
     let path : List ℕ = cow_str_bytes c.in-Some.path in
-    let place : OriginPlace = c.named_place-place.result in
-    let named : place ≡ place_named true (annotated_lines s.fold (numbered_source s) s.markers.items) = c.named_place-place.ensures.value ∙ ap (λ kept. place_named true (map seen_kept kept)) c.deref.ensures.value ∙ ap (place_named true) p.kept_are in
+    let place : OriginLocation = c.location-place.result in
+    let named : place ≡ place_named true (annotated_lines s.fold (numbered_source s) s.markers.items) = c.location-place.ensures.value ∙ ap (λ kept. place_named true (map seen_kept kept)) c.deref.ensures.value ∙ ap (place_named true) p.kept_are in
     let own : place ≡ place_named true (annotated_lines c.args.snippet.now.fold (numbered_source c.args.snippet.now) c.args.snippet.now.markers.items) = named ∙ ap (λ (t : Snippet Annotation). place_named true (annotated_lines t.fold (numbered_source t) t.markers.items)) c.in_ok-prepared.ensures.snippet in
     let text : chars (string_bytes c.in_ok-text.text) ≡ origin_text c.args.renderer.now.anonymized_origin_line_numbers path place = c.in_ok-text.ensures.value ∙ ap (λ bs. origin_text c.args.renderer.now.anonymized_origin_line_numbers bs place) c.as_str.ensures.value in
     let is = place-added (string_bytes c.in_ok-text.text) (string_bytes c.push_str.new.self) _ (IsUtf8-string_bytes c.in_ok-text.text) text c.in_ok-push_str.ensures.bytes in

@@ -5,7 +5,7 @@ use Rattle.annotate_snippets.specs.Around.{first_two_share}
 use Rattle.annotate_snippets.specs.Prepared.{element_of}
 use Rattle.annotate_snippets.specs.TextForm.{before_seen}
 use Rattle.annotate_snippets.proofs.FormSteps.{all_added, element_added, none_added, number_small}
-use Rattle.annotate_snippets.proofs.SurroundingLemmas.{element_read, elements_from}
+use Rattle.annotate_snippets.proofs.ContextLemmas.{element_read, elements_from}
 use Rattle.annotate_snippets.proofs.renderer.text_form.add_elements.Goals as goal
 
 pub loop-i-init : goal.loop-i-init

@@ -9,8 +9,8 @@ use Rattle.snippet_parts.proofs.source_map.SourceMap.get_line.Goals as goal
 pub returns-in_err-info-clause-value : goal.returns-in_err-info-clause-value
 returns-in_err-info-clause-value c =
     let m = c.self.inside in
-    let behind = ltb-false c.in_ok-index.index (length c.deref.result.now) (sym c.in_err-info.ensures.lookup.0) in
-    let none = line_at-none m.source.now m.line_start m.lines.items c.self.invariant.entries c.args.number c.in_ok-index.index c.in_ok-index.ensures.1 (omega (arith, behind, ap length c.deref.ensures.value)) in
+    let after = ltb-false c.in_ok-index.index (length c.deref.result.now) (sym c.in_err-info.ensures.lookup.0) in
+    let none = line_at-none m.source.now m.line_start m.lines.items c.self.invariant.entries c.args.number c.in_ok-index.index c.in_ok-index.ensures.1 (omega (arith, after, ap length c.deref.ensures.value)) in
     ap option_copied c.from_residual-in_err-info.ensures ∙ subst (λ (s : Source). None ≡ line_at s c.args.number) c.self.view_is none
 
 found : (c : goal.After-t18-1) → (Some c.in_ok-info.info.now.line.now ≡ line_at c.args.self.now c.args.number) × StandsAt c.args.self.now.text c.in_ok-info.info.now.line.now (start_of (source_lines c.args.self.now.text) (c.args.number - c.args.self.now.first))

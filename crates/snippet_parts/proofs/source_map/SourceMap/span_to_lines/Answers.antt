@@ -7,7 +7,7 @@ use Rattle.snippet_parts.specs.LineTable.{entry_at}
 use Rattle.snippet_parts.proofs.TableLemmas.{entries-more}
 use Rattle.snippet_parts.proofs.source_map.SourceMap.span_to_lines.Goals as goal
 
--- the line that holds the start doesn't stand behind the one that holds the end
+-- the line that holds the start doesn't stand after the one that holds the end
 ordered : (source : List ℕ) (start end : ℕ) → start ≤ end → line_of (source_lines source) start ≤ line_of (source_lines source) end
 ordered source start end le =
     let some : line_of (source_lines source) start < length (source_lines source) = line_of-within source start in

@@ -1,7 +1,7 @@
 use Rattle.std.proofs.Common.{◌||◌, ◌≡◌, Bool, List, ℕ, false, ap, sym, ◌∙◌, subst, string_bytes}
 use Rattle.std.specs.List.{flat_map}
 use Rattle.snippet_grid.specs.Woven.{IsWoven}
-use Rattle.snippet_text_form.specs.Form.{begun_behind, form_bytes, form_links, form_text, pieces_of, plain_from}
+use Rattle.snippet_text_form.specs.Form.{begun_after, form_bytes, form_links, form_text, pieces_of, plain_from}
 use Rattle.snippet_text_form.specs.declared.form.TextPart.{TextPart}
 use Rattle.snippet_text_form.proofs.FormLaws.{form-woven}
 use Rattle.snippet_text_form.proofs.FormSteps.{IsRendered-all, IsRendered-more, IsRendered-none}
@@ -13,7 +13,7 @@ loop-part-init c = IsRendered-none c.args.sheet.now (string_bytes c.new-text.res
 
 pub loop-part-preserved : goal.loop-part-preserved
 loop-part-preserved c =
-    let has : Bool = begun_behind false (plain_from false (pieces_of c.part-item.result)) in
+    let has : Bool = begun_after false (plain_from false (pieces_of c.part-item.result)) in
     let after : c.if-begun.begun ≡ (c.loop-part.begun || has) = elim c.if-begun.branch [
       | then-begun w ↦ w.begun-is ∙ w.if-begun.true ∙ sym (ap (λ (b : Bool). b || has) w.if-begun.true)
       | else-begun w ↦ w.begun-is ∙ w.has_text-begun.ensures.value ∙ sym (ap (λ (b : Bool). b || has) w.if-begun.false)

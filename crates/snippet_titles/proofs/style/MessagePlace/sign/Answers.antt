@@ -1,5 +1,5 @@
 use Rattle.snippet_titles.proofs.SignLemmas.{chars-branch, chars-corner, chars-equals}
-use Rattle.snippet_titles.proofs.style.MessagePlace.sign.Goals as goal
+use Rattle.snippet_titles.proofs.style.MessageContext.sign.Goals as goal
 
 pub returns-in-Ascii-default-clause-value : goal.returns-in-Ascii-default-clause-value
 returns-in-Ascii-default-clause-value c = rw c.in-Ascii-default.is-0 chars-equals

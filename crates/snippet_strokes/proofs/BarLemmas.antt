@@ -1,0 +1,292 @@
+-- What drawing bars keeps.
+use Rattle.std.proofs.Common.{◌≡◌, ℕ, ◌+◌, ◌-◌, ◌<◌, ◌≤◌, ◌==◌, ◌&&◌, max, true, false, Bool, None, List, [], ◌∷◌, ◌++◌, length, take, drop, get_or, refl, sym, ap, ◌∙◌, subst, arith, inl, inr, All}
+use Rattle.std.specs.List.{list_any, slice_index_or}
+use Rattle.std.proofs.lemmas.Bool.{cases_lt, cases_eq}
+use Rattle.std.proofs.lemmas.List.{places, same_lists, get_or_at, get_or_default, get_or_append_left, get_or_past, get_or-drop, get_or-take, length-drop, length-take, length-append, length-take-le, ext_get_or, drop-drop, drop_more}
+use Rattle.std.proofs.lemmas.List.Elements.{All-get_or, All-from_get_or}
+use Rattle.snippet_view.specs.declared.entries.LineAnnotation.{LineAnnotation}
+use Rattle.snippet_view.specs.Window.{AreReplaced}
+use Rattle.snippet_style.specs.declared.glyphs.DecorStyle.{DecorStyle}
+use Rattle.snippet_style.specs.declared.glyphs.DecorStyle.TheVariants.{Ascii, Unicode}
+use Rattle.snippet_style.specs.Glyphs.{bar_glyphs, placeholder_of}
+use Rattle.snippet_grid.specs.Grid.{WritesCells, row_at, cell_at}
+use Rattle.snippet_style.specs.Cell.{Cell, SPACE}
+use Rattle.snippet_grid.specs.Print.{row_text}
+use Rattle.snippet_text.specs.Normalized.{is_listed}
+use Rattle.snippet_strokes.specs.declared.layout.Layout.{Layout}
+use Rattle.snippet_strokes.specs.declared.bars.BarStroke.{BarStroke}
+use Rattle.snippet_strokes.specs.declared.bars.BarStroke.TheVariants.{Top, Solid, Dotted}
+use Rattle.snippet_strokes.specs.Entries.{IsBarCell, IsMarkCell, are_plain, has_mark_role, wide_entries}
+use Rattle.snippet_model.specs.Rows.{IsFreeCell}
+use Rattle.snippet_strokes.specs.Bars.{BarsDrawn, DrawsBars, StandsBeside, bar_glyph}
+use Rattle.snippet_strokes.specs.declared.bars.OpenBar.{OpenBar}
+use Rattle.snippet_strokes.proofs.LabelPlaces.{LabelsStand-kept}
+use Rattle.snippet_strokes.specs.Rows.{AddsStrokes, AreStrokes, IsBeside, IsStrokeRow, ShowsMarks}
+
+-- each part of a bar is one of the glyphs that bars are drawn with, and not listed
+pub bar_glyph_known : (stroke : BarStroke) (decor : DecorStyle) (primary : Bool) → list_any (λ g. bar_glyph stroke decor primary == g) (bar_glyphs decor) ≡ true
+bar_glyph_known Top Ascii true = refl
+bar_glyph_known Top Ascii false = refl
+bar_glyph_known Top Unicode true = refl
+bar_glyph_known Top Unicode false = refl
+bar_glyph_known Solid Ascii true = refl
+bar_glyph_known Solid Ascii false = refl
+bar_glyph_known Solid Unicode true = refl
+bar_glyph_known Solid Unicode false = refl
+bar_glyph_known Dotted Ascii true = refl
+bar_glyph_known Dotted Ascii false = refl
+bar_glyph_known Dotted Unicode true = refl
+bar_glyph_known Dotted Unicode false = refl
+
+pub bar_glyph_free : (stroke : BarStroke) (decor : DecorStyle) (primary : Bool) → is_listed (bar_glyph stroke decor primary) ≡ false
+bar_glyph_free Top Ascii true = refl
+bar_glyph_free Top Ascii false = refl
+bar_glyph_free Top Unicode true = refl
+bar_glyph_free Top Unicode false = refl
+bar_glyph_free Solid Ascii true = refl
+bar_glyph_free Solid Ascii false = refl
+bar_glyph_free Solid Unicode true = refl
+bar_glyph_free Solid Unicode false = refl
+bar_glyph_free Dotted Ascii true = refl
+bar_glyph_free Dotted Ascii false = refl
+bar_glyph_free Dotted Unicode true = refl
+bar_glyph_free Dotted Unicode false = refl
+
+-- a space is a part of a bar too
+space_known : (decor : DecorStyle) → list_any (λ g. 32 == g) (bar_glyphs decor) ≡ true
+space_known Ascii = refl
+space_known Unicode = refl
+
+pub bar_space : (decor : DecorStyle) (cell : Cell) → cell.ch ≡ 32 → cell.link ≡ None → IsBarCell decor cell
+bar_space decor cell blank unlinked =
+    record {
+      glyph = ap (λ ch. list_any (λ g. ch == g) (bar_glyphs decor)) blank ∙ space_known decor;
+      link = unlinked;
+    }
+
+-- nothing is drawn yet
+pub BarsDrawn-none : (layout : Layout) (row : List Cell) → BarsDrawn layout row row
+BarsDrawn-none layout row =
+    record {
+      left = λ c _. refl;
+      bar_cells = λ c is. is;
+      code = refl;
+      longer = omega arith;
+      short = omega arith;
+      free = λ free. free;
+    }
+
+-- and then something more
+pub BarsDrawn-more : (layout : Layout) (old mid new : List Cell) → BarsDrawn layout old mid → BarsDrawn layout mid new → BarsDrawn layout old new
+BarsDrawn-more layout old mid new done more =
+    record {
+      left = λ c before. more.left c before ∙ done.left c before;
+      bar_cells = λ c is. more.bar_cells c (done.bar_cells c is);
+      code = more.code ∙ done.code;
+      longer = omega (arith, done.longer, more.longer);
+      short = omega (arith, done.short, more.short);
+      free = λ free. more.free (done.free free);
+    }
+
+pub DrawsBars-none : (layout : Layout) (row : ℕ) (rows : List (List Cell)) → DrawsBars layout row rows rows
+DrawsBars-none layout row rows =
+    record {
+      above = λ r _. refl;
+      rows = λ r. BarsDrawn-none layout (row_at rows r);
+      count = refl;
+    }
+
+pub DrawsBars-more : (layout : Layout) (row : ℕ) (old mid new : List (List Cell)) → DrawsBars layout row old mid → DrawsBars layout row mid new → DrawsBars layout row old new
+DrawsBars-more layout row old mid new done more =
+    record {
+      above = λ r high. more.above r high ∙ done.above r high;
+      rows = λ r. BarsDrawn-more layout (row_at old r) (row_at mid r) (row_at new r) (done.rows r) (more.rows r);
+      count = more.count ∙ done.count;
+    }
+
+-- what stands where a list has no bar
+abbrev pub no_bar : OpenBar
+no_bar = record { depth = 0; primary = false }
+
+pub beside_itself : (bars : List OpenBar) (from k : ℕ) (d : OpenBar) → k ≡ from → StandsBeside (get_or bars from d) (k - from) (get_or bars k d)
+beside_itself bars from k d same =
+    record {
+      depth = ap (λ n. (get_or bars n d).depth) same ∙ omega (arith, same);
+      primary = ap (λ n. (get_or bars n d).primary) same;
+    }
+
+-- one more bar stands beside those before it
+pub beside_next : (bars : List OpenBar) (from to k : ℕ) (d e : OpenBar) → from < to → k ≡ to → to < length bars → StandsBeside (get_or bars from d) (to - 1 - from) (get_or bars (to - 1) d) → StandsBeside (get_or bars (to - 1) e) 1 (get_or bars to e) → StandsBeside (get_or bars from d) (k - from) (get_or bars k d)
+beside_next bars from to k d e ordered same within done next =
+    let here : get_or bars to e ≡ get_or bars to d = get_or_default bars to e d within in
+    let before : get_or bars (to - 1) e ≡ get_or bars (to - 1) d = get_or_default bars (to - 1) e d (omega (arith, within)) in
+    let more : StandsBeside (get_or bars (to - 1) d) 1 (get_or bars to d) = subst (λ (x : OpenBar). StandsBeside x 1 (get_or bars to d)) before (subst (λ (x : OpenBar). StandsBeside (get_or bars (to - 1) e) 1 x) here next) in
+    record {
+      depth = ap (λ n. (get_or bars n d).depth) same ∙ omega (arith, more.depth, done.depth, same, ordered);
+      primary = ap (λ n. (get_or bars n d).primary) same ∙ more.primary ∙ done.primary;
+    }
+
+-- a fact of a cell of the row that cells were written into
+some_written : (P : Cell → Type 0) (old new : List (List Cell)) (row at c : ℕ) (cells : List Cell) → WritesCells old new row at cells → All P cells → P (cell_at old row c) → P (cell_at new row c)
+some_written P old new row at c cells writes all there =
+    elim (cases_lt c at) [
+      | inl before ↦ subst P (sym (writes.before c before)) there
+      | inr later ↦
+          elim (cases_lt c (at + length cells)) [
+            | inl inside ↦
+                let k : ℕ = c - at in
+                let same : at + k ≡ c = omega (arith, later) in
+                let within : k < length cells = omega (arith, inside, later) in
+                subst (λ n. P (cell_at new row n)) same (subst P (sym (writes.inside k within)) (All-get_or P cells k SPACE within all))
+            | inr after ↦ subst P (sym (writes.after c (omega (arith, after)))) there
+          ]
+    ]
+
+-- parts of bars are written into a row
+BarsDrawn-write : (layout : Layout) (old new : List (List Cell)) (row at : ℕ) (cells : List Cell) → WritesCells old new row at cells → layout.gutter + 3 ≤ at → at + length cells ≤ layout.code → All (IsBarCell layout.decor) cells → All IsFreeCell cells → BarsDrawn layout (row_at old row) (row_at new row)
+BarsDrawn-write layout old new row at cells writes right near bar_cell clean =
+    let before = row_at old row in
+    let later = row_at new row in
+    let long : length later ≡ max (length before) (at + length cells) = writes.width in
+    let P : Cell → Type 0 = IsFreeCell in
+    let Q : Cell → Type 0 = IsBarCell layout.decor in
+    record {
+      left = λ c left. writes.before c (omega (arith, left, right));
+      bar_cells = λ c is. some_written Q old new row at c cells writes bar_cell is;
+      code = ext_get_or SPACE (drop layout.code later) (drop layout.code before) (omega (arith, length-drop layout.code later, length-drop layout.code before, long, near)) (λ k within. get_or-drop layout.code later k SPACE ∙ writes.after (layout.code + k) (omega (arith, near)) ∙ sym (get_or-drop layout.code before k SPACE));
+      longer = omega (arith, long);
+      short = omega (arith, long, near);
+      free = λ free. All-from_get_or P later SPACE (λ c within. some_written P old new row at c cells writes clean (elim (cases_lt c (length before)) [
+        | inl inside ↦ All-get_or P before c SPACE inside free
+        | inr past ↦ subst P (sym (get_or_past before c SPACE past)) (refl, refl)
+      ]));
+    }
+
+pub DrawsBars-writes : (layout : Layout) (row r at : ℕ) (old new : List (List Cell)) (cells : List Cell) → WritesCells old new r at cells → row ≤ r → r < length old → layout.gutter + 3 ≤ at → at + length cells ≤ layout.code → All (IsBarCell layout.decor) cells → All IsFreeCell cells → DrawsBars layout row old new
+DrawsBars-writes layout row r at old new cells writes lower within right near bar_cell clean =
+    record {
+      above = λ k high. writes.others k (λ same. omega (arith, same, high, lower));
+      rows = λ k. elim (cases_eq k r) [
+        | inl here ↦
+            subst (λ n. BarsDrawn layout (row_at old n) (row_at new n)) (sym here) (BarsDrawn-write layout old new r at cells writes right near bar_cell clean)
+        | inr other ↦
+            subst (λ cells. BarsDrawn layout (row_at old k) cells) (sym (writes.others k other)) (BarsDrawn-none layout (row_at old k))
+      ];
+      count = omega (arith, writes.count, within);
+    }
+
+-- the cells from the code on are as they were
+drawn_right : (layout : Layout) (old new : List Cell) → BarsDrawn layout old new → (c : ℕ) → layout.code ≤ c → slice_index_or new c SPACE ≡ slice_index_or old c SPACE
+drawn_right layout old new drawn c right =
+    let k : ℕ = c - layout.code in
+    let same : layout.code + k ≡ c = omega (arith, right) in
+    subst (λ n. get_or new n SPACE ≡ get_or old n SPACE) same (sym (get_or-drop layout.code new k SPACE) ∙ ap (λ cells. get_or cells k SPACE) drawn.code ∙ get_or-drop layout.code old k SPACE)
+
+-- and so are those of the front
+drawn_front : (layout : Layout) (old new : List Cell) → BarsDrawn layout old new → layout.gutter + 2 ≤ length old → take (layout.gutter + 2) new ≡ take (layout.gutter + 2) old
+drawn_front layout old new drawn long =
+    let n : ℕ = layout.gutter + 2 in
+    let here : length (take n new) ≡ n = length-take-le n new (omega (arith, drawn.longer, long)) in
+    let there : length (take n old) ≡ n = length-take-le n old long in
+    ext_get_or SPACE (take n new) (take n old) (here ∙ sym there) (λ k within.
+    let left : k < n = omega (arith, here, within) in
+    get_or-take n new k SPACE left ∙ drawn.left k (omega (arith, left)) ∙ sym (get_or-take n old k SPACE left))
+
+-- a source row is as it was but for its bars
+pub IsBeside-drawn : (layout : Layout) (wide : ℕ) (plain old new : List Cell) → layout.gutter + 2 ≤ length plain → IsBeside layout wide plain old → BarsDrawn layout old new → IsBeside layout wide plain new
+IsBeside-drawn layout wide plain old new long is drawn =
+    let n : ℕ = layout.gutter + 2 in
+    let enough : n ≤ length old = omega (arith, long, ap length is.front, length-take n old, length-take n plain) in
+    record {
+      front = drawn_front layout old new drawn enough ∙ is.front;
+      gap = drawn.left n (omega arith) ∙ is.gap;
+      bar_cells = λ c from to. drawn.bar_cells c (is.bar_cells c from to);
+      text = subst (λ cells. AreReplaced (placeholder_of layout.decor) wide (row_text (drop layout.code plain)) (row_text cells)) (sym drawn.code) is.text;
+      uncut = λ none. drawn.code ∙ is.uncut none;
+      free = λ free. drawn.free (is.free free);
+    }
+
+-- so is a row of strokes
+IsStrokeRow-drawn : (layout : Layout) (plain : Bool) (es : List LineAnnotation) (closes : Bool) (old new : List Cell) → IsStrokeRow layout plain es closes old → BarsDrawn layout old new → IsStrokeRow layout plain es closes new
+IsStrokeRow-drawn layout plain es closes old new is drawn =
+    record {
+      left = λ c left. drawn.left c left ∙ is.left c left;
+      bar_cells = λ c from to. drawn.bar_cells c (is.bar_cells c from to);
+      before = λ all c from right left stands. drawn_right layout old new drawn c right ∙ is.before all c from right left stands;
+      free = drawn.free is.free;
+    }
+
+ShowsMarks-drawn : (layout : Layout) (es : List LineAnnotation) (old new : List Cell) → ShowsMarks layout.decor layout.code es old → BarsDrawn layout old new → ShowsMarks layout.decor layout.code es new
+ShowsMarks-drawn layout es old new shows drawn =
+    let same : (p : ℕ) → slice_index_or new (layout.code + p) SPACE ≡ slice_index_or old (layout.code + p) SPACE = λ p. drawn_right layout old new drawn (layout.code + p) (omega arith) in
+    record {
+      marks = λ p kind mark. subst (IsMarkCell layout.decor kind) (sym (same p)) (shows.marks p kind mark);
+      unmarked = λ p none. ap has_mark_role (same p) ∙ shows.unmarked p none;
+      spaces = λ bare p none. same p ∙ shows.spaces bare p none;
+      lone = λ e alone wide label. sym (drop-drop e.end.display layout.code new) ∙ ap (drop e.end.display) drawn.code ∙ drop-drop e.end.display layout.code old ∙ shows.lone e alone wide label;
+    }
+
+AreStrokes-drawn : (layout : Layout) (room : ℕ) (es : List LineAnnotation) (closes : Bool) (old new : List (List Cell)) → AreStrokes layout room es closes old → length new ≡ length old → ((k : ℕ) → k < length old → BarsDrawn layout (row_at old k) (row_at new k)) → AreStrokes layout room es closes new
+AreStrokes-drawn layout room es closes old new is count drawn =
+    let plain : Bool = are_plain room layout.decor es in
+    record {
+      none = λ empty. count ∙ is.none empty;
+      some = λ all more. omega (arith, count, is.some all more);
+      lone = λ all one. count ∙ is.lone all one;
+      bare = λ all labels. omega (arith, count, is.bare all labels);
+      marks = λ all. marks (is.marks all);
+      labels = λ uncut ends. LabelsStand-kept layout es old new (is.labels uncut ends) kept;
+      are = λ k within.
+          let inside : k < length old = omega (arith, within, count) in
+          subst (λ n. IsStrokeRow layout plain es (closes && k + 1 == n) (row_at new k)) (sym count) (IsStrokeRow-drawn layout plain es (closes && k + 1 == length old) (row_at old k) (row_at new k) (is.are k inside) (drawn k inside));
+    }
+  where
+    kept : (r c : ℕ) → layout.code ≤ c → cell_at new r c ≡ cell_at old r c
+    kept r c right =
+        elim (cases_lt r (length old)) [
+          | inl some ↦ drawn_right layout (row_at old r) (row_at new r) (drawn r some) c right
+          | inr none ↦
+              let before : row_at old r ≡ [] = get_or_past old r [] none in
+              let later : row_at new r ≡ [] = get_or_past new r [] (omega (arith, none, count)) in
+              ap (λ cells. slice_index_or cells c SPACE) (later ∙ sym before)
+        ]
+
+    marks : ShowsMarks layout.decor layout.code es (row_at old 0) → ShowsMarks layout.decor layout.code es (row_at new 0)
+    marks shows =
+        elim (cases_lt 0 (length old)) [
+          | inl some ↦ ShowsMarks-drawn layout es (row_at old 0) (row_at new 0) shows (drawn 0 some)
+          | inr none ↦
+              let before : row_at old 0 ≡ [] = get_or_past old 0 [] none in
+              let later : row_at new 0 ≡ [] = get_or_past new 0 [] (omega (arith, none, count)) in
+              subst (ShowsMarks layout.decor layout.code es) (before ∙ sym later) shows
+        ]
+
+-- the strokes of a line with bars that are drawn beside all its rows
+pub AddsStrokes-drawn : (layout : Layout) (room : ℕ) (es : List LineAnnotation) (closes : Bool) (above : List (List Cell)) (plain : List Cell) (old new : List (List Cell)) (row : ℕ) → row ≡ length above → layout.gutter + 2 ≤ length plain → AddsStrokes layout room es closes above plain old → DrawsBars layout row old new → AddsStrokes layout room es closes above plain new
+AddsStrokes-drawn layout room es closes above plain old new row last long adds draws =
+    let source = adds.source in
+    let rows = adds.rows in
+    let below = drop (row + 1) new in
+    let all : length old ≡ row + 1 + length rows = omega (arith, ap length adds.added, length-append above (source ∷ rows), last) in
+    let here : row < length new = omega (arith, all, draws.count) in
+    let few : length below ≡ length rows = omega (arith, length-drop (row + 1) new, all, draws.count) in
+    let short : length (take row new) ≡ row = length-take-le row new (omega (arith, here)) in
+    let top : take row new ≡ above = ext_get_or [] (take row new) above (short ∙ last) (λ k within.
+    let inside : k < row = omega (arith, within, short) in
+    get_or-take row new k [] inside ∙ draws.above k inside ∙ ap (λ rs. get_or rs k []) adds.added ∙ get_or_append_left above (source ∷ rows) [] k (omega (arith, inside, last))) in
+    let first : row_at old row ≡ source = ap (λ rs. row_at rs row) adds.added ∙ get_or_at above source rows [] row (sym last) in
+    let rest : drop (row + 1) old ≡ rows = ap (drop (row + 1)) adds.added ∙ after above source rows (row + 1) (omega (arith, last)) in
+    record {
+      source = row_at new row;
+      rows = below;
+      added = split new row ∙ ap (λ rs. rs ++ drop row new) top ∙ ap (λ rs. above ++ rs) (drop_more new row [] here);
+      beside = IsBeside-drawn layout (wide_entries room layout.decor es) plain source (row_at new row) long adds.beside (subst (λ cells. BarsDrawn layout cells (row_at new row)) first (draws.rows row));
+      are = AreStrokes-drawn layout room es closes rows below adds.are few (λ k within. subst (λ cells. BarsDrawn layout cells (row_at below k)) (sym (get_or-drop (row + 1) old k []) ∙ ap (λ rs. row_at rs k) rest) (subst (λ cells. BarsDrawn layout (row_at old (row + 1 + k)) cells) (sym (get_or-drop (row + 1) new k [])) (draws.rows (row + 1 + k))));
+    }
+  where
+    after : (xs : List (List Cell)) (x : List Cell) (ys : List (List Cell)) (n : ℕ) → n ≡ length xs + 1 → drop n (xs ++ x ∷ ys) ≡ ys
+    after xs x ys n is =
+        same_lists _ _ (grind (arith, places)) (λ k d h. grind (arith, places))
+
+    split : (xs : List (List Cell)) (n : ℕ) → xs ≡ take n xs ++ drop n xs
+    split xs n = same_lists _ _ (grind (arith, places)) (λ k d h. grind (arith, places))

@@ -1,0 +1,40 @@
+use Rattle.std.proofs.Common.{◌≡◌, ◌∙◌, ◌+◌, ◌==◌, List, refl, ap, arith, length, replicate, subst}
+use Rattle.std.proofs.lemmas.List.{length-replicate}
+use Rattle.std.proofs.lemmas.List.Elements.{All-replicate}
+use Rattle.std.specs.List.{list_any}
+use Rattle.std.specs.Str.{chars}
+use Rattle.snippet_style.specs.Glyphs.{bar_glyphs}
+use Rattle.snippet_grid.specs.Grid.{WritesCells}
+use Rattle.snippet_style.specs.Cell.{Cell, text_cells, unlinked_cell}
+use Rattle.snippet_strokes.specs.Entries.{IsBarCell}
+use Rattle.snippet_model.specs.Rows.{IsFreeCell}
+use Rattle.snippet_text.specs.Normalized.{is_listed}
+use Rattle.snippet_strokes.proofs.LineLemmas.{text_cells-replicate, some_bytes}
+use Rattle.snippet_strokes.proofs.BarLemmas.{DrawsBars-more, DrawsBars-writes, bar_glyph_known, bar_glyph_free}
+use Rattle.snippet_strokes.proofs.bars.draw_side.Goals as goal
+
+pub puts-requires-clause-end : goal.puts-requires-clause-end
+puts-requires-clause-end c =
+    let is : chars c.as_str.result.now ≡ replicate c.args.count c.glyph-glyph.result = ap chars c.as_str.ensures.value ∙ c.in_ok-part.ensures.value in
+    omega (arith, ap length is, length-replicate c.args.count c.glyph-glyph.result, c.requires.room, c.requires.narrow)
+
+pub loop-r-preserved : goal.loop-r-preserved
+loop-r-preserved c =
+    let layout = c.args.layout in
+    let glyph = c.glyph-glyph in
+    let n = c.args.count in
+    let role = c.underline-role.result.style in
+    let cell = unlinked_cell role glyph.result in
+    let done = c.loop-r.invariant in
+    let known = bar_glyph_known c.args.stroke layout.decor c.args.first.primary in
+    let clean = bar_glyph_free c.args.stroke layout.decor c.args.first.primary in
+    let bar_cell : IsBarCell layout.decor cell = record {
+      glyph = ap (λ ch. list_any (λ g. ch == g) (bar_glyphs layout.decor)) glyph.ensures.value ∙ known;
+      link = refl;
+    } in
+    let free : IsFreeCell cell = (ap is_listed glyph.ensures.value ∙ clean, refl) in
+    let is : chars c.as_str.result.now ≡ replicate n glyph.result = ap chars c.as_str.ensures.value ∙ c.in_ok-part.ensures.value in
+    let cells : text_cells role (chars c.as_str.result.now) ≡ replicate n cell = ap (text_cells role) is ∙ text_cells-replicate role n glyph.result in
+    let at = layout.gutter + 2 + c.args.first.depth in
+    let writes = subst (λ (l : List Cell). WritesCells c.loop-r.buffer c.puts.new.self c.loop-r.r at l) cells (c.in_ok-puts.ensures.reads (some_bytes c.as_str.result.now n glyph.result is c.requires.some)) in
+    DrawsBars-more layout c.args.row c.args.buffer.now c.loop-r.buffer c.puts.new.self done (DrawsBars-writes layout c.args.row c.loop-r.r at c.loop-r.buffer c.puts.new.self (replicate n cell) writes (omega arith) (omega (arith, done.count, c.num_lines-r-end.ensures.count, c.loop-r-test.true)) (omega (arith, c.requires.left)) (omega (arith, c.requires.room, length-replicate n cell)) (All-replicate (IsBarCell layout.decor) n cell bar_cell) (All-replicate IsFreeCell n cell free))

@@ -1,7 +1,0 @@
-use Rattle.std.proofs.Common.{◌≡◌, take}
-use Rattle.snippet_strokes.specs.Rails.{ends_of_bars}
-use Rattle.snippet_strokes.proofs.rails.ends_on.Given as goal
-
--- the bars of the entries so far are listed
-abbrev pub invariant-loop-entry : goal.invariant-loop-entry
-invariant-loop-entry l = l.bars.items ≡ ends_of_bars (take l.entry-index l.entries)

@@ -1,0 +1,114 @@
+-- The bars of spans of several lines: which are open beside a line, and what drawing them changes.
+use Rattle.std.specs.Prelude.{◌≡◌, ◌<◌, ◌≤◌, ◌+◌, ◌==◌, ◌&&◌, ◌||◌, ℕ, max, nat_le, not, Bool, true, false, Option, Some, None, List, [], ◌∷◌, ◌++◌, drop, filter, length, take}
+use Rattle.std.specs.Char.{is_whitespace}
+use Rattle.std.specs.List.{filter_map, list_all, list_any, slice_index_or}
+use Rattle.snippet_view.specs.declared.entries.LineAnnotation.{LineAnnotation}
+use Rattle.snippet_view.specs.declared.entries.LineAnnotationType.{LineAnnotationType}
+use Rattle.snippet_view.specs.declared.entries.LineAnnotationType.TheVariants.{Singleline, MultilineStart, MultilineEnd, MultilineLine}
+use Rattle.snippet_view.specs.Measures.{is_bar}
+use Rattle.snippet_style.specs.Glyphs.{glyph_of}
+use Rattle.snippet_grid.specs.Grid.{row_at}
+use Rattle.snippet_style.specs.Cell.{Cell, SPACE}
+use Rattle.snippet_style.specs.declared.glyphs.DecorStyle.{DecorStyle}
+use Rattle.snippet_strokes.specs.declared.layout.Layout.{Layout}
+use Rattle.snippet_strokes.specs.declared.bars.OpenBar.{OpenBar}
+use Rattle.snippet_strokes.specs.declared.bars.BarStroke.{BarStroke}
+use Rattle.snippet_strokes.specs.declared.bars.BarStroke.TheVariants.{Top, Solid, Dotted}
+use Rattle.snippet_strokes.specs.Entries.{IsBarCell}
+use Rattle.snippet_model.specs.AnnotationKind.{is_primary}
+use Rattle.snippet_model.specs.Rows.{IsFree}
+use Rattle.snippet_strokes.specs.Positions.{is_start_part}
+use Rattle.snippet_strokes.specs.Rows.{IsElisionRow}
+use Rattle.snippet_strokes.specs.Snippet.{IsGap}
+use Rattle.snippet_view.specs.declared.entries.AnnotatedLineInfo.{AnnotatedLineInfo}
+
+-- the bar that the start or the end of a span of several lines opens or closes
+abbrev pub bar_at : LineAnnotationType → Bool → Option OpenBar
+bar_at Singleline primary = None
+bar_at (MultilineStart depth) primary = Some (record { depth = depth; primary = primary })
+bar_at (MultilineEnd depth) primary = Some (record { depth = depth; primary = primary })
+bar_at (MultilineLine depth) primary = None
+
+abbrev pub bar_of : LineAnnotation → Option OpenBar
+bar_of e = bar_at e.annotation_type (is_primary e.kind)
+
+-- the bars of the starts and ends on a line
+abbrev pub ends_of_bars : List LineAnnotation → List OpenBar
+ends_of_bars es = filter_map bar_of es
+
+-- whether one of these bars has this depth
+abbrev pub has_depth : List OpenBar → ℕ → Bool
+has_depth bars depth = list_any (λ b. b.depth == depth) bars
+
+-- the bars whose depth none of the others has
+abbrev pub bars_apart : List OpenBar → List OpenBar → List OpenBar
+bars_apart bars others = filter (λ b. not (has_depth others b.depth)) bars
+
+-- the bars that are open below a line, where these are open above it: those that no start or end on it closes, and those
+-- that its starts and ends open
+abbrev pub open_below : List OpenBar → List LineAnnotation → List OpenBar
+open_below open_bars es =
+    bars_apart open_bars (ends_of_bars es) ++ bars_apart (ends_of_bars es) open_bars
+
+-- there is a cell for a bar, and one after it, between the separator and the code
+abbrev pub HasRoom : Layout → OpenBar → Type 0
+HasRoom layout bar = (0 < bar.depth) × (layout.gutter + 3 + bar.depth < layout.code)
+
+-- a bar stands so many cells right of the first of some, and is drawn in its role
+pub record StandsBeside (first : OpenBar) (cells : ℕ) (bar : OpenBar) : Type 0 where
+  pub depth : bar.depth ≡ first.depth + cells
+  pub primary : bar.primary ≡ first.primary
+
+-- the glyph of a part of a bar: its top beside a whole line, a part of it beside a line, or beside lines that aren't shown
+abbrev pub bar_glyph : BarStroke → DecorStyle → Bool → ℕ
+bar_glyph Top decor primary = glyph_of decor primary 47 47 0x250F 0x250C
+bar_glyph Solid decor primary = glyph_of decor primary 124 124 0x2503 0x2502
+bar_glyph Dotted decor primary = glyph_of decor primary 124 124 0x2507 0x2506
+
+-- whether an entry of this line is drawn by bars alone: it is a bar, or a start with nothing but whitespace before it
+abbrev pub is_beside : List ℕ → LineAnnotation → Bool
+is_beside text e =
+    is_bar e.annotation_type || is_start_part e.annotation_type && list_all is_whitespace (take e.start.display text)
+
+-- whether so many characters stand before this place, if it is one
+abbrev pub is_before : ℕ → Option ℕ → Bool
+is_before n None = true
+is_before n (Some at) = nat_le n at
+
+-- the same, where the first character of the line that is no whitespace stands at this place, if there is one
+abbrev pub is_beside_first : Option ℕ → LineAnnotation → Bool
+is_beside_first first e =
+    is_bar e.annotation_type || is_start_part e.annotation_type && is_before e.start.display first
+
+-- whether a line is marked as a whole: it has entries, and each is drawn by bars alone
+abbrev pub is_whole_line : List ℕ → List LineAnnotation → Bool
+is_whole_line text [] = false
+is_whole_line text (e ∷ es) = list_all (is_beside text) (e ∷ es)
+
+-- parts of bars were drawn in a row: cells left of the bars and from the code on stay, and where bars stand nothing came but
+-- parts of them
+pub record BarsDrawn (layout : Layout) (old new : List Cell) : Type 0 where
+  pub left : (c : ℕ) → c < layout.gutter + 3 → slice_index_or new c SPACE ≡ slice_index_or old c SPACE
+  pub bar_cells : (c : ℕ) → IsBarCell layout.decor (slice_index_or old c SPACE) → IsBarCell layout.decor (slice_index_or new c SPACE)
+  pub code : drop layout.code new ≡ drop layout.code old
+  pub longer : length old ≤ length new
+  pub short : length new ≤ max (length old) layout.code
+  pub free : IsFree old → IsFree new
+
+-- parts of bars were drawn in rows from `row` on
+pub record DrawsBars (layout : Layout) (row : ℕ) (old new : List (List Cell)) : Type 0 where
+  pub above : (r : ℕ) → r < row → row_at new r ≡ row_at old r
+  pub rows : (r : ℕ) → BarsDrawn layout (row_at old r) (row_at new r)
+  pub count : length new ≡ length old
+
+-- a row that stands for lines that are left out was added below the rows that are there
+pub record AddsElision (layout : Layout) (old new : List (List Cell)) : Type 0 where
+  pub row : List Cell
+  pub added : new ≡ old ++ row ∷ []
+  pub is : IsElisionRow layout row
+
+-- the rows between a line of this number and the next of these lines were added
+pub record AddsGap (layout : Layout) (number : ℕ) (infos : List AnnotatedLineInfo) (old new : List (List Cell)) : Type 0 where
+  pub rows : List (List Cell)
+  pub added : new ≡ old ++ rows
+  pub is : IsGap layout number infos rows

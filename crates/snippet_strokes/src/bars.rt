@@ -1,0 +1,186 @@
+//! The bars of spans of several lines, which run beside the rows, left of the code.
+ghost use Rattle.std.specs.Prelude.{◌≡◌, ◌+◌, ◌-◌, ◌^◌, ◌<◌, ◌≤◌, ℕ, true, All, IfOk, OnOk, length, slice_index_or};
+ghost use Rattle.snippet_strokes.specs.declared.bars.OpenBar.{OpenBar};
+ghost use Rattle.snippet_strokes.specs.Bars as spec;
+ghost use Rattle.snippet_strokes.specs.Bars.{DrawsBars, HasRoom, StandsBeside, ends_of_bars};
+
+use crate::layout::Layout;
+use crate::lines::repeated;
+use crate::roles::is_primary;
+use snippet_grid::StyledBuffer;
+use snippet_style::DecorStyle;
+use snippet_view::{LineAnnotation, LineAnnotationType};
+use std::alloc::{AllocError, Global};
+
+/// A bar that an entry of a line opens or closes.
+#[derive(Clone, Copy, Debug)]
+pub(crate) struct OpenBar {
+    /// How far right the bar stands, from 1.
+    pub(crate) depth: usize,
+    /// Whether it belongs to a primary span.
+    pub(crate) primary: bool,
+}
+
+/// A part of a bar.
+#[derive(Clone, Copy, Debug)]
+pub(crate) enum BarStroke {
+    /// The top beside a line that is marked as a whole.
+    Top,
+    /// What stands beside a row of a line.
+    Solid,
+    /// What stands beside lines that aren't shown.
+    Dotted,
+}
+
+impl BarStroke {
+    /// The glyph of the part.
+    fn glyph(self, decor: DecorStyle, primary: bool) -> char
+        ensures value { result ≡ spec.bar_glyph self decor primary }
+    {
+        match self {
+            BarStroke::Top => decor.underline(primary).multiline_whole_line,
+            BarStroke::Solid => decor.underline(primary).multiline_vertical,
+            BarStroke::Dotted => decor.elision_bar(primary),
+        }
+    }
+}
+
+/// The bars of the starts and ends on a line.
+///
+/// # Errors
+///
+/// There is no memory for the list.
+pub(crate) fn ends_on(alloc: Global, entries: &[LineAnnotation]) -> Result<Vec<OpenBar>, AllocError>
+    ensures value { IfOk result (λ bars. bars.items ≡ ends_of_bars entries.now) }
+{
+    let mut bars = Vec::new(alloc);
+    for entry in entries {
+        if let Some(bar) = bar_of(entry) {
+            bars.push(bar)?;
+        }
+    }
+    Ok(bars)
+}
+
+/// The bar that the start or the end of a span of several lines opens or closes.
+fn bar_of(entry: &LineAnnotation) -> Option<OpenBar>
+    ensures value { result ≡ spec.bar_of entry.now }
+{
+    match entry.annotation_type {
+        LineAnnotationType::MultilineStart(depth) | LineAnnotationType::MultilineEnd(depth) => {
+            Some(OpenBar {
+                depth,
+                primary: is_primary(entry.kind),
+            })
+        }
+        LineAnnotationType::Singleline | LineAnnotationType::MultilineLine(_) => None,
+    }
+}
+
+/// The bars whose depth none of the others has.
+///
+/// # Errors
+///
+/// There is no memory for the list.
+pub(crate) fn bars_apart(
+    alloc: Global,
+    bars: &[OpenBar],
+    others: &[OpenBar],
+) -> Result<Vec<OpenBar>, AllocError>
+    ensures value { IfOk result (λ apart. apart.items ≡ spec.bars_apart bars.now others.now) }
+{
+    let mut apart = Vec::new(alloc);
+    for bar in bars {
+        if !has_depth(others, bar.depth) {
+            apart.push(*bar)?;
+        }
+    }
+    Ok(apart)
+}
+
+/// Whether one of some bars has this depth.
+fn has_depth(bars: &[OpenBar], depth: usize) -> bool
+    ensures value { result ≡ spec.has_depth bars.now depth }
+{
+    bars.iter().any(|bar| bar.depth == depth)
+}
+
+/// Draws a part of some bars in each row from this one on. Those that stand side by side in one role are drawn as one text.
+///
+/// ```text
+///     2 | | |  y             the bar of depth 1, and that of depth 2
+///       | | |  ^
+/// ```
+///
+/// # Errors
+///
+/// There is no memory for the cells.
+pub(crate) fn draw_bars(
+    alloc: Global,
+    buffer: &mut StyledBuffer,
+    layout: Layout,
+    row: usize,
+    bars: &[OpenBar],
+    stroke: BarStroke,
+) -> Result<(), AllocError>
+    requires narrow { layout.code < 2 ^ 63 + 2 ^ 32 }
+    requires room { All (HasRoom layout) bars.now }
+    ensures draws { OnOk result (DrawsBars layout row buffer.old buffer.new) }
+{
+    let mut from = 0;
+    while from < bars.len() {
+        let to = side_end(bars, from);
+        draw_side(alloc, buffer, layout, row, bars[from], to - from, stroke)?;
+        from = to;
+    }
+    Ok(())
+}
+
+/// Whether a bar stands beside another, right of it, and is drawn in its role.
+fn is_next(bar: OpenBar, next: OpenBar) -> bool
+    requires depth { bar.depth + 1 < 2 ^ 64 }
+    ensures yes { result ≡ true → StandsBeside bar 1 next }
+{
+    next.depth == bar.depth + 1 && next.primary == bar.primary
+}
+
+/// Where the bars end that stand side by side, from this one on, in one role.
+fn side_end(bars: &[OpenBar], from: usize) -> usize
+    requires some { from < length bars.now }
+    requires depths { All (λ bar. bar.depth + 1 < 2 ^ 64) bars.now }
+    ensures more { from < result }
+    ensures within { result ≤ length bars.now }
+    ensures beside { (k : ℕ) (d : OpenBar) → from ≤ k → k < result
+        → StandsBeside (slice_index_or bars.now from d) (k - from) (slice_index_or bars.now k d) }
+{
+    let mut to = from + 1;
+    while to < bars.len() && is_next(bars[to - 1], bars[to]) {
+        to += 1;
+    }
+    to
+}
+
+/// Draws a part of so many bars that stand side by side, in one role, in each row from this one on.
+fn draw_side(
+    alloc: Global,
+    buffer: &mut StyledBuffer,
+    layout: Layout,
+    row: usize,
+    first: OpenBar,
+    count: usize,
+    stroke: BarStroke,
+) -> Result<(), AllocError>
+    requires narrow { layout.code < 2 ^ 63 + 2 ^ 32 }
+    requires left { 0 < first.depth }
+    requires room { layout.gutter + 2 + first.depth + count < layout.code }
+    requires some { 0 < count }
+    ensures draws { OnOk result (DrawsBars layout row buffer.old buffer.new) }
+{
+    let glyph = stroke.glyph(layout.decor, first.primary);
+    let role = layout.decor.underline(first.primary).style;
+    let part = repeated(alloc, glyph, count)?;
+    for r in row..buffer.num_lines() {
+        buffer.puts(r, layout.gutter + 2 + first.depth, part.as_str(), role)?;
+    }
+    Ok(())
+}
