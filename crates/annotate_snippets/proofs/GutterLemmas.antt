@@ -37,13 +37,11 @@ use Rattle.annotate_snippets.specs.declared.renderer.frame.Frame.{Frame}
 use Rattle.snippet_model.specs.declared.snippet.Element.TheVariants.{Cause}
 use Rattle.annotate_snippets.proofs.ListLemmas.{from_any}
 use Rattle.annotate_snippets.proofs.PartsFacts.{shown_within}
+use Rattle.snippet_splice.proofs.RangeLemmas.{feeds-append}
 
 -- how many line feeds some bytes hold
 abbrev feeds : List ℕ → ℕ
 feeds bytes = count_by is_lf bytes
-
-feeds-append : (xs ys : List ℕ) → feeds (xs ++ ys) ≡ feeds xs + feeds ys
-feeds-append xs ys = sum_by-append (λ b. cond (is_lf b) 1 0) xs ys
 
 -- a line that isn't the last holds one
 feeds-line : (text : List ℕ) (ending : EndLine) → ending ≢ Eof → 1 ≤ feeds (line_bytes (text, ending))

@@ -35,16 +35,12 @@ use Rattle.annotate_snippets.specs.declared.renderer.element_context.GroupPositi
 use Rattle.annotate_snippets.specs.declared.renderer.element_context.Next.{Next}
 use Rattle.annotate_snippets.specs.declared.renderer.element_context.ElementContext.{ElementContext}
 use Rattle.annotate_snippets.proofs.ElementShown.{ElementShown}
-
--- rows that show no line keep their cells
-pub others-cells : (rows : List (List Cell)) → cells_of (others rows) ≡ rows
-others-cells [] = refl
-others-cells (row ∷ rows) = ap (λ rs. row ∷ rs) (others-cells rows)
+use Rattle.annotate_snippets.proofs.PageLemmas.{cells_of-others}
 
 -- what holds of rows holds of them with names
 pub others-each : (P : List Cell → Type 0) (rows : List (List Cell)) → All P rows → All (λ (row : NamedRow). P row.cells) (others rows)
 others-each P rows each =
-    All-unmapped P (λ (row : NamedRow). row.cells) (others rows) (subst (All P) (sym (others-cells rows)) each)
+    All-unmapped P (λ (row : NamedRow). row.cells) (others rows) (subst (All P) (sym (cells_of-others rows)) each)
 
 -- the rows of a heading show it
 heading_shown : (hyperlink : Bool) (place : TitleStyle) (heading : Heading) → ShowsHeading hyperlink place heading (heading_rows hyperlink place heading)
@@ -63,10 +59,10 @@ message_shown r frame around message rows are =
     let shows : ShowsHeading r.hyperlink (message_style r frame around) heading rows = subst (ShowsHeading r.hyperlink (message_style r frame around) heading) (sym are) (heading_shown r.hyperlink (message_style r frame around) heading) in
     record {
       part = others rows;
-      cells = others-cells rows;
+      cells = cells_of-others rows;
       shows = record {
-        named = ap others (sym (others-cells rows));
-        shows = subst (ShowsHeading r.hyperlink (message_style r frame around) heading) (sym (others-cells rows)) shows;
+        named = ap others (sym (cells_of-others rows));
+        shows = subst (ShowsHeading r.hyperlink (message_style r frame around) heading) (sym (cells_of-others rows)) shows;
       };
       free = others-each (IsFreeButText heading) rows shows.free;
     }
@@ -83,7 +79,7 @@ origin_shown r frame around origin rows are =
     let free : All IsFree (origin_rows r frame around origin) = All-cons IsFree row _ (origin_row-free (origin_layout r frame) (origin_start around) path (place_given origin)) (closing-free r frame (closes_after around)) in
     record {
       part = others rows;
-      cells = others-cells rows;
+      cells = cells_of-others rows;
       shows = record {
         rows_are = ap others are;
         text = ap (λ (rs : List (List Cell)). row_text (drop (frame.gutter + 4) (row_at (cells_of (others rs)) 0))) are ∙ origin_row-text (origin_layout r frame) (origin_start around) path (place_given origin);
@@ -98,7 +94,7 @@ padding_shown r frame around padding rows are =
     let free : All IsFree (row ∷ []) = All-cons IsFree row [] (padding_row-free r.decor_style frame.gutter (is_end around.next)) (All-nil IsFree) in
     record {
       part = others rows;
-      cells = others-cells rows;
+      cells = cells_of-others rows;
       shows = ap others are;
       free = others-each IsFree rows (subst (All IsFree) (sym are) free);
     }

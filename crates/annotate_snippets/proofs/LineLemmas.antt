@@ -46,17 +46,11 @@ use Rattle.annotate_snippets.specs.declared.renderer.frame.Frame.{Frame}
 use Rattle.annotate_snippets.specs.Drawn.{layout_in}
 use Rattle.annotate_snippets.specs.Gutter.{line_numbers, number_text, numbered_source}
 use Rattle.annotate_snippets.specs.Shown.{HasStroke, IsRowBelow, ShowsLabels, ShowsMarksOf, ShowsSourceLine, bounds_in, room_of, shown_label, wide_spans}
-use Rattle.annotate_snippets.proofs.LabelLemmas.{labelled_at_end, labels_shown}
+use Rattle.annotate_snippets.proofs.LabelLemmas.{labelled_at_end, labels_shown, head_same, tail_same}
 use Rattle.annotate_snippets.proofs.ListLemmas.{from_any}
 use Rattle.annotate_snippets.proofs.MarkLemmas.{span_of_entry, IsEntryOf, mark_of_entries, unmarked_by_entries, entries_after, unlabelled_entries, lone_entry, some_entry, shifted_mark, shifted_unmarked, shifted_after}
 use Rattle.annotate_snippets.proofs.PartsFacts.{stands_left, untouched, wide_on_line}
 use Rattle.annotate_snippets.proofs.WindowLemmas.{dropped-none}
-
-pub head_same : {X : Type 0} (x y : X) (xs ys : List X) → x ∷ xs ≡ y ∷ ys → x ≡ y
-head_same x y xs ys same = cc
-
-pub tail_same : {X : Type 0} (x y : X) (xs ys : List X) → x ∷ xs ≡ y ∷ ys → xs ≡ ys
-tail_same x y xs ys same = cc
 
 -- between a line's number and its code stand the separator and spaces
 beside_number : (layout : Layout) (shown : List ℕ) (cells row : List Cell) (c : ℕ) → IsSourceRow layout shown cells row → length shown ≤ c → c < layout.code → is_ascii_alphanumeric (get_or row c SPACE).ch ≡ false

@@ -30,7 +30,8 @@ use Rattle.annotate_snippets.specs.Drawn.{layout_in}
 use Rattle.annotate_snippets.specs.Gutter.{line_numbers, numbered_source}
 use Rattle.annotate_snippets.specs.Page.{SourceRow, Elision, NamedRow, lines_named, names_in, names_of_lines, cells_of, cells_below, others, rows_below}
 use Rattle.annotate_snippets.specs.Shown.{AreRowsOf, IsRowBelow, ShowsLabels, ShowsLineAndMarks, ShowsMarksOf, bounds_in, room_of}
-use Rattle.annotate_snippets.proofs.LineLemmas.{head_same, labels_of_line, marks_of_line, marks_there, row_below, source_line, tail_same}
+use Rattle.annotate_snippets.proofs.LineLemmas.{labels_of_line, marks_of_line, marks_there, row_below, source_line}
+use Rattle.annotate_snippets.proofs.LabelLemmas.{head_same, tail_same}
 
 -- rows that aren't named by a line
 pub cells_of-others : (rows : List (List Cell)) → cells_of (others rows) ≡ rows

@@ -41,6 +41,7 @@ use Rattle.annotate_snippets.specs.Gutter.{code_after}
 use Rattle.snippet_lines.specs.Span.{IsSpan}
 use Rattle.snippet_view.specs.Window.{stands_whole}
 use Rattle.annotate_snippets.specs.Page.{IsAscending}
+use Rattle.snippet_view.proofs.RawDepthLemmas.{greatest-bound, places-bound}
 
 -- numbers that ascend do so in the words of a page
 ascending : (ks : List ℕ) → Ascends ks → IsAscending ks
@@ -155,26 +156,6 @@ bounds_of_kept room fold s marks infos spans lines = margin_of_kept room fold s 
 
 -- ---- how deep bars stand
 
-raw_few : (p : LongExtent) (later : List LongExtent) → raw_depth p later ≤ length later + 1
-raw_few p [] = omega arith
-raw_few p (q ∷ later) =
-    elim (cases_Bool (share_line p q)) [
-      | inl shares ↦ omega (arith, raw_few p later, raw_few q later, ap (λ b. cond b (raw_depth q later + 1) 1) shares)
-      | inr apart ↦ omega (arith, raw_few p later, ap (λ b. cond b (raw_depth q later + 1) 1) apart)
-    ]
-
-greatest_few : (ps : List LongExtent) → greatest_raw_depth ps ≤ length ps
-greatest_few [] = omega arith
-greatest_few (p ∷ later) = omega (arith, raw_few p later, greatest_few later)
-
-places_few : (ps : List LongExtent) → length (places_of ps) ≤ length ps
-places_few [] = omega arith
-places_few (p ∷ ps) =
-    elim (cases_Bool (list_any (same_place p) ps)) [
-      | inl again ↦ omega (arith, places_few ps, ap length (cond-true (list_any (same_place p) ps) (places_of ps) (p ∷ places_of ps) again))
-      | inr once ↦ omega (arith, places_few ps, ap length (cond-false (list_any (same_place p) ps) (places_of ps) (p ∷ places_of ps) once))
-    ]
-
 length-put_in : {X : Type 0} (before : X → X → Bool) (x : X) (ys : List X) → length (put_in before x ys) ≡ length ys + 1
 length-put_in before x [] = omega arith
 length-put_in before x (y ∷ ys) =
@@ -191,4 +172,4 @@ length-in_order before (x ∷ xs) = omega (arith, length-in_order before xs, len
 pub deepest_few : (s : Source) (marks : List Annotation) → deepest s marks ≤ length marks
 deepest_few s marks =
     let spans = map (long_entry s) (filter (is_long s.text) marks) in
-    omega (arith, greatest_few (places_of (long_places s marks)), places_few (long_places s marks), length-map (long_spans s marks) long_place, length-in_order stands_before spans, length-map (filter (is_long s.text) marks) (long_entry s), length-filter (is_long s.text) marks, count_by-le-length (is_long s.text) marks)
+    omega (arith, greatest-bound (places_of (long_places s marks)), places-bound (long_places s marks), length-map (long_spans s marks) long_place, length-in_order stands_before spans, length-map (filter (is_long s.text) marks) (long_entry s), length-filter (is_long s.text) marks, count_by-le-length (is_long s.text) marks)

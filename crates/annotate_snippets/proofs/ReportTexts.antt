@@ -37,7 +37,7 @@ free_rest g gs text free =
     free_more (trusted_texts gs) (trusted_texts (g ∷ gs)) text (λ c among. subst (λ cs. Contains cs c) (sym (flat_map-append chars (trusted_of g) (trusted_texts gs))) (Contains-append_right (flat_map chars (trusted_of g)) (flat_map chars (trusted_texts gs)) c among)) free
 
 -- without links nothing links
-no_links : (id : Option Id) → id_links false id ≡ []
+pub no_links : (id : Option Id) → id_links false id ≡ []
 no_links None = refl
 no_links (Some id) = of_text (flat_map (λ t. norm (chars (cow_str_bytes t))) (option_to_list id.id))
   where

@@ -29,6 +29,7 @@ use Rattle.annotate_snippets.specs.Prepared.{IsElementDrawable, IsGroupDrawable}
 use Rattle.annotate_snippets.specs.declared.renderer.Renderer.{Renderer}
 use Rattle.annotate_snippets.proofs.GutterLemmas.{counted-small}
 use Rattle.annotate_snippets.proofs.WidestLemmas.{greater}
+use Rattle.snippet_suggest.proofs.GutterFits.{folded_small}
 
 -- ---- the greatest of what some elements want
 
@@ -73,12 +74,6 @@ all_elements P (g ∷ gs) all =
 
 -- ---- the numbers that are counted have at most 20 digits
 
-folded-small : (kind : DisplaySuggestion) (first removed last : ℕ) → first < 2 ^ 64 → removed < 2 ^ 64 → last < 2 ^ 64 → counted_folded kind first removed last < 2 ^ 64
-folded-small Underline first removed last a b c = a
-folded-small Diff first removed last a b c = b
-folded-small Plain first removed last a b c = c
-folded-small Add first removed last a b c = c
-
 -- the number that a suggestion counts fits
 counted-suggested : (s : Snippet Patch) → IsSuggestible s → counted_line s < 2 ^ 64
 counted-suggested s can =
@@ -88,7 +83,7 @@ counted-suggested s can =
     let last : ℕ = first + newline_count (given_text s) in
     let small : last < 2 ^ 64 = last-fits s can in
     let there : removed < 2 ^ 64 = omega (arith, can.lines, line_of-within source (first_end (trimmed_of s))) in
-    cond_both s.fold (counted_folded (shown_kind s) first removed last) last (λ n. n < 2 ^ 64) (λ _. folded-small (shown_kind s) first removed last (omega (arith, small)) there small) (λ _. small)
+    cond_both s.fold (counted_folded (shown_kind s) first removed last) last (λ n. n < 2 ^ 64) (λ _. folded_small (shown_kind s) first removed last (omega (arith, small)) there small) (λ _. small)
 
 digits : (number : ℕ) → number < 2 ^ 64 → length (decimal number) ≤ 20
 digits number small = length-decimal-le 20 number (omega arith) (omega (arith, small)) small

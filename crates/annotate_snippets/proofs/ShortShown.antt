@@ -42,7 +42,7 @@ use Rattle.snippet_titles.specs.declared.style.TitleStyle.TheVariants as style
 use Rattle.snippet_titles.specs.declared.origin.OriginLocation.{OriginLocation}
 use Rattle.snippet_titles.proofs.DigitLemmas.{IsDigit}
 use Rattle.snippet_titles.proofs.OriginText.{place_text-each}
-use Rattle.snippet_titles.proofs.OriginFree.{each-fails}
+use Rattle.snippet_titles.proofs.OriginFree.{each-fails, digit-unlisted}
 use Rattle.annotate_snippets.specs.Around.{path_bytes}
 use Rattle.annotate_snippets.specs.Drawn.{IsShortPage}
 use Rattle.annotate_snippets.specs.Forms.{BeginsWithPlace, ShortShown, ShowsShort, short_links}
@@ -58,14 +58,10 @@ use Rattle.annotate_snippets.proofs.CauseShown.{place_known}
 use Rattle.annotate_snippets.proofs.PrintLemmas.{AllZip-weaker}
 use Rattle.annotate_snippets.proofs.ShortLemmas.{first_cause-drawable}
 use Rattle.annotate_snippets.proofs.TrustedLemmas.{IsFreeRow, free_text, own_row}
+use Rattle.annotate_snippets.proofs.ReportTexts.{no_links}
+use Rattle.snippet_titles.proofs.FreeLemmas.{IsUnlisted, norm-free}
 
 -- ---- no character before the title or after it is listed
-
-abbrev IsUnlisted : ℕ → Type 0
-IsUnlisted c = is_listed c ≡ false
-
-norm-free : (cs : List ℕ) → All IsUnlisted (norm cs)
-norm-free cs = each-fails is_listed (norm cs) (list_any-norm cs)
 
 -- what leads to a label, or stands after a path
 sep-free : (c : ℕ) → is_listed c ≡ false → All IsUnlisted (c ∷ 32 ∷ [])
@@ -100,13 +96,10 @@ after-free : (cause : Option (Snippet Annotation)) → All IsUnlisted (labels_of
 after-free None = All-nil IsUnlisted
 after-free (Some s) = joined-free (primary_labels s.markers.items) (primary-free s.markers.items)
 
-digit-free : (c : ℕ) → IsDigit c → is_listed c ≡ false
-digit-free c is = grind (arith, nat_tests)
-
 origin-free : (anonymized : Bool) (path : List ℕ) (place : OriginLocation) → All IsUnlisted (origin_text anonymized path place)
 unfolding origin_text
 origin-free anonymized path place =
-    All-append IsUnlisted (norm (chars path)) (place_text anonymized place) (norm-free (chars path)) (place_text-each IsUnlisted digit-free refl refl anonymized place)
+    All-append IsUnlisted (norm (chars path)) (place_text anonymized place) (norm-free (chars path)) (place_text-each IsUnlisted digit-unlisted refl refl anonymized place)
 
 path-free : (r : Renderer) (s : Snippet Annotation) (path : Option (List ℕ)) → All IsUnlisted (place_of_path r s path)
 path-free r s None = All-nil IsUnlisted
@@ -127,14 +120,6 @@ first-text before label further after (line ∷ lines) some =
 
 -- ---- what a title links to
 
-unlinked : (id : Option Id) → id_links false id ≡ []
-unlinked None = refl
-unlinked (Some id) = of_text (flat_map (λ t. norm (chars (cow_str_bytes t))) (option_to_list id.id))
-  where
-    of_text : (shown : List ℕ) → text_links None shown ≡ []
-    of_text [] = refl
-    of_text (c ∷ cs) = refl
-
 first-links : (r : Renderer) (groups : List Group) (g : Group) (title : Title) → slice_get groups 0 ≡ Some g → g.title ≡ Some title → id_links r.hyperlink title.id ≡ short_links r groups
 first-links r [] g title first titled = cc
 first-links r (h ∷ groups) g title first titled = by r.hyperlink refl
@@ -147,7 +132,7 @@ first-links r (h ∷ groups) g title first titled = by r.hyperlink refl
 
     by : (hyperlink : Bool) → r.hyperlink ≡ hyperlink → id_links r.hyperlink title.id ≡ short_links r (h ∷ groups)
     by true is = rw (is, own) (sym (append-nil (id_links true title.id ++ []) ∙ append-nil (id_links true title.id)))
-    by false is = rw is (unlinked title.id)
+    by false is = rw is (no_links title.id)
 
 -- a trusted title's text is one of the report's trusted texts
 title-trusted : (groups : List Group) (g : Group) (title : Title) → slice_get groups 0 ≡ Some g → g.title ≡ Some title → title.allows_styling ≡ true → (c : ℕ) → Contains (chars (cow_str_bytes title.text)) c → Contains (flat_map chars (trusted_texts groups)) c

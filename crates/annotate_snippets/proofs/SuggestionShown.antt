@@ -28,7 +28,7 @@ use Rattle.annotate_snippets.specs.declared.renderer.Renderer.{Renderer}
 use Rattle.annotate_snippets.specs.declared.renderer.frame.Frame.{Frame}
 use Rattle.annotate_snippets.specs.declared.renderer.element_context.ElementContext.{ElementContext}
 use Rattle.annotate_snippets.proofs.ElementShown.{ElementShown}
-use Rattle.annotate_snippets.proofs.HeadingShown.{others-cells}
+use Rattle.annotate_snippets.proofs.PageLemmas.{cells_of-others}
 use Rattle.annotate_snippets.proofs.SuggestionLemmas.{cells_of-named, lines_free, lines_offered-named, lines_removed-named, named_rows, rising_ascends, rows_named, source_text}
 
 -- the row of its path holds no listed character and no link
@@ -53,7 +53,7 @@ suggestion_shown r frame around s rows suggestible some room drawn =
     let same : map (λ k. first_given s + k) (numbers_offered own.shown) ≡ offered_lines s = ap (map (λ k. first_given s + k)) own.numbers in
     let lines : lines_offered after ≡ offered_lines s = lines_offered-named IsShown (first_given s) own.shown removed drawn.lines own.are ∙ same in
     let end : ℕ = first_given s + length (given_lines s) in
-    let cells : cells_of (others head ++ after) ≡ rows = map-append (λ (row : NamedRow). row.cells) (others head) after ∙ ap (λ rs. rs ++ cells_of after) (others-cells head) ∙ ap (λ rs. head ++ rs) (cells_of-named IsShown (first_given s) own.shown removed drawn.lines own.are) ∙ sym drawn.rows_are in
+    let cells : cells_of (others head ++ after) ≡ rows = map-append (λ (row : NamedRow). row.cells) (others head) after ∙ ap (λ rs. rs ++ cells_of after) (cells_of-others head) ∙ ap (λ rs. head ++ rs) (cells_of-named IsShown (first_given s) own.shown removed drawn.lines own.are) ∙ sym drawn.rows_are in
     let free : All IsFree rows = subst (All IsFree) (sym drawn.rows_are) (All-append IsFree head drawn.lines (suggestion_head-free r frame around.start around.first s) (lines_free r frame s own.shown drawn.lines own.are)) in
     let shows : ShowsSuggestion r frame around s (others head ++ after) = record {
       after = after;

@@ -22,6 +22,7 @@ use Rattle.snippet_strokes.specs.Bars.{BarsDrawn, DrawsBars, StandsBeside, bar_g
 use Rattle.snippet_strokes.specs.declared.bars.OpenBar.{OpenBar}
 use Rattle.snippet_strokes.proofs.LabelPlaces.{LabelsStand-kept}
 use Rattle.snippet_strokes.specs.Rows.{AddsStrokes, AreStrokes, IsBeside, IsStrokeRow, ShowsMarks}
+use Rattle.snippet_strokes.proofs.DrawLemmas.{written_cell}
 
 -- each part of a bar is one of the glyphs that bars are drawn with, and not listed
 pub bar_glyph_known : (stroke : BarStroke) (decor : DecorStyle) (primary : Bool) → list_any (λ g. bar_glyph stroke decor primary == g) (bar_glyphs decor) ≡ true
@@ -126,22 +127,6 @@ beside_next bars from to k d e ordered same within done next =
       primary = ap (λ n. (get_or bars n d).primary) same ∙ more.primary ∙ done.primary;
     }
 
--- a fact of a cell of the row that cells were written into
-some_written : (P : Cell → Type 0) (old new : List (List Cell)) (row at c : ℕ) (cells : List Cell) → WritesCells old new row at cells → All P cells → P (cell_at old row c) → P (cell_at new row c)
-some_written P old new row at c cells writes all there =
-    elim (cases_lt c at) [
-      | inl before ↦ subst P (sym (writes.before c before)) there
-      | inr later ↦
-          elim (cases_lt c (at + length cells)) [
-            | inl inside ↦
-                let k : ℕ = c - at in
-                let same : at + k ≡ c = omega (arith, later) in
-                let within : k < length cells = omega (arith, inside, later) in
-                subst (λ n. P (cell_at new row n)) same (subst P (sym (writes.inside k within)) (All-get_or P cells k SPACE within all))
-            | inr after ↦ subst P (sym (writes.after c (omega (arith, after)))) there
-          ]
-    ]
-
 -- parts of bars are written into a row
 BarsDrawn-write : (layout : Layout) (old new : List (List Cell)) (row at : ℕ) (cells : List Cell) → WritesCells old new row at cells → layout.gutter + 3 ≤ at → at + length cells ≤ layout.code → All (IsBarCell layout.decor) cells → All IsFreeCell cells → BarsDrawn layout (row_at old row) (row_at new row)
 BarsDrawn-write layout old new row at cells writes right near bar_cell clean =
@@ -152,11 +137,11 @@ BarsDrawn-write layout old new row at cells writes right near bar_cell clean =
     let Q : Cell → Type 0 = IsBarCell layout.decor in
     record {
       left = λ c left. writes.before c (omega (arith, left, right));
-      bar_cells = λ c is. some_written Q old new row at c cells writes bar_cell is;
+      bar_cells = λ c is. written_cell Q old new row at c cells writes bar_cell is;
       code = ext_get_or SPACE (drop layout.code later) (drop layout.code before) (omega (arith, length-drop layout.code later, length-drop layout.code before, long, near)) (λ k within. get_or-drop layout.code later k SPACE ∙ writes.after (layout.code + k) (omega (arith, near)) ∙ sym (get_or-drop layout.code before k SPACE));
       longer = omega (arith, long);
       short = omega (arith, long, near);
-      free = λ free. All-from_get_or P later SPACE (λ c within. some_written P old new row at c cells writes clean (elim (cases_lt c (length before)) [
+      free = λ free. All-from_get_or P later SPACE (λ c within. written_cell P old new row at c cells writes clean (elim (cases_lt c (length before)) [
         | inl inside ↦ All-get_or P before c SPACE inside free
         | inr past ↦ subst P (sym (get_or_past before c SPACE past)) (refl, refl)
       ]));

@@ -40,7 +40,7 @@ DrawsFrom-more row from old mid new done more =
     }
 
 -- a cell of the written row
-written_cell : (P : Cell → Type 0) (old new : List (List Cell)) (row at c : ℕ) (cells : List Cell) → WritesCells old new row at cells → All P cells → P (cell_at old row c) → P (cell_at new row c)
+pub written_cell : (P : Cell → Type 0) (old new : List (List Cell)) (row at c : ℕ) (cells : List Cell) → WritesCells old new row at cells → All P cells → P (cell_at old row c) → P (cell_at new row c)
 written_cell P old new row at c cells writes all before =
     elim (cases_lt c at) [
       | inl left ↦ subst P (sym (writes.before c left)) before

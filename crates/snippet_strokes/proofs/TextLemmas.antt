@@ -5,7 +5,7 @@ use Rattle.snippet_view.specs.declared.entries.LineAnnotation.{LineAnnotation}
 use Rattle.snippet_view.specs.declared.entries.LineAnnotationType.{LineAnnotationType}
 use Rattle.snippet_view.specs.declared.entries.LineAnnotationType.TheVariants.{Singleline, MultilineStart, MultilineEnd, MultilineLine}
 use Rattle.snippet_strokes.specs.Painting.{foot_of}
-use Rattle.snippet_text.proofs.NormLemmas.{list_any-norm}
+use Rattle.snippet_text.proofs.NormLemmas.{list_any-norm, length-norm}
 use Rattle.snippet_strokes.specs.Entries.{label_chars, label_text, shifted}
 use Rattle.std.specs.List.{flat_map, list_any}
 use Rattle.std.specs.Str.{chars, chars_after, continuation_len, lead_bits}
@@ -17,29 +17,7 @@ use Rattle.snippet_style.specs.Glyphs.{glyph_of}
 use Rattle.snippet_style.specs.declared.glyphs.DecorStyle.{DecorStyle}
 use Rattle.snippet_style.specs.declared.glyphs.DecorStyle.TheVariants.{Ascii, Unicode}
 use Rattle.snippet_text.specs.Normalized.{is_listed, norm, shown}
-
--- no more than four characters are shown for one
-length-shown : (c : ℕ) → length (shown c) ≤ 4
-length-shown c = grind (arith, nat_tests)
-
-length-norm : (cs : List ℕ) → length (norm cs) ≤ 4 * length cs
-unfolding norm
-length-norm [] = omega arith
-length-norm (c ∷ cs) =
-    let rest : length (flat_map shown cs) ≤ 4 * length cs = length-norm cs in
-    omega (arith, length-shown c, length-append (shown c) (flat_map shown cs))
-
--- a text has no more characters than bytes
-length-chars_after : (n c : ℕ) (bytes : List ℕ) → length (chars_after n c bytes) ≤ length bytes + 1
-length-chars_after zero c [] = omega arith
-length-chars_after zero c (b ∷ bytes) = omega (arith, length-chars_after (continuation_len b) (lead_bits b) bytes)
-length-chars_after (suc n) c [] = omega arith
-length-chars_after (suc n) c (b ∷ bytes) = omega (arith, length-chars_after n (c * 64 + (b - 128)) bytes)
-
-length-chars : (bytes : List ℕ) → length (chars bytes) ≤ length bytes
-unfolding chars
-length-chars [] = omega arith
-length-chars (b ∷ bytes) = omega (arith, length-chars_after (continuation_len b) (lead_bits b) bytes)
+use Rattle.snippet_text.proofs.WidthBounds.{length-chars}
 
 -- a text that fits is short once it is normalised
 pub norm_short : (bytes : List ℕ) → length bytes < 2 ^ 56 → length (norm (chars bytes)) < 2 ^ 60

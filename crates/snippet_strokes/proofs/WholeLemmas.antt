@@ -12,13 +12,11 @@ use Rattle.snippet_style.specs.Glyphs.{placeholder_of}
 use Rattle.snippet_style.specs.Cell.{Cell, text_cells}
 use Rattle.snippet_text.specs.Width.{char_width, width_of}
 use Rattle.snippet_strokes.specs.Rows.{shown_cells, window_cells}
+use Rattle.snippet_view.proofs.LineWindowLemmas.{width-cons}
 
 reaching-none : (text : List ℕ) → reaching 0 text ≡ 0
 reaching-none [] = refl
 reaching-none (c ∷ cs) = refl
-
-width-cons : (c : ℕ) (cs : List ℕ) → width_of (c ∷ cs) ≡ char_width c + width_of cs
-width-cons c cs = sum_by-cons char_width c cs
 
 -- a text fits in as many columns as it has
 fitting-all : (columns : ℕ) (text : List ℕ) → width_of text ≤ columns → fitting columns text ≡ length text

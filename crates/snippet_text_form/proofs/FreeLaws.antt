@@ -29,7 +29,7 @@ use Rattle.snippet_titles.specs.Heading.{address_of, shown_text, heading_lines, 
 use Rattle.snippet_titles.specs.Origin.{column_text, line_name}
 use Rattle.snippet_titles.specs.declared.style.HeadingRoles.{HeadingRoles}
 use Rattle.snippet_titles.proofs.DigitLemmas.{IsDigit, decimal-all}
-use Rattle.snippet_titles.proofs.FreeLemmas.{IsFree, IsOwn, norm-free, own_text, own_unlisted, All-slice_split}
+use Rattle.snippet_titles.proofs.FreeLemmas.{IsUnlisted, IsOwn, norm-free, own_text, own_unlisted, All-slice_split}
 use Rattle.snippet_titles.proofs.OriginFree.{each-fails}
 use Rattle.snippet_text_form.specs.Cause.{after_place, cause_form, column_unless, end_in_file, end_on_line, has_label, is_blank_before, is_blank_after, label_chars, label_of, named_spans, further_indent, source_of, span_form, span_place, span_text, spans_form}
 use Rattle.snippet_text_form.specs.Form.{FormPiece, Break, Styled, bare, begun_after, plain_from, styled}
@@ -74,28 +74,28 @@ module _ (P : ℕ → Type 0) (feed : P 10) where
 
 -- these texts hold no listed character: one that is known, a number, the name of a line, a column
 abbrev pub AreFree : List ℕ → Type 0
-AreFree text = All IsFree text
+AreFree text = All IsUnlisted text
 
 free-append : (xs ys : List ℕ) → AreFree xs → AreFree ys → AreFree (xs ++ ys)
-free-append xs ys first second = All-append IsFree xs ys first second
+free-append xs ys first second = All-append IsUnlisted xs ys first second
 
-digit-free : (c : ℕ) → IsDigit c → IsFree c
+digit-free : (c : ℕ) → IsDigit c → IsUnlisted c
 digit-free c is = grind (arith, nat_tests)
 
 decimal-free : (n : ℕ) → AreFree (decimal n)
-decimal-free n = All-weaker IsDigit IsFree digit-free (decimal n) (decimal-all n)
+decimal-free n = All-weaker IsDigit IsUnlisted digit-free (decimal n) (decimal-all n)
 
 line_name-free : (anonymized : Bool) (line : ℕ) → AreFree (line_name anonymized line)
 line_name-free true line = each-fails is_listed (codes "LL") refl
 line_name-free false line = decimal-free line
 
 column_text-free : (column : Option ℕ) → AreFree (column_text column)
-column_text-free None = All-nil IsFree
+column_text-free None = All-nil IsUnlisted
 column_text-free (Some column) =
     free-append (codes ":") (decimal column) (each-fails is_listed (codes ":") refl) (decimal-free column)
 
 column_words-free : (column : Option ℕ) → AreFree (column_words column)
-column_words-free None = All-nil IsFree
+column_words-free None = All-nil IsUnlisted
 column_words-free (Some column) =
     free-append (codes ", column ") (decimal column) (each-fails is_listed (codes ", column ") refl) (decimal-free column)
 
@@ -129,7 +129,7 @@ end_in_file-free anonymized start end = of_lines (start.line == end.line)
         free-append (codes " to " ++ line_name anonymized end.line ++ codes ":") (decimal (end.char + 1)) (free-append (codes " to " ++ line_name anonymized end.line) (codes ":") (free-append (codes " to ") (line_name anonymized end.line) (each-fails is_listed (codes " to ") refl) (line_name-free anonymized end.line)) (each-fails is_listed (codes ":") refl)) (decimal-free (end.char + 1))
 
     of_lines : (same : Bool) → AreFree (if same then [] else text)
-    of_lines true = All-nil IsFree
+    of_lines true = All-nil IsUnlisted
     of_lines false = text-free
 
 end_on_line-free : (anonymized : Bool) (source : Source) (start end : Loc) → AreFree (end_on_line anonymized source start end)
@@ -146,7 +146,7 @@ end_on_line-free anonymized source start end = of_lines (start.line == end.line)
         free-append (codes " to line " ++ line_name anonymized end.line) (column_words column) (free-append (codes " to line ") (line_name anonymized end.line) (each-fails is_listed (codes " to line ") refl) (line_name-free anonymized end.line)) (column_words-free column)
 
     of_lines : (same : Bool) → AreFree (if same then [] else text)
-    of_lines true = All-nil IsFree
+    of_lines true = All-nil IsUnlisted
     of_lines false = text-free
 
 span_place-free : (anonymized : Bool) (source : Source) (path : Option (List ℕ)) (start end : Loc) → AreFree (span_place anonymized source path start end)
@@ -158,7 +158,7 @@ span_place-free anonymized source (Some path) start end =
 
 -- nor does a label, nor an annotation's line
 label_chars-free : (label : Option (List ℕ)) → AreFree (label_chars label)
-label_chars-free None = All-nil IsFree
+label_chars-free None = All-nil IsUnlisted
 label_chars-free (Some text) = norm-free (chars text)
 
 after_place-free : (label : List ℕ) → AreFree label → AreFree (after_place label)
@@ -166,7 +166,7 @@ after_place-free label free = of_shown (nat_lt 0 (length label))
   where
     of_shown : (shows : Bool) → AreFree (if shows then codes ": " ++ label else [])
     of_shown true = free-append (codes ": ") label (each-fails is_listed (codes ": ") refl) free
-    of_shown false = All-nil IsFree
+    of_shown false = All-nil IsUnlisted
 
 span_text-free : (anonymized : Bool) (source : Source) (indent : List ℕ) (path : Option (List ℕ)) (a : Annotation) → AreFree indent → AreFree (span_text anonymized source indent path a)
 span_text-free anonymized source indent path a free =
@@ -180,10 +180,10 @@ further_indent-free (Some path) = each-fails is_listed (codes "  ") refl
 
 -- text without codes after a break, which holds none
 abbrev FormIsFree : List FormPiece → Type 0
-FormIsFree form = EachPlain IsFree form
+FormIsFree form = EachPlain IsUnlisted form
 
 line-free : (text : List ℕ) → AreFree text → FormIsFree (Break ∷ bare text)
-line-free text free = each-break IsFree refl (bare text) (each-bare IsFree refl text free)
+line-free text free = each-break IsUnlisted refl (bare text) (each-bare IsUnlisted refl text free)
 
 spans-free : (anonymized : Bool) (source : Source) (path : Option (List ℕ)) (marks : List Annotation) → FormIsFree (spans_form anonymized source path marks)
 spans-free anonymized source path [] =
@@ -193,7 +193,7 @@ spans-free anonymized source path (a ∷ marks) =
     let indent : List ℕ = further_indent path in
     let further : Annotation → List FormPiece = span_form anonymized source indent None in
     let one : FormIsFree (span_form anonymized source (codes " ") path a) = line-free (span_text anonymized source (codes " ") path a) (span_text-free anonymized source (codes " ") path a (each-fails is_listed (codes " ") refl)) in
-    each-append IsFree refl (span_form anonymized source (codes " ") path a) (flat_map further (filter has_label marks)) one (each-flat_map IsFree refl further (λ b. line-free (span_text anonymized source indent None b) (span_text-free anonymized source indent None b (further_indent-free path))) (filter has_label marks))
+    each-append IsUnlisted refl (span_form anonymized source (codes " ") path a) (flat_map further (filter has_label marks)) one (each-flat_map IsUnlisted refl further (λ b. line-free (span_text anonymized source indent None b) (span_text-free anonymized source indent None b (further_indent-free path))) (filter has_label marks))
 
 -- a cause holds none
 pub cause-free : (begun anonymized : Bool) (s : Snippet Annotation) → All (λ c. is_listed c ≡ false) (plain_from begun (cause_form anonymized s))
@@ -249,20 +249,20 @@ added-free source e = of_blank (is_blank e.text)
     text = norm (chars (without_final_line_feeds e.text))
 
     of_blank : (blank : Bool) → FormIsFree (if blank then [] else bare sign ++ styled Addition text)
-    of_blank true = each-nil IsFree refl
+    of_blank true = each-nil IsUnlisted refl
     of_blank false =
-        each-append IsFree refl (bare sign) (styled Addition text) (each-bare IsFree refl sign (sign-free (overwrites source e))) (each-styled IsFree refl Addition None text (norm-free (chars (without_final_line_feeds e.text))))
+        each-append IsUnlisted refl (bare sign) (styled Addition text) (each-bare IsUnlisted refl sign (sign-free (overwrites source e))) (each-styled IsUnlisted refl Addition None text (norm-free (chars (without_final_line_feeds e.text))))
 
 edit-free : (anonymized : Bool) (source : Source) (indent : List ℕ) (path : Option (List ℕ)) → AreFree indent → (e : Edit) → FormIsFree (edit_form anonymized source indent path e)
 edit-free anonymized source indent path free e =
     let at = locations_of source e.start e.end in
     let place : List ℕ = edit_place anonymized source path e at.0 at.1 in
     let front : List ℕ = indent ++ place in
-    let line : FormIsFree (bare front) = each-bare IsFree refl front (free-append indent place free (edit_place-free anonymized source path e at.0 at.1)) in
-    each-break IsFree refl (bare front ++ added_form source.text e) (each-append IsFree refl (bare front) (added_form source.text e) line (added-free source.text e))
+    let line : FormIsFree (bare front) = each-bare IsUnlisted refl front (free-append indent place free (edit_place-free anonymized source path e at.0 at.1)) in
+    each-break IsUnlisted refl (bare front ++ added_form source.text e) (each-append IsUnlisted refl (bare front) (added_form source.text e) line (added-free source.text e))
 
 option-free : (option : Option ℕ) → FormIsFree (option_form option)
-option-free None = each-nil IsFree refl
+option-free None = each-nil IsUnlisted refl
 option-free (Some number) =
     line-free (codes " option " ++ decimal number) (free-append (codes " option ") (decimal number) (each-fails is_listed (codes " option ") refl) (decimal-free number))
 
@@ -277,7 +277,7 @@ suggestion-free begun anonymized at s =
     let source : Source = given.source_of s in
     let path : Option (List ℕ) = named_path at.names_path (option_map cow_str_bytes s.path) in
     let edits : Edit → List FormPiece = edit_form anonymized source (edit_indent at.option) path in
-    each-append IsFree refl (option_form at.option) (flat_map edits (given.trimmed_of s)) (option-free at.option) (each-flat_map IsFree refl edits (edit-free anonymized source (edit_indent at.option) path (edit_indent-free at.option)) (given.trimmed_of s)) begun
+    each-append IsUnlisted refl (option_form at.option) (flat_map edits (given.trimmed_of s)) (option-free at.option) (each-flat_map IsUnlisted refl edits (edit-free anonymized source (edit_indent at.option) path (edit_indent-free at.option)) (given.trimmed_of s)) begun
 
 pub origin-free : (begun anonymized : Bool) (o : Origin) → All (λ c. is_listed c ≡ false) (plain_from begun (origin_form anonymized o))
 unfolding origin_form
@@ -287,20 +287,20 @@ origin-free begun anonymized o =
 
 -- what holds of each character that isn't listed, and of each of a heading's text, holds of all of the heading
 before_name-free : (kind : HeadingKind) → AreFree (before_name kind)
-before_name-free Title = All-nil IsFree
+before_name-free Title = All-nil IsUnlisted
 before_name-free Message = each-fails is_listed (codes " ") refl
 
 before_id-free : (hidden : Bool) → AreFree (before_id hidden)
-before_id-free true = All-nil IsFree
+before_id-free true = All-nil IsUnlisted
 before_id-free false = each-fails is_listed (codes " ") refl
 
-module _ (P : ℕ → Type 0) (free : (c : ℕ) → IsFree c → P c) where
+module _ (P : ℕ → Type 0) (free : (c : ℕ) → IsUnlisted c → P c) where
   bare-all : (text : List ℕ) → AreFree text → EachPlain P (bare text)
-  bare-all text all = each-bare P (free 10 refl) text (All-weaker IsFree P free text all)
+  bare-all text all = each-bare P (free 10 refl) text (All-weaker IsUnlisted P free text all)
 
   styled-all : (role : ElementStyle) (link : Option (List ℕ)) (text : List ℕ) → AreFree text → EachPlain P (Styled role link text ∷ [])
   styled-all role link text all =
-      each-styled P (free 10 refl) role link text (All-weaker IsFree P free text all)
+      each-styled P (free 10 refl) role link text (All-weaker IsUnlisted P free text all)
 
   name-all : (kind : HeadingKind) (role : ElementStyle) (level : Level) → EachPlain P (name_form kind role level)
   name-all kind role level = of_hidden (is_hidden level.name)

@@ -25,8 +25,8 @@ use Rattle.snippet_titles.specs.Shown.{IsFreeButText}
 use Rattle.snippet_titles.proofs.TextLemmas.{row_text-append, row_text-after, row_text-text_cells, row_text-label, row_text-spaces}
 
 -- a character that isn't listed
-abbrev pub IsFree : ℕ → Type 0
-IsFree c = is_listed c ≡ false
+abbrev pub IsUnlisted : ℕ → Type 0
+IsUnlisted c = is_listed c ≡ false
 
 -- where no element passes a test, each fails it
 fails_each : (p : ℕ → Bool) (xs : List ℕ) → list_any p xs ≡ false → All (λ x. p x ≡ false) xs
@@ -37,7 +37,7 @@ fails_each p (x ∷ xs) none =
     All-cons (λ y. p y ≡ false) x xs first (fails_each p xs later)
 
 -- normalised text holds no listed character
-pub norm-free : (cs : List ℕ) → All IsFree (norm cs)
+pub norm-free : (cs : List ℕ) → All IsUnlisted (norm cs)
 norm-free cs = fails_each is_listed (norm cs) (list_any-norm cs)
 
 module _ (P : ℕ → Type 0) (p : ℕ → Bool) where
@@ -71,10 +71,10 @@ module _ (P : List Cell → Type 0) where
       All-on_top row (trimmed rows) (All-head P row rows all) (All-trimmed rows (All-tail P row rows all))
 
 -- what holds of each character that isn't listed
-module _ (P : ℕ → Type 0) (free : (c : ℕ) → IsFree c → P c) where
+module _ (P : ℕ → Type 0) (free : (c : ℕ) → IsUnlisted c → P c) where
   -- holds of those of an id, of a label, and of what stands left of them
-  pub from_free : (cs : List ℕ) → All IsFree cs → All P cs
-  from_free cs all = All-weaker IsFree P free cs all
+  pub from_free : (cs : List ℕ) → All IsUnlisted cs → All P cs
+  from_free cs all = All-weaker IsUnlisted P free cs all
 
   opening-all : (hidden : Bool) → All P (opening_of hidden)
   opening-all true = All-nil P
@@ -158,18 +158,18 @@ module _ (P : ℕ → Type 0) (free : (c : ℕ) → IsFree c → P c) where
 
 -- a row none of whose cells holds a listed character
 abbrev pub IsFreeText : List Cell → Type 0
-IsFreeText row = All IsFree (row_text row)
+IsFreeText row = All IsUnlisted (row_text row)
 
 -- the rows of a heading whose text isn't trusted hold no listed character
 pub heading_rows-untrusted : (hyperlink : Bool) (style : TitleStyle) (heading : Heading) → heading.allows_styling ≡ false → All IsFreeText (heading_rows hyperlink style heading)
 heading_rows-untrusted hyperlink style heading untrusted =
-    heading_rows-all IsFree (λ c is. is) hyperlink style heading (rw untrusted (norm-free (chars heading.text)))
+    heading_rows-all IsUnlisted (λ c is. is) hyperlink style heading (rw untrusted (norm-free (chars heading.text)))
 
 -- each listed character of a heading's rows stands in its text, and that is trusted
 abbrev pub IsOwn : Heading → ℕ → Type 0
 IsOwn heading c = is_listed c ≡ true → (heading.allows_styling ≡ true) × Contains (chars heading.text) c
 
-pub own_unlisted : (heading : Heading) (c : ℕ) → IsFree c → IsOwn heading c
+pub own_unlisted : (heading : Heading) (c : ℕ) → IsUnlisted c → IsOwn heading c
 own_unlisted heading c unlisted listed = cc
 
 pub own_text : (heading : Heading) (trusted : Bool) → heading.allows_styling ≡ trusted → All (IsOwn heading) (shown_text heading)
@@ -178,7 +178,7 @@ own_text heading true is =
     subst (All (IsOwn heading)) (sym same) (All-from_get_or (IsOwn heading) (chars heading.text) 0 (λ k within listed. (is, (k, within, get_or_default (chars heading.text) k _ 0 within))))
 own_text heading false is =
     let same : shown_text heading ≡ norm (chars heading.text) = rw is refl in
-    subst (All (IsOwn heading)) (sym same) (All-weaker IsFree (IsOwn heading) (own_unlisted heading) (norm (chars heading.text)) (norm-free (chars heading.text)))
+    subst (All (IsOwn heading)) (sym same) (All-weaker IsUnlisted (IsOwn heading) (own_unlisted heading) (norm (chars heading.text)) (norm-free (chars heading.text)))
 
 pub heading_rows-free : (hyperlink : Bool) (style : TitleStyle) (heading : Heading) → All (IsFreeButText heading) (heading_rows hyperlink style heading)
 heading_rows-free hyperlink style heading =

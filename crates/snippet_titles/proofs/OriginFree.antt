@@ -78,7 +78,7 @@ unfolding file_row
 file_row-free layout start =
     after_spaces-free layout.gutter LineNumber (file_glyph start layout.decor) (glyphs-unlisted start layout.decor)
 
-digit-unlisted : (c : ℕ) → IsDigit c → is_listed c ≡ false
+pub digit-unlisted : (c : ℕ) → IsDigit c → is_listed c ≡ false
 digit-unlisted c is = grind (arith, nat_tests)
 
 origin_text-free : (anonymized : Bool) (path : List ℕ) (place : OriginLocation) → All (λ c. is_listed c ≡ false) (origin_text anonymized path place)

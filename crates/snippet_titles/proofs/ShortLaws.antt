@@ -18,7 +18,7 @@ use Rattle.snippet_titles.specs.Short.{short_rows, short_texts, with_end}
 use Rattle.snippet_titles.specs.Shown.{IsFreeButText}
 use Rattle.snippet_titles.specs.Title.{id_links}
 use Rattle.snippet_titles.proofs.EndLemmas.{row_at-trimmed}
-use Rattle.snippet_titles.proofs.FreeLemmas.{All-slice_split, All-trimmed, IsFree, IsOwn, from_free, indent-all, label-all, lines-all, own_text, own_unlisted, row-all}
+use Rattle.snippet_titles.proofs.FreeLemmas.{All-slice_split, All-trimmed, IsUnlisted, IsOwn, from_free, indent-all, label-all, lines-all, own_text, own_unlisted, row-all}
 use Rattle.snippet_titles.proofs.LinkLemmas.{IsUnlinked, drawn_unlinked, indent_unlinked, label-links, lines-links, links-before, links-after, trimmed-links}
 use Rattle.snippet_titles.proofs.TextLemmas.{row_text-append, row_text-after, row_text-text_cells, row_text-label, text_at, texts_of_lines}
 
@@ -65,14 +65,14 @@ short-links hyperlink before after heading =
 
 -- what holds of each character that isn't listed, and of those of the title's text, holds of those of each row, where no
 -- character of the texts before and after is listed
-module _ (P : ℕ → Type 0) (free : (c : ℕ) → IsFree c → P c) where
+module _ (P : ℕ → Type 0) (free : (c : ℕ) → IsUnlisted c → P c) where
   with_end-all : (after : List ℕ) (rows : List (List Cell)) → All P after → All (λ row. All P (row_text row)) rows → All (λ row. All P (row_text row)) (with_end (text_cells NoStyle after) rows)
   with_end-all after [] more all =
       All-cons (λ row. All P (row_text row)) (text_cells NoStyle after) [] (row-all P free [] NoStyle (All-nil P) after more) (All-nil (λ row. All P (row_text row)))
   with_end-all after (row ∷ rows) more all =
       All-cons (λ r. All P (row_text r)) (row ++ text_cells NoStyle after) rows (row-all P free row NoStyle (All-head (λ r. All P (row_text r)) row rows all) after more) (All-tail (λ r. All P (row_text r)) row rows all)
 
-  short_rows-all : (hyperlink : Bool) (before after : List ℕ) (heading : Heading) → All IsFree before → All IsFree after → All P (shown_text heading) → All (λ row. All P (row_text row)) (short_rows hyperlink before after heading)
+  short_rows-all : (hyperlink : Bool) (before after : List ℕ) (heading : Heading) → All IsUnlisted before → All IsUnlisted after → All P (shown_text heading) → All (λ row. All P (row_text row)) (short_rows hyperlink before after heading)
   unfolding short_rows
   short_rows-all hyperlink before after heading front back all =
       let roles : HeadingRoles = roles_of Short heading.level.kind heading.allows_styling in
