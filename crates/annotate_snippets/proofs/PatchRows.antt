@@ -4,7 +4,7 @@ use Rattle.std.specs.Prelude.{OnOk}
 use Rattle.std.specs.declared.alloc.AllocError.{AllocError}
 use Rattle.std.specs.declared.result.Result.{Result}
 use Rattle.std.specs.Fmt.{decimal}
-use Rattle.std.specs.List.{flat_map, list_all, list_any}
+use Rattle.std.specs.List.{AllZip, flat_map, list_all, list_any}
 use Rattle.std.specs.Option.{is_some, option_to_list}
 use Rattle.std.proofs.lemmas.Bool.Decides.{nat_tests}
 use Rattle.std.proofs.lemmas.List.{append-nil}
@@ -25,12 +25,12 @@ use Rattle.snippet_suggest.specs.declared.SuggestionLayout.{SuggestionLayout}
 use Rattle.snippet_suggest.specs.declared.SuggestionStart.{SuggestionStart}
 use Rattle.snippet_suggest.specs.declared.SuggestionStart.TheVariants.{Opening, Next, Path}
 use Rattle.snippet_suggest.specs.Given.{counted_line, first_given, given_lines}
-use Rattle.snippet_suggest.specs.Rows.{AddsSuggestion, Bare, HasGutter, IsBareRow, IsStart, IsTail, Shows, is_stroke, number_offered, text_removed}
-use Rattle.snippet_suggest.proofs.BareLemmas.{bare_led}
+use Rattle.snippet_suggest.specs.Order.{Ends, SuggestionRow, rows_of_suggestion}
+use Rattle.snippet_suggest.specs.Rows.{AddsSuggestion, HasGutter, IsStart, IsStrokeRow, IsTail, Shows, begin_glyph, beside_gutter, is_stroke}
+use Rattle.snippet_suggest.proofs.BareLemmas.{stroke_led}
 use Rattle.snippet_suggest.proofs.DrawnLemmas.{zip_push}
 use Rattle.snippet_style.specs.Separators.{separator_row}
-use Rattle.std.proofs.lemmas.List.Elements.{filter_map-append}
-use Rattle.annotate_snippets.specs.Around.{HasPathFor, begins_in_row_above, is_next_start, path_bytes}
+use Rattle.annotate_snippets.specs.Around.{HasPathFor, begins_in_row_above, is_end, is_next_start, path_bytes}
 use Rattle.annotate_snippets.specs.Drawn.{AddsElement, HasRoomFor, suggestion_layout}
 use Rattle.annotate_snippets.specs.Gutter.{line_numbers}
 use Rattle.annotate_snippets.specs.Rows.{path_head, path_row, separator_rows, suggestion_head, suggestion_head_at}
@@ -39,9 +39,9 @@ use Rattle.annotate_snippets.specs.declared.renderer.frame.Frame.{Frame}
 use Rattle.annotate_snippets.specs.declared.renderer.element_context.ElementContext.{ElementContext}
 
 -- the separator row shows no line
-pub separator_bare : (decor : DecorStyle) (gutter : ℕ) → IsBareRow decor gutter (separator_row decor gutter)
-separator_bare decor gutter =
-    bare_led decor gutter (gutter + 1) LineNumber (separator_of decor ∷ []) (omega arith) (strokes decor) (unlisted decor)
+pub separator_stroke : (decor : DecorStyle) (gutter : ℕ) → IsStrokeRow decor gutter (beside_gutter gutter (begin_glyph decor Path)) (separator_row decor gutter)
+separator_stroke decor gutter =
+    stroke_led decor gutter (gutter + 1) LineNumber (separator_of decor ∷ []) (omega arith) (strokes decor) (unlisted decor)
   where
     strokes : (decor : DecorStyle) → list_all (is_stroke decor) (separator_of decor ∷ []) ≡ true
     strokes Ascii = refl
@@ -81,14 +81,20 @@ begun_below r frame Path first s above tail old mid is tail_is path headed same 
     let head : List (List Cell) = path_row r frame first s (path_bytes s.path) in
     let old_is : old ≡ above = is ∙ ap (λ rows. above ++ rows) tail_is ∙ append-nil above in
     let head_is : path_head r frame first s ≡ head ++ separator_rows r frame = path_head_is r frame first s (path_bytes s.path) (path refl) in
-    (separator_rows r frame, headed refl ∙ ap (λ rows. rows ++ path_head r frame first s) old_is ∙ ap (λ rows. above ++ rows) head_is ∙ sym (append_assoc above head (separator_rows r frame)), (separator_row r.decor_style frame.gutter, refl, separator_bare r.decor_style frame.gutter))
+    (separator_rows r frame, headed refl ∙ ap (λ rows. rows ++ path_head r frame first s) old_is ∙ ap (λ rows. above ++ rows) head_is ∙ sym (append_assoc above head (separator_rows r frame)), (separator_row r.decor_style frame.gutter, refl, separator_stroke r.decor_style frame.gutter))
+
+-- whether an element follows
+abbrev pub follows : ElementContext → Bool
+follows around = not (is_end around.next)
 
 -- the rows of a suggestion below those that it begins with are the element's: its last row is its own, or the next one begins in it
-pub suggestion_added : (r : Renderer) (frame : Frame) (around : ElementContext) (s : Snippet Patch) (above new : List (List Cell)) → AddsSuggestion (suggestion_layout r frame s) s (above ++ suggestion_head r frame around s) new → AddsElement r frame around (Suggestion s) above new
+pub suggestion_added : (r : Renderer) (frame : Frame) (around : ElementContext) (s : Snippet Patch) (above new : List (List Cell)) → AddsSuggestion (suggestion_layout r frame s) around.start (follows around) s (above ++ suggestion_head r frame around s) new → AddsElement r frame around (Suggestion s) above new
 suggestion_added r frame around s above new adds = at around.shared refl
   where
     at : (b : Bool) → around.shared ≡ b → AddsElement r frame around (Suggestion s) above new
     at true shares =
+        let IsShown : SuggestionRow → List Cell → Type 0 = Shows (suggestion_layout r frame s) (s.line_start + first_given s) (given_lines s) in
+        let ends : Bool → List SuggestionRow = λ b. rows_of_suggestion around.start s ++ (if b then [] else Ends (follows around) ∷ []) in
         let head : List (List Cell) = suggestion_head r frame around s in
         record {
           rows = head ++ adds.rows;
@@ -97,14 +103,15 @@ suggestion_added r frame around s above new adds = at around.shared refl
           is = record {
             lines = adds.rows;
             rows_are = refl;
-            are = record { shown = adds.shown; are = adds.are; numbers = adds.numbers; removed = adds.removed };
+            are = subst (λ shown. AllZip IsShown shown adds.rows) (sym (ap ends shares ∙ append-nil (rows_of_suggestion around.start s))) adds.are;
           };
-          ends = subst (λ b. IsTail r.decor_style frame.gutter b (adds.last ∷ [])) (sym shares) (adds.last, refl, adds.last_is);
+          ends = subst (λ b. IsTail r.decor_style frame.gutter b (adds.last ∷ [])) (sym shares) (adds.last, follows around, refl, adds.last_is);
         }
     at false shares =
+        let IsShown : SuggestionRow → List Cell → Type 0 = Shows (suggestion_layout r frame s) (s.line_start + first_given s) (given_lines s) in
+        let ends : Bool → List SuggestionRow = λ b. rows_of_suggestion around.start s ++ (if b then [] else Ends (follows around) ∷ []) in
         let head : List (List Cell) = suggestion_head r frame around s in
         let lines : List (List Cell) = adds.rows ++ adds.last ∷ [] in
-        let layout = suggestion_layout r frame s in
         record {
           rows = head ++ lines;
           tail = [];
@@ -112,12 +119,7 @@ suggestion_added r frame around s above new adds = at around.shared refl
           is = record {
             lines = lines;
             rows_are = refl;
-            are = record {
-              shown = adds.shown ++ Bare ∷ [];
-              are = zip_push (Shows layout (s.line_start + first_given s) (given_lines s)) adds.shown adds.rows Bare adds.last adds.are adds.last_is;
-              numbers = filter_map-append number_offered adds.shown (Bare ∷ []) ∙ append-nil _ ∙ adds.numbers;
-              removed = filter_map-append text_removed adds.shown (Bare ∷ []) ∙ append-nil _ ∙ adds.removed;
-            };
+            are = subst (λ shown. AllZip IsShown shown lines) (sym (ap ends shares)) (zip_push IsShown (rows_of_suggestion around.start s) adds.rows (Ends (follows around)) adds.last adds.are adds.last_is);
           };
           ends = subst (λ b. IsTail r.decor_style frame.gutter b []) (sym shares) refl;
         }
@@ -127,13 +129,14 @@ abbrev pub layout_with : Renderer → Frame → LineNumbers → SuggestionLayout
 layout_with r frame numbers = record { gutter = frame.gutter; numbers = numbers; decor = r.decor_style }
 
 -- what drawing a suggestion adds in a layout, if it succeeds
-abbrev pub DrawsBelow : Snippet Patch → SuggestionStart → List (List Cell) → List (List Cell) → Result (Unit {0}) AllocError → SuggestionLayout → Type 0
-DrawsBelow s at mid new result layout =
-    HasGutter layout s → (above tail : List (List Cell)) → mid ≡ above ++ tail → IsStart layout at tail → OnOk result (AddsSuggestion layout s above new)
+abbrev pub DrawsBelow : Snippet Patch → SuggestionStart → Bool → List (List Cell) → List (List Cell) → Result (Unit {0}) AllocError → SuggestionLayout → Type 0
+DrawsBelow s at next mid new result layout =
+    HasGutter layout s → (above tail : List (List Cell)) → mid ≡ above ++ tail → IsStart layout at tail → OnOk result (AddsSuggestion layout at next s above new)
 
 -- the rows of a suggestion stand below what is there
-pub patches_added : (r : Renderer) (frame : Frame) (around : ElementContext) (s : Snippet Patch) (above tail old mid new : List (List Cell)) (numbers : LineNumbers) (result : Result (Unit {0}) AllocError) → numbers ≡ line_numbers r s.line_numbering → s.markers.items ≢ [] → HasRoomFor r frame (Suggestion s) → old ≡ above ++ tail → IsTail r.decor_style frame.gutter (begins_in_row_above around) tail → HasPathFor around.start s → (around.start ≡ Path → mid ≡ old ++ path_head r frame around.first s) → ((around.start ≡ Path → ⊥) → mid ≡ old) → DrawsBelow s around.start mid new result (layout_with r frame numbers) → OnOk result (AddsElement r frame around (Suggestion s) above new)
-patches_added r frame around s above tail old mid new numbers result numbers_are some room is tail_is path headed same draws =
+pub patches_added : (r : Renderer) (frame : Frame) (around : ElementContext) (s : Snippet Patch) (above tail old mid new : List (List Cell)) (numbers : LineNumbers) (next : Bool) (result : Result (Unit {0}) AllocError) → numbers ≡ line_numbers r s.line_numbering → next ≡ follows around → s.markers.items ≢ [] → HasRoomFor r frame (Suggestion s) → old ≡ above ++ tail → IsTail r.decor_style frame.gutter (begins_in_row_above around) tail → HasPathFor around.start s → (around.start ≡ Path → mid ≡ old ++ path_head r frame around.first s) → ((around.start ≡ Path → ⊥) → mid ≡ old) → DrawsBelow s around.start next mid new result (layout_with r frame numbers) → OnOk result (AddsElement r frame around (Suggestion s) above new)
+patches_added r frame around s above tail old mid new numbers next result numbers_are next_is some room is tail_is path headed same draws =
     let begun = begun_below r frame around.start around.first s above tail old mid is tail_is path headed same in
-    let drawn : DrawsBelow s around.start mid new result (suggestion_layout r frame s) = subst (λ n. DrawsBelow s around.start mid new result (layout_with r frame n)) numbers_are draws in
+    let Draws : Bool → SuggestionLayout → Type 0 = λ b layout. DrawsBelow s around.start b mid new result layout in
+    let drawn : Draws (follows around) (suggestion_layout r frame s) = subst (λ b. Draws b (suggestion_layout r frame s)) next_is (subst (λ n. Draws next (layout_with r frame n)) numbers_are draws) in
     on_ok_weaker result (suggestion_added r frame around s above new) (drawn (gutter_room r frame s some room) (above ++ suggestion_head r frame around s) begun.0 begun.1 begun.2)

@@ -1,25 +1,25 @@
 -- The rows of a suggestion's lines, with their names.
 use Rattle.std.proofs.Common.{◌≡◌, ◌≢◌, ℕ, ◌+◌, ◌-◌, ◌<◌, ◌≤◌, List, [], ◌∷◌, map, length, take, chars, get_or, refl, sym, ap, subst, ◌∙◌, arith}
 use Rattle.std.specs.List.{All, AllZip}
-use Rattle.std.specs.Cow.{cow_str_bytes}
-use Rattle.std.proofs.lemmas.List.Elements.{All-nil, All-cons}
+use Rattle.std.proofs.lemmas.List.Elements.{All-nil, All-cons, All-head, All-tail}
 use Rattle.snippet_model.specs.declared.snippet.Patch.{Patch}
 use Rattle.snippet_model.specs.declared.snippet.Snippet.{Snippet}
 use Rattle.snippet_style.specs.Cell.{Cell}
 use Rattle.snippet_grid.specs.Print.{row_text}
 use Rattle.snippet_text.specs.Normalized.{norm}
-use Rattle.snippet_lines.specs.Lines.{source_lines, text_at}
 use Rattle.snippet_lines.specs.Number.{shown_number}
 use Rattle.snippet_model.specs.Rows.{IsFree}
 use Rattle.snippet_suggest.specs.Given.{first_given, given_lines}
 use Rattle.snippet_suggest.specs.Prepared.{IsSuggestible}
-use Rattle.snippet_suggest.specs.Rows.{Bare, IsRemovedRow, Offers, Removes, Shows, SuggestionRow, number_after, numbers_offered, texts_removed}
+use Rattle.snippet_suggest.specs.Order.{Begins, Empty, Ends, Offers, Removes, Skips, SuggestionRow, lines_taken, number_after, numbers_offered, removed_number}
+use Rattle.snippet_suggest.specs.Rows.{IsRemovedRow, Shows}
 use Rattle.snippet_suggest.specs.Shown.{AreRising}
 use Rattle.snippet_suggest.proofs.OfferLaws.{given-is-patched}
+use Rattle.snippet_suggest.proofs.OrderLaws.{IsRowOf}
 use Rattle.annotate_snippets.specs.Drawn.{suggestion_layout}
 use Rattle.annotate_snippets.specs.Gutter.{line_numbers, number_text}
 use Rattle.annotate_snippets.specs.Page.{IsAscending, NamedRow, OfferedLine, Other, RemovedLine, cells_of, lines_offered, lines_removed}
-use Rattle.annotate_snippets.specs.Shown.{IsOfferedRow, IsSuggestionRow}
+use Rattle.annotate_snippets.specs.Shown.{HasStrokes, IsOfferedRow, IsSuggestionRow, name_of_row}
 use Rattle.annotate_snippets.specs.declared.renderer.Renderer.{Renderer}
 use Rattle.annotate_snippets.specs.declared.renderer.frame.Frame.{Frame}
 
@@ -36,60 +36,52 @@ rising_ascends from to (j ∷ []) rising = tt
 rising_ascends from to (j ∷ k ∷ ks) rising =
     (omega (arith, rising.1.0), rising_ascends (j + 1) to (k ∷ ks) rising.1)
 
--- rows of a suggestion with their names: offered lines are counted from the first that is given, and the rows of removed ones
--- take these numbers in turn
-abbrev pub named_rows : ℕ → List SuggestionRow → List ℕ → List (List Cell) → List NamedRow
-named_rows first [] removed rows = []
-named_rows first (row_is ∷ shown) removed [] = []
-named_rows first (Offers k ∷ shown) removed (row ∷ rows) =
-    record { name = OfferedLine (first + k); cells = row } ∷ named_rows first shown removed rows
-named_rows first (Removes text ∷ shown) [] (row ∷ rows) =
-    record { name = Other; cells = row } ∷ named_rows first shown [] rows
-named_rows first (Removes text ∷ shown) (i ∷ removed) (row ∷ rows) =
-    record { name = RemovedLine i; cells = row } ∷ named_rows first shown removed rows
-named_rows first (Bare ∷ shown) removed (row ∷ rows) =
-    record { name = Other; cells = row } ∷ named_rows first shown removed rows
+-- rows of a suggestion with their names
+abbrev pub named_rows : Snippet Patch → List SuggestionRow → List (List Cell) → List NamedRow
+named_rows s [] rows = []
+named_rows s (shows ∷ shown) [] = []
+named_rows s (shows ∷ shown) (row ∷ rows) =
+    record { name = name_of_row s shows; cells = row } ∷ named_rows s shown rows
 
--- with a row for each, they hold the rows, offer the lines, and show these lines as removed
-pub cells_of-named : (P : SuggestionRow → List Cell → Type 0) (first : ℕ) (shown : List SuggestionRow) (removed : List ℕ) (part : List (List Cell)) → AllZip P shown part → cells_of (named_rows first shown removed part) ≡ part
-cells_of-named P first [] removed [] are = refl
-cells_of-named P first [] removed (row ∷ part) are = absurd are
-cells_of-named P first (row_is ∷ shown) removed [] are = absurd are
-cells_of-named P first (Offers k ∷ shown) removed (row ∷ part) are =
-    ap (λ rows. row ∷ rows) (cells_of-named P first shown removed part are.1)
-cells_of-named P first (Removes text ∷ shown) [] (row ∷ part) are =
-    ap (λ rows. row ∷ rows) (cells_of-named P first shown [] part are.1)
-cells_of-named P first (Removes text ∷ shown) (i ∷ removed) (row ∷ part) are =
-    ap (λ rows. row ∷ rows) (cells_of-named P first shown removed part are.1)
-cells_of-named P first (Bare ∷ shown) removed (row ∷ part) are =
-    ap (λ rows. row ∷ rows) (cells_of-named P first shown removed part are.1)
+-- with a row for each, they hold the rows, and have their names
+pub cells_of-named : (P : SuggestionRow → List Cell → Type 0) (s : Snippet Patch) (shown : List SuggestionRow) (part : List (List Cell)) → AllZip P shown part → cells_of (named_rows s shown part) ≡ part
+cells_of-named P s [] [] are = refl
+cells_of-named P s [] (row ∷ part) are = absurd are
+cells_of-named P s (shows ∷ shown) [] are = absurd are
+cells_of-named P s (shows ∷ shown) (row ∷ part) are =
+    ap (λ rows. row ∷ rows) (cells_of-named P s shown part are.1)
 
-pub lines_offered-named : (P : SuggestionRow → List Cell → Type 0) (first : ℕ) (shown : List SuggestionRow) (removed : List ℕ) (part : List (List Cell)) → AllZip P shown part → lines_offered (named_rows first shown removed part) ≡ map (λ k. first + k) (numbers_offered shown)
-lines_offered-named P first [] removed [] are = refl
-lines_offered-named P first [] removed (row ∷ part) are = absurd are
-lines_offered-named P first (row_is ∷ shown) removed [] are = absurd are
-lines_offered-named P first (Offers k ∷ shown) removed (row ∷ part) are =
-    ap (λ (ks : List ℕ). (first + k) ∷ ks) (lines_offered-named P first shown removed part are.1)
-lines_offered-named P first (Removes text ∷ shown) [] (row ∷ part) are =
-    lines_offered-named P first shown [] part are.1
-lines_offered-named P first (Removes text ∷ shown) (i ∷ removed) (row ∷ part) are =
-    lines_offered-named P first shown removed part are.1
-lines_offered-named P first (Bare ∷ shown) removed (row ∷ part) are =
-    lines_offered-named P first shown removed part are.1
+pub names_of-named : (P : SuggestionRow → List Cell → Type 0) (s : Snippet Patch) (shown : List SuggestionRow) (part : List (List Cell)) → AllZip P shown part → map (λ row. row.name) (named_rows s shown part) ≡ map (name_of_row s) shown
+names_of-named P s [] [] are = refl
+names_of-named P s [] (row ∷ part) are = absurd are
+names_of-named P s (shows ∷ shown) [] are = absurd are
+names_of-named P s (shows ∷ shown) (row ∷ part) are =
+    ap (λ names. name_of_row s shows ∷ names) (names_of-named P s shown part are.1)
 
-pub lines_removed-named : (P : SuggestionRow → List Cell → Type 0) (f : ℕ → List ℕ) (first : ℕ) (shown : List SuggestionRow) (removed : List ℕ) (part : List (List Cell)) → AllZip P shown part → texts_removed shown ≡ map f removed → lines_removed (named_rows first shown removed part) ≡ removed
-lines_removed-named P f first [] [] [] are texts = refl
-lines_removed-named P f first [] (i ∷ removed) [] are texts = absurd (cc)
-lines_removed-named P f first [] removed (row ∷ part) are texts = absurd are
-lines_removed-named P f first (row_is ∷ shown) removed [] are texts = absurd are
-lines_removed-named P f first (Offers k ∷ shown) removed (row ∷ part) are texts =
-    lines_removed-named P f first shown removed part are.1 texts
-lines_removed-named P f first (Removes text ∷ shown) [] (row ∷ part) are texts = absurd (cc)
-lines_removed-named P f first (Removes text ∷ shown) (i ∷ removed) (row ∷ part) are texts =
-    let rest : texts_removed shown ≡ map f removed = cc in
-    ap (λ (is : List ℕ). i ∷ is) (lines_removed-named P f first shown removed part are.1 rest)
-lines_removed-named P f first (Bare ∷ shown) removed (row ∷ part) are texts =
-    lines_removed-named P f first shown removed part are.1 texts
+-- they offer the lines that they show, and show the others as removed
+pub lines_offered-named : (P : SuggestionRow → List Cell → Type 0) (s : Snippet Patch) (shown : List SuggestionRow) (part : List (List Cell)) → AllZip P shown part → lines_offered (named_rows s shown part) ≡ map (λ k. first_given s + k) (numbers_offered shown)
+lines_offered-named P s [] [] are = refl
+lines_offered-named P s [] (row ∷ part) are = absurd are
+lines_offered-named P s (shows ∷ shown) [] are = absurd are
+lines_offered-named P s (Begins start ∷ shown) (row ∷ part) are = lines_offered-named P s shown part are.1
+lines_offered-named P s (Offers k ∷ shown) (row ∷ part) are =
+    ap (λ (ks : List ℕ). (first_given s + k) ∷ ks) (lines_offered-named P s shown part are.1)
+lines_offered-named P s (Skips ∷ shown) (row ∷ part) are = lines_offered-named P s shown part are.1
+lines_offered-named P s (Removes i number text ∷ shown) (row ∷ part) are = lines_offered-named P s shown part are.1
+lines_offered-named P s (Empty ∷ shown) (row ∷ part) are = lines_offered-named P s shown part are.1
+lines_offered-named P s (Ends follows ∷ shown) (row ∷ part) are = lines_offered-named P s shown part are.1
+
+pub lines_removed-named : (P : SuggestionRow → List Cell → Type 0) (s : Snippet Patch) (shown : List SuggestionRow) (part : List (List Cell)) → AllZip P shown part → lines_removed (named_rows s shown part) ≡ lines_taken shown
+lines_removed-named P s [] [] are = refl
+lines_removed-named P s [] (row ∷ part) are = absurd are
+lines_removed-named P s (shows ∷ shown) [] are = absurd are
+lines_removed-named P s (Begins start ∷ shown) (row ∷ part) are = lines_removed-named P s shown part are.1
+lines_removed-named P s (Offers k ∷ shown) (row ∷ part) are = lines_removed-named P s shown part are.1
+lines_removed-named P s (Skips ∷ shown) (row ∷ part) are = lines_removed-named P s shown part are.1
+lines_removed-named P s (Removes i number text ∷ shown) (row ∷ part) are =
+    ap (λ (ks : List ℕ). i ∷ ks) (lines_removed-named P s shown part are.1)
+lines_removed-named P s (Empty ∷ shown) (row ∷ part) are = lines_removed-named P s shown part are.1
+lines_removed-named P s (Ends follows ∷ shown) (row ∷ part) are = lines_removed-named P s shown part are.1
 
 module _ (r : Renderer) (frame : Frame) (s : Snippet Patch) where
   -- the rows of a suggestion, each of which shows this
@@ -102,13 +94,30 @@ module _ (r : Renderer) (frame : Frame) (s : Snippet Patch) where
   lines_free [] [] are = All-nil IsFree
   lines_free [] (row ∷ part) are = absurd are
   lines_free (row_is ∷ shown) [] are = absurd are
-  lines_free (Offers k ∷ shown) (row ∷ part) are = All-cons IsFree row part are.0.free (lines_free shown part are.1)
-  lines_free (Removes text ∷ shown) (row ∷ part) are = All-cons IsFree row part are.0.free (lines_free shown part are.1)
-  lines_free (Bare ∷ shown) (row ∷ part) are = All-cons IsFree row part are.0.free (lines_free shown part are.1)
+  lines_free (shows ∷ shown) (row ∷ part) are = All-cons IsFree row part (free_of shows row are.0) (lines_free shown part are.1)
+    where
+      free_of : (shows : SuggestionRow) (row : List Cell) → Shows (suggestion_layout r frame s) (s.line_start + first_given s) (given_lines s) shows row → IsFree row
+      free_of (Begins start) row is = is.bare.free
+      free_of (Offers k) row is = is.free
+      free_of Skips row is = is.bare.free
+      free_of (Removes i number text) row is = is.free
+      free_of Empty row is = is.bare.free
+      free_of (Ends follows) row is = is.bare.free
 
-  -- the text of a line of the source
-  abbrev pub source_text : ℕ → List ℕ
-  source_text = text_at (source_lines (cow_str_bytes s.source))
+  -- and have left of the lines what they are to have there
+  pub strokes_shown : (shown : List SuggestionRow) (part : List (List Cell)) → AreShown shown part → AllZip (HasStrokes r.decor_style frame.gutter) shown part
+  strokes_shown [] [] are = tt
+  strokes_shown [] (row ∷ part) are = absurd are
+  strokes_shown (shows ∷ shown) [] are = absurd are
+  strokes_shown (shows ∷ shown) (row ∷ part) are = (stroke_of shows row are.0, strokes_shown shown part are.1)
+    where
+      stroke_of : (shows : SuggestionRow) (row : List Cell) → Shows (suggestion_layout r frame s) (s.line_start + first_given s) (given_lines s) shows row → HasStrokes r.decor_style frame.gutter shows row
+      stroke_of (Begins start) row is = is.left_is
+      stroke_of (Offers k) row is = tt
+      stroke_of Skips row is = is.left_is
+      stroke_of (Removes i number text) row is = tt
+      stroke_of Empty row is = is.left_is
+      stroke_of (Ends follows) row is = is.left_is
 
   module _ (suggestible : IsSuggestible s) (some : s.markers.items ≢ []) where
     -- there is a number for each line that is given, and it is shown
@@ -138,17 +147,28 @@ module _ (r : Renderer) (frame : Frame) (s : Snippet Patch) where
     abbrev IsNamed : NamedRow → Type 0
     IsNamed row = IsSuggestionRow r frame.gutter s row.name row.cells
 
+    -- that of a line that is removed shows it
+    removed_row_shown : (i number : ℕ) (text : List ℕ) (row : List Cell) → IsRowOf s (Removes i number text) → Shows (suggestion_layout r frame s) (s.line_start + first_given s) (given_lines s) (Removes i number text) row → IsSuggestionRow r frame.gutter s (RemovedLine i) row
+    removed_row_shown i number text row of shows =
+        let numbers = line_numbers r s.line_numbering in
+        let Is : ℕ → List ℕ → Type 0 = λ n t. IsRemovedRow numbers r.decor_style frame.gutter (shown_number numbers frame.gutter n) (norm (chars t)) row in
+        subst (Is (removed_number s i)) of.1 (subst (λ (n : ℕ). Is n text) of.0 shows)
+
     -- so each row is what its name says
-    pub rows_named : (from : ℕ) (shown : List SuggestionRow) (removed : List ℕ) (part : List (List Cell)) → AreRising from (first_given s + length (given_lines s)) (map (λ k. first_given s + k) (numbers_offered shown)) → texts_removed shown ≡ map source_text removed → AreShown shown part → All IsNamed (named_rows (first_given s) shown removed part)
-    rows_named from [] removed part rising texts are = All-nil IsNamed
-    rows_named from (row_is ∷ shown) removed [] rising texts are = absurd are
-    rows_named from (Offers k ∷ shown) removed (row ∷ part) rising texts are =
+    pub rows_named : (from : ℕ) (shown : List SuggestionRow) (part : List (List Cell)) → AreRising from (first_given s + length (given_lines s)) (map (λ k. first_given s + k) (numbers_offered shown)) → All (IsRowOf s) shown → AreShown shown part → All IsNamed (named_rows s shown part)
+    rows_named from [] part rising own are = All-nil IsNamed
+    rows_named from (shows ∷ shown) [] rising own are = absurd are
+    rows_named from (Offers k ∷ shown) (row ∷ part) rising own are =
         let last : first_given s + k + 1 ≤ first_given s + length (given_lines s) = rising_within (first_given s + k + 1) (first_given s + length (given_lines s)) _ rising.1 in
-        All-cons IsNamed (record { name = OfferedLine (first_given s + k); cells = row }) (named_rows (first_given s) shown removed part) (offered_row k row (omega (arith, last)) are.0) (rows_named (first_given s + k + 1) shown removed part rising.1 texts are.1)
-    rows_named from (Removes text ∷ shown) [] (row ∷ part) rising texts are = absurd (cc)
-    rows_named from (Removes text ∷ shown) (i ∷ removed) (row ∷ part) rising texts are =
-        let here : text ≡ source_text i = cc in
-        let rest : texts_removed shown ≡ map source_text removed = cc in
-        All-cons IsNamed (record { name = RemovedLine i; cells = row }) (named_rows (first_given s) shown removed part) (subst (λ (t : List ℕ). IsRemovedRow (line_numbers r s.line_numbering) r.decor_style frame.gutter (norm (chars t)) row) here are.0) (rows_named from shown removed part rising rest are.1)
-    rows_named from (Bare ∷ shown) removed (row ∷ part) rising texts are =
-        All-cons IsNamed (record { name = Other; cells = row }) (named_rows (first_given s) shown removed part) are.0 (rows_named from shown removed part rising texts are.1)
+        All-cons IsNamed (record { name = OfferedLine (first_given s + k); cells = row }) (named_rows s shown part) (offered_row k row (omega (arith, last)) are.0) (rows_named (first_given s + k + 1) shown part rising.1 (All-tail (IsRowOf s) (Offers k) shown own) are.1)
+    rows_named from (Removes i number text ∷ shown) (row ∷ part) rising own are =
+        let of = All-head (IsRowOf s) (Removes i number text) shown own in
+        All-cons IsNamed (record { name = RemovedLine i; cells = row }) (named_rows s shown part) (removed_row_shown i number text row of are.0) (rows_named from shown part rising (All-tail (IsRowOf s) (Removes i number text) shown own) are.1)
+    rows_named from (Begins start ∷ shown) (row ∷ part) rising own are =
+        All-cons IsNamed (record { name = Other; cells = row }) (named_rows s shown part) are.0.bare (rows_named from shown part rising (All-tail (IsRowOf s) (Begins start) shown own) are.1)
+    rows_named from (Skips ∷ shown) (row ∷ part) rising own are =
+        All-cons IsNamed (record { name = Other; cells = row }) (named_rows s shown part) are.0.bare (rows_named from shown part rising (All-tail (IsRowOf s) Skips shown own) are.1)
+    rows_named from (Empty ∷ shown) (row ∷ part) rising own are =
+        All-cons IsNamed (record { name = Other; cells = row }) (named_rows s shown part) are.0.bare (rows_named from shown part rising (All-tail (IsRowOf s) Empty shown own) are.1)
+    rows_named from (Ends follows ∷ shown) (row ∷ part) rising own are =
+        All-cons IsNamed (record { name = Other; cells = row }) (named_rows s shown part) are.0.bare (rows_named from shown part rising (All-tail (IsRowOf s) (Ends follows) shown own) are.1)

@@ -1,35 +1,37 @@
 -- The rows of a suggestion show it.
-use Rattle.std.proofs.Common.{◌≡◌, ◌≢◌, ◌∙◌, ℕ, ◌+◌, Bool, Option, None, Some, List, [], ◌++◌, map, length, refl, sym, ap, subst, inl, inr}
-use Rattle.std.specs.List.{All, Contains}
-use Rattle.std.proofs.lemmas.List.{map-append}
-use Rattle.std.proofs.lemmas.List.Elements.{All-append, All-cons, All-nil}
+use Rattle.std.proofs.Common.{◌≡◌, ◌≢◌, ◌∙◌, ℕ, ◌+◌, Bool, true, false, not, if◌then◌else◌, Option, None, Some, List, [], ◌∷◌, ◌++◌, map, length, refl, sym, ap, subst, inl, inr}
+use Rattle.std.specs.List.{All, AllZip, Contains}
+use Rattle.std.proofs.lemmas.List.{append-nil, map-append}
+use Rattle.std.proofs.lemmas.List.Elements.{All-append, All-cons, All-nil, filter_map-append}
 use Rattle.snippet_model.specs.declared.snippet.Element.TheVariants.{Suggestion}
 use Rattle.snippet_model.specs.declared.snippet.Patch.{Patch}
 use Rattle.snippet_model.specs.declared.snippet.Snippet.{Snippet}
 use Rattle.snippet_style.specs.Cell.{Cell}
 use Rattle.snippet_model.specs.Rows.{IsFree}
 use Rattle.snippet_view.proofs.PartLemmas.{All-unmapped}
-use Rattle.snippet_suggest.specs.Given.{first_given, given_lines, offered_lines, removed_lines}
+use Rattle.snippet_suggest.specs.Given.{first_given, given_lines, numbers_given, offered_lines, removed_lines}
+use Rattle.snippet_suggest.specs.Order.{Ends, SuggestionRow, line_taken, lines_taken, number_offered, numbers_offered, rows_of_suggestion}
 use Rattle.snippet_suggest.specs.Prepared.{IsSuggestible}
-use Rattle.snippet_suggest.specs.Rows.{Shows, SuggestionRow, numbers_offered}
+use Rattle.snippet_suggest.specs.Rows.{Shows}
 use Rattle.snippet_suggest.specs.Shown.{AreRising}
 use Rattle.snippet_suggest.specs.declared.SuggestionStart.{SuggestionStart}
 use Rattle.snippet_suggest.specs.declared.SuggestionStart.TheVariants as start
 use Rattle.snippet_suggest.proofs.OfferLaws.{offered-ascends}
+use Rattle.snippet_suggest.proofs.OrderLaws.{IsRowOf, rows-offer, rows-own, rows-take}
 use Rattle.snippet_suggest.proofs.TouchLaws.{touched-offered}
 use Rattle.snippet_titles.specs.Origin.{primary_start}
 use Rattle.snippet_titles.proofs.OriginFree.{origin_row-free}
-use Rattle.annotate_snippets.specs.Around.{path_bytes}
-use Rattle.annotate_snippets.specs.Drawn.{AreSuggestionRows, HasRoomFor, IsSuggestionDrawn, suggestion_layout}
+use Rattle.annotate_snippets.specs.Around.{is_end, path_bytes, suggestion_rows}
+use Rattle.annotate_snippets.specs.Drawn.{HasRoomFor, IsSuggestionDrawn, suggestion_layout}
 use Rattle.annotate_snippets.specs.Page.{IsAscending, NamedRow, cells_of, lines_offered, others}
 use Rattle.annotate_snippets.specs.Rows.{origin_layout, patch_place, path_row, suggestion_head, suggestion_head_at}
-use Rattle.annotate_snippets.specs.Shown.{ShowsSuggestion}
+use Rattle.annotate_snippets.specs.Shown.{HasStrokes, ShowsSuggestion}
 use Rattle.annotate_snippets.specs.declared.renderer.Renderer.{Renderer}
 use Rattle.annotate_snippets.specs.declared.renderer.frame.Frame.{Frame}
 use Rattle.annotate_snippets.specs.declared.renderer.element_context.ElementContext.{ElementContext}
 use Rattle.annotate_snippets.proofs.ElementShown.{ElementShown}
 use Rattle.annotate_snippets.proofs.PageLemmas.{cells_of-others}
-use Rattle.annotate_snippets.proofs.SuggestionLemmas.{cells_of-named, lines_free, lines_offered-named, lines_removed-named, named_rows, rising_ascends, rows_named, source_text}
+use Rattle.annotate_snippets.proofs.SuggestionLemmas.{cells_of-named, lines_free, lines_offered-named, lines_removed-named, named_rows, names_of-named, rising_ascends, rows_named, strokes_shown}
 
 -- the row of its path holds no listed character and no link
 path_row-free : (r : Renderer) (frame : Frame) (first : Bool) (s : Snippet Patch) (path : Option (List ℕ)) → All IsFree (path_row r frame first s path)
@@ -42,19 +44,49 @@ suggestion_head-free r frame start.Opening first s = All-nil IsFree
 suggestion_head-free r frame start.Next first s = All-nil IsFree
 suggestion_head-free r frame start.Path first s = path_row-free r frame first s (path_bytes s.path)
 
+-- the rows that a suggestion has offer just the lines that it offers, show as removed those that it removes, and are its own
+module _ (around : ElementContext) (s : Snippet Patch) where
+  abbrev rows : List SuggestionRow
+  rows = rows_of_suggestion around.start s
+
+  abbrev ends : Bool → List SuggestionRow
+  ends shared = if shared then [] else Ends (not (is_end around.next)) ∷ []
+
+  ends_offer : (shared : Bool) → numbers_offered (ends shared) ≡ []
+  ends_offer true = refl
+  ends_offer false = refl
+
+  ends_take : (shared : Bool) → lines_taken (ends shared) ≡ []
+  ends_take true = refl
+  ends_take false = refl
+
+  ends_own : (shared : Bool) → All (IsRowOf s) (ends shared)
+  ends_own true = All-nil (IsRowOf s)
+  ends_own false = All-cons (IsRowOf s) (Ends (not (is_end around.next))) [] tt (All-nil (IsRowOf s))
+
+  all_offer : numbers_offered (suggestion_rows around s) ≡ numbers_given s
+  all_offer =
+      filter_map-append number_offered rows (ends around.shared) ∙ ap (λ ks. numbers_offered rows ++ ks) (ends_offer around.shared) ∙ append-nil (numbers_offered rows) ∙ rows-offer around.start s
+
+  all_take : lines_taken (suggestion_rows around s) ≡ removed_lines s
+  all_take =
+      filter_map-append line_taken rows (ends around.shared) ∙ ap (λ ks. lines_taken rows ++ ks) (ends_take around.shared) ∙ append-nil (lines_taken rows) ∙ rows-take around.start s
+
+  all_own : All (IsRowOf s) (suggestion_rows around s)
+  all_own = All-append (IsRowOf s) rows (ends around.shared) (rows-own around.start s) (ends_own around.shared)
+
 -- the rows of a suggestion show it, once they have names: after the row of its path those of its lines
 pub suggestion_shown : (r : Renderer) (frame : Frame) (around : ElementContext) (s : Snippet Patch) (rows : List (List Cell)) → IsSuggestible s → s.markers.items ≢ [] → HasRoomFor r frame (Suggestion s) → IsSuggestionDrawn r frame around s rows → ElementShown r frame around (Suggestion s) rows
 suggestion_shown r frame around s rows suggestible some room drawn =
     let IsShown : SuggestionRow → List Cell → Type 0 = Shows (suggestion_layout r frame s) (s.line_start + first_given s) (given_lines s) in
-    let own : AreSuggestionRows (suggestion_layout r frame s) s drawn.lines = drawn.are in
+    let shown : List SuggestionRow = suggestion_rows around s in
     let head : List (List Cell) = suggestion_head r frame around s in
-    let removed : List ℕ = removed_lines s in
-    let after : List NamedRow = named_rows (first_given s) own.shown removed drawn.lines in
-    let same : map (λ k. first_given s + k) (numbers_offered own.shown) ≡ offered_lines s = ap (map (λ k. first_given s + k)) own.numbers in
-    let lines : lines_offered after ≡ offered_lines s = lines_offered-named IsShown (first_given s) own.shown removed drawn.lines own.are ∙ same in
+    let after : List NamedRow = named_rows s shown drawn.lines in
+    let same : map (λ k. first_given s + k) (numbers_offered shown) ≡ offered_lines s = ap (map (λ k. first_given s + k)) (all_offer around s) in
+    let lines : lines_offered after ≡ offered_lines s = lines_offered-named IsShown s shown drawn.lines drawn.are ∙ same in
     let end : ℕ = first_given s + length (given_lines s) in
-    let cells : cells_of (others head ++ after) ≡ rows = map-append (λ (row : NamedRow). row.cells) (others head) after ∙ ap (λ rs. rs ++ cells_of after) (cells_of-others head) ∙ ap (λ rs. head ++ rs) (cells_of-named IsShown (first_given s) own.shown removed drawn.lines own.are) ∙ sym drawn.rows_are in
-    let free : All IsFree rows = subst (All IsFree) (sym drawn.rows_are) (All-append IsFree head drawn.lines (suggestion_head-free r frame around.start around.first s) (lines_free r frame s own.shown drawn.lines own.are)) in
+    let cells : cells_of (others head ++ after) ≡ rows = map-append (λ (row : NamedRow). row.cells) (others head) after ∙ ap (λ rs. rs ++ cells_of after) (cells_of-others head) ∙ ap (λ rs. head ++ rs) (cells_of-named IsShown s shown drawn.lines drawn.are) ∙ sym drawn.rows_are in
+    let free : All IsFree rows = subst (All IsFree) (sym drawn.rows_are) (All-append IsFree head drawn.lines (suggestion_head-free r frame around.start around.first s) (lines_free r frame s shown drawn.lines drawn.are)) in
     let shows : ShowsSuggestion r frame around s (others head ++ after) = record {
       after = after;
       rows_are = refl;
@@ -64,8 +96,10 @@ suggestion_shown r frame around s rows suggestible some room drawn =
       ];
       ordered = subst IsAscending (sym lines) (rising_ascends (first_given s) end (offered_lines s) (offered-ascends s));
       lines = lines;
-      removed = lines_removed-named IsShown (source_text r frame s) (first_given s) own.shown removed drawn.lines own.are own.removed;
-      named = rows_named r frame s suggestible some (first_given s) own.shown removed drawn.lines (subst (AreRising (first_given s) end) (sym same) (offered-ascends s)) own.removed own.are;
+      order = names_of-named IsShown s shown drawn.lines drawn.are;
+      strokes = subst (AllZip (HasStrokes r.decor_style frame.gutter) shown) (sym (cells_of-named IsShown s shown drawn.lines drawn.are)) (strokes_shown r frame s shown drawn.lines drawn.are);
+      removed = lines_removed-named IsShown s shown drawn.lines drawn.are ∙ all_take around s;
+      named = rows_named r frame s suggestible some (first_given s) shown drawn.lines (subst (AreRising (first_given s) end) (sym same) (offered-ascends s)) (all_own around s) drawn.are;
     } in
     record {
       part = others head ++ after;

@@ -1,5 +1,5 @@
 -- What stands around an element of a report, as far as its rows depend on it.
-use Rattle.std.specs.Prelude.{◌≡◌, ℕ, ◌+◌, ◌-◌, ◌==◌, ◌&&◌, Bool, true, false, not, List, [], ◌∷◌, Option, None, Some, drop, filter, length, take, if◌then◌else◌}
+use Rattle.std.specs.Prelude.{◌≡◌, ℕ, ◌+◌, ◌-◌, ◌==◌, ◌&&◌, Bool, true, false, not, List, [], ◌∷◌, ◌++◌, Option, None, Some, drop, filter, length, take, if◌then◌else◌}
 use Rattle.std.specs.Cow.{cow_str_bytes}
 use Rattle.std.specs.List.{filter_map, list_any, slice_get}
 use Rattle.std.specs.Option.{is_some, option_flatten, option_map, option_or}
@@ -13,6 +13,7 @@ use Rattle.snippet_model.specs.declared.snippet.Patch.{Patch}
 use Rattle.snippet_model.specs.declared.snippet.Snippet.{Snippet}
 use Rattle.snippet_suggest.specs.declared.SuggestionStart.{SuggestionStart}
 use Rattle.snippet_suggest.specs.declared.SuggestionStart.TheVariants as start
+use Rattle.snippet_suggest.specs.Order.{Ends, SuggestionRow, rows_of_suggestion}
 use Rattle.annotate_snippets.specs.declared.renderer.element_context.GroupPosition.{GroupPosition}
 use Rattle.annotate_snippets.specs.declared.renderer.element_context.GroupPosition.TheVariants as place
 use Rattle.annotate_snippets.specs.declared.renderer.element_context.Next.{Next}
@@ -152,6 +153,12 @@ closes_with around = is_end around.next && not (is_first_of_several around.place
 
 abbrev pub closes_after : ElementContext → Bool
 closes_after around = is_end around.next && is_first_of_several around.place
+
+-- what the rows of a suggestion show, from top to bottom, and as the last what it ends with, before a further element or not; but
+-- that row is the next one's, where the next suggestion begins in it
+abbrev pub suggestion_rows : ElementContext → Snippet Patch → List SuggestionRow
+suggestion_rows around s =
+    rows_of_suggestion around.start s ++ (if around.shared then [] else Ends (not (is_end around.next)) ∷ [])
 
 -- whether an element begins in the last row of the one before it
 abbrev pub is_next_start : SuggestionStart → Bool

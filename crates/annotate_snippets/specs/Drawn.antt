@@ -18,15 +18,15 @@ use Rattle.snippet_view.specs.Measures.{margin_of}
 use Rattle.snippet_strokes.specs.declared.layout.Layout.{Layout}
 use Rattle.snippet_strokes.specs.Snippet.{AreLinesShown}
 use Rattle.snippet_suggest.specs.declared.SuggestionLayout.{SuggestionLayout}
-use Rattle.snippet_suggest.specs.Given.{first_given, given_lines, numbers_given, removed_texts}
-use Rattle.snippet_suggest.specs.Rows.{IsTail, Shows, SuggestionRow, numbers_offered, texts_removed}
+use Rattle.snippet_suggest.specs.Given.{first_given, given_lines}
+use Rattle.snippet_suggest.specs.Rows.{IsTail, Shows}
 use Rattle.snippet_titles.specs.Origin.{padding_row}
 use Rattle.annotate_snippets.specs.declared.renderer.Renderer.{Renderer}
 use Rattle.annotate_snippets.specs.declared.renderer.frame.Frame.{Frame}
 use Rattle.annotate_snippets.specs.declared.renderer.graphic.GroupGrid.{GroupGrid}
 use Rattle.annotate_snippets.specs.declared.renderer.element_context.GroupPosition.{GroupPosition}
 use Rattle.annotate_snippets.specs.declared.renderer.element_context.ElementContext.{ElementContext}
-use Rattle.annotate_snippets.specs.Around.{closes_with, drawn_elements, file_of_group, is_end, next_of, place_at, context_at}
+use Rattle.annotate_snippets.specs.Around.{closes_with, drawn_elements, file_of_group, is_end, next_of, place_at, context_at, suggestion_rows}
 use Rattle.annotate_snippets.specs.Gutter.{code_after, depth_of_element, frame_of, line_numbers, numbered_source, width_wanted}
 use Rattle.annotate_snippets.specs.Rows.{cause_head, message_rows, origin_rows, rows_after_cause, suggestion_head, title_part}
 use Rattle.snippet_model.specs.declared.snippet.Title.{Title}
@@ -79,19 +79,12 @@ abbrev pub suggestion_layout : Renderer → Frame → Snippet Patch → Suggesti
 suggestion_layout r frame s =
     record { gutter = frame.gutter; numbers = line_numbers r s.line_numbering; decor = r.decor_style }
 
--- rows of a suggestion: for each line that it offers a row, in order, for each line of the source that it shows as removed a row, in
--- order, and rows that show no line between them
-pub record AreSuggestionRows (layout : SuggestionLayout) (s : Snippet Patch) (rows : List (List Cell)) : Type 0 where
-  pub shown : List SuggestionRow
-  pub are : AllZip (Shows layout (s.line_start + first_given s) (given_lines s)) shown rows
-  pub numbers : numbers_offered shown ≡ numbers_given s
-  pub removed : texts_removed shown ≡ removed_texts s
-
--- the rows of a suggestion: that of its path, where it names that, and those of its lines
+-- the rows of a suggestion: that of its path, where it names that, and those of its lines, each of which shows what the suggestion
+-- has there
 pub record IsSuggestionDrawn (r : Renderer) (frame : Frame) (around : ElementContext) (s : Snippet Patch) (rows : List (List Cell)) : Type 0 where
   pub lines : List (List Cell)
   pub rows_are : rows ≡ suggestion_head r frame around s ++ lines
-  pub are : AreSuggestionRows (suggestion_layout r frame s) s lines
+  pub are : AllZip (Shows (suggestion_layout r frame s) (s.line_start + first_given s) (given_lines s)) (suggestion_rows around s) lines
 
 -- the rows of an element
 abbrev pub IsElementDrawn : Renderer → Frame → ElementContext → Element → List (List Cell) → Type 0

@@ -31,7 +31,8 @@ use Rattle.snippet_splice.specs.Edits.{patched}
 use Rattle.snippet_splice.specs.Spliced.{IsTouched}
 use Rattle.snippet_suggest.specs.Given.{IsAsItWas, IsOfferable, edits_of, first_given, given_lines, offered_lines, removed_lines}
 use Rattle.snippet_suggest.specs.Kind.{is_blank}
-use Rattle.snippet_suggest.specs.Rows.{IsBareRow, IsRemovedRow, IsSign}
+use Rattle.snippet_suggest.specs.Order.{Begins, Empty, Ends, Offers, Removes, Skips, SuggestionRow, removed_number}
+use Rattle.snippet_suggest.specs.Rows.{HasLeft, IsBareRow, IsRemovedRow, IsSign, begin_glyph, beside_gutter, end_glyph, gap_left}
 use Rattle.snippet_view.specs.Margin.{Bounds}
 use Rattle.snippet_view.specs.Measures.{margin_of}
 use Rattle.snippet_view.specs.Marked.{Entry, first_line, last_line}
@@ -54,7 +55,7 @@ use Rattle.annotate_snippets.specs.declared.renderer.frame.Frame.{Frame}
 use Rattle.annotate_snippets.specs.declared.renderer.element_context.GroupPosition.{GroupPosition}
 use Rattle.annotate_snippets.specs.declared.renderer.element_context.Next.{Next}
 use Rattle.annotate_snippets.specs.declared.renderer.element_context.ElementContext.{ElementContext}
-use Rattle.annotate_snippets.specs.Around.{closes_with, drawn_elements, file_of_group, is_end, next_of, path_bytes, place_at, context_at}
+use Rattle.annotate_snippets.specs.Around.{closes_with, drawn_elements, file_of_group, is_end, next_of, path_bytes, place_at, context_at, suggestion_rows}
 use Rattle.annotate_snippets.specs.Gutter.{frame_of, line_numbers, number_text, numbered_source}
 use Rattle.annotate_snippets.specs.Page.{RowName, SourceRow, Elision, OfferedLine, RemovedLine, Other, NamedRow, lines_named, lines_offered, lines_removed, names_in, names_of_lines, cells_below, cells_of, rows_below, others, GroupPage, Page, page_text, PrintsPage, IsAscending, page_links}
 use Rattle.annotate_snippets.specs.Rows.{cause_head, message_style, origin_rows, place_found, place_given, rows_after_cause, rows_after_title, suggestion_head}
@@ -278,25 +279,47 @@ pub record IsOfferedRow (r : Renderer) (gutter : ℕ) (s : Snippet Patch) (j : �
   pub line : row_text (drop (gutter + 3) row) ≡ norm (chars (slice_index_or (given_lines s) (j - first_given s) []))
   pub patched_line : IsOfferable s → (j < length (source_lines (patched (cow_str_bytes s.source) (edits_of s)))) × (row_text (drop (gutter + 3) row) ≡ norm (chars (text_at (source_lines (patched (cow_str_bytes s.source) (edits_of s))) j)))
 
--- a row of a suggestion is what its name says: it offers a line; or it shows a line of the source as removed, with `-` after the
--- gutter, the line's normalised text from three cells after it on, and no letter before the one, but `LL`, or after the other; or it
--- shows no line: it holds nothing but what stands left of lines, and after that marks
+-- a row of a suggestion is what its name says: it offers a line; or it shows a line of the source as removed: with the number
+-- beside it, if that ends before the sign, `-` after the gutter, the line's normalised text from three cells after it on, and no letter
+-- before the sign, but `LL`, or after the text; or it shows no line: it holds nothing but what stands left of lines, and after that marks
 abbrev pub IsSuggestionRow : Renderer → ℕ → Snippet Patch → RowName → List Cell → Type 0
 IsSuggestionRow r gutter s (SourceRow k) row = ⊥
 IsSuggestionRow r gutter s Elision row = ⊥
 IsSuggestionRow r gutter s (OfferedLine j) row = IsOfferedRow r gutter s j row
 IsSuggestionRow r gutter s (RemovedLine i) row =
-    IsRemovedRow (line_numbers r s.line_numbering) r.decor_style gutter (norm (chars (text_at (source_lines (cow_str_bytes s.source)) i))) row
+    IsRemovedRow (line_numbers r s.line_numbering) r.decor_style gutter (number_text r s.line_numbering gutter (removed_number s i)) (norm (chars (text_at (source_lines (cow_str_bytes s.source)) i))) row
 IsSuggestionRow r gutter s Other row = IsBareRow r.decor_style gutter row
 
--- the rows show a suggestion: after the row of its path, where it names that, they offer lines of the patched source, each once and
--- in order, they show as removed the lines of the source that it takes away, in order, and each row is what its name says. Each line
+-- what the row of a suggestion is named by
+abbrev pub name_of_row : Snippet Patch → SuggestionRow → RowName
+name_of_row s (Begins start) = Other
+name_of_row s (Offers k) = OfferedLine (first_given s + k)
+name_of_row s Skips = Other
+name_of_row s (Removes i number text) = RemovedLine i
+name_of_row s Empty = Other
+name_of_row s (Ends follows) = Other
+
+-- left of the lines a row of a suggestion that shows none holds just what such a row has: what the suggestion begins or ends with,
+-- what stands for lines that are left out, or nothing
+abbrev pub HasStrokes : DecorStyle → ℕ → SuggestionRow → List Cell → Type 0
+HasStrokes decor gutter (Begins start) row = HasLeft gutter (beside_gutter gutter (begin_glyph decor start)) row
+HasStrokes decor gutter (Offers k) row = Unit {0}
+HasStrokes decor gutter Skips row = HasLeft gutter (gap_left decor gutter) row
+HasStrokes decor gutter (Removes i number text) row = Unit {0}
+HasStrokes decor gutter Empty row = HasLeft gutter [] row
+HasStrokes decor gutter (Ends follows) row = HasLeft gutter (beside_gutter gutter (end_glyph decor follows)) row
+
+-- the rows show a suggestion: after the row of its path, where it names that, stand the rows that it has, in this order and no others.
+-- So they offer lines of the patched source, each once and in order, they show as removed the lines of the source that it takes away,
+-- in order, above the line in their place, where one stands there; and each row is what its name says. Each line
 -- that a patch touches is offered, if it isn't blank; but not where the spliced text has one line, and that is the last source line
 -- that is reached
 pub record ShowsSuggestion (r : Renderer) (frame : Frame) (around : ElementContext) (s : Snippet Patch) (rows : List NamedRow) : Type 0 where
   pub after : List NamedRow
   pub rows_are : rows ≡ others (suggestion_head r frame around s) ++ after
   pub offered : IsOfferable s → (j : ℕ) → IsTouched (cow_str_bytes s.source) (edits_of s) j → is_blank (text_at (source_lines (patched (cow_str_bytes s.source) (edits_of s))) j) ≡ false → IsAsItWas s ⊎ Contains (lines_offered after) j
+  pub order : map (λ row. row.name) after ≡ map (name_of_row s) (suggestion_rows around s)
+  pub strokes : AllZip (HasStrokes r.decor_style frame.gutter) (suggestion_rows around s) (cells_of after)
   pub ordered : IsAscending (lines_offered after)
   pub lines : lines_offered after ≡ offered_lines s
   pub removed : lines_removed after ≡ removed_lines s

@@ -14,16 +14,18 @@ use Rattle.snippet_splice.specs.Spliced.{last_line_reached}
 use Rattle.snippet_splice.specs.Trim.{kept_before, sandwich}
 use Rattle.snippet_suggest.specs.declared.kind.DisplaySuggestion.{DisplaySuggestion}
 use Rattle.snippet_suggest.specs.declared.kind.DisplaySuggestion.TheVariants.{Add, Diff, Plain, Underline}
+use Rattle.snippet_suggest.specs.declared.layout.SuggestionStart.TheVariants.{Opening}
+use Rattle.snippet_suggest.specs.Order.{Begins, Empty, Offers, Removes, Skips, SuggestionRow, rows_of_suggestion}
 use Rattle.snippet_suggest.specs.Given.{counted_line, given_lines, offered_lines, removed_lines, shown_kind}
 
 -- a patch that puts a text in place of the bytes from one to another, and a snippet of such patches, whose first line has number 1
-abbrev text_of : List ℕ → CowStr Global
+abbrev pub text_of : List ℕ → CowStr Global
 text_of text = Borrowed (record { ref_ptr = (0, 0); now = text })
 
-abbrev patch : ℕ → ℕ → List ℕ → Patch
+abbrev pub patch : ℕ → ℕ → List ℕ → Patch
 patch start end text = record { span = record { start = start; end = end }; replacement = text_of text }
 
-abbrev snippet : Vec Patch Global → Bool → List ℕ → (ps : List Patch) → length ps < 2 ^ 63 → Snippet Patch
+abbrev pub snippet : Vec Patch Global → Bool → List ℕ → (ps : List Patch) → length ps < 2 ^ 63 → Snippet Patch
 snippet v folds text ps few =
     record {
       path = None;
@@ -35,13 +37,15 @@ snippet v folds text ps few =
     }
 
 -- a suggestion of some patches is of this kind. These lines are given. Of the lines of the patched source those of these numbers
--- are offered, and of the source's lines those of these are shown as removed. This number is counted
-record Gives (s : Snippet Patch) (kind : DisplaySuggestion) (lines : List (List ℕ)) (offered removed : List ℕ) (counted : ℕ) : Type 0 where
-  kind_is : shown_kind s ≡ kind
-  lines_are : given_lines s ≡ lines
-  offered_are : offered_lines s ≡ offered
-  removed_are : removed_lines s ≡ removed
-  counted_is : counted_line s ≡ counted
+-- are offered, and of the source's lines those of these are shown as removed. This number is counted. Where it begins in a row of its
+-- own, its rows but the last show this
+pub record Gives (s : Snippet Patch) (kind : DisplaySuggestion) (lines : List (List ℕ)) (offered removed : List ℕ) (counted : ℕ) (rows : List SuggestionRow) : Type 0 where
+  pub kind_is : shown_kind s ≡ kind
+  pub lines_are : given_lines s ≡ lines
+  pub offered_are : offered_lines s ≡ offered
+  pub removed_are : removed_lines s ≡ removed
+  pub counted_is : counted_line s ≡ counted
+  pub rows_are : rows_of_suggestion Opening s ≡ rows
 
 -- `foo` with `bar` in its place:
 --
@@ -49,12 +53,12 @@ record Gives (s : Snippet Patch) (kind : DisplaySuggestion) (lines : List (List 
 --     1 - foo
 --     1 + bar
 --       |
-abbrev one_word : Vec Patch Global → Snippet Patch
+abbrev pub one_word : Vec Patch Global → Snippet Patch
 one_word v = snippet v true (codes "foo") (patch 0 3 (codes "bar") ∷ []) (omega arith)
 
-one_word_gives : (v : Vec Patch Global) → Gives (one_word v) Diff (codes "bar" ∷ []) (0 ∷ []) (0 ∷ []) 1
+pub one_word_gives : (v : Vec Patch Global) → Gives (one_word v) Diff (codes "bar" ∷ []) (0 ∷ []) (0 ∷ []) 1 (Begins Opening ∷ Removes 0 1 (codes "foo") ∷ Offers 0 ∷ [])
 unfolding shown_text trimmed_edit sandwich kept_before start_of line_of chars last_line_reached newline_count trim_start trim_end lib.Utf8.encode
-one_word_gives v = record { kind_is = refl; lines_are = refl; offered_are = refl; removed_are = refl; counted_is = refl }
+one_word_gives v = record { kind_is = refl; lines_are = refl; offered_are = refl; removed_are = refl; counted_is = refl; rows_are = refl }
 
 -- `foo()` with `x` put before the bracket:
 --
@@ -64,9 +68,9 @@ one_word_gives v = record { kind_is = refl; lines_are = refl; offered_are = refl
 abbrev text_put_in : Vec Patch Global → Snippet Patch
 text_put_in v = snippet v true (codes "foo()") (patch 4 4 (codes "x") ∷ []) (omega arith)
 
-text_put_in_gives : (v : Vec Patch Global) → Gives (text_put_in v) Underline (codes "foo(x)" ∷ []) (0 ∷ []) [] 1
+text_put_in_gives : (v : Vec Patch Global) → Gives (text_put_in v) Underline (codes "foo(x)" ∷ []) (0 ∷ []) [] 1 (Begins Opening ∷ Offers 0 ∷ [])
 unfolding shown_text trimmed_edit sandwich kept_before start_of line_of chars last_line_reached newline_count trim_start trim_end lib.Utf8.encode
-text_put_in_gives v = record { kind_is = refl; lines_are = refl; offered_are = refl; removed_are = refl; counted_is = refl }
+text_put_in_gives v = record { kind_is = refl; lines_are = refl; offered_are = refl; removed_are = refl; counted_is = refl; rows_are = refl }
 
 -- `a` and `bc` with `x` put first and `b` deleted. No line is lost:
 --
@@ -77,9 +81,9 @@ text_put_in_gives v = record { kind_is = refl; lines_are = refl; offered_are = r
 abbrev two_lines : Vec Patch Global → Snippet Patch
 two_lines v = snippet v true (codes "a" ++ 10 ∷ codes "bc") (patch 0 0 (codes "x") ∷ patch 2 3 [] ∷ []) (omega arith)
 
-two_lines_gives : (v : Vec Patch Global) → Gives (two_lines v) Plain (codes "xa" ∷ codes "c" ∷ []) (0 ∷ 1 ∷ []) [] 2
+two_lines_gives : (v : Vec Patch Global) → Gives (two_lines v) Plain (codes "xa" ∷ codes "c" ∷ []) (0 ∷ 1 ∷ []) [] 2 (Begins Opening ∷ Offers 0 ∷ Offers 1 ∷ [])
 unfolding shown_text trimmed_edit sandwich kept_before start_of line_of chars last_line_reached newline_count trim_start trim_end lib.Utf8.encode
-two_lines_gives v = record { kind_is = refl; lines_are = refl; offered_are = refl; removed_are = refl; counted_is = refl }
+two_lines_gives v = record { kind_is = refl; lines_are = refl; offered_are = refl; removed_are = refl; counted_is = refl; rows_are = refl }
 
 -- `a` with `b` in its place, given before `x` that is put before it:
 --
@@ -90,9 +94,9 @@ two_lines_gives v = record { kind_is = refl; lines_are = refl; offered_are = ref
 abbrev insertion_first : Vec Patch Global → Snippet Patch
 insertion_first v = snippet v true (codes "a") (patch 0 1 (codes "b") ∷ patch 0 0 (codes "x") ∷ []) (omega arith)
 
-insertion_first_gives : (v : Vec Patch Global) → Gives (insertion_first v) Diff (codes "xb" ∷ []) (0 ∷ []) (0 ∷ []) 1
+insertion_first_gives : (v : Vec Patch Global) → Gives (insertion_first v) Diff (codes "xb" ∷ []) (0 ∷ []) (0 ∷ []) 1 (Begins Opening ∷ Removes 0 1 (codes "a") ∷ Offers 0 ∷ [])
 unfolding shown_text trimmed_edit sandwich kept_before start_of line_of chars last_line_reached newline_count trim_start trim_end lib.Utf8.encode
-insertion_first_gives v = record { kind_is = refl; lines_are = refl; offered_are = refl; removed_are = refl; counted_is = refl }
+insertion_first_gives v = record { kind_is = refl; lines_are = refl; offered_are = refl; removed_are = refl; counted_is = refl; rows_are = refl }
 
 -- `a`, deleted:
 --
@@ -102,9 +106,9 @@ insertion_first_gives v = record { kind_is = refl; lines_are = refl; offered_are
 abbrev deleted_line : Vec Patch Global → Snippet Patch
 deleted_line v = snippet v true (codes "a") (patch 0 1 [] ∷ []) (omega arith)
 
-deleted_line_gives : (v : Vec Patch Global) → Gives (deleted_line v) Diff [] [] (0 ∷ []) 1
+deleted_line_gives : (v : Vec Patch Global) → Gives (deleted_line v) Diff [] [] (0 ∷ []) 1 (Begins Opening ∷ Removes 0 1 (codes "a") ∷ [])
 unfolding shown_text trimmed_edit sandwich kept_before start_of line_of chars last_line_reached newline_count trim_start trim_end lib.Utf8.encode
-deleted_line_gives v = record { kind_is = refl; lines_are = refl; offered_are = refl; removed_are = refl; counted_is = refl }
+deleted_line_gives v = record { kind_is = refl; lines_are = refl; offered_are = refl; removed_are = refl; counted_is = refl; rows_are = refl }
 
 -- `a` and a final LF, with `x` put after that. It is joined to the last line:
 --
@@ -114,9 +118,9 @@ deleted_line_gives v = record { kind_is = refl; lines_are = refl; offered_are = 
 abbrev after_final : Vec Patch Global → Snippet Patch
 after_final v = snippet v true (codes "a" ++ 10 ∷ []) (patch 2 2 (codes "x") ∷ []) (omega arith)
 
-after_final_gives : (v : Vec Patch Global) → Gives (after_final v) Underline (codes "ax" ∷ []) (0 ∷ []) [] 1
+after_final_gives : (v : Vec Patch Global) → Gives (after_final v) Underline (codes "ax" ∷ []) (0 ∷ []) [] 1 (Begins Opening ∷ Offers 0 ∷ [])
 unfolding shown_text trimmed_edit sandwich kept_before start_of line_of chars last_line_reached newline_count trim_start trim_end lib.Utf8.encode
-after_final_gives v = record { kind_is = refl; lines_are = refl; offered_are = refl; removed_are = refl; counted_is = refl }
+after_final_gives v = record { kind_is = refl; lines_are = refl; offered_are = refl; removed_are = refl; counted_is = refl; rows_are = refl }
 
 -- `a` and `b`, the first with its LF deleted. The one line that is left is the same as the last line that is reached,
 -- so neither is shown:
@@ -127,9 +131,9 @@ after_final_gives v = record { kind_is = refl; lines_are = refl; offered_are = r
 abbrev first_line_deleted : Vec Patch Global → Snippet Patch
 first_line_deleted v = snippet v true (codes "a" ++ 10 ∷ codes "b") (patch 0 2 [] ∷ []) (omega arith)
 
-first_line_deleted_gives : (v : Vec Patch Global) → Gives (first_line_deleted v) Diff (codes "b" ∷ []) [] (0 ∷ []) 2
+first_line_deleted_gives : (v : Vec Patch Global) → Gives (first_line_deleted v) Diff (codes "b" ∷ []) [] (0 ∷ []) 2 (Begins Opening ∷ Removes 0 1 (codes "a") ∷ [])
 unfolding shown_text trimmed_edit sandwich kept_before start_of line_of chars last_line_reached newline_count trim_start trim_end lib.Utf8.encode
-first_line_deleted_gives v = record { kind_is = refl; lines_are = refl; offered_are = refl; removed_are = refl; counted_is = refl }
+first_line_deleted_gives v = record { kind_is = refl; lines_are = refl; offered_are = refl; removed_are = refl; counted_is = refl; rows_are = refl }
 
 -- `a` and `b`, the first with its LF put in its own place, and the second deleted. No text of a patch stands on the one line:
 --
@@ -139,9 +143,9 @@ first_line_deleted_gives v = record { kind_is = refl; lines_are = refl; offered_
 abbrev untouched_only : Vec Patch Global → Snippet Patch
 untouched_only v = snippet v true (codes "a" ++ 10 ∷ codes "b") (patch 0 2 (codes "a" ++ 10 ∷ []) ∷ patch 2 3 [] ∷ []) (omega arith)
 
-untouched_only_gives : (v : Vec Patch Global) → Gives (untouched_only v) Diff (codes "a" ∷ []) [] [] 2
+untouched_only_gives : (v : Vec Patch Global) → Gives (untouched_only v) Diff (codes "a" ∷ []) [] [] 2 (Begins Opening ∷ Empty ∷ [])
 unfolding shown_text trimmed_edit sandwich kept_before start_of line_of chars last_line_reached newline_count trim_start trim_end lib.Utf8.encode
-untouched_only_gives v = record { kind_is = refl; lines_are = refl; offered_are = refl; removed_are = refl; counted_is = refl }
+untouched_only_gives v = record { kind_is = refl; lines_are = refl; offered_are = refl; removed_are = refl; counted_is = refl; rows_are = refl }
 
 -- `a`, `b` and `c`, with `x` put first and `c` deleted. A line that is emptied at the end isn't given, and `b` isn't touched:
 --
@@ -151,9 +155,9 @@ untouched_only_gives v = record { kind_is = refl; lines_are = refl; offered_are 
 abbrev first_of_three : Vec Patch Global → Snippet Patch
 first_of_three v = snippet v true (codes "a" ++ 10 ∷ codes "b" ++ 10 ∷ codes "c") (patch 0 0 (codes "x") ∷ patch 4 5 [] ∷ []) (omega arith)
 
-first_of_three_gives : (v : Vec Patch Global) → Gives (first_of_three v) Plain (codes "xa" ∷ codes "b" ∷ []) (0 ∷ []) [] 2
+first_of_three_gives : (v : Vec Patch Global) → Gives (first_of_three v) Plain (codes "xa" ∷ codes "b" ∷ []) (0 ∷ []) [] 2 (Begins Opening ∷ Offers 0 ∷ [])
 unfolding shown_text trimmed_edit sandwich kept_before start_of line_of chars last_line_reached newline_count trim_start trim_end lib.Utf8.encode
-first_of_three_gives v = record { kind_is = refl; lines_are = refl; offered_are = refl; removed_are = refl; counted_is = refl }
+first_of_three_gives v = record { kind_is = refl; lines_are = refl; offered_are = refl; removed_are = refl; counted_is = refl; rows_are = refl }
 
 -- `a` to `g`, with `x` put before the first and `y` after the last. Of more than three lines between these the first and the last
 -- are shown:
@@ -168,9 +172,9 @@ first_of_three_gives v = record { kind_is = refl; lines_are = refl; offered_are 
 abbrev gap : Vec Patch Global → Snippet Patch
 gap v = snippet v true (codes "a" ++ 10 ∷ codes "b" ++ 10 ∷ codes "c" ++ 10 ∷ codes "d" ++ 10 ∷ codes "e" ++ 10 ∷ codes "f" ++ 10 ∷ codes "g") (patch 0 0 (codes "x") ∷ patch 13 13 (codes "y") ∷ []) (omega arith)
 
-gap_gives : (v : Vec Patch Global) → Gives (gap v) Plain (codes "xa" ∷ codes "b" ∷ codes "c" ∷ codes "d" ∷ codes "e" ∷ codes "f" ∷ codes "gy" ∷ []) (0 ∷ 1 ∷ 5 ∷ 6 ∷ []) [] 7
+gap_gives : (v : Vec Patch Global) → Gives (gap v) Plain (codes "xa" ∷ codes "b" ∷ codes "c" ∷ codes "d" ∷ codes "e" ∷ codes "f" ∷ codes "gy" ∷ []) (0 ∷ 1 ∷ 5 ∷ 6 ∷ []) [] 7 (Begins Opening ∷ Offers 0 ∷ Offers 1 ∷ Skips ∷ Offers 5 ∷ Offers 6 ∷ [])
 unfolding shown_text trimmed_edit sandwich kept_before start_of line_of chars last_line_reached newline_count trim_start trim_end lib.Utf8.encode
-gap_gives v = record { kind_is = refl; lines_are = refl; offered_are = refl; removed_are = refl; counted_is = refl }
+gap_gives v = record { kind_is = refl; lines_are = refl; offered_are = refl; removed_are = refl; counted_is = refl; rows_are = refl }
 
 -- `a`, `b` and `c`, with `x` in place of `c`. Folded one line is given:
 --
@@ -181,9 +185,9 @@ gap_gives v = record { kind_is = refl; lines_are = refl; offered_are = refl; rem
 abbrev third_line : Vec Patch Global → Snippet Patch
 third_line v = snippet v true (codes "a" ++ 10 ∷ codes "b" ++ 10 ∷ codes "c") (patch 4 5 (codes "x") ∷ []) (omega arith)
 
-third_line_gives : (v : Vec Patch Global) → Gives (third_line v) Diff (codes "x" ∷ []) (2 ∷ []) (2 ∷ []) 3
+third_line_gives : (v : Vec Patch Global) → Gives (third_line v) Diff (codes "x" ∷ []) (2 ∷ []) (2 ∷ []) 3 (Begins Opening ∷ Removes 2 3 (codes "c") ∷ Offers 0 ∷ [])
 unfolding shown_text trimmed_edit sandwich kept_before start_of line_of chars last_line_reached newline_count trim_start trim_end lib.Utf8.encode
-third_line_gives v = record { kind_is = refl; lines_are = refl; offered_are = refl; removed_are = refl; counted_is = refl }
+third_line_gives v = record { kind_is = refl; lines_are = refl; offered_are = refl; removed_are = refl; counted_is = refl; rows_are = refl }
 
 -- `a`, `b` and `c`, with `x` in place of `c`. Unfolded all are given:
 --
@@ -195,9 +199,9 @@ third_line_gives v = record { kind_is = refl; lines_are = refl; offered_are = re
 abbrev third_unfolded : Vec Patch Global → Snippet Patch
 third_unfolded v = snippet v false (codes "a" ++ 10 ∷ codes "b" ++ 10 ∷ codes "c") (patch 4 5 (codes "x") ∷ []) (omega arith)
 
-third_unfolded_gives : (v : Vec Patch Global) → Gives (third_unfolded v) Plain (codes "a" ∷ codes "b" ∷ codes "x" ∷ []) (0 ∷ 1 ∷ 2 ∷ []) [] 3
+third_unfolded_gives : (v : Vec Patch Global) → Gives (third_unfolded v) Plain (codes "a" ∷ codes "b" ∷ codes "x" ∷ []) (0 ∷ 1 ∷ 2 ∷ []) [] 3 (Begins Opening ∷ Offers 0 ∷ Offers 1 ∷ Offers 2 ∷ [])
 unfolding shown_text trimmed_edit sandwich kept_before start_of line_of chars last_line_reached newline_count trim_start trim_end lib.Utf8.encode
-third_unfolded_gives v = record { kind_is = refl; lines_are = refl; offered_are = refl; removed_are = refl; counted_is = refl }
+third_unfolded_gives v = record { kind_is = refl; lines_are = refl; offered_are = refl; removed_are = refl; counted_is = refl; rows_are = refl }
 
 -- `a` with a line `x` put before it:
 --
@@ -207,7 +211,18 @@ third_unfolded_gives v = record { kind_is = refl; lines_are = refl; offered_are 
 abbrev line_put_in : Vec Patch Global → Snippet Patch
 line_put_in v = snippet v true (codes "a") (patch 0 0 (codes "x" ++ 10 ∷ []) ∷ []) (omega arith)
 
-line_put_in_gives : (v : Vec Patch Global) → Gives (line_put_in v) Add (codes "x" ∷ []) (0 ∷ []) [] 1
+line_put_in_gives : (v : Vec Patch Global) → Gives (line_put_in v) Add (codes "x" ∷ []) (0 ∷ []) [] 1 (Begins Opening ∷ Offers 0 ∷ [])
 unfolding shown_text trimmed_edit sandwich kept_before start_of line_of chars last_line_reached newline_count trim_start trim_end lib.Utf8.encode
 line_put_in_gives v =
-    record { kind_is = refl; lines_are = refl; offered_are = refl; removed_are = refl; counted_is = refl }
+    record { kind_is = refl; lines_are = refl; offered_are = refl; removed_are = refl; counted_is = refl; rows_are = refl }
+
+-- a blank line, deleted. It is no diff, so the removed line stands in the row that the suggestion begins with:
+--
+--     1 -
+--       |
+abbrev blank_deleted : Vec Patch Global → Snippet Patch
+blank_deleted v = snippet v true (codes " ") (patch 0 1 [] ∷ []) (omega arith)
+
+blank_deleted_gives : (v : Vec Patch Global) → Gives (blank_deleted v) Plain [] [] (0 ∷ []) 1 (Removes 0 1 (codes " ") ∷ [])
+unfolding shown_text trimmed_edit sandwich kept_before start_of line_of chars last_line_reached newline_count trim_start trim_end lib.Utf8.encode
+blank_deleted_gives v = record { kind_is = refl; lines_are = refl; offered_are = refl; removed_are = refl; counted_is = refl; rows_are = refl }

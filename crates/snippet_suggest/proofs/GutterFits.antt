@@ -26,7 +26,8 @@ use Rattle.snippet_suggest.specs.declared.shown.ShownLine.TheVariants.{Line}
 use Rattle.snippet_suggest.specs.Given.{counted_folded, counted_line, edits_of, first_end, first_given, given_lines, given_text, shown_kind, trimmed_of}
 use Rattle.snippet_suggest.specs.Kind.{adds_lines, is_replacement, kind_of, takes_away}
 use Rattle.snippet_suggest.specs.Prepared.{IsSuggestible}
-use Rattle.snippet_suggest.specs.Rows.{HasGutter, NumberFits, number_after}
+use Rattle.snippet_suggest.specs.Order.{number_after}
+use Rattle.snippet_suggest.specs.Rows.{HasGutter, NumberFits}
 use Rattle.snippet_suggest.proofs.SpanLemmas.{spans_in_order}
 
 -- the test of the kinds, each question answered. Of a kind that gives one line at most the last one is never counted

@@ -3,16 +3,14 @@ use Rattle.std.proofs.Common.{◌≡◌, ◌≢◌, ℕ, ◌≤◌, Bool, true, 
 use Rattle.std.specs.Cow.{cow_str_bytes}
 use Rattle.std.specs.List.{slice_get}
 use Rattle.std.proofs.lemmas.List.{length-map}
-use Rattle.snippet_model.specs.declared.snippet.Snippet.{Snippet}
-use Rattle.snippet_model.specs.declared.snippet.Patch.{Patch}
 use Rattle.snippet_lines.specs.Lines.{lines_of}
 use Rattle.snippet_splice.specs.declared.splice.LineRange.{LineRange}
 use Rattle.snippet_suggest.specs.declared.prepared.PreparedSuggestion.{PreparedSuggestion}
 use Rattle.snippet_suggest.specs.declared.kind.DisplaySuggestion.{DisplaySuggestion}
-use Rattle.snippet_suggest.specs.declared.kind.DisplaySuggestion.TheVariants.{Add, Diff, Plain, Underline}
+use Rattle.snippet_suggest.specs.declared.kind.DisplaySuggestion.TheVariants.{Diff}
 use Rattle.snippet_suggest.specs.declared.shown.ShownLine.TheVariants.{Line}
-use Rattle.snippet_suggest.specs.Given.{counted_folded, given_lines, given_ranges, given_text, is_left_out, last_reached, numbers_given, numbers_of, shown_kind, trimmed_of}
-use Rattle.snippet_suggest.specs.Shown.{is_touched, numbers_shown, shown_lines, shown_run}
+use Rattle.snippet_suggest.specs.Given.{counted_folded, given_lines, given_text, is_left_out, numbers_of, shown_kind, trimmed_of}
+use Rattle.snippet_suggest.specs.Shown.{is_touched, numbers_shown, shown_run}
 use Rattle.snippet_suggest.proofs.GutterFits.{one_given}
 use Rattle.snippet_suggest.specs.Prepared.{IsPrepared}
 
@@ -21,38 +19,26 @@ cond_same true = refl
 cond_same false = refl
 
 -- in a diff the one line that is given is shown where a patch touches it and it isn't left out
-diff_numbers : (folds : Bool) (ranges : List LineRange) (line last : List ℕ) (touched : Bool) → is_touched folds ranges 0 ≡ touched → numbers_of Diff folds ranges (line ∷ []) last ≡ (if touched then (if is_left_out Diff (line ∷ []) last then [] else 0 ∷ []) else [])
+pub diff_numbers : (folds : Bool) (ranges : List LineRange) (line last : List ℕ) (touched : Bool) → is_touched folds ranges 0 ≡ touched → numbers_of Diff folds ranges (line ∷ []) last ≡ (if touched then (if is_left_out Diff (line ∷ []) last then [] else 0 ∷ []) else [])
 diff_numbers folds ranges line last true is =
     ap (λ t. if is_left_out Diff (line ∷ []) last then [] else numbers_shown (if t then shown_run 0 0 ++ (Line 0 ∷ []) else [])) is
 diff_numbers folds ranges line last false is =
     ap (λ t. if is_left_out Diff (line ∷ []) last then [] else numbers_shown (if t then shown_run 0 0 ++ (Line 0 ∷ []) else [])) is ∙ cond_same (is_left_out Diff (line ∷ []) last)
 
-pub known_diff : (p : PreparedSuggestion) → IsPrepared p → (line : List ℕ) (touched : Bool) → p.kind ≡ Diff → given_lines p.snippet.now ≡ line ∷ [] → touched ≡ is_touched p.snippet.now.fold p.splice.ranges.items 0 → numbers_given p.snippet.now ≡ (if touched then (if is_left_out Diff (line ∷ []) (last_reached p.snippet.now) then [] else 0 ∷ []) else [])
-known_diff p is line touched diff one touches =
-    let s = p.snippet.now in
-    let kind : shown_kind s ≡ Diff = sym is.kind ∙ diff in
-    ap (λ k. numbers_of k s.fold (given_ranges s) (given_lines s) (last_reached s)) kind ∙ ap (λ ls. numbers_of Diff s.fold (given_ranges s) ls (last_reached s)) one ∙ diff_numbers s.fold (given_ranges s) line (last_reached s) touched (sym (touches ∙ ap (λ rs. is_touched s.fold rs 0) is.ranges))
-
--- in another kind each line is shown that is touched, or stands between two that are
-others_numbers : (kind : DisplaySuggestion) (folds : Bool) (ranges : List LineRange) (lines : List (List ℕ)) (last : List ℕ) → kind ≢ Diff → numbers_of kind folds ranges lines last ≡ numbers_shown (shown_lines (is_touched folds ranges) (length lines))
-others_numbers Diff folds ranges lines last other = absurd (other refl)
-others_numbers Underline folds ranges lines last other = refl
-others_numbers Plain folds ranges lines last other = refl
-others_numbers Add folds ranges lines last other = refl
-
-pub known_others : (p : PreparedSuggestion) → IsPrepared p → p.kind ≢ Diff → numbers_given p.snippet.now ≡ numbers_shown (shown_lines (is_touched p.snippet.now.fold p.splice.ranges.items) (length (given_lines p.snippet.now)))
-known_others p is other =
-    let s = p.snippet.now in
-    others_numbers (shown_kind s) s.fold (given_ranges s) (given_lines s) (last_reached s) (λ diff. other (is.kind ∙ diff)) ∙ ap (λ rs. numbers_shown (shown_lines (is_touched s.fold rs) (length (given_lines s)))) (sym is.ranges)
-
 -- where no line is given none is shown
-none_numbers : (kind : DisplaySuggestion) (folds : Bool) (ranges : List LineRange) (last : List ℕ) → numbers_of kind folds ranges [] last ≡ []
+pub none_numbers : (kind : DisplaySuggestion) (folds : Bool) (ranges : List LineRange) (last : List ℕ) → numbers_of kind folds ranges [] last ≡ []
 none_numbers kind folds ranges last = cond_same (is_left_out kind [] last)
 
-pub known_none : {X : Type 0} (s : Snippet Patch) (text_of : X → List ℕ) (lines : List X) → slice_get lines 0 ≡ None → map text_of lines ≡ given_lines s → numbers_given s ≡ []
-known_none s text_of [] none are =
-    ap (λ ls. numbers_of (shown_kind s) s.fold (given_ranges s) ls (last_reached s)) (sym are) ∙ none_numbers (shown_kind s) s.fold (given_ranges s) (last_reached s)
-known_none s text_of (l ∷ ls) none are = absurd (cc)
+pub lines_none : {X : Type 0} (text_of : X → List ℕ) (lines : List X) (texts : List (List ℕ)) → slice_get lines 0 ≡ None → map text_of lines ≡ texts → texts ≡ []
+lines_none text_of [] texts none are = sym are
+lines_none text_of (l ∷ ls) texts none are = absurd (cc)
+
+-- where one is given, it is the first
+pub lines_some : {X : Type 0} (text_of : X → List ℕ) (lines : List X) (texts : List (List ℕ)) (line : X) → slice_get lines 0 ≡ Some line → map text_of lines ≡ texts → (rest : List (List ℕ)) × (texts ≡ text_of line ∷ rest)
+lines_some text_of [] texts line some are = absurd (cc)
+lines_some text_of (l ∷ ls) texts line some are =
+    let same : l ≡ line = cc in
+    (map text_of ls, sym are ∙ ap (λ x. text_of x ∷ map text_of ls) same)
 
 -- in a diff one line is given, where one is
 known_few : (p : PreparedSuggestion) → IsPrepared p → p.kind ≡ Diff → length (given_lines p.snippet.now) ≤ 1

@@ -1,25 +1,25 @@
 -- Which lines a suggestion that is prepared shows as removed, and their texts.
-use Rattle.std.proofs.Common.{◌≡◌, ◌≢◌, ℕ, ◌-◌, Bool, true, false, None, Some, if◌then◌else◌, List, [], ◌∷◌, length, map, take, refl, sym, ap, ◌∙◌}
+use Rattle.std.proofs.Common.{◌≡◌, ℕ, zero, suc, ◌+◌, ◌-◌, ◌≤◌, Bool, true, false, if◌then◌else◌, List, [], ◌∷◌, length, map, take, refl, sym, ap, ◌∙◌, arith}
 use Rattle.std.specs.Cow.{cow_str_bytes}
-use Rattle.std.specs.List.{slice_get, slice_index_or}
+use Rattle.std.specs.List.{range_with_len, slice_index_or}
 use Rattle.std.specs.Str.{bytes_eq}
 use Rattle.std.proofs.lemmas.List.{length-map, take-map}
-use Rattle.snippet_model.specs.declared.snippet.Snippet.{Snippet}
-use Rattle.snippet_model.specs.declared.snippet.Patch.{Patch}
+use Rattle.std.proofs.lemmas.List.FromFn.{length-range_with_len}
 use Rattle.snippet_lines.specs.Lines.{source_lines, text_at}
+use Rattle.snippet_lines.specs.Place.{line_of}
 use Rattle.snippet_parts.specs.declared.source_map.LineInfo.{LineInfo}
 use Rattle.snippet_parts.specs.LineTable.{entry_of, touched_entries}
 use Rattle.snippet_splice.specs.Copied.{end_from}
 use Rattle.snippet_splice.specs.Edits.{in_order, trimmed_edit_of}
 use Rattle.snippet_splice.specs.Shown.{first_start}
 use Rattle.snippet_suggest.specs.declared.prepared.PreparedSuggestion.{PreparedSuggestion}
-use Rattle.snippet_suggest.specs.declared.kind.DisplaySuggestion.{DisplaySuggestion}
-use Rattle.snippet_suggest.specs.declared.kind.DisplaySuggestion.TheVariants.{Add, Diff, Plain, Underline}
-use Rattle.snippet_suggest.specs.Given.{edits_of, emptied_lines, first_end, first_original, first_original_end, given_lines, last_reached, last_removed, lines_touched, removed_lines, removed_of, replaced_lines, shown_kind, texts_at, texts_of_source, trimmed_of, unless_stays}
+use Rattle.snippet_suggest.specs.declared.kind.DisplaySuggestion.TheVariants.{Diff}
+use Rattle.snippet_suggest.specs.Given.{edits_of, emptied_lines, first_end, first_original, first_original_end, first_given, given_lines, last_reached, last_removed, lines_touched, removed_lines, removed_of, replaced_lines, shown_kind, texts_at, texts_of_source, trimmed_of, unless_stays}
+use Rattle.snippet_suggest.specs.Order.{Removes, SuggestionRow, counted_from, number_after, number_beside, numbered_at, removed_from, removed_row}
 use Rattle.snippet_suggest.specs.Prepared.{IsPrepared}
 use Rattle.snippet_suggest.specs.Shown.{is_touched}
 use Rattle.snippet_suggest.proofs.KnownLemmas.{known_first_end, known_first_start}
-use Rattle.snippet_suggest.proofs.ReachLemmas.{touched_texts}
+use Rattle.snippet_suggest.proofs.ReachLemmas.{touched_numbered, touched_texts}
 
 -- the texts of the lines that a span touches are those of the source
 touched_source : (p : PreparedSuggestion) → IsPrepared p → (infos : List LineInfo) (start end : ℕ) → map entry_of infos ≡ touched_entries p.map start end → texts_at infos ≡ texts_of_source p.snippet.now (lines_touched (cow_str_bytes p.snippet.now.source) start end)
@@ -32,15 +32,43 @@ touched_either : (folds : Bool) (source : List ℕ) (start end size : ℕ) → l
 touched_either true source start end size = refl
 touched_either false source start end size = refl
 
-pub known_emptied : (p : PreparedSuggestion) → IsPrepared p → (infos : List LineInfo) (start end : ℕ) → start ≡ (if p.snippet.now.fold then first_original p.splice.patches.items else 0) → end ≡ (if p.snippet.now.fold then first_original_end p.splice.patches.items else length p.map.text) → map entry_of infos ≡ touched_entries p.map start end → texts_at infos ≡ texts_of_source p.snippet.now (emptied_lines p.snippet.now)
-known_emptied p is infos start end starts ends are =
+known_emptied : (p : PreparedSuggestion) → IsPrepared p → (start end : ℕ) → start ≡ (if p.snippet.now.fold then first_original p.splice.patches.items else 0) → end ≡ (if p.snippet.now.fold then first_original_end p.splice.patches.items else length p.map.text) → lines_touched (cow_str_bytes p.snippet.now.source) start end ≡ emptied_lines p.snippet.now
+known_emptied p is start end starts ends =
     let s = p.snippet.now in
     let source : List ℕ = cow_str_bytes s.source in
     let first : ℕ = first_start (in_order (edits_of s)) in
     let last : ℕ = first_end (in_order (edits_of s)) in
     let from : start ≡ (if s.fold then first else 0) = starts ∙ ap (λ (n : ℕ). if s.fold then n else 0) (known_first_start p is) in
     let to : end ≡ (if s.fold then last else length source) = ends ∙ ap (λ (n : ℕ). if s.fold then n else length p.map.text) (known_first_end p is) ∙ ap (λ m. if s.fold then last else length m.text) is.lines in
-    touched_source p is infos start end are ∙ ap (λ (n : ℕ). texts_of_source s (lines_touched source n end)) from ∙ ap (λ (n : ℕ). texts_of_source s (lines_touched source (if s.fold then first else 0) n)) to ∙ ap (texts_of_source s) (touched_either s.fold source first last (length source))
+    ap (λ (n : ℕ). lines_touched source n end) from ∙ ap (λ (n : ℕ). lines_touched source (if s.fold then first else 0) n) to ∙ touched_either s.fold source first last (length source)
+
+-- the rows of lines that are removed, where these stand one after the other in the source
+range_removed : (f : ℕ → ℕ × List ℕ) (a n : ℕ) → removed_from a (map f (range_with_len a n)) ≡ map (λ k. Removes k (f k).0 (f k).1) (range_with_len a n)
+range_removed f a zero = refl
+range_removed f a (suc n) = ap (λ rows. Removes a (f a).0 (f a).1 ∷ rows) (range_removed f (a + 1) n)
+
+range_counted : (f : ℕ → List ℕ) (first a b j n : ℕ) → b ≡ a + j → counted_from first j (map f (range_with_len b n)) ≡ map {B = ℕ × List ℕ} (λ k. (number_after first (k - a), f k)) (range_with_len b n)
+range_counted f first a b j zero at = refl
+range_counted f first a b j (suc n) at =
+    let here : j ≡ b - a = omega (arith, at) in
+    let rest : counted_from first (j + 1) (map f (range_with_len (b + 1) n)) ≡ map {B = ℕ × List ℕ} (λ k. (number_after first (k - a), f k)) (range_with_len (b + 1) n) = range_counted f first a (b + 1) (j + 1) n (omega (arith, at)) in
+    ap (λ ls. (number_after first j, f b) ∷ ls) rest ∙ ap (λ (m : ℕ). (number_after first m, f b) ∷ map {B = ℕ × List ℕ} (λ k. (number_after first (k - a), f k)) (range_with_len (b + 1) n)) here
+
+-- the rows of those that are removed where no line stands in their place
+pub known_emptied_rows : (p : PreparedSuggestion) → IsPrepared p → (infos : List LineInfo) (start end : ℕ) → given_lines p.snippet.now ≡ [] → start ≡ (if p.snippet.now.fold then first_original p.splice.patches.items else 0) → end ≡ (if p.snippet.now.fold then first_original_end p.splice.patches.items else length p.map.text) → map entry_of infos ≡ touched_entries p.map start end → removed_from (line_of (source_lines p.map.text) start) (numbered_at infos) ≡ map (removed_row p.snippet.now) (removed_lines p.snippet.now)
+known_emptied_rows p is infos start end none starts ends are =
+    let s = p.snippet.now in
+    let source : List ℕ = cow_str_bytes s.source in
+    let ls = source_lines p.map.text in
+    let a : ℕ = line_of ls start in
+    let n : ℕ = line_of ls end + 1 - a in
+    let own : ℕ → ℕ × List ℕ = λ k. (p.map.first + k, text_at ls k) in
+    let begin : ℕ = line_of (source_lines source) (first_start (trimmed_of s)) in
+    let counted : ℕ → ℕ = λ k. number_after (s.line_start + first_given s) (k - begin) in
+    let row : List (List ℕ) → ℕ → SuggestionRow = λ given k. Removes k (number_beside given (s.line_start + k) (counted k)) (text_at (source_lines source) k) in
+    let ks : List ℕ = removed_lines s in
+    let lines : lines_touched source start end ≡ ks = known_emptied p is start end starts ends ∙ ap (λ (given : List (List ℕ)). removed_of given (shown_kind s) (emptied_lines s) (replaced_lines s)) (sym none) in
+    ap (removed_from a) (touched_numbered p.map infos start end are) ∙ range_removed own a n ∙ ap (λ m. map (λ k. Removes k (m.first + k) (text_at (source_lines m.text) k)) (lines_touched m.text start end)) is.lines ∙ ap (map (row [])) lines ∙ ap (λ (given : List (List ℕ)). map (row given) ks) (sym none)
 
 -- the texts of some lines, without the last if that stays
 unless_stays-map : (stays : Bool) (f : ℕ → List ℕ) (ks : List ℕ) → unless_stays stays (map f ks) ≡ map f (unless_stays stays ks)
@@ -48,8 +76,32 @@ unless_stays-map true f ks =
     ap (λ (n : ℕ). take (n - 1) (map f ks)) (length-map ks f) ∙ take-map f (length ks - 1) ks
 unless_stays-map false f ks = refl
 
+-- so many numbers that follow on one another, without the last if that stays
+take_range : (a n k : ℕ) → k ≤ n → take k (range_with_len a n) ≡ range_with_len a k
+take_range a n zero fits = refl
+take_range a zero (suc k) fits = absurd (omega (arith, fits))
+take_range a (suc n) (suc k) fits = ap (λ ks. a ∷ ks) (take_range (a + 1) n k (omega (arith, fits)))
+
+unless_range : (stays : Bool) (a n : ℕ) → unless_stays stays (range_with_len a n) ≡ range_with_len a (if stays then n - 1 else n)
+unless_range true a n =
+    ap (λ (k : ℕ). take (k - 1) (range_with_len a n)) (length-range_with_len a n) ∙ take_range a n (n - 1) (omega arith)
+unless_range false a n = refl
+
+-- where one line is given and a patch touches it, those from the first trimmed patch's start to the last one's end are removed,
+-- without the last if that stays
+removes_replaced : (p : PreparedSuggestion) → IsPrepared p → (line : List ℕ) → p.kind ≡ Diff → given_lines p.snippet.now ≡ line ∷ [] → removed_lines p.snippet.now ≡ replaced_lines p.snippet.now
+removes_replaced p is line diff one =
+    let s = p.snippet.now in
+    ap (λ (ls : List (List ℕ)). removed_of ls (shown_kind s) (emptied_lines s) (replaced_lines s)) one ∙ ap (λ k. removed_of (line ∷ []) k (emptied_lines s) (replaced_lines s)) (sym is.kind ∙ diff)
+
+replaced_touched : (p : PreparedSuggestion) → IsPrepared p → (line : List ℕ) → given_lines p.snippet.now ≡ line ∷ [] → true ≡ is_touched p.snippet.now.fold p.splice.ranges.items 0 → replaced_lines p.snippet.now ≡ unless_stays (bytes_eq line (last_reached p.snippet.now)) (lines_touched (cow_str_bytes p.snippet.now.source) (first_start (trimmed_of p.snippet.now)) (end_from 0 (trimmed_of p.snippet.now)))
+replaced_touched p is line one touches =
+    let s = p.snippet.now in
+    let ks : List ℕ = lines_touched (cow_str_bytes s.source) (first_start (trimmed_of s)) (end_from 0 (trimmed_of s)) in
+    ap (λ t. if t then unless_stays (bytes_eq (slice_index_or (given_lines s) 0 []) (last_reached s)) ks else []) (ap (λ rs. is_touched s.fold rs 0) (sym is.ranges) ∙ sym touches) ∙ ap (λ (ls : List (List ℕ)). unless_stays (bytes_eq (slice_index_or ls 0 []) (last_reached s)) ks) one
+
 -- those from the first trimmed patch's start to the last one's end
-pub known_replaced : (p : PreparedSuggestion) → IsPrepared p → (line : List ℕ) (infos : List LineInfo) (start end : ℕ) → given_lines p.snippet.now ≡ line ∷ [] → true ≡ is_touched p.snippet.now.fold p.splice.ranges.items 0 → start ≡ first_start (map trimmed_edit_of p.splice.patches.items) → end ≡ end_from 0 (map trimmed_edit_of p.splice.patches.items) → map entry_of infos ≡ touched_entries p.map start end → last_removed infos ≡ last_reached p.snippet.now → unless_stays (bytes_eq line (last_removed infos)) (texts_at infos) ≡ texts_of_source p.snippet.now (replaced_lines p.snippet.now)
+known_replaced : (p : PreparedSuggestion) → IsPrepared p → (line : List ℕ) (infos : List LineInfo) (start end : ℕ) → given_lines p.snippet.now ≡ line ∷ [] → true ≡ is_touched p.snippet.now.fold p.splice.ranges.items 0 → start ≡ first_start (map trimmed_edit_of p.splice.patches.items) → end ≡ end_from 0 (map trimmed_edit_of p.splice.patches.items) → map entry_of infos ≡ touched_entries p.map start end → last_removed infos ≡ last_reached p.snippet.now → unless_stays (bytes_eq line (last_removed infos)) (texts_at infos) ≡ texts_of_source p.snippet.now (replaced_lines p.snippet.now)
 known_replaced p is line infos start end one touches starts ends are reached =
     let s = p.snippet.now in
     let source : List ℕ = cow_str_bytes s.source in
@@ -58,36 +110,25 @@ known_replaced p is line infos start end one touches starts ends are reached =
     let from : start ≡ first_start (trimmed_of s) = starts ∙ ap first_start is.edits in
     let to : end ≡ end_from 0 (trimmed_of s) = ends ∙ ap (end_from 0) is.edits in
     let texts : texts_at infos ≡ texts_of_source s ks = touched_source p is infos start end are ∙ ap (λ (n : ℕ). texts_of_source s (lines_touched source n end)) from ∙ ap (λ (n : ℕ). texts_of_source s (lines_touched source (first_start (trimmed_of s)) n)) to in
-    let by_touch : replaced_lines s ≡ unless_stays (bytes_eq (slice_index_or (given_lines s) 0 []) (last_reached s)) ks = ap (λ t. if t then unless_stays (bytes_eq (slice_index_or (given_lines s) 0 []) (last_reached s)) ks else []) (ap (λ rs. is_touched s.fold rs 0) (sym is.ranges) ∙ sym touches) in
-    let lines : replaced_lines s ≡ unless_stays stays ks = by_touch ∙ ap (λ (ls : List (List ℕ)). unless_stays (bytes_eq (slice_index_or ls 0 []) (last_reached s)) ks) one in
+    let lines : replaced_lines s ≡ unless_stays stays ks = replaced_touched p is line one touches in
     ap (λ (t : List ℕ). unless_stays (bytes_eq line t) (texts_at infos)) reached ∙ ap (unless_stays stays) texts ∙ unless_stays-map stays (text_at (source_lines source)) ks ∙ ap (texts_of_source s) (sym lines)
 
--- none where no patch touches the line in their place
-pub known_untouched : (p : PreparedSuggestion) → IsPrepared p → false ≡ is_touched p.snippet.now.fold p.splice.ranges.items 0 → replaced_lines p.snippet.now ≡ []
-known_untouched p is touches =
+-- the rows of those
+pub known_replaced_rows : (p : PreparedSuggestion) → IsPrepared p → (line : List ℕ) (infos : List LineInfo) (start end first : ℕ) → p.kind ≡ Diff → given_lines p.snippet.now ≡ line ∷ [] → true ≡ is_touched p.snippet.now.fold p.splice.ranges.items 0 → start ≡ first_start (map trimmed_edit_of p.splice.patches.items) → end ≡ end_from 0 (map trimmed_edit_of p.splice.patches.items) → map entry_of infos ≡ touched_entries p.map start end → last_removed infos ≡ last_reached p.snippet.now → first ≡ p.snippet.now.line_start + first_given p.snippet.now → removed_from (line_of (source_lines (cow_str_bytes p.snippet.now.source)) (first_start (trimmed_of p.snippet.now))) (counted_from first 0 (unless_stays (bytes_eq line (last_removed infos)) (texts_at infos))) ≡ map (removed_row p.snippet.now) (removed_lines p.snippet.now)
+known_replaced_rows p is line infos start end first diff one touches starts ends are reached numbered =
     let s = p.snippet.now in
-    let ks : List ℕ = lines_touched (cow_str_bytes s.source) (first_start (trimmed_of s)) (end_from 0 (trimmed_of s)) in
-    ap (λ t. if t then unless_stays (bytes_eq (slice_index_or (given_lines s) 0 []) (last_reached s)) ks else []) (ap (λ rs. is_touched s.fold rs 0) (sym is.ranges) ∙ sym touches)
-
--- which of these they are: where no line is given, where one is in a diff, and in another kind
-pub removes_emptied : {X : Type 0} (s : Snippet Patch) (text_of : X → List ℕ) (lines : List X) → slice_get lines 0 ≡ None → map text_of lines ≡ given_lines s → removed_lines s ≡ emptied_lines s
-removes_emptied s text_of [] none are =
-    ap (λ (ls : List (List ℕ)). removed_of ls (shown_kind s) (emptied_lines s) (replaced_lines s)) (sym are)
-removes_emptied s text_of (l ∷ ls) none are = absurd (cc)
-
-pub removes_replaced : (p : PreparedSuggestion) → IsPrepared p → (line : List ℕ) → p.kind ≡ Diff → given_lines p.snippet.now ≡ line ∷ [] → removed_lines p.snippet.now ≡ replaced_lines p.snippet.now
-removes_replaced p is line diff one =
-    let s = p.snippet.now in
-    ap (λ (ls : List (List ℕ)). removed_of ls (shown_kind s) (emptied_lines s) (replaced_lines s)) one ∙ ap (λ k. removed_of (line ∷ []) k (emptied_lines s) (replaced_lines s)) (sym is.kind ∙ diff)
-
-others_none : (kind : DisplaySuggestion) (line : List ℕ) (lines : List (List ℕ)) (emptied replaced : List ℕ) → kind ≢ Diff → removed_of (line ∷ lines) kind emptied replaced ≡ []
-others_none Diff line lines emptied replaced other = absurd (other refl)
-others_none Underline line lines emptied replaced other = refl
-others_none Plain line lines emptied replaced other = refl
-others_none Add line lines emptied replaced other = refl
-
-pub removes_none : {X : Type 0} (p : PreparedSuggestion) → IsPrepared p → p.kind ≢ Diff → (text_of : X → List ℕ) (lines : List X) (line : X) → slice_get lines 0 ≡ Some line → map text_of lines ≡ given_lines p.snippet.now → removed_lines p.snippet.now ≡ []
-removes_none p is other text_of [] line some are = absurd (cc)
-removes_none p is other text_of (l ∷ ls) line some are =
-    let s = p.snippet.now in
-    ap (λ (ts : List (List ℕ)). removed_of ts (shown_kind s) (emptied_lines s) (replaced_lines s)) (sym are) ∙ others_none (shown_kind s) (text_of l) (map text_of ls) (emptied_lines s) (replaced_lines s) (λ diff. other (is.kind ∙ diff))
+    let source : List ℕ = cow_str_bytes s.source in
+    let ls = source_lines source in
+    let a : ℕ = line_of ls (first_start (trimmed_of s)) in
+    let n : ℕ = line_of ls (end_from 0 (trimmed_of s)) + 1 - a in
+    let stays : Bool = bytes_eq line (last_reached s) in
+    let m : ℕ = if stays then n - 1 else n in
+    let text : ℕ → List ℕ = text_at ls in
+    let row : List (List ℕ) → ℕ → ℕ → SuggestionRow = λ given at k. Removes k (number_beside given (s.line_start + k) (number_after at (k - a))) (text k) in
+    let ks : List ℕ = removed_lines s in
+    let lines : replaced_lines s ≡ range_with_len a m = replaced_touched p is line one touches ∙ unless_range stays a n in
+    let removed : range_with_len a m ≡ ks = sym lines ∙ sym (removes_replaced p is line diff one) in
+    let texts : unless_stays (bytes_eq line (last_removed infos)) (texts_at infos) ≡ map text (range_with_len a m) = known_replaced p is line infos start end one touches starts ends are reached ∙ ap (map text) lines in
+    let begun : a ≡ a + 0 = omega arith in
+    let rows : removed_from a (counted_from first 0 (map text (range_with_len a m))) ≡ map (row (line ∷ []) first) (range_with_len a m) = ap (removed_from a) (range_counted text first a a 0 m begun) ∙ range_removed (λ k. (number_after first (k - a), text k)) a m in
+    ap (λ (ts : List (List ℕ)). removed_from a (counted_from first 0 ts)) texts ∙ rows ∙ ap (map (row (line ∷ []) first)) removed ∙ ap (λ (at : ℕ). map (row (line ∷ []) at) ks) numbered ∙ ap (λ (given : List (List ℕ)). map (row given (s.line_start + first_given s)) ks) (sym one)

@@ -1,29 +1,19 @@
 -- The last row of a suggestion, below those that stand before it.
-use Rattle.std.proofs.Common.{◌≡◌, ℕ, ◌+◌, List, [], ◌∷◌, ◌++◌, All, length, replicate, refl, sym, ap, ◌∙◌, arith, append_assoc, inl}
-use Rattle.std.proofs.lemmas.List.{append-nil, length-append, length-replicate}
-use Rattle.std.proofs.lemmas.List.Elements.{All-nil, All-replicate}
+use Rattle.std.proofs.Common.{◌≡◌, ℕ, ◌+◌, Bool, List, [], ◌∷◌, ◌++◌, length, replicate, sym, ap, ◌∙◌, arith, append_assoc}
+use Rattle.std.proofs.lemmas.List.{length-append, length-replicate}
 use Rattle.snippet_model.specs.declared.snippet.Snippet.{Snippet}
 use Rattle.snippet_model.specs.declared.snippet.Patch.{Patch}
-use Rattle.snippet_style.specs.declared.glyphs.DecorStyle.{DecorStyle}
 use Rattle.snippet_style.specs.Cell.{Cell}
-use Rattle.snippet_model.specs.Rows.{IsFreeCell}
 use Rattle.snippet_suggest.specs.declared.layout.SuggestionLayout.{SuggestionLayout}
-use Rattle.snippet_suggest.specs.Given.{first_given, given_lines, numbers_given, removed_texts}
-use Rattle.snippet_suggest.specs.Rows.{AddsEnd, AddsLines, AddsRow, AddsSuggestion, IsBareRow}
-use Rattle.snippet_suggest.proofs.ComposeLemmas.{bares_lines, lines_append}
-
--- an empty row shows no line
-empty_bare : (decor : DecorStyle) (gutter : ℕ) → IsBareRow decor gutter []
-empty_bare decor gutter =
-    record {
-      strokes = λ c left. refl;
-      marks = λ c right. inl refl;
-      free = All-nil IsFreeCell;
-    }
+use Rattle.snippet_suggest.specs.declared.layout.SuggestionStart.{SuggestionStart}
+use Rattle.snippet_suggest.specs.Given.{first_given, given_lines}
+use Rattle.snippet_suggest.specs.Order.{Empty, Ends, SuggestionRow, rows_of_suggestion}
+use Rattle.snippet_suggest.specs.Rows.{AddsEnd, AddsRow, AddsRows, AddsSuggestion, IsStrokeRow, Shows, beside_gutter}
+use Rattle.snippet_suggest.proofs.BareLemmas.{stroke_none}
 
 -- what is added below so many empty rows
-pub end_row : (layout : SuggestionLayout) (skipped : ℕ) (old new : List (List Cell)) → AddsEnd layout skipped old new → AddsRow (IsBareRow layout.decor layout.gutter) (old ++ replicate skipped []) new
-end_row layout skipped old new adds =
+pub end_row : (layout : SuggestionLayout) (glyph : List ℕ) (skipped : ℕ) (old new : List (List Cell)) → AddsEnd layout glyph skipped old new → AddsRow (IsStrokeRow layout.decor layout.gutter (beside_gutter layout.gutter glyph)) (old ++ replicate skipped []) new
+end_row layout glyph skipped old new adds =
     record {
       row = adds.last;
       added = adds.added ∙ sym (append_assoc old (replicate skipped []) (adds.last ∷ []));
@@ -35,21 +25,22 @@ pub end_number : (skipped row : ℕ) (old : List (List Cell)) → row ≡ length
 end_number skipped row old is =
     omega (arith, is, length-append old (replicate skipped []), length-replicate {A = List Cell} skipped [])
 
--- the rows of the lines that are shown, empty rows, and the last are those of the suggestion
-pub suggestion_added : (layout : SuggestionLayout) (s : Snippet Patch) (skipped : ℕ) (above mid new : List (List Cell)) → AddsLines layout (s.line_start + first_given s) (given_lines s) (numbers_given s) (removed_texts s) above mid → AddsRow (IsBareRow layout.decor layout.gutter) (mid ++ replicate skipped []) new → AddsSuggestion layout s above new
-suggestion_added layout s skipped above mid new body last =
-    let first : ℕ = s.line_start + first_given s in
-    let empty : List (List Cell) = replicate skipped [] in
-    let bare : All (IsBareRow layout.decor layout.gutter) empty = All-replicate (IsBareRow layout.decor layout.gutter) skipped [] (empty_bare layout.decor layout.gutter) in
-    let below : AddsLines layout first (given_lines s) [] [] mid (mid ++ empty) = bares_lines layout first (given_lines s) mid empty (mid ++ empty) refl bare in
-    let rows = lines_append layout first (given_lines s) (numbers_given s) [] (removed_texts s) [] above mid (mid ++ empty) body below in
+-- below the row that a suggestion begins with one stays empty
+pub empty_below : (layout : SuggestionLayout) (first : ℕ) (lines : List (List ℕ)) (begin : SuggestionRow) (above new : List (List Cell)) → AddsRow (Shows layout first lines begin) above new → AddsRows layout first lines (begin ∷ Empty ∷ []) above (new ++ replicate 1 [])
+empty_below layout first lines begin above new adds =
     record {
-      shown = rows.shown;
-      rows = rows.rows;
+      rows = adds.row ∷ [] ∷ [];
+      added = ap (λ rows. rows ++ [] ∷ []) adds.added ∙ append_assoc above (adds.row ∷ []) ([] ∷ []);
+      are = (adds.is, (stroke_none layout.decor layout.gutter, tt));
+    }
+
+-- the rows of a suggestion, the last of which is what it ends with
+pub suggestion_added : (layout : SuggestionLayout) (start : SuggestionStart) (follows : Bool) (s : Snippet Patch) (skipped : ℕ) (above mid new : List (List Cell)) → AddsRows layout (s.line_start + first_given s) (given_lines s) (rows_of_suggestion start s) above (mid ++ replicate skipped []) → AddsRow (Shows layout (s.line_start + first_given s) (given_lines s) (Ends follows)) (mid ++ replicate skipped []) new → AddsSuggestion layout start follows s above new
+suggestion_added layout start follows s skipped above mid new body last =
+    record {
+      rows = body.rows;
       last = last.row;
-      added = last.added ∙ ap (λ r. r ++ last.row ∷ []) rows.added ∙ append_assoc above rows.rows (last.row ∷ []);
-      are = rows.are;
-      numbers = rows.numbers_are ∙ append-nil (numbers_given s);
-      removed = rows.removed_are ∙ append-nil (removed_texts s);
+      added = last.added ∙ ap (λ r. r ++ last.row ∷ []) body.added ∙ append_assoc above body.rows (last.row ∷ []);
+      are = body.are;
       last_is = last.is;
     }

@@ -14,6 +14,7 @@ pub mod LineRowLemmas
 pub mod MarkLemmas
 pub mod NumberLaws
 pub mod OfferLaws
+pub mod OrderLaws
 pub mod OtherRows
 pub mod PaintLemmas
 pub mod PreparedLemmas

@@ -13,7 +13,7 @@ use Rattle.snippet_style.proofs.CellLemmas.{slice_index_or-written_before, slice
 use Rattle.snippet_text.specs.Normalized.{is_listed}
 use Rattle.snippet_model.specs.Rows.{IsFreeCell, IsFree}
 use Rattle.snippet_suggest.specs.Glyphs.{changed_mark_of}
-use Rattle.snippet_suggest.specs.Rows.{AddsRow, IsBareRow, IsMarkOrSpace, is_stroke}
+use Rattle.snippet_suggest.specs.Rows.{AddsRow, IsBareRow, IsMarkOrSpace, IsStrokeRow, is_stroke}
 use Rattle.snippet_suggest.proofs.RowLemmas.{free_written}
 
 -- no mark is listed
@@ -59,12 +59,20 @@ bare_marked decor gutter at role ch row right is bare =
       free = free_written row at cells bare.free free;
     }
 
+-- what stands left of the lines stays
+stroke_marked : (decor : DecorStyle) (gutter at : ℕ) (role : ElementStyle) (ch : ℕ) (left : List ℕ) (row : List Cell) → gutter + 3 ≤ at → IsMarkOrSpace decor ch → IsStrokeRow decor gutter left row → IsStrokeRow decor gutter left (written SPACE row at (text_cells role (ch ∷ [])))
+stroke_marked decor gutter at role ch left row right is stroke =
+    record {
+      bare = bare_marked decor gutter at role ch row right is stroke.bare;
+      left_is = λ c inside. ap (λ (cell : Cell). cell.ch) (slice_index_or-written_before SPACE row at (text_cells role (ch ∷ [])) c (omega (arith, inside, right))) ∙ stroke.left_is c inside;
+    }
+
 -- one mark more
-pub marks_more : (decor : DecorStyle) (gutter at : ℕ) (role : ElementStyle) (ch : ℕ) (above mid new : List (List Cell)) (row : ℕ) → row ≡ length above → gutter + 3 ≤ at → IsMarkOrSpace decor ch → AddsRow (IsBareRow decor gutter) above mid → new ≡ cells_written mid row at (text_cells role (ch ∷ [])) → AddsRow (IsBareRow decor gutter) above new
-marks_more decor gutter at role ch above mid new row here right is adds writes =
+pub marks_more : (decor : DecorStyle) (gutter at : ℕ) (role : ElementStyle) (ch : ℕ) (left : List ℕ) (above mid new : List (List Cell)) (row : ℕ) → row ≡ length above → gutter + 3 ≤ at → IsMarkOrSpace decor ch → AddsRow (IsStrokeRow decor gutter left) above mid → new ≡ cells_written mid row at (text_cells role (ch ∷ [])) → AddsRow (IsStrokeRow decor gutter left) above new
+marks_more decor gutter at role ch left above mid new row here right is adds writes =
     let cells = text_cells role (ch ∷ []) in
     record {
       row = written SPACE adds.row at cells;
       added = writes ∙ ap (λ (rows : List (List Cell)). cells_written rows row at cells) adds.added ∙ ap (λ r. cells_written (above ++ adds.row ∷ []) r at cells) here ∙ cells_written_last above adds.row at cells;
-      is = bare_marked decor gutter at role ch adds.row right is adds.is;
+      is = stroke_marked decor gutter at role ch left adds.row right is adds.is;
     }

@@ -15,6 +15,7 @@ use Rattle.snippet_splice.specs.Edits.{AreApart, Edit, trimmed_edit_of, trimmed_
 use Rattle.snippet_splice.specs.Shown.{first_start}
 use Rattle.snippet_splice.specs.Spliced.{last_line_reached}
 use Rattle.snippet_suggest.specs.Given.{last_removed, lines_touched, texts_at}
+use Rattle.snippet_suggest.specs.Order.{numbered_at}
 
 -- ---- the end of the last edit
 
@@ -88,6 +89,20 @@ touched_texts s infos start end are =
     theirs : (ks : List ℕ) → map (λ (e : LineEntry). e.text) (map (entry_at s.first (source_lines s.text)) ks) ≡ map (text_at (source_lines s.text)) ks
     theirs [] = refl
     theirs (k ∷ ks) = ap (λ ts. text_at (source_lines s.text) k ∷ ts) (theirs ks)
+
+-- their numbers and texts
+pub touched_numbered : (s : Source) (infos : List LineInfo) (start end : ℕ) → map entry_of infos ≡ touched_entries s start end → numbered_at infos ≡ map {B = ℕ × List ℕ} (λ k. (s.first + k, text_at (source_lines s.text) k)) (lines_touched s.text start end)
+touched_numbered s infos start end are =
+    let line : LineEntry → ℕ × List ℕ = λ e. (e.number, e.text) in
+    own infos ∙ ap (map line) are ∙ theirs (lines_touched s.text start end)
+  where
+    own : (is : List LineInfo) → numbered_at is ≡ map {B = ℕ × List ℕ} (λ (e : LineEntry). (e.number, e.text)) (map entry_of is)
+    own [] = refl
+    own (info ∷ is) = ap (λ ls. (info.line_index, info.line.now) ∷ ls) (own is)
+
+    theirs : (ks : List ℕ) → map {B = ℕ × List ℕ} (λ (e : LineEntry). (e.number, e.text)) (map (entry_at s.first (source_lines s.text)) ks) ≡ map {B = ℕ × List ℕ} (λ k. (s.first + k, text_at (source_lines s.text) k)) ks
+    theirs [] = refl
+    theirs (k ∷ ks) = ap (λ ls. (s.first + k, text_at (source_lines s.text) k) ∷ ls) (theirs ks)
 
 -- the last of them is the one on which the span ends
 pub touched_last : (s : Source) (infos : List LineInfo) (start end : ℕ) → start ≤ end → map entry_of infos ≡ touched_entries s start end → last_removed infos ≡ text_at (source_lines s.text) (line_of (source_lines s.text) end)

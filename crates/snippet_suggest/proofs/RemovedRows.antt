@@ -1,43 +1,28 @@
 -- Rows of removed lines, below some rows.
-use Rattle.std.proofs.Common.{◌≡◌, ℕ, ◌+◌, ◌-◌, ◌<◌, ◌≤◌, Bool, true, false, List, [], ◌∷◌, ◌++◌, chars, get_or, length, map, take, refl, sym, ap, ◌∙◌, arith, append_assoc, subst, if◌then◌else◌}
+use Rattle.std.proofs.Common.{◌≡◌, ℕ, ◌+◌, ◌-◌, ◌<◌, ◌≤◌, Bool, true, false, List, [], ◌∷◌, ◌++◌, get_or, length, take, refl, sym, ap, ◌∙◌, arith, append_assoc, subst, if◌then◌else◌}
 use Rattle.std.specs.List.{AllZip}
-use Rattle.std.proofs.lemmas.List.{append-nil, get_or-map, length-append, length-map, take_all}
-use Rattle.snippet_text.specs.Normalized.{norm}
+use Rattle.std.proofs.lemmas.List.{append-nil, get_or-map, length-append, length-map, length-take, take_all}
 use Rattle.snippet_style.specs.Cell.{Cell}
 use Rattle.snippet_parts.specs.declared.source_map.LineInfo.{LineInfo}
 use Rattle.snippet_suggest.specs.declared.layout.SuggestionLayout.{SuggestionLayout}
 use Rattle.snippet_suggest.specs.Given.{texts_at}
-use Rattle.snippet_suggest.specs.Rows.{AddsLines, AddsRemoved, AddsRow, IsRemovedRow, IsTail, Removes, Shows, numbers_offered, texts_removed}
+use Rattle.snippet_suggest.specs.Order.{counted_from, number_after, numbered_at, removed_from}
+use Rattle.snippet_suggest.specs.Rows.{AddsRemoved, AddsRow, AddsRows, IsRowOfRemoved, IsTail, Shows}
 use Rattle.snippet_suggest.proofs.DrawnLemmas.{next_of, zip_push}
 
--- a row of a line that is removed
-abbrev pub IsRowOfRemoved : SuggestionLayout → List ℕ → List Cell → Type 0
-IsRowOfRemoved layout text row = IsRemovedRow layout.numbers layout.decor layout.gutter (norm (chars text)) row
-
 -- rows of lines that are removed are rows of a suggestion
-removed_zip : (layout : SuggestionLayout) (first : ℕ) (lines texts : List (List ℕ)) (rows : List (List Cell)) → AllZip (IsRowOfRemoved layout) texts rows → AllZip (Shows layout first lines) (map Removes texts) rows
-removed_zip layout first lines [] [] are = tt
-removed_zip layout first lines [] (row ∷ rows) are = elim are [ ]
-removed_zip layout first lines (text ∷ texts) [] are = elim are [ ]
-removed_zip layout first lines (text ∷ texts) (row ∷ rows) are = (are.0, removed_zip layout first lines texts rows are.1)
+removed_zip : (layout : SuggestionLayout) (first : ℕ) (lines : List (List ℕ)) (i : ℕ) (removed : List (ℕ × List ℕ)) (rows : List (List Cell)) → AllZip (IsRowOfRemoved layout) removed rows → AllZip (Shows layout first lines) (removed_from i removed) rows
+removed_zip layout first lines i [] [] are = tt
+removed_zip layout first lines i [] (row ∷ rows) are = elim are [ ]
+removed_zip layout first lines i (line ∷ removed) [] are = elim are [ ]
+removed_zip layout first lines i (line ∷ removed) (row ∷ rows) are = (are.0, removed_zip layout first lines (i + 1) removed rows are.1)
 
-removed_offer : (texts : List (List ℕ)) → numbers_offered (map Removes texts) ≡ []
-removed_offer [] = refl
-removed_offer (text ∷ texts) = removed_offer texts
-
-removed_remove : (texts : List (List ℕ)) → texts_removed (map Removes texts) ≡ texts
-removed_remove [] = refl
-removed_remove (text ∷ texts) = ap (λ ts. text ∷ ts) (removed_remove texts)
-
-pub removed_lines : (layout : SuggestionLayout) (first : ℕ) (lines texts : List (List ℕ)) (above new : List (List Cell)) → AddsRemoved layout texts above new → AddsLines layout first lines [] texts above new
-removed_lines layout first lines texts above new adds =
+pub removed_rows : (layout : SuggestionLayout) (first : ℕ) (lines : List (List ℕ)) (i : ℕ) (removed : List (ℕ × List ℕ)) (above new : List (List Cell)) → AddsRemoved layout removed above new → AddsRows layout first lines (removed_from i removed) above new
+removed_rows layout first lines i removed above new adds =
     record {
-      shown = map Removes texts;
       rows = adds.rows;
       added = adds.added;
-      are = removed_zip layout first lines texts adds.rows adds.are;
-      numbers_are = removed_offer texts;
-      removed_are = removed_remove texts;
+      are = removed_zip layout first lines i removed adds.rows adds.are;
     }
 
 -- no row of a removed line, and that of the next of some
@@ -49,35 +34,60 @@ removed_none layout old =
       are = tt;
     }
 
-next_text : (infos : List LineInfo) (i : ℕ) (d : LineInfo) → i < length infos → take i (texts_at infos) ++ (get_or infos i d).line.now ∷ [] ≡ take (i + 1) (texts_at infos)
-next_text infos i d within =
-    let text : LineInfo → List ℕ = λ info. info.line.now in
-    let inside : i < length (texts_at infos) = omega (arith, length-map infos text) in
-    ap (λ t. take i (texts_at infos) ++ t ∷ []) (sym (get_or-map text infos i d [] within)) ∙ sym (next_of (texts_at infos) i [] inside)
+-- one line more is counted
+counted_push : (first k : ℕ) (texts : List (List ℕ)) (text : List ℕ) → counted_from first k (texts ++ text ∷ []) ≡ counted_from first k texts ++ (number_after first (k + length texts), text) ∷ []
+counted_push first k [] text =
+    let here : k ≡ k + 0 = omega arith in
+    ap (λ (n : ℕ). (number_after first n, text) ∷ []) here
+counted_push first k (t ∷ texts) text =
+    let here : k + 1 + length texts ≡ k + length (t ∷ texts) = omega arith in
+    ap (λ ls. (number_after first k, t) ∷ ls) (counted_push first (k + 1) texts text ∙ ap (λ (n : ℕ). counted_from first (k + 1) texts ++ (number_after first n, text) ∷ []) here)
 
-pub removed_more : (layout : SuggestionLayout) (infos : List LineInfo) (i : ℕ) (d : LineInfo) (old mid new : List (List Cell)) → i < length infos → AddsRemoved layout (take i (texts_at infos)) old mid → AddsRow (IsRowOfRemoved layout (get_or infos i d).line.now) mid new → AddsRemoved layout (take (i + 1) (texts_at infos)) old new
-removed_more layout infos i d old mid new within adds more =
+counted_next : (first : ℕ) (infos : List LineInfo) (i : ℕ) (d : LineInfo) → i < length infos → counted_from first 0 (take i (texts_at infos)) ++ (number_after first i, (get_or infos i d).line.now) ∷ [] ≡ counted_from first 0 (take (i + 1) (texts_at infos))
+counted_next first infos i d within =
+    let text : LineInfo → List ℕ = λ info. info.line.now in
+    let texts : List (List ℕ) = texts_at infos in
+    let inside : i < length texts = omega (arith, length-map infos text) in
+    let count : i ≡ 0 + length (take i texts) = omega (arith, length-take i texts, inside) in
+    ap (λ t. counted_from first 0 (take i texts) ++ (number_after first i, t) ∷ []) (sym (get_or-map text infos i d [] within)) ∙ ap (λ (n : ℕ). counted_from first 0 (take i texts) ++ (number_after first n, get_or texts i []) ∷ []) count ∙ sym (counted_push first 0 (take i texts) (get_or texts i [])) ∙ ap (counted_from first 0) (sym (next_of texts i [] inside))
+
+pub removed_more : (layout : SuggestionLayout) (first number : ℕ) (infos : List LineInfo) (i : ℕ) (d : LineInfo) (old mid new : List (List Cell)) → i < length infos → number ≡ number_after first i → AddsRemoved layout (counted_from first 0 (take i (texts_at infos))) old mid → AddsRow (IsRowOfRemoved layout (number, (get_or infos i d).line.now)) mid new → AddsRemoved layout (counted_from first 0 (take (i + 1) (texts_at infos))) old new
+removed_more layout first number infos i d old mid new within counted adds more =
     let text : List ℕ = (get_or infos i d).line.now in
-    subst (λ ts. AddsRemoved layout ts old new) (next_text infos i d within) (record {
+    let so_far : List (ℕ × List ℕ) = counted_from first 0 (take i (texts_at infos)) in
+    let is : IsRowOfRemoved layout (number_after first i, text) more.row = subst (λ (n : ℕ). IsRowOfRemoved layout (n, text) more.row) counted more.is in
+    subst (λ ls. AddsRemoved layout ls old new) (counted_next first infos i d within) (record {
       rows = adds.rows ++ more.row ∷ [];
       added = more.added ∙ ap (λ rows. rows ++ more.row ∷ []) adds.added ∙ append_assoc old adds.rows (more.row ∷ []);
-      are = zip_push (IsRowOfRemoved layout) (take i (texts_at infos)) adds.rows text more.row adds.are more.is;
+      are = zip_push (IsRowOfRemoved layout) so_far adds.rows (number_after first i, text) more.row adds.are is;
     })
 
 -- those of all of them
-pub all_texts : (infos : List LineInfo) (i : ℕ) → length infos ≤ i → take i (texts_at infos) ≡ texts_at infos
+all_texts : (infos : List LineInfo) (i : ℕ) → length infos ≤ i → take i (texts_at infos) ≡ texts_at infos
 all_texts infos i all =
     take_all i (texts_at infos) (omega (arith, length-map infos (λ (info : LineInfo). info.line.now)))
 
-pub removed_all : (layout : SuggestionLayout) (infos : List LineInfo) (i : ℕ) (old new : List (List Cell)) → length infos ≤ i → AddsRemoved layout (take i (texts_at infos)) old new → AddsRemoved layout (texts_at infos) old new
-removed_all layout infos i old new all adds =
-    subst (λ ts. AddsRemoved layout ts old new) (all_texts infos i all) adds
+pub removed_all : (layout : SuggestionLayout) (first : ℕ) (infos : List LineInfo) (i : ℕ) (old new : List (List Cell)) → length infos ≤ i → AddsRemoved layout (counted_from first 0 (take i (texts_at infos))) old new → AddsRemoved layout (counted_from first 0 (texts_at infos)) old new
+removed_all layout first infos i old new all adds =
+    subst (λ ts. AddsRemoved layout (counted_from first 0 ts) old new) (all_texts infos i all) adds
+
+-- the next of some lines with their own numbers, and all of them
+numbered_next : (infos : List LineInfo) (i : ℕ) (d : LineInfo) → i < length infos → take i (numbered_at infos) ++ ((get_or infos i d).line_index, (get_or infos i d).line.now) ∷ [] ≡ take (i + 1) (numbered_at infos)
+numbered_next infos i d within =
+    let line : LineInfo → ℕ × List ℕ = λ info. (info.line_index, info.line.now) in
+    let inside : i < length (numbered_at infos) = omega (arith, length-map infos line) in
+    ap (λ t. take i (numbered_at infos) ++ t ∷ []) (sym (get_or-map line infos i d (0, []) within)) ∙ sym (next_of (numbered_at infos) i (0, []) inside)
+
+all_numbered : (infos : List LineInfo) (i : ℕ) → length infos ≤ i → take i (numbered_at infos) ≡ numbered_at infos
+all_numbered infos i all =
+    let line : LineInfo → ℕ × List ℕ = λ info. (info.line_index, info.line.now) in
+    take_all i (numbered_at infos) (omega (arith, length-map infos line))
 
 -- rows of the first of some removed lines stand below some rows, and the next one stands in this row: over a row that shows no
 -- line, if there is one, which there isn't after the first of them
 pub record RemovesAt (layout : SuggestionLayout) (above : List (List Cell)) (infos : List LineInfo) (at count : ℕ) (now : List (List Cell)) : Type 0 where
   pub rows : List (List Cell)
-  pub are : AllZip (IsRowOfRemoved layout) (take count (texts_at infos)) rows
+  pub are : AllZip (IsRowOfRemoved layout) (take count (numbered_at infos)) rows
   pub tail : List (List Cell)
   pub shares : Bool
   pub here : at ≡ length (above ++ rows)
@@ -98,13 +108,13 @@ removes_begun layout above tail shares infos at now here stands is =
       after = λ none. absurd (omega arith);
     }
 
-pub removes_more : (layout : SuggestionLayout) (above : List (List Cell)) (infos : List LineInfo) (d : LineInfo) (at count next : ℕ) (now new : List (List Cell)) (drawn : RemovesAt layout above infos at count now) → count < length infos → AddsRow (IsRowOfRemoved layout (get_or infos count d).line.now) (above ++ drawn.rows) new → next ≡ length new → RemovesAt layout above infos next (count + 1) new
+pub removes_more : (layout : SuggestionLayout) (above : List (List Cell)) (infos : List LineInfo) (d : LineInfo) (at count next : ℕ) (now new : List (List Cell)) (drawn : RemovesAt layout above infos at count now) → count < length infos → AddsRow (IsRowOfRemoved layout ((get_or infos count d).line_index, (get_or infos count d).line.now)) (above ++ drawn.rows) new → next ≡ length new → RemovesAt layout above infos next (count + 1) new
 removes_more layout above infos d at count next now new drawn within adds below =
     let whole : new ≡ above ++ (drawn.rows ++ adds.row ∷ []) = adds.added ∙ append_assoc above drawn.rows (adds.row ∷ []) in
-    let text : List ℕ = (get_or infos count d).line.now in
+    let line : ℕ × List ℕ = ((get_or infos count d).line_index, (get_or infos count d).line.now) in
     record {
       rows = drawn.rows ++ adds.row ∷ [];
-      are = subst (λ ts. AllZip (IsRowOfRemoved layout) ts (drawn.rows ++ adds.row ∷ [])) (next_text infos count d within) (zip_push (IsRowOfRemoved layout) (take count (texts_at infos)) drawn.rows text adds.row drawn.are adds.is);
+      are = subst (λ ls. AllZip (IsRowOfRemoved layout) ls (drawn.rows ++ adds.row ∷ [])) (numbered_next infos count d within) (zip_push (IsRowOfRemoved layout) (take count (numbered_at infos)) drawn.rows line adds.row drawn.are adds.is);
       tail = [];
       shares = false;
       here = below ∙ ap length whole;
@@ -113,17 +123,17 @@ removes_more layout above infos d at count next now new drawn within adds below 
       after = λ some. refl;
     }
 
-pub removes_done : (layout : SuggestionLayout) (above : List (List Cell)) (infos : List LineInfo) (at count : ℕ) (now : List (List Cell)) → 0 < count → length infos ≤ count → RemovesAt layout above infos at count now → AddsRemoved layout (texts_at infos) above now
+pub removes_done : (layout : SuggestionLayout) (above : List (List Cell)) (infos : List LineInfo) (at count : ℕ) (now : List (List Cell)) → 0 < count → length infos ≤ count → RemovesAt layout above infos at count now → AddsRemoved layout (numbered_at infos) above now
 removes_done layout above infos at count now some all drawn =
     record {
       rows = drawn.rows;
       added = drawn.stands ∙ ap (λ tail. (above ++ drawn.rows) ++ tail) (drawn.after some) ∙ append-nil (above ++ drawn.rows);
-      are = subst (λ ts. AllZip (IsRowOfRemoved layout) ts drawn.rows) (all_texts infos count all) drawn.are;
+      are = subst (λ ls. AllZip (IsRowOfRemoved layout) ls drawn.rows) (all_numbered infos count all) drawn.are;
     }
 
 -- the row in which what it finds there begins
 pub tail_row : (layout : SuggestionLayout) (shares : Bool) (above tail old : List (List Cell)) (row : ℕ) → old ≡ above ++ tail → IsTail layout.decor layout.gutter shares tail → row ≡ length old - (if shares then 1 else 0) → row ≡ length above
 tail_row layout true above tail old row is shared at =
-    omega (arith, ap length is, ap length shared.1, length-append above tail)
+    omega (arith, ap length is, ap length shared.2, length-append above tail)
 tail_row layout false above tail old row is none at =
     omega (arith, ap length is, ap length none, length-append above tail)

@@ -11,7 +11,8 @@ use Rattle.snippet_model.specs.Rows.{IsFree}
 use Rattle.snippet_lines.specs.Number.{shown_number}
 use Rattle.snippet_lines.specs.declared.number.LineNumbers.{LineNumbers}
 use Rattle.snippet_suggest.specs.declared.layout.SuggestionLayout.{SuggestionLayout}
-use Rattle.snippet_suggest.specs.Rows.{without_role, AddsRow, Bare, IsBareRow, IsBeforeSign, IsLeftOver, IsLineRow, IsRemovedRow, IsRepainted, IsMarkOrSpace, IsSign, Offers, Removes, Shows, SuggestionRow, is_stroke, number_after}
+use Rattle.snippet_suggest.specs.Order.{Begins, Empty, Ends, Offers, Removes, Skips, SuggestionRow, number_after}
+use Rattle.snippet_suggest.specs.Rows.{without_role, AddsRow, IsBareRow, IsBeforeSign, IsLeftOver, IsLineRow, IsRemovedRow, IsRepainted, IsRowOfRemoved, IsMarkOrSpace, IsSign, IsStrokeRow, Shows, begin_glyph, beside_gutter, end_glyph, gap_left, is_stroke}
 
 -- two rows hold the same characters and links
 abbrev pub AreSame : List Cell → List Cell → Type 0
@@ -63,10 +64,18 @@ same_bare decor gutter now last same is =
       free = same_free now last same is.free;
     }
 
-same_removed : (numbers : LineNumbers) (decor : DecorStyle) (gutter : ℕ) (text : List ℕ) (now last : List Cell) → AreSame now last → IsRemovedRow numbers decor gutter text last → IsRemovedRow numbers decor gutter text now
-same_removed numbers decor gutter text now last same is =
+same_stroke : (decor : DecorStyle) (gutter : ℕ) (left : List ℕ) (now last : List Cell) → AreSame now last → IsStrokeRow decor gutter left last → IsStrokeRow decor gutter left now
+same_stroke decor gutter left now last same is =
+    record {
+      bare = same_bare decor gutter now last same is.bare;
+      left_is = λ c inside. same_char (λ ch. ch ≡ get_or left c 32) now last c same (is.left_is c inside);
+    }
+
+same_removed : (numbers : LineNumbers) (decor : DecorStyle) (gutter : ℕ) (number text : List ℕ) (now last : List Cell) → AreSame now last → IsRemovedRow numbers decor gutter number text last → IsRemovedRow numbers decor gutter number text now
+same_removed numbers decor gutter number text now last same is =
     let n : ℕ = length text in
     record {
+      numbered = λ short. same_text (take (length number) now) (take (length number) last) (same_take (length number) now last same) ∙ is.numbered short;
       before = λ c left. same_char (IsBeforeSign numbers decor) now last c same (is.before c left);
       minus = same_char (λ ch. ch ≡ 45) now last (gutter + 1) same is.minus;
       space = same_char (λ ch. ch ≡ 32) now last (gutter + 2) same is.space;
@@ -87,10 +96,17 @@ same_line decor gutter number text now last same is =
     }
 
 same_shows : (layout : SuggestionLayout) (first : ℕ) (lines : List (List ℕ)) (shown : SuggestionRow) (now last : List Cell) → AreSame now last → Shows layout first lines shown last → Shows layout first lines shown now
+same_shows layout first lines (Begins start) now last same is =
+    same_stroke layout.decor layout.gutter (beside_gutter layout.gutter (begin_glyph layout.decor start)) now last same is
 same_shows layout first lines (Offers k) now last same is =
     same_line layout.decor layout.gutter (shown_number layout.numbers layout.gutter (number_after first k)) (norm (chars (get_or lines k []))) now last same is
-same_shows layout first lines (Removes text) now last same is = same_removed layout.numbers layout.decor layout.gutter (norm (chars text)) now last same is
-same_shows layout first lines Bare now last same is = same_bare layout.decor layout.gutter now last same is
+same_shows layout first lines Skips now last same is =
+    same_stroke layout.decor layout.gutter (gap_left layout.decor layout.gutter) now last same is
+same_shows layout first lines (Removes i number text) now last same is =
+    same_removed layout.numbers layout.decor layout.gutter (shown_number layout.numbers layout.gutter number) (norm (chars text)) now last same is
+same_shows layout first lines Empty now last same is = same_stroke layout.decor layout.gutter [] now last same is
+same_shows layout first lines (Ends follows) now last same is =
+    same_stroke layout.decor layout.gutter (beside_gutter layout.gutter (end_glyph layout.decor follows)) now last same is
 
 -- so a row that was added and then painted is added
 row_repainted : (P : List Cell → Type 0) → ((now last : List Cell) → AreSame now last → P last → P now) → (old mid new : List (List Cell)) (adds : AddsRow P old mid) → IsRepainted old adds.row new → AddsRow P old new
@@ -101,8 +117,10 @@ row_repainted P stays old mid new adds painted =
       is = stays painted.now adds.row painted.same adds.is;
     }
 
-pub removed_repainted : (numbers : LineNumbers) (decor : DecorStyle) (gutter : ℕ) (text : List ℕ) (old mid new : List (List Cell)) (adds : AddsRow (IsRemovedRow numbers decor gutter text) old mid) → IsRepainted old adds.row new → AddsRow (IsRemovedRow numbers decor gutter text) old new
-removed_repainted numbers decor gutter text old mid new adds painted = row_repainted (IsRemovedRow numbers decor gutter text) (same_removed numbers decor gutter text) old mid new adds painted
+pub removed_repainted : (layout : SuggestionLayout) (line : ℕ × List ℕ) (old mid new : List (List Cell)) (adds : AddsRow (IsRowOfRemoved layout line) old mid) → IsRepainted old adds.row new → AddsRow (IsRowOfRemoved layout line) old new
+removed_repainted layout line old mid new adds painted =
+    let number : List ℕ = shown_number layout.numbers layout.gutter line.0 in
+    row_repainted (IsRowOfRemoved layout line) (same_removed layout.numbers layout.decor layout.gutter number (norm (chars line.1))) old mid new adds painted
 
 pub shows_repainted : (layout : SuggestionLayout) (first : ℕ) (lines : List (List ℕ)) (shown : SuggestionRow) (old mid new : List (List Cell)) (adds : AddsRow (Shows layout first lines shown) old mid) → IsRepainted old adds.row new → AddsRow (Shows layout first lines shown) old new
 shows_repainted layout first lines shown old mid new adds painted = row_repainted (Shows layout first lines shown) (same_shows layout first lines shown) old mid new adds painted

@@ -16,7 +16,7 @@ use Rattle.snippet_model.specs.Rows.{IsFreeCell, IsFree}
 use Rattle.snippet_suggest.specs.Rows.{HoldsText}
 
 -- writing into an empty row
-written-nil : (at : ℕ) (cells : List Cell) → written SPACE [] at cells ≡ replicate at SPACE ++ cells
+pub written-nil : (at : ℕ) (cells : List Cell) → written SPACE [] at cells ≡ replicate at SPACE ++ cells
 written-nil at cells =
     same_lists _ _ (unfold written in grind (arith, places)) (λ k d h. unfold written in grind (arith, places))
 
@@ -78,7 +78,7 @@ length-texted_le [] row at width cells short fits = short
 length-texted_le (b ∷ bs) row at width cells short fits = omega (arith, length-written SPACE row at cells)
 
 -- the characters of cells that are drawn
-row_text-text_cells : (role : ElementStyle) (cs : List ℕ) → row_text (text_cells role cs) ≡ cs
+pub row_text-text_cells : (role : ElementStyle) (cs : List ℕ) → row_text (text_cells role cs) ≡ cs
 row_text-text_cells role [] = refl
 row_text-text_cells role (c ∷ cs) = ap (λ t. c ∷ t) (row_text-text_cells role cs)
 

@@ -121,15 +121,13 @@ removed_of (line ∷ lines) Underline emptied replaced = []
 removed_of (line ∷ lines) Plain emptied replaced = []
 removed_of (line ∷ lines) Add emptied replaced = []
 
--- which lines of the source a suggestion shows as removed, and their texts
+-- which lines of the source a suggestion shows as removed
 abbrev pub removed_lines : Snippet Patch → List ℕ
 removed_lines s = removed_of (given_lines s) (shown_kind s) (emptied_lines s) (replaced_lines s)
 
+-- the texts of some lines of the source
 abbrev pub texts_of_source : Snippet Patch → List ℕ → List (List ℕ)
 texts_of_source s ks = map (text_at (source_lines (cow_str_bytes s.source))) ks
-
-abbrev pub removed_texts : Snippet Patch → List (List ℕ)
-removed_texts s = texts_of_source s (removed_lines s)
 
 -- what the promise on offered lines asks of a snippet: no CR in its source and its replacements, and no trimmed patch that
 -- starts after an LF that ends the source

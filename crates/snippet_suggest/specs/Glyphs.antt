@@ -35,6 +35,17 @@ is_sign Alone = true
 is_sign Changed = true
 is_sign Added = true
 
+-- whether a suggestion begins with a glyph, in a row of its own or in that of the suggestion before
+abbrev pub is_begin : SuggestionGlyph → Bool
+is_begin Opening = true
+is_begin Next = true
+is_begin Leading = false
+is_begin Closing = false
+is_begin Kept = false
+is_begin Alone = false
+is_begin Changed = false
+is_begin Added = false
+
 -- the mark below what is put in place of something else
 abbrev pub changed_mark_of : DecorStyle → ℕ
 changed_mark_of Ascii = 126

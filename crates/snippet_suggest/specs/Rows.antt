@@ -1,7 +1,7 @@
 -- What the rows of a suggestion show.
-use Rattle.std.specs.Prelude.{◌≡◌, ◌⊎◌, ℕ, ◌+◌, ◌-◌, ◌<◌, ◌≤◌, ◌==◌, min, ◌^◌, Bool, true, false, Option, Some, None, List, [], ◌∷◌, ◌++◌, length, map, replicate, take, drop, chars, if◌then◌else◌}
+use Rattle.std.specs.Prelude.{◌≡◌, ◌⊎◌, ℕ, ◌+◌, ◌-◌, ◌<◌, ◌≤◌, ◌==◌, Bool, true, false, Option, List, [], ◌∷◌, ◌++◌, length, map, replicate, take, drop, chars, if◌then◌else◌}
 use Rattle.std.specs.Char.{is_ascii_alphanumeric}
-use Rattle.std.specs.List.{AllZip, filter_map, list_any, slice_index_or}
+use Rattle.std.specs.List.{AllZip, list_any, slice_index_or}
 use Rattle.snippet_model.specs.declared.snippet.Snippet.{Snippet}
 use Rattle.snippet_model.specs.declared.snippet.Patch.{Patch}
 use Rattle.snippet_style.specs.declared.glyphs.DecorStyle.{DecorStyle}
@@ -9,6 +9,7 @@ use Rattle.snippet_style.specs.Glyphs.{placeholder_of, separator_of}
 use Rattle.snippet_style.specs.Cell.{Cell, SPACE}
 use Rattle.snippet_grid.specs.Print.{row_text}
 use Rattle.snippet_text.specs.Normalized.{norm}
+use Rattle.snippet_text.specs.Width.{width_of}
 use Rattle.snippet_lines.specs.Number.{number_width, shown_number}
 use Rattle.snippet_lines.specs.declared.number.LineNumbers.{LineNumbers}
 use Rattle.snippet_lines.specs.declared.number.LineNumbers.TheVariants.{Shown, Anonymized, Hidden}
@@ -18,13 +19,10 @@ use Rattle.snippet_suggest.specs.declared.layout.SuggestionStart.{SuggestionStar
 use Rattle.snippet_suggest.specs.declared.layout.SuggestionStart.TheVariants.{Opening, Next, Path}
 use Rattle.snippet_suggest.specs.declared.shown.ShownLine.{ShownLine}
 use Rattle.snippet_suggest.specs.declared.shown.ShownLine.TheVariants.{Line, Gap}
-use Rattle.snippet_suggest.specs.Given.{counted_line, first_given, given_lines, numbers_given, removed_texts}
-use Rattle.snippet_suggest.specs.declared.glyphs.SuggestionGlyph.TheVariants as glyph
+use Rattle.snippet_suggest.specs.Given.{counted_line, first_given, given_lines}
+use Rattle.snippet_suggest.specs.Order.{Begins, Empty, Ends, Offers, Removes, Skips, SuggestionRow, number_after, rows_of_suggestion}
+use Rattle.snippet_suggest.specs.declared.glyphs.SuggestionGlyph.TheVariants as sign
 use Rattle.snippet_suggest.specs.Glyphs.{changed_mark_of, glyph_of}
-
--- the number of the line so many lines after one, as far as there are numbers
-abbrev pub number_after : ℕ → ℕ → ℕ
-number_after first lines = min (first + lines) (2 ^ 64 - 1)
 
 -- what stands beside a line that is offered: a separator, the glyph of a changed line, or `+`
 abbrev pub IsSign : DecorStyle → ℕ → Type 0
@@ -34,7 +32,7 @@ IsSign decor c = (c ≡ separator_of decor) ⊎ (c ≡ changed_mark_of decor) �
 -- suggestions begin and end with
 abbrev pub is_stroke : DecorStyle → ℕ → Bool
 is_stroke decor c =
-    list_any (λ d. d == c) (32 ∷ (placeholder_of decor ++ glyph_of decor glyph.Opening ++ glyph_of decor glyph.Next ++ glyph_of decor glyph.Leading ++ glyph_of decor glyph.Closing))
+    list_any (λ d. d == c) (32 ∷ (placeholder_of decor ++ glyph_of decor sign.Opening ++ glyph_of decor sign.Next ++ glyph_of decor sign.Leading ++ glyph_of decor sign.Closing))
 
 -- what stands in a row of marks: spaces, `+`, and the mark below what is changed
 abbrev pub IsMarkOrSpace : DecorStyle → ℕ → Type 0
@@ -70,9 +68,11 @@ IsBeforeSign numbers decor c = (is_stroke decor c ≡ true) ⊎ IsOfNumber numbe
 abbrev pub IsLeftOver : DecorStyle → ℕ → Type 0
 IsLeftOver decor c = IsMarkOrSpace decor c ⊎ ((48 ≤ c) × (c ≤ 57))
 
--- the row of a line that is removed: `-` and a space stand after the gutter, with no letter before them but `LL`, where that
--- stands in place of numbers, and from three cells after it on the line's normalised text, and no letter after that
-pub record IsRemovedRow (numbers : LineNumbers) (decor : DecorStyle) (gutter : ℕ) (text : List ℕ) (row : List Cell) : Type 0 where
+-- the row of a line that is removed: it begins with the number beside the line, if that ends before the sign; `-` and a space stand
+-- after the gutter, with no letter before them but `LL`, where that stands in place of numbers, and from three cells after it on the
+-- line's normalised text, and no letter after that
+pub record IsRemovedRow (numbers : LineNumbers) (decor : DecorStyle) (gutter : ℕ) (number text : List ℕ) (row : List Cell) : Type 0 where
+  pub numbered : length number ≤ gutter + 1 → row_text (take (length number) row) ≡ number
   pub before : (c : ℕ) → c ≤ gutter → IsBeforeSign numbers decor (slice_index_or row c SPACE).ch
   pub minus : (slice_index_or row (gutter + 1) SPACE).ch ≡ 45
   pub space : (slice_index_or row (gutter + 2) SPACE).ch ≡ 32
@@ -86,6 +86,36 @@ pub record IsBareRow (decor : DecorStyle) (gutter : ℕ) (row : List Cell) : Typ
   pub strokes : (c : ℕ) → c < gutter + 3 → is_stroke decor (slice_index_or row c SPACE).ch ≡ true
   pub marks : (c : ℕ) → gutter + 3 ≤ c → IsMarkOrSpace decor (slice_index_or row c SPACE).ch
   pub free : IsFree row
+
+-- what stands left of the lines in a row that shows none, from the row's first cell on: a glyph one cell after the gutter
+abbrev pub beside_gutter : ℕ → List ℕ → List ℕ
+beside_gutter gutter glyph = replicate (gutter + 1) 32 ++ glyph
+
+-- in the row that a suggestion begins with: its opening glyph, or one that joins it to the suggestion before, in the last row of
+-- that; or below its path a separator
+abbrev pub begin_glyph : DecorStyle → SuggestionStart → List ℕ
+begin_glyph decor Opening = glyph_of decor sign.Opening
+begin_glyph decor Next = glyph_of decor sign.Next
+begin_glyph decor Path = separator_of decor ∷ []
+
+-- in the row that it ends with: a separator before a further element, or else its closing glyph
+abbrev pub end_glyph : DecorStyle → Bool → List ℕ
+end_glyph decor true = glyph_of decor sign.Leading
+end_glyph decor false = glyph_of decor sign.Closing
+
+-- in a row in place of lines that are left out: what stands for these, set right in the gutter, or from the first cell on where that
+-- is too narrow
+abbrev pub gap_left : DecorStyle → ℕ → List ℕ
+gap_left decor gutter = replicate (gutter - width_of (placeholder_of decor)) 32 ++ placeholder_of decor
+
+-- left of the lines the row holds these characters, from its first cell on, and then spaces
+abbrev pub HasLeft : ℕ → List ℕ → List Cell → Type 0
+HasLeft gutter left row = (c : ℕ) → c < gutter + 3 → (slice_index_or row c SPACE).ch ≡ slice_index_or left c 32
+
+-- a row that shows no line, and just this left of the lines
+pub record IsStrokeRow (decor : DecorStyle) (gutter : ℕ) (left : List ℕ) (row : List Cell) : Type 0 where
+  pub bare : IsBareRow decor gutter row
+  pub left_is : HasLeft gutter left row
 
 -- one row of this kind was added below the rows that are there
 pub record AddsRow (P : List Cell → Type 0) (old new : List (List Cell)) : Type 0 where
@@ -107,7 +137,7 @@ pub record IsRepainted (above : List (List Cell)) (last : List Cell) (new : List
 abbrev pub IsShownRow : SuggestionLayout → ℕ → List (List ℕ) → ShownLine → List Cell → Type 0
 IsShownRow layout first lines (Line k) row =
     IsLineRow layout.decor layout.gutter (shown_number layout.numbers layout.gutter (number_after first k)) (norm (chars (slice_index_or lines k []))) row
-IsShownRow layout first lines Gap row = IsBareRow layout.decor layout.gutter row
+IsShownRow layout first lines Gap row = IsStrokeRow layout.decor layout.gutter (gap_left layout.decor layout.gutter) row
 
 -- rows for these, one each, stand below some rows, and nothing else
 pub record AddsShown (layout : SuggestionLayout) (first : ℕ) (lines : List (List ℕ)) (shown : List ShownLine) (above new : List (List Cell)) : Type 0 where
@@ -115,58 +145,39 @@ pub record AddsShown (layout : SuggestionLayout) (first : ℕ) (lines : List (Li
   pub added : new ≡ above ++ rows
   pub are : AllZip (IsShownRow layout first lines) shown rows
 
--- what a row of a suggestion shows: a line that it offers, counted from the first that is given; the text of a line that is
--- removed; or no line
-pub data SuggestionRow : Type 0 where
-  Offers : (k : ℕ) → SuggestionRow
-  Removes : (text : List ℕ) → SuggestionRow
-  Bare : SuggestionRow
-
--- the line that such a row offers, and the text of the one that it shows as removed
-abbrev pub number_offered : SuggestionRow → Option ℕ
-number_offered (Offers k) = Some k
-number_offered (Removes text) = None
-number_offered Bare = None
-
-abbrev pub text_removed : SuggestionRow → Option (List ℕ)
-text_removed (Offers k) = None
-text_removed (Removes text) = Some text
-text_removed Bare = None
-
--- those of some rows
-abbrev pub numbers_offered : List SuggestionRow → List ℕ
-numbers_offered shown = filter_map number_offered shown
-
-abbrev pub texts_removed : List SuggestionRow → List (List ℕ)
-texts_removed shown = filter_map text_removed shown
+-- a row of a line that is removed, with this number beside it, and this text
+abbrev pub IsRowOfRemoved : SuggestionLayout → ℕ × List ℕ → List Cell → Type 0
+IsRowOfRemoved layout line row =
+    IsRemovedRow layout.numbers layout.decor layout.gutter (shown_number layout.numbers layout.gutter line.0) (norm (chars line.1)) row
 
 -- the row shows this, of some lines of which the first has this number
 abbrev pub Shows : SuggestionLayout → ℕ → List (List ℕ) → SuggestionRow → List Cell → Type 0
+Shows layout first lines (Begins start) row =
+    IsStrokeRow layout.decor layout.gutter (beside_gutter layout.gutter (begin_glyph layout.decor start)) row
 Shows layout first lines (Offers k) row = IsShownRow layout first lines (Line k) row
-Shows layout first lines (Removes text) row = IsRemovedRow layout.numbers layout.decor layout.gutter (norm (chars text)) row
-Shows layout first lines Bare row = IsBareRow layout.decor layout.gutter row
+Shows layout first lines Skips row = IsShownRow layout first lines Gap row
+Shows layout first lines (Removes i number text) row = IsRowOfRemoved layout (number, text) row
+Shows layout first lines Empty row = IsStrokeRow layout.decor layout.gutter [] row
+Shows layout first lines (Ends follows) row =
+    IsStrokeRow layout.decor layout.gutter (beside_gutter layout.gutter (end_glyph layout.decor follows)) row
 
--- rows stand below some rows, and nothing else: of these lines just those of these numbers are offered, in this order, and these
--- texts are shown as removed, in this order
-pub record AddsLines (layout : SuggestionLayout) (first : ℕ) (lines : List (List ℕ)) (numbers : List ℕ) (removed : List (List ℕ)) (above new : List (List Cell)) : Type 0 where
-  pub shown : List SuggestionRow
+-- rows that show these, one each, stand below some rows, and nothing else
+pub record AddsRows (layout : SuggestionLayout) (first : ℕ) (lines : List (List ℕ)) (shown : List SuggestionRow) (above new : List (List Cell)) : Type 0 where
   pub rows : List (List Cell)
   pub added : new ≡ above ++ rows
   pub are : AllZip (Shows layout first lines) shown rows
-  pub numbers_are : numbers_offered shown ≡ numbers
-  pub removed_are : texts_removed shown ≡ removed
 
--- a row for each of these texts, which are removed, stands below some rows, and nothing else
-pub record AddsRemoved (layout : SuggestionLayout) (texts : List (List ℕ)) (above new : List (List Cell)) : Type 0 where
+-- a row for each of these lines, which are removed, stands below some rows, and nothing else
+pub record AddsRemoved (layout : SuggestionLayout) (removed : List (ℕ × List ℕ)) (above new : List (List Cell)) : Type 0 where
   pub rows : List (List Cell)
   pub added : new ≡ above ++ rows
-  pub are : AllZip (λ text row. IsRemovedRow layout.numbers layout.decor layout.gutter (norm (chars text)) row) texts rows
+  pub are : AllZip (IsRowOfRemoved layout) removed rows
 
--- a last row stands below some rows and so many empty ones
-pub record AddsEnd (layout : SuggestionLayout) (skipped : ℕ) (above new : List (List Cell)) : Type 0 where
+-- a last row with this glyph stands below some rows and so many empty ones
+pub record AddsEnd (layout : SuggestionLayout) (glyph : List ℕ) (skipped : ℕ) (above new : List (List Cell)) : Type 0 where
   pub last : List Cell
   pub added : new ≡ above ++ (replicate skipped [] ++ last ∷ [])
-  pub is : IsBareRow layout.decor layout.gutter last
+  pub is : IsStrokeRow layout.decor layout.gutter (beside_gutter layout.gutter glyph) last
 
 -- the number of a line that is shown stands left of the sign
 abbrev pub NumberFits : SuggestionLayout → ℕ → ShownLine → Type 0
@@ -175,9 +186,10 @@ NumberFits layout first (Line k) =
 NumberFits layout first Gap = Unit {0}
 
 -- what stands below the rows above an element: the row in which it begins, if it shares that with a suggestion before it, which
--- shows no line, else nothing
+-- ends with it, else nothing
 abbrev pub IsTail : DecorStyle → ℕ → Bool → List (List Cell) → Type 0
-IsTail decor gutter true tail = (row : List Cell) × (tail ≡ row ∷ []) × IsBareRow decor gutter row
+IsTail decor gutter true tail =
+    (row : List Cell) × (follows : Bool) × (tail ≡ row ∷ []) × IsStrokeRow decor gutter (beside_gutter gutter (end_glyph decor follows)) row
 IsTail decor gutter false tail = tail ≡ []
 
 -- whether a suggestion begins in a row that is there
@@ -192,20 +204,19 @@ rows_shared start = if begins_in_last start then 1 else 0
 
 -- what a suggestion finds below the rows above it
 abbrev pub IsStart : SuggestionLayout → SuggestionStart → List (List Cell) → Type 0
-IsStart layout start tail = IsTail layout.decor layout.gutter (begins_in_last start) tail
+IsStart layout Opening tail = tail ≡ []
+IsStart layout Next tail = IsTail layout.decor layout.gutter true tail
+IsStart layout Path tail =
+    (row : List Cell) × (tail ≡ row ∷ []) × IsStrokeRow layout.decor layout.gutter (beside_gutter layout.gutter (begin_glyph layout.decor Path)) row
 
--- the rows of a suggestion stand below some rows, and nothing else: for each line that it offers a row, in order, for each line
--- of the source that it shows as removed a row, in order, rows that show no line between them, and as the last such a row, in
--- which a further suggestion may begin
-pub record AddsSuggestion (layout : SuggestionLayout) (s : Snippet Patch) (above new : List (List Cell)) : Type 0 where
-  pub shown : List SuggestionRow
+-- the rows of a suggestion stand below some rows, and nothing else, each of which shows what the suggestion has there; the last is
+-- what it ends with, in which a further suggestion may begin
+pub record AddsSuggestion (layout : SuggestionLayout) (start : SuggestionStart) (follows : Bool) (s : Snippet Patch) (above new : List (List Cell)) : Type 0 where
   pub rows : List (List Cell)
   pub last : List Cell
   pub added : new ≡ above ++ (rows ++ last ∷ [])
-  pub are : AllZip (Shows layout (s.line_start + first_given s) (given_lines s)) shown rows
-  pub numbers : numbers_offered shown ≡ numbers_given s
-  pub removed : texts_removed shown ≡ removed_texts s
-  pub last_is : IsBareRow layout.decor layout.gutter last
+  pub are : AllZip (Shows layout (s.line_start + first_given s) (given_lines s)) (rows_of_suggestion start s) rows
+  pub last_is : Shows layout (s.line_start + first_given s) (given_lines s) (Ends follows) last
 
 -- the gutter has room for the number that a suggestion counts
 abbrev pub HasGutter : SuggestionLayout → Snippet Patch → Type 0

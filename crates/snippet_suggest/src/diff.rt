@@ -1,11 +1,12 @@
 //! A suggestion that is shown as the lines that are removed, and the one line that stands in their place.
-ghost use Rattle.std.specs.Prelude.{◌≡◌, ◌<◌, ◌^◌, ◌++◌, ◌∷◌, [], List, true, false, OnOk, length, if◌then◌else◌};
+ghost use Rattle.std.specs.Prelude.{◌≡◌, ℕ, ◌<◌, ◌^◌, ◌++◌, ◌∷◌, [], List, true, false, OnOk, length};
 ghost use Rattle.std.specs.Str.{bytes_eq};
 ghost use Rattle.snippet_style.specs.Cell.{Cell};
 ghost use Rattle.snippet_suggest.specs.declared.kind.DisplaySuggestion.TheVariants.{Diff};
 ghost use Rattle.snippet_suggest.specs.declared.shown.ShownLine.TheVariants.{Line};
 ghost use Rattle.snippet_suggest.specs.Given.{is_left_out, last_removed, texts_at, unless_stays};
-ghost use Rattle.snippet_suggest.specs.Rows.{AddsLines, AddsRemoved, IsBareRow, IsRepainted, NumberFits};
+ghost use Rattle.snippet_suggest.specs.Rows.{AddsRemoved, AddsRows, IsRepainted, NumberFits, Shows};
+ghost use Rattle.snippet_suggest.specs.Order.{Offers, SuggestionRow, changed_rows, counted_from, removed_from};
 
 use crate::glyphs::SuggestionGlyph;
 use crate::kind::is_blank;
@@ -43,11 +44,11 @@ pub(crate) fn draw_diff(
     requires narrow { layout.gutter < 2 ^ 32 }
     requires some { 0 < length removed.now }
     // Below the row that the suggestion begins with, in which roles may change.
-    ensures added { (above : List (List Cell)) (last : List Cell) → buffer.old ≡ above ++ last ∷ []
-        → IsBareRow layout.decor layout.gutter last → NumberFits layout first (Line 0)
-        → OnOk result (AddsLines layout first (line.now ∷ [])
-        (if is_left_out Diff (line.now ∷ []) (last_removed removed.now) then [] else 0 ∷ [])
-        (unless_stays (bytes_eq line.now (last_removed removed.now)) (texts_at removed.now)) above buffer.new) }
+    ensures added { let left = unless_stays (bytes_eq line.now (last_removed removed.now)) (texts_at removed.now) in
+        (above : List (List Cell)) (last : List Cell) (begin : SuggestionRow) (i : ℕ) → buffer.old ≡ above ++ last ∷ []
+        → Shows layout first (line.now ∷ []) begin last → NumberFits layout first (Line 0)
+        → OnOk result (AddsRows layout first (line.now ∷ []) (begin ∷ changed_rows true
+        (is_left_out Diff (line.now ∷ []) (last_removed removed.now)) (removed_from i (counted_from first 0 left))) above buffer.new) }
 {
     let stays = is_last(removed, line);
     let count = removed.len().saturating_sub(usize::from(stays));
@@ -75,7 +76,7 @@ fn draw_diff_line(
     ensures left { (above : List (List Cell)) (last : List Cell) → left_out ≡ true → buffer.old ≡ above ++ last ∷ []
         → OnOk result (IsRepainted above last buffer.new) }
     ensures added { left_out ≡ false → NumberFits layout first (Line 0)
-        → OnOk result (AddsLines layout first (line.now ∷ []) (0 ∷ []) [] buffer.old buffer.new) }
+        → OnOk result (AddsRows layout first (line.now ∷ []) (Offers 0 ∷ []) buffer.old buffer.new) }
 {
     if !left_out {
         draw_line(alloc, buffer, layout, SuggestionGlyph::Added, first, line)?;
@@ -135,7 +136,7 @@ fn draw_diff_removed(
     replaced: &[Vec<SubstitutionHighlight>],
 ) -> Result<(), AllocError>
     requires narrow { layout.gutter < 2 ^ 32 }
-    ensures added { OnOk result (AddsRemoved layout (texts_at removed.now) buffer.old buffer.new) }
+    ensures added { OnOk result (AddsRemoved layout (counted_from first 0 (texts_at removed.now)) buffer.old buffer.new) }
 {
     for i in 0..removed.len() {
         let info = removed[i];

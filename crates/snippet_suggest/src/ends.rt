@@ -1,7 +1,8 @@
 //! The rows that a suggestion begins and ends with.
-ghost use Rattle.std.specs.Prelude.{◌≡◌, ℕ, ◌<◌, ◌^◌, ◌+◌, ◌++◌, Bool, false, List, IfOk, OnOk, length};
-ghost use Rattle.snippet_suggest.specs.Glyphs.{is_sign};
-ghost use Rattle.snippet_suggest.specs.Rows.{AddsEnd, AddsRow, IsBareRow, IsStart, IsTail};
+ghost use Rattle.std.specs.Prelude.{◌≡◌, ℕ, ◌<◌, ◌^◌, ◌+◌, ◌++◌, Bool, true, false, List, IfOk, OnOk, length};
+ghost use Rattle.snippet_suggest.specs.Glyphs.{glyph_of, is_begin, is_sign};
+ghost use Rattle.snippet_suggest.specs.Rows.{AddsEnd, AddsRow, IsStart, IsStrokeRow, IsTail, begin_glyph, beside_gutter, end_glyph};
+ghost use Rattle.snippet_style.specs.declared.glyphs.DecorStyle.{DecorStyle};
 ghost use Rattle.snippet_style.specs.Cell.{Cell};
 
 use crate::glyphs::SuggestionGlyph;
@@ -29,7 +30,8 @@ pub(crate) fn draw_head(
 ) -> Result<(), AllocError>
     requires narrow { layout.gutter < 2 ^ 32 }
     ensures added { (above tail : List (List Cell)) → buffer.old ≡ above ++ tail → IsStart layout start tail
-        → OnOk result (AddsRow (IsBareRow layout.decor layout.gutter) above buffer.new) }
+        → OnOk result (AddsRow (IsStrokeRow layout.decor layout.gutter
+        (beside_gutter layout.gutter (begin_glyph layout.decor start))) above buffer.new) }
 {
     let rows = buffer.num_lines();
     match start {
@@ -51,9 +53,11 @@ fn draw_glyph(
 ) -> Result<(), AllocError>
     requires narrow { layout.gutter < 2 ^ 32 }
     requires row { row + 1 < 2 ^ 64 }
-    ensures added { is_sign glyph ≡ false → (above tail : List (List Cell)) (shares : Bool) → row ≡ length above → buffer.old ≡ above ++ tail
-        → IsTail layout.decor layout.gutter shares tail → OnOk result (AddsRow (IsBareRow layout.decor layout.gutter) above buffer.new) }
-    ensures end { is_sign glyph ≡ false → (skipped : ℕ) → row ≡ length buffer.old + skipped → OnOk result (AddsEnd layout skipped buffer.old buffer.new) }
+    ensures added { is_begin glyph ≡ true → (above tail : List (List Cell)) (shares : Bool) → row ≡ length above → buffer.old ≡ above ++ tail
+        → IsTail layout.decor layout.gutter shares tail → OnOk result (AddsRow (IsStrokeRow layout.decor layout.gutter
+        (beside_gutter layout.gutter (glyph_of layout.decor glyph))) above buffer.new) }
+    ensures end { is_sign glyph ≡ false → (skipped : ℕ) → row ≡ length buffer.old + skipped
+        → OnOk result (AddsEnd layout (glyph_of layout.decor glyph) skipped buffer.old buffer.new) }
 {
     buffer.puts(
         row,
@@ -82,15 +86,22 @@ pub(crate) fn draw_end(
 ) -> Result<usize, AllocError>
     requires narrow { layout.gutter < 2 ^ 32 }
     requires few { skipped < 2 }
-    ensures added { OnOk result (AddsEnd layout skipped buffer.old buffer.new) }
+    ensures added { OnOk result (AddsEnd layout (end_glyph layout.decor follows) skipped buffer.old buffer.new) }
     ensures row { IfOk result (λ row. (row ≡ length buffer.old + skipped) × (row + 1 < 2 ^ 64)) }
 {
     let row = buffer.num_lines() + skipped;
-    let glyph = if follows {
+    draw_glyph(buffer, layout, row, end_glyph(follows))?;
+    Ok(row)
+}
+
+/// The glyph of the row that a suggestion ends with, before a further element or not.
+fn end_glyph(follows: bool) -> SuggestionGlyph
+    ensures other { is_sign result ≡ false }
+    ensures value { (decor : DecorStyle) → glyph_of decor result ≡ end_glyph decor follows }
+{
+    if follows {
         SuggestionGlyph::Leading
     } else {
         SuggestionGlyph::Closing
-    };
-    draw_glyph(buffer, layout, row, glyph)?;
-    Ok(row)
+    }
 }

@@ -8,7 +8,8 @@ ghost use Rattle.snippet_suggest.specs.Glyphs.{is_sign};
 ghost use Rattle.snippet_suggest.specs.declared.shown.ShownLine.TheVariants.{Line};
 ghost use Rattle.snippet_suggest.specs.Shown.{is_touched, shown_lines};
 ghost use Rattle.snippet_lines.specs.Number.{shown_number};
-ghost use Rattle.snippet_suggest.specs.Rows.{AddsRow, AddsShown, NumberFits, IsLineRow, IsShownRow, number_after};
+ghost use Rattle.snippet_suggest.specs.Rows.{AddsRow, AddsShown, NumberFits, IsLineRow, IsShownRow};
+ghost use Rattle.snippet_suggest.specs.Order.{number_after};
 
 use crate::glyphs::SuggestionGlyph;
 use crate::kind::DisplaySuggestion;

@@ -1,7 +1,7 @@
 //! The marks below what a suggestion puts in.
-ghost use Rattle.std.specs.Prelude.{◌≡◌, ◌<◌, ◌^◌, ◌+◌, ◌++◌, ◌∷◌, [], List, All, OnOk, length};
+ghost use Rattle.std.specs.Prelude.{◌≡◌, ℕ, ◌<◌, ◌^◌, ◌+◌, ◌++◌, ◌∷◌, [], List, All, OnOk, length};
 ghost use Rattle.snippet_style.specs.Cell.{Cell};
-ghost use Rattle.snippet_suggest.specs.Rows.{AddsRow, IsBareRow, IsMarkOrSpace};
+ghost use Rattle.snippet_suggest.specs.Rows.{AddsRow, IsMarkOrSpace, IsStrokeRow};
 ghost use Rattle.snippet_lines.specs.Span.{IsSpan};
 
 use crate::glyphs::changed_mark;
@@ -126,8 +126,8 @@ pub(crate) fn draw_marks(
     requires row { row + 1 < 2 ^ 64 }
     requires spans { All (λ p. IsSpan map.now.text p.span.start p.span.end) patches.now }
     // Into the last row, which shows no line.
-    ensures marked { (above : List (List Cell)) (last : List Cell) → row ≡ length above → buffer.old ≡ above ++ last ∷ []
-        → IsBareRow layout.decor layout.gutter last → OnOk result (AddsRow (IsBareRow layout.decor layout.gutter) above buffer.new) }
+    ensures marked { (above : List (List Cell)) (last : List Cell) (left : List ℕ) → row ≡ length above → buffer.old ≡ above ++ last ∷ []
+        → IsStrokeRow layout.decor layout.gutter left last → OnOk result (AddsRow (IsStrokeRow layout.decor layout.gutter left) above buffer.new) }
 {
     let mut moves = Moves::none(alloc);
     for patch in patches {
@@ -162,9 +162,9 @@ fn draw_mark(
 ) -> Result<(), AllocError>
     requires narrow { layout.gutter < 2 ^ 32 }
     requires row { row + 1 < 2 ^ 64 }
-    ensures marked { (above : List (List Cell)) (last : List Cell) → row ≡ length above → buffer.old ≡ above ++ last ∷ []
-        → IsBareRow layout.decor layout.gutter last → IsMarkOrSpace layout.decor mark
-        → OnOk result (AddsRow (IsBareRow layout.decor layout.gutter) above buffer.new) }
+    ensures marked { (above : List (List Cell)) (last : List Cell) (left : List ℕ) → row ≡ length above → buffer.old ≡ above ++ last ∷ []
+        → IsStrokeRow layout.decor layout.gutter left last → IsMarkOrSpace layout.decor mark
+        → OnOk result (AddsRow (IsStrokeRow layout.decor layout.gutter left) above buffer.new) }
 {
     for column in start..end.min(MAX_COLUMN) {
         let cell = layout.gutter + 3 + column;

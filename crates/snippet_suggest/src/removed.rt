@@ -1,7 +1,7 @@
 //! The rows of lines that are removed.
 ghost use Rattle.std.specs.Prelude.{◌≡◌, ◌<◌, ◌^◌, ◌+◌, ◌++◌, Bool, List, OnOk, length};
 ghost use Rattle.snippet_style.specs.Cell.{Cell};
-ghost use Rattle.snippet_suggest.specs.Given.{texts_at};
+ghost use Rattle.snippet_suggest.specs.Order.{numbered_at};
 ghost use Rattle.snippet_suggest.specs.Rows.{AddsRemoved, IsTail};
 
 use crate::layout::SuggestionLayout;
@@ -33,7 +33,7 @@ pub(crate) fn draw_removed_lines(
     requires some { 0 < length lines.now }
     // Below some rows, the first of them perhaps over a row that shows no line.
     ensures added { (above tail : List (List Cell)) (shares : Bool) → row ≡ length above → buffer.old ≡ above ++ tail
-        → IsTail layout.decor layout.gutter shares tail → OnOk result (AddsRemoved layout (texts_at lines.now) above buffer.new) }
+        → IsTail layout.decor layout.gutter shares tail → OnOk result (AddsRemoved layout (numbered_at lines.now) above buffer.new) }
 {
     let mut row = row;
     for info in lines {

@@ -4,7 +4,7 @@ ghost use Rattle.snippet_text.specs.Normalized.{norm};
 ghost use Rattle.snippet_lines.specs.Number.{shown_number};
 ghost use Rattle.snippet_style.specs.Cell.{Cell};
 ghost use Rattle.snippet_suggest.specs.Glyphs.{is_sign};
-ghost use Rattle.snippet_suggest.specs.Rows.{AddsRow, IsBareRow, IsLineRow, IsRemovedRow, IsTail};
+ghost use Rattle.snippet_suggest.specs.Rows.{AddsRow, IsLineRow, IsRowOfRemoved, IsStrokeRow, IsTail, gap_left};
 
 use crate::glyphs::SuggestionGlyph;
 use crate::layout::SuggestionLayout;
@@ -69,7 +69,7 @@ pub(crate) fn draw_removed_line(
     requires row { row + 1 < 2 ^ 64 }
     // In a row of its own, or over one that shows no line.
     ensures added { (above tail : List (List Cell)) (shares : Bool) → row ≡ length above → buffer.old ≡ above ++ tail
-        → IsTail layout.decor layout.gutter shares tail → OnOk result (AddsRow (IsRemovedRow layout.numbers layout.decor layout.gutter (norm (chars line.now))) above buffer.new) }
+        → IsTail layout.decor layout.gutter shares tail → OnOk result (AddsRow (IsRowOfRemoved layout (number, line.now)) above buffer.new) }
 {
     let number = number_text(alloc, layout.numbers, layout.gutter, number)?;
     buffer.puts(row, 0, number.as_str(), ElementStyle::LineNumber)?;
@@ -93,7 +93,7 @@ pub(crate) fn draw_gap(
     layout: SuggestionLayout,
 ) -> Result<(), AllocError>
     requires narrow { layout.gutter < 2 ^ 32 }
-    ensures added { OnOk result (AddsRow (IsBareRow layout.decor layout.gutter) buffer.old buffer.new) }
+    ensures added { OnOk result (AddsRow (IsStrokeRow layout.decor layout.gutter (gap_left layout.decor layout.gutter)) buffer.old buffer.new) }
 {
     let row = buffer.num_lines();
     let placeholder = layout.decor.placeholder();

@@ -1,14 +1,16 @@
 //! The rows of a suggestion.
-ghost use Rattle.std.specs.Prelude.{◌≡◌, ◌<◌, ◌^◌, ◌+◌, ◌-◌, ◌++◌, ◌∷◌, [], List, IfOk, OnOk, All, length, map, if◌then◌else◌};
+ghost use Rattle.std.specs.Prelude.{◌≡◌, ◌<◌, ◌^◌, ◌+◌, ◌-◌, ◌++◌, ◌∷◌, [], List, IfOk, OnOk, All, length, map, replicate, if◌then◌else◌};
 ghost use Rattle.snippet_style.specs.Cell.{Cell};
 ghost use Rattle.snippet_lines.specs.Span.{IsSpan};
 ghost use Rattle.snippet_splice.specs.Copied.{end_from};
 ghost use Rattle.snippet_splice.specs.Shown.{first_start};
 ghost use Rattle.snippet_splice.specs.Edits.{AreApart, trimmed_edit_of};
 ghost use Rattle.snippet_suggest.specs.Prepared.{IsPrepared};
-ghost use Rattle.snippet_suggest.specs.Rows.{AddsLines, AddsSuggestion, HasGutter, IsBareRow, IsStart, NumberFits, rows_shared};
-ghost use Rattle.snippet_suggest.specs.Given.{emptied_lines, first_given, first_original, first_original_end, given_lines, numbers_given, removed_texts, replaced_lines, texts_of_source};
+ghost use Rattle.snippet_suggest.specs.Rows.{AddsRows, AddsSuggestion, HasGutter, IsStart, NumberFits, Shows, rows_shared};
+ghost use Rattle.snippet_suggest.specs.Order.{Begins, rows_of_suggestion};
+ghost use Rattle.snippet_suggest.specs.Given.{first_given, first_original, first_original_end, given_lines};
 ghost use Rattle.snippet_suggest.specs.declared.kind.DisplaySuggestion.TheVariants.{Diff};
+ghost use Rattle.snippet_suggest.specs.declared.layout.SuggestionStart.{SuggestionStart};
 ghost use Rattle.snippet_suggest.specs.declared.shown.ShownLine.TheVariants.{Line};
 
 use crate::diff::draw_diff;
@@ -51,10 +53,11 @@ pub fn draw_suggestion(
 ) -> Result<(), AllocError>
     requires narrow { layout.gutter < 2 ^ 32 }
     requires prepared { IsPrepared suggestion.now }
-    // Where the gutter has room for the number that it counts: rows that show it, and nothing else, below what stands there.
+    // Where the gutter has room for the number that it counts: the rows that it has, in their order, and nothing else, below what
+    // stands there.
     ensures added { HasGutter layout suggestion.now.snippet.now
         → (above tail : List (List Cell)) → buffer.old ≡ above ++ tail → IsStart layout start tail
-        → OnOk result (AddsSuggestion layout suggestion.now.snippet.now above buffer.new) }
+        → OnOk result (AddsSuggestion layout start follows suggestion.now.snippet.now above buffer.new) }
 {
     let lines = text_lines(alloc, suggestion.splice.complete.as_str())?;
     let skipped = draw_body(alloc, buffer, layout, suggestion, &lines, start)?;
@@ -79,9 +82,11 @@ fn draw_body(
     requires prepared { IsPrepared suggestion.now }
     requires lines { map (λ l. l.now) lines.now ≡ given_lines suggestion.now.snippet.now }
     ensures few { IfOk result (λ skipped. skipped < 2) }
+    // Its rows, once those that stay empty stand there.
     ensures added { let s = suggestion.now.snippet.now in HasGutter layout s
         → (above tail : List (List Cell)) → buffer.old ≡ above ++ tail → IsStart layout start tail
-        → OnOk result (AddsLines layout (s.line_start + first_given s) (given_lines s) (numbers_given s) (removed_texts s) above buffer.new) }
+        → IfOk result (λ skipped. AddsRows layout (s.line_start + first_given s) (given_lines s) (rows_of_suggestion start s)
+        above (buffer.new ++ replicate skipped [])) }
 {
     let Some(line) = lines.first() else {
         draw_emptied(alloc, buffer, layout, suggestion, start)?;
@@ -122,11 +127,14 @@ fn draw_changed(
     requires prepared { IsPrepared suggestion.now }
     requires line { given_lines suggestion.now.snippet.now ≡ line.now ∷ [] }
     requires diff { suggestion.now.kind ≡ Diff }
+    requires first { first ≡ suggestion.now.snippet.now.line_start + first_given suggestion.now.snippet.now }
     ensures few { IfOk result (λ skipped. skipped < 2) }
+    // Below the row that the suggestion begins with.
     ensures added { let s = suggestion.now.snippet.now in NumberFits layout first (Line 0)
-        → (above : List (List Cell)) (last : List Cell) → buffer.old ≡ above ++ last ∷ []
-        → IsBareRow layout.decor layout.gutter last
-        → OnOk result (AddsLines layout first (given_lines s) (numbers_given s) (texts_of_source s (replaced_lines s)) above buffer.new) }
+        → (above : List (List Cell)) (last : List Cell) (start : SuggestionStart) → buffer.old ≡ above ++ last ∷ []
+        → Shows layout first (given_lines s) (Begins start) last
+        → IfOk result (λ skipped. AddsRows layout first (given_lines s) (rows_of_suggestion start s)
+        above (buffer.new ++ replicate skipped [])) }
 {
     let splice = &suggestion.splice;
     let map = &suggestion.map;
@@ -153,10 +161,10 @@ fn draw_emptied(
 ) -> Result<(), AllocError>
     requires narrow { layout.gutter < 2 ^ 32 }
     requires prepared { IsPrepared suggestion.now }
+    requires none { given_lines suggestion.now.snippet.now ≡ [] }
     ensures added { let s = suggestion.now.snippet.now in (above tail : List (List Cell)) → buffer.old ≡ above ++ tail
         → IsStart layout start tail
-        → OnOk result (AddsLines layout (s.line_start + first_given s) (given_lines s) []
-        (texts_of_source s (emptied_lines s)) above buffer.new) }
+        → OnOk result (AddsRows layout (s.line_start + first_given s) (given_lines s) (rows_of_suggestion start s) above buffer.new) }
 {
     let map = &suggestion.map;
     let patches = &suggestion.splice.patches;

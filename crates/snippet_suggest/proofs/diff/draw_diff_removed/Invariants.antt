@@ -1,8 +1,9 @@
 use Rattle.std.proofs.Common.{take}
 use Rattle.snippet_suggest.specs.Given.{texts_at}
+use Rattle.snippet_suggest.specs.Order.{counted_from}
 use Rattle.snippet_suggest.specs.Rows.{AddsRemoved}
 use Rattle.snippet_suggest.proofs.diff.draw_diff_removed.Given as goal
 
 -- the rows so far are added
 abbrev pub invariant-loop-i : goal.invariant-loop-i
-invariant-loop-i l = AddsRemoved l.layout (take l.i (texts_at l.removed)) l.initial.buffer l.buffer
+invariant-loop-i l = AddsRemoved l.layout (counted_from l.first 0 (take l.i (texts_at l.removed))) l.initial.buffer l.buffer

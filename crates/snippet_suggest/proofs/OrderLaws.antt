@@ -1,0 +1,177 @@
+-- What the rows of a suggestion show in order: by cases, and which lines they offer and show as removed.
+use Rattle.std.proofs.Common.{◌≡◌, ◌≢◌, ℕ, ◌≤◌, Bool, true, false, if◌then◌else◌, List, [], ◌∷◌, ◌++◌, All, length, map, refl, sym, ap, ◌∙◌, arith}
+use Rattle.std.specs.Cow.{cow_str_bytes}
+use Rattle.std.proofs.lemmas.List.{append-nil, length-map}
+use Rattle.std.proofs.lemmas.List.Elements.{All-append, All-cons, All-nil, filter_map-append}
+use Rattle.snippet_model.specs.declared.snippet.Snippet.{Snippet}
+use Rattle.snippet_model.specs.declared.snippet.Patch.{Patch}
+use Rattle.snippet_lines.specs.Lines.{lines_of, source_lines, text_at}
+use Rattle.snippet_splice.specs.declared.splice.LineRange.{LineRange}
+use Rattle.snippet_suggest.specs.declared.kind.DisplaySuggestion.{DisplaySuggestion}
+use Rattle.snippet_suggest.specs.declared.kind.DisplaySuggestion.TheVariants.{Add, Diff, Plain, Underline}
+use Rattle.snippet_suggest.specs.declared.layout.SuggestionStart.{SuggestionStart}
+use Rattle.snippet_suggest.specs.declared.shown.ShownLine.{ShownLine}
+use Rattle.snippet_suggest.specs.declared.shown.ShownLine.TheVariants.{Gap, Line}
+use Rattle.snippet_suggest.specs.Given.{counted_folded, emptied_lines, given_lines, given_ranges, given_text, is_left_out, last_reached, numbers_given, numbers_of, removed_lines, removed_of, replaced_lines, shown_kind, trimmed_of}
+use Rattle.snippet_suggest.specs.Order.{Begins, Empty, Ends, Offers, Removes, Skips, SuggestionRow, changed_rows, is_diff, line_taken, lines_taken, number_offered, numbers_offered, removed_number, removed_row, row_of_shown, rows_of_suggestion, rows_where}
+use Rattle.snippet_suggest.specs.Shown.{is_touched, numbers_shown, shown_lines}
+use Rattle.snippet_suggest.proofs.GutterFits.{one_given}
+use Rattle.snippet_suggest.proofs.KnownNumbers.{diff_numbers, none_numbers}
+
+-- ---- which rows stand there
+
+not_diff : (kind : DisplaySuggestion) → kind ≢ Diff → is_diff kind ≡ false
+not_diff Diff other = absurd (other refl)
+not_diff Underline other = refl
+not_diff Plain other = refl
+not_diff Add other = refl
+
+module _ (start : SuggestionStart) (s : Snippet Patch) where
+  abbrev taken : List SuggestionRow
+  taken = map (removed_row s) (removed_lines s)
+
+  abbrev touched_first : Bool
+  touched_first = is_touched s.fold (given_ranges s) 0
+
+  abbrev left_out : Bool
+  left_out = is_left_out (shown_kind s) (given_lines s) (last_reached s)
+
+  abbrev offered : List SuggestionRow
+  offered = map row_of_shown (shown_lines (is_touched s.fold (given_ranges s)) (length (given_lines s)))
+
+  by_case : (lines : List (List ℕ)) (diff : Bool) → given_lines s ≡ lines → is_diff (shown_kind s) ≡ diff → rows_of_suggestion start s ≡ rows_where lines diff (Begins start) taken (changed_rows touched_first left_out taken) offered
+  by_case lines diff lines_are kind_is =
+      let changed : List SuggestionRow = changed_rows touched_first left_out taken in
+      ap (λ ls. rows_where ls (is_diff (shown_kind s)) (Begins start) taken changed offered) lines_are ∙ ap (λ d. rows_where lines d (Begins start) taken changed offered) kind_is
+
+  -- where no line is given
+  pub rows_none_diff : given_lines s ≡ [] → shown_kind s ≡ Diff → rows_of_suggestion start s ≡ Begins start ∷ map (removed_row s) (removed_lines s)
+  rows_none_diff none diff = by_case [] true none (ap is_diff diff)
+
+  pub rows_none : given_lines s ≡ [] → shown_kind s ≢ Diff → rows_of_suggestion start s ≡ map (removed_row s) (removed_lines s)
+  rows_none none other = by_case [] false none (not_diff (shown_kind s) other)
+
+  -- in a diff, where lines are given
+  pub rows_diff : (line : List ℕ) (lines : List (List ℕ)) (touched left : Bool) → given_lines s ≡ line ∷ lines → shown_kind s ≡ Diff → is_touched s.fold (given_ranges s) 0 ≡ touched → is_left_out Diff (line ∷ lines) (last_reached s) ≡ left → rows_of_suggestion start s ≡ Begins start ∷ changed_rows touched left (map (removed_row s) (removed_lines s))
+  rows_diff line lines touched left some diff touches leaves =
+      let left_is : left_out ≡ left = ap (λ k. is_left_out k (given_lines s) (last_reached s)) diff ∙ ap (λ ls. is_left_out Diff ls (last_reached s)) some ∙ leaves in
+      by_case (line ∷ lines) true some (ap is_diff diff) ∙ ap (λ t. Begins start ∷ changed_rows t left_out taken) touches ∙ ap (λ l. Begins start ∷ changed_rows touched l taken) left_is
+
+  -- in another kind
+  pub rows_others : (line : List ℕ) (lines : List (List ℕ)) → given_lines s ≡ line ∷ lines → shown_kind s ≢ Diff → rows_of_suggestion start s ≡ Begins start ∷ map row_of_shown (shown_lines (is_touched s.fold (given_ranges s)) (length (given_lines s)))
+  rows_others line lines some other = by_case (line ∷ lines) false some (not_diff (shown_kind s) other)
+
+-- ---- laws
+
+shown_offer : (shown : List ShownLine) → numbers_offered (map row_of_shown shown) ≡ numbers_shown shown
+shown_offer [] = refl
+shown_offer (Line k ∷ shown) = ap (λ ks. k ∷ ks) (shown_offer shown)
+shown_offer (Gap ∷ shown) = shown_offer shown
+
+shown_take : (shown : List ShownLine) → lines_taken (map row_of_shown shown) ≡ []
+shown_take [] = refl
+shown_take (Line k ∷ shown) = shown_take shown
+shown_take (Gap ∷ shown) = shown_take shown
+
+removed_offer : (s : Snippet Patch) (is : List ℕ) → numbers_offered (map (removed_row s) is) ≡ []
+removed_offer s [] = refl
+removed_offer s (i ∷ is) = removed_offer s is
+
+removed_take : (s : Snippet Patch) (is : List ℕ) → lines_taken (map (removed_row s) is) ≡ is
+removed_take s [] = refl
+removed_take s (i ∷ is) = ap (λ ks. i ∷ ks) (removed_take s is)
+
+-- the rows of a diff
+changed_offer : (touched left : Bool) (removed : List SuggestionRow) → numbers_offered removed ≡ [] → numbers_offered (changed_rows touched left removed) ≡ (if touched then (if left then [] else 0 ∷ []) else [])
+changed_offer true true removed none = filter_map-append number_offered removed [] ∙ ap (λ ks. ks ++ []) none
+changed_offer true false removed none = filter_map-append number_offered removed (Offers 0 ∷ []) ∙ ap (λ ks. ks ++ 0 ∷ []) none
+changed_offer false left removed none = refl
+
+changed_take : (touched left : Bool) (removed : List SuggestionRow) (ks : List ℕ) → lines_taken removed ≡ ks → (touched ≡ false → ks ≡ []) → lines_taken (changed_rows touched left removed) ≡ ks
+changed_take true true removed ks taken untouched = filter_map-append line_taken removed [] ∙ append-nil (lines_taken removed) ∙ taken
+changed_take true false removed ks taken untouched = filter_map-append line_taken removed (Offers 0 ∷ []) ∙ append-nil (lines_taken removed) ∙ taken
+changed_take false left removed ks taken untouched = sym (untouched refl)
+
+-- a line is offered for each number that is given, in order
+offered_where : (kind : DisplaySuggestion) (lines : List (List ℕ)) (folds : Bool) (ranges : List LineRange) (last : List ℕ) (start : SuggestionStart) (removed : List SuggestionRow) → numbers_offered removed ≡ [] → (kind ≡ Diff → length lines ≤ 1) → numbers_offered (rows_where lines (is_diff kind) (Begins start) removed (changed_rows (is_touched folds ranges 0) (is_left_out kind lines last) removed) (map row_of_shown (shown_lines (is_touched folds ranges) (length lines)))) ≡ numbers_of kind folds ranges lines last
+offered_where Diff [] folds ranges last start removed none few = none ∙ sym (none_numbers Diff folds ranges last)
+offered_where Underline [] folds ranges last start removed none few = none ∙ sym (none_numbers Underline folds ranges last)
+offered_where Plain [] folds ranges last start removed none few = none ∙ sym (none_numbers Plain folds ranges last)
+offered_where Add [] folds ranges last start removed none few = none ∙ sym (none_numbers Add folds ranges last)
+offered_where Diff (line ∷ []) folds ranges last start removed none few =
+    changed_offer (is_touched folds ranges 0) (is_left_out Diff (line ∷ []) last) removed none ∙ sym (diff_numbers folds ranges line last (is_touched folds ranges 0) refl)
+offered_where Diff (line ∷ other ∷ lines) folds ranges last start removed none few = absurd (omega (arith, few refl))
+offered_where Underline (line ∷ lines) folds ranges last start removed none few =
+    shown_offer (shown_lines (is_touched folds ranges) (length (line ∷ lines)))
+offered_where Plain (line ∷ lines) folds ranges last start removed none few =
+    shown_offer (shown_lines (is_touched folds ranges) (length (line ∷ lines)))
+offered_where Add (line ∷ lines) folds ranges last start removed none few =
+    shown_offer (shown_lines (is_touched folds ranges) (length (line ∷ lines)))
+
+few_in_diff : (s : Snippet Patch) → shown_kind s ≡ Diff → length (given_lines s) ≤ 1
+few_in_diff s diff =
+    omega (arith, one_given (cow_str_bytes s.source) (trimmed_of s) (given_text s) (ap (λ k. counted_folded k 0 0 1) diff), length-map (lines_of (given_text s)) (λ l. l.0))
+
+pub rows-offer : (start : SuggestionStart) (s : Snippet Patch) → numbers_offered (rows_of_suggestion start s) ≡ numbers_given s
+rows-offer start s =
+    offered_where (shown_kind s) (given_lines s) s.fold (given_ranges s) (last_reached s) start (map (removed_row s) (removed_lines s)) (removed_offer s (removed_lines s)) (few_in_diff s)
+
+-- each line that is removed is shown as removed, in order
+taken_where : (kind : DisplaySuggestion) (lines : List (List ℕ)) (touched left : Bool) (start : SuggestionStart) (removed : List SuggestionRow) (shown : List ShownLine) (emptied replaced : List ℕ) → lines_taken removed ≡ removed_of lines kind emptied replaced → (touched ≡ false → replaced ≡ []) → lines_taken (rows_where lines (is_diff kind) (Begins start) removed (changed_rows touched left removed) (map row_of_shown shown)) ≡ removed_of lines kind emptied replaced
+taken_where Diff [] touched left start removed shown emptied replaced taken untouched = taken
+taken_where Underline [] touched left start removed shown emptied replaced taken untouched = taken
+taken_where Plain [] touched left start removed shown emptied replaced taken untouched = taken
+taken_where Add [] touched left start removed shown emptied replaced taken untouched = taken
+taken_where Diff (line ∷ lines) touched left start removed shown emptied replaced taken untouched =
+    changed_take touched left removed replaced taken untouched
+taken_where Underline (line ∷ lines) touched left start removed shown emptied replaced taken untouched = shown_take shown
+taken_where Plain (line ∷ lines) touched left start removed shown emptied replaced taken untouched = shown_take shown
+taken_where Add (line ∷ lines) touched left start removed shown emptied replaced taken untouched = shown_take shown
+
+none_untouched : (touched : Bool) (ks : List ℕ) → touched ≡ false → ◌≡◌ {A = List ℕ} (if touched then ks else []) []
+none_untouched true ks untouched = absurd (cc)
+none_untouched false ks untouched = refl
+
+pub rows-take : (start : SuggestionStart) (s : Snippet Patch) → lines_taken (rows_of_suggestion start s) ≡ removed_lines s
+rows-take start s =
+    let touched : Bool = is_touched s.fold (given_ranges s) 0 in
+    taken_where (shown_kind s) (given_lines s) touched (is_left_out (shown_kind s) (given_lines s) (last_reached s)) start (map (removed_row s) (removed_lines s)) (shown_lines (is_touched s.fold (given_ranges s)) (length (given_lines s))) (emptied_lines s) (replaced_lines s) (removed_take s (removed_lines s)) (none_untouched touched _)
+
+-- the row of a line that is removed is that of the snippet
+abbrev pub IsRowOf : Snippet Patch → SuggestionRow → Type 0
+IsRowOf s (Begins start) = Unit {0}
+IsRowOf s (Offers k) = Unit {0}
+IsRowOf s Skips = Unit {0}
+IsRowOf s (Removes i number text) =
+    (number ≡ removed_number s i) × (text ≡ text_at (source_lines (cow_str_bytes s.source)) i)
+IsRowOf s Empty = Unit {0}
+IsRowOf s (Ends follows) = Unit {0}
+
+shown_rows : (s : Snippet Patch) (shown : List ShownLine) → All (IsRowOf s) (map row_of_shown shown)
+shown_rows s [] = All-nil (IsRowOf s)
+shown_rows s (Line k ∷ shown) = All-cons (IsRowOf s) (Offers k) (map row_of_shown shown) tt (shown_rows s shown)
+shown_rows s (Gap ∷ shown) = All-cons (IsRowOf s) Skips (map row_of_shown shown) tt (shown_rows s shown)
+
+own_rows : (s : Snippet Patch) (is : List ℕ) → All (IsRowOf s) (map (removed_row s) is)
+own_rows s [] = All-nil (IsRowOf s)
+own_rows s (i ∷ is) = All-cons (IsRowOf s) (removed_row s i) (map (removed_row s) is) (refl, refl) (own_rows s is)
+
+changed_own : (s : Snippet Patch) (touched left : Bool) (removed : List SuggestionRow) → All (IsRowOf s) removed → All (IsRowOf s) (changed_rows touched left removed)
+changed_own s true true removed own = All-append (IsRowOf s) removed [] own (All-nil (IsRowOf s))
+changed_own s true false removed own =
+    All-append (IsRowOf s) removed (Offers 0 ∷ []) own (All-cons (IsRowOf s) (Offers 0) [] tt (All-nil (IsRowOf s)))
+changed_own s false left removed own = All-cons (IsRowOf s) Empty [] tt (All-nil (IsRowOf s))
+
+own_where : (s : Snippet Patch) (lines : List (List ℕ)) (diff : Bool) (start : SuggestionStart) (removed changed shown : List SuggestionRow) → All (IsRowOf s) removed → All (IsRowOf s) changed → All (IsRowOf s) shown → All (IsRowOf s) (rows_where lines diff (Begins start) removed changed shown)
+own_where s [] true start removed changed shown r c o = All-cons (IsRowOf s) (Begins start) removed tt r
+own_where s [] false start removed changed shown r c o = r
+own_where s (line ∷ lines) true start removed changed shown r c o = All-cons (IsRowOf s) (Begins start) changed tt c
+own_where s (line ∷ lines) false start removed changed shown r c o = All-cons (IsRowOf s) (Begins start) shown tt o
+
+pub rows-own : (start : SuggestionStart) (s : Snippet Patch) → All (IsRowOf s) (rows_of_suggestion start s)
+rows-own start s =
+    let touched : ℕ → Bool = is_touched s.fold (given_ranges s) in
+    let removed : List SuggestionRow = map (removed_row s) (removed_lines s) in
+    let left : Bool = is_left_out (shown_kind s) (given_lines s) (last_reached s) in
+    let shown : List ShownLine = shown_lines touched (length (given_lines s)) in
+    own_where s (given_lines s) (is_diff (shown_kind s)) start removed (changed_rows (touched 0) left removed) (map row_of_shown shown) (own_rows s (removed_lines s)) (changed_own s (touched 0) left removed (own_rows s (removed_lines s))) (shown_rows s shown)

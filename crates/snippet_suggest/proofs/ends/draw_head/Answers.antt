@@ -1,0 +1,43 @@
+use Rattle.std.proofs.Common.{◌≡◌, ◌∙◌, ◌∷◌, ◌++◌, [], List, OnOk, arith, ap, false, length, refl, subst, sym, true}
+use Rattle.std.proofs.lemmas.List.{length-append}
+use Rattle.snippet_style.specs.Cell.{Cell}
+use Rattle.snippet_suggest.specs.declared.layout.SuggestionStart.{SuggestionStart}
+use Rattle.snippet_suggest.specs.declared.layout.SuggestionStart.TheVariants.{Next, Opening, Path}
+use Rattle.snippet_suggest.specs.Rows.{AddsRow, IsStart, IsStrokeRow, begin_glyph, beside_gutter}
+use Rattle.snippet_suggest.proofs.ends.draw_head.Goals as goal
+
+pub returns-in-Opening : goal.returns-in-Opening
+returns-in-Opening c =
+    record {
+      added = λ above tail is begins.
+          let l = c.args.layout in
+          let new = c.draw_glyph.new.buffer in
+          let result = c.draw_glyph.result in
+          let Begun : SuggestionStart → Type 0 = λ at. OnOk result (AddsRow (IsStrokeRow l.decor l.gutter (beside_gutter l.gutter (begin_glyph l.decor at))) above new) in
+          let none : IsStart l Opening tail = subst (λ at. IsStart l at tail) c.in-Opening.is begins in
+          let here : c.num_lines-rows.result ≡ length above = omega (arith, c.num_lines-rows.ensures.count, ap length is, ap length none, length-append above tail) in
+          subst Begun (sym c.in-Opening.is) (c.draw_glyph.ensures.added refl above tail false here is none);
+    }
+
+pub returns-in-Next : goal.returns-in-Next
+returns-in-Next c =
+    record {
+      added = λ above tail is begins.
+          let l = c.args.layout in
+          let new = c.draw_glyph-in-Next.new.buffer in
+          let result = c.draw_glyph-in-Next.result in
+          let Begun : SuggestionStart → Type 0 = λ at. OnOk result (AddsRow (IsStrokeRow l.decor l.gutter (beside_gutter l.gutter (begin_glyph l.decor at))) above new) in
+          let shared : IsStart l Next tail = subst (λ at. IsStart l at tail) c.in-Next.is begins in
+          let here : c.saturating_sub-row.result ≡ length above = omega (arith, c.num_lines-rows.ensures.count, c.saturating_sub-row.ensures, ap length is, ap length shared.2, length-append above tail) in
+          subst Begun (sym c.in-Next.is) (c.draw_glyph-in-Next.ensures.added refl above tail true here is shared);
+    }
+
+pub returns-in-Path : goal.returns-in-Path
+returns-in-Path c =
+    record {
+      added = λ above tail is begins.
+          let l = c.args.layout in
+          let Begun : SuggestionStart → Type 0 = λ at. AddsRow (IsStrokeRow l.decor l.gutter (beside_gutter l.gutter (begin_glyph l.decor at))) above c.args.buffer.now in
+          let below : IsStart l Path tail = subst (λ at. IsStart l at tail) c.in-Path.is begins in
+          subst Begun (sym c.in-Path.is) (record { row = below.0; added = is ∙ ap (λ rows. above ++ rows) below.1; is = below.2 });
+    }
