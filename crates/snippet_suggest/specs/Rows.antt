@@ -103,7 +103,7 @@ abbrev pub end_glyph : DecorStyle → Bool → List ℕ
 end_glyph decor true = glyph_of decor sign.Leading
 end_glyph decor false = glyph_of decor sign.Closing
 
--- in a row in place of lines that are left out: what stands for these, set right in the gutter, or from the first cell on where that
+-- in a row in place of lines that are left out: what stands for these, right-aligned in the gutter, or from the first cell on where that
 -- is too narrow
 abbrev pub gap_left : DecorStyle → ℕ → List ℕ
 gap_left decor gutter = replicate (gutter - width_of (placeholder_of decor)) 32 ++ placeholder_of decor
