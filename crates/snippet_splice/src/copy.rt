@@ -6,6 +6,7 @@ ghost use Rattle.snippet_lines.specs.Lines.{is_lf};
 ghost use Rattle.snippet_lines.specs.Span.{IsSpanBorder};
 ghost use Rattle.snippet_splice.specs.Copied.{is_inside_line_end, text_end, in_text, with_line_feeds, copied};
 
+use memchr::memchr;
 use snippet_lines::line_feed_count;
 use std::alloc::AllocError;
 
@@ -65,6 +66,11 @@ fn is_inside_line_end(bytes: &[u8], at: usize) -> bool
 fn push_with_line_feeds(out: &mut String, text: &str) -> Result<(), AllocError>
     ensures written { IfOk result (λ _. string_bytes out.new ≡ string_bytes out.old ++ with_line_feeds text.now) }
 {
+    // Most texts have no carriage return, and are copied whole.
+    if memchr(b'\r', text.as_bytes()).is_none() {
+        out.push_str(text)?;
+        return Ok(());
+    }
     let mut rest = text;
     while let Some((front, after)) = rest.split_once('\r') {
         out.push_str(front)?;
