@@ -62,15 +62,23 @@ fn is_inside_line_end(bytes: &[u8], at: usize) -> bool
     0 < at && at < bytes.len() && bytes[at] == b'\n' && bytes[at - 1] == b'\r'
 }
 
-/// Adds a text with a line feed in place of each carriage return and line feed.
+/// Adds a text with a line feed in place of each carriage return and line feed. Most texts have none, and are copied whole.
 fn push_with_line_feeds(out: &mut String, text: &str) -> Result<(), AllocError>
     ensures written { IfOk result (λ _. string_bytes out.new ≡ string_bytes out.old ++ with_line_feeds text.now) }
 {
-    // Most texts have no carriage return, and are copied whole.
-    if memchr(b'\r', text.as_bytes()).is_none() {
-        out.push_str(text)?;
-        return Ok(());
+    match memchr(b'\r', text.as_bytes()) {
+        Some(_) => push_converted(out, text),
+        None => {
+            out.push_str(text)?;
+            Ok(())
+        }
     }
+}
+
+/// The same of a text that may have some.
+fn push_converted(out: &mut String, text: &str) -> Result<(), AllocError>
+    ensures written { IfOk result (λ _. string_bytes out.new ≡ string_bytes out.old ++ with_line_feeds text.now) }
+{
     let mut rest = text;
     while let Some((front, after)) = rest.split_once('\r') {
         out.push_str(front)?;
