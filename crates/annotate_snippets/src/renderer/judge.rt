@@ -132,20 +132,23 @@ fn patched_end_fault(
 ) -> Option<RenderError>
     ensures value { result ≡ first_of (number_faults group element (number_after_lines line_start source.now + added_lines patches.now)) }
 {
-    if greatest_end(line_start, source, patches).is_some() {
-        return None;
+    match greatest_end(line_start, source, patches) {
+        // Where so many would fit, the lines needn't be counted.
+        Some(_) => None,
+        None => {
+            missing_number(
+                group,
+                element,
+                patched_end_number(line_start, source, patches),
+            )
+        }
     }
-    missing_number(
-        group,
-        element,
-        patched_end_number(line_start, source, patches),
-    )
 }
 
 /// A number that the one after that of a patched source's last line doesn't exceed, where it fits: that if each byte were a
 /// line end.
 fn greatest_end(line_start: usize, source: &str, patches: &[Patch]) -> Option<usize>
-    ensures most { IfSome result (λ most. number_after_lines line_start source.now + added_lines patches.now ≤ most) }
+    ensures most { IfSome result (λ most. (number_after_lines line_start source.now + added_lines patches.now ≤ most) × (most < 2 ^ 64)) }
 {
     let mut most = line_start.checked_add(source.len())?.checked_add(1)?;
     for patch in patches {
