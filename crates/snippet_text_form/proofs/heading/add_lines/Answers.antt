@@ -1,11 +1,10 @@
-use Rattle.std.proofs.Common.{◌∙◌, ◌++◌, ap, sym, lit<}
+use Rattle.std.proofs.Common.{sym, lit<}
 use Rattle.std.proofs.lemmas.List.{append-nil}
 use Rattle.std.proofs.lemmas.Iterator.Splits.{YieldsList-from_str_split}
 use Rattle.std.proofs.lemmas.Iterator.Consumers.{YieldsList-end, YieldsList-from_enumerate, YieldsList-turn}
 use Rattle.snippet_titles.proofs.LineLemmas.{number_is}
 use Rattle.snippet_titles.proofs.SplitLemmas.{lines_at}
-use Rattle.snippet_text_form.specs.Heading.{lines_form}
-use Rattle.snippet_text_form.proofs.SplitForm.{line_added, shown_lines-all}
+use Rattle.snippet_text_form.proofs.SplitForm.{all_added, line_added, shown_lines-all}
 use Rattle.snippet_text_form.proofs.heading.add_lines.Goals as goal
 
 pub loop-index-init : goal.loop-index-init
@@ -22,5 +21,5 @@ returns g c =
     let all = YieldsList-end (YieldsList-from_enumerate (YieldsList-from_str_split 10 c.text.result.now (lit< tt) (cc) (cc) (cc)) (cc)) c.loop-index.yielded _ c.loop-index.yielded_by _ _ c.in-None.is c.next.ensures.steps in
     let lines = shown_lines-all _ c.allows_styling-trusted.result _ c.text.result.now c.loop-index.yielded c.allows_styling-trusted.ensures c.text.utf8 c.text.ensures all.0 in
     record {
-      added = c.loop-index.invariant.0 ∙ ap (λ ls. c.args.form.now ++ lines_form c.args.role _ ls) lines;
+      added = all_added _ _ _ _ _ _ _ c.loop-index.invariant.0 lines;
     }
