@@ -37,4 +37,4 @@ drawn_from ds i =
 -- a suggestion that is drawn has patches
 pub has_patches : (patches : List Patch) → not (length patches == 0) ≡ true → patches ≢ []
 has_patches patches drawn none =
-    both_ways (not (length patches == 0)) drawn (ap (λ (ps : List Patch). not (length ps == 0)) none)
+    both_ways (not (length patches == 0)) (ap (λ (ps : List Patch). not (length ps == 0)) none) drawn

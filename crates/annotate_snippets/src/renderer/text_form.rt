@@ -12,9 +12,9 @@ ghost use Rattle.annotate_snippets.specs.TextForm as spec;
 ghost use Rattle.annotate_snippets.specs.TextForm.{before_seen, element_form, elements_form, group_form};
 ghost use Rattle.snippet_model.specs.declared.snippet.Group.{Group};
 ghost use Rattle.annotate_snippets.specs.Around.{file_of_group, share_file};
-ghost use Rattle.snippet_model.specs.Fits.{TitleFits};
+ghost use Rattle.snippet_model.specs.Fits.{MessageFits, TitleFits};
 ghost use Rattle.snippet_suggest.specs.Prepared.{IsSuggestible};
-ghost use Rattle.snippet_model.specs.Heading.{heading_of_title};
+ghost use Rattle.snippet_model.specs.Heading.{heading_of_message, heading_of_title};
 ghost use Rattle.snippet_text_form.specs.Cause.{cause_form};
 ghost use Rattle.snippet_text_form.specs.Heading.{heading_form};
 ghost use Rattle.snippet_text_form.specs.Suggestion.{suggestion_form};
@@ -22,7 +22,7 @@ ghost use Rattle.snippet_text_form.specs.declared.heading.HeadingKind.TheVariant
 
 use crate::renderer::Renderer;
 use crate::renderer::paths::{is_same_file, path_of, primary_path, report_file};
-use snippet_model::snippet::{Annotation, Element, Group, Patch, Snippet, Title};
+use snippet_model::snippet::{Annotation, Element, Group, Message, Patch, Snippet, Title};
 use snippet_parts::SourceMap;
 use snippet_suggest::prepare_suggestion;
 use snippet_text_form::{
@@ -188,15 +188,7 @@ fn add_element<'a>(
 {
     let anonymized = renderer.anonymized_origin_line_numbers;
     match element {
-        Element::Message(message) => {
-            add_heading(
-                alloc,
-                form,
-                renderer.hyperlink,
-                HeadingKind::Message,
-                message,
-            )
-        }
+        Element::Message(message) => add_message(alloc, form, renderer.hyperlink, message),
         Element::Cause(snippet) => add_snippet(alloc, form, anonymized, snippet),
         Element::Suggestion(snippet) => {
             let place = suggestion_place(file, before, followed, snippet);
@@ -205,6 +197,19 @@ fn add_element<'a>(
         Element::Origin(origin) => add_origin(alloc, form, anonymized, origin),
         Element::Padding(_) => Ok(()),
     }
+}
+
+/// Adds a message.
+fn add_message<'a>(
+    alloc: Global,
+    form: &mut TextForm<'a>,
+    hyperlink: bool,
+    message: &'a Message<'a>,
+) -> Result<(), AllocError>
+    requires fits { MessageFits message.now }
+    ensures added { OnOk result (form.new ≡ form.old ++ heading_form hyperlink kind.Message (heading_of_message message.now)) }
+{
+    add_heading(alloc, form, hyperlink, HeadingKind::Message, message)
 }
 
 /// Adds an annotated snippet.
