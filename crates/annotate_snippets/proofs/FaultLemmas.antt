@@ -1,8 +1,10 @@
 -- What a report without faults is.
-use Rattle.std.proofs.Common.{◌≡◌, ℕ, ◌+◌, ◌<◌, ◌&&◌, ◌==◌, nat_lt, Bool, true, false, List, [], ◌∷◌, ◌++◌, Option, Some, None, All, length, map, refl, sym, ap, ◌∙◌, arith, inl, inr, cond, ◌^◌}
+use Rattle.std.proofs.Common.{◌≡◌, ℕ, ◌+◌, ◌<◌, ◌≤◌, ◌&&◌, count_by, get_or, take, ◌==◌, nat_lt, Bool, true, false, List, [], ◌∷◌, ◌++◌, Option, Some, None, All, length, map, refl, sym, ap, ◌∙◌, arith, inl, inr, cond, ◌^◌}
 use Rattle.std.specs.List.{slice_get}
 use Rattle.std.specs.Option.{option_map, option_or, option_to_list}
 use Rattle.std.proofs.lemmas.Bool.Decides.{nat_tests}
+use Rattle.std.proofs.lemmas.List.{take_more}
+use Rattle.std.proofs.lemmas.List.Sums.{count_by-le-length, fold_push}
 use Rattle.std.proofs.lemmas.List.Elements.{All-nil, All-cons, All-head, All-tail}
 use Rattle.std.specs.Str.{IsCharBoundary}
 use Rattle.snippet_model.specs.declared.snippet.Group.{Group}
@@ -28,6 +30,14 @@ use Rattle.annotate_snippets.specs.declared.renderer.error.RenderError.TheVarian
 use Rattle.annotate_snippets.specs.declared.renderer.error.RenderError.{RenderError}
 use Rattle.annotate_snippets.specs.declared.renderer.form.Form.TheVariants.{Short}
 use Rattle.snippet_grid.proofs.WeaveLemmas.{some_same}
+
+-- one more patch adds no more lines than its replacement has bytes
+pub added_more : (patches : List Patch) (i : ℕ) (p : Patch) → i < length patches → p ≡ get_or patches i p → added_lines (take (i + 1) patches) ≤ added_lines (take i patches) + length (cow_str_bytes p.replacement)
+added_more patches i p within is =
+    let feeds : Patch → ℕ = λ q. count_by (λ b. b == 10) (cow_str_bytes q.replacement) in
+    let more : take (i + 1) patches ≡ take i patches ++ p ∷ [] = take_more patches i p within ∙ ap (λ (q : Patch). take i patches ++ q ∷ []) (sym is) in
+    let sum : added_lines (take (i + 1) patches) ≡ added_lines (take i patches) + feeds p = ap added_lines more ∙ fold_push (λ a q. a + feeds q) 0 (take i patches) p in
+    omega (arith, sum, count_by-le-length (λ b. b == 10) (cow_str_bytes p.replacement))
 
 -- no first fault, no fault
 pub none_first : (faults : List RenderError) → first_of faults ≡ None → faults ≡ []

@@ -17,9 +17,7 @@ use Rattle.snippet_text_form.specs.declared.heading.HeadingKind.TheVariants as k
 use Rattle.annotate_snippets.specs.Around.{drawn_elements, file_of_group, first_two_share, is_same_file, path_bytes}
 use Rattle.annotate_snippets.specs.TextForm.{PreviousSuggestion, before_next, before_seen, element_form, elements_form, group_form, option_number}
 use Rattle.annotate_snippets.specs.declared.renderer.Renderer.{Renderer}
-use Rattle.annotate_snippets.specs.declared.renderer.preprocess.PreparedGroup.{PreparedGroup}
 use Rattle.annotate_snippets.specs.declared.renderer.text_form.PreviousSuggestion as code
-use Rattle.annotate_snippets.proofs.PreparedLemmas.{group_of}
 
 -- the elements before this one were added: with those that are left, the form is what all are after the old one. The suggestion
 -- right before has at most as large a number as there are elements before
@@ -89,11 +87,11 @@ group_added r groups g file es old titled new of drawn title added =
     added ∙ ap (λ (x : List FormPiece). x ++ elements_form r file None es) title ∙ append_assoc old (title_form r g.title) (elements_form r file None es) ∙ ap (λ (f : Option (List ℕ)). old ++ (title_form r g.title ++ elements_form r f None es)) of ∙ ap (λ (xs : List Element). old ++ (title_form r g.title ++ elements_form r (file_of_group groups g) None xs)) drawn
 
 -- the groups so far are added, and one more
-abbrev pub groups_form : Renderer → List Group → List PreparedGroup → List FormPiece
-groups_form r groups ps = flat_map (λ p. group_form r groups (group_of p)) ps
+abbrev pub groups_form : Renderer → List Group → List Group → List FormPiece
+groups_form r groups gs = flat_map (group_form r groups) gs
 
-pub one_group_added : (r : Renderer) (groups : List Group) (ps : List PreparedGroup) (i : ℕ) (p : PreparedGroup) (form new : List FormPiece) → i < length ps → p ≡ get_or ps i p → form ≡ groups_form r groups (take i ps) → new ≡ form ++ group_form r groups (group_of p) → new ≡ groups_form r groups (take (i + 1) ps)
-one_group_added r groups ps i p form new within is so_far added =
-    let own : PreparedGroup → List FormPiece = λ q. group_form r groups (group_of q) in
-    let more : take (i + 1) ps ≡ take i ps ++ p ∷ [] = take_more ps i p within ∙ ap (λ (q : PreparedGroup). take i ps ++ q ∷ []) (sym is) in
-    added ∙ ap (λ (x : List FormPiece). x ++ own p) so_far ∙ ap (λ (x : List FormPiece). flat_map own (take i ps) ++ x) (sym (append-nil (own p))) ∙ sym (flat_map-append own (take i ps) (p ∷ [])) ∙ ap (flat_map own) (sym more)
+pub one_group_added : (r : Renderer) (groups gs : List Group) (i : ℕ) (g : Group) (form new : List FormPiece) → i < length gs → g ≡ get_or gs i g → form ≡ groups_form r groups (take i gs) → new ≡ form ++ group_form r groups g → new ≡ groups_form r groups (take (i + 1) gs)
+one_group_added r groups gs i g form new within is so_far added =
+    let own : Group → List FormPiece = group_form r groups in
+    let more : take (i + 1) gs ≡ take i gs ++ g ∷ [] = take_more gs i g within ∙ ap (λ (h : Group). take i gs ++ h ∷ []) (sym is) in
+    added ∙ ap (λ (x : List FormPiece). x ++ own g) so_far ∙ ap (λ (x : List FormPiece). flat_map own (take i gs) ++ x) (sym (append-nil (own g))) ∙ sym (flat_map-append own (take i gs) (g ∷ [])) ∙ ap (flat_map own) (sym more)

@@ -2,6 +2,7 @@ pub mod AroundLaws
 pub mod BoundsLaws
 pub mod CauseShown
 pub mod DisjointLemmas
+pub mod DrawnElementLemmas
 pub mod ElementRows
 pub mod ElementShown
 pub mod FaultLemmas

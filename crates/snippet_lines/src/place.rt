@@ -3,6 +3,7 @@ ghost use Rattle.std.specs.Prelude.{◌≡◌, ◌-◌, ◌*◌, ◌^◌, ◌<�
 ghost use Rattle.std.specs.Str.{IsCharBoundary};
 ghost use Rattle.snippet_text.specs.Width.{width_of};
 
+use snippet_style::char_count;
 use snippet_text::str_width;
 
 /// A place in a source.
@@ -36,7 +37,7 @@ impl Loc {
         let before = &text[..(byte - start).min(text.len())];
         Loc {
             line: number,
-            char: before.chars().count(),
+            char: char_count(before),
             display: str_width(before),
             byte,
         }

@@ -6,6 +6,7 @@ ghost use Rattle.snippet_lines.specs.Lines.{is_lf};
 ghost use Rattle.snippet_lines.specs.Span.{IsSpanBorder};
 ghost use Rattle.snippet_splice.specs.Copied.{is_inside_line_end, text_end, in_text, with_line_feeds, copied};
 
+use memchr::memchr;
 use snippet_lines::line_feed_count;
 use std::alloc::AllocError;
 
@@ -61,8 +62,21 @@ fn is_inside_line_end(bytes: &[u8], at: usize) -> bool
     0 < at && at < bytes.len() && bytes[at] == b'\n' && bytes[at - 1] == b'\r'
 }
 
-/// Adds a text with a line feed in place of each carriage return and line feed.
+/// Adds a text with a line feed in place of each carriage return and line feed. Most texts have none, and are copied whole.
 fn push_with_line_feeds(out: &mut String, text: &str) -> Result<(), AllocError>
+    ensures written { IfOk result (λ _. string_bytes out.new ≡ string_bytes out.old ++ with_line_feeds text.now) }
+{
+    match memchr(b'\r', text.as_bytes()) {
+        Some(_) => push_converted(out, text),
+        None => {
+            out.push_str(text)?;
+            Ok(())
+        }
+    }
+}
+
+/// The same of a text that may have some.
+fn push_converted(out: &mut String, text: &str) -> Result<(), AllocError>
     ensures written { IfOk result (λ _. string_bytes out.new ≡ string_bytes out.old ++ with_line_feeds text.now) }
 {
     let mut rest = text;

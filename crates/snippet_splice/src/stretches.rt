@@ -2,6 +2,7 @@
 use crate::copy::text_place;
 use crate::patches::TrimmedPatch;
 use snippet_lines::line_feed_count;
+use snippet_style::char_count;
 use std::alloc::{AllocError, Global};
 
 /// A stretch of a line, from one character to another; a tab of a replacement counts as four.
@@ -81,8 +82,8 @@ fn steps_after_text(source: &str, byte: usize) -> usize {
 /// The characters of a line before the end of a text, if so many stand before its beginning.
 fn chars_after(before: usize, text: &str) -> usize {
     match text.rsplit_once('\n') {
-        Some((_, line)) => line.chars().count(),
-        None => before.saturating_add(text.chars().count()),
+        Some((_, line)) => char_count(line),
+        None => before.saturating_add(char_count(text)),
     }
 }
 
@@ -212,7 +213,7 @@ fn push_replaced(
     let mut rest = inside;
     while let Some((piece, after)) = rest.split_once('\n') {
         let text = piece.strip_suffix('\r').unwrap_or(piece);
-        let end = before.saturating_add(text.chars().count());
+        let end = before.saturating_add(char_count(text));
         push_stretch(alloc, lines, line, SubstitutionHighlight { start, end })?;
         start = 0;
         before = 0;

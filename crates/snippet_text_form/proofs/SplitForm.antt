@@ -83,6 +83,10 @@ lines_form-push role width (first ∷ lines) line =
 abbrev pub with_lines : List FormPiece → ElementStyle → ℕ → Bool → List (ℕ × Bor (List ℕ)) → List FormPiece
 with_lines old role width trusted numbered = old ++ lines_form role width (shown_lines trusted numbered)
 
+pub all_added : (old form : List FormPiece) (role : ElementStyle) (width : ℕ) (trusted : Bool) (numbered : List (ℕ × Bor (List ℕ))) (lines : List (List ℕ)) → form ≡ with_lines old role width trusted numbered → shown_lines trusted numbered ≡ lines → form ≡ old ++ lines_form role width lines
+all_added old form role width trusted numbered lines so_far all =
+    so_far ∙ ap (λ (ls : List (List ℕ)). old ++ lines_form role width ls) all
+
 pub line_added : (old form one new : List FormPiece) (role : ElementStyle) (width index : ℕ) (trusted : Bool) (numbered : List (ℕ × Bor (List ℕ))) (line : Bor (List ℕ)) (text : List ℕ) → index ≡ length numbered → form ≡ with_lines old role width trusted numbered → one ≡ form ++ bare (before_line width index) → new ≡ one ++ styled role text → text ≡ line_shown trusted (chars line.now) → new ≡ with_lines old role width trusted (numbered ++ (index, line) ∷ [])
 line_added old form one new role width index trusted numbered line text at is first second shows =
     let ls : List (List ℕ) = shown_lines trusted numbered in

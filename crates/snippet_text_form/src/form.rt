@@ -12,11 +12,14 @@ ghost use Rattle.std.specs.Option.{option_copied};
 ghost use Rattle.snippet_grid.specs.Woven.{IsWoven, piece_text};
 ghost use Rattle.snippet_text_form.specs.Form.{Break, Styled, bare, begun_after, form_bytes, form_links, form_text, in_style, link_codes_before, link_codes_after, pieces_of, plain_from, role_style, woven_from};
 
-use snippet_style::{ElementStyle, LevelInner, Style, Stylesheet, open_code, reset_code};
+use snippet_style::{ElementStyle, LevelInner, Style, Stylesheet, reset_code, write_opening};
 use snippet_text::CowStr;
 use std::alloc::{AllocError, Global};
 use std::fmt::Write;
 use std::marker::Model;
+
+/// The bytes that a text has room for at first, for each part: of the usual parts few are longer.
+const PART_BYTES: usize = 12;
 
 /// A part of a text form.
 #[derive(Drop)]
@@ -136,10 +139,10 @@ impl<'a> TextForm<'a> {
         ensures woven { IfOk result (λ text.
             IsWoven sheet.now (string_bytes text) (form_text self.now) (form_links self.now)) }
     {
-        let mut text = String::new(alloc);
+        let mut text = String::with_capacity(alloc, self.parts.len().saturating_mul(PART_BYTES))?;
         let mut begun = false;
         for part in &self.parts {
-            write_part(alloc, &mut text, sheet, begun, part)?;
+            write_part(&mut text, sheet, begun, part)?;
             begun = begun || has_text(part);
         }
         Ok(text)
@@ -161,7 +164,6 @@ fn has_text(part: &TextPart<'_>) -> bool
 
 /// Adds a part to a text; `begun` says whether plain text stands before it.
 fn write_part(
-    alloc: Global,
     out: &mut String,
     sheet: &Stylesheet,
     begun: bool,
@@ -176,7 +178,7 @@ fn write_part(
         TextPart::Text(text) => out.push_str(text.as_str()),
         TextPart::Number(number) => write!(out, "{number}"),
         TextPart::Spaces(count) => write_spaces(out, *count),
-        TextPart::Styled(text) => write_styled(alloc, out, sheet, text),
+        TextPart::Styled(text) => write_styled(out, sheet, text),
     }
 }
 
@@ -192,7 +194,6 @@ fn write_spaces(out: &mut String, count: usize) -> Result<(), AllocError>
 
 /// Adds a text in its style, which is opened before it and reset after it.
 fn write_styled(
-    alloc: Global,
     out: &mut String,
     sheet: &Stylesheet,
     text: &StyledText<'_>,
@@ -201,7 +202,7 @@ fn write_styled(
         (in_style (role_style sheet.now text.now.role) (option_copied text.now.link) (chars (cow_str_bytes text.now.text)))) }
 {
     let style = style_of(sheet, text.role);
-    out.push_str(open_code(alloc, style)?.as_str())?;
+    write_opening(out, style)?;
     begin_link(out, text.link)?;
     out.push_str(text.text.as_str())?;
     end_link(out, text.link)?;

@@ -83,8 +83,7 @@ pub fn add_heading<'a>(
     let roles = kind.roles(heading.level().kind, heading.allows_styling());
     form.add_break()?;
     add_label(alloc, form, hyperlink, kind, roles, heading)?;
-    let width = label_width(kind, heading);
-    add_lines(alloc, form, roles.text, width, heading)
+    add_lines(alloc, form, roles.text, kind, heading)
 }
 
 /// Adds what stands before a heading's text.
@@ -208,33 +207,61 @@ fn id_width(hidden: bool, id: Option<&Id<'_>>) -> usize
     }
 }
 
-/// Adds a heading's text; each further line of it stands below the first, after so many spaces.
+/// Adds a heading's text; each further line of it stands below the first, as far right.
 fn add_lines<'a>(
     alloc: Global,
     form: &mut TextForm<'a>,
     role: ElementStyle,
-    width: usize,
+    kind: HeadingKind,
     heading: &'a dyn MessageOrTitle,
 ) -> Result<(), AllocError>
-    ensures added { OnOk result (form.new ≡ form.old ++ lines_form role width (heading_lines (heading_of heading.now))) }
+    requires fits { HeadingFits (heading_of heading.now) }
+    ensures added { OnOk result (form.new ≡ form.old
+        ++ lines_form role (width_of (label_text kind (heading_of heading.now))) (heading_lines (heading_of heading.now))) }
 {
     let trusted = heading.allows_styling();
+    let mut width = None;
     for (index, line) in heading.text().split('\n').enumerate() {
-        begin_line(form, width, index)?;
+        width = begin_line(form, kind, width, index, heading)?;
         form.add_styled(role, None, shown_line(alloc, trusted, line)?)?;
     }
     Ok(())
 }
 
-/// Adds what stands before a line: nothing before the first, else a line feed and so many spaces.
-fn begin_line(form: &mut TextForm<'_>, width: usize, index: usize) -> Result<(), AllocError>
-    ensures added { OnOk result (form.new ≡ form.old ++ bare (before_line width index)) }
+/// Adds what stands before a line: nothing before the first, else a line feed and as many spaces as the label has columns,
+/// which are given where they are known. It gives them as far as they are known then.
+fn begin_line(
+    form: &mut TextForm<'_>,
+    kind: HeadingKind,
+    known: Option<usize>,
+    index: usize,
+    heading: &dyn MessageOrTitle,
+) -> Result<Option<usize>, AllocError>
+    requires fits { HeadingFits (heading_of heading.now) }
+    requires known { IfSome known (λ width. width ≡ width_of (label_text kind (heading_of heading.now))) }
+    ensures added { OnOk result (form.new
+        ≡ form.old ++ bare (before_line (width_of (label_text kind (heading_of heading.now))) index)) }
+    ensures known { IfOk result (λ known. IfSome known (λ width. width ≡ width_of (label_text kind (heading_of heading.now)))) }
 {
     if index == 0 {
-        return Ok(());
+        return Ok(known);
     }
+    let width = known_width(kind, known, heading);
     form.add_text("\n")?;
-    form.add_spaces(width)
+    form.add_spaces(width)?;
+    Ok(Some(width))
+}
+
+/// The columns of what stands before a heading's text, which are given where they are known. A text of one line doesn't ask.
+fn known_width(kind: HeadingKind, known: Option<usize>, heading: &dyn MessageOrTitle) -> usize
+    requires fits { HeadingFits (heading_of heading.now) }
+    requires known { IfSome known (λ width. width ≡ width_of (label_text kind (heading_of heading.now))) }
+    ensures value { result ≡ width_of (label_text kind (heading_of heading.now)) }
+{
+    match known {
+        Some(width) => width,
+        None => label_width(kind, heading),
+    }
 }
 
 /// A line of a text as it is shown: a trusted one as it is, any other normalised.

@@ -3,7 +3,7 @@ use Rattle.std.proofs.Common.{◌≡◌, ◌^◌, Option, Some, None, IfSome, un
 use Rattle.std.proofs.Math.Utf8.{scalars}
 use Rattle.std.specs.Str.{IsCharBoundary}
 use Rattle.std.proofs.lemmas.Str.{encodes-chars, encodes-append, scalars-chars, chars-encodes, IsCharBoundary-at_seam}
-use Rattle.std.proofs.lemmas.List.{at_drop_more, drop_all, take-append-drop, take_at, drop_at, length-append, length-drop, length-take, take_more, append-nil}
+use Rattle.std.proofs.lemmas.List.{at_drop_more, drop_all, take-append-drop, take_at, drop_at, length-append, length-drop, length-take, take_all, take_more, append-nil}
 use Rattle.std.proofs.lemmas.List.Sums.{sum_by-cons, fold_push}
 use Rattle.std.proofs.lemmas.Bool.{le-leb}
 use Rattle.std.proofs.lemmas.Bool.Decides.{nat_tests}
@@ -156,6 +156,32 @@ pub fits_all : (columns : ℕ) (cs : List ℕ) (n at left : ℕ) → n ≡ lengt
 fits_all columns cs n at left all so_far =
     let stop : fitting left (drop n cs) ≡ 0 = ap (fitting left) (drop_all n cs (omega arith)) in
     omega (arith, so_far.rest, stop)
+
+-- a text that is no wider fits whole
+fitting_all : (n : ℕ) (cs : List ℕ) → width_of cs ≤ n → fitting n cs ≡ length cs
+fitting_all n [] fits = refl
+fitting_all n (c ∷ cs) fits =
+    let wide = width-cons c cs in
+    let rest = fitting_all (n - char_width c) cs (omega (arith, fits, wide)) in
+    omega (arith, fitting-cons n c cs (omega (arith, fits, wide)), rest)
+
+pub fitting_whole : (columns : ℕ) (cs : List ℕ) → width_of cs ≤ columns → take (fitting columns cs) cs ≡ cs
+fitting_whole columns cs fits = take_all (fitting columns cs) cs (omega (arith, fitting_all columns cs fits))
+
+pub whole_bytes : (columns : ℕ) (text : List ℕ) → IsUtf8 text → width_of (chars text) ≤ columns → length text ≡ bytes_of (take (fitting columns (chars text)) (chars text))
+whole_bytes columns text utf8 fits =
+    sym (ap bytes_of (fitting_whole columns (chars text) fits) ∙ ap length (encodes-chars text utf8))
+
+-- a text that is narrower doesn't reach so many columns: all of its characters are taken
+reaching_all : (n : ℕ) (cs : List ℕ) → width_of cs < n → reaching n cs ≡ length cs
+reaching_all n [] less = refl
+reaching_all n (c ∷ cs) less =
+    let wide = width-cons c cs in
+    let rest = reaching_all (n - char_width c) cs (omega (arith, less, wide)) in
+    omega (arith, reaching-cons n c cs (omega (arith, less)), rest)
+
+pub reaching_whole : (columns : ℕ) (cs : List ℕ) → width_of cs < columns → take (reaching columns cs) cs ≡ cs
+reaching_whole columns cs less = take_all (reaching columns cs) cs (omega (arith, reaching_all columns cs less))
 
 -- the last characters, from this one on, reach so many columns: so do those after it, or it is the first that is needed
 pub record LastSoFar (columns : ℕ) (cs : List ℕ) (n width count : ℕ) : Type 0 where

@@ -147,6 +147,12 @@ near_inner columns reached part after rest is enough =
     by_after (λ b. take (fitting columns (near ++ b)) (near ++ b) ≡ take (fitting columns near) near) after (ap (λ cs. take (fitting columns cs) cs) (append-nil near)) (λ some. ap (λ k. take k (near ++ after)) (fitting_within columns near after (omega (arith, wide, enough some))) ∙ take-append-le (fitting columns near) near after (fitting_length columns near)) in
     ap (λ cs. take (fitting columns cs) cs) is ∙ found
 
+-- the columns of the characters after some
+pub width_left : (n skipped width : ℕ) (cs rest : List ℕ) → width ≡ width_of cs → skipped ≡ width_of (take n cs) → rest ≡ drop n cs → width - skipped ≡ width_of rest
+width_left n skipped width cs rest is is_skipped is_rest =
+    let both : width_of cs ≡ width_of (take n cs) + width_of (drop n cs) = ap width_of (sym (take-append-drop n cs)) ∙ sum_by-append char_width (take n cs) (drop n cs) in
+    omega (arith, is, is_skipped, ap width_of is_rest, both)
+
 -- the part that is made so
 pub near_holds : (room left right skipped columns : ℕ) (cs rest part : List ℕ) → skipped ≡ width_of (take (falling_short (window_left left cs) cs) cs) → rest ≡ drop (falling_short (window_left left cs) cs) cs → columns ≡ (window_left left cs - skipped) + window_columns room left right cs + 4 → part ≡ take (reaching columns rest) rest → HoldsWindow room left right cs skipped part
 near_holds room left right skipped columns cs rest part is_skipped is_rest is_columns is_part =

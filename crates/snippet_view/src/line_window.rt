@@ -9,6 +9,9 @@ use crate::margin::Margin;
 use snippet_style::char_count;
 use snippet_text::{char_width, str_width};
 
+/// The most bytes that a text may have, whose width is asked for.
+const MOST_BYTES: usize = (1 << 56) - 1;
+
 /// The window of a line. It is drawn from left to right: the placeholder where lines are cut on the left, then the text,
 /// then the placeholder over the end of the text where the line is cut on the right.
 ///
@@ -144,6 +147,18 @@ pub(crate) fn fitting_end(text: &str, columns: usize) -> (usize, usize)
     ensures width { let cs = chars text.now in result.1 ≡ width_of (take (fitting columns cs) cs) }
     ensures near { columns < width_of (chars text.now) → columns < result.1 + 4 }
 {
+    match whole_width(text, columns) {
+        Some(width) => (text.len(), width),
+        None => walked_end(text, columns),
+    }
+}
+
+/// The same, found character by character.
+fn walked_end(text: &str, columns: usize) -> (usize, usize)
+    ensures bytes { let cs = chars text.now in result.0 ≡ bytes_of (take (fitting columns cs) cs) }
+    ensures width { let cs = chars text.now in result.1 ≡ width_of (take (fitting columns cs) cs) }
+    ensures near { columns < width_of (chars text.now) → columns < result.1 + 4 }
+{
     let mut at = 0;
     let mut left = columns;
     for c in text.chars() {
@@ -155,6 +170,19 @@ pub(crate) fn fitting_end(text: &str, columns: usize) -> (usize, usize)
         at += c.len_utf8();
     }
     (at, columns - left)
+}
+
+/// The width of a text, if it fits in so many columns and has no more bytes than these, as most texts that fit: then no walk
+/// over its characters is needed.
+fn whole_width(text: &str, columns: usize) -> Option<usize>
+    ensures value { IfSome result (λ width. width ≡ width_of (chars text.now)) }
+    ensures fits { IfSome result (λ width. width ≤ columns) }
+{
+    if text.len() > columns.min(MOST_BYTES) {
+        return None;
+    }
+    let width = str_width(text);
+    if width <= columns { Some(width) } else { None }
 }
 
 /// How many characters, up to the last one, of a text of this width reach so many columns: the fewest, or all.

@@ -45,7 +45,7 @@ pub fn near_part<'a>(margin: Margin, line: &'a str, width: usize) -> NearPart<'a
     let (skipped, rest) = after_fewer(line, left);
     NearPart {
         skipped,
-        text: part_reaching(rest, left - skipped + columns + WIDEST),
+        text: part_reaching(rest, width - skipped, left - skipped + columns + WIDEST),
     }
 }
 
@@ -65,13 +65,17 @@ fn after_fewer(text: &str, columns: usize) -> (usize, &str)
     }
 }
 
-/// The fewest characters that reach so many columns, or all.
-fn part_reaching(text: &str, columns: usize) -> &str
+/// The fewest characters of a text of this width that reach so many columns, or all.
+fn part_reaching(text: &str, width: usize, columns: usize) -> &str
+    requires width { width ≡ width_of (chars text.now) }
     requires few { columns < 2 ^ 60 }
     ensures value { let cs = chars text.now in chars result.now ≡ take (reaching columns cs) cs }
     ensures near { width_of (chars result.now) < columns + 4 }
     ensures short { length result.now ≤ length text.now }
 {
+    if width < columns {
+        return text;
+    }
     let (at, _) = reaching_end(text, columns);
     &text[..at]
 }

@@ -151,7 +151,7 @@ pub fn contexts_of(
 }
 
 /// Whether the first two of some elements are suggestions for one file.
-pub fn first_two_share(elements: &[PreparedElement<'_>]) -> bool
+fn first_two_share(elements: &[PreparedElement<'_>]) -> bool
     ensures value { result ≡ spec.first_two_share (map element_of elements.now) }
 {
     match elements {

@@ -1,5 +1,5 @@
 //! The judgement of a report: which fault is first. It takes no memory.
-ghost use Rattle.std.specs.Prelude.{◌≡◌, ◌+◌, ◌<◌, ◌^◌};
+ghost use Rattle.std.specs.Prelude.{◌≡◌, ◌+◌, ◌<◌, ◌≤◌, ◌^◌, IfSome};
 ghost use Rattle.std.specs.Option.{SomeIff};
 ghost use Rattle.snippet_model.specs.declared.snippet.Element.TheVariants.{Cause, Suggestion};
 ghost use Rattle.annotate_snippets.specs.Fault.{refusal_of, span_faults, number_after_lines, added_lines, element_faults, end_faults, faults_from, first_of, number_faults};
@@ -108,8 +108,7 @@ fn first_of_suggestion(
             second,
         });
     }
-    let end = patched_end_number(snippet.line_start, source, patches);
-    missing_number(group, element, end)
+    patched_end_fault(group, element, snippet.line_start, source, patches)
 }
 
 /// The fault that the number after that of a source's last line doesn't fit.
@@ -121,6 +120,41 @@ fn end_fault(group: usize, element: usize, line_start: usize, source: &str) -> O
         return None;
     }
     missing_number(group, element, end_number(line_start, source))
+}
+
+/// The same of a source with patches, which may add lines.
+fn patched_end_fault(
+    group: usize,
+    element: usize,
+    line_start: usize,
+    source: &str,
+    patches: &[Patch],
+) -> Option<RenderError>
+    ensures value { result ≡ first_of (number_faults group element (number_after_lines line_start source.now + added_lines patches.now)) }
+{
+    match greatest_end(line_start, source, patches) {
+        // Where so many would fit, the lines needn't be counted.
+        Some(_) => None,
+        None => {
+            missing_number(
+                group,
+                element,
+                patched_end_number(line_start, source, patches),
+            )
+        }
+    }
+}
+
+/// A number that the one after that of a patched source's last line doesn't exceed, where it fits: that if each byte were a
+/// line end.
+fn greatest_end(line_start: usize, source: &str, patches: &[Patch]) -> Option<usize>
+    ensures most { IfSome result (λ most. (number_after_lines line_start source.now + added_lines patches.now ≤ most) × (most < 2 ^ 64)) }
+{
+    let mut most = line_start.checked_add(source.len())?.checked_add(1)?;
+    for patch in patches {
+        most = most.checked_add(patch.replacement.as_str().len())?;
+    }
+    Some(most)
 }
 
 /// The fault that the number after that of a snippet's last line is missing, since it doesn't fit.

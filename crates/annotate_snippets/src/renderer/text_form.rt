@@ -4,24 +4,27 @@
 //! error: unused
 //!  at src/main.rs:1:5: here
 //! ```
-ghost use Rattle.std.specs.Prelude.{◌≡◌, ◌+◌, ◌^◌, ◌<◌, ◌++◌, All, List, None, IfOk, IfSome, OnOk, map};
+ghost use Rattle.std.specs.Prelude.{◌≡◌, ◌≢◌, ◌+◌, ◌^◌, ◌<◌, ◌++◌, [], All, List, None, IfOk, IfSome, OnOk, filter, map, true};
 ghost use Rattle.std.specs.Option.{option_copied};
-ghost use Rattle.annotate_snippets.specs.Prepared.{IsElementPrepared, IsGroupDrawable, IsGroupPrepared, element_of};
+ghost use Rattle.annotate_snippets.specs.Around as around;
+ghost use Rattle.annotate_snippets.specs.Prepared.{IsDrawable, IsElementDrawable, IsGroupDrawable};
 ghost use Rattle.annotate_snippets.specs.TextForm as spec;
 ghost use Rattle.annotate_snippets.specs.TextForm.{before_seen, element_form, elements_form, group_form};
 ghost use Rattle.snippet_model.specs.declared.snippet.Group.{Group};
-ghost use Rattle.annotate_snippets.specs.Around.{file_of_group};
-ghost use Rattle.snippet_model.specs.Fits.{TitleFits};
-ghost use Rattle.snippet_model.specs.Heading.{heading_of_title};
+ghost use Rattle.annotate_snippets.specs.Around.{file_of_group, share_file};
+ghost use Rattle.snippet_model.specs.Fits.{MessageFits, TitleFits};
+ghost use Rattle.snippet_suggest.specs.Prepared.{IsSuggestible};
+ghost use Rattle.snippet_model.specs.Heading.{heading_of_message, heading_of_title};
+ghost use Rattle.snippet_text_form.specs.Cause.{cause_form};
 ghost use Rattle.snippet_text_form.specs.Heading.{heading_form};
+ghost use Rattle.snippet_text_form.specs.Suggestion.{suggestion_form};
 ghost use Rattle.snippet_text_form.specs.declared.heading.HeadingKind.TheVariants as kind;
 
 use crate::renderer::Renderer;
-use crate::renderer::element_context::first_two_share;
 use crate::renderer::paths::{is_same_file, path_of, primary_path, report_file};
-use crate::renderer::preprocess::{PreparedElement, PreparedGroup, prepare_groups};
-use snippet_model::snippet::{Group, Title};
-use snippet_suggest::PreparedSuggestion;
+use snippet_model::snippet::{Annotation, Element, Group, Message, Patch, Snippet, Title};
+use snippet_parts::SourceMap;
+use snippet_suggest::prepare_suggestion;
 use snippet_text_form::{
     HeadingKind, SuggestionContext, TextForm, add_cause, add_heading, add_origin, add_suggestion,
 };
@@ -49,32 +52,65 @@ pub fn text_form<'a>(
     requires drawable { All IsGroupDrawable groups.now }
     ensures form { IfOk result (λ form. form ≡ spec.text_form renderer.now groups.now) }
 {
-    let prepared = prepare_groups(alloc, groups)?;
     let file = report_file(groups);
     let mut form = TextForm::new(alloc);
-    for group in &prepared {
-        let file = primary_path(group.group).or(file);
+    for group in groups {
+        let file = primary_path(group).or(file);
         add_group(alloc, &mut form, renderer, file, group)?;
     }
     Ok(form)
 }
 
-/// Adds a group: its title, and its elements. This is the file that its suggestions are for where they name no other.
+/// Adds a group: its title, and its elements that are drawn. This is the file that its suggestions are for where they name
+/// no other.
 fn add_group<'a>(
     alloc: Global,
     form: &mut TextForm<'a>,
     renderer: &Renderer,
     file: Option<&str>,
-    group: &PreparedGroup<'a>,
+    group: &'a Group<'a>,
 ) -> Result<(), AllocError>
-    requires prepared { IsGroupPrepared group.now }
-    ensures added { (groups : List Group) → option_copied file.entry ≡ file_of_group groups group.now.group.now
-        → OnOk result (form.new ≡ form.old ++ group_form renderer.now groups group.now.group.now) }
+    requires drawable { IsGroupDrawable group.now }
+    ensures added { (groups : List Group) → option_copied file.entry ≡ file_of_group groups group.now
+        → OnOk result (form.new ≡ form.old ++ group_form renderer.now groups group.now) }
 {
-    if let Some(title) = &group.group.title {
+    if let Some(title) = &group.title {
         add_title(alloc, form, renderer, title)?;
     }
-    add_elements(alloc, form, renderer, file, &group.elements)
+    let elements = drawn_elements(alloc, &group.elements)?;
+    add_elements(alloc, form, renderer, file, &elements)
+}
+
+/// An element that is drawn.
+#[derive(Clone, Copy)]
+struct DrawnElement<'a> {
+    element: &'a Element<'a>,
+}
+
+/// Those of some elements that are drawn, in order.
+fn drawn_elements<'a>(
+    alloc: Global,
+    elements: &'a [Element<'a>],
+) -> Result<Vec<DrawnElement<'a>>, AllocError>
+    ensures value { IfOk result (λ drawn. map (λ d. d.element.now) drawn.items ≡ filter around.is_drawn elements.now) }
+{
+    let mut drawn = Vec::new(alloc);
+    for element in elements {
+        if is_drawn(element) {
+            drawn.push(DrawnElement { element })?;
+        }
+    }
+    Ok(drawn)
+}
+
+/// Whether an element is drawn: a snippet of patches without patches is left out.
+fn is_drawn(element: &Element<'_>) -> bool
+    ensures value { result ≡ around.is_drawn element.now }
+{
+    match element {
+        Element::Suggestion(snippet) => !snippet.markers.is_empty(),
+        _ => true,
+    }
 }
 
 /// Adds a group's title.
@@ -96,19 +132,42 @@ fn add_elements<'a>(
     form: &mut TextForm<'a>,
     renderer: &Renderer,
     file: Option<&str>,
-    elements: &[PreparedElement<'a>],
+    elements: &[DrawnElement<'a>],
 ) -> Result<(), AllocError>
-    requires prepared { All IsElementPrepared elements.now }
+    requires drawable { All (λ d. IsElementDrawable d.element.now) elements.now }
+    requires drawn { All (λ d. around.is_drawn d.element.now ≡ true) elements.now }
     ensures added { OnOk result (form.new
-        ≡ form.old ++ elements_form renderer.now (option_copied file.entry) None (map element_of elements.now)) }
+        ≡ form.old ++ elements_form renderer.now (option_copied file.entry) None (map (λ d. d.element.now) elements.now)) }
 {
     let mut before = None;
-    for (i, element) in elements.iter().enumerate() {
+    for (i, drawn) in elements.iter().enumerate() {
         let followed = first_two_share(&elements[i..]);
-        add_element(alloc, form, renderer, file, before, followed, element)?;
-        before = before_next(before, element);
+        add_element(alloc, form, renderer, file, before, followed, drawn.element)?;
+        before = before_next(before, drawn.element);
     }
     Ok(())
+}
+
+/// Whether the first two of some elements are suggestions for one file.
+fn first_two_share(elements: &[DrawnElement<'_>]) -> bool
+    ensures value { result ≡ around.first_two_share (map (λ d. d.element.now) elements.now) }
+{
+    match elements {
+        [first, second, ..] => shares_file(first.element, second.element),
+        _ => false,
+    }
+}
+
+/// Whether two elements are suggestions for one file.
+fn shares_file(first: &Element<'_>, second: &Element<'_>) -> bool
+    ensures value { result ≡ share_file first.now second.now }
+{
+    match (first, second) {
+        (Element::Suggestion(first), Element::Suggestion(second)) => {
+            is_same_file(path_of(&first.path), path_of(&second.path))
+        }
+        _ => false,
+    }
 }
 
 /// Adds an element. A suggestion stands after this one, if there is one, and another for its file may follow.
@@ -119,33 +178,69 @@ fn add_element<'a>(
     file: Option<&str>,
     before: Option<PreviousSuggestion<'_>>,
     followed: bool,
-    element: &PreparedElement<'a>,
+    element: &'a Element<'a>,
 ) -> Result<(), AllocError>
-    requires prepared { IsElementPrepared element.now }
+    requires drawable { IsElementDrawable element.now }
+    requires drawn { around.is_drawn element.now ≡ true }
     requires small { IfSome before (λ b. b.number + 1 < 2 ^ 64) }
     ensures added { OnOk result (form.new ≡ form.old
-        ++ element_form renderer.now (option_copied file.entry) (before_seen before.entry) followed (element_of element.now)) }
+        ++ element_form renderer.now (option_copied file.entry) (before_seen before.entry) followed element.now) }
 {
     let anonymized = renderer.anonymized_origin_line_numbers;
     match element {
-        PreparedElement::Message(message) => {
-            add_heading(
-                alloc,
-                form,
-                renderer.hyperlink,
-                HeadingKind::Message,
-                *message,
-            )
+        Element::Message(message) => add_message(alloc, form, renderer.hyperlink, message),
+        Element::Cause(snippet) => add_snippet(alloc, form, anonymized, snippet),
+        Element::Suggestion(snippet) => {
+            let place = suggestion_place(file, before, followed, snippet);
+            add_patches(alloc, form, anonymized, place, snippet)
         }
-        PreparedElement::Cause(cause) => {
-            add_cause(alloc, form, anonymized, cause.snippet, &cause.map)
-        }
-        PreparedElement::Suggestion(suggestion) => {
-            let place = suggestion_place(file, before, followed, suggestion);
-            add_suggestion(alloc, form, anonymized, place, suggestion)
-        }
-        PreparedElement::Origin(origin) => add_origin(alloc, form, anonymized, *origin),
-        PreparedElement::Padding(_) => Ok(()),
+        Element::Origin(origin) => add_origin(alloc, form, anonymized, origin),
+        Element::Padding(_) => Ok(()),
+    }
+}
+
+/// Adds a message.
+fn add_message<'a>(
+    alloc: Global,
+    form: &mut TextForm<'a>,
+    hyperlink: bool,
+    message: &'a Message<'a>,
+) -> Result<(), AllocError>
+    requires fits { MessageFits message.now }
+    ensures added { OnOk result (form.new ≡ form.old ++ heading_form hyperlink kind.Message (heading_of_message message.now)) }
+{
+    add_heading(alloc, form, hyperlink, HeadingKind::Message, message)
+}
+
+/// Adds an annotated snippet.
+fn add_snippet<'a>(
+    alloc: Global,
+    form: &mut TextForm<'a>,
+    anonymized: bool,
+    snippet: &'a Snippet<'a, Annotation<'a>>,
+) -> Result<(), AllocError>
+    requires drawable { IsDrawable snippet.now }
+    ensures added { OnOk result (form.new ≡ form.old ++ cause_form anonymized snippet.now) }
+{
+    let map = SourceMap::new(alloc, snippet.source.as_str(), snippet.line_start)?;
+    add_cause(alloc, form, anonymized, snippet, &map)
+}
+
+/// Adds a suggestion that has patches, which stands at this place among others.
+fn add_patches<'a>(
+    alloc: Global,
+    form: &mut TextForm<'a>,
+    anonymized: bool,
+    place: SuggestionContext,
+    snippet: &'a Snippet<'a, Patch<'a>>,
+) -> Result<(), AllocError>
+    requires suggestible { IsSuggestible snippet.now }
+    requires some { snippet.now.markers.items ≢ [] }
+    ensures added { OnOk result (form.new ≡ form.old ++ suggestion_form anonymized place snippet.now) }
+{
+    match prepare_suggestion(alloc, snippet)? {
+        Some(suggestion) => add_suggestion(alloc, form, anonymized, place, &suggestion),
+        None => Ok(()),
     }
 }
 
@@ -154,12 +249,12 @@ fn suggestion_place(
     file: Option<&str>,
     before: Option<PreviousSuggestion<'_>>,
     followed: bool,
-    suggestion: &PreparedSuggestion<'_>,
+    snippet: &Snippet<'_, Patch<'_>>,
 ) -> SuggestionContext
     requires small { IfSome before (λ b. b.number + 1 < 2 ^ 64) }
-    ensures value { result ≡ spec.suggestion_place (option_copied file.entry) (before_seen before.entry) followed suggestion.now.snippet.now }
+    ensures value { result ≡ spec.suggestion_place (option_copied file.entry) (before_seen before.entry) followed snippet.now }
 {
-    let path = path_of(&suggestion.snippet.path);
+    let path = path_of(&snippet.path);
     let number = option_number(before, path);
     let several = continues(before, path) || followed;
     SuggestionContext {
@@ -202,15 +297,15 @@ fn option_number(before: Option<PreviousSuggestion<'_>>, path: Option<&str>) -> 
 /// What stands right before the element after this one.
 fn before_next<'r>(
     before: Option<PreviousSuggestion<'r>>,
-    element: &'r PreparedElement<'_>,
+    element: &'r Element<'_>,
 ) -> Option<PreviousSuggestion<'r>>
     requires small { IfSome before (λ b. b.number + 1 < 2 ^ 64) }
-    ensures value { before_seen result ≡ spec.before_next (before_seen before.entry) (element_of element.now) }
+    ensures value { before_seen result ≡ spec.before_next (before_seen before.entry) element.now }
 {
-    let PreparedElement::Suggestion(suggestion) = element else {
+    let Element::Suggestion(snippet) = element else {
         return None;
     };
-    let path = path_of(&suggestion.snippet.path);
+    let path = path_of(&snippet.path);
     let number = option_number(before, path);
     Some(PreviousSuggestion { path, number })
 }

@@ -1,35 +1,11 @@
-use Rattle.std.proofs.Common.{◌≡◌, ◌≢◌, ◌<◌, ℕ, true, false, [], ◌∷◌, ◌++◌, Some, None, eqb, length, get_or, sym, ap, ◌∙◌, lit<}
-use Rattle.std.proofs.lemmas.Bool.{eq-eqb, cond-true, cond-false, false_from_ne_true, eqb-true, both_ways}
-use Rattle.std.proofs.lemmas.List.{append-nil}
-use Rattle.std.proofs.lemmas.Str.{encode_ascii}
-use Rattle.std.proofs.lemmas.Str.Pattern.{split_parts, starts_char}
+use Rattle.std.proofs.Common.{◌≡◌, ◌≢◌, ◌<◌, ℕ, ◌++◌, length, get_or, sym, ap, ◌∙◌, arith}
+use Rattle.std.proofs.lemmas.Bool.{eq-eqb}
 use Rattle.std.specs.String.{string_bytes}
-use Rattle.snippet_splice.specs.Copied.{with_line_feeds}
-use Rattle.snippet_splice.proofs.WriteLemmas.{with_line_feeds-step, with_line_feeds-none, utf8-after}
+use Rattle.snippet_splice.proofs.WriteLemmas.{with_line_feeds-none}
 use Rattle.snippet_splice.proofs.copy.push_with_line_feeds.Goals as goal
 
-pub loop-front-preserved-in_ok-push : goal.loop-front-preserved-in_ok-push
-loop-front-preserved-in_ok-push c =
-    let parts = split_parts 13 c.loop-front.rest.now (Some (c.in-Some.front, c.in-Some.after)) c.in-Some.ensures.cases (lit< tt) in
-    let starts = starts_char 10 c.in-Some.after.now c.starts_with.result c.starts_with.ensures.cases (lit< tt) (lit< tt) in
-    let no_lf : eqb (get_or c.in-Some.after.now 0 0) 10 ≡ false = false_from_ne_true _ (λ t. both_ways c.starts_with.result c.if-not-starts_with.true (starts.1 (eqb-true _ 10 t))) in
-    let added : string_bytes c.push.new.self ≡ string_bytes c.push_str.new.self ++ 13 ∷ [] = c.in_ok-push.ensures.bytes ∙ ap (λ l. string_bytes c.push_str.new.self ++ l) (encode_ascii 13 (lit< tt)) in
-    let pushed : string_bytes c.push_str.new.self ≡ string_bytes c.loop-front.out ++ c.in-Some.front.now = c.in_ok-push_str.ensures.bytes in (
-      utf8-after c.loop-front.rest.now c.in-Some.front.now c.in-Some.after.now 13 c.loop-front.invariant.0 (lit< tt) parts.0,
-      ap (λ l. l ++ with_line_feeds c.in-Some.after.now) (added ∙ ap (λ l. l ++ 13 ∷ []) pushed) ∙ with_line_feeds-step (string_bytes c.loop-front.out) c.loop-front.rest.now c.in-Some.front.now c.in-Some.after.now (13 ∷ []) parts.0 parts.1 (sym (cond-false (eqb (get_or c.in-Some.after.now 0 0) 10) [] (13 ∷ []) no_lf)) ∙ c.loop-front.invariant.1,
-    )
-
-pub loop-front-preserved : goal.loop-front-preserved
-loop-front-preserved c =
-    let parts = split_parts 13 c.loop-front.rest.now (Some (c.in-Some.front, c.in-Some.after)) c.in-Some.ensures.cases (lit< tt) in
-    let starts = starts_char 10 c.in-Some.after.now c.starts_with.result c.starts_with.ensures.cases (lit< tt) (lit< tt) in
-    let lf : eqb (get_or c.in-Some.after.now 0 0) 10 ≡ true = eq-eqb _ 10 (starts.0 c.if-not-starts_with.false) in
-    let pushed : string_bytes c.push_str.new.self ≡ string_bytes c.loop-front.out ++ c.in-Some.front.now = c.in_ok-push_str.ensures.bytes in (
-      utf8-after c.loop-front.rest.now c.in-Some.front.now c.in-Some.after.now 13 c.loop-front.invariant.0 (lit< tt) parts.0,
-      ap (λ l. l ++ with_line_feeds c.in-Some.after.now) (pushed ∙ sym (append-nil _)) ∙ with_line_feeds-step (string_bytes c.loop-front.out) c.loop-front.rest.now c.in-Some.front.now c.in-Some.after.now [] parts.0 parts.1 (sym (cond-true (eqb (get_or c.in-Some.after.now 0 0) 10) [] (13 ∷ []) lf)) ∙ c.loop-front.invariant.1,
-    )
-
-pub returns : goal.returns
-returns c =
-    let none : (i : ℕ) → i < length c.loop-front.rest.now → get_or c.loop-front.rest.now i 0 ≢ 13 = split_parts 13 c.loop-front.rest.now None c.in_default.ensures.cases (lit< tt) in
-    record { written = c.in_ok-push_str-2.ensures.bytes ∙ ap (λ l. string_bytes c.loop-front.out ++ l) (sym (with_line_feeds-none c.loop-front.rest.now none)) ∙ c.loop-front.invariant.1 }
+pub returns-in_ok-push_str-in-None : goal.returns-in_ok-push_str-in-None
+returns-in_ok-push_str-in-None c =
+    let same = c.as_bytes.ensures.value in
+    let none : (i : ℕ) → i < length c.args.text.now → get_or c.args.text.now i 0 ≢ 13 = λ i within is. c.in-None.ensures i (omega arith) (omega (arith, within, ap length same)) (eq-eqb _ 13 (ap (λ bs. get_or bs i 0) same ∙ is)) in
+    record { written = c.in_ok-push_str-in-None.ensures.bytes ∙ ap (λ l. string_bytes c.args.out.now ++ l) (sym (with_line_feeds-none c.args.text.now none)) }

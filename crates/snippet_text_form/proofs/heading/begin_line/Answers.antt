@@ -1,12 +1,16 @@
-use Rattle.std.proofs.Common.{◌∷◌, [], replicate}
-use Rattle.snippet_text_form.proofs.AddedLemmas.{text-as, text-as-on_ok, text-two-on_ok}
+use Rattle.std.proofs.Common.{◌∷◌, ◌∙◌, [], ap, replicate}
+use Rattle.snippet_text_form.specs.Heading.{before_line}
+use Rattle.snippet_text_form.proofs.AddedLemmas.{text-as, text-two}
 use Rattle.snippet_text_form.proofs.SplitForm.{before_line-later}
 use Rattle.snippet_text_form.proofs.TextLemmas.{chars-feed}
 use Rattle.snippet_text_form.proofs.heading.begin_line.Goals as goal
 
 pub returns : goal.returns
-returns c =
-    let both = text-two-on_ok c.add_spaces.result _ _ _ (10 ∷ []) (replicate c.args.width 32) (text-as _ _ _ _ chars-feed c.in_ok-add_text.ensures.added) c.add_spaces.ensures.added in
+returns g c =
+    let width = c.known_width-width.result in
+    let both = text-two _ _ _ (10 ∷ []) (replicate width 32) (text-as _ _ _ _ chars-feed c.in_ok-add_text.ensures.added) c.in_ok-add_spaces.ensures.added in
+    let line = before_line-later width c.args.index c.if-index-eq0.false ∙ ap (λ n. before_line n c.args.index) c.known_width-width.ensures.value in
     record {
-      added = text-as-on_ok c.add_spaces.result _ _ _ _ (before_line-later c.args.width c.args.index c.if-index-eq0.false) both;
+      added = text-as _ _ _ _ line both;
+      known = c.known_width-width.ensures.value;
     }

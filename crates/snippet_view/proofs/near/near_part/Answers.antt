@@ -3,8 +3,12 @@ use Rattle.snippet_text.specs.Width.{width_of}
 use Rattle.snippet_view.specs.Margin.{bounds_of}
 use Rattle.snippet_view.specs.NearPart.{falling_short}
 use Rattle.snippet_view.specs.Window.{window_left}
-use Rattle.snippet_view.proofs.NearLemmas.{near_holds, right_is}
+use Rattle.snippet_view.proofs.NearLemmas.{near_holds, right_is, width_left}
 use Rattle.snippet_view.proofs.near.near_part.Goals as goal
+
+pub part_reaching-requires-clause-width : goal.part_reaching-requires-clause-width
+part_reaching-requires-clause-width c =
+    width_left (falling_short c.left-left.result (chars c.args.line.now)) c.after_fewer-skipped.result.0 c.args.width (chars c.args.line.now) (chars c.after_fewer-skipped.result.1.now) c.requires.width c.after_fewer-skipped.ensures.width c.after_fewer-skipped.ensures.rest
 
 pub returns-clause-holds : goal.returns-clause-holds
 returns-clause-holds c =

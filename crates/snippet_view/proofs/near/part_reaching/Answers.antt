@@ -1,12 +1,16 @@
-use Rattle.std.proofs.Common.{◌≡◌, ◌∙◌, ◌-◌, arith, ap, take, chars}
+use Rattle.std.proofs.Common.{◌≡◌, ◌∙◌, ◌-◌, arith, ap, sym, take, chars}
 use Rattle.snippet_text.specs.Width.{width_of}
 use Rattle.snippet_view.specs.Window.{reaching}
-use Rattle.snippet_view.proofs.LineWindowLemmas.{cut_boundary, cut_front}
+use Rattle.snippet_view.proofs.LineWindowLemmas.{cut_boundary, cut_front, reaching_whole}
 use Rattle.snippet_view.proofs.near.part_reaching.Goals as goal
 
 pub range-requires-clause-end_boundary : goal.range-requires-clause-end_boundary
 range-requires-clause-end_boundary c =
     cut_boundary c.args.text.now (reaching c.args.columns (chars c.args.text.now)) c.reaching_end-at.result.0 c.utf8.text c.reaching_end-at.ensures.bytes
+
+pub returns-then-width-columns-clause-value : goal.returns-then-width-columns-clause-value
+returns-then-width-columns-clause-value c =
+    sym (reaching_whole c.args.columns (chars c.args.text.now) (omega (arith, c.requires.width, c.if-width-columns.true)))
 
 pub returns-clause-value : goal.returns-clause-value
 returns-clause-value c =

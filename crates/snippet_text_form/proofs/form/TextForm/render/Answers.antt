@@ -9,7 +9,7 @@ use Rattle.snippet_text_form.proofs.form.TextForm.render.Goals as goal
 use Rattle.snippet_text_form.proofs.form.TextForm.render.Goals.{then-begun, else-begun}
 
 pub loop-part-init : goal.loop-part-init
-loop-part-init c = IsRendered-none c.args.sheet.now (string_bytes c.new-text.result) c.new-text.ensures.bytes
+loop-part-init c = IsRendered-none c.args.sheet.now (string_bytes c.in_ok-text.text) c.in_ok-text.ensures.bytes
 
 pub loop-part-preserved : goal.loop-part-preserved
 loop-part-preserved c =

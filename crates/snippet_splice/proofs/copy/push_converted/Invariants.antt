@@ -3,7 +3,7 @@ use denote.Text.{Utf8}
 use denote.Shadow.{shadow}
 use Rattle.std.specs.String.{string_bytes}
 use Rattle.snippet_splice.specs.Copied.{with_line_feeds}
-use Rattle.snippet_splice.proofs.copy.push_with_line_feeds.Given as goal
+use Rattle.snippet_splice.proofs.copy.push_converted.Given as goal
 
 -- what is left completes what is to be added
 abbrev pub invariant-loop-front : goal.invariant-loop-front
