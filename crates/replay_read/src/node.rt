@@ -39,7 +39,11 @@ pub trait Read<'v> {
 impl<'v> Node<'v, '_> {
     /// The fault that something else was expected.
     pub fn unexpected(&self, expected: Expectation) -> Fault {
-        Fault::at(self.alloc, &self.place, Wrong::Unexpected(expected))
+        Fault::at(
+            self.alloc,
+            &self.place,
+            Wrong::Unexpected(expected, self.value),
+        )
     }
 
     /// Nothing, if the value is an object and has only fields of this shape.

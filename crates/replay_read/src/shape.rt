@@ -89,8 +89,12 @@ impl Shape {
 
     /// Writes that only these names are expected.
     pub fn write_only<W: fmt::Write>(self, f: &mut fmt::Formatter<W>) -> fmt::Result {
+        let names = self.names();
+        if names.is_empty() {
+            return f.write_str("unknown, expected no field");
+        }
         f.write_str("unknown, expected only")?;
-        for name in self.names() {
+        for name in names {
             write!(f, " {name}")?;
         }
         Ok(())

@@ -4,9 +4,11 @@ ghost use Rattle.std.specs.Prelude.{◌≡◌, IfOk, map, string_bytes};
 ghost use Rattle.annotate_snippets.specs.Fits.{ReportFits};
 ghost use Rattle.serde_json.specs.View.{view, items_view};
 ghost use Rattle.replay_run.specs.Answer as spec;
-ghost use Rattle.replay_run.specs.Outcome.{refusal_name, IsOutcomeOf};
+ghost use Rattle.replay_run.specs.Outcome.{refusal_name, IsOutcomeOf, IsRefused};
 
 use crate::case::Case;
+use crate::spans::spans_of;
+use annotate_snippets::Group;
 use annotate_snippets::renderer::RenderError;
 use serde_json::{Value, json};
 use std::alloc::{AllocError, Global};
@@ -16,8 +18,8 @@ use std::alloc::{AllocError, Global};
 pub enum Outcome {
     /// A text under each sheet, in order.
     Texts(Vec<String>),
-    /// The name of the refusal, and what it prints.
-    Refused(&'static str, String),
+    /// The name of the refusal, what it prints, and the numbers of the spans that it is about.
+    Refused(&'static str, String, String),
 }
 
 /// What becomes of a case.
@@ -31,8 +33,21 @@ pub fn outcome_of(alloc: Global, case: &Case<'_>) -> Result<Outcome, AllocError>
     {
         Ok(texts) => Ok(Outcome::Texts(texts)),
         Err(RenderError::Memory(refused)) => Err(refused),
-        Err(refusal) => Ok(Outcome::Refused(name_of(&refusal), format!(in alloc; "{refusal}")?)),
+        Err(refusal) => refused(alloc, &refusal, &case.groups),
     }
+}
+
+/// The refusal of these groups.
+fn refused(
+    alloc: Global,
+    refusal: &RenderError,
+    groups: &[Group<'_>],
+) -> Result<Outcome, AllocError>
+    ensures outcome { IfOk result (IsRefused refusal.now) }
+{
+    let text = format!(in alloc; "{refusal}")?;
+    let spans = spans_of(alloc, refusal, groups)?;
+    Ok(Outcome::Refused(name_of(refusal), text, spans))
 }
 
 /// The name of a refusal.
@@ -60,7 +75,7 @@ pub fn answer_of(alloc: Global, id: &str, outcome: Outcome) -> Result<Value, All
             let texts = values_of(alloc, texts)?;
             json!(in alloc; {"id": id, "ok": texts})
         }
-        Outcome::Refused(name, text) => {
+        Outcome::Refused(name, text, _) => {
             json!(in alloc; {"id": id, "refused": name, "text": text})
         }
     }

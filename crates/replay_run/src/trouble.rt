@@ -1,16 +1,16 @@
 //! What stops a run.
 
 use replay_read::fault::Fault;
-use std::alloc::{AllocError, AllocFailed};
+use std::alloc::{AllocError, AllocFailed, Global};
 use std::{fmt, io};
 
 /// What stops a run.
 #[derive(Drop)]
 pub enum Trouble {
-    /// A line is no UTF-8.
-    NoText(Line),
-    /// A line isn't valid JSON.
-    NotJson(Line, serde_json::Error),
+    /// A line isn't UTF-8.
+    NotText(Line),
+    /// A line isn't valid JSON: the column from 1 where it goes wrong, counted in bytes, and what `serde_json` says of it.
+    NotJson(Line, usize, String),
     /// A line describes no case, or no answer where one is expected.
     Fault(Line, Fault),
     /// At this line, counted from 1, there is a case or an expected answer, and not both.
@@ -41,6 +41,17 @@ pub enum Access {
 }
 
 impl Trouble {
+    /// A line isn't valid JSON.
+    pub fn not_json(alloc: Global, line: Line, error: &serde_json::Error) -> Trouble {
+        if error.is_memory() {
+            return Trouble::Memory;
+        }
+        match format!(in alloc; "{error}") {
+            Ok(words) => Trouble::NotJson(line, error.column(), words),
+            Err(AllocError) => Trouble::Memory,
+        }
+    }
+
     /// Input can't be read.
     pub fn read(error: io::Error) -> Trouble {
         Trouble::Io(Access::Read, error)
@@ -72,8 +83,11 @@ impl<T: Drop> From<AllocFailed<T>> for Trouble {
 impl fmt::Display for Trouble {
     fn fmt<W: fmt::Write>(&self, f: &mut fmt::Formatter<W>) -> fmt::Result {
         match self {
-            Trouble::NoText(line) => write!(f, "{line}: no UTF-8"),
-            Trouble::NotJson(line, error) => write!(f, "{line}: not valid JSON: {error}"),
+            Trouble::NotText(line) => write!(f, "{line}: not valid UTF-8"),
+            Trouble::NotJson(line, column, words) => {
+                write!(f, "{line}, column {column}: not valid JSON")?;
+                write_reason(words.as_str(), f)
+            }
             Trouble::Fault(line, fault) => write!(f, "{line}: {fault}"),
             Trouble::Unpaired(line) => {
                 write!(
@@ -85,6 +99,19 @@ impl fmt::Display for Trouble {
             Trouble::Io(access, error) => write!(f, "cannot {access}: {error}"),
             Trouble::Memory => write!(f, "out of memory"),
         }
+    }
+}
+
+/// Writes why a line isn't valid JSON, if its words say more than that. They end with a place in that line, which is left out,
+/// since it is told already.
+fn write_reason<W: fmt::Write>(words: &str, f: &mut fmt::Formatter<W>) -> fmt::Result {
+    let reason = match words.split_once(" at line ") {
+        Some((reason, _)) => reason,
+        None => words,
+    };
+    match reason {
+        "invalid JSON" => Ok(()),
+        _ => write!(f, ": {reason}"),
     }
 }
 
