@@ -103,24 +103,13 @@ const LONGEST: usize = 40;
 /// Writes what a value is: a list, an object and a long text by how much they hold, all else as it is.
 fn write_found<W: fmt::Write>(value: &Value, f: &mut fmt::Formatter<W>) -> fmt::Result {
     match value {
-        Value::Array(items) => write_count("a list of", items.len(), "item", f),
-        Value::Object(fields) => write_count("an object of", fields.len(), "field", f),
+        Value::Array(items) => write!(f, "a list of length {}", items.len()),
+        Value::Object(fields) => write!(f, "an object of size {}", fields.len()),
         Value::String(text) if text.len() > LONGEST => {
-            write_count("a text of", text.len(), "byte", f)
+            write!(f, "a text of {} bytes", text.len())
         }
         Value::String(_) => write!(f, "the text {value}"),
         Value::Number(number) => write!(f, "the number {number}"),
         _ => write!(f, "{value}"),
     }
-}
-
-/// Writes how many parts of this name something has.
-fn write_count<W: fmt::Write>(
-    what: &str,
-    count: usize,
-    part: &str,
-    f: &mut fmt::Formatter<W>,
-) -> fmt::Result {
-    let ending = if count == 1 { "" } else { "s" };
-    write!(f, "{what} {count} {part}{ending}")
 }

@@ -113,7 +113,7 @@ const ANSWERED: [(&str, &str, &str); 13] = [
     (
         "[]",
         "",
-        "line 1: the line: expected an object, found a list of 0 items",
+        "line 1: the line: expected an object, found a list of length 0",
     ),
     (
         "{\"id\": \"a\"",
@@ -149,7 +149,7 @@ const ANSWERED: [(&str, &str, &str); 13] = [
     (
         "{\"id\": \"a\", \"groups\": [{\"title\": null, \"level\": {\"kind\": \"help\"}, \"elements\": [{\"padding\": {}, \"message\": {}}]}]}",
         "",
-        "line 1: groups[0].elements[0]: expected an object with one of message, cause, suggestion, origin and padding, found an object of 2 fields",
+        "line 1: groups[0].elements[0]: expected an object with one of message, cause, suggestion, origin and padding, found an object of size 2",
     ),
     (
         "{\"id\": \"a\", \"groups\": [{\"title\": null, \"level\": {\"kind\": \"help\"}, \"elements\": [{\"padding\": {}}, {\"cause\": {\"source\": \"\", \"annotations\": [{}]}}]}]}",
