@@ -22,17 +22,12 @@ refusal_name (PatchesOverlap group element first second) = codes "PatchesOverlap
 refusal_name (LineNumberTooLarge group element) = codes "LineNumberTooLarge"
 refusal_name (Memory refused) = codes "Memory"
 
--- a refusal, by its name
-abbrev pub IsRefused : RenderError → Outcome → Type 0
-IsRefused refusal (Texts texts) = ⊥
-IsRefused refusal (Refused name words spans) = name.now ≡ refusal_name refusal
-
 -- a case becomes texts that show its report, in its settings and one under each of its sheets, or the first refusal of that report,
 -- by its name
 abbrev pub IsOutcomeOf : Case → Outcome → Type 0
 IsOutcomeOf case (Texts texts) =
     TextsShown case.renderer case.groups.items case.sheets.items (map string_bytes texts.items)
-IsOutcomeOf case (Refused name words spans) =
+IsOutcomeOf case (Refused name words span) =
     (refusal : RenderError) × (first_refusal case.renderer case.groups.items ≡ Some refusal) × (name.now ≡ refusal_name refusal)
 
 -- a line describes this case, and this became of it

@@ -94,7 +94,7 @@ pub fn value_of(alloc: Global, line: Line, text: io::Result<String>) -> Result<V
 fn json_of(alloc: Global, line: Line, text: &str) -> Result<Value, Trouble>
     ensures value { IfOk result (λ value. read text.now ≡ Some (view value)) }
 {
-    Value::from_str(alloc, text).map_err(|error| Trouble::not_json(alloc, line, &error))
+    Value::from_str(alloc, text).map_err(|error| Trouble::NotJson(line, error))
 }
 
 /// Writes the answer to a case.
@@ -177,7 +177,7 @@ pub fn write_line<W: Write>(line: &str, out: &mut W) -> io::Result<()>
     out.writeln(line)
 }
 
-/// Writes each text, or what the refusal prints and the spans that it is about.
+/// Writes each text, or what the refusal prints and the span that it is about.
 pub fn write_outcome<W: Write>(outcome: &Outcome, out: &mut W) -> io::Result<()>
     ensures text { OnOk result (Appends (W.contents out.old) (W.contents out.new) (outcome_text outcome.now)) }
 {
@@ -188,6 +188,6 @@ pub fn write_outcome<W: Write>(outcome: &Outcome, out: &mut W) -> io::Result<()>
             }
             Ok(())
         }
-        Outcome::Refused(_, text, spans) => out.writeln(format_args!("refused: {text}{spans}")),
+        Outcome::Refused(_, text, span) => out.writeln(format_args!("refused: {text}{span}")),
     }
 }

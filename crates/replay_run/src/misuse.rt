@@ -4,7 +4,7 @@ use crate::command::{is_option, number_of};
 use std::fmt;
 
 /// What is wrong with words that aren't of the form.
-#[derive(Clone, Copy)]
+#[derive(Drop)]
 pub enum Misuse<'a> {
     /// The first word begins as an option does, and is none.
     UnknownOption(&'a str),

@@ -4,11 +4,10 @@ ghost use Rattle.std.specs.Prelude.{◌≡◌, IfOk, map, string_bytes};
 ghost use Rattle.annotate_snippets.specs.Fits.{ReportFits};
 ghost use Rattle.serde_json.specs.View.{view, items_view};
 ghost use Rattle.replay_run.specs.Answer as spec;
-ghost use Rattle.replay_run.specs.Outcome.{refusal_name, IsOutcomeOf, IsRefused};
+ghost use Rattle.replay_run.specs.Outcome.{refusal_name, IsOutcomeOf};
 
 use crate::case::Case;
-use crate::spans::spans_of;
-use annotate_snippets::Group;
+use crate::spans::span_of;
 use annotate_snippets::renderer::RenderError;
 use serde_json::{Value, json};
 use std::alloc::{AllocError, Global};
@@ -18,7 +17,7 @@ use std::alloc::{AllocError, Global};
 pub enum Outcome {
     /// A text under each sheet, in order.
     Texts(Vec<String>),
-    /// The name of the refusal, what it prints, and the numbers of the spans that it is about.
+    /// The name of the refusal, what it prints, and what is told of the span that it is about.
     Refused(&'static str, String, String),
 }
 
@@ -33,21 +32,12 @@ pub fn outcome_of(alloc: Global, case: &Case<'_>) -> Result<Outcome, AllocError>
     {
         Ok(texts) => Ok(Outcome::Texts(texts)),
         Err(RenderError::Memory(refused)) => Err(refused),
-        Err(refusal) => refused(alloc, &refusal, &case.groups),
+        Err(refusal) => {
+            let text = format!(in alloc; "{refusal}")?;
+            let span = span_of(alloc, &refusal, &case.groups)?;
+            Ok(Outcome::Refused(name_of(&refusal), text, span))
+        }
     }
-}
-
-/// The refusal of these groups.
-fn refused(
-    alloc: Global,
-    refusal: &RenderError,
-    groups: &[Group<'_>],
-) -> Result<Outcome, AllocError>
-    ensures outcome { IfOk result (IsRefused refusal.now) }
-{
-    let text = format!(in alloc; "{refusal}")?;
-    let spans = spans_of(alloc, refusal, groups)?;
-    Ok(Outcome::Refused(name_of(refusal), text, spans))
 }
 
 /// The name of a refusal.

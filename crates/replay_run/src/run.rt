@@ -144,17 +144,11 @@ fn do_command<'a, R: Files + Input + Clock + AllocGlobal, W: Write>(
         Command::Answer(form, files) => answer(rt, form, files, out),
         Command::Check(files) => check(rt, files, out),
         Command::Repeat(times, files) => repeat(rt, times, files, out),
-        Command::Help => help(out),
+        Command::Help => {
+            or_stop(OUTPUT, write_line(USAGE, out).map_err(Trouble::write))?;
+            Ok(DONE)
+        }
     }
-}
-
-/// Prints how the words are to be written.
-fn help<'a, W: Write>(out: &mut W) -> Result<u8, Stop<'a>>
-    ensures status { IfOk result (λ status. status ≡ 0) }
-    ensures usage { OnOk result (Appends (W.contents out.old) (W.contents out.new) (line_of usage_text)) }
-{
-    or_stop(OUTPUT, write_line(USAGE, out).map_err(Trouble::write))?;
-    Ok(DONE)
 }
 
 /// The name that is shown for standard input.
@@ -311,32 +305,16 @@ fn repeat<'a, R: Files + Input + Clock + AllocGlobal, W: Write>(
 {
     let mut tally = Tally::default();
     if files.is_empty() {
-        or_stop(INPUT, repeat_input(rt, times, &mut tally))?;
+        let input = or_stop(INPUT, opened_input(rt))?;
+        or_stop(
+            INPUT,
+            repeat_lines(rt, rt.alloc(), input, times, &mut tally),
+        )?;
     }
     for file in files {
-        or_stop(file, repeat_file(rt, file, times, &mut tally))?;
+        let input = or_stop(file, opened(rt, file))?;
+        or_stop(file, repeat_lines(rt, rt.alloc(), input, times, &mut tally))?;
     }
     or_stop(OUTPUT, write_tally(&tally, out).map_err(Trouble::write))?;
     Ok(DONE)
-}
-
-/// Draws each case of standard input this many times.
-fn repeat_input<R: Input + Clock + AllocGlobal>(
-    rt: &R,
-    times: u64,
-    tally: &mut Tally,
-) -> Result<(), Trouble> {
-    let input = opened_input(rt)?;
-    repeat_lines(rt, rt.alloc(), input, times, tally)
-}
-
-/// Draws each case of one file this many times.
-fn repeat_file<R: Files + Clock + AllocGlobal>(
-    rt: &R,
-    file: &str,
-    times: u64,
-    tally: &mut Tally,
-) -> Result<(), Trouble> {
-    let input = opened(rt, file)?;
-    repeat_lines(rt, rt.alloc(), input, times, tally)
 }

@@ -1,7 +1,7 @@
 //! What stops a run.
 
 use replay_read::fault::Fault;
-use std::alloc::{AllocError, AllocFailed, Global};
+use std::alloc::{AllocError, AllocFailed};
 use std::{fmt, io};
 
 /// What stops a run.
@@ -9,8 +9,8 @@ use std::{fmt, io};
 pub enum Trouble {
     /// A line isn't UTF-8.
     NotText(Line),
-    /// A line isn't valid JSON: the column from 1 where it goes wrong, counted in bytes, and what `serde_json` says of it.
-    NotJson(Line, usize, String),
+    /// A line isn't valid JSON, or there was no memory to read it.
+    NotJson(Line, serde_json::Error),
     /// A line describes no case, or no answer where one is expected.
     Fault(Line, Fault),
     /// At this line, counted from 1, there is a case or an expected answer, and not both.
@@ -41,17 +41,6 @@ pub enum Access {
 }
 
 impl Trouble {
-    /// A line isn't valid JSON.
-    pub fn not_json(alloc: Global, line: Line, error: &serde_json::Error) -> Trouble {
-        if error.is_memory() {
-            return Trouble::Memory;
-        }
-        match format!(in alloc; "{error}") {
-            Ok(words) => Trouble::NotJson(line, error.column(), words),
-            Err(AllocError) => Trouble::Memory,
-        }
-    }
-
     /// Input can't be read.
     pub fn read(error: io::Error) -> Trouble {
         Trouble::Io(Access::Read, error)
@@ -84,9 +73,15 @@ impl fmt::Display for Trouble {
     fn fmt<W: fmt::Write>(&self, f: &mut fmt::Formatter<W>) -> fmt::Result {
         match self {
             Trouble::NotText(line) => write!(f, "{line}: not valid UTF-8"),
-            Trouble::NotJson(line, column, words) => {
-                write!(f, "{line}, column {column}: not valid JSON")?;
-                write_reason(words.as_str(), f)
+            Trouble::NotJson(_, error) if error.is_memory() => write!(f, "out of memory"),
+            Trouble::NotJson(line, error) => {
+                let column = error.column();
+                let ending = if error.is_eof() {
+                    ": it ends too early"
+                } else {
+                    ""
+                };
+                write!(f, "{line}, column {column}: not valid JSON{ending}")
             }
             Trouble::Fault(line, fault) => write!(f, "{line}: {fault}"),
             Trouble::Unpaired(line) => {
@@ -99,19 +94,6 @@ impl fmt::Display for Trouble {
             Trouble::Io(access, error) => write!(f, "cannot {access}: {error}"),
             Trouble::Memory => write!(f, "out of memory"),
         }
-    }
-}
-
-/// Writes why a line isn't valid JSON, if its words say more than that. They end with a place in that line, which is left out,
-/// since it is told already.
-fn write_reason<W: fmt::Write>(words: &str, f: &mut fmt::Formatter<W>) -> fmt::Result {
-    let reason = match words.split_once(" at line ") {
-        Some((reason, _)) => reason,
-        None => words,
-    };
-    match reason {
-        "invalid JSON" => Ok(()),
-        _ => write!(f, ": {reason}"),
     }
 }
 

@@ -118,7 +118,7 @@ const ANSWERED: [(&str, &str, &str); 13] = [
     (
         "{\"id\": \"a\"",
         "",
-        "line 1, column 10: not valid JSON: EOF while parsing",
+        "line 1, column 10: not valid JSON: it ends too early",
     ),
     ("{\"id\": a}", "", "line 1, column 8: not valid JSON"),
     (
