@@ -9,6 +9,14 @@ use std::alloc::{AllocError, Global};
 use toml::Value;
 use toml::de::Error;
 
+/// What the parser says of its error. No clause of `toml` tells how long that may be, so it is measured.
+fn reason(error: &Error) -> &str
+    ensures fits { TextFits result.now }
+{
+    let reason = error.message();
+    if text_fits(reason) { reason } else { "" }
+}
+
 /// The report of a text that isn't TOML: it marks the bytes that the parser stumbled over.
 fn not_toml<'a>(
     alloc: Global,
@@ -23,13 +31,10 @@ fn not_toml<'a>(
     let Some(place) = error.span() else {
         return Err(RenderError::Memory(AllocError));
     };
-    // No clause of `toml` says how long its message may be, so it is measured. A place inside a character needs no care:
-    // `render` refuses it by name.
-    let why = error.message();
-    let why = if text_fits(why) { why } else { "" };
+    // A place inside a character would need no care: `render` refuses it by name.
     let mark = AnnotationKind::Primary
         .span(place)
-        .label(OptionCow::from(why));
+        .label(OptionCow::from(reason(error)));
     let snippet = Snippet::source(alloc, text)
         .path(OptionCow::from(path))
         .annotation(mark)
