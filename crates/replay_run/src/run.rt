@@ -94,7 +94,7 @@ pub fn run<R: Files + Input + Clock + AllocGlobal, W: Write, V: Write>(
             Ok(()) => return status,
             Err(error) => Stop {
                 file: OUTPUT,
-                trouble: Trouble::write(error),
+                trouble: Trouble::Write(error),
             },
         },
         Err(stop) => {
@@ -145,7 +145,7 @@ fn do_command<'a, R: Files + Input + Clock + AllocGlobal, W: Write>(
         Command::Check(files) => check(rt, files, out),
         Command::Repeat(times, files) => repeat(rt, times, files, out),
         Command::Help => {
-            or_stop(OUTPUT, write_line(USAGE, out).map_err(Trouble::write))?;
+            or_stop(OUTPUT, write_line(USAGE, out).map_err(Trouble::Write))?;
             Ok(DONE)
         }
     }
@@ -197,8 +197,8 @@ fn opened<R: Files + AllocGlobal>(rt: &R, file: &str) -> Result<BufReader<R::Fil
     ensures bytes { IfOk result (λ reader.
         reader_remaining R.File.remaining reader ≡ R.File.remaining (reader_inner reader)) }
 {
-    let input = fs::open(rt, file).map_err(Trouble::read)?;
-    BufReader::new(rt.alloc(), input).map_err(Trouble::read)
+    let input = fs::open(rt, file).map_err(Trouble::Read)?;
+    BufReader::new(rt.alloc(), input).map_err(Trouble::Read)
 }
 
 /// The bytes of standard input.
@@ -206,7 +206,7 @@ fn opened_input<R: Input + AllocGlobal>(rt: &R) -> Result<BufReader<R::Reader>, 
     ensures bytes { IfOk result (λ reader.
         reader_remaining R.Reader.remaining reader ≡ R.Reader.remaining (reader_inner reader)) }
 {
-    BufReader::new(rt.alloc(), rt.reader()).map_err(Trouble::read)
+    BufReader::new(rt.alloc(), rt.reader()).map_err(Trouble::Read)
 }
 
 /// Answers the cases of standard input.
@@ -261,7 +261,7 @@ fn check<'a, R: Files + AllocGlobal, W: Write>(
             }
         }
     }
-    or_stop(OUTPUT, write_counts(counts, out).map_err(Trouble::write))?;
+    or_stop(OUTPUT, write_counts(counts, out).map_err(Trouble::Write))?;
     Ok(if counts.failed == 0 { DONE } else { DIFFERS })
 }
 
@@ -315,6 +315,6 @@ fn repeat<'a, R: Files + Input + Clock + AllocGlobal, W: Write>(
         let input = or_stop(file, opened(rt, file))?;
         or_stop(file, repeat_lines(rt, rt.alloc(), input, times, &mut tally))?;
     }
-    or_stop(OUTPUT, write_tally(&tally, out).map_err(Trouble::write))?;
+    or_stop(OUTPUT, write_tally(&tally, out).map_err(Trouble::Write))?;
     Ok(DONE)
 }

@@ -17,8 +17,12 @@ pub enum Trouble {
     Unpaired(u64),
     /// There are more lines than can be counted.
     TooManyLines,
-    /// Input, output or the clock fails.
-    Io(Access, io::Error),
+    /// Input can't be read.
+    Read(io::Error),
+    /// The clock can't be read.
+    Clock(io::Error),
+    /// Output can't be written.
+    Write(io::Error),
     /// A growth of memory was refused.
     Memory,
 }
@@ -30,31 +34,6 @@ pub enum Line {
     Case(u64),
     /// Of the expected answers.
     Expected(u64),
-}
-
-/// What a run does with the world outside.
-#[derive(Clone, Copy)]
-pub enum Access {
-    Read,
-    Clock,
-    Write,
-}
-
-impl Trouble {
-    /// Input can't be read.
-    pub fn read(error: io::Error) -> Trouble {
-        Trouble::Io(Access::Read, error)
-    }
-
-    /// The clock can't be read.
-    pub fn clock(error: io::Error) -> Trouble {
-        Trouble::Io(Access::Clock, error)
-    }
-
-    /// Output can't be written.
-    pub fn write(error: io::Error) -> Trouble {
-        Trouble::Io(Access::Write, error)
-    }
 }
 
 impl From<AllocError> for Trouble {
@@ -91,7 +70,9 @@ impl fmt::Display for Trouble {
                 )
             }
             Trouble::TooManyLines => write!(f, "too many lines"),
-            Trouble::Io(access, error) => write!(f, "cannot {access}: {error}"),
+            Trouble::Read(error) => write!(f, "cannot read: {error}"),
+            Trouble::Clock(error) => write!(f, "cannot read the clock: {error}"),
+            Trouble::Write(error) => write!(f, "cannot write: {error}"),
             Trouble::Memory => write!(f, "out of memory"),
         }
     }
@@ -103,15 +84,5 @@ impl fmt::Display for Line {
             Line::Case(number) => write!(f, "line {number}"),
             Line::Expected(number) => write!(f, "line {number} of what is expected"),
         }
-    }
-}
-
-impl fmt::Display for Access {
-    fn fmt<W: fmt::Write>(&self, f: &mut fmt::Formatter<W>) -> fmt::Result {
-        f.write_str(match self {
-            Access::Read => "read",
-            Access::Clock => "read the clock",
-            Access::Write => "write",
-        })
     }
 }
