@@ -108,8 +108,6 @@ fn write_found<W: fmt::Write>(value: &Value, f: &mut fmt::Formatter<W>) -> fmt::
         Value::String(text) if text.len() > LONGEST => {
             write!(f, "a text of {} bytes", text.len())
         }
-        Value::String(_) => write!(f, "the text {value}"),
-        Value::Number(number) => write!(f, "the number {number}"),
         _ => write!(f, "{value}"),
     }
 }

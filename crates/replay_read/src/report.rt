@@ -120,18 +120,39 @@ fn name_in<'v>(level: &Node<'v, '_>) -> Result<LevelName<'v>, Fault>
     }
 }
 
+/// The kinds of levels.
+const LEVEL_KINDS: [LevelInner; 5] = [
+    LevelInner::Error,
+    LevelInner::Warning,
+    LevelInner::Info,
+    LevelInner::Note,
+    LevelInner::Help,
+];
+
+/// How a kind of level is written.
+fn level_name(kind: LevelInner) -> &'static str
+    ensures value { result.now ≡ kind_name kind }
+{
+    match kind {
+        LevelInner::Error => "error",
+        LevelInner::Warning => "warning",
+        LevelInner::Info => "info",
+        LevelInner::Note => "note",
+        LevelInner::Help => "help",
+    }
+}
+
 /// The kind of level of this name.
 fn kind_of(node: &Node<'_, '_>) -> Result<LevelInner, Fault>
     ensures value { IfOk result (λ kind. as_str (view node.now.value.now) ≡ Some (kind_name kind)) }
 {
-    match node.value.as_str() {
-        Some("error") => Ok(LevelInner::Error),
-        Some("warning") => Ok(LevelInner::Warning),
-        Some("info") => Ok(LevelInner::Info),
-        Some("note") => Ok(LevelInner::Note),
-        Some("help") => Ok(LevelInner::Help),
-        _ => Err(node.unexpected(Expectation::LevelKind)),
+    let name = node.value.as_str();
+    for kind in &LEVEL_KINDS {
+        if name == Some(level_name(*kind)) {
+            return Ok(*kind);
+        }
     }
+    Err(node.unexpected(Expectation::LevelKind))
 }
 
 impl<'v> Read<'v> for Element<'v> {

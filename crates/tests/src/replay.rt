@@ -129,22 +129,22 @@ const ANSWERED: [(&str, &str, &str); 13] = [
     (
         "{\"id\": \"a\", \"groups\": [], \"sheets\": [{\"none\": {\"effects\": [\"BOLD\", \"bold\"]}}]}",
         "",
-        "line 1: sheets[0].none.effects[1]: expected the name of an effect, as \"BOLD\", found the text \"bold\"",
+        "line 1: sheets[0].none.effects[1]: expected the name of an effect, as \"BOLD\", found \"bold\"",
     ),
     (
         "{\"id\": \"a\", \"groups\": [], \"settings\": {\"term_width\": 18446744073709551616}}",
         "",
-        "line 1: settings.term_width: expected a whole number from 0 to 18446744073709551615, found the number 1.8446744073709552e+19",
+        "line 1: settings.term_width: expected a whole number from 0 to 18446744073709551615, found 1.8446744073709552e+19",
     ),
     (
         "{\"id\": \"a\", \"groups\": [], \"settings\": {\"term_width\": 1.0}}",
         "",
-        "line 1: settings.term_width: expected a whole number from 0 to 18446744073709551615, found the number 1.0",
+        "line 1: settings.term_width: expected a whole number from 0 to 18446744073709551615, found 1.0",
     ),
     (
         "{\"id\": \"a\", \"groups\": [{\"title\": null, \"level\": {\"kind\": \"hint\"}, \"elements\": []}]}",
         "",
-        "line 1: groups[0].level.kind: expected \"error\", \"warning\", \"info\", \"note\" or \"help\", found the text \"hint\"",
+        "line 1: groups[0].level.kind: expected \"error\", \"warning\", \"info\", \"note\" or \"help\", found \"hint\"",
     ),
     (
         "{\"id\": \"a\", \"groups\": [{\"title\": null, \"level\": {\"kind\": \"help\"}, \"elements\": [{\"padding\": {}, \"message\": {}}]}]}",
