@@ -1,11 +1,11 @@
 //! How groups are read: which fields there are, which of them may be missing, and what they then are.
 
-ghost use Rattle.std.specs.Prelude.{◌≡◌, Some, IfOk, IfSome, codes, option_and_then, option_map};
+ghost use Rattle.std.specs.Prelude.{◌≡◌, Some, true, IfOk, IfSome, codes, option_and_then, option_map, unwrap_or};
 ghost use Rattle.std.specs.Cow.{cow_str_bytes};
 ghost use Rattle.snippet_model.specs.Fits.{GroupFits, IdFits, TitleFits, LevelFits, MessageFits, ElementFits, AnnotationFits, PatchFits, SnippetFits, TextFits};
 ghost use Rattle.serde_json.specs.Find.{as_str, get};
 ghost use Rattle.serde_json.specs.View.{view};
-ghost use Rattle.replay_read.specs.Field.{OrNull, SaysAt, lent_text};
+ghost use Rattle.replay_read.specs.Field.{OrNull, SaysAt, flag_at, lent_text, number_at};
 ghost use Rattle.replay_read.specs.Report.{IsAnnotationOf, IsElementOf, IsGroupOf, IsLevelOf, IsMessageOf, IsNameOf, IsOriginOf, IsPatchOf, IsSnippetOf, IsTitleOf};
 ghost use Rattle.replay_read.specs.Kinds.{NameFits, kind_name, mark_name};
 
@@ -218,9 +218,7 @@ fn snippet_of<'v, T: Read<'v> + Drop>(
     node.has_only(shape)?;
     let source = node.text("source")?;
     let path = node.optional_text("path")?;
-    let line_start = node.number_or("line_start", 1)?;
-    let line_numbering = node.flag_or("line_numbering", true)?;
-    let fold = node.flag_or("fold", true)?;
+    let (line_start, line_numbering, fold) = lines_of(node)?;
     let markers = node.list(markers)?;
     Ok(Snippet {
         source: CowStr::Borrowed(source),
@@ -230,6 +228,20 @@ fn snippet_of<'v, T: Read<'v> + Drop>(
         fold,
         markers,
     })
+}
+
+/// How the lines of a snippet are shown: the number of the first, whether they have numbers, and whether some are left out.
+fn lines_of(snippet: &Node<'_, '_>) -> Result<(usize, bool, bool), Fault>
+    ensures line_start { IfOk result (λ lines.
+        lines.0 ≡ unwrap_or (number_at (codes "line_start") (view snippet.now.value.now)) 1) }
+    ensures line_numbering { IfOk result (λ lines.
+        lines.1 ≡ unwrap_or (flag_at (codes "line_numbering") (view snippet.now.value.now)) true) }
+    ensures fold { IfOk result (λ lines. lines.2 ≡ unwrap_or (flag_at (codes "fold") (view snippet.now.value.now)) true) }
+{
+    let line_start = snippet.number_or("line_start", 1)?;
+    let line_numbering = snippet.flag_or("line_numbering", true)?;
+    let fold = snippet.flag_or("fold", true)?;
+    Ok((line_start, line_numbering, fold))
 }
 
 impl<'v> Read<'v> for Annotation<'v> {
