@@ -64,7 +64,8 @@ pub fn port(alloc: Global, path: &str, text: &str) -> Result<String, RenderError
 {
     let table = match toml::table_from_str(alloc, text) {
         Ok(table) => table,
-        Err(error) => return not_toml(alloc, path, text, &error),
+        // `&*` lends a text once more, for no longer than the error stays.
+        Err(error) => return not_toml(alloc, &*path, &*text, &error),
     };
     match table.get("port").and_then(Value::as_integer) {
         Some(port) => format!(in alloc; "port {port}").map_err(RenderError::Memory),

@@ -21,7 +21,7 @@ pub enum Misuse<'a> {
 }
 
 /// What is wrong with these words, which aren't of the form.
-pub fn misuse_of<'a>(words: &[&'a str]) -> Misuse<'a> {
+pub fn misuse_of<'a>(words: &'a [&'a str]) -> Misuse<'a> {
     match words {
         ["--repeat"] => Misuse::NoNumber,
         ["--repeat", digits, ..] if number_of(digits).is_none() => Misuse::NotNumber(*digits),
@@ -34,7 +34,7 @@ pub fn misuse_of<'a>(words: &[&'a str]) -> Misuse<'a> {
 
 /// What is wrong with these words, after an option or without one: the first that names no file. Where each names one, they
 /// stand after `--check`, and aren't pairs.
-fn misplaced<'a>(words: &[&'a str]) -> Misuse<'a> {
+fn misplaced<'a>(words: &'a [&'a str]) -> Misuse<'a> {
     for word in words {
         if is_option(word) {
             return Misuse::NotFile(*word);
