@@ -47,10 +47,10 @@ fn not_toml<'a>(
 }
 
 /// The report of a configuration without a port: there is no line to show, so the file alone is named, by an origin.
-fn no_port(alloc: Global, path: &str) -> Result<String, RenderError>
+fn no_port<'a>(alloc: Global, path: &'a str) -> Result<String, RenderError>
     requires path { TextFits path.now }
 {
-    let group: Group<'_> = ERROR
+    let group: Group<'a> = ERROR
         .primary_title("the configuration has no `port` that is an integer")
         .element(alloc, Element::from(Origin::path(path)))
         .map_err(RenderError::Memory)?;
