@@ -39,7 +39,11 @@ pub trait Read<'v> {
 impl<'v> Node<'v, '_> {
     /// The fault that something else was expected.
     pub fn unexpected(&self, expected: Expectation) -> Fault {
-        Fault::at(self.alloc, &self.place, Wrong::Unexpected(expected))
+        Fault::at(
+            self.alloc,
+            &self.place,
+            Wrong::Unexpected(expected, self.value),
+        )
     }
 
     /// Nothing, if the value is an object and has only fields of this shape.
@@ -61,25 +65,13 @@ impl<'v> Node<'v, '_> {
         ensures value { option_map (λ field. view field.value.now) result ≡ get name.now (view self.now.value.now) }
     {
         match self.value.get(name) {
-            Some(value) => Some(self.field(name, value)),
+            Some(value) => Some(Node {
+                alloc: self.alloc,
+                value,
+                place: Place::Field(&self.place, name),
+            }),
             None => None,
         }
-    }
-
-    /// The field of this name, which holds this value.
-    fn field<'n>(&'n self, name: &'n str, value: &'v Value) -> Node<'v, 'n>
-        ensures value { result.value.now ≡ value.now }
-    {
-        Node {
-            alloc: self.alloc,
-            value,
-            place: Place::Field(&self.place, name),
-        }
-    }
-
-    /// Whether there is a field of this name.
-    pub fn has(&self, name: &str) -> bool {
-        self.value.get(name).is_some()
     }
 
     /// Whether the value is an object with one field.

@@ -1,12 +1,12 @@
 //! How groups are read: which fields there are, which of them may be missing, and what they then are.
 
-ghost use Rattle.std.specs.Prelude.{◌≡◌, All, Some, None, IfOk, IfSome, codes, option_and_then, option_map};
+ghost use Rattle.std.specs.Prelude.{◌≡◌, Some, true, IfOk, IfSome, codes, option_and_then, option_map, unwrap_or};
 ghost use Rattle.std.specs.Cow.{cow_str_bytes};
 ghost use Rattle.snippet_model.specs.Fits.{GroupFits, IdFits, TitleFits, LevelFits, MessageFits, ElementFits, AnnotationFits, PatchFits, SnippetFits, TextFits};
 ghost use Rattle.serde_json.specs.Find.{as_str, get};
 ghost use Rattle.serde_json.specs.View.{view};
-ghost use Rattle.replay_read.specs.Field.{ListSays, OrNull, SaysAt, flag_at, lent_text, text_at};
-ghost use Rattle.replay_read.specs.Report.{IsAnnotationOf, IsElementOf, IsGivenName, IsGroupOf, IsKindOf, IsLevelOf, IsMessageOf, IsNameOf, IsOriginOf, IsPatchOf, IsSnippetOf, IsTitleOf};
+ghost use Rattle.replay_read.specs.Field.{OrNull, SaysAt, flag_at, lent_text, number_at};
+ghost use Rattle.replay_read.specs.Report.{IsAnnotationOf, IsElementOf, IsGroupOf, IsLevelOf, IsMessageOf, IsNameOf, IsOriginOf, IsPatchOf, IsSnippetOf, IsTitleOf};
 ghost use Rattle.replay_read.specs.Kinds.{NameFits, kind_name, mark_name};
 
 use crate::fault::Fault;
@@ -28,38 +28,18 @@ impl<'v> Read<'v> for Group<'v> {
 
     fn read(node: &Node<'v, '_>) -> Result<Self, Fault> {
         node.has_only(Shape::Group)?;
-        let title = title_in(node)?;
-        let (level, elements) = beside_title(node, &title)?;
+        let title = title_or_null(&node.needed("title", Expectation::ObjectOrNull)?)?;
+        let elements = node.list("elements")?;
+        let level = match &title {
+            Some(title) => title.level.kind,
+            None => level_in(node)?.kind,
+        };
         Ok(Group {
             level,
             title,
             elements,
         })
     }
-}
-
-/// The title of a group; none where `null` stands there.
-fn title_in<'v>(group: &Node<'v, '_>) -> Result<Option<Title<'v>>, Fault>
-    ensures value { IfOk result (SaysAt (OrNull IsTitleOf) (codes "title") (view group.now.value.now)) }
-    ensures fits { IfOk result (λ title. IfSome title TitleFits) }
-{
-    title_or_null(&group.needed("title", Expectation::ObjectOrNull)?)
-}
-
-/// What a group has beside this title: the kind of its level, and its elements.
-fn beside_title<'v>(
-    group: &Node<'v, '_>,
-    title: &Option<Title<'v>>,
-) -> Result<(LevelInner, Vec<Element<'v>>), Fault>
-    ensures level { IfOk result (λ parts. IsKindOf (view group.now.value.now) title.now parts.0) }
-    ensures elements { IfOk result (λ parts. SaysAt (ListSays IsElementOf) (codes "elements") (view group.now.value.now) parts.1.items) }
-    ensures fits { IfOk result (λ parts. All ElementFits parts.1.items) }
-{
-    let level = match title {
-        Some(title) => title.level.kind,
-        None => kind_in(group)?,
-    };
-    Ok((level, group.list("elements")?))
 }
 
 /// The title; none where `null` stands there.
@@ -79,41 +59,16 @@ fn title_of<'v>(node: &Node<'v, '_>) -> Result<Title<'v>, Fault>
     ensures fits { IfOk result TitleFits }
 {
     node.has_only(Shape::Title)?;
+    let text = node.text("text")?;
+    let primary = node.flag("primary")?;
+    let id = node.optional_text("id")?;
+    let url = node.optional_text("url")?;
     let level = level_in(node)?;
-    let words = words_of(node)?;
     Ok(Title {
         level,
-        text: CowStr::Borrowed(words.text),
-        allows_styling: !words.primary,
-        id: id_of(words.id, words.url),
-    })
-}
-
-/// What a title has beside its level.
-#[derive(Clone, Copy)]
-struct Words<'v> {
-    text: &'v str,
-    /// Whether the text isn't trusted.
-    primary: bool,
-    id: Option<&'v str>,
-    url: Option<&'v str>,
-}
-
-/// What a title has beside its level.
-fn words_of<'v>(title: &Node<'v, '_>) -> Result<Words<'v>, Fault>
-    ensures text { IfOk result (λ words. text_at (codes "text") (view title.now.value.now) ≡ Some words.text.now) }
-    ensures primary { IfOk result (λ words. flag_at (codes "primary") (view title.now.value.now) ≡ Some words.primary) }
-    ensures id { IfOk result (λ words. text_at (codes "id") (view title.now.value.now) ≡ lent_text words.id) }
-    ensures url { IfOk result (λ words. text_at (codes "url") (view title.now.value.now) ≡ lent_text words.url) }
-    ensures fits { IfOk result (λ words. TextFits words.text.now) }
-    ensures id_fits { IfOk result (λ words. IfSome words.id (λ text. TextFits text.now)) }
-    ensures url_fits { IfOk result (λ words. IfSome words.url (λ text. TextFits text.now)) }
-{
-    Ok(Words {
-        text: title.text("text")?,
-        primary: title.flag("primary")?,
-        id: title.optional_text("id")?,
-        url: title.optional_text("url")?,
+        text: CowStr::Borrowed(text),
+        allows_styling: !primary,
+        id: id_of(id, url),
     })
 }
 
@@ -142,14 +97,6 @@ fn level_in<'v>(node: &Node<'v, '_>) -> Result<Level<'v>, Fault>
     level_of(&node.needed("level", Expectation::Object)?)
 }
 
-/// The kind of that level.
-fn kind_in(node: &Node<'_, '_>) -> Result<LevelInner, Fault>
-    ensures value { IfOk result (IsKindOf (view node.now.value.now) None) }
-{
-    let level = level_in(node)?;
-    Ok(level.kind)
-}
-
 /// The level that is described.
 fn level_of<'v>(node: &Node<'v, '_>) -> Result<Level<'v>, Fault>
     ensures value { IfOk result (IsLevelOf (view node.now.value.now)) }
@@ -161,40 +108,51 @@ fn level_of<'v>(node: &Node<'v, '_>) -> Result<Level<'v>, Fault>
     Ok(Level { name, kind })
 }
 
-/// The name of a level, that of its kind where none is given.
+/// The name of a level: that of its kind where none is given, hidden where `null` stands there.
 fn name_in<'v>(level: &Node<'v, '_>) -> Result<LevelName<'v>, Fault>
     ensures value { IfOk result (IsNameOf (get (codes "name") (view level.now.value.now))) }
     ensures fits { IfOk result NameFits }
 {
     match level.optional("name") {
         None => Ok(LevelName::Standard),
-        Some(name) => name_of(&name),
+        Some(name) if name.value.is_null() => Ok(LevelName::Hidden),
+        Some(name) => Ok(LevelName::Own(CowStr::Borrowed(name.as_text()?))),
     }
 }
 
-/// The name of a level that is given; hidden where `null` stands there.
-fn name_of<'v>(node: &Node<'v, '_>) -> Result<LevelName<'v>, Fault>
-    ensures value { IfOk result (IsGivenName (view node.now.value.now)) }
-    ensures fits { IfOk result NameFits }
+/// The kinds of levels.
+const LEVEL_KINDS: [LevelInner; 5] = [
+    LevelInner::Error,
+    LevelInner::Warning,
+    LevelInner::Info,
+    LevelInner::Note,
+    LevelInner::Help,
+];
+
+/// How a kind of level is written.
+fn level_name(kind: LevelInner) -> &'static str
+    ensures value { result.now ≡ kind_name kind }
 {
-    if node.value.is_null() {
-        return Ok(LevelName::Hidden);
+    match kind {
+        LevelInner::Error => "error",
+        LevelInner::Warning => "warning",
+        LevelInner::Info => "info",
+        LevelInner::Note => "note",
+        LevelInner::Help => "help",
     }
-    Ok(LevelName::Own(CowStr::Borrowed(node.as_text()?)))
 }
 
 /// The kind of level of this name.
 fn kind_of(node: &Node<'_, '_>) -> Result<LevelInner, Fault>
     ensures value { IfOk result (λ kind. as_str (view node.now.value.now) ≡ Some (kind_name kind)) }
 {
-    match node.value.as_str() {
-        Some("error") => Ok(LevelInner::Error),
-        Some("warning") => Ok(LevelInner::Warning),
-        Some("info") => Ok(LevelInner::Info),
-        Some("note") => Ok(LevelInner::Note),
-        Some("help") => Ok(LevelInner::Help),
-        _ => Err(node.unexpected(Expectation::LevelKind)),
+    let name = node.value.as_str();
+    for kind in &LEVEL_KINDS {
+        if name == Some(level_name(*kind)) {
+            return Ok(*kind);
+        }
     }
+    Err(node.unexpected(Expectation::LevelKind))
 }
 
 impl<'v> Read<'v> for Element<'v> {
@@ -217,56 +175,18 @@ fn element_of<'v>(node: &Node<'v, '_>) -> Result<Element<'v>, Fault>
     ensures value { IfOk result (IsElementOf (view node.now.value.now)) }
     ensures fits { IfOk result ElementFits }
 {
-    if node.has("message") {
-        message_in(node)
-    } else if node.has("cause") {
-        cause_in(node)
-    } else if node.has("suggestion") {
-        suggestion_in(node)
-    } else if node.has("origin") {
-        origin_in(node)
-    } else {
-        padding_in(node)
+    if let Some(message) = node.optional("message") {
+        return Ok(Element::Message(message_of(&message)?));
     }
-}
-
-/// The message in the field of that name, as an element; the next four in the same way.
-fn message_in<'v>(node: &Node<'v, '_>) -> Result<Element<'v>, Fault>
-    ensures value { IfOk result (IsElementOf (view node.now.value.now)) }
-    ensures fits { IfOk result ElementFits }
-{
-    let message = message_of(&node.needed("message", Expectation::Object)?)?;
-    Ok(Element::Message(message))
-}
-
-fn cause_in<'v>(node: &Node<'v, '_>) -> Result<Element<'v>, Fault>
-    ensures value { IfOk result (IsElementOf (view node.now.value.now)) }
-    ensures fits { IfOk result ElementFits }
-{
-    let cause = node.needed("cause", Expectation::Object)?;
-    Ok(Element::Cause(snippet_of(&cause, Shape::Cause, "annotations")?))
-}
-
-fn suggestion_in<'v>(node: &Node<'v, '_>) -> Result<Element<'v>, Fault>
-    ensures value { IfOk result (IsElementOf (view node.now.value.now)) }
-    ensures fits { IfOk result ElementFits }
-{
-    let suggestion = node.needed("suggestion", Expectation::Object)?;
-    Ok(Element::Suggestion(snippet_of(&suggestion, Shape::Suggestion, "patches")?))
-}
-
-fn origin_in<'v>(node: &Node<'v, '_>) -> Result<Element<'v>, Fault>
-    ensures value { IfOk result (IsElementOf (view node.now.value.now)) }
-    ensures fits { IfOk result ElementFits }
-{
-    let origin = origin_of(&node.needed("origin", Expectation::Object)?)?;
-    Ok(Element::Origin(origin))
-}
-
-fn padding_in<'v>(node: &Node<'v, '_>) -> Result<Element<'v>, Fault>
-    ensures value { IfOk result (IsElementOf (view node.now.value.now)) }
-    ensures fits { IfOk result ElementFits }
-{
+    if let Some(cause) = node.optional("cause") {
+        return Ok(Element::Cause(snippet_of(&cause, Shape::Cause, "annotations")?));
+    }
+    if let Some(suggestion) = node.optional("suggestion") {
+        return Ok(Element::Suggestion(snippet_of(&suggestion, Shape::Suggestion, "patches")?));
+    }
+    if let Some(origin) = node.optional("origin") {
+        return Ok(Element::Origin(origin_of(&origin)?));
+    }
     let padding = node.needed("padding", Expectation::Object)?;
     padding.has_only(Shape::Padding)?;
     Ok(Element::Padding(Padding))
@@ -278,8 +198,8 @@ fn message_of<'v>(node: &Node<'v, '_>) -> Result<Message<'v>, Fault>
     ensures fits { IfOk result MessageFits }
 {
     node.has_only(Shape::Message)?;
-    let level = level_in(node)?;
     let text = node.text("text")?;
+    let level = level_in(node)?;
     Ok(Message {
         level,
         text: CowStr::Borrowed(text),
@@ -298,9 +218,7 @@ fn snippet_of<'v, T: Read<'v> + Drop>(
     node.has_only(shape)?;
     let source = node.text("source")?;
     let path = node.optional_text("path")?;
-    let line_start = node.number_or("line_start", 1)?;
-    let line_numbering = node.flag_or("line_numbering", true)?;
-    let fold = node.flag_or("fold", true)?;
+    let (line_start, line_numbering, fold) = lines_of(node)?;
     let markers = node.list(markers)?;
     Ok(Snippet {
         source: CowStr::Borrowed(source),
@@ -310,6 +228,20 @@ fn snippet_of<'v, T: Read<'v> + Drop>(
         fold,
         markers,
     })
+}
+
+/// How the lines of a snippet are shown: the number of the first, whether they have numbers, and whether some are left out.
+fn lines_of(snippet: &Node<'_, '_>) -> Result<(usize, bool, bool), Fault>
+    ensures line_start { IfOk result (λ lines.
+        lines.0 ≡ unwrap_or (number_at (codes "line_start") (view snippet.now.value.now)) 1) }
+    ensures line_numbering { IfOk result (λ lines.
+        lines.1 ≡ unwrap_or (flag_at (codes "line_numbering") (view snippet.now.value.now)) true) }
+    ensures fold { IfOk result (λ lines. lines.2 ≡ unwrap_or (flag_at (codes "fold") (view snippet.now.value.now)) true) }
+{
+    let line_start = snippet.number_or("line_start", 1)?;
+    let line_numbering = snippet.flag_or("line_numbering", true)?;
+    let fold = snippet.flag_or("fold", true)?;
+    Ok((line_start, line_numbering, fold))
 }
 
 impl<'v> Read<'v> for Annotation<'v> {

@@ -115,6 +115,17 @@ impl<'v> Node<'v, '_> {
     }
 }
 
+/// The number of a byte.
+impl<'v> Read<'v> for u8 {
+    ghost says = { λ d byte. as_whole d ≡ Some byte };
+
+    ghost fits = { λ _. Unit {0} };
+
+    fn read(node: &Node<'v, '_>) -> Result<Self, Fault> {
+        node.as_byte()
+    }
+}
+
 /// A text within the library's limit.
 impl<'v> Read<'v> for &'v str {
     ghost says = { λ d text. as_str d ≡ Some text.now };

@@ -89,8 +89,12 @@ impl Shape {
 
     /// Writes that only these names are expected.
     pub fn write_only<W: fmt::Write>(self, f: &mut fmt::Formatter<W>) -> fmt::Result {
+        let names = self.names();
+        if names.is_empty() {
+            return f.write_str("unknown, expected no field");
+        }
         f.write_str("unknown, expected only")?;
-        for name in self.names() {
+        for name in names {
             write!(f, " {name}")?;
         }
         Ok(())
@@ -126,10 +130,9 @@ pub enum Expectation {
     Effect,
 }
 
-impl Expectation {
-    /// In words.
-    fn words(self) -> &'static str {
-        match self {
+impl fmt::Display for Expectation {
+    fn fmt<W: fmt::Write>(&self, f: &mut fmt::Formatter<W>) -> fmt::Result {
+        f.write_str(match self {
             Expectation::Text => "a text of fewer than 2^56 bytes",
             Expectation::Number => "a whole number from 0 to 18446744073709551615",
             Expectation::Byte => "a whole number from 0 to 255",
@@ -148,12 +151,6 @@ impl Expectation {
             }
             Expectation::Rgb => "a list of three whole numbers from 0 to 255",
             Expectation::Effect => "the name of an effect, as \"BOLD\"",
-        }
-    }
-}
-
-impl fmt::Display for Expectation {
-    fn fmt<W: fmt::Write>(&self, f: &mut fmt::Formatter<W>) -> fmt::Result {
-        f.write_str(self.words())
+        })
     }
 }

@@ -1,8 +1,8 @@
 //! How sheets and their styles are read.
 
-ghost use Rattle.std.specs.Prelude.{◌≡◌, [], ◌∷◌, Some, IfOk, codes, map};
-ghost use Rattle.serde_json.specs.Find.{as_array, as_str, get};
-ghost use Rattle.serde_json.specs.View.{items_of, view};
+ghost use Rattle.std.specs.Prelude.{◌≡◌, [], ◌∷◌, Some, IfOk, codes};
+ghost use Rattle.serde_json.specs.Find.{as_str, get};
+ghost use Rattle.serde_json.specs.View.{view};
 ghost use Rattle.replay_read.specs.Field.{MaySayAt};
 ghost use Rattle.replay_read.specs.Sheet.{AreBytes, AreEffectsOf, AreSheetsOf, IsColorOf, IsOwnSheetOf, IsSheetOf, IsStyleOf, MayBeEffects, MayBeStyle};
 ghost use Rattle.replay_read.specs.Sheet as spec;
@@ -11,7 +11,6 @@ use crate::effect::{EFFECTS, EffectName};
 use crate::fault::Fault;
 use crate::node::{Node, Read};
 use crate::shape::{Expectation, Shape};
-use serde_json::Value;
 use snippet_style::{AnsiColor, Color, Effects, Style, Stylesheet};
 
 /// The sheets of a case: the plain one where the field is missing.
@@ -179,32 +178,9 @@ fn color_of(node: &Node<'_, '_>) -> Result<Color, Fault>
         return Err(node.unexpected(Expectation::Color));
     }
     node.has_only(Shape::Color)?;
-    numbered_color(node)
-}
-
-/// The colour that the field of an object tells by numbers.
-fn numbered_color(node: &Node<'_, '_>) -> Result<Color, Fault>
-    ensures value { IfOk result (IsColorOf (view node.now.value.now)) }
-{
-    if node.has("ansi256") {
-        indexed_color(node)
-    } else {
-        rgb_color(node)
+    if let Some(index) = node.optional("ansi256") {
+        return Ok(Color::Ansi256(index.as_byte()?));
     }
-}
-
-/// The colour of the index that stands there.
-fn indexed_color(node: &Node<'_, '_>) -> Result<Color, Fault>
-    ensures value { IfOk result (IsColorOf (view node.now.value.now)) }
-{
-    let index = node.needed("ansi256", Expectation::Byte)?.as_byte()?;
-    Ok(Color::Ansi256(index))
-}
-
-/// The colour of the red, green and blue that stand there.
-fn rgb_color(node: &Node<'_, '_>) -> Result<Color, Fault>
-    ensures value { IfOk result (IsColorOf (view node.now.value.now)) }
-{
     let (red, green, blue) = rgb_of(&node.needed("rgb", Expectation::Rgb)?)?;
     Ok(Color::Rgb(red, green, blue))
 }
@@ -270,27 +246,9 @@ fn color_name(color: AnsiColor) -> &'static str
 fn rgb_of(node: &Node<'_, '_>) -> Result<(u8, u8, u8), Fault>
     ensures value { IfOk result (λ rgb. AreBytes (view node.now.value.now) (rgb.0 ∷ rgb.1 ∷ rgb.2 ∷ [])) }
 {
-    let Some(values) = node.value.as_array() else {
-        return Err(node.unexpected(Expectation::List));
-    };
-    for (index, value) in values.iter().enumerate() {
-        node.item(index, value).as_byte()?;
-    }
-    three_bytes(node, values)
-}
-
-/// The bytes of a list of three.
-fn three_bytes(node: &Node<'_, '_>, values: &[Value]) -> Result<(u8, u8, u8), Fault>
-    requires items { as_array (view node.now.value.now) ≡ Some (items_of (map view values.now)) }
-    ensures value { IfOk result (λ rgb. AreBytes (view node.now.value.now) (rgb.0 ∷ rgb.1 ∷ rgb.2 ∷ [])) }
-{
-    match values {
-        [red, green, blue] => {
-            let red = node.item(0, red).as_byte()?;
-            let green = node.item(1, green).as_byte()?;
-            let blue = node.item(2, blue).as_byte()?;
-            Ok((red, green, blue))
-        }
+    let bytes: Vec<u8> = node.items()?;
+    match bytes.as_slice() {
+        [red, green, blue] => Ok((*red, *green, *blue)),
         _ => Err(node.unexpected(Expectation::Rgb)),
     }
 }

@@ -26,4 +26,4 @@ text_items-whole (text ∷ texts) = text_items-whole texts
 
 pub answer_of-whole : (id : List ℕ) (outcome : Outcome) → has_float (answer_of id outcome) ≡ false
 answer_of-whole id (Texts texts) = rw (text_items-whole (map string_bytes texts.items))
-answer_of-whole id (Refused name words) = refl
+answer_of-whole id (Refused name words span) = refl

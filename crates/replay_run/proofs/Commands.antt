@@ -1,11 +1,11 @@
 -- Words ask for one command at most.
 use Rattle.std.proofs.lemmas.List.{length-map}
-use Rattle.std.proofs.Common.{ℕ, length, Bor, ◌≡◌, true, false, List, ◌∷◌, ◌++◌, refl, sym, ap, ◌∙◌, subst}
+use Rattle.std.proofs.Common.{ℕ, length, Bor, ◌≡◌, true, false, List, [], ◌∷◌, ◌++◌, refl, sym, ap, ◌∙◌, subst}
 use Rattle.std.specs.Prelude.{codes, bytes_eq}
 use Rattle.std.proofs.lemmas.Bool.{false≢true}
 use Rattle.std.proofs.lemmas.List.Elements.{All-head}
 use Rattle.replay_run.specs.declared.command.Command.{Command}
-use Rattle.replay_run.specs.declared.command.Command.TheVariants.{Answer, Check, Repeat}
+use Rattle.replay_run.specs.declared.command.Command.TheVariants.{Answer, Check, Repeat, Help}
 use Rattle.replay_run.specs.declared.lines.Form.{Form}
 use Rattle.replay_run.specs.declared.lines.Form.TheVariants.{Json, Texts}
 use Rattle.replay_run.specs.Words.{Word, words_at, IsOption, AreFiles, ArePairs, IsNumber, Asks, AsksAnswers, IfAnswers, IfComparison}
@@ -29,6 +29,7 @@ asks_texts ws (Check files) h =
     absurd (apart (codes "--text") (codes "--check") ws (words_at files.now) refl refl h.0)
 asks_texts ws (Repeat times files) h =
     absurd (apart (codes "--text") (codes "--repeat") ws (h.0 ∷ words_at files.now) refl refl h.1)
+asks_texts ws Help h = absurd (apart (codes "--text") (codes "--help") ws [] refl refl h)
 
 pub asks_check : (ws : List Word) (c : Command) → Asks (codes "--check" ∷ ws) c → AreFiles ws × ArePairs ws
 asks_check ws (Answer Json files) h = absurd (no_file (codes "check") ws h.1)
@@ -39,6 +40,7 @@ asks_check ws (Check files) h =
     (subst AreFiles (sym rest) h.1, subst ArePairs (sym rest) h.2)
 asks_check ws (Repeat times files) h =
     absurd (apart (codes "--check") (codes "--repeat") ws (h.0 ∷ words_at files.now) refl refl h.1)
+asks_check ws Help h = absurd (apart (codes "--check") (codes "--help") ws [] refl refl h)
 
 pub asks_repeat : (ws : List Word) (c : Command) → Asks (codes "--repeat" ∷ ws) c → (digits : Word) × (files : List Word) × (ws ≡ digits ∷ files) × IsNumber digits × AreFiles files
 asks_repeat ws (Answer Json files) h = absurd (no_file (codes "repeat") ws h.1)
@@ -48,6 +50,17 @@ asks_repeat ws (Check files) h =
     absurd (apart (codes "--repeat") (codes "--check") ws (words_at files.now) refl refl h.0)
 asks_repeat ws (Repeat times files) h =
     (h.0, words_at files.now, cc h.1, h.3, h.2)
+asks_repeat ws Help h = absurd (apart (codes "--repeat") (codes "--help") ws [] refl refl h)
+
+pub asks_help : (ws : List Word) (c : Command) → Asks (codes "--help" ∷ ws) c → (ws ≡ []) × (c ≡ Help)
+asks_help ws (Answer Json files) h = absurd (no_file (codes "help") ws h.1)
+asks_help ws (Answer Texts files) h =
+    absurd (apart (codes "--help") (codes "--text") ws (words_at files.now) refl refl h.0)
+asks_help ws (Check files) h =
+    absurd (apart (codes "--help") (codes "--check") ws (words_at files.now) refl refl h.0)
+asks_help ws (Repeat times files) h =
+    absurd (apart (codes "--help") (codes "--repeat") ws (h.0 ∷ words_at files.now) refl refl h.1)
+asks_help ws Help h = (cc h, refl)
 
 -- what is known of the number of files that are compared, by the words
 pub files_compared : (ws : List Word) (c : Command) (P : ℕ → Type 0) → Asks (codes "--check" ∷ ws) c → IfComparison c P → P (length ws)
@@ -59,6 +72,7 @@ files_compared ws (Check files) P h known =
     subst P (sym (ap length rest ∙ length-map files.now (λ (w : Bor Word). w.now))) known
 files_compared ws (Repeat times files) P h known =
     absurd (apart (codes "--check") (codes "--repeat") ws (h.0 ∷ words_at files.now) refl refl h.1)
+files_compared ws Help P h known = absurd (apart (codes "--check") (codes "--help") ws [] refl refl h)
 
 -- as many files as words for them
 as_many : (words : List Word) (refs : List (Bor Word)) → words ≡ words_at refs → length refs ≡ length words
@@ -88,3 +102,7 @@ files_answered ws (Repeat times refs) P Json files h asks known =
     absurd (no_option ws (h.0 ∷ words_at refs.now) (codes "repeat") h.1 asks.1)
 files_answered ws (Repeat times refs) P Texts files h asks known =
     absurd (apart (codes "--text") (codes "--repeat") files (h.0 ∷ words_at refs.now) refl refl (sym asks.0 ∙ h.1))
+files_answered ws Help P Json files h asks known =
+    absurd (no_option ws [] (codes "help") h asks.1)
+files_answered ws Help P Texts files h asks known =
+    absurd (apart (codes "--text") (codes "--help") files [] refl refl (sym asks.0 ∙ h))

@@ -20,17 +20,18 @@ text_items (text ∷ texts) = item (string text) (text_items texts)
 abbrev pub answer_of : List ℕ → Outcome → Data
 answer_of id (Texts texts) =
     object (member (codes "id") (string id) (member (codes "ok") (array (text_items (map string_bytes texts.items))) no_members))
-answer_of id (Refused name words) =
+answer_of id (Refused name words span) =
     object (member (codes "id") (string id) (member (codes "refused") (string name.now) (member (codes "text") (string (string_bytes words)) no_members)))
 
 -- a text and the end of its line
 abbrev pub line_of : List ℕ → List ℕ
 line_of text = text ++ 10 ∷ []
 
--- each text, or what the refusal prints
+-- each text, or what the refusal prints, and after it the span that it is about
 abbrev pub outcome_text : Outcome → List ℕ
 outcome_text (Texts texts) = flat_map (λ text. line_of (string_bytes text)) texts.items
-outcome_text (Refused name words) = line_of (codes "refused: " ++ string_bytes words)
+outcome_text (Refused name words span) =
+    line_of (codes "refused: " ++ string_bytes words ++ string_bytes span)
 
 -- the answer to the case of this name, in this form; texts stand after an empty line, but for the first ones
 abbrev pub answer_text : Form → Bool → List ℕ → Outcome → List ℕ

@@ -18,9 +18,9 @@ texts_at refs = map (λ (text : Bor (List ℕ)). text.now) refs
 abbrev pub IsWanted : Wanted → Outcome → Type 0
 IsWanted (wanted.Texts texts) (outcome.Texts drawn) =
     texts_at texts.items ≡ map string_bytes drawn.items
-IsWanted (wanted.Texts texts) (outcome.Refused name words) = ⊥
+IsWanted (wanted.Texts texts) (outcome.Refused name words span) = ⊥
 IsWanted (wanted.Refused name words) (outcome.Texts drawn) = ⊥
-IsWanted (wanted.Refused name words) (outcome.Refused drawn_name drawn_words) =
+IsWanted (wanted.Refused name words) (outcome.Refused drawn_name drawn_words span) =
     (name.now ≡ drawn_name.now) × (words.now ≡ string_bytes drawn_words)
 
 -- the case of this name became what is expected: of this very case, and the wanted outcome

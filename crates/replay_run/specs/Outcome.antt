@@ -27,7 +27,7 @@ refusal_name (Memory refused) = codes "Memory"
 abbrev pub IsOutcomeOf : Case → Outcome → Type 0
 IsOutcomeOf case (Texts texts) =
     TextsShown case.renderer case.groups.items case.sheets.items (map string_bytes texts.items)
-IsOutcomeOf case (Refused name words) =
+IsOutcomeOf case (Refused name words span) =
     (refusal : RenderError) × (first_refusal case.renderer case.groups.items ≡ Some refusal) × (name.now ≡ refusal_name refusal)
 
 -- a line describes this case, and this became of it

@@ -1,9 +1,9 @@
 -- What the words of a command line ask for.
-use Rattle.std.specs.Prelude.{◌≡◌, ℕ, ◌%◌, ◌^◌, ◌<◌, List, ◌∷◌, ◌++◌, codes, length, map, All}
+use Rattle.std.specs.Prelude.{◌≡◌, ℕ, ◌%◌, ◌^◌, ◌<◌, List, [], ◌∷◌, ◌++◌, codes, length, map, All}
 use Rattle.std.specs.Borrow.{Bor}
 use Rattle.std.specs.Str.Parse.{IsNumeral, digits_value}
 use Rattle.replay_run.specs.declared.command.Command.{Command}
-use Rattle.replay_run.specs.declared.command.Command.TheVariants.{Answer, Check, Repeat}
+use Rattle.replay_run.specs.declared.command.Command.TheVariants.{Answer, Check, Repeat, Help}
 use Rattle.replay_run.specs.declared.lines.Form.{Form}
 use Rattle.replay_run.specs.declared.lines.Form.TheVariants.{Json, Texts}
 
@@ -22,6 +22,11 @@ IsOption word = (name : Word) × (word ≡ codes "--" ++ name)
 -- each word names a file: none begins as an option does
 abbrev pub AreFiles : List Word → Type 0
 AreFiles words = All (λ word. IsOption word → ⊥) words
+
+-- how the words are to be written
+abbrev pub usage_text : List ℕ
+usage_text =
+    codes "usage: replay [--text] [FILE ..]\n       replay --check EXPECTED FILE [EXPECTED FILE ..]\n       replay --repeat N [FILE ..]\n       replay --help"
 
 -- decimal digits alone, one or more, whose number fits in 64 bits
 abbrev pub IsNumber : Word → Type 0
@@ -43,6 +48,7 @@ Asks words (Check files) =
     (words ≡ codes "--check" ∷ words_at files.now) × AreFiles (words_at files.now) × ArePairs (words_at files.now)
 Asks words (Repeat times files) =
     (digits : Word) × (words ≡ codes "--repeat" ∷ digits ∷ words_at files.now) × AreFiles (words_at files.now) × IsNumber digits × (times ≡ digits_value 10 digits)
+Asks words Help = words ≡ codes "--help" ∷ []
 
 -- the words are of the form
 abbrev pub IsCommandLine : List Word → Type 0
@@ -53,18 +59,21 @@ abbrev pub IsComparison : Command → Type 0
 IsComparison (Answer form files) = ⊥
 IsComparison (Check files) = Unit {0}
 IsComparison (Repeat times files) = ⊥
+IsComparison Help = ⊥
 
 -- P holds of the number of the files that the command compares, if it does
 abbrev pub IfComparison : Command → (ℕ → Type 0) → Type 0
 IfComparison (Answer form files) P = Unit {0}
 IfComparison (Check files) P = P (length files.now)
 IfComparison (Repeat times files) P = Unit {0}
+IfComparison Help P = Unit {0}
 
 -- P holds of the form of the answers and of the number of the files whose cases the command answers, if it does
 abbrev pub IfAnswers : Command → (Form → ℕ → Type 0) → Type 0
 IfAnswers (Answer form files) P = P form (length files.now)
 IfAnswers (Check files) P = Unit {0}
 IfAnswers (Repeat times files) P = Unit {0}
+IfAnswers Help P = Unit {0}
 
 -- the words ask for a comparison
 abbrev pub Compares : List Word → Type 0

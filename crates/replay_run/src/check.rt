@@ -154,7 +154,7 @@ pub fn judge_case<W: Write>(
     }
     let name = expected.id;
     let head = format!(in alloc; "{id:?} differs\nexpected of {name:?}:")?;
-    write_difference(head.as_str(), expected, outcome, out).map_err(Trouble::write)?;
+    write_difference(head.as_str(), expected, outcome, out).map_err(Trouble::Write)?;
     Ok(false)
 }
 

@@ -16,6 +16,8 @@ pub enum Command<'a> {
     Check(&'a [&'a str]),
     /// Draws each case of these files, or of standard input, this many times.
     Repeat(u64, &'a [&'a str]),
+    /// Prints how the words are to be written.
+    Help,
 }
 
 /// The command that the words ask for; `None` where they aren't of the form.
@@ -30,6 +32,7 @@ pub fn command_of<'a>(words: &'a [&'a str]) -> Option<Command<'a>>
         "--text" => texts_of(rest),
         "--check" => check_of(rest),
         "--repeat" => repeat_of(rest),
+        "--help" => help_of(rest),
         _ => {
             if are_files(words) {
                 Some(Command::Answer(Form::Json, words))
@@ -91,6 +94,18 @@ fn repeat_of<'a>(words: &'a [&'a str]) -> Option<Command<'a>>
     }
 }
 
+/// The command of the words after `--help`, which stands alone.
+fn help_of<'a>(words: &'a [&'a str]) -> Option<Command<'a>>
+    ensures command { IfSome result (Asks (codes "--help" ∷ words_at words.now)) }
+    ensures none { IsNone result → words_at words.now ≡ [] → ⊥ }
+{
+    if words.is_empty() {
+        Some(Command::Help)
+    } else {
+        None
+    }
+}
+
 /// Whether each word names a file: none begins as an option does.
 fn are_files(words: &[&str]) -> bool
     ensures value { IsTrue result ↔ AreFiles (words_at words.now) }
@@ -99,14 +114,14 @@ fn are_files(words: &[&str]) -> bool
 }
 
 /// Whether a word begins as an option does.
-fn is_option(word: &str) -> bool
+pub fn is_option(word: &str) -> bool
     ensures value { IsTrue result ↔ IsOption word.now }
 {
     matches!(word.as_bytes(), [b'-', b'-', ..])
 }
 
 /// The number that a word of decimal digits alone writes; `None` for another word, and where the number doesn't fit.
-fn number_of(word: &str) -> Option<u64>
+pub fn number_of(word: &str) -> Option<u64>
     ensures value { SomeIff result (IsNumber word.now) (digits_value 10 word.now) }
 {
     match word.as_bytes() {

@@ -77,7 +77,7 @@ fn is_wanted(wanted: &Wanted<'_>, outcome: &Outcome) -> bool
             Wanted::Texts(wanted) => are_equal(wanted, texts),
             Wanted::Refused(_, _) => false,
         },
-        Outcome::Refused(name, text) => match wanted {
+        Outcome::Refused(name, text, _) => match wanted {
             Wanted::Texts(_) => false,
             Wanted::Refused(wanted, words) => { *wanted == *name && *words == text.as_str() }
         },

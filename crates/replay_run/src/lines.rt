@@ -46,7 +46,7 @@ pub fn answer_lines<B: BufRead + Drop, W: Write>(
     for line in input.lines(alloc) {
         number = number.saturating_add(1);
         answer_line(alloc, line, number, form, *is_first, out)?;
-        out.flush().map_err(Trouble::write)?;
+        out.flush().map_err(Trouble::Write)?;
         *is_first = false;
     }
     Ok(())
@@ -84,17 +84,12 @@ pub fn value_of(alloc: Global, line: Line, text: io::Result<String>) -> Result<V
     ensures value { IfOk result (λ value. IsOkAnd text (λ text. read (string_bytes text) ≡ Some (view value))) }
 {
     match text {
-        Ok(text) => json_of(alloc, line, text.as_str()),
-        Err(error) if error.kind() == io::ErrorKind::InvalidData => Err(Trouble::NoText(line)),
-        Err(error) => Err(Trouble::read(error)),
+        Ok(text) => {
+            Value::from_str(alloc, text.as_str()).map_err(|error| Trouble::NotJson(line, error))
+        }
+        Err(error) if error.kind() == io::ErrorKind::InvalidData => Err(Trouble::NotText(line)),
+        Err(error) => Err(Trouble::Read(error)),
     }
-}
-
-/// The value that this line writes.
-fn json_of(alloc: Global, line: Line, text: &str) -> Result<Value, Trouble>
-    ensures value { IfOk result (λ value. read text.now ≡ Some (view value)) }
-{
-    Value::from_str(alloc, text).map_err(|error| Trouble::NotJson(line, error))
 }
 
 /// Writes the answer to a case.
@@ -129,7 +124,7 @@ fn write_json<W: Write>(
         (line_of (compact_text (spec.answer_of id.now outcome)))) }
 {
     let line = json_line(alloc, id, outcome)?;
-    write_line(line.as_str(), out).map_err(Trouble::write)
+    write_line(line.as_str(), out).map_err(Trouble::Write)
 }
 
 /// The answer to the case of this name, as JSON without a line feed.
@@ -146,7 +141,7 @@ fn write_report<W: Write>(outcome: Outcome, is_first: bool, out: &mut W) -> Resu
     ensures text { OnOk result (Appends (W.contents out.old) (W.contents out.new)
         ((if is_first then [] else line_of []) ++ outcome_text outcome)) }
 {
-    write_texts(&outcome, is_first, out).map_err(Trouble::write)
+    write_texts(&outcome, is_first, out).map_err(Trouble::Write)
 }
 
 /// The same, of texts that stay.
@@ -177,7 +172,7 @@ pub fn write_line<W: Write>(line: &str, out: &mut W) -> io::Result<()>
     out.writeln(line)
 }
 
-/// Writes each text, or what the refusal prints.
+/// Writes each text, or what the refusal prints and the span that it is about.
 pub fn write_outcome<W: Write>(outcome: &Outcome, out: &mut W) -> io::Result<()>
     ensures text { OnOk result (Appends (W.contents out.old) (W.contents out.new) (outcome_text outcome.now)) }
 {
@@ -188,6 +183,6 @@ pub fn write_outcome<W: Write>(outcome: &Outcome, out: &mut W) -> io::Result<()>
             }
             Ok(())
         }
-        Outcome::Refused(_, text) => out.writeln(format_args!("refused: {text}")),
+        Outcome::Refused(_, text, span) => out.writeln(format_args!("refused: {text}{span}")),
     }
 }

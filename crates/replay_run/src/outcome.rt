@@ -7,6 +7,7 @@ ghost use Rattle.replay_run.specs.Answer as spec;
 ghost use Rattle.replay_run.specs.Outcome.{refusal_name, IsOutcomeOf};
 
 use crate::case::Case;
+use crate::spans::span_of;
 use annotate_snippets::renderer::RenderError;
 use serde_json::{Value, json};
 use std::alloc::{AllocError, Global};
@@ -16,8 +17,8 @@ use std::alloc::{AllocError, Global};
 pub enum Outcome {
     /// A text under each sheet, in order.
     Texts(Vec<String>),
-    /// The name of the refusal, and what it prints.
-    Refused(&'static str, String),
+    /// The name of the refusal, what it prints, and what is told of the span that it is about.
+    Refused(&'static str, String, String),
 }
 
 /// What becomes of a case.
@@ -31,7 +32,11 @@ pub fn outcome_of(alloc: Global, case: &Case<'_>) -> Result<Outcome, AllocError>
     {
         Ok(texts) => Ok(Outcome::Texts(texts)),
         Err(RenderError::Memory(refused)) => Err(refused),
-        Err(refusal) => Ok(Outcome::Refused(name_of(&refusal), format!(in alloc; "{refusal}")?)),
+        Err(refusal) => {
+            let text = format!(in alloc; "{refusal}")?;
+            let span = span_of(alloc, &refusal, &case.groups)?;
+            Ok(Outcome::Refused(name_of(&refusal), text, span))
+        }
     }
 }
 
@@ -60,7 +65,7 @@ pub fn answer_of(alloc: Global, id: &str, outcome: Outcome) -> Result<Value, All
             let texts = values_of(alloc, texts)?;
             json!(in alloc; {"id": id, "ok": texts})
         }
-        Outcome::Refused(name, text) => {
+        Outcome::Refused(name, text, _) => {
             json!(in alloc; {"id": id, "refused": name, "text": text})
         }
     }

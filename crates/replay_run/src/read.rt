@@ -1,9 +1,10 @@
 //! How a case is read from the JSON of its line, and how its settings are: those of the plain renderer where they are missing.
 
-ghost use Rattle.std.specs.Prelude.{◌≡◌, IfOk, codes};
+ghost use Rattle.std.specs.Prelude.{◌≡◌, false, IfOk, codes, unwrap_or};
 ghost use Rattle.annotate_snippets.specs.Fits.{ReportFits};
 ghost use Rattle.serde_json.specs.Find.{get};
 ghost use Rattle.serde_json.specs.View.{view};
+ghost use Rattle.replay_read.specs.Field.{flag_at};
 ghost use Rattle.replay_run.specs.Case.{IsCaseOf};
 ghost use Rattle.replay_run.specs.Case as spec;
 
@@ -51,16 +52,47 @@ fn settings_of(node: &Node<'_, '_>) -> Result<Renderer, Fault>
     ensures value { IfOk result (λ renderer. renderer ≡ spec.settings_of (view node.now.value.now)) }
 {
     node.has_only(Shape::Settings)?;
+    let (no_graphics, short_message, hyperlink) = switches_of(node)?;
+    let (anonymized_snippet, anonymized_origin) = anonymized_by(node)?;
+    let term_width = node.number_or("term_width", DEFAULT_TERM_WIDTH)?;
+    let unicode = node.flag_or("unicode", false)?;
     Ok(Renderer {
-        no_graphics: node.flag_or("no_graphics", false)?,
-        short_message: node.flag_or("short_message", false)?,
-        term_width: node.number_or("term_width", DEFAULT_TERM_WIDTH)?,
-        decor_style: decor_of(node.flag_or("unicode", false)?),
-        anonymized_snippet_line_numbers: node.flag_or("anonymized_snippet", false)?,
-        anonymized_origin_line_numbers: node.flag_or("anonymized_origin", false)?,
-        hyperlink: node.flag_or("hyperlink", false)?,
+        no_graphics,
+        short_message,
+        term_width,
+        decor_style: decor_of(unicode),
+        anonymized_snippet_line_numbers: anonymized_snippet,
+        anonymized_origin_line_numbers: anonymized_origin,
+        hyperlink,
         stylesheet: Stylesheet::plain(),
     })
+}
+
+/// Whether there are graphics, whether there is one line alone, and whether there are links.
+fn switches_of(settings: &Node<'_, '_>) -> Result<(bool, bool, bool), Fault>
+    ensures no_graphics { IfOk result (λ switches.
+        switches.0 ≡ unwrap_or (flag_at (codes "no_graphics") (view settings.now.value.now)) false) }
+    ensures short_message { IfOk result (λ switches.
+        switches.1 ≡ unwrap_or (flag_at (codes "short_message") (view settings.now.value.now)) false) }
+    ensures hyperlink { IfOk result (λ switches.
+        switches.2 ≡ unwrap_or (flag_at (codes "hyperlink") (view settings.now.value.now)) false) }
+{
+    let no_graphics = settings.flag_or("no_graphics", false)?;
+    let short_message = settings.flag_or("short_message", false)?;
+    let hyperlink = settings.flag_or("hyperlink", false)?;
+    Ok((no_graphics, short_message, hyperlink))
+}
+
+/// Whether line numbers are hidden, those of snippets and those after paths.
+fn anonymized_by(settings: &Node<'_, '_>) -> Result<(bool, bool), Fault>
+    ensures snippet { IfOk result (λ anonymized.
+        anonymized.0 ≡ unwrap_or (flag_at (codes "anonymized_snippet") (view settings.now.value.now)) false) }
+    ensures origin { IfOk result (λ anonymized.
+        anonymized.1 ≡ unwrap_or (flag_at (codes "anonymized_origin") (view settings.now.value.now)) false) }
+{
+    let snippet = settings.flag_or("anonymized_snippet", false)?;
+    let origin = settings.flag_or("anonymized_origin", false)?;
+    Ok((snippet, origin))
 }
 
 /// The strokes that are asked for.

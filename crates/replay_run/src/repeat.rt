@@ -48,13 +48,13 @@ fn repeat_case<K: Clock>(
 ) -> Result<Tally, Trouble>
     requires fits { ReportFits case.now.groups.items }
 {
-    let start = Instant::now(clock).map_err(Trouble::clock)?;
+    let start = Instant::now(clock).map_err(Trouble::Clock)?;
     let mut drawn = match draw_often(alloc, case, times, tally) {
         Ok(drawn) => drawn,
         Err(RenderError::Memory(refused)) => return Err(Trouble::from(refused)),
         Err(_) => return Ok(tally),
     };
-    let taken = start.elapsed(clock).map_err(Trouble::clock)?;
+    let taken = start.elapsed(clock).map_err(Trouble::Clock)?;
     drawn.time = drawn.time.saturating_add(taken);
     Ok(drawn)
 }
@@ -73,19 +73,12 @@ fn draw_often(
         let texts = case
             .renderer
             .render_sheets(alloc, &case.groups, &case.sheets)?;
-        drawn = with_texts(drawn, &texts);
+        for text in &texts {
+            drawn.texts = drawn.texts.saturating_add(1);
+            drawn.bytes = drawn.bytes.saturating_add(text.len() as u64);
+        }
     }
     Ok(drawn)
-}
-
-/// The tally with these texts more.
-fn with_texts(tally: Tally, texts: &[String]) -> Tally {
-    let mut with = tally;
-    for text in texts {
-        with.texts = with.texts.saturating_add(1);
-        with.bytes = with.bytes.saturating_add(text.len() as u64);
-    }
-    with
 }
 
 /// Prints what was drawn, and in which time.

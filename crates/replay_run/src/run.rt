@@ -7,13 +7,16 @@ ghost use Rattle.replay_run.specs.Answered.{AnswersReader, AnswersReaders};
 ghost use Rattle.replay_run.specs.Compared.{EndsComparison, count_line};
 ghost use Rattle.replay_run.specs.Growth.{Grows};
 ghost use Rattle.replay_run.specs.Judged.{CountsLines};
-ghost use Rattle.replay_run.specs.Words.{Word, words_at, AsksAnswers, IsCommandLine, IsComparison, IfAnswers, IfComparison, Compares};
+ghost use Rattle.replay_run.specs.Answer.{line_of};
+ghost use Rattle.replay_run.specs.Words.{Word, words_at, usage_text, AsksAnswers, IsCommandLine, IsComparison, IfAnswers, IfComparison, Compares};
 ghost use Rattle.replay_run.specs.declared.command.Command.{Command};
+ghost use Rattle.replay_run.specs.declared.command.Command.TheVariants.{Help};
 ghost use Rattle.replay_run.specs.declared.lines.Form.{Form};
 
 use crate::check::{Counts, check_lines};
 use crate::command::{Command, command_of};
-use crate::lines::{Form, answer_lines};
+use crate::lines::{Form, answer_lines, write_line};
+use crate::misuse::misuse_of;
 use crate::repeat::{Tally, repeat_lines, write_tally};
 use crate::trouble::Trouble;
 use annotate_snippets::text::normalize_untrusted_str;
@@ -25,7 +28,8 @@ use std::{fmt, fs, io};
 /// How the words are to be written.
 const USAGE: &str = "usage: replay [--text] [FILE ..]
        replay --check EXPECTED FILE [EXPECTED FILE ..]
-       replay --repeat N [FILE ..]";
+       replay --repeat N [FILE ..]
+       replay --help";
 
 /// The status of a run that did all that was asked, and found nothing that differs.
 const DONE: u8 = 0;
@@ -77,9 +81,12 @@ pub fn run<R: Files + Input + Clock + AllocGlobal, W: Write, V: Write>(
         → AnswersReaders R.File R.File.remaining form (length files) (W.contents out.old) (W.contents out.new) }
     ensures answers_input { result ≡ 0 → (form : Form) → AsksAnswers (words_at words.now) form []
         → AnswersReaders R.Reader R.Reader.remaining form 1 (W.contents out.old) (W.contents out.new) }
+    ensures help { result ≡ 0 → words_at words.now ≡ codes "--help" ∷ []
+        → Appends (W.contents out.old) (W.contents out.new) (line_of usage_text) }
 {
     let Some(command) = command_of(words) else {
-        let _ = err.writeln(USAGE);
+        let misuse = misuse_of(words);
+        tell(rt.alloc(), format_args!("replay: {misuse}\n{USAGE}"), err);
         return STOPPED;
     };
     let stop = match do_command(rt, &command, out) {
@@ -87,7 +94,7 @@ pub fn run<R: Files + Input + Clock + AllocGlobal, W: Write, V: Write>(
             Ok(()) => return status,
             Err(error) => Stop {
                 file: OUTPUT,
-                trouble: Trouble::write(error),
+                trouble: Trouble::Write(error),
             },
         },
         Err(stop) => {
@@ -99,9 +106,9 @@ pub fn run<R: Files + Input + Clock + AllocGlobal, W: Write, V: Write>(
     STOPPED
 }
 
-/// Writes what stopped the run, with nothing in it that could change how a terminal shows it.
-fn tell<V: Write>(alloc: Global, stop: &Stop<'_>, err: &mut V) {
-    match shown(alloc, stop) {
+/// Writes a message, with nothing in it that could change how a terminal shows it.
+fn tell<V: Write, D: fmt::Display + Drop>(alloc: Global, message: D, err: &mut V) {
+    match shown(alloc, message) {
         Ok(message) => {
             let _ = err.writeln(message.as_str());
         }
@@ -111,9 +118,9 @@ fn tell<V: Write>(alloc: Global, stop: &Stop<'_>, err: &mut V) {
     }
 }
 
-/// The message of what stopped the run, as it may be shown.
-fn shown(alloc: Global, stop: &Stop<'_>) -> Result<String, AllocError> {
-    let message = format!(in alloc; "{stop}")?;
+/// A message as it may be shown.
+fn shown<D: fmt::Display + Drop>(alloc: Global, message: D) -> Result<String, AllocError> {
+    let message = format!(in alloc; "{message}")?;
     normalize_untrusted_str(alloc, message.as_str())
 }
 
@@ -131,11 +138,16 @@ fn do_command<'a, R: Files + Input + Clock + AllocGlobal, W: Write>(
         → AnswersReaders R.File R.File.remaining form files (W.contents out.old) (W.contents out.new))) }
     ensures answers_input { OnOk result (IfAnswers command.now (λ form files. files ≡ 0
         → AnswersReaders R.Reader R.Reader.remaining form 1 (W.contents out.old) (W.contents out.new))) }
+    ensures help { OnOk result (command.now ≡ Help → Appends (W.contents out.old) (W.contents out.new) (line_of usage_text)) }
 {
     match *command {
         Command::Answer(form, files) => answer(rt, form, files, out),
         Command::Check(files) => check(rt, files, out),
         Command::Repeat(times, files) => repeat(rt, times, files, out),
+        Command::Help => {
+            or_stop(OUTPUT, write_line(USAGE, out).map_err(Trouble::Write))?;
+            Ok(DONE)
+        }
     }
 }
 
@@ -185,8 +197,8 @@ fn opened<R: Files + AllocGlobal>(rt: &R, file: &str) -> Result<BufReader<R::Fil
     ensures bytes { IfOk result (λ reader.
         reader_remaining R.File.remaining reader ≡ R.File.remaining (reader_inner reader)) }
 {
-    let input = fs::open(rt, file).map_err(Trouble::read)?;
-    BufReader::new(rt.alloc(), input).map_err(Trouble::read)
+    let input = fs::open(rt, file).map_err(Trouble::Read)?;
+    BufReader::new(rt.alloc(), input).map_err(Trouble::Read)
 }
 
 /// The bytes of standard input.
@@ -194,7 +206,7 @@ fn opened_input<R: Input + AllocGlobal>(rt: &R) -> Result<BufReader<R::Reader>, 
     ensures bytes { IfOk result (λ reader.
         reader_remaining R.Reader.remaining reader ≡ R.Reader.remaining (reader_inner reader)) }
 {
-    BufReader::new(rt.alloc(), rt.reader()).map_err(Trouble::read)
+    BufReader::new(rt.alloc(), rt.reader()).map_err(Trouble::Read)
 }
 
 /// Answers the cases of standard input.
@@ -249,7 +261,7 @@ fn check<'a, R: Files + AllocGlobal, W: Write>(
             }
         }
     }
-    or_stop(OUTPUT, write_counts(counts, out).map_err(Trouble::write))?;
+    or_stop(OUTPUT, write_counts(counts, out).map_err(Trouble::Write))?;
     Ok(if counts.failed == 0 { DONE } else { DIFFERS })
 }
 
@@ -293,32 +305,16 @@ fn repeat<'a, R: Files + Input + Clock + AllocGlobal, W: Write>(
 {
     let mut tally = Tally::default();
     if files.is_empty() {
-        or_stop(INPUT, repeat_input(rt, times, &mut tally))?;
+        let input = or_stop(INPUT, opened_input(rt))?;
+        or_stop(
+            INPUT,
+            repeat_lines(rt, rt.alloc(), input, times, &mut tally),
+        )?;
     }
     for file in files {
-        or_stop(file, repeat_file(rt, file, times, &mut tally))?;
+        let input = or_stop(file, opened(rt, file))?;
+        or_stop(file, repeat_lines(rt, rt.alloc(), input, times, &mut tally))?;
     }
-    or_stop(OUTPUT, write_tally(&tally, out).map_err(Trouble::write))?;
+    or_stop(OUTPUT, write_tally(&tally, out).map_err(Trouble::Write))?;
     Ok(DONE)
-}
-
-/// Draws each case of standard input this many times.
-fn repeat_input<R: Input + Clock + AllocGlobal>(
-    rt: &R,
-    times: u64,
-    tally: &mut Tally,
-) -> Result<(), Trouble> {
-    let input = opened_input(rt)?;
-    repeat_lines(rt, rt.alloc(), input, times, tally)
-}
-
-/// Draws each case of one file this many times.
-fn repeat_file<R: Files + Clock + AllocGlobal>(
-    rt: &R,
-    file: &str,
-    times: u64,
-    tally: &mut Tally,
-) -> Result<(), Trouble> {
-    let input = opened(rt, file)?;
-    repeat_lines(rt, rt.alloc(), input, times, tally)
 }

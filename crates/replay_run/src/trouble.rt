@@ -7,9 +7,9 @@ use std::{fmt, io};
 /// What stops a run.
 #[derive(Drop)]
 pub enum Trouble {
-    /// A line is no UTF-8.
-    NoText(Line),
-    /// A line isn't valid JSON.
+    /// A line isn't UTF-8.
+    NotText(Line),
+    /// A line isn't valid JSON, or there was no memory to read it.
     NotJson(Line, serde_json::Error),
     /// A line describes no case, or no answer where one is expected.
     Fault(Line, Fault),
@@ -17,8 +17,12 @@ pub enum Trouble {
     Unpaired(u64),
     /// There are more lines than can be counted.
     TooManyLines,
-    /// Input, output or the clock fails.
-    Io(Access, io::Error),
+    /// Input can't be read.
+    Read(io::Error),
+    /// The clock can't be read.
+    Clock(io::Error),
+    /// Output can't be written.
+    Write(io::Error),
     /// A growth of memory was refused.
     Memory,
 }
@@ -30,31 +34,6 @@ pub enum Line {
     Case(u64),
     /// Of the expected answers.
     Expected(u64),
-}
-
-/// What a run does with the world outside.
-#[derive(Clone, Copy)]
-pub enum Access {
-    Read,
-    Clock,
-    Write,
-}
-
-impl Trouble {
-    /// Input can't be read.
-    pub fn read(error: io::Error) -> Trouble {
-        Trouble::Io(Access::Read, error)
-    }
-
-    /// The clock can't be read.
-    pub fn clock(error: io::Error) -> Trouble {
-        Trouble::Io(Access::Clock, error)
-    }
-
-    /// Output can't be written.
-    pub fn write(error: io::Error) -> Trouble {
-        Trouble::Io(Access::Write, error)
-    }
 }
 
 impl From<AllocError> for Trouble {
@@ -72,8 +51,17 @@ impl<T: Drop> From<AllocFailed<T>> for Trouble {
 impl fmt::Display for Trouble {
     fn fmt<W: fmt::Write>(&self, f: &mut fmt::Formatter<W>) -> fmt::Result {
         match self {
-            Trouble::NoText(line) => write!(f, "{line}: no UTF-8"),
-            Trouble::NotJson(line, error) => write!(f, "{line}: not valid JSON: {error}"),
+            Trouble::NotText(line) => write!(f, "{line}: not valid UTF-8"),
+            Trouble::NotJson(_, error) if error.is_memory() => write!(f, "out of memory"),
+            Trouble::NotJson(line, error) => {
+                let column = error.column();
+                let ending = if error.is_eof() {
+                    ": it ends too early"
+                } else {
+                    ""
+                };
+                write!(f, "{line}, column {column}: not valid JSON{ending}")
+            }
             Trouble::Fault(line, fault) => write!(f, "{line}: {fault}"),
             Trouble::Unpaired(line) => {
                 write!(
@@ -82,7 +70,9 @@ impl fmt::Display for Trouble {
                 )
             }
             Trouble::TooManyLines => write!(f, "too many lines"),
-            Trouble::Io(access, error) => write!(f, "cannot {access}: {error}"),
+            Trouble::Read(error) => write!(f, "cannot read: {error}"),
+            Trouble::Clock(error) => write!(f, "cannot read the clock: {error}"),
+            Trouble::Write(error) => write!(f, "cannot write: {error}"),
             Trouble::Memory => write!(f, "out of memory"),
         }
     }
@@ -94,15 +84,5 @@ impl fmt::Display for Line {
             Line::Case(number) => write!(f, "line {number}"),
             Line::Expected(number) => write!(f, "line {number} of what is expected"),
         }
-    }
-}
-
-impl fmt::Display for Access {
-    fn fmt<W: fmt::Write>(&self, f: &mut fmt::Formatter<W>) -> fmt::Result {
-        f.write_str(match self {
-            Access::Read => "read",
-            Access::Clock => "read the clock",
-            Access::Write => "write",
-        })
     }
 }

@@ -10,6 +10,7 @@ use replay_run::check::check_lines;
 use replay_run::lines::{Form, answer_lines};
 use replay_run::outcome::{Outcome, outcome_of};
 use replay_run::read::case_of;
+use replay_run::run::run;
 use serde_json::Value;
 use std::alloc::Global;
 use std::io;
@@ -83,7 +84,7 @@ fn drawn(alloc: Global, line: &str) -> Result<Vec<String>, Fail> {
     };
     match outcome_of(alloc, &case)? {
         Outcome::Texts(texts) => Ok(texts),
-        Outcome::Refused(name, _) => Err(Fail::new(name)),
+        Outcome::Refused(name, _, _) => Err(Fail::new(name)),
     }
 }
 
@@ -97,7 +98,7 @@ fn reads_each_field(rt: HostRuntime) -> Result<(), Fail> {
 }
 
 /// Lines, what is answered to them, and what is told.
-const ANSWERED: [(&str, &str, &str); 11] = [
+const ANSWERED: [(&str, &str, &str); 13] = [
     ("", "", ""),
     (
         "{\"id\": \"a\", \"groups\": []}\n{}\n",
@@ -109,36 +110,46 @@ const ANSWERED: [(&str, &str, &str); 11] = [
         "{\"id\":\"a\",\"refused\":\"NoGroup\",\"text\":\"a short message needs a group\"}\n",
         "",
     ),
-    ("[]", "", "line 1: the line: expected an object"),
+    (
+        "[]",
+        "",
+        "line 1: the line: expected an object, found a list of length 0",
+    ),
     (
         "{\"id\": \"a\"",
         "",
-        "line 1: not valid JSON: EOF while parsing at line 1 column 10",
+        "line 1, column 10: not valid JSON: it ends too early",
+    ),
+    ("{\"id\": a}", "", "line 1, column 8: not valid JSON"),
+    (
+        "{\"id\": \"a\", \"groups\": [{\"title\": null, \"level\": {\"kind\": \"help\"}, \"elements\": [{\"padding\": {\"x\": 1}}]}]}",
+        "",
+        "line 1: groups[0].elements[0].padding.x: unknown, expected no field",
     ),
     (
         "{\"id\": \"a\", \"groups\": [], \"sheets\": [{\"none\": {\"effects\": [\"BOLD\", \"bold\"]}}]}",
         "",
-        "line 1: sheets[0].none.effects[1]: expected the name of an effect, as \"BOLD\"",
+        "line 1: sheets[0].none.effects[1]: expected the name of an effect, as \"BOLD\", found \"bold\"",
     ),
     (
         "{\"id\": \"a\", \"groups\": [], \"settings\": {\"term_width\": 18446744073709551616}}",
         "",
-        "line 1: settings.term_width: expected a whole number from 0 to 18446744073709551615",
+        "line 1: settings.term_width: expected a whole number from 0 to 18446744073709551615, found 1.8446744073709552e+19",
     ),
     (
         "{\"id\": \"a\", \"groups\": [], \"settings\": {\"term_width\": 1.0}}",
         "",
-        "line 1: settings.term_width: expected a whole number from 0 to 18446744073709551615",
+        "line 1: settings.term_width: expected a whole number from 0 to 18446744073709551615, found 1.0",
     ),
     (
         "{\"id\": \"a\", \"groups\": [{\"title\": null, \"level\": {\"kind\": \"hint\"}, \"elements\": []}]}",
         "",
-        "line 1: groups[0].level.kind: expected \"error\", \"warning\", \"info\", \"note\" or \"help\"",
+        "line 1: groups[0].level.kind: expected \"error\", \"warning\", \"info\", \"note\" or \"help\", found \"hint\"",
     ),
     (
         "{\"id\": \"a\", \"groups\": [{\"title\": null, \"level\": {\"kind\": \"help\"}, \"elements\": [{\"padding\": {}, \"message\": {}}]}]}",
         "",
-        "line 1: groups[0].elements[0]: expected an object with one of message, cause, suggestion, origin and padding",
+        "line 1: groups[0].elements[0]: expected an object with one of message, cause, suggestion, origin and padding, found an object of size 2",
     ),
     (
         "{\"id\": \"a\", \"groups\": [{\"title\": null, \"level\": {\"kind\": \"help\"}, \"elements\": [{\"padding\": {}}, {\"cause\": {\"source\": \"\", \"annotations\": [{}]}}]}]}",
@@ -165,6 +176,83 @@ fn answers_line_by_line(rt: HostRuntime) -> Result<(), Fail> {
         assert_eq!(rt; said.as_str(), *told);
         assert_eq!(rt; answered.as_slice(), out.as_bytes());
     }
+    Ok(())
+}
+
+/// A report whose span is wrong in three ways, one a line.
+const WRONG_SPANS: &str =
+    r#"{"id": "a", "groups": [{"title": null, "level": {"kind": "help"}, "elements": [{"cause": {"source": "let é", "annotations": [{"kind": "primary", "start": 3, "end": 2}]}}]}]}
+{"id": "b", "groups": [{"title": null, "level": {"kind": "help"}, "elements": [{"suggestion": {"source": "let é", "patches": [{"start": 0, "end": 8, "text": ""}]}}]}]}
+{"id": "c", "groups": [{"title": null, "level": {"kind": "help"}, "elements": [{"cause": {"source": "let é", "annotations": [{"kind": "primary", "start": 5, "end": 6}]}}]}]}
+"#;
+
+/// What is told of them as texts.
+const REFUSED_SPANS: &str =
+    "refused: group 0, element 0, marker 0: span is reversed (3..2, in a source of 6 bytes)
+
+refused: group 0, element 0, marker 0: span ends past the source (0..8, in a source of 6 bytes)
+
+refused: group 0, element 0, marker 0: span is off a character border (5..6, in a source of 6 bytes)
+";
+
+#[test]
+fn tells_the_span_that_is_refused(rt: HostRuntime) -> Result<(), Fail> {
+    let mut out = Vec::new(rt.alloc());
+    let mut is_first = true;
+    let lines = WRONG_SPANS.as_bytes();
+    let answered = answer_lines(rt.alloc(), lines, Form::Texts, &mut is_first, &mut out);
+    assert!(rt; answered.is_ok());
+    assert_eq!(rt; out.as_slice(), REFUSED_SPANS.as_bytes());
+    Ok(())
+}
+
+/// How the words of `replay` are to be written.
+const USAGE: &str = "usage: replay [--text] [FILE ..]
+       replay --check EXPECTED FILE [EXPECTED FILE ..]
+       replay --repeat N [FILE ..]
+       replay --help
+";
+
+/// Words that aren't of the form, and what is told of them before the usage.
+const MISUSES: [(&[&str], &str); 8] = [
+    (&["--texts", "a"], "unknown option --texts"),
+    (
+        &["a", "--b\x1b"],
+        "expected a file, found --b\u{241b}: write ./--b\u{241b} for a file of this name",
+    ),
+    (
+        &["--text", "--check"],
+        "expected a file, found --check: write ./--check for a file of this name",
+    ),
+    (
+        &["--check", "a", "b", "c"],
+        "expected pairs of EXPECTED and FILE after --check",
+    ),
+    (&["--repeat"], "expected a number after --repeat"),
+    (
+        &["--repeat", "a"],
+        "expected a number after --repeat, found a",
+    ),
+    (
+        &["--repeat", "1", "--2"],
+        "expected a file, found --2: write ./--2 for a file of this name",
+    ),
+    (&["--help", "a"], "expected nothing after --help, found a"),
+];
+
+#[test]
+fn tells_how_words_are_written(rt: HostRuntime) -> Result<(), Fail> {
+    for (words, told) in &MISUSES {
+        let (mut out, mut err) = (Vec::new(rt.alloc()), Vec::new(rt.alloc()));
+        assert_eq!(rt; run(&rt, words, &mut out, &mut err), 2);
+        let wanted = format!(in rt.alloc(); "replay: {told}\n{USAGE}")?;
+        assert_eq!(rt; err.as_slice(), wanted.as_bytes());
+        assert!(rt; out.is_empty());
+    }
+    let (mut out, mut err) = (Vec::new(rt.alloc()), Vec::new(rt.alloc()));
+    assert_eq!(rt; run(&rt, &["--help"], &mut out, &mut err), 0);
+    assert_eq!(rt; out.as_slice(), USAGE.as_bytes());
+    assert!(rt; err.is_empty());
     Ok(())
 }
 

@@ -1,7 +1,7 @@
 use Rattle.std.proofs.Common.{◌≡◌, List, ◌∷◌, refl, subst}
 use Rattle.std.specs.Prelude.{codes}
 use Rattle.replay_run.specs.Words.{Word, words_at, Asks}
-use Rattle.replay_run.proofs.Commands.{asks_texts, asks_check, asks_repeat}
+use Rattle.replay_run.proofs.Commands.{asks_texts, asks_check, asks_repeat, asks_help}
 use Rattle.replay_run.proofs.command.command_of.Goals as goal
 
 pub returns-in-text-clause-none : goal.returns-in-text-clause-none
@@ -20,6 +20,11 @@ returns-in-text-3-clause-none c = λ none command asks.
     let begins : words_at c.args.words.now ≡ codes "--repeat" ∷ words_at c.in-Some.rest.now = cc (c.in-Some.ensures.parts, c.in-text-3.is) in
     let (digits, files, is, number, are) = asks_repeat (words_at c.in-Some.rest.now) command (subst (λ (ws : List Word). Asks ws command) begins asks) in
     c.repeat_of.ensures.none none digits files is number are
+
+pub returns-in-text-4-clause-none : goal.returns-in-text-4-clause-none
+returns-in-text-4-clause-none c = λ none command asks.
+    let begins : words_at c.args.words.now ≡ codes "--help" ∷ words_at c.in-Some.rest.now = cc (c.in-Some.ensures.parts, c.in-text-4.is) in
+    c.help_of.ensures.none none (asks_help (words_at c.in-Some.rest.now) command (subst (λ (ws : List Word). Asks ws command) begins asks)).0
 
 pub returns-then-are_files-clause-command : goal.returns-then-are_files-clause-command
 returns-then-are_files-clause-command c = (refl, c.if-are_files.ensures.value.0 refl)

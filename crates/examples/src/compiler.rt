@@ -1,0 +1,45 @@
+//! A compiler: a type error with two labels and a note.
+ghost use Rattle.std.specs.Prelude.{IfOk};
+ghost use Rattle.annotate_snippets.specs.Fits.{AnnotationFits, SnippetFits};
+
+use annotate_snippets::level::{ERROR, NOTE};
+use annotate_snippets::renderer::RenderError;
+use annotate_snippets::{Annotation, AnnotationKind, Element, Group, OptionCow, Renderer, Snippet};
+use std::alloc::{AllocError, Global};
+
+/// The file that is compiled.
+const SOURCE: &str = "fn total(prices: &[u32]) -> u64 {\n    prices.iter().sum::<u32>()\n}\n";
+
+/// The file's text with its two marks. A span counts bytes, as most parsers do.
+///
+/// The clause tells the check of `mismatched_types` that each text is short enough to be drawn: each function is proved by
+/// itself, and knows of another what that one's clauses say.
+fn marked(alloc: Global) -> Result<Snippet<'static, Annotation<'static>>, AllocError>
+    ensures fits { IfOk result (SnippetFits AnnotationFits) }
+{
+    // What is wrong is primary: its place stands at the top, and its mark is in the error's colour. What explains it is context.
+    let found = AnnotationKind::Primary
+        .span(38..64)
+        .label(OptionCow::from("expected `u64`, found `u32`"));
+    let wanted = AnnotationKind::Context
+        .span(28..31)
+        .label(OptionCow::from("expected `u64` because of this"));
+    Snippet::source(alloc, SOURCE)
+        .path(OptionCow::from("src/total.rs"))
+        .annotation(found)?
+        .annotation(wanted)
+}
+
+/// The report of the error. `Renderer::styled()` draws it in colour.
+pub fn mismatched_types(alloc: Global) -> Result<String, RenderError> {
+    let snippet = marked(alloc).map_err(RenderError::Memory)?;
+    let note = NOTE.message("`u64::from` makes a `u64` of a `u32`");
+    let group: Group<'static> = ERROR
+        .primary_title("mismatched types")
+        .id("E0308")
+        .element(alloc, Element::from(snippet))
+        .map_err(RenderError::Memory)?
+        .element(Element::from(note))
+        .map_err(RenderError::Memory)?;
+    Renderer::plain().render(alloc, &[group])
+}
