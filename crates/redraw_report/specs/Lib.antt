@@ -1,0 +1,1 @@
+-- The vocabulary of reports that are made from what tools tell.

@@ -1,0 +1,5 @@
+//! What tools report, as values, and the reports that are drawn of it: groups of titles, annotated sources and
+//! suggested edits.
+#![tactic(auto)]
+
+pub mod diagnostic;
