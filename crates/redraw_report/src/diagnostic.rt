@@ -23,6 +23,8 @@ pub enum Severity {
     Info,
     Note,
     Help,
+    /// A text that stands without the name of a level.
+    Plain,
 }
 
 /// The name of a rule, and the address of a page that explains it.

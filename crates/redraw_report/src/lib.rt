@@ -3,3 +3,8 @@
 #![tactic(auto)]
 
 pub mod diagnostic;
+pub mod finding;
+pub mod fits;
+pub mod lines;
+pub mod locate;
+pub mod report;
