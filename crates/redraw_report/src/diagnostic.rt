@@ -82,8 +82,11 @@ pub struct Edit {
 pub struct Carried {
     /// The number of the first of the lines, from 1.
     pub first_line: usize,
-    /// The lines, with the line ends between them.
+    /// The lines, with line feeds between them and none after the last.
     pub text: String,
+    /// Whether these are whole lines, as the file had them: then they are shown in place of the file where it holds others.
+    /// Else they are shown only where the file can't be read.
+    pub is_whole: bool,
 }
 
 /// A part of a file, as the tool counted it.
