@@ -1,0 +1,12 @@
+//! What the program `redraw` does: it reads what other tools report, and prints what the library draws of it.
+#![tactic(auto)]
+
+pub mod draw;
+pub mod input;
+pub mod json;
+pub mod place;
+pub mod run;
+pub mod rustc;
+pub mod sources;
+pub mod stop;
+pub mod words;
