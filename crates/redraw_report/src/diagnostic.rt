@@ -93,7 +93,10 @@ pub struct Carried {
 #[derive(Clone, Copy, Debug, PartialEq, Eq)]
 pub enum Region {
     /// From byte `start` to before byte `end` of the file, from 0.
-    Bytes { start: usize, end: usize },
+    Bytes {
+        start: usize,
+        end: usize,
+    },
     /// By lines and columns.
     Lines(LineRegion),
     /// From character `start` to before character `end` of the file, from 0.

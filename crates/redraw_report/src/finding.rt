@@ -15,7 +15,10 @@ pub struct Shown<'a> {
 #[derive(Clone, Copy, Debug)]
 pub enum Content<'a> {
     /// Lines of it, the first of which has this number.
-    Lines { text: &'a str, first_line: usize },
+    Lines {
+        text: &'a str,
+        first_line: usize,
+    },
     /// None of it: only the line and column of a place are known, where they are.
     Nothing {
         line: Option<usize>,
@@ -70,6 +73,8 @@ pub struct Offer<'a> {
     /// The source, by its index.
     pub source: usize,
     pub changes: Vec<Change<'a>>,
+    /// Whether only the lines around the edits are shown, and not all of the source.
+    pub is_folded: bool,
 }
 
 /// A part of a source, and the text that is to stand in its place.

@@ -93,7 +93,10 @@ fn cause_fits(snippet: &Snippet<'_, Annotation<'_>>) -> bool
 {
     cow_fits(&snippet.source)
         && optional_fits(&snippet.path)
-        && snippet.markers.iter().all(|mark| optional_fits(&mark.label))
+        && snippet
+            .markers
+            .iter()
+            .all(|mark| optional_fits(&mark.label))
 }
 
 /// Whether each text of a source with patches fits.
@@ -102,5 +105,8 @@ fn suggestion_fits(snippet: &Snippet<'_, Patch<'_>>) -> bool
 {
     cow_fits(&snippet.source)
         && optional_fits(&snippet.path)
-        && snippet.markers.iter().all(|patch| cow_fits(&patch.replacement))
+        && snippet
+            .markers
+            .iter()
+            .all(|patch| cow_fits(&patch.replacement))
 }

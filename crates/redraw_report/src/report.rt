@@ -206,7 +206,7 @@ fn offered<'a>(
         source: CowStr::Borrowed(text),
         markers: patches,
         line_numbering: true,
-        fold: true,
+        fold: offer.is_folded,
     })))
 }
 
@@ -214,9 +214,7 @@ fn offered<'a>(
 fn more_offers<'a>(alloc: Global, more: usize) -> Result<Element<'a>, AllocError> {
     let ending = if more == 1 { "" } else { "s" };
     let text = format!(in alloc; "and {more} other candidate{ending}")?;
-    Ok(Element::Message(
-        level_of(Severity::Plain).message_cow(CowStr::Owned(text)),
-    ))
+    Ok(Element::Message(level_of(Severity::Plain).message_cow(CowStr::Owned(text))))
 }
 
 /// Adds what is drawn of the first offers, one below the other, and how many more there are.

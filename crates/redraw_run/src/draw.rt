@@ -1,8 +1,8 @@
 //! Findings, drawn one after another as they are read.
 
 use crate::place::{Placing, load_files};
-use crate::stop::Stop;
 use crate::sources::{Shelf, Sources};
+use crate::stop::Stop;
 use annotate_snippets::renderer::RenderError;
 use annotate_snippets::text::normalize_untrusted_str;
 use annotate_snippets::{Group, Renderer};
@@ -34,7 +34,10 @@ impl fmt::Display for Tally {
         write!(f, "{drawn} drawn, {left_out} left out")?;
         let (other, wrong) = (self.other, self.wrong);
         if left_out > 0 {
-            write!(f, ": {other} without a finding, {wrong} with something wrong")?;
+            write!(
+                f,
+                ": {other} without a finding, {wrong} with something wrong"
+            )?;
         }
         Ok(())
     }

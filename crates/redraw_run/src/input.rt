@@ -66,7 +66,11 @@ impl Reading {
     }
 
     /// Takes a line.
-    pub fn line<S: Shelf + Drop, W: Write, V: Write>(&mut self, line: &str, drawing: &mut Drawing<'_, S, W, V>) -> Result<(), Stop> {
+    pub fn line<S: Shelf + Drop, W: Write, V: Write>(
+        &mut self,
+        line: &str,
+        drawing: &mut Drawing<'_, S, W, V>,
+    ) -> Result<(), Stop> {
         if let Some(document) = &mut self.document {
             document.push_str("\n")?;
             document.push_str(line)?;
@@ -92,7 +96,10 @@ impl Reading {
     }
 
     /// Ends the input: a document is read when all of its lines are there.
-    pub fn end<S: Shelf + Drop, W: Write, V: Write>(&mut self, drawing: &mut Drawing<'_, S, W, V>) -> Result<(), Stop> {
+    pub fn end<S: Shelf + Drop, W: Write, V: Write>(
+        &mut self,
+        drawing: &mut Drawing<'_, S, W, V>,
+    ) -> Result<(), Stop> {
         let Some(document) = self.document.take() else {
             return Ok(());
         };
@@ -106,7 +113,11 @@ impl Reading {
     }
 
     /// Takes a value of JSON.
-    fn value<S: Shelf + Drop, W: Write, V: Write>(&mut self, value: &Value, drawing: &mut Drawing<'_, S, W, V>) -> Result<(), Stop> {
+    fn value<S: Shelf + Drop, W: Write, V: Write>(
+        &mut self,
+        value: &Value,
+        drawing: &mut Drawing<'_, S, W, V>,
+    ) -> Result<(), Stop> {
         let Some(kind) = kind_of(value) else {
             drawing.wrong("neither a message of rustc or cargo nor a SARIF log");
             return Ok(());

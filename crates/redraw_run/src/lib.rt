@@ -2,6 +2,7 @@
 #![tactic(auto)]
 
 pub mod draw;
+pub mod expansion;
 pub mod input;
 pub mod json;
 pub mod place;

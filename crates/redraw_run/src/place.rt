@@ -137,20 +137,53 @@ impl<'a> Placing<'a> {
     ) -> Result<(), AllocError> {
         let had = offers.len();
         for edit in edits {
-            let file = edit.file.as_str();
-            let spot = self.spot(sources, file, edit.region, &edit.carried)?;
-            let change = Change {
-                start: spot.start,
-                end: spot.end,
-                text: edit.replacement.as_str(),
-            };
-            if self.has_lines(spot.source) {
-                add_change(self.alloc, had, spot.source, change, offers)?;
-            } else {
+            let spot = self.spot(sources, edit.file.as_str(), edit.region, &edit.carried)?;
+            let text = edit.replacement.as_str();
+            if !self.has_lines(spot.source) {
                 self.undrawn = self.undrawn.saturating_add(1);
+            } else if edits.len() == 1 && is_attribute(text) {
+                offers.push(self.attribute_offer(spot, edit)?)?;
+            } else {
+                add_change(self.alloc, had, spot, text, offers)?;
             }
         }
         Ok(())
+    }
+
+    /// The offer of an attribute, which is shown with the line that it stands above.
+    fn attribute_offer(&mut self, spot: Spot, edit: &'a Edit) -> Result<Offer<'a>, AllocError> {
+        let mut changes = Vec::new(self.alloc);
+        if let (Some(shown), Region::Lines(region)) = (self.shown.get(spot.source), edit.region) {
+            if let Some((start, line)) = line_around(shown, spot.start) {
+                let content = Content::Lines {
+                    text: line,
+                    first_line: region.start_line,
+                };
+                let path = shown.path;
+                let source = self.index_of(Shown { path, content }, false)?;
+                let at = spot.start - start;
+                changes.push(Change {
+                    start: at,
+                    end: at,
+                    text: edit.replacement.as_str(),
+                })?;
+                return Ok(Offer {
+                    source,
+                    changes,
+                    is_folded: false,
+                });
+            }
+        }
+        changes.push(Change {
+            start: spot.start,
+            end: spot.end,
+            text: edit.replacement.as_str(),
+        })?;
+        Ok(Offer {
+            source: spot.source,
+            changes,
+            is_folded: true,
+        })
     }
 
     /// Whether lines of the source with this index are at hand.
@@ -291,18 +324,45 @@ fn is_same(known: &Shown<'_>, other: &Shown<'_>) -> bool {
     }
 }
 
-/// Adds a change of a source to the last offer, if that is of the same source and not one of the first `had`; else as an
+/// Whether a text is an attribute of Rust and a line end: rustc puts it above a line, and shows it with that line.
+pub fn is_attribute(text: &str) -> bool {
+    text.starts_with("#[") && text.trim_end().ends_with(']') && text.contains("]\n")
+}
+
+/// The line of a source around a byte, and the byte where it starts.
+fn line_around<'a>(shown: &Shown<'a>, at: usize) -> Option<(usize, &'a str)> {
+    let Content::Lines { text, .. } = shown.content else {
+        return None;
+    };
+    let start = match text.get(..at)?.rfind('\n') {
+        Some(feed) => feed + 1,
+        None => 0,
+    };
+    let rest = text.get(start..)?;
+    let line = match rest.find('\n') {
+        Some(feed) => rest.get(..feed)?,
+        None => rest,
+    };
+    Some((start, line))
+}
+
+/// Adds an edit of a source to the last offer, if that is of the same source and not one of the first `had`; else as an
 /// offer of its own.
 fn add_change<'a>(
     alloc: Global,
     had: usize,
-    source: usize,
-    change: Change<'a>,
+    spot: Spot,
+    text: &'a str,
     offers: &mut Vec<Offer<'a>>,
 ) -> Result<(), AllocError> {
+    let change = Change {
+        start: spot.start,
+        end: spot.end,
+        text,
+    };
     if offers.len() > had {
         if let Some(last) = offers.last_mut() {
-            if last.source == source {
+            if last.source == spot.source {
                 last.changes.push(change)?;
                 return Ok(());
             }
@@ -310,6 +370,10 @@ fn add_change<'a>(
     }
     let mut changes = Vec::new(alloc);
     changes.push(change)?;
-    offers.push(Offer { source, changes })?;
+    offers.push(Offer {
+        source: spot.source,
+        changes,
+        is_folded: true,
+    })?;
     Ok(())
 }

@@ -8,12 +8,13 @@ use crate::words::{Options, command_of};
 use annotate_snippets::Renderer;
 use annotate_snippets::renderer::{DEFAULT_TERM_WIDTH, DecorStyle};
 use std::alloc::AllocError;
+use std::fs;
 use std::io::{self, BufRead, BufReader, Write};
 use std::rt::Files;
-use std::fs;
 
 /// How the words are to be written.
-const USAGE: &str = "usage: redraw [--unicode] [--text] [--short] [--styled] [--width N] [--root DIR] [FILE ..]
+const USAGE: &str =
+    "usage: redraw [--unicode] [--text] [--short] [--styled] [--width N] [--root DIR] [FILE ..]
 
 Each FILE, or standard input without one, holds lines of `rustc --error-format=json` or of
 `cargo build --message-format=json`, or one SARIF 2.1.0 log. Which of them it is, is told by what it holds.";
