@@ -1,0 +1,132 @@
+//! The regions of files, and what a log itself holds of them.
+
+use crate::expectation::Expectation;
+use crate::node::{Node, Troubles};
+use redraw_report::diagnostic::{Carried, LineRegion, Region, Unit};
+use std::alloc::{AllocError, Global};
+
+/// The region of a location that has none, or a wrong one: the start of the file.
+pub const START: Region = Region::Bytes { start: 0, end: 0 };
+
+/// The part of a file that a region names: by lines and columns, else by characters, else by bytes. Where it says none of
+/// these, it is told.
+pub fn region_of(
+    region: &Node<'_, '_>,
+    unit: Unit,
+    troubles: &mut Troubles,
+) -> Result<Option<Region>, AllocError> {
+    if let Some(start_line) = region.from_one("startLine", troubles)? {
+        let lines = line_region(region, start_line, unit, troubles)?;
+        return Ok(Some(Region::Lines(lines)));
+    }
+    if let Some(start) = region.number("charOffset", troubles)? {
+        let length = region.number("charLength", troubles)?.unwrap_or(0);
+        let end = start.saturating_add(length);
+        return Ok(Some(Region::Chars { start, end, unit }));
+    }
+    if let Some(start) = region.number("byteOffset", troubles)? {
+        let length = region.number("byteLength", troubles)?.unwrap_or(0);
+        let end = start.saturating_add(length);
+        return Ok(Some(Region::Bytes { start, end }));
+    }
+    region.tell(troubles, Expectation::RegionStart)?;
+    Ok(None)
+}
+
+/// The region that begins on this line. Where it names no column to begin with, that is the first; where it names no line to end
+/// with, it is this line.
+fn line_region(
+    region: &Node<'_, '_>,
+    start_line: usize,
+    unit: Unit,
+    troubles: &mut Troubles,
+) -> Result<LineRegion, AllocError> {
+    Ok(LineRegion {
+        start_line,
+        start_column: region.from_one("startColumn", troubles)?,
+        end_line: region.from_one("endLine", troubles)?.unwrap_or(start_line),
+        end_column: region.from_one("endColumn", troubles)?,
+        unit,
+    })
+}
+
+/// The lines that a location itself holds: those around its region, else those of the region.
+pub fn carried_of(
+    location: &Node<'_, '_>,
+    unit: Unit,
+    troubles: &mut Troubles,
+) -> Result<Option<Carried>, AllocError> {
+    if let Some(context) = location.object("contextRegion", troubles)? {
+        if let Some(carried) = carried_in(&context, unit, troubles)? {
+            return Ok(Some(carried));
+        }
+    }
+    match location.object("region", troubles)? {
+        Some(region) => carried_in(&region, unit, troubles),
+        None => Ok(None),
+    }
+}
+
+/// The lines that a region's snippet holds; none of a region that isn't told by its lines. Before a snippet that begins within
+/// its first line, blanks stand for what comes before it.
+pub fn carried_in(
+    region: &Node<'_, '_>,
+    unit: Unit,
+    troubles: &mut Troubles,
+) -> Result<Option<Carried>, AllocError> {
+    let Some(snippet) = region.object("snippet", troubles)? else {
+        return Ok(None);
+    };
+    let Some(snippet) = snippet.text("text", troubles)? else {
+        return Ok(None);
+    };
+    // What is wrong with the region itself is told where it is read.
+    let mut told_elsewhere = Troubles::new(region.alloc);
+    match region_of(region, unit, &mut told_elsewhere)? {
+        Some(Region::Lines(lines)) => {
+            let blanks = blanks_before(&lines, snippet);
+            Ok(Some(Carried {
+                first_line: lines.start_line,
+                text: indented(region.alloc, blanks, snippet)?,
+            }))
+        }
+        _ => Ok(None),
+    }
+}
+
+/// How many blanks to put before a snippet: none where it has whole lines. Some tools write the lines and not the region alone:
+/// then the last of them is longer than the region's end.
+fn blanks_before(lines: &LineRegion, snippet: &str) -> usize {
+    let before = lines.start_column.unwrap_or(1).saturating_sub(1);
+    let last = snippet.rsplit('\n').next().unwrap_or("");
+    let skipped = if lines.end_line == lines.start_line {
+        before
+    } else {
+        0
+    };
+    match lines.end_column {
+        Some(end) if units_of(last, lines.unit) > end.saturating_sub(1).saturating_sub(skipped) => 0,
+        _ => before,
+    }
+}
+
+/// How many units a text has.
+fn units_of(text: &str, unit: Unit) -> usize {
+    match unit {
+        Unit::CodePoints => text.chars().count(),
+        Unit::Utf16 => text.encode_utf16().count(),
+    }
+}
+
+/// The most blanks that are put before a snippet.
+const MOST_BLANKS: usize = 1000;
+
+/// A text with blanks before it.
+fn indented(alloc: Global, blanks: usize, text: &str) -> Result<String, AllocError> {
+    let mut out = String::new(alloc);
+    for _ in 0..blanks.min(MOST_BLANKS) {
+        out.push(' ')?;
+    }
+    out.push_str(text)?;
+    Ok(out)
+}
