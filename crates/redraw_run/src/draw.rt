@@ -78,8 +78,13 @@ impl<S: Shelf + Drop, W: Write, V: Write> Drawing<'_, S, W, V> {
 
     /// Tells that something is wrong with what is read, which is left out.
     pub fn wrong<D: fmt::Display + Drop>(&mut self, what: D) {
-        self.tally.wrong = self.tally.wrong.saturating_add(1);
+        self.leave_out();
         self.tell(what);
+    }
+
+    /// Counts a part of the input that is left out, since something is wrong with it.
+    pub fn leave_out(&mut self) {
+        self.tally.wrong = self.tally.wrong.saturating_add(1);
     }
 
     /// Tells something of what is read, with nothing in it that could change how a terminal shows it.

@@ -2,6 +2,7 @@
 
 use crate::draw::Drawing;
 use crate::rustc::diagnostic_of;
+use crate::sarif::draw_log;
 use crate::sources::Shelf;
 use crate::stop::Stop;
 use replay_read::fault::Place;
@@ -135,10 +136,7 @@ impl Reading {
                 drawing.other();
                 Ok(())
             }
-            Kind::Sarif => {
-                drawing.other();
-                Ok(())
-            }
+            Kind::Sarif => draw_log(value, drawing),
         }
     }
 }

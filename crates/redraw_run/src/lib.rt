@@ -8,6 +8,7 @@ pub mod json;
 pub mod place;
 pub mod run;
 pub mod rustc;
+pub mod sarif;
 pub mod sources;
 pub mod stop;
 pub mod words;

@@ -64,6 +64,19 @@ impl<'v> Node<'v, '_> {
         Ok(())
     }
 
+    /// Tells that this was expected in the field of this name.
+    pub fn tell_field(
+        &self,
+        name: &str,
+        troubles: &mut Troubles,
+        expected: Expectation,
+    ) -> Result<(), AllocError> {
+        let place = Place::Field(&self.place, name);
+        let line = format!(in self.alloc; "{place}: expected {expected}")?;
+        troubles.lines.push(line)?;
+        Ok(())
+    }
+
     /// The field of this name; `None` where there is none, or `null`.
     pub fn field<'n>(&'n self, name: &'n str) -> Option<Node<'v, 'n>> {
         match self.value.get(name) {

@@ -82,32 +82,36 @@ pub fn carried_in(
     };
     // What is wrong with the region itself is told where it is read.
     let mut told_elsewhere = Troubles::new(region.alloc);
-    match region_of(region, unit, &mut told_elsewhere)? {
-        Some(Region::Lines(lines)) => {
-            let blanks = blanks_before(&lines, snippet);
-            Ok(Some(Carried {
-                first_line: lines.start_line,
-                text: indented(region.alloc, blanks, snippet)?,
-            }))
-        }
-        _ => Ok(None),
-    }
+    let Some(Region::Lines(lines)) = region_of(region, unit, &mut told_elsewhere)? else {
+        return Ok(None);
+    };
+    let is_whole = has_whole_lines(&lines, snippet);
+    let blanks = if is_whole {
+        0
+    } else {
+        lines.start_column.unwrap_or(1).saturating_sub(1)
+    };
+    Ok(Some(Carried {
+        first_line: lines.start_line,
+        text: lines_of(region.alloc, blanks, snippet)?,
+        is_whole,
+    }))
 }
 
-/// How many blanks to put before a snippet: none where it has whole lines. Some tools write the lines and not the region alone:
-/// then the last of them is longer than the region's end.
-fn blanks_before(lines: &LineRegion, snippet: &str) -> usize {
+/// Whether a snippet has all of the lines that its region touches: the region has no columns, or the last line is longer than
+/// the region says. The snippet is to have the region's text alone, but some tools write the lines.
+fn has_whole_lines(lines: &LineRegion, snippet: &str) -> bool {
     let before = lines.start_column.unwrap_or(1).saturating_sub(1);
-    let last = snippet.rsplit('\n').next().unwrap_or("");
+    let Some(end) = lines.end_column else {
+        return before == 0;
+    };
     let skipped = if lines.end_line == lines.start_line {
         before
     } else {
         0
     };
-    match lines.end_column {
-        Some(end) if units_of(last, lines.unit) > end.saturating_sub(1).saturating_sub(skipped) => 0,
-        _ => before,
-    }
+    let last = snippet.lines().last().unwrap_or("");
+    units_of(last, lines.unit) > end.saturating_sub(1).saturating_sub(skipped)
 }
 
 /// How many units a text has.
@@ -121,12 +125,17 @@ fn units_of(text: &str, unit: Unit) -> usize {
 /// The most blanks that are put before a snippet.
 const MOST_BLANKS: usize = 1000;
 
-/// A text with blanks before it.
-fn indented(alloc: Global, blanks: usize, text: &str) -> Result<String, AllocError> {
+/// The lines of a text, with line feeds between them, and blanks before the first.
+fn lines_of(alloc: Global, blanks: usize, text: &str) -> Result<String, AllocError> {
     let mut out = String::new(alloc);
     for _ in 0..blanks.min(MOST_BLANKS) {
         out.push(' ')?;
     }
-    out.push_str(text)?;
+    for (index, line) in text.lines().enumerate() {
+        if index > 0 {
+            out.push('\n')?;
+        }
+        out.push_str(line)?;
+    }
     Ok(out)
 }

@@ -47,18 +47,15 @@ pub fn rule_of<'v>(
     let reference = reported.object("rule", troubles)?;
     let component = component_of(run, reference.map(|node| node.value));
     let rules = rules_of(component);
+    let own = reported.number("ruleIndex", troubles)?;
     let index = match reference {
-        Some(reference) => reference.number("index", troubles)?,
-        None => None,
-    };
-    let index = match index {
-        Some(index) => Some(index),
-        None => reported.number("ruleIndex", troubles)?,
+        Some(reference) => reference.number("index", troubles)?.or(own),
+        None => own,
     };
     let rule = match (index, rule_id(reported.value)) {
         (Some(index), _) if index < rules.len() => Some(&rules[index]),
         (Some(_), _) => {
-            reported.tell(troubles, Expectation::Rule)?;
+            reported.tell_field("ruleIndex", troubles, Expectation::Rule)?;
             None
         }
         (None, Some(id)) => rule_by_id(rules, id),
@@ -144,7 +141,7 @@ pub fn severity_of(
     if let Some(level) = reported.text("level", troubles)? {
         match severity_by_name(level) {
             Some(severity) => return Ok(severity),
-            None => reported.tell(troubles, Expectation::Level)?,
+            None => reported.tell_field("level", troubles, Expectation::Level)?,
         }
     }
     match reported.text("kind", troubles)? {

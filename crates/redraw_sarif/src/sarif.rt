@@ -78,7 +78,7 @@ fn unit_of(run: &Node<'_, '_>, troubles: &mut Troubles) -> Result<Unit, AllocErr
         Some("unicodeCodePoints") => Ok(Unit::CodePoints),
         Some("utf16CodeUnits") | None => Ok(Unit::Utf16),
         Some(_) => {
-            run.tell(troubles, Expectation::ColumnKind)?;
+            run.tell_field("columnKind", troubles, Expectation::ColumnKind)?;
             Ok(Unit::Utf16)
         }
     }
