@@ -1,1 +1,3 @@
 -- The vocabulary of reports that are made from what tools tell.
+pub mod Report
+pub mod View
