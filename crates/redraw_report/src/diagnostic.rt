@@ -3,7 +3,7 @@
 /// One finding: what is wrong, where, and what else is said of it.
 #[derive(Debug, Drop)]
 pub struct Diagnostic {
-    /// How grave it is.
+    /// How severe it is.
     pub severity: Severity,
     /// What is wrong. The text isn't trusted.
     pub message: String,
@@ -15,7 +15,7 @@ pub struct Diagnostic {
     pub children: Vec<Child>,
 }
 
-/// How grave something is.
+/// How severe something is.
 #[derive(Clone, Copy, Debug, PartialEq, Eq)]
 pub enum Severity {
     Error,
@@ -39,7 +39,7 @@ pub struct Code {
 /// What is said of a finding beside its message: a note or help, with places of its own, with edits, or with neither.
 #[derive(Debug, Drop)]
 pub struct Child {
-    /// How grave it is.
+    /// How severe it is.
     pub severity: Severity,
     /// What is said. The text isn't trusted.
     pub message: String,

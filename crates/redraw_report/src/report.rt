@@ -84,11 +84,7 @@ fn remark_title<'a>(alloc: Global, remark: &Remark<'a>) -> Result<Title<'a>, All
 }
 
 /// A message of this severity.
-fn message_of<'a>(
-    alloc: Global,
-    severity: Severity,
-    text: &str,
-) -> Result<Element<'a>, AllocError>
+fn message_of<'a>(alloc: Global, severity: Severity, text: &str) -> Result<Element<'a>, AllocError>
     ensures value { IfOk result (λ element. part_view element ≡ said severity text.now) }
 {
     let text = normalized(alloc, text)?;
@@ -106,11 +102,7 @@ fn add_index(order: &mut Vec<usize>, index: usize) -> Result<(), AllocError>
 }
 
 /// Adds the index of a place's source, but of a place that isn't primary only where all are taken.
-fn add_source_of(
-    order: &mut Vec<usize>,
-    mark: &Mark<'_>,
-    primary: bool,
-) -> Result<(), AllocError>
+fn add_source_of(order: &mut Vec<usize>, mark: &Mark<'_>, primary: bool) -> Result<(), AllocError>
     ensures order { OnOk result (order.new.items ≡ with_source primary order.old.items mark.now) }
 {
     if primary && !mark.is_primary {

@@ -1,4 +1,4 @@
-//! The rule that a result breaks, and how grave that is.
+//! The rule that a result breaks, and how severe that is.
 
 use crate::expectation::Expectation;
 use crate::node::{Node, Troubles};
@@ -132,7 +132,7 @@ pub fn code_of(reported: &Node<'_, '_>, rule: &Rule<'_>) -> Result<Option<Code>,
     }))
 }
 
-/// How grave a result is: by its level, else a note where it isn't of the kind `fail`, else by its rule, else a warning.
+/// How severe a result is: by its level, else a note where it isn't of the kind `fail`, else by its rule, else a warning.
 pub fn severity_of(
     reported: &Node<'_, '_>,
     rule: &Rule<'_>,
