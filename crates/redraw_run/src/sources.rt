@@ -1,6 +1,6 @@
 //! The sources that reports show, each read once.
 
-use redraw_report::lines::{line_starts, without_line_end};
+use redraw_report::lines::{first_line, line_starts};
 use std::alloc::{AllocError, Global};
 
 /// Where files are read from.
@@ -26,12 +26,7 @@ impl Source {
     /// The line with this number, from 1, without its end.
     pub fn line(&self, number: usize) -> Option<&[u8]> {
         let start = *self.starts.get(number.checked_sub(1)?)?;
-        let bytes = self.text.as_bytes();
-        let end = match self.starts.get(number) {
-            Some(next) => *next,
-            None => bytes.len(),
-        };
-        Some(without_line_end(bytes.get(start..end)?))
+        Some(first_line(self.text.as_bytes().get(start..)?))
     }
 
     /// Whether these lines stand in the source from this number on.
