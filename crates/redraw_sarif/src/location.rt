@@ -2,12 +2,15 @@
 
 use crate::message::text_in;
 use crate::node::{List, Node, Troubles};
-use crate::region::{START, carried_of, region_of};
+use crate::region::{carried_of, region_of};
 use crate::rule::Rule;
 use crate::uri::path_in;
 use redraw_report::diagnostic::{FileSpan, Region, Unit};
 use serde_json::Value;
 use std::alloc::{AllocError, Global};
+
+/// The start of a file.
+const START: Region = Region::Bytes { start: 0, end: 0 };
 
 /// What the parts of a result refer to.
 #[derive(Clone, Copy)]
@@ -53,19 +56,25 @@ fn span_of(
     let Some(file) = path_in(alloc, &physical, context.run, troubles)? else {
         return Ok(None);
     };
-    let region = region_in(&physical, context.unit, troubles).unwrap_or(START);
-    let label = text_in(alloc, location, "message", &context.rule, troubles)?;
-    let carried = carried_of(alloc, &physical, context.unit, troubles)?;
+    let region = physical.object("region", troubles);
+    let around = physical.object("contextRegion", troubles);
     Ok(Some(FileSpan {
         file,
-        region,
-        label,
+        region: region_or_start(&region, context.unit, troubles),
+        label: text_in(alloc, location, "message", &context.rule, troubles)?,
         is_primary,
-        carried,
+        carried: carried_of(alloc, &around, &region, context.unit, troubles)?,
     }))
 }
 
-/// The region of a physical location.
-fn region_in(physical: &Node<'_, '_>, unit: Unit, troubles: &mut Troubles) -> Option<Region> {
-    region_of(&physical.object("region", troubles)?, unit, troubles)
+/// The region of a location; the start of its file where it has none, or a wrong one.
+fn region_or_start(
+    region: &Option<Node<'_, '_>>,
+    unit: Unit,
+    troubles: &mut Troubles,
+) -> Region {
+    match region {
+        Some(region) => region_of(region, unit, troubles).unwrap_or(START),
+        None => START,
+    }
 }

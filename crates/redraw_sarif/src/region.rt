@@ -5,9 +5,6 @@ use crate::node::{Node, Troubles};
 use redraw_report::diagnostic::{Carried, LineRegion, Region, Unit};
 use std::alloc::{AllocError, Global};
 
-/// The region of a location that has none, or a wrong one: the start of the file.
-pub const START: Region = Region::Bytes { start: 0, end: 0 };
-
 /// The part of a file that a region names: by lines and columns, else by characters, else by bytes. Where it says none of
 /// these, that is told.
 pub fn region_of(region: &Node<'_, '_>, unit: Unit, troubles: &mut Troubles) -> Option<Region> {
@@ -47,17 +44,18 @@ fn line_region(
 /// The lines that a location itself holds: those around its region, else those of the region.
 pub fn carried_of(
     alloc: Global,
-    location: &Node<'_, '_>,
+    around: &Option<Node<'_, '_>>,
+    region: &Option<Node<'_, '_>>,
     unit: Unit,
     troubles: &mut Troubles,
 ) -> Result<Option<Carried>, AllocError> {
-    if let Some(context) = location.object("contextRegion", troubles) {
-        if let Some(carried) = carried_in(alloc, &context, unit, troubles)? {
+    if let Some(around) = around {
+        if let Some(carried) = carried_in(alloc, around, unit, troubles)? {
             return Ok(Some(carried));
         }
     }
-    match location.object("region", troubles) {
-        Some(region) => carried_in(alloc, &region, unit, troubles),
+    match region {
+        Some(region) => carried_in(alloc, region, unit, troubles),
         None => Ok(None),
     }
 }
