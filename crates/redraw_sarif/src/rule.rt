@@ -1,4 +1,4 @@
-//! The rule that a result breaks, and how grave that is.
+//! The rule that a result breaks, and how severe that is.
 
 use crate::expectation::Expectation;
 use crate::node::{Node, Troubles};
@@ -139,7 +139,7 @@ pub fn code_of(
     Ok(Some(Code { id, url }))
 }
 
-/// How grave a result is: by its level, else a note where it isn't of the kind `fail`, else by its rule, else a warning.
+/// How severe a result is: by its level, else a note where it isn't of the kind `fail`, else by its rule, else a warning.
 pub fn severity_of(reported: &Node<'_, '_>, rule: &Rule<'_>, troubles: &mut Troubles) -> Severity {
     if let Some(level) = reported.text("level", troubles) {
         match severity_by_name(level) {
