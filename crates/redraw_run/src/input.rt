@@ -82,6 +82,7 @@ impl Reading {
         }
         let is_first = !self.has_begun;
         self.has_begun = true;
+        let line = if is_first { without_mark(line) } else { line };
         match Value::from_str(self.alloc, line) {
             Ok(value) => self.value(&value, drawing),
             Err(error) if error.is_memory() => Err(Stop::Memory),
@@ -139,6 +140,11 @@ impl Reading {
             Kind::Sarif => draw_log(value, drawing),
         }
     }
+}
+
+/// A first line without the mark of the order of bytes, which some tools write.
+fn without_mark(line: &str) -> &str {
+    line.strip_prefix('\u{feff}').unwrap_or(line)
 }
 
 /// Takes cargo's message, which has a diagnostic of rustc in it.

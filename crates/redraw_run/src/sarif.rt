@@ -14,43 +14,39 @@ pub fn draw_log<S: Shelf + Drop, W: Write, V: Write>(
     drawing: &mut Drawing<'_, S, W, V>,
 ) -> Result<(), Stop> {
     let mut troubles = Troubles::new(drawing.alloc);
-    let log = log(drawing.alloc, document);
-    let runs = log.list("runs", &mut troubles)?;
-    tell_all(troubles, drawing);
-    if let Some(runs) = runs {
-        for (index, value) in runs.items.iter().enumerate() {
-            draw_run(runs.node.item(index, value), drawing)?;
-        }
+    let log = log(document);
+    let runs = log.list("runs", &mut troubles);
+    tell_all(&troubles, drawing)?;
+    for (index, value) in runs.items.iter().enumerate() {
+        draw_run(runs.node(index, value), drawing)?;
     }
     Ok(())
 }
 
 /// Draws what the results of a run tell.
-fn draw_run<'v, 'p, S: Shelf + Drop, W: Write, V: Write>(
-    node: Node<'v, 'p>,
+fn draw_run<S: Shelf + Drop, W: Write, V: Write>(
+    node: Node<'_, '_>,
     drawing: &mut Drawing<'_, S, W, V>,
 ) -> Result<(), Stop> {
     let mut troubles = Troubles::new(drawing.alloc);
-    let run = Run::new(node, &mut troubles)?;
-    let results = run.results(&mut troubles)?;
-    tell_all(troubles, drawing);
-    if let Some(results) = results {
-        for (index, value) in results.items.iter().enumerate() {
-            draw_result(&run, &results.node.item(index, value), drawing)?;
-        }
+    let run = Run::new(node, &mut troubles);
+    let results = run.results(&mut troubles);
+    tell_all(&troubles, drawing)?;
+    for (index, value) in results.items.iter().enumerate() {
+        draw_result(&run, &results.node(index, value), drawing)?;
     }
     Ok(())
 }
 
 /// Draws what a result of a run tells, after what is wrong with it.
-fn draw_result<'v, 'p, S: Shelf + Drop, W: Write, V: Write>(
-    run: &Run<'v, 'p>,
+fn draw_result<'v, S: Shelf + Drop, W: Write, V: Write>(
+    run: &Run<'v, '_>,
     reported: &Node<'v, '_>,
     drawing: &mut Drawing<'_, S, W, V>,
 ) -> Result<(), Stop> {
     let mut troubles = Troubles::new(drawing.alloc);
-    let found = run.finding(reported, &mut troubles)?;
-    tell_all(troubles, drawing);
+    let found = run.finding(drawing.alloc, reported, &mut troubles)?;
+    tell_all(&troubles, drawing)?;
     match found {
         Some(diagnostic) => drawing.draw(&diagnostic),
         None => {
@@ -62,10 +58,14 @@ fn draw_result<'v, 'p, S: Shelf + Drop, W: Write, V: Write>(
 
 /// Tells what is wrong with a part of a log.
 fn tell_all<S: Shelf + Drop, W: Write, V: Write>(
-    troubles: Troubles,
+    troubles: &Troubles,
     drawing: &mut Drawing<'_, S, W, V>,
-) {
+) -> Result<(), Stop> {
     for line in &troubles.lines {
         drawing.tell(line.as_str());
     }
+    if troubles.is_refused {
+        return Err(Stop::Memory);
+    }
+    Ok(())
 }

@@ -3,7 +3,7 @@
 use std::fmt;
 
 /// What is expected.
-#[derive(Clone, Copy, Debug, PartialEq, Eq)]
+#[derive(Clone, Copy)]
 pub enum Expectation {
     Object,
     List,

@@ -4,7 +4,7 @@ use crate::location::Context;
 use crate::message::text_in;
 use crate::node::{List, Node, Troubles};
 use crate::region::{carried_in, region_of};
-use crate::uri::path_of;
+use crate::uri::path_in;
 use redraw_report::diagnostic::{Child, Edit, Severity};
 use std::alloc::AllocError;
 
@@ -18,40 +18,49 @@ pub fn children_of(
     context: &Context<'_>,
     troubles: &mut Troubles,
 ) -> Result<Vec<Child>, AllocError> {
-    let mut children: Vec<Child> = Vec::new(fixes.node.alloc);
+    let mut children: Vec<Child> = Vec::new(context.alloc);
     for (index, value) in fixes.items.iter().enumerate() {
-        let fix = fixes.node.item(index, value);
-        if fix.is_object(troubles)? {
-            add_fix(&mut children, &fix, context, troubles)?;
+        let fix = fixes.node(index, value);
+        if fix.is_object(troubles) {
+            let message = description_of(&fix, context, troubles)?;
+            let edits = edits_of(&fix, context, troubles)?;
+            add_fix(&mut children, message, edits, context)?;
         }
     }
     Ok(children)
 }
 
-/// Adds a fix: to the last help, where that has the same description, else as one more.
-fn add_fix(
-    children: &mut Vec<Child>,
+/// The description of a fix.
+fn description_of(
     fix: &Node<'_, '_>,
     context: &Context<'_>,
     troubles: &mut Troubles,
+) -> Result<String, AllocError> {
+    match text_in(context.alloc, fix, "description", &context.rule, troubles)? {
+        Some(message) => Ok(message),
+        None => String::from_str(context.alloc, UNDESCRIBED),
+    }
+}
+
+/// Adds a fix: to the last help, where that has the same description, else as one more.
+fn add_fix(
+    children: &mut Vec<Child>,
+    message: String,
+    edits: Vec<Edit>,
+    context: &Context<'_>,
 ) -> Result<(), AllocError> {
-    let message = match text_in(fix, "description", &context.rule, troubles)? {
-        Some(message) => message,
-        None => String::from_str(fix.alloc, UNDESCRIBED)?,
-    };
-    let edits = edits_of(fix, context, troubles)?;
     if let Some(last) = children.last_mut() {
         if last.message.as_str() == message.as_str() {
             last.alternatives.push(edits)?;
             return Ok(());
         }
     }
-    let mut alternatives = Vec::new(fix.alloc);
+    let mut alternatives = Vec::new(context.alloc);
     alternatives.push(edits)?;
     children.push(Child {
         severity: Severity::Help,
         message,
-        spans: Vec::new(fix.alloc),
+        spans: Vec::new(context.alloc),
         alternatives,
     })?;
     Ok(())
@@ -63,12 +72,10 @@ fn edits_of(
     context: &Context<'_>,
     troubles: &mut Troubles,
 ) -> Result<Vec<Edit>, AllocError> {
-    let mut edits = Vec::new(fix.alloc);
-    if let Some(changes) = fix.list("artifactChanges", troubles)? {
-        for (index, value) in changes.items.iter().enumerate() {
-            let change = changes.node.item(index, value);
-            add_change(&mut edits, &change, context, troubles)?;
-        }
+    let mut edits = Vec::new(context.alloc);
+    let changes = fix.list("artifactChanges", troubles);
+    for (index, value) in changes.items.iter().enumerate() {
+        add_change(&mut edits, &changes.node(index, value), context, troubles)?;
     }
     Ok(edits)
 }
@@ -80,44 +87,45 @@ fn add_change(
     context: &Context<'_>,
     troubles: &mut Troubles,
 ) -> Result<(), AllocError> {
-    let Some(artifact) = change.object("artifactLocation", troubles)? else {
+    let Some(file) = path_in(context.alloc, change, context.run, troubles)? else {
         return Ok(());
     };
-    let Some(file) = path_of(&artifact, context.run, troubles)? else {
-        return Ok(());
-    };
-    if let Some(replacements) = change.list("replacements", troubles)? {
-        for (index, value) in replacements.items.iter().enumerate() {
-            let replacement = replacements.node.item(index, value);
-            if let Some(edit) = edit_of(&replacement, file.as_str(), context, troubles)? {
-                edits.push(edit)?;
-            }
+    let replacements = change.list("replacements", troubles);
+    for (index, value) in replacements.items.iter().enumerate() {
+        let replacement = replacements.node(index, value);
+        if let Some(edit) = edit_of(&replacement, file.as_str(), context, troubles)? {
+            edits.push(edit)?;
         }
     }
     Ok(())
 }
 
-/// The edit of a replacement. One without the text to put in takes text away.
+/// The edit of a replacement. One without a text to put in takes text away.
 fn edit_of(
     replacement: &Node<'_, '_>,
     file: &str,
     context: &Context<'_>,
     troubles: &mut Troubles,
 ) -> Result<Option<Edit>, AllocError> {
-    let Some(deleted) = replacement.object("deletedRegion", troubles)? else {
+    let Some(deleted) = replacement.needed("deletedRegion", troubles) else {
         return Ok(None);
     };
-    let Some(region) = region_of(&deleted, context.unit, troubles)? else {
+    let Some(region) = region_of(&deleted, context.unit, troubles) else {
         return Ok(None);
     };
-    let text = match replacement.object("insertedContent", troubles)? {
-        Some(content) => content.text("text", troubles)?.unwrap_or(""),
-        None => "",
-    };
+    let alloc = context.alloc;
+    let text = inserted_in(replacement, troubles).unwrap_or("");
     Ok(Some(Edit {
-        file: String::from_str(replacement.alloc, file)?,
+        file: String::from_str(alloc, file)?,
         region,
-        replacement: String::from_str(replacement.alloc, text)?,
-        carried: carried_in(&deleted, context.unit, troubles)?,
+        replacement: String::from_str(alloc, text)?,
+        carried: carried_in(alloc, &deleted, context.unit, troubles)?,
     }))
+}
+
+/// The text that a replacement puts in.
+fn inserted_in<'v>(replacement: &Node<'v, '_>, troubles: &mut Troubles) -> Option<&'v str> {
+    replacement
+        .object("insertedContent", troubles)?
+        .text("text", troubles)
 }

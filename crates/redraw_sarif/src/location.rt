@@ -2,16 +2,20 @@
 
 use crate::message::text_in;
 use crate::node::{List, Node, Troubles};
-use crate::region::{START, carried_of, region_of};
+use crate::region::{carried_of, region_of};
 use crate::rule::Rule;
-use crate::uri::path_of;
+use crate::uri::path_in;
 use redraw_report::diagnostic::{FileSpan, Region, Unit};
 use serde_json::Value;
-use std::alloc::AllocError;
+use std::alloc::{AllocError, Global};
+
+/// The start of a file.
+const START: Region = Region::Bytes { start: 0, end: 0 };
 
 /// What the parts of a result refer to.
 #[derive(Clone, Copy)]
 pub struct Context<'v> {
+    pub alloc: Global,
     pub run: &'v Value,
     pub rule: Rule<'v>,
     /// What columns count.
@@ -21,16 +25,13 @@ pub struct Context<'v> {
 /// Adds the places of a list of locations. One without a file is left out.
 pub fn add_spans(
     spans: &mut Vec<FileSpan>,
-    locations: Option<List<'_, '_>>,
+    locations: &List<'_, '_>,
     context: &Context<'_>,
     is_primary: bool,
     troubles: &mut Troubles,
 ) -> Result<(), AllocError> {
-    let Some(locations) = locations else {
-        return Ok(());
-    };
     for (index, value) in locations.items.iter().enumerate() {
-        let location = locations.node.item(index, value);
+        let location = locations.node(index, value);
         if let Some(span) = span_of(&location, context, is_primary, troubles)? {
             spans.push(span)?;
         }
@@ -45,36 +46,35 @@ fn span_of(
     is_primary: bool,
     troubles: &mut Troubles,
 ) -> Result<Option<FileSpan>, AllocError> {
-    if !location.is_object(troubles)? {
+    if !location.is_object(troubles) {
         return Ok(None);
     }
-    let Some(physical) = location.object("physicalLocation", troubles)? else {
+    let Some(physical) = location.object("physicalLocation", troubles) else {
         return Ok(None);
     };
-    let Some(artifact) = physical.object("artifactLocation", troubles)? else {
+    let alloc = context.alloc;
+    let Some(file) = path_in(alloc, &physical, context.run, troubles)? else {
         return Ok(None);
     };
-    let Some(file) = path_of(&artifact, context.run, troubles)? else {
-        return Ok(None);
-    };
+    let region = physical.object("region", troubles);
+    let around = physical.object("contextRegion", troubles);
     Ok(Some(FileSpan {
         file,
-        region: region_in(&physical, "region", context.unit, troubles)?,
-        label: text_in(location, "message", &context.rule, troubles)?,
+        region: region_or_start(&region, context.unit, troubles),
+        label: text_in(alloc, location, "message", &context.rule, troubles)?,
         is_primary,
-        carried: carried_of(&physical, context.unit, troubles)?,
+        carried: carried_of(alloc, &around, &region, context.unit, troubles)?,
     }))
 }
 
-/// The region in the field of this name; the start of the file where there is none.
-fn region_in(
-    object: &Node<'_, '_>,
-    name: &str,
+/// The region of a location; the start of its file where it has none, or a wrong one.
+fn region_or_start(
+    region: &Option<Node<'_, '_>>,
     unit: Unit,
     troubles: &mut Troubles,
-) -> Result<Region, AllocError> {
-    match object.object(name, troubles)? {
-        Some(region) => Ok(region_of(&region, unit, troubles)?.unwrap_or(START)),
-        None => Ok(START),
+) -> Region {
+    match region {
+        Some(region) => region_of(region, unit, troubles).unwrap_or(START),
+        None => START,
     }
 }

@@ -33,168 +33,159 @@ impl fmt::Display for Place<'_> {
     }
 }
 
-/// What is wrong with a document, as lines `WAY: expected WHAT`, in the order of reading.
-#[derive(Debug, Drop)]
+/// What is wrong with a document.
+#[derive(Drop)]
 pub struct Troubles {
+    alloc: Global,
+    /// Lines `WAY: expected WHAT`, in the order of reading.
     pub lines: Vec<String>,
+    /// Whether memory was refused for a line, which isn't there then.
+    pub is_refused: bool,
 }
 
 impl Troubles {
+    /// Nothing is wrong yet.
     pub fn new(alloc: Global) -> Troubles {
         Troubles {
+            alloc,
             lines: Vec::new(alloc),
+            is_refused: false,
         }
+    }
+
+    /// Adds that something was expected at this place.
+    fn add(&mut self, place: Place<'_>, expected: Expectation) {
+        let added = match format!(in self.alloc; "{place}: expected {expected}") {
+            Ok(line) => self.lines.push(line).is_ok(),
+            Err(AllocError) => false,
+        };
+        self.is_refused = self.is_refused || !added;
     }
 }
 
-/// A value of JSON, and where it stands.
+/// A value of JSON, and where it stands. A field that has `null` counts as one that isn't there. Where something else stands
+/// than what is asked for, that is told, and there is no answer.
 #[derive(Clone, Copy)]
 pub struct Node<'v, 'p> {
-    pub alloc: Global,
     pub value: &'v Value,
     pub place: Place<'p>,
-}
-
-impl<'v> Node<'v, '_> {
-    /// Tells that this was expected here.
-    pub fn tell(&self, troubles: &mut Troubles, expected: Expectation) -> Result<(), AllocError> {
-        let place = self.place;
-        let line = format!(in self.alloc; "{place}: expected {expected}")?;
-        troubles.lines.push(line)?;
-        Ok(())
-    }
-
-    /// Tells that this was expected in the field of this name.
-    pub fn tell_field(
-        &self,
-        name: &str,
-        troubles: &mut Troubles,
-        expected: Expectation,
-    ) -> Result<(), AllocError> {
-        let place = Place::Field(&self.place, name);
-        let line = format!(in self.alloc; "{place}: expected {expected}")?;
-        troubles.lines.push(line)?;
-        Ok(())
-    }
-
-    /// The field of this name; `None` where there is none, or `null`.
-    pub fn field<'n>(&'n self, name: &'n str) -> Option<Node<'v, 'n>> {
-        match self.value.get(name) {
-            Some(value) if !value.is_null() => Some(Node {
-                alloc: self.alloc,
-                value,
-                place: Place::Field(&self.place, name),
-            }),
-            _ => None,
-        }
-    }
-
-    /// The item of a list with this number.
-    pub fn item<'n>(&'n self, index: usize, value: &'v Value) -> Node<'v, 'n> {
-        Node {
-            alloc: self.alloc,
-            value,
-            place: Place::Item(&self.place, index),
-        }
-    }
-
-    /// Whether the value is an object; if not, it is told.
-    pub fn is_object(&self, troubles: &mut Troubles) -> Result<bool, AllocError> {
-        if self.value.is_object() {
-            return Ok(true);
-        }
-        self.tell(troubles, Expectation::Object)?;
-        Ok(false)
-    }
-
-    /// The object in the field of this name; where something else stands there, it is told.
-    pub fn object<'n>(
-        &'n self,
-        name: &'n str,
-        troubles: &mut Troubles,
-    ) -> Result<Option<Node<'v, 'n>>, AllocError> {
-        match self.field(name) {
-            Some(field) if field.is_object(troubles)? => Ok(Some(field)),
-            _ => Ok(None),
-        }
-    }
-
-    /// The list in the field of this name; `None` where there is none. Where something else stands there, it is told.
-    pub fn list<'n>(
-        &'n self,
-        name: &'n str,
-        troubles: &mut Troubles,
-    ) -> Result<Option<List<'v, 'n>>, AllocError> {
-        let Some(node) = self.field(name) else {
-            return Ok(None);
-        };
-        match node.value.as_array() {
-            Some(items) => Ok(Some(List {
-                items: items.as_slice(),
-                node,
-            })),
-            None => {
-                node.tell(troubles, Expectation::List)?;
-                Ok(None)
-            }
-        }
-    }
-
-    /// The text in the field of this name; where something else stands there, it is told.
-    pub fn text(&self, name: &str, troubles: &mut Troubles) -> Result<Option<&'v str>, AllocError> {
-        let Some(field) = self.field(name) else {
-            return Ok(None);
-        };
-        match field.value.as_str() {
-            Some(text) => Ok(Some(text)),
-            None => {
-                field.tell(troubles, Expectation::Text)?;
-                Ok(None)
-            }
-        }
-    }
-
-    /// The whole number in the field of this name. The number -1 stands for none. Where anything else stands there, it is told.
-    pub fn number(
-        &self,
-        name: &str,
-        troubles: &mut Troubles,
-    ) -> Result<Option<usize>, AllocError> {
-        let Some(field) = self.field(name) else {
-            return Ok(None);
-        };
-        match (field.value.as_u64(), field.value.as_i64()) {
-            (Some(number), _) => Ok(Some(number as usize)),
-            (None, Some(-1)) => Ok(None),
-            _ => {
-                field.tell(troubles, Expectation::Number)?;
-                Ok(None)
-            }
-        }
-    }
-
-    /// The line or the column in the field of this name, counted from 1; where anything else stands there, it is told.
-    pub fn from_one(
-        &self,
-        name: &str,
-        troubles: &mut Troubles,
-    ) -> Result<Option<usize>, AllocError> {
-        let Some(field) = self.field(name) else {
-            return Ok(None);
-        };
-        match field.value.as_u64() {
-            Some(number) if number > 0 => Ok(Some(number as usize)),
-            _ => {
-                field.tell(troubles, Expectation::FromOne)?;
-                Ok(None)
-            }
-        }
-    }
 }
 
 /// The items of a list, and where it stands.
 #[derive(Clone, Copy)]
 pub struct List<'v, 'p> {
     pub items: &'v [Value],
-    pub node: Node<'v, 'p>,
+    pub place: Place<'p>,
+}
+
+impl<'v> List<'v, '_> {
+    /// The item with this number.
+    pub fn node<'n>(&'n self, index: usize, value: &'v Value) -> Node<'v, 'n> {
+        Node {
+            value,
+            place: Place::Item(&self.place, index),
+        }
+    }
+}
+
+impl<'v> Node<'v, '_> {
+    /// Tells that this was expected here.
+    pub fn tell(&self, troubles: &mut Troubles, expected: Expectation) {
+        troubles.add(self.place, expected);
+    }
+
+    /// Tells that this was expected in the field of this name.
+    pub fn tell_field(&self, name: &str, troubles: &mut Troubles, expected: Expectation) {
+        troubles.add(Place::Field(&self.place, name), expected);
+    }
+
+    /// What stands in the field of this name.
+    fn field(&self, name: &str) -> Option<&'v Value> {
+        match self.value.get(name) {
+            Some(value) if !value.is_null() => Some(value),
+            _ => None,
+        }
+    }
+
+    /// Whether the value is an object.
+    pub fn is_object(&self, troubles: &mut Troubles) -> bool {
+        let is_object = self.value.is_object();
+        if !is_object {
+            self.tell(troubles, Expectation::Object);
+        }
+        is_object
+    }
+
+    /// The object in the field of this name, which has to be there.
+    pub fn needed<'n>(&'n self, name: &'n str, troubles: &mut Troubles) -> Option<Node<'v, 'n>> {
+        if self.field(name).is_none() {
+            self.tell_field(name, troubles, Expectation::Object);
+        }
+        self.object(name, troubles)
+    }
+
+    /// The object in the field of this name.
+    pub fn object<'n>(&'n self, name: &'n str, troubles: &mut Troubles) -> Option<Node<'v, 'n>> {
+        let value = self.field(name)?;
+        if !value.is_object() {
+            self.tell_field(name, troubles, Expectation::Object);
+            return None;
+        }
+        Some(Node {
+            value,
+            place: Place::Field(&self.place, name),
+        })
+    }
+
+    /// The list in the field of this name; an empty one where there is none.
+    pub fn list<'n>(&'n self, name: &'n str, troubles: &mut Troubles) -> List<'v, 'n> {
+        let items: &'v [Value] = match self.field(name) {
+            None => &[],
+            Some(value) => match value.as_array() {
+                Some(items) => items.as_slice(),
+                None => {
+                    self.tell_field(name, troubles, Expectation::List);
+                    &[]
+                }
+            },
+        };
+        List {
+            items,
+            place: Place::Field(&self.place, name),
+        }
+    }
+
+    /// The text in the field of this name.
+    pub fn text(&self, name: &str, troubles: &mut Troubles) -> Option<&'v str> {
+        let text = self.field(name)?.as_str();
+        if text.is_none() {
+            self.tell_field(name, troubles, Expectation::Text);
+        }
+        text
+    }
+
+    /// The whole number in the field of this name. The number -1 stands for none.
+    pub fn number(&self, name: &str, troubles: &mut Troubles) -> Option<usize> {
+        let value = self.field(name)?;
+        match value.as_u64() {
+            Some(number) => Some(number as usize),
+            None => {
+                if value.as_i64() != Some(-1) {
+                    self.tell_field(name, troubles, Expectation::Number);
+                }
+                None
+            }
+        }
+    }
+
+    /// The line or the column in the field of this name, counted from 1.
+    pub fn from_one(&self, name: &str, troubles: &mut Troubles) -> Option<usize> {
+        match self.field(name)?.as_u64() {
+            Some(number) if number > 0 => Some(number as usize),
+            _ => {
+                self.tell_field(name, troubles, Expectation::FromOne);
+                None
+            }
+        }
+    }
 }

@@ -66,11 +66,7 @@ fn start(out: &mut String, c: char) -> Result<Pending, AllocError> {
 }
 
 /// Writes the argument with this number; the placeholder itself where there is none.
-fn write_argument(
-    out: &mut String,
-    number: usize,
-    arguments: &[Value],
-) -> Result<(), AllocError> {
+fn write_argument(out: &mut String, number: usize, arguments: &[Value]) -> Result<(), AllocError> {
     match arguments.get(number).and_then(Value::as_str) {
         Some(argument) => out.push_str(argument),
         None => write!(out, "{{{number}}}"),

@@ -5,64 +5,57 @@ use crate::node::{Node, Troubles};
 use redraw_report::diagnostic::{Carried, LineRegion, Region, Unit};
 use std::alloc::{AllocError, Global};
 
-/// The region of a location that has none, or a wrong one: the start of the file.
-pub const START: Region = Region::Bytes { start: 0, end: 0 };
-
 /// The part of a file that a region names: by lines and columns, else by characters, else by bytes. Where it says none of
-/// these, it is told.
-pub fn region_of(
-    region: &Node<'_, '_>,
-    unit: Unit,
-    troubles: &mut Troubles,
-) -> Result<Option<Region>, AllocError> {
-    if let Some(start_line) = region.from_one("startLine", troubles)? {
-        let lines = line_region(region, start_line, unit, troubles)?;
-        return Ok(Some(Region::Lines(lines)));
+/// these, that is told.
+pub fn region_of(region: &Node<'_, '_>, unit: Unit, troubles: &mut Troubles) -> Option<Region> {
+    if let Some(start_line) = region.from_one("startLine", troubles) {
+        return Some(Region::Lines(line_region(region, start_line, unit, troubles)));
     }
-    if let Some(start) = region.number("charOffset", troubles)? {
-        let length = region.number("charLength", troubles)?.unwrap_or(0);
+    if let Some(start) = region.number("charOffset", troubles) {
+        let length = region.number("charLength", troubles).unwrap_or(0);
         let end = start.saturating_add(length);
-        return Ok(Some(Region::Chars { start, end, unit }));
+        return Some(Region::Chars { start, end, unit });
     }
-    if let Some(start) = region.number("byteOffset", troubles)? {
-        let length = region.number("byteLength", troubles)?.unwrap_or(0);
+    if let Some(start) = region.number("byteOffset", troubles) {
+        let length = region.number("byteLength", troubles).unwrap_or(0);
         let end = start.saturating_add(length);
-        return Ok(Some(Region::Bytes { start, end }));
+        return Some(Region::Bytes { start, end });
     }
-    region.tell(troubles, Expectation::RegionStart)?;
-    Ok(None)
+    region.tell(troubles, Expectation::RegionStart);
+    None
 }
 
-/// The region that begins on this line. Where it names no column to begin with, that is the first; where it names no line to end
-/// with, it is this line.
+/// The region that begins on this line. Where it names no line to end with, it ends on this one.
 fn line_region(
     region: &Node<'_, '_>,
     start_line: usize,
     unit: Unit,
     troubles: &mut Troubles,
-) -> Result<LineRegion, AllocError> {
-    Ok(LineRegion {
+) -> LineRegion {
+    LineRegion {
         start_line,
-        start_column: region.from_one("startColumn", troubles)?,
-        end_line: region.from_one("endLine", troubles)?.unwrap_or(start_line),
-        end_column: region.from_one("endColumn", troubles)?,
+        start_column: region.from_one("startColumn", troubles),
+        end_line: region.from_one("endLine", troubles).unwrap_or(start_line),
+        end_column: region.from_one("endColumn", troubles),
         unit,
-    })
+    }
 }
 
 /// The lines that a location itself holds: those around its region, else those of the region.
 pub fn carried_of(
-    location: &Node<'_, '_>,
+    alloc: Global,
+    around: &Option<Node<'_, '_>>,
+    region: &Option<Node<'_, '_>>,
     unit: Unit,
     troubles: &mut Troubles,
 ) -> Result<Option<Carried>, AllocError> {
-    if let Some(context) = location.object("contextRegion", troubles)? {
-        if let Some(carried) = carried_in(&context, unit, troubles)? {
+    if let Some(around) = around {
+        if let Some(carried) = carried_in(alloc, around, unit, troubles)? {
             return Ok(Some(carried));
         }
     }
-    match location.object("region", troubles)? {
-        Some(region) => carried_in(&region, unit, troubles),
+    match region {
+        Some(region) => carried_in(alloc, region, unit, troubles),
         None => Ok(None),
     }
 }
@@ -70,38 +63,44 @@ pub fn carried_of(
 /// The lines that a region's snippet holds; none of a region that isn't told by its lines. Before a snippet that begins within
 /// its first line, blanks stand for what comes before it.
 pub fn carried_in(
+    alloc: Global,
     region: &Node<'_, '_>,
     unit: Unit,
     troubles: &mut Troubles,
 ) -> Result<Option<Carried>, AllocError> {
-    let Some(snippet) = region.object("snippet", troubles)? else {
-        return Ok(None);
-    };
-    let Some(snippet) = snippet.text("text", troubles)? else {
+    let (Some(snippet), Some(first_line)) = (snippet_in(region, troubles), first_line_of(region))
+    else {
         return Ok(None);
     };
     // What is wrong with the region itself is told where it is read.
-    let mut told_elsewhere = Troubles::new(region.alloc);
-    let Some(Region::Lines(lines)) = region_of(region, unit, &mut told_elsewhere)? else {
-        return Ok(None);
-    };
-    let is_whole = has_whole_lines(&lines, snippet);
-    let blanks = if is_whole {
-        0
-    } else {
-        lines.start_column.unwrap_or(1).saturating_sub(1)
-    };
+    let mut told_elsewhere = Troubles::new(alloc);
+    let lines = line_region(region, first_line, unit, &mut told_elsewhere);
+    let before = lines.start_column.unwrap_or(1).saturating_sub(1);
+    let is_whole = has_whole_lines(&lines, before, snippet);
+    let blanks = if is_whole { 0 } else { before };
     Ok(Some(Carried {
-        first_line: lines.start_line,
-        text: lines_of(region.alloc, blanks, snippet)?,
+        first_line,
+        text: lines_of(alloc, blanks, snippet)?,
         is_whole,
     }))
 }
 
+/// The text of a region's snippet.
+fn snippet_in<'v>(region: &Node<'v, '_>, troubles: &mut Troubles) -> Option<&'v str> {
+    region.object("snippet", troubles)?.text("text", troubles)
+}
+
+/// The line that a region begins on.
+fn first_line_of(region: &Node<'_, '_>) -> Option<usize> {
+    match region.value.get("startLine")?.as_u64() {
+        Some(number) if number > 0 => Some(number as usize),
+        _ => None,
+    }
+}
+
 /// Whether a snippet has all of the lines that its region touches: the region has no columns, or the last line is longer than
 /// the region says. The snippet is to have the region's text alone, but some tools write the lines.
-fn has_whole_lines(lines: &LineRegion, snippet: &str) -> bool {
-    let before = lines.start_column.unwrap_or(1).saturating_sub(1);
+fn has_whole_lines(lines: &LineRegion, before: usize, snippet: &str) -> bool {
     let Some(end) = lines.end_column else {
         return before == 0;
     };

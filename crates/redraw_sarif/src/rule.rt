@@ -4,92 +4,94 @@ use crate::expectation::Expectation;
 use crate::node::{Node, Troubles};
 use redraw_report::diagnostic::{Code, Severity};
 use serde_json::Value;
-use std::alloc::AllocError;
+use std::alloc::{AllocError, Global};
 
-/// The part of a tool that has a rule, and the rule.
+/// The rule of a result, and the part of the tool that has it.
 #[derive(Clone, Copy)]
 pub struct Rule<'v> {
     /// The tool's driver or one of its extensions.
-    pub component: Option<&'v Value>,
+    component: Option<&'v Value>,
     /// The rule, where the component has it.
-    pub rule: Option<&'v Value>,
+    rule: Option<&'v Value>,
 }
 
 impl<'v> Rule<'v> {
-    /// A field of the rule.
-    fn field(&self, name: &str) -> Option<&'v Value> {
-        self.rule?.get(name)
+    /// A text of the rule by its name.
+    fn text(&self, name: &str) -> Option<&'v str> {
+        self.rule?.get(name)?.as_str()
     }
 
     /// The text of the rule's, or else of the component's, message strings by this name.
     pub fn message_string(&self, id: &str) -> Option<&'v str> {
-        let own = self.field("messageStrings").and_then(|texts| texts.get(id));
-        let found = match (own, self.component) {
-            (Some(own), _) => Some(own),
-            (None, Some(component)) => component.get("globalMessageStrings")?.get(id),
-            (None, None) => None,
-        };
-        found?.get("text")?.as_str()
+        match text_of_string(self.rule, "messageStrings", id) {
+            Some(text) => Some(text),
+            None => text_of_string(self.component, "globalMessageStrings", id),
+        }
     }
 
     /// What the rule says of itself in short.
     pub fn description(&self) -> Option<&'v str> {
-        self.field("shortDescription")?.get("text")?.as_str()
+        self.rule?.get("shortDescription")?.get("text")?.as_str()
+    }
+
+    /// The severity of results that don't say theirs.
+    fn severity(&self) -> Option<Severity> {
+        let configuration = self.rule?.get("defaultConfiguration")?;
+        severity_by_name(configuration.get("level")?.as_str()?)
     }
 }
 
-/// The rule of a result: by its index, or else by its id. Where the index is that of no rule, it is told.
-pub fn rule_of<'v>(
-    run: &'v Value,
-    reported: &Node<'v, '_>,
-    troubles: &mut Troubles,
-) -> Result<Rule<'v>, AllocError> {
-    let reference = reported.object("rule", troubles)?;
-    let component = component_of(run, reference.map(|node| node.value));
-    let rules = rules_of(component);
-    let own = reported.number("ruleIndex", troubles)?;
-    let index = match reference {
-        Some(reference) => reference.number("index", troubles)?.or(own),
-        None => own,
-    };
-    let rule = match (index, rule_id(reported.value)) {
-        (Some(index), _) if index < rules.len() => Some(&rules[index]),
-        (Some(_), _) => {
-            reported.tell_field("ruleIndex", troubles, Expectation::Rule)?;
-            None
-        }
-        (None, Some(id)) => rule_by_id(rules, id),
-        (None, None) => None,
-    };
-    Ok(Rule { component, rule })
+/// The text of the message string of this id in an object's strings.
+fn text_of_string<'v>(object: Option<&'v Value>, strings: &str, id: &str) -> Option<&'v str> {
+    object?.get(strings)?.get(id)?.get("text")?.as_str()
 }
 
-/// The component that a reference to a rule names by its index; else the driver.
-fn component_of<'v>(run: &'v Value, reference: Option<&'v Value>) -> Option<&'v Value> {
-    let tool = run.get("tool")?;
-    let index = match reference {
-        Some(reference) => reference.pointer("/toolComponent/index"),
-        None => None,
+/// The rule of a result: by its number, or else by its id. Where it is the number of no rule, that is told.
+pub fn rule_of<'v>(run: &'v Value, reported: &Node<'v, '_>, troubles: &mut Troubles) -> Rule<'v> {
+    let own = reported.number("ruleIndex", troubles);
+    let index = match reported.object("rule", troubles) {
+        Some(reference) => reference.number("index", troubles).or(own),
+        None => own,
     };
-    match index.and_then(Value::as_u64) {
+    let component = component_of(run, reported.value);
+    let rules = rules_of(component).unwrap_or(&[]);
+    let rule = match index {
+        Some(index) => rules.get(index),
+        None => rule_by_id(rules, id_of(reported.value).unwrap_or("")),
+    };
+    if index.is_some() && rule.is_none() {
+        reported.tell(troubles, Expectation::Rule);
+    }
+    Rule { component, rule }
+}
+
+/// The component whose rule a result names: an extension of the tool by its number, else the driver.
+fn component_of<'v>(run: &'v Value, reported: &Value) -> Option<&'v Value> {
+    let tool = run.get("tool")?;
+    match extension_of(reported) {
         Some(index) => tool.get("extensions")?.get(index as usize),
         None => tool.get("driver"),
     }
 }
 
-/// The rules of a component.
-fn rules_of<'v>(component: Option<&'v Value>) -> &'v [Value] {
-    let rules = component.and_then(|component| component.get("rules"));
-    match rules.and_then(Value::as_array) {
-        Some(rules) => rules.as_slice(),
-        None => &[],
-    }
+/// The number of the extension that a result names.
+fn extension_of(reported: &Value) -> Option<u64> {
+    reported
+        .get("rule")?
+        .get("toolComponent")?
+        .get("index")?
+        .as_u64()
 }
 
-/// The id of the rule as the result has it.
-fn rule_id(reported: &Value) -> Option<&str> {
-    match reported.get("ruleId").and_then(Value::as_str) {
-        Some(id) => Some(id),
+/// The rules of a component.
+fn rules_of<'v>(component: Option<&'v Value>) -> Option<&'v [Value]> {
+    Some(component?.get("rules")?.as_array()?.as_slice())
+}
+
+/// The id of the rule as a result has it.
+fn id_of(reported: &Value) -> Option<&str> {
+    match reported.get("ruleId") {
+        Some(id) => id.as_str(),
         None => reported.get("rule")?.get("id")?.as_str(),
     }
 }
@@ -99,60 +101,56 @@ fn rule_by_id<'v>(rules: &'v [Value], id: &str) -> Option<&'v Value> {
     let mut found = None;
     let mut longest = 0;
     for rule in rules {
-        let own = rule.get("id").and_then(Value::as_str).unwrap_or("");
-        if own.len() > longest && is_part(own, id) {
-            longest = own.len();
-            found = Some(rule);
+        if let Some(length) = length_of_part(rule, id) {
+            if length > longest {
+                longest = length;
+                found = Some(rule);
+            }
         }
     }
     found
 }
 
-/// Whether an id is the other one, or that and what comes after a slash.
-fn is_part(own: &str, id: &str) -> bool {
-    match id.strip_prefix(own) {
-        Some(rest) => rest.is_empty() || rest.starts_with('/'),
-        None => false,
+/// How long the id of a rule is, if it is this id or the part of it before a slash.
+fn length_of_part(rule: &Value, id: &str) -> Option<usize> {
+    let own = rule.get("id")?.as_str()?;
+    let rest = id.strip_prefix(own)?;
+    if rest.is_empty() || rest.starts_with('/') {
+        Some(own.len())
+    } else {
+        None
     }
 }
 
 /// The name of a result's rule, with the address of its page.
-pub fn code_of(reported: &Node<'_, '_>, rule: &Rule<'_>) -> Result<Option<Code>, AllocError> {
-    let own = rule.field("id").and_then(Value::as_str);
-    let Some(id) = rule_id(reported.value).or(own) else {
+pub fn code_of(
+    alloc: Global,
+    reported: &Value,
+    rule: &Rule<'_>,
+) -> Result<Option<Code>, AllocError> {
+    let Some(id) = id_of(reported).or(rule.text("id")) else {
         return Ok(None);
     };
-    let url = match rule.field("helpUri").and_then(Value::as_str) {
-        Some(url) => Some(String::from_str(reported.alloc, url)?),
+    let id = String::from_str(alloc, id)?;
+    let url = match rule.text("helpUri") {
+        Some(url) => Some(String::from_str(alloc, url)?),
         None => None,
     };
-    Ok(Some(Code {
-        id: String::from_str(reported.alloc, id)?,
-        url,
-    }))
+    Ok(Some(Code { id, url }))
 }
 
 /// How severe a result is: by its level, else a note where it isn't of the kind `fail`, else by its rule, else a warning.
-pub fn severity_of(
-    reported: &Node<'_, '_>,
-    rule: &Rule<'_>,
-    troubles: &mut Troubles,
-) -> Result<Severity, AllocError> {
-    if let Some(level) = reported.text("level", troubles)? {
+pub fn severity_of(reported: &Node<'_, '_>, rule: &Rule<'_>, troubles: &mut Troubles) -> Severity {
+    if let Some(level) = reported.text("level", troubles) {
         match severity_by_name(level) {
-            Some(severity) => return Ok(severity),
-            None => reported.tell_field("level", troubles, Expectation::Level)?,
+            Some(severity) => return severity,
+            None => reported.tell_field("level", troubles, Expectation::Level),
         }
     }
-    match reported.text("kind", troubles)? {
-        Some(kind) if kind != "fail" => Ok(Severity::Note),
-        _ => Ok(severity_by_rule(rule).unwrap_or(Severity::Warning)),
+    match reported.text("kind", troubles) {
+        Some(kind) if kind != "fail" => Severity::Note,
+        _ => rule.severity().unwrap_or(Severity::Warning),
     }
-}
-
-/// The severity that a rule has where a result says none.
-fn severity_by_rule(rule: &Rule<'_>) -> Option<Severity> {
-    severity_by_name(rule.field("defaultConfiguration")?.get("level")?.as_str()?)
 }
 
 /// The severity of a level of this name.

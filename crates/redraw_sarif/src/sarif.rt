@@ -5,23 +5,17 @@ use crate::fixes::children_of;
 use crate::location::{Context, add_spans};
 use crate::message::text_in;
 use crate::node::{List, Node, Place, Troubles};
-use crate::rule::{Rule, code_of, rule_of, severity_of};
-use redraw_report::diagnostic::{Child, Diagnostic, FileSpan, Unit};
+use crate::rule::{code_of, rule_of, severity_of};
+use redraw_report::diagnostic::{Diagnostic, FileSpan, Unit};
 use serde_json::Value;
 use std::alloc::{AllocError, Global};
 
 /// What stands where a result says nothing, and its rule doesn't either.
 const NO_MESSAGE: &str = "the log has no message";
 
-/// Whether a document is such a log: an object with runs.
-pub fn is_log(document: &Value) -> bool {
-    document.get("runs").is_some()
-}
-
-/// The log's object.
-pub fn log(alloc: Global, document: &Value) -> Node<'_, '_> {
+/// The object of a log.
+pub fn log(document: &Value) -> Node<'_, '_> {
     Node {
-        alloc,
         value: document,
         place: Place::Document,
     }
@@ -37,63 +31,81 @@ pub struct Run<'v, 'p> {
 
 impl<'v, 'p> Run<'v, 'p> {
     /// The run that is told here.
-    pub fn new(node: Node<'v, 'p>, troubles: &mut Troubles) -> Result<Run<'v, 'p>, AllocError> {
-        let unit = unit_of(&node, troubles)?;
-        Ok(Run { node, unit })
+    pub fn new(node: Node<'v, 'p>, troubles: &mut Troubles) -> Run<'v, 'p> {
+        let unit = unit_of(&node, troubles);
+        Run { node, unit }
     }
 
     /// The results of the run.
-    pub fn results(&self, troubles: &mut Troubles) -> Result<Option<List<'v, '_>>, AllocError> {
+    pub fn results(&self, troubles: &mut Troubles) -> List<'v, '_> {
         self.node.list("results", troubles)
     }
 
     /// What a result of the run tells; `None` of what is no object, which is told.
     pub fn finding(
         &self,
+        alloc: Global,
         reported: &Node<'v, '_>,
         troubles: &mut Troubles,
     ) -> Result<Option<Diagnostic>, AllocError> {
-        if !reported.is_object(troubles)? {
+        if !reported.is_object(troubles) {
             return Ok(None);
         }
-        let rule = rule_of(self.node.value, reported, troubles)?;
         let context = Context {
+            alloc,
             run: self.node.value,
-            rule,
+            rule: rule_of(self.node.value, reported, troubles),
             unit: self.unit,
         };
-        Ok(Some(Diagnostic {
-            severity: severity_of(reported, &rule, troubles)?,
-            message: message_of(reported, &rule, troubles)?,
-            code: code_of(reported, &rule)?,
-            spans: spans_of(reported, &context, troubles)?,
-            children: fixes_of(reported, &context, troubles)?,
-        }))
+        Ok(Some(diagnostic_of(reported, &context, troubles)?))
     }
 }
 
 /// What the columns of a run count: units of UTF-16 where it doesn't say.
-fn unit_of(run: &Node<'_, '_>, troubles: &mut Troubles) -> Result<Unit, AllocError> {
-    match run.text("columnKind", troubles)? {
-        Some("unicodeCodePoints") => Ok(Unit::CodePoints),
-        Some("utf16CodeUnits") | None => Ok(Unit::Utf16),
+fn unit_of(run: &Node<'_, '_>, troubles: &mut Troubles) -> Unit {
+    match run.text("columnKind", troubles) {
+        Some("unicodeCodePoints") => Unit::CodePoints,
+        Some("utf16CodeUnits") | None => Unit::Utf16,
         Some(_) => {
-            run.tell_field("columnKind", troubles, Expectation::ColumnKind)?;
-            Ok(Unit::Utf16)
+            run.tell_field("columnKind", troubles, Expectation::ColumnKind);
+            Unit::Utf16
         }
     }
 }
 
-/// The message of a result; where it has none, that is told, and what its rule says of itself stands there.
+/// What a result tells.
+fn diagnostic_of(
+    reported: &Node<'_, '_>,
+    context: &Context<'_>,
+    troubles: &mut Troubles,
+) -> Result<Diagnostic, AllocError> {
+    let severity = severity_of(reported, &context.rule, troubles);
+    let message = message_of(reported, context, troubles)?;
+    let code = code_of(context.alloc, reported.value, &context.rule)?;
+    let spans = spans_of(reported, context, troubles)?;
+    let children = children_of(&reported.list("fixes", troubles), context, troubles)?;
+    Ok(Diagnostic {
+        severity,
+        message,
+        code,
+        spans,
+        children,
+    })
+}
+
+/// The message of a result; where it has none, what its rule says of itself.
 fn message_of(
     reported: &Node<'_, '_>,
-    rule: &Rule<'_>,
+    context: &Context<'_>,
     troubles: &mut Troubles,
 ) -> Result<String, AllocError> {
-    if let Some(text) = text_in(reported, "message", rule, troubles)? {
-        return Ok(text);
+    match text_in(context.alloc, reported, "message", &context.rule, troubles)? {
+        Some(text) => Ok(text),
+        None => {
+            let text = context.rule.description().unwrap_or(NO_MESSAGE);
+            String::from_str(context.alloc, text)
+        }
     }
-    String::from_str(reported.alloc, rule.description().unwrap_or(NO_MESSAGE))
 }
 
 /// The places of a result: those where it is, and those that help to see it.
@@ -102,22 +114,10 @@ fn spans_of(
     context: &Context<'_>,
     troubles: &mut Troubles,
 ) -> Result<Vec<FileSpan>, AllocError> {
-    let mut spans = Vec::new(reported.alloc);
-    let own = reported.list("locations", troubles)?;
-    add_spans(&mut spans, own, context, true, troubles)?;
-    let related = reported.list("relatedLocations", troubles)?;
-    add_spans(&mut spans, related, context, false, troubles)?;
+    let mut spans = Vec::new(context.alloc);
+    let own = reported.list("locations", troubles);
+    add_spans(&mut spans, &own, context, true, troubles)?;
+    let related = reported.list("relatedLocations", troubles);
+    add_spans(&mut spans, &related, context, false, troubles)?;
     Ok(spans)
-}
-
-/// What a result suggests.
-fn fixes_of(
-    reported: &Node<'_, '_>,
-    context: &Context<'_>,
-    troubles: &mut Troubles,
-) -> Result<Vec<Child>, AllocError> {
-    match reported.list("fixes", troubles)? {
-        Some(fixes) => children_of(&fixes, context, troubles),
-        None => Ok(Vec::new(reported.alloc)),
-    }
 }

@@ -9,96 +9,107 @@ use std::alloc::{AllocError, Global};
 /// How many bases may stand on one another. A log whose bases go in a circle has no end of them.
 const BASES: usize = 16;
 
-/// The path of the file at an artifact's location. It may be relative: to where, the log doesn't say. `None` where the location
-/// has neither an address nor the index of an artifact that has one, which is told.
-pub fn path_of(
-    location: &Node<'_, '_>,
+/// An address, and the base that it is relative to.
+#[derive(Clone, Copy)]
+struct Address<'v> {
+    uri: &'v str,
+    base: Option<&'v str>,
+}
+
+/// The path of the file at the artifact's location in an object's field `artifactLocation`. It may be relative: to where, the
+/// log doesn't say. `None` where the location isn't there, or has neither an address nor the number of an artifact that has
+/// one; both is told.
+pub fn path_in(
+    alloc: Global,
+    object: &Node<'_, '_>,
     run: &Value,
     troubles: &mut Troubles,
 ) -> Result<Option<String>, AllocError> {
-    let index = location.number("index", troubles)?;
-    let named = match location.text("uri", troubles)? {
-        Some(_) => Some(location.value),
-        None => index.and_then(|index| artifact_location(run, index)),
+    let Some(location) = object.needed("artifactLocation", troubles) else {
+        return Ok(None);
     };
-    match named.and_then(|named| text_field(named, "uri")) {
-        Some(uri) => {
-            let base = named.and_then(|named| text_field(named, "uriBaseId"));
-            let uri = based(location.alloc, run, uri, base)?;
-            Ok(Some(path_at(location.alloc, &uri)?))
-        }
+    match address_of(run, location.value) {
+        Some(address) => Ok(Some(path_at(alloc, run, address)?)),
         None => {
-            location.tell(troubles, Expectation::Artifact)?;
+            location.tell(troubles, Expectation::Artifact);
             Ok(None)
         }
     }
 }
 
-/// The location of the artifact with this number.
-fn artifact_location(run: &Value, index: usize) -> Option<&Value> {
-    run.get("artifacts")?.get(index)?.get("location")
+/// The address of an artifact's location: its own, or that of the artifact with its number.
+fn address_of<'v>(run: &'v Value, location: &'v Value) -> Option<Address<'v>> {
+    let named = match location.get("uri") {
+        Some(_) => location,
+        None => {
+            let index = location.get("index")?.as_u64()?;
+            run.get("artifacts")?.get(index as usize)?.get("location")?
+        }
+    };
+    Some(Address {
+        uri: named.get("uri")?.as_str()?,
+        base: base_of(named),
+    })
 }
 
-/// The text in the field of this name.
-fn text_field<'v>(object: &'v Value, name: &str) -> Option<&'v str> {
-    object.get(name)?.as_str()
+/// The name of the base that a location is relative to.
+fn base_of(location: &Value) -> Option<&str> {
+    location.get("uriBaseId")?.as_str()
 }
 
-/// An address after its base, which may have a base itself. A base without an address adds nothing.
-fn based(
-    alloc: Global,
-    run: &Value,
-    uri: &str,
-    base: Option<&str>,
-) -> Result<String, AllocError> {
-    let mut whole = String::from_str(alloc, uri)?;
-    let mut base = base;
+/// The path that an address names, after its base, which may have a base itself. A base without an address adds nothing.
+fn path_at(alloc: Global, run: &Value, address: Address<'_>) -> Result<String, AllocError> {
+    let mut whole = String::from_str(alloc, address.uri)?;
+    let mut base = address.base;
     for _ in 0..BASES {
-        let Some(named) = base.and_then(|id| base_location(run, id)) else {
+        let Some(location) = base_location(run, base) else {
             break;
         };
-        if let Some(address) = text_field(named, "uri") {
-            whole = joined(alloc, address, &whole)?;
+        if let Some(before) = uri_of(location) {
+            whole = joined(alloc, before, whole.as_str())?;
         }
-        base = text_field(named, "uriBaseId");
+        base = base_of(location);
     }
-    Ok(whole)
+    decoded(alloc, local(whole.as_str()))
 }
 
 /// The location of the base of this name.
-fn base_location<'v>(run: &'v Value, id: &str) -> Option<&'v Value> {
-    run.get("originalUriBaseIds")?.get(id)
+fn base_location<'v>(run: &'v Value, id: Option<&str>) -> Option<&'v Value> {
+    run.get("originalUriBaseIds")?.get(id?)
+}
+
+/// The address of a location.
+fn uri_of(location: &Value) -> Option<&str> {
+    location.get("uri")?.as_str()
 }
 
 /// An address below another one.
 fn joined(alloc: Global, base: &str, uri: &str) -> Result<String, AllocError> {
-    if base.is_empty() || base.ends_with('/') {
-        format!(in alloc; "{base}{uri}")
+    let slash = if base.is_empty() || base.ends_with('/') {
+        ""
     } else {
-        format!(in alloc; "{base}/{uri}")
-    }
-}
-
-/// The path that an address names: without `file:`, without an empty host, and with characters for escapes. An address of
-/// another kind stays as it is.
-fn path_at(alloc: Global, uri: &str) -> Result<String, AllocError> {
-    let path = match uri.strip_prefix("file:") {
-        Some(rest) => without_host(rest),
-        None => uri.strip_prefix("./").unwrap_or(uri),
+        "/"
     };
-    let mut bytes = Vec::new(alloc);
-    percent_decode(path.as_bytes()).append_to(&mut bytes)?;
-    match str::from_utf8(bytes.as_slice()) {
-        Ok(decoded) => String::from_str(alloc, decoded),
-        Err(_) => String::from_str(alloc, path),
-    }
+    format!(in alloc; "{base}{slash}{uri}")
 }
 
-/// What comes after `file:`, without an empty host, and without the slash before the letter of a drive.
-fn without_host(rest: &str) -> &str {
+/// An address of a file without `file:`, without an empty host, and without the slash before the letter of a drive; another
+/// address without `./` before it.
+fn local(uri: &str) -> &str {
+    let Some(rest) = uri.strip_prefix("file:") else {
+        return uri.strip_prefix("./").unwrap_or(uri);
+    };
     let path = rest.strip_prefix("//").unwrap_or(rest);
     match path.as_bytes() {
         [b'/', _, b':', ..] => path.strip_prefix('/').unwrap_or(path),
         _ => path,
     }
+}
+
+/// A path with characters for its escapes, unless these don't give characters.
+fn decoded(alloc: Global, path: &str) -> Result<String, AllocError> {
+    let mut bytes = Vec::new(alloc);
+    percent_decode(path.as_bytes()).append_to(&mut bytes)?;
+    let text = str::from_utf8(bytes.as_slice()).unwrap_or(path);
+    String::from_str(alloc, text)
 }
