@@ -13,6 +13,7 @@ use Rattle.redraw_report.specs.declared.diagnostic.Code.{Code}
 use Rattle.redraw_report.specs.declared.diagnostic.Severity.{Severity}
 use Rattle.redraw_report.specs.declared.diagnostic.Severity.TheVariants.{Error, Warning, Info, Note, Help, Plain}
 use Rattle.redraw_report.specs.declared.finding.Change.{Change}
+use Rattle.redraw_report.specs.declared.finding.Content.{Content}
 use Rattle.redraw_report.specs.declared.finding.Content.TheVariants as content
 use Rattle.redraw_report.specs.declared.finding.Finding.{Finding}
 use Rattle.redraw_report.specs.declared.finding.Mark.{Mark}
@@ -67,11 +68,13 @@ lines_of path text first_line folded =
     record { path = Some path; text = text; first_line = first_line; numbered = true; folded = folded }
 
 -- a source with those of some places that are in it: its lines with a mark for each, or where it has none its place and what is said
+abbrev pub content_parts : List Mark → ℕ → List ℕ → Content → List Part
+content_parts marks source path (content.Lines text first_line) =
+    Marks (lines_of path text.now first_line true) (flat_map (mark_in source) marks) ∷ []
+content_parts marks source path (content.Nothing line column) = Names path line column ∷ flat_map (label_in source) marks
+
 abbrev pub source_parts : List Mark → ℕ → Shown → List Part
-source_parts marks source record { path = path; content = content.Lines text first_line } =
-    Marks (lines_of path.now text.now first_line true) (flat_map (mark_in source) marks) ∷ []
-source_parts marks source record { path = path; content = content.Nothing line column } =
-    Names path.now line column ∷ flat_map (label_in source) marks
+source_parts marks source shown = content_parts marks source shown.path.now shown.content
 
 -- the same of the source with this index
 abbrev pub parts_at : List Shown → List Mark → ℕ → List Part
@@ -103,10 +106,13 @@ abbrev pub edited_of : Change → Edited
 edited_of c = record { start = c.start; end = c.end; text = c.text.now }
 
 -- an offer: the lines of its source with all of its edits; nothing where the source has no lines
+abbrev pub edits_on : Offer → List ℕ → Content → List Part
+edits_on offer path (content.Lines text first_line) =
+    Edits (lines_of path text.now first_line offer.is_folded) (map edited_of offer.changes.items) ∷ []
+edits_on offer path (content.Nothing line column) = []
+
 abbrev pub offer_parts : Offer → Shown → List Part
-offer_parts offer record { path = path; content = content.Lines text first_line } =
-    Edits (lines_of path.now text.now first_line offer.is_folded) (map edited_of offer.changes.items) ∷ []
-offer_parts offer record { path = path; content = content.Nothing line column } = []
+offer_parts offer shown = edits_on offer shown.path.now shown.content
 
 abbrev pub offered : List Shown → Offer → List Part
 offered shown offer = option_map_or (offer_parts offer) (slice_get shown offer.source) []

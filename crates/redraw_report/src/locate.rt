@@ -1,5 +1,5 @@
 //! Where in a text a region lies, as a tool counted it.
-ghost use Rattle.std.specs.Prelude.{◌≡◌, ℕ, ◌<◌, ◌≤◌, ⊥, length};
+ghost use Rattle.std.specs.Prelude.{◌≡◌, ℕ, ◌<◌, ◌≤◌, length, true};
 ghost use Rattle.std.specs.Str.{IsCharBoundary};
 ghost use Rattle.redraw_report.specs.Region.{IsLocated, column_from, column_in, place_from, place_on};
 ghost use Rattle.redraw_report.specs.Region as spec;
@@ -35,16 +35,16 @@ pub struct Lookup<'a> {
 
 /// Where in a text a region lies.
 pub fn locate(lookup: Lookup<'_>, region: Region) -> Located
-    ensures located { IsLocated lookup.text.now
-        (spec.start_place lookup.text.now lookup.starts.now lookup.first_line region)
-        (spec.end_place lookup.text.now lookup.starts.now lookup.first_line region) result }
+    ensures located { IsLocated lookup.entry.text.now
+        (spec.start_place lookup.entry.text.now lookup.entry.starts.now lookup.entry.first_line region)
+        (spec.end_place lookup.entry.text.now lookup.entry.starts.now lookup.entry.first_line region) result }
 {
     between(lookup.text, start_place(lookup, region), end_place(lookup, region))
 }
 
 /// Where a region starts.
 fn start_place(lookup: Lookup<'_>, region: Region) -> Place
-    ensures value { result ≡ spec.start_place lookup.text.now lookup.starts.now lookup.first_line region }
+    ensures value { result ≡ spec.start_place lookup.entry.text.now lookup.entry.starts.now lookup.entry.first_line region }
 {
     match region {
         Region::Bytes { start, .. } => byte_place(start),
@@ -58,7 +58,7 @@ fn start_place(lookup: Lookup<'_>, region: Region) -> Place
 
 /// Where a region ends.
 fn end_place(lookup: Lookup<'_>, region: Region) -> Place
-    ensures value { result ≡ spec.end_place lookup.text.now lookup.starts.now lookup.first_line region }
+    ensures value { result ≡ spec.end_place lookup.entry.text.now lookup.entry.starts.now lookup.entry.first_line region }
 {
     match region {
         Region::Bytes { end, .. } => byte_place(end),
@@ -76,7 +76,7 @@ fn byte_place(byte: usize) -> Place
 
 /// Where a column of a line is, or the end of the line's text where no column is given.
 fn column_place(lookup: Lookup<'_>, line: usize, column: Option<usize>, unit: Unit) -> Place
-    ensures value { result ≡ place_on unit lookup.text.now lookup.starts.now lookup.first_line line column }
+    ensures value { result ≡ place_on unit lookup.entry.text.now lookup.entry.starts.now lookup.entry.first_line line column }
 {
     if line < lookup.first_line {
         return Place {

@@ -116,12 +116,12 @@ impl<S: Shelf + Drop, W: Write, V: Write> Drawing<'_, S, W, V> {
         let (clamped, undrawn) = (drawn.clamped, drawn.undrawn);
         if clamped > 0 {
             self.tell(format_args!(
-                "{clamped} places aren't in their source and are drawn at the nearest one"
+                "places that aren't in their source, drawn at the nearest one: {clamped}"
             ));
         }
         if undrawn > 0 {
             self.tell(format_args!(
-                "{undrawn} edits aren't drawn: nothing of their file is at hand"
+                "edits that aren't drawn, since nothing of their file is at hand: {undrawn}"
             ));
         }
         match drawn.text {

@@ -107,6 +107,7 @@ impl Reading {
         };
         match Value::from_str(self.alloc, document.as_str()) {
             Ok(value) => self.value(&value, drawing),
+            Err(error) if error.is_memory() => Err(Stop::Memory),
             Err(error) => {
                 drawing.wrong(format_args!("not valid JSON: {error}"));
                 Ok(())
