@@ -120,7 +120,7 @@ offered shown offer = option_map_or (offer_parts offer) (slice_get shown offer.s
 -- how many offers there are beside those that are shown
 abbrev pub more_text : ℕ → List ℕ
 more_text more =
-    codes "and " ++ decimal more ++ codes (if more == 1 then " other candidate" else " other candidates")
+    codes "and " ++ decimal more ++ (if more == 1 then codes " other candidate" else codes " other candidates")
 
 abbrev pub more_parts : ℕ → List Part
 more_parts more = if nat_lt 0 more then Says (level_of Plain) (chars (more_text more)) ∷ [] else []

@@ -290,6 +290,23 @@ fn add_source_at<'a>(
     }
 }
 
+/// The same of the sources with these indexes, in their order.
+fn add_each_source<'a>(
+    alloc: Global,
+    elements: &mut Vec<Element<'a>>,
+    sources: &[Shown<'a>],
+    order: &[usize],
+    marks: &[Mark<'a>],
+) -> Result<(), AllocError>
+    ensures added { OnOk result (map part_view elements.new.items
+        ≡ map part_view elements.old.items ++ flat_map (parts_at sources.now marks.now) order.now) }
+{
+    for source in order {
+        add_source_at(alloc, elements, sources, *source, marks)?;
+    }
+    Ok(())
+}
+
 /// What is drawn of some places: each source with those that are in it.
 fn marked_elements<'a>(
     alloc: Global,
@@ -300,9 +317,7 @@ fn marked_elements<'a>(
 {
     let order = sources_of(alloc, marks)?;
     let mut elements = Vec::new(alloc);
-    for source in order.as_slice() {
-        add_source_at(alloc, &mut elements, sources, *source, marks)?;
-    }
+    add_each_source(alloc, &mut elements, sources, &order, marks)?;
     Ok(elements)
 }
 

@@ -1,9 +1,0 @@
-use Rattle.std.proofs.Common.{◌≡◌, map, take}
-use Rattle.std.specs.List.{flat_map}
-use Rattle.redraw_report.specs.Report.{parts_at}
-use Rattle.redraw_report.specs.View.{part_view}
-use Rattle.redraw_report.proofs.report.marked_elements.Given as goal
-
--- what is drawn of the sources so far
-abbrev pub invariant-loop-source : goal.invariant-loop-source
-invariant-loop-source l = map part_view l.elements.items ≡ flat_map (parts_at l.sources l.marks) (take l.source-index l.order.items)
