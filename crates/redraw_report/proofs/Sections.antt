@@ -1,5 +1,5 @@
 -- How a report grows, remark by remark.
-use Rattle.std.proofs.Common.{◌≡◌, true, false, List, [], ◌∷◌, ◌++◌, map, ap, sym, ◌∙◌, append_assoc, if◌then◌else◌}
+use Rattle.std.proofs.Common.{◌≡◌, false, List, [], ◌∷◌, ◌++◌, map, ap, sym, ◌∙◌, append_assoc, if◌then◌else◌}
 use Rattle.std.proofs.lemmas.List.{map-append}
 use Rattle.snippet_model.specs.declared.snippet.Group.{Group}
 use Rattle.redraw_report.specs.declared.finding.Remark.{Remark}

@@ -2,7 +2,7 @@
 use Rattle.std.proofs.Common.{◌≡◌, ◌⊎◌, ℕ, suc, arith, ◌+◌, ◌<◌, ◌≤◌, Bool, false, List, ◌∷◌, drop, drop-cons, get_or, length, sym, ap, ◌∙◌, subst, inl, inr, if◌then◌else◌}
 use Rattle.std.specs.Bool.{IsTrue}
 use Rattle.std.specs.Str.{IsCharBoundary, IsUtf8}
-use Rattle.std.proofs.lemmas.Bool.{cases_lt}
+use Rattle.std.proofs.lemmas.Bool.{cases_lt, false≢true}
 use Rattle.std.proofs.lemmas.Str.{IsCharBoundary-start}
 use Rattle.redraw_report.specs.Region.{ends_line, line_length}
 
@@ -23,4 +23,4 @@ no-border text at test utf8 tests fails = by_cases (cases_lt 0 at)
     by_cases (inl after) = omega (arith, after)
     by_cases (inr first) =
         let zero_at : 0 ≡ at = omega (arith, first) in
-        absurd (subst IsTrue fails (tests (subst (IsCharBoundary text) zero_at (IsCharBoundary-start text utf8))))
+        absurd (false≢true (subst IsTrue fails (tests (subst (IsCharBoundary text) zero_at (IsCharBoundary-start text utf8)))))

@@ -2,7 +2,6 @@
 use Rattle.std.specs.Prelude.{◌≡◌, ℕ, zero, suc, ◌+◌, ◌-◌, ◌≤◌, Bool, true, false, nat_lt, nat_le, ◌==◌, ◌&&◌, ◌||◌, List, [], ◌∷◌, ◌++◌, Option, Some, None, drop, length, slice_get, take, unwrap_or, if◌then◌else◌}
 use Rattle.std.specs.Option.{option_map_or}
 use Rattle.std.specs.Str.{IsCharBoundary}
-use Rattle.redraw_report.specs.declared.diagnostic.LineRegion.{LineRegion}
 use Rattle.redraw_report.specs.declared.diagnostic.Region.{Region}
 use Rattle.redraw_report.specs.declared.diagnostic.Region.TheVariants as region
 use Rattle.redraw_report.specs.declared.diagnostic.Unit as unit_type

@@ -39,7 +39,11 @@ pub fn locate(lookup: Lookup<'_>, region: Region) -> Located
         (spec.start_place lookup.entry.text.now lookup.entry.starts.now lookup.entry.first_line region)
         (spec.end_place lookup.entry.text.now lookup.entry.starts.now lookup.entry.first_line region) result }
 {
-    between(lookup.text, start_place(lookup, region), end_place(lookup, region))
+    between(
+        lookup.text,
+        start_place(lookup, region),
+        end_place(lookup, region),
+    )
 }
 
 /// Where a region starts.

@@ -8,4 +8,4 @@ pub returns-in-None : goal.returns-in-None
 returns-in-None c =
     let offer = c.args.offer.now in
     let past : length c.args.sources.now ≤ offer.source = omega (arith, c.in-None.ensures.lookup) in
-    record { added = none-added c.args.sources.now offer.source (offer_parts offer) (map part_view c.args.elements.now.items) past; }
+    record { added = none-added c.args.sources.now offer.source (offer_parts offer) (map part_view c.args.elements.now.items) past }

@@ -1,6 +1,5 @@
 use Rattle.std.proofs.Common.{◌≡◌, ◌∷◌, ◌++◌, ◌∙◌, List, map, sym}
 use Rattle.std.proofs.lemmas.Result.{IfOk-weaker}
-use Rattle.snippet_model.specs.declared.snippet.Group.{Group}
 use Rattle.redraw_report.specs.declared.finding.Remark.{Remark}
 use Rattle.redraw_report.specs.Report.{remark_section, sections_from}
 use Rattle.redraw_report.specs.View.{section_view}
@@ -17,6 +16,6 @@ returns-in_ok-push c =
     record {
       taken = IfOk-weaker c.remark_group.result (λ g. section_view g ≡ remark_section shown r)
           (λ g. (rest : List Remark) → map section_view new ++ sections_from shown (section_view g) rest
-            ≡ map section_view old ++ sections_from shown (section_view last) (r ∷ rest))
+          ≡ map section_view old ++ sections_from shown (section_view last) (r ∷ rest))
           (λ g is. own-group shown old new last g r c.in_ok-push.ensures.items (sym c.is_bare.ensures.value ∙ c.if-is_bare.false) is) c.remark_group.ensures.value;
     }

@@ -8,4 +8,4 @@ pub returns-in-None : goal.returns-in-None
 returns-in-None c =
     let source = c.args.source in
     let past : length c.args.sources.now ≤ source = omega (arith, c.in-None.ensures.lookup) in
-    record { added = none-added c.args.sources.now source (source_parts c.args.marks.now source) (map part_view c.args.elements.now.items) past; }
+    record { added = none-added c.args.sources.now source (source_parts c.args.marks.now source) (map part_view c.args.elements.now.items) past }
