@@ -123,7 +123,7 @@ fn place_run<'a>(
     requires run { IsRun (string_bytes text.old) run.now }
     requires unlinked { option_copied run.now.link ≡ None }
     requires row { run.now.row + 1 < 2 ^ 64 }
-    ensures ok { OnOk result (grid_shown (string_bytes text.new) runs.new.items widths.new.items ≡ cells_written (grid_shown (string_bytes text.old) runs.old.items widths.old.items) run.now.row run.now.cell (drawn run.now.role (run_chars (string_bytes text.old) run.now))) }
+    ensures ok { OnOk result (grid_shown (string_bytes text.new) runs.new.items widths.new.items ≡ cells_written (grid_shown (string_bytes text.old) runs.old.items widths.old.items) run.now.row run.now.cell (text_cells run.now.role (run_chars (string_bytes text.old) run.now))) }
     ensures grid { IsGrid (string_bytes text.new) runs.new.items widths.new.items }
     ensures runs_added { length runs.new.items ≤ length runs.old.items + 2 }
     ensures rows { length widths.old.items < 2 ^ 60 → length widths.new.items < 2 ^ 60 }

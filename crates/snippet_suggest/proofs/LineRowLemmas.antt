@@ -73,7 +73,7 @@ line_row_offers decor glyph gutter sign_role number_role line_role number text i
       sign = subst (λ (cell : Cell). IsSign decor cell.ch) (sym sign_is) (sign_row_sign gutter sign_role decor glyph is);
       space = ap (λ (cell : Cell). cell.ch) space_is ∙ sign_row_space gutter sign_role decor glyph is;
       holds = holds_texted gutter text numbered line_role numbered_short;
-      free = free_texted text numbered (gutter + 3) (text_cells line_role (chars text)) (free_texted number led 0 cells (free_led (gutter + 1) (drawn sign_role sign) (free_drawn sign_role sign (All-from_none is_listed sign (glyph_unlisted decor glyph)))) (free_drawn number_role (chars number) free_number)) (free_drawn line_role (chars text) (All-from_none is_listed (chars text) free_text));
+      free = free_texted text numbered (gutter + 3) (text_cells line_role (chars text)) (free_texted number led 0 cells (free_led (gutter + 1) (text_cells sign_role sign) (free_drawn sign_role sign (All-from_none is_listed sign (glyph_unlisted decor glyph)))) (free_drawn number_role (chars number) free_number)) (free_drawn line_role (chars text) (All-from_none is_listed (chars text) free_text));
     }
 
 pub line_row_is : (decor : DecorStyle) (glyph : SuggestionGlyph) (gutter : ℕ) (sign_role number_role line_role : ElementStyle) (sign number shown text norm_text : List ℕ) → is_sign glyph ≡ true → sign ≡ glyph_of decor glyph → chars number ≡ shown → length shown ≤ gutter + 1 → All (λ c. is_listed c ≡ false) shown → chars text ≡ norm_text → list_any is_listed norm_text ≡ false → IsLineRow decor gutter shown norm_text (line_row gutter sign_role number_role line_role sign number text)

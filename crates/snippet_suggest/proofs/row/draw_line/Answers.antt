@@ -33,7 +33,7 @@ returns-clause-added c fits =
     let numbered = texted number led 0 (text_cells LineNumber (chars number)) in
     let is_number : chars number ≡ shown = ap chars (c.as_str.ensures.value ∙ c.in_ok-number.ensures.text) ∙ chars-shown_number c.args.layout.numbers g c.args.number (omega arith) in
     let is_text : chars text ≡ norm (chars c.args.line.now) = ap chars c.as_str-2.ensures.value ∙ c.in_ok-text.ensures.value in
-    let begun = begun_by old c.puts.new.self c.num_lines-row.result (g + 1) (drawn c.role.result sign) below (c.in_ok-puts.ensures.ok c.text-sign.ensures.some) in
+    let begun = begun_by old c.puts.new.self c.num_lines-row.result (g + 1) (text_cells c.role.result sign) below (c.in_ok-puts.ensures.ok c.text-sign.ensures.some) in
     let put = text_put old c.puts.new.self c.puts-2.new.self led c.num_lines-row.result 0 number (text_cells LineNumber (chars number)) begun below c.in_ok-puts-2.ensures.ok c.puts-2.ensures.empty in
     let lined = text_put old c.puts-2.new.self c.puts-3.new.self numbered c.num_lines-row.result (g + 3) text (text_cells NoStyle (chars text)) put below c.in_ok-puts-3.ensures.ok c.puts-3.ensures.empty in
     record {
