@@ -12,7 +12,7 @@ use std::alloc::AllocError;
 const UNDESCRIBED: &str = "apply this fix";
 
 /// What is said of a list of fixes: one help for each description, with the fixes of that description, one of which is to be
-/// made. Those of one description have to stand in a row.
+/// made. Those of one description have to stand in a row. A fix with something wrong in it is left out.
 pub fn children_of(
     fixes: &List<'_, '_>,
     context: &Context<'_>,
@@ -21,9 +21,8 @@ pub fn children_of(
     let mut children: Vec<Child> = Vec::new(context.alloc);
     for (index, value) in fixes.items.iter().enumerate() {
         let fix = fixes.node(index, value);
-        if fix.is_object(troubles) {
+        if let Some(edits) = edits_of(&fix, context, troubles)? {
             let message = description_of(&fix, context, troubles)?;
-            let edits = edits_of(&fix, context, troubles)?;
             add_fix(&mut children, message, edits, context)?;
         }
     }
@@ -66,18 +65,23 @@ fn add_fix(
     Ok(())
 }
 
-/// The edits of a fix, in all files.
+/// The edits of a fix, in all files; `None` where something is wrong with one of them, which is told: the others alone would be
+/// another fix.
 fn edits_of(
     fix: &Node<'_, '_>,
     context: &Context<'_>,
     troubles: &mut Troubles,
-) -> Result<Vec<Edit>, AllocError> {
+) -> Result<Option<Vec<Edit>>, AllocError> {
+    let told = troubles.lines.len();
     let mut edits = Vec::new(context.alloc);
-    let changes = fix.list("artifactChanges", troubles);
+    let changes = fix.needed_list("artifactChanges", troubles);
     for (index, value) in changes.items.iter().enumerate() {
         add_change(&mut edits, &changes.node(index, value), context, troubles)?;
     }
-    Ok(edits)
+    if troubles.lines.len() > told {
+        return Ok(None);
+    }
+    Ok(Some(edits))
 }
 
 /// Adds the edits of one file.
@@ -90,7 +94,7 @@ fn add_change(
     let Some(file) = path_in(context.alloc, change, context.run, troubles)? else {
         return Ok(());
     };
-    let replacements = change.list("replacements", troubles);
+    let replacements = change.needed_list("replacements", troubles);
     for (index, value) in replacements.items.iter().enumerate() {
         let replacement = replacements.node(index, value);
         if let Some(edit) = edit_of(&replacement, file.as_str(), context, troubles)? {
@@ -100,7 +104,7 @@ fn add_change(
     Ok(())
 }
 
-/// The edit of a replacement. One without a text to put in takes text away.
+/// The edit of a replacement. One whose content is no text isn't one that can be drawn.
 fn edit_of(
     replacement: &Node<'_, '_>,
     file: &str,
@@ -110,11 +114,11 @@ fn edit_of(
     let Some(deleted) = replacement.needed("deletedRegion", troubles) else {
         return Ok(None);
     };
-    let Some(region) = region_of(&deleted, context.unit, troubles) else {
+    let region = region_of(&deleted, context.unit, troubles);
+    let (Some(region), Some(text)) = (region, inserted_in(replacement, troubles)) else {
         return Ok(None);
     };
     let alloc = context.alloc;
-    let text = inserted_in(replacement, troubles).unwrap_or("");
     Ok(Some(Edit {
         file: String::from_str(alloc, file)?,
         region,
@@ -123,9 +127,11 @@ fn edit_of(
     }))
 }
 
-/// The text that a replacement puts in.
+/// The text that a replacement puts in: none where it only takes text away.
 fn inserted_in<'v>(replacement: &Node<'v, '_>, troubles: &mut Troubles) -> Option<&'v str> {
-    replacement
-        .object("insertedContent", troubles)?
-        .text("text", troubles)
+    if !replacement.has("insertedContent") {
+        return Some("");
+    }
+    let content = replacement.needed("insertedContent", troubles)?;
+    content.needed_text("text", troubles)
 }

@@ -68,11 +68,7 @@ fn span_of(
 }
 
 /// The region of a location; the start of its file where it has none, or a wrong one.
-fn region_or_start(
-    region: &Option<Node<'_, '_>>,
-    unit: Unit,
-    troubles: &mut Troubles,
-) -> Region {
+fn region_or_start(region: &Option<Node<'_, '_>>, unit: Unit, troubles: &mut Troubles) -> Region {
     match region {
         Some(region) => region_of(region, unit, troubles).unwrap_or(START),
         None => START,

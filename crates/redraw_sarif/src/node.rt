@@ -107,6 +107,11 @@ impl<'v> Node<'v, '_> {
         }
     }
 
+    /// Whether there is a field of this name.
+    pub fn has(&self, name: &str) -> bool {
+        self.field(name).is_some()
+    }
+
     /// Whether the value is an object.
     pub fn is_object(&self, troubles: &mut Troubles) -> bool {
         let is_object = self.value.is_object();
@@ -118,7 +123,7 @@ impl<'v> Node<'v, '_> {
 
     /// The object in the field of this name, which has to be there.
     pub fn needed<'n>(&'n self, name: &'n str, troubles: &mut Troubles) -> Option<Node<'v, 'n>> {
-        if self.field(name).is_none() {
+        if !self.has(name) {
             self.tell_field(name, troubles, Expectation::Object);
         }
         self.object(name, troubles)
@@ -155,6 +160,14 @@ impl<'v> Node<'v, '_> {
         }
     }
 
+    /// The list in the field of this name, which has to be there.
+    pub fn needed_list<'n>(&'n self, name: &'n str, troubles: &mut Troubles) -> List<'v, 'n> {
+        if !self.has(name) {
+            self.tell_field(name, troubles, Expectation::List);
+        }
+        self.list(name, troubles)
+    }
+
     /// The text in the field of this name.
     pub fn text(&self, name: &str, troubles: &mut Troubles) -> Option<&'v str> {
         let text = self.field(name)?.as_str();
@@ -162,6 +175,14 @@ impl<'v> Node<'v, '_> {
             self.tell_field(name, troubles, Expectation::Text);
         }
         text
+    }
+
+    /// The text in the field of this name, which has to be there.
+    pub fn needed_text(&self, name: &str, troubles: &mut Troubles) -> Option<&'v str> {
+        if !self.has(name) {
+            self.tell_field(name, troubles, Expectation::Text);
+        }
+        self.text(name, troubles)
     }
 
     /// The whole number in the field of this name. The number -1 stands for none.

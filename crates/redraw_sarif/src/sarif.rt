@@ -30,8 +30,9 @@ pub struct Run<'v, 'p> {
 }
 
 impl<'v, 'p> Run<'v, 'p> {
-    /// The run that is told here.
+    /// The run that is told here. What is no object is a run without results, and is told.
     pub fn new(node: Node<'v, 'p>, troubles: &mut Troubles) -> Run<'v, 'p> {
+        let _is_told = node.is_object(troubles);
         let unit = unit_of(&node, troubles);
         Run { node, unit }
     }
