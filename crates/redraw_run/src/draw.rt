@@ -1,11 +1,11 @@
 //! Findings, drawn one after another as they are read.
 
-use crate::place::{Placing, load_files};
-use crate::sources::{Shelf, Sources};
 use crate::stop::Stop;
 use annotate_snippets::renderer::RenderError;
 use annotate_snippets::text::normalize_untrusted_str;
 use annotate_snippets::{Group, Renderer};
+use redraw_read::place::{Placing, load_files};
+use redraw_read::sources::{Shelf, Sources};
 use redraw_report::diagnostic::{Diagnostic, Severity};
 use redraw_report::fits::report_fits;
 use redraw_report::report::report;

@@ -1,10 +1,10 @@
 //! An input, read line by line. Nothing of a line is kept when the next is read, save of a log that is one document.
 
 use crate::draw::Drawing;
-use crate::rustc::diagnostic_of;
 use crate::sarif::draw_log;
-use crate::sources::Shelf;
 use crate::stop::Stop;
+use redraw_read::rustc::diagnostic_of;
+use redraw_read::sources::Shelf;
 use replay_read::fault::Place;
 use replay_read::node::Node;
 use replay_read::shape::Expectation;

@@ -2,13 +2,8 @@
 #![tactic(auto)]
 
 pub mod draw;
-pub mod expansion;
 pub mod input;
-pub mod json;
-pub mod place;
 pub mod run;
-pub mod rustc;
 pub mod sarif;
-pub mod sources;
 pub mod stop;
 pub mod words;

@@ -2,11 +2,11 @@
 
 use crate::draw::{Drawing, Tally};
 use crate::input::draw_input;
-use crate::sources::{Shelf, Sources};
 use crate::stop::Stop;
 use crate::words::{Options, command_of};
 use annotate_snippets::Renderer;
 use annotate_snippets::renderer::{DEFAULT_TERM_WIDTH, DecorStyle};
+use redraw_read::sources::{Shelf, Sources};
 use std::alloc::AllocError;
 use std::fs;
 use std::io::{self, BufRead, BufReader, Write};

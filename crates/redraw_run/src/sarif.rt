@@ -1,8 +1,8 @@
 //! A SARIF log, whose results are drawn one after another.
 
 use crate::draw::Drawing;
-use crate::sources::Shelf;
 use crate::stop::Stop;
+use redraw_read::sources::Shelf;
 use redraw_sarif::node::{Node, Troubles};
 use redraw_sarif::sarif::{Run, log};
 use serde_json::Value;

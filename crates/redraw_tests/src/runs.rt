@@ -2,7 +2,7 @@
 use annotate_snippets::Renderer;
 use redraw_run::draw::{Drawing, Tally};
 use redraw_run::input::draw_input;
-use redraw_run::sources::{Shelf, Sources};
+use redraw_read::sources::{Shelf, Sources};
 use std::alloc::{AllocError, Global};
 use std::test::Fail;
 
