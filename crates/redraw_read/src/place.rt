@@ -161,7 +161,7 @@ impl<'a> Placing<'a> {
                 };
                 let path = shown.path;
                 let source = self.index_of(Shown { path, content }, false)?;
-                let at = spot.start - start;
+                let at = spot.start.saturating_sub(start);
                 changes.push(Change {
                     start: at,
                     end: at,
