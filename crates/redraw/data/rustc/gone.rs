@@ -1,0 +1,5 @@
+fn main() {
+    let count = 3;
+    let name: String = count;
+    println!("{name}");
+}

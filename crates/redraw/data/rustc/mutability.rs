@@ -1,0 +1,7 @@
+fn main() {
+    let names = Vec::new();
+    names.push("Ada");
+    let count = names.len();
+    count += 1;
+    println!("{count}");
+}

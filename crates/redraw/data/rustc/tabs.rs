@@ -1,0 +1,6 @@
+fn main() {
+	let total: i64 = 4;
+	if	total	==	"4" {
+		println!("{total}");
+	}
+}

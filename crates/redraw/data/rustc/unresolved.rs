@@ -1,0 +1,4 @@
+fn main() {
+    let distance = 12;
+    println!("{}", distanse * 2);
+}

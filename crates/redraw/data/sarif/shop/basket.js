@@ -1,0 +1,7 @@
+export function total(basket) {
+  let sum = 0;
+  for (const item in basket) {
+    sum += item.price;
+  }
+  return summ;
+}

@@ -1,0 +1,6 @@
+int count_items (const char *name)
+{
+  if (name = 0)
+    return 0;
+  return lookup (name);
+}

@@ -1,0 +1,3 @@
+# 🍎 apples, 🍐 pears
+price = {"🍎": 3, "🍐": "4"}
+total = price["🍎"] + price["🍐"]

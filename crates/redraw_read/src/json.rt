@@ -1,0 +1,58 @@
+//! Fields of JSON, which may be missing or null in what other tools write.
+
+use replay_read::fault::Fault;
+use replay_read::node::Node;
+use replay_read::shape::Expectation;
+use serde_json::Value;
+use std::alloc::{AllocError, Global};
+
+/// The field of this name; `None` where there is none, or null.
+pub fn given<'v, 'n>(node: &'n Node<'v, '_>, name: &'n str) -> Option<Node<'v, 'n>> {
+    match node.optional(name) {
+        Some(field) if !field.value.is_null() => Some(field),
+        _ => None,
+    }
+}
+
+/// The text in the field of this name, if there is one.
+pub fn given_text<'v>(node: &Node<'v, '_>, name: &str) -> Result<Option<&'v str>, Fault> {
+    match given(node, name) {
+        Some(field) => Ok(Some(field.as_text()?)),
+        None => Ok(None),
+    }
+}
+
+/// A copy of the text in the field of this name, if there is one.
+pub fn given_string(node: &Node<'_, '_>, name: &str) -> Result<Option<String>, Fault> {
+    match given_text(node, name)? {
+        Some(text) => Ok(Some(owned(node.alloc, text)?)),
+        None => Ok(None),
+    }
+}
+
+/// A copy of the text in the field of this name, which has to be there.
+pub fn string(node: &Node<'_, '_>, name: &str) -> Result<String, Fault> {
+    let text = node.text(name)?;
+    Ok(owned(node.alloc, text)?)
+}
+
+/// A copy of a text.
+pub fn owned(alloc: Global, text: &str) -> Result<String, AllocError> {
+    String::from_str(alloc, text)
+}
+
+/// The values of a list.
+pub fn values_of<'v>(node: &Node<'v, '_>) -> Result<&'v [Value], Fault> {
+    match node.value.as_array() {
+        Some(values) => Ok(values.as_slice()),
+        None => Err(node.unexpected(Expectation::List)),
+    }
+}
+
+/// The values of the list in the field of this name; none where there is no such field, or null.
+pub fn listed<'v>(node: &Node<'v, '_>, name: &str) -> Result<&'v [Value], Fault> {
+    match given(node, name) {
+        Some(list) => values_of(&list),
+        None => Ok(&[]),
+    }
+}

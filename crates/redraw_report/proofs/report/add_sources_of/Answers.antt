@@ -1,0 +1,8 @@
+use Rattle.redraw_report.proofs.Joined.{sources-next}
+use Rattle.redraw_report.proofs.report.add_sources_of.Goals as goal
+
+pub loop-mark-preserved : goal.loop-mark-preserved
+loop-mark-preserved c =
+    sources-next c.args.primary c.args.order.now.items c.args.marks.now c.loop-mark.mark-index _
+    c.loop-mark.order.items c.add_source_of.new.order.items
+    c.loop-mark.invariant c.loop-mark-test.true c.in_ok-add_source_of.ensures.order

@@ -1,0 +1,7 @@
+use Rattle.std.proofs.Common.{◌≡◌, take}
+use Rattle.redraw_report.specs.Report.{with_sources}
+use Rattle.redraw_report.proofs.report.add_sources_of.Given as goal
+
+-- the indexes so far
+abbrev pub invariant-loop-mark : goal.invariant-loop-mark
+invariant-loop-mark l = l.order.items ≡ with_sources l.primary l.initial.order.items (take l.mark-index l.marks)

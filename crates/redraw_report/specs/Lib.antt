@@ -1,0 +1,4 @@
+-- The vocabulary of reports that are made from what tools tell.
+pub mod Region
+pub mod Report
+pub mod View

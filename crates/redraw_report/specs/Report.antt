@@ -1,0 +1,179 @@
+-- The report that a finding becomes: which title, which place with which label, which edit.
+use Rattle.std.specs.Prelude.{string_bytes, ℕ, ◌-◌, Bool, true, false, nat_lt, ◌==◌, ◌&&◌, List, [], ◌∷◌, ◌++◌, Option, Some, None, chars, codes, length, map, slice_get, take, not, if◌then◌else◌}
+use Rattle.std.specs.List.{flat_map, list_any}
+use Rattle.std.specs.Fmt.{decimal}
+use Rattle.std.specs.Option.{option_map, option_map_or}
+use Rattle.std.specs.Borrow.{Bor}
+use Rattle.snippet_style.specs.declared.role.LevelInner.TheVariants as kind
+use Rattle.snippet_text.specs.Normalized.{norm}
+use Rattle.snippet_model.specs.declared.level.Level.{Level}
+use Rattle.snippet_model.specs.declared.level.LevelName.TheVariants.{Standard, Hidden}
+use Rattle.snippet_model.specs.declared.snippet.AnnotationKind.TheVariants.{Primary, Context}
+use Rattle.redraw_report.specs.declared.diagnostic.Code.{Code}
+use Rattle.redraw_report.specs.declared.diagnostic.Severity.{Severity}
+use Rattle.redraw_report.specs.declared.diagnostic.Severity.TheVariants.{Error, Warning, Info, Note, Help, Plain}
+use Rattle.redraw_report.specs.declared.finding.Change.{Change}
+use Rattle.redraw_report.specs.declared.finding.Content.{Content}
+use Rattle.redraw_report.specs.declared.finding.Content.TheVariants as content
+use Rattle.redraw_report.specs.declared.finding.Finding.{Finding}
+use Rattle.redraw_report.specs.declared.finding.Mark.{Mark}
+use Rattle.redraw_report.specs.declared.finding.Offer.{Offer}
+use Rattle.redraw_report.specs.declared.finding.Remark.{Remark}
+use Rattle.redraw_report.specs.declared.finding.Shown.{Shown}
+use Rattle.redraw_report.specs.View.{Edited, Edits, Gap, Headed, Lines, Marked, Marks, Named, Names, Part, Says, Section}
+
+-- the level of a severity: the standard one, and that of a note, but without its name, for a plain text
+abbrev pub level_of : Severity → Level
+level_of Error = record { name = Standard; kind = kind.Error }
+level_of Warning = record { name = Standard; kind = kind.Warning }
+level_of Info = record { name = Standard; kind = kind.Info }
+level_of Note = record { name = Standard; kind = kind.Note }
+level_of Help = record { name = Standard; kind = kind.Help }
+level_of Plain = record { name = Hidden; kind = kind.Note }
+
+-- a message of a severity; its text isn't trusted, and is normalised
+abbrev pub said : Severity → List ℕ → Part
+said severity text = Says (level_of severity) (norm (chars text))
+
+-- the text that a reference leads to, where there is one
+abbrev pub lent : Option (Bor (List ℕ)) → Option (List ℕ)
+lent text = option_map (λ (t : Bor (List ℕ)). t.now) text
+
+-- the mark of a place: a primary one where the place is the point of the report, else one of context; with what is said of the place
+abbrev pub marked_of : Mark → Marked
+marked_of m =
+    record {
+      start = m.start;
+      end = m.end;
+      label = lent m.label;
+      kind = if m.is_primary then Primary else Context;
+      highlighted = false;
+    }
+
+-- the mark of a place, if it is in the source with this index
+abbrev pub mark_in : ℕ → Mark → List Marked
+mark_in source m = if m.source == source then marked_of m ∷ [] else []
+
+-- what is said of a place, if it is in that source: below an empty row
+abbrev pub label_rows : Option (Bor (List ℕ)) → List Part
+label_rows None = []
+label_rows (Some label) = Gap ∷ said Note label.now ∷ []
+
+abbrev pub label_in : ℕ → Mark → List Part
+label_in source m = if m.source == source then label_rows m.label else []
+
+-- lines of a file as they are shown
+abbrev pub lines_of : List ℕ → List ℕ → ℕ → Bool → Lines
+lines_of path text first_line folded =
+    record { path = Some path; text = text; first_line = first_line; numbered = true; folded = folded }
+
+-- a source with those of some places that are in it: its lines with a mark for each, or where it has none its place and what is said
+abbrev pub content_parts : List Mark → ℕ → List ℕ → Content → List Part
+content_parts marks source path (content.Lines text first_line) =
+    Marks (lines_of path text.now first_line true) (flat_map (mark_in source) marks) ∷ []
+content_parts marks source path (content.Nothing line column) = Names path line column ∷ flat_map (label_in source) marks
+
+abbrev pub source_parts : List Mark → ℕ → Shown → List Part
+source_parts marks source shown = content_parts marks source shown.path.now shown.content
+
+-- the same of the source with this index
+abbrev pub parts_at : List Shown → List Mark → ℕ → List Part
+parts_at shown marks source = option_map_or (source_parts marks source) (slice_get shown source) []
+
+-- some indexes, and one more if it isn't among them
+abbrev pub with_index : List ℕ → ℕ → List ℕ
+with_index order i = if list_any (λ j. j == i) order then order else order ++ i ∷ []
+
+-- some indexes, and that of a place's source, but of a place that isn't primary only where all are taken
+abbrev pub with_source : Bool → List ℕ → Mark → List ℕ
+with_source primary order m = if primary && not m.is_primary then order else with_index order m.source
+
+-- the same of some places, one after another
+abbrev pub with_sources : Bool → List ℕ → List Mark → List ℕ
+with_sources primary order [] = order
+with_sources primary order (m ∷ ms) = with_sources primary (with_source primary order m) ms
+
+-- the sources of some places, each once: those of primary places first, then the others as they come
+abbrev pub sources_of : List Mark → List ℕ
+sources_of marks = with_sources false (with_sources true [] marks) marks
+
+-- what is shown of some places: each source with those that are in it
+abbrev pub marked_parts : List Shown → List Mark → List Part
+marked_parts shown marks = flat_map (parts_at shown marks) (sources_of marks)
+
+-- an edit
+abbrev pub edited_of : Change → Edited
+edited_of c = record { start = c.start; end = c.end; text = c.text.now }
+
+-- an offer: the lines of its source with all of its edits; nothing where the source has no lines
+abbrev pub edits_on : Offer → List ℕ → Content → List Part
+edits_on offer path (content.Lines text first_line) =
+    Edits (lines_of path text.now first_line offer.is_folded) (map edited_of offer.changes.items) ∷ []
+edits_on offer path (content.Nothing line column) = []
+
+abbrev pub offer_parts : Offer → Shown → List Part
+offer_parts offer shown = edits_on offer shown.path.now shown.content
+
+abbrev pub offered : List Shown → Offer → List Part
+offered shown offer = option_map_or (offer_parts offer) (slice_get shown offer.source) []
+
+-- how many offers there are beside those that are shown
+abbrev pub more_text : ℕ → List ℕ
+more_text more =
+    codes "and " ++ decimal more ++ (if more == 1 then codes " other candidate" else codes " other candidates")
+
+abbrev pub more_parts : ℕ → List Part
+more_parts more = if nat_lt 0 more then Says (level_of Plain) (chars (more_text more)) ∷ [] else []
+
+-- the first four of some offers, and how many more there are
+abbrev pub offers_parts : List Shown → List Offer → List Part
+offers_parts shown offers = flat_map (offered shown) (take 4 offers) ++ more_parts (length offers - 4)
+
+-- the name and address of a rule
+abbrev pub named_of : Code → Named
+named_of c = record { id = Some (string_bytes c.id); url = option_map string_bytes c.url }
+
+-- the title of a finding: its message isn't trusted, and is normalised where it is drawn
+abbrev pub headed_of : Finding → Headed
+headed_of f =
+    record {
+      level = level_of f.severity;
+      name = option_map (λ (c : Bor Code). named_of c.now) f.code;
+      text = chars f.message.now;
+      trusted = false;
+    }
+
+-- the title of a remark that has a group of its own: its message is normalised
+abbrev pub remark_headed : Remark → Headed
+remark_headed r =
+    record { level = level_of r.severity; name = None; text = norm (chars r.message.now); trusted = true }
+
+-- a group of a title and parts
+abbrev pub section_of : Headed → List Part → Section
+section_of headed parts = record { kind = headed.level.kind; title = Some headed; parts = parts }
+
+-- the group of a remark: what is shown of its places, and the edits that it offers
+abbrev pub remark_section : List Shown → Remark → Section
+remark_section shown r =
+    section_of (remark_headed r) (marked_parts shown r.marks.items ++ offers_parts shown r.offers.items)
+
+-- whether a remark has neither places nor edits
+abbrev pub is_bare : Remark → Bool
+is_bare r = (length r.marks.items == 0) && (length r.offers.items == 0)
+
+-- a group, and a remark as a message below what stands there
+abbrev pub with_message : Section → Remark → Section
+with_message section r =
+    record section { parts = section.parts ++ said r.severity r.message.now ∷ [] }
+
+-- a group, and the groups of some remarks: one without places and edits is a message of the group before it
+abbrev pub sections_from : List Shown → Section → List Remark → List Section
+sections_from shown section [] = section ∷ []
+sections_from shown section (r ∷ rs) =
+    if is_bare r then sections_from shown (with_message section r) rs
+    else section ∷ sections_from shown (remark_section shown r) rs
+
+-- the report of a finding whose places are in these sources: the group of its message and places, then those of what else is said
+abbrev pub report_of : List Shown → Finding → List Section
+report_of shown f =
+    sections_from shown (section_of (headed_of f) (marked_parts shown f.marks.items)) f.remarks.items

@@ -1,0 +1,130 @@
+//! What a tool told of one finding, whatever format it wrote it in.
+
+/// One finding: what is wrong, where, and what else is said of it.
+#[derive(Debug, Drop)]
+pub struct Diagnostic {
+    /// How severe it is.
+    pub severity: Severity,
+    /// What is wrong. The text isn't trusted.
+    pub message: String,
+    /// The name of the rule that it breaks, where it has one.
+    pub code: Option<Code>,
+    /// The places that it speaks of, in the order given.
+    pub spans: Vec<FileSpan>,
+    /// What else is said of it, in the order given.
+    pub children: Vec<Child>,
+}
+
+/// How severe something is.
+#[derive(Clone, Copy, Debug, PartialEq, Eq)]
+pub enum Severity {
+    Error,
+    Warning,
+    Info,
+    Note,
+    Help,
+    /// A text that stands without the name of a level.
+    Plain,
+}
+
+/// The name of a rule, and the address of a page that explains it.
+#[derive(Debug, Drop)]
+pub struct Code {
+    /// The name, as `E0308`.
+    pub id: String,
+    /// The address, where one is known.
+    pub url: Option<String>,
+}
+
+/// What is said of a finding beside its message: a note or help, with places of its own, with edits, or with neither.
+#[derive(Debug, Drop)]
+pub struct Child {
+    /// How severe it is.
+    pub severity: Severity,
+    /// What is said. The text isn't trusted.
+    pub message: String,
+    /// The places that it speaks of; none of an edit.
+    pub spans: Vec<FileSpan>,
+    /// The edits that it suggests: one of these lists is to be made, all of it.
+    pub alternatives: Vec<Vec<Edit>>,
+}
+
+/// A place in a file that is spoken of.
+#[derive(Debug, Drop)]
+pub struct FileSpan {
+    /// The file, by the name that the tool gave it.
+    pub file: String,
+    /// Where in the file.
+    pub region: Region,
+    /// What is said of the place, where something is.
+    pub label: Option<String>,
+    /// Whether it is the point of the report; else it helps to see the point.
+    pub is_primary: bool,
+    /// Lines of the file, where the input has them.
+    pub carried: Option<Carried>,
+}
+
+/// A suggested edit: a part of a file, and the text that is to stand in its place.
+#[derive(Debug, Drop)]
+pub struct Edit {
+    /// The file, by the name that the tool gave it.
+    pub file: String,
+    /// The part of it that goes.
+    pub region: Region,
+    /// What stands in its place.
+    pub replacement: String,
+    /// Lines of the file, where the input has them.
+    pub carried: Option<Carried>,
+}
+
+/// Lines of a file that the input itself holds.
+#[derive(Debug, Drop)]
+pub struct Carried {
+    /// The number of the first of the lines, from 1.
+    pub first_line: usize,
+    /// The lines, with line feeds between them and none after the last.
+    pub text: String,
+    /// Whether these are whole lines, as the file had them: then they are shown in place of the file where it holds others.
+    /// Else they are shown only where the file can't be read.
+    pub is_whole: bool,
+}
+
+/// A part of a file, as the tool counted it.
+#[derive(Clone, Copy, Debug, PartialEq, Eq)]
+pub enum Region {
+    /// From byte `start` to before byte `end` of the file, from 0.
+    Bytes {
+        start: usize,
+        end: usize,
+    },
+    /// By lines and columns.
+    Lines(LineRegion),
+    /// From character `start` to before character `end` of the file, from 0.
+    Chars {
+        start: usize,
+        end: usize,
+        unit: Unit,
+    },
+}
+
+/// A part of a file by lines and columns, all counted from 1: from a column of a line to before a column of the same or a
+/// later line. Without a start column it begins with its first line, without an end column it ends with its last line,
+/// before that line's end.
+#[derive(Clone, Copy, Debug, PartialEq, Eq)]
+pub struct LineRegion {
+    pub start_line: usize,
+    pub start_column: Option<usize>,
+    pub end_line: usize,
+    pub end_column: Option<usize>,
+    /// What the columns count.
+    pub unit: Unit,
+}
+
+/// What a tool counts as one character.
+#[derive(Clone, Copy, Debug, PartialEq, Eq)]
+pub enum Unit {
+    /// Units of UTF-16: a character outside of the basic plane is two.
+    Utf16,
+    /// Unicode scalar values.
+    CodePoints,
+}

@@ -1,0 +1,89 @@
+//! A finding whose places have been found in the sources that are shown: all that a report is made of.
+
+use crate::diagnostic::{Code, Severity};
+
+/// Text that places are shown in.
+#[derive(Clone, Copy, Debug)]
+pub struct Shown<'a> {
+    /// The path that is shown for it.
+    pub path: &'a str,
+    /// Where its lines are, or that they are nowhere.
+    pub content: Content<'a>,
+}
+
+/// What is at hand of a file.
+#[derive(Clone, Copy, Debug)]
+pub enum Content<'a> {
+    /// Lines of it, the first of which has this number.
+    Lines {
+        text: &'a str,
+        first_line: usize,
+    },
+    /// None of it: only the line and column of a place are known, where they are.
+    Nothing {
+        line: Option<usize>,
+        column: Option<usize>,
+    },
+}
+
+/// A finding, by places in sources, which are told by their index in a list.
+#[derive(Debug, Drop)]
+pub struct Finding<'a> {
+    pub severity: Severity,
+    /// What is wrong. The text isn't trusted.
+    pub message: &'a str,
+    /// The name of the rule that it breaks, where it has one.
+    pub code: Option<&'a Code>,
+    /// The places that it speaks of.
+    pub marks: Vec<Mark<'a>>,
+    /// What else is said of it.
+    pub remarks: Vec<Remark<'a>>,
+}
+
+/// A place that is spoken of.
+#[derive(Clone, Copy, Debug)]
+pub struct Mark<'a> {
+    /// The source, by its index.
+    pub source: usize,
+    /// The byte of the source where the place starts.
+    pub start: usize,
+    /// The byte after it.
+    pub end: usize,
+    /// What is said of it. The text isn't trusted.
+    pub label: Option<&'a str>,
+    /// Whether it is the point of the report.
+    pub is_primary: bool,
+}
+
+/// A note or help, with places of its own, with edits, or with neither.
+#[derive(Debug, Drop)]
+pub struct Remark<'a> {
+    pub severity: Severity,
+    /// What is said. The text isn't trusted.
+    pub message: &'a str,
+    /// The places that it speaks of.
+    pub marks: Vec<Mark<'a>>,
+    /// The edits that it suggests, each of them instead of the others.
+    pub offers: Vec<Offer<'a>>,
+}
+
+/// A suggestion: edits of one source, which are made together.
+#[derive(Debug, Drop)]
+pub struct Offer<'a> {
+    /// The source, by its index.
+    pub source: usize,
+    pub changes: Vec<Change<'a>>,
+    /// Whether only the lines around the edits are shown, and not all of the source.
+    pub is_folded: bool,
+}
+
+/// A part of a source, and the text that is to stand in its place.
+#[derive(Clone, Copy, Debug)]
+pub struct Change<'a> {
+    /// The byte of the source where the part starts.
+    pub start: usize,
+    /// The byte after it.
+    pub end: usize,
+    /// What stands in its place. The text isn't trusted.
+    pub text: &'a str,
+}

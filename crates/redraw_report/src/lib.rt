@@ -1,0 +1,10 @@
+//! What tools report, as values, and the reports that are drawn of it: groups of titles, annotated sources and
+//! suggested edits.
+#![tactic(auto)]
+
+pub mod diagnostic;
+pub mod finding;
+pub mod fits;
+pub mod lines;
+pub mod locate;
+pub mod report;

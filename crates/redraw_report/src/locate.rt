@@ -1,0 +1,192 @@
+//! Where in a text a region lies, as a tool counted it.
+ghost use Rattle.std.specs.Prelude.{◌≡◌, ℕ, ◌<◌, ◌≤◌, length, true};
+ghost use Rattle.std.specs.Str.{IsCharBoundary};
+ghost use Rattle.redraw_report.specs.Region.{IsLocated, column_from, column_in, place_from, place_on};
+ghost use Rattle.redraw_report.specs.Region as spec;
+
+use crate::diagnostic::{Region, Unit};
+use crate::lines::{first_line, line_length};
+
+/// A part of a text, from a byte to before another, both between characters.
+#[derive(Clone, Copy, Debug, PartialEq, Eq)]
+pub struct Located {
+    pub start: usize,
+    pub end: usize,
+    /// Whether the text doesn't hold the region as it was given, so that this is what comes closest.
+    pub clamped: bool,
+}
+
+/// A byte of a text, and whether it is the one that was asked for.
+#[derive(Clone, Copy, Debug, PartialEq, Eq)]
+pub struct Place {
+    pub byte: usize,
+    pub exact: bool,
+}
+
+/// A text that regions are looked for in.
+#[derive(Clone, Copy, Debug)]
+pub struct Lookup<'a> {
+    pub text: &'a str,
+    /// Where its lines start.
+    pub starts: &'a [usize],
+    /// The number of its first line.
+    pub first_line: usize,
+}
+
+/// Where in a text a region lies.
+pub fn locate(lookup: Lookup<'_>, region: Region) -> Located
+    ensures located { IsLocated lookup.entry.text.now
+        (spec.start_place lookup.entry.text.now lookup.entry.starts.now lookup.entry.first_line region)
+        (spec.end_place lookup.entry.text.now lookup.entry.starts.now lookup.entry.first_line region) result }
+{
+    between(
+        lookup.text,
+        start_place(lookup, region),
+        end_place(lookup, region),
+    )
+}
+
+/// Where a region starts.
+fn start_place(lookup: Lookup<'_>, region: Region) -> Place
+    ensures value { result ≡ spec.start_place lookup.entry.text.now lookup.entry.starts.now lookup.entry.first_line region }
+{
+    match region {
+        Region::Bytes { start, .. } => byte_place(start),
+        Region::Chars { start, unit, .. } => place_after(lookup.text.as_bytes(), start, unit),
+        Region::Lines(lines) => {
+            let column = lines.start_column.unwrap_or(1);
+            column_place(lookup, lines.start_line, Some(column), lines.unit)
+        }
+    }
+}
+
+/// Where a region ends.
+fn end_place(lookup: Lookup<'_>, region: Region) -> Place
+    ensures value { result ≡ spec.end_place lookup.entry.text.now lookup.entry.starts.now lookup.entry.first_line region }
+{
+    match region {
+        Region::Bytes { end, .. } => byte_place(end),
+        Region::Chars { end, unit, .. } => place_after(lookup.text.as_bytes(), end, unit),
+        Region::Lines(lines) => column_place(lookup, lines.end_line, lines.end_column, lines.unit),
+    }
+}
+
+/// The place of a byte that was counted as one.
+fn byte_place(byte: usize) -> Place
+    ensures value { result ≡ record { byte = byte; exact = true } }
+{
+    Place { byte, exact: true }
+}
+
+/// Where a column of a line is, or the end of the line's text where no column is given.
+fn column_place(lookup: Lookup<'_>, line: usize, column: Option<usize>, unit: Unit) -> Place
+    ensures value { result ≡ place_on unit lookup.entry.text.now lookup.entry.starts.now lookup.entry.first_line line column }
+{
+    if line < lookup.first_line {
+        return Place {
+            byte: 0,
+            exact: false,
+        };
+    }
+    match lookup.starts.get(line - lookup.first_line) {
+        Some(start) => place_from_start(lookup.text, *start, column, unit),
+        None => Place {
+            byte: lookup.text.len(),
+            exact: false,
+        },
+    }
+}
+
+/// The same in the line that starts at this byte.
+fn place_from_start(text: &str, start: usize, column: Option<usize>, unit: Unit) -> Place
+    ensures value { result ≡ column_from unit text.now column start }
+{
+    let bytes = text.as_bytes();
+    let line = &bytes[start.min(bytes.len())..];
+    match column {
+        Some(column) => {
+            let within = place_in_line(first_line(line), column, unit);
+            Place {
+                byte: start + within.byte,
+                exact: within.exact,
+            }
+        }
+        None => byte_place(start + line_length(line)),
+    }
+}
+
+/// Where a column, counted from 1, is in a line.
+fn place_in_line(line: &[u8], column: usize, unit: Unit) -> Place
+    ensures value { result ≡ column_in unit line.now column }
+    ensures within { result.byte ≤ length line.now }
+{
+    if column == 0 {
+        return Place {
+            byte: 0,
+            exact: false,
+        };
+    }
+    place_after(line, column - 1, unit)
+}
+
+/// The place before which a text has so many units.
+fn place_after(bytes: &[u8], units: usize, unit: Unit) -> Place
+    ensures value { result ≡ place_from unit 0 bytes.now units }
+    ensures within { result.byte ≤ length bytes.now }
+{
+    let mut left = units;
+    for (at, byte) in bytes.iter().enumerate() {
+        let width = units_at(*byte, unit);
+        if left < width {
+            return Place {
+                byte: at,
+                exact: left == 0,
+            };
+        }
+        left -= width;
+    }
+    Place {
+        byte: bytes.len(),
+        exact: left == 0,
+    }
+}
+
+/// How many units a character counts, told at its first byte; 0 at the others.
+fn units_at(byte: u8, unit: Unit) -> usize
+    ensures value { result ≡ spec.units_at unit byte }
+{
+    if byte >= 128 && byte < 192 {
+        return 0;
+    }
+    match unit {
+        Unit::Utf16 if byte >= 240 => 2,
+        _ => 1,
+    }
+}
+
+/// The part of a text between two places: from a border of characters to another, not before it.
+fn between(text: &str, start: Place, end: Place) -> Located
+    ensures located { IsLocated text.now start end result }
+{
+    let from = border_before(text, start.byte);
+    let to = border_before(text, end.byte).max(from);
+    let exact = start.exact && end.exact && from == start.byte && to == end.byte;
+    Located {
+        start: from,
+        end: to,
+        clamped: !exact,
+    }
+}
+
+/// The last border of characters at this byte or before it.
+fn border_before(text: &str, byte: usize) -> usize
+    ensures border { IsCharBoundary text.now result }
+    ensures before { result ≤ byte }
+    ensures none { (k : ℕ) → result < k → k ≤ byte → k ≤ length text.now → IsCharBoundary text.now k → ⊥ }
+{
+    let mut at = byte.min(text.len());
+    while !text.is_char_boundary(at) {
+        at -= 1;
+    }
+    at
+}

@@ -1,0 +1,196 @@
+//! Findings, drawn one after another as they are read.
+
+use crate::stop::Stop;
+use annotate_snippets::renderer::RenderError;
+use annotate_snippets::text::normalize_untrusted_str;
+use annotate_snippets::{Group, Renderer};
+use redraw_read::place::{Placing, load_files};
+use redraw_read::sources::{Shelf, Sources};
+use redraw_report::diagnostic::{Diagnostic, Severity};
+use redraw_report::fits::report_fits;
+use redraw_report::report::report;
+use replay_read::fault::Fault;
+use std::alloc::{AllocError, Global};
+use std::fmt;
+use std::io::Write;
+
+/// How many findings were drawn, and what became of the rest.
+#[derive(Clone, Copy, Debug, Default, PartialEq, Eq)]
+pub struct Tally {
+    /// Those that were drawn.
+    pub drawn: u64,
+    /// Those of them that are errors.
+    pub errors: u64,
+    /// Parts of the input that hold no finding.
+    pub other: u64,
+    /// Parts of the input in which something is wrong.
+    pub wrong: u64,
+}
+
+impl fmt::Display for Tally {
+    fn fmt<W: fmt::Write>(&self, f: &mut fmt::Formatter<W>) -> fmt::Result {
+        let drawn = self.drawn;
+        let left_out = self.other.saturating_add(self.wrong);
+        write!(f, "{drawn} drawn, {left_out} left out")?;
+        let (other, wrong) = (self.other, self.wrong);
+        if left_out > 0 {
+            write!(
+                f,
+                ": {other} without a finding, {wrong} with something wrong"
+            )?;
+        }
+        Ok(())
+    }
+}
+
+/// What is drawn from, and where it is written.
+#[derive(Drop)]
+pub struct Drawing<'r, S: Drop, W, V> {
+    pub alloc: Global,
+    pub renderer: Renderer,
+    pub sources: Sources<S>,
+    pub out: &'r mut W,
+    pub err: &'r mut V,
+    pub tally: Tally,
+    /// The input that is read, as it is told.
+    pub input: &'r str,
+    /// The line of it that is read, from 1; 0 where it isn't read by lines.
+    pub line: u64,
+}
+
+impl<S: Shelf + Drop, W: Write, V: Write> Drawing<'_, S, W, V> {
+    /// Draws what a part of the input tells, or tells what is wrong with it.
+    pub fn finding(&mut self, read: Result<Diagnostic, Fault>) -> Result<(), Stop> {
+        match read {
+            Ok(diagnostic) => self.draw(&diagnostic),
+            Err(Fault::Memory) => Err(Stop::Memory),
+            Err(fault) => {
+                self.wrong(fault);
+                Ok(())
+            }
+        }
+    }
+
+    /// Counts a part of the input that holds no finding.
+    pub fn other(&mut self) {
+        self.tally.other = self.tally.other.saturating_add(1);
+    }
+
+    /// Tells that something is wrong with what is read, which is left out.
+    pub fn wrong<D: fmt::Display + Drop>(&mut self, what: D) {
+        self.leave_out();
+        self.tell(what);
+    }
+
+    /// Counts a part of the input that is left out, since something is wrong with it.
+    pub fn leave_out(&mut self) {
+        self.tally.wrong = self.tally.wrong.saturating_add(1);
+    }
+
+    /// Tells something of what is read, with nothing in it that could change how a terminal shows it.
+    pub fn tell<D: fmt::Display + Drop>(&mut self, what: D) {
+        let (input, line) = (self.input, self.line);
+        let message = if line == 0 {
+            format!(in self.alloc; "redraw: {input}: {what}")
+        } else {
+            format!(in self.alloc; "redraw: {input}:{line}: {what}")
+        };
+        let shown = match message {
+            Ok(message) => normalize_untrusted_str(self.alloc, message.as_str()),
+            Err(error) => Err(error),
+        };
+        match shown {
+            Ok(text) => {
+                let _ = self.err.writeln(text.as_str());
+            }
+            Err(AllocError) => {
+                let _ = self.err.writeln("redraw: out of memory");
+            }
+        }
+    }
+
+    /// Draws the finding that a diagnostic tells.
+    pub fn draw(&mut self, diagnostic: &Diagnostic) -> Result<(), Stop> {
+        load_files(&mut self.sources, diagnostic)?;
+        let drawn = drawn_of(self.alloc, &self.renderer, &self.sources, diagnostic)?;
+        let (clamped, undrawn) = (drawn.clamped, drawn.undrawn);
+        if clamped > 0 {
+            self.tell(format_args!(
+                "places that aren't in their source, drawn at the nearest one: {clamped}"
+            ));
+        }
+        if undrawn > 0 {
+            self.tell(format_args!(
+                "edits that aren't drawn, since nothing of their file is at hand: {undrawn}"
+            ));
+        }
+        match drawn.text {
+            Ok(text) => self.print(text.as_str(), diagnostic.severity),
+            Err(RenderError::Memory(_)) => Err(Stop::Memory),
+            Err(error) => {
+                self.wrong(format_args!("{error}"));
+                Ok(())
+            }
+        }
+    }
+
+    /// Prints a report, with an empty line after it, but not after one line or a text without a level.
+    fn print(&mut self, text: &str, severity: Severity) -> Result<(), Stop> {
+        self.tally.drawn = self.tally.drawn.saturating_add(1);
+        if severity == Severity::Error {
+            self.tally.errors = self.tally.errors.saturating_add(1);
+        }
+        let ending = if self.renderer.short_message || severity == Severity::Plain {
+            ""
+        } else {
+            "\n"
+        };
+        let written = self.out.writeln(format_args!("{text}{ending}")).is_ok();
+        if written && self.out.flush().is_ok() {
+            Ok(())
+        } else {
+            Err(Stop::Unwritable)
+        }
+    }
+}
+
+/// What was drawn of a finding.
+#[derive(Drop)]
+struct Drawn {
+    /// Its text, or why there is none.
+    text: Result<String, RenderError>,
+    /// How many places aren't in their source.
+    clamped: u64,
+    /// How many edits aren't drawn.
+    undrawn: u64,
+}
+
+/// What is drawn of a diagnostic, whose files were read.
+fn drawn_of<S: Shelf + Drop>(
+    alloc: Global,
+    renderer: &Renderer,
+    sources: &Sources<S>,
+    diagnostic: &Diagnostic,
+) -> Result<Drawn, AllocError> {
+    let mut placing = Placing::new(alloc);
+    let finding = placing.finding(sources, diagnostic)?;
+    let groups = report(alloc, &placing.shown, &finding)?;
+    Ok(Drawn {
+        text: render_fitting(alloc, renderer, &groups),
+        clamped: placing.clamped,
+        undrawn: placing.undrawn,
+    })
+}
+
+/// The text of a report; refused as if for memory where one of its texts is longer than memory is.
+fn render_fitting(
+    alloc: Global,
+    renderer: &Renderer,
+    groups: &[Group<'_>],
+) -> Result<String, RenderError> {
+    if report_fits(groups) {
+        renderer.render(alloc, groups)
+    } else {
+        Err(RenderError::Memory(AllocError))
+    }
+}

@@ -1,0 +1,71 @@
+//! A SARIF log, whose results are drawn one after another.
+
+use crate::draw::Drawing;
+use crate::stop::Stop;
+use redraw_read::sources::Shelf;
+use redraw_sarif::node::{Node, Troubles};
+use redraw_sarif::sarif::{Run, log};
+use serde_json::Value;
+use std::io::Write;
+
+/// Draws what the results of a log tell, each before the next is read.
+pub fn draw_log<S: Shelf + Drop, W: Write, V: Write>(
+    document: &Value,
+    drawing: &mut Drawing<'_, S, W, V>,
+) -> Result<(), Stop> {
+    let mut troubles = Troubles::new(drawing.alloc);
+    let log = log(document);
+    let runs = log.list("runs", &mut troubles);
+    tell_all(&troubles, drawing)?;
+    for (index, value) in runs.items.iter().enumerate() {
+        draw_run(runs.node(index, value), drawing)?;
+    }
+    Ok(())
+}
+
+/// Draws what the results of a run tell.
+fn draw_run<S: Shelf + Drop, W: Write, V: Write>(
+    node: Node<'_, '_>,
+    drawing: &mut Drawing<'_, S, W, V>,
+) -> Result<(), Stop> {
+    let mut troubles = Troubles::new(drawing.alloc);
+    let run = Run::new(node, &mut troubles);
+    let results = run.results(&mut troubles);
+    tell_all(&troubles, drawing)?;
+    for (index, value) in results.items.iter().enumerate() {
+        draw_result(&run, &results.node(index, value), drawing)?;
+    }
+    Ok(())
+}
+
+/// Draws what a result of a run tells, after what is wrong with it.
+fn draw_result<'v, S: Shelf + Drop, W: Write, V: Write>(
+    run: &Run<'v, '_>,
+    reported: &Node<'v, '_>,
+    drawing: &mut Drawing<'_, S, W, V>,
+) -> Result<(), Stop> {
+    let mut troubles = Troubles::new(drawing.alloc);
+    let found = run.finding(drawing.alloc, reported, &mut troubles)?;
+    tell_all(&troubles, drawing)?;
+    match found {
+        Some(diagnostic) => drawing.draw(&diagnostic),
+        None => {
+            drawing.leave_out();
+            Ok(())
+        }
+    }
+}
+
+/// Tells what is wrong with a part of a log.
+fn tell_all<S: Shelf + Drop, W: Write, V: Write>(
+    troubles: &Troubles,
+    drawing: &mut Drawing<'_, S, W, V>,
+) -> Result<(), Stop> {
+    for line in &troubles.lines {
+        drawing.tell(line.as_str());
+    }
+    if troubles.is_refused {
+        return Err(Stop::Memory);
+    }
+    Ok(())
+}

@@ -1,0 +1,37 @@
+//! Why a run can't go on.
+
+use std::alloc::{AllocError, AllocFailed};
+use std::{fmt, io};
+
+/// Why a run can't go on.
+#[derive(Debug, Drop)]
+pub enum Stop {
+    /// A growth of memory was refused.
+    Memory,
+    /// What was drawn couldn't be written.
+    Unwritable,
+    /// The input couldn't be read to its end.
+    Unreadable(io::Error),
+}
+
+impl From<AllocError> for Stop {
+    fn from(_refused: AllocError) -> Stop {
+        Stop::Memory
+    }
+}
+
+impl<T: Drop> From<AllocFailed<T>> for Stop {
+    fn from(_refused: AllocFailed<T>) -> Stop {
+        Stop::Memory
+    }
+}
+
+impl fmt::Display for Stop {
+    fn fmt<W: fmt::Write>(&self, f: &mut fmt::Formatter<W>) -> fmt::Result {
+        match self {
+            Stop::Memory => f.write_str("out of memory"),
+            Stop::Unwritable => f.write_str("cannot write what is drawn"),
+            Stop::Unreadable(error) => write!(f, "cannot read: {error}"),
+        }
+    }
+}

@@ -1,0 +1,45 @@
+//! What is expected where something else stands.
+
+use std::fmt;
+
+/// What is expected.
+#[derive(Clone, Copy)]
+pub enum Expectation {
+    Object,
+    List,
+    Text,
+    /// A whole number from 0.
+    Number,
+    /// A line or a column, counted from 1.
+    FromOne,
+    /// The level of a result.
+    Level,
+    /// What the columns of a run count.
+    ColumnKind,
+    /// A message with a text, or with the name of a text that the rule has.
+    Message,
+    /// The number of a rule that the run has.
+    Rule,
+    /// A file's address, or the number of an artifact that the run has.
+    Artifact,
+    /// The place where a region begins.
+    RegionStart,
+}
+
+impl fmt::Display for Expectation {
+    fn fmt<W: fmt::Write>(&self, f: &mut fmt::Formatter<W>) -> fmt::Result {
+        f.write_str(match self {
+            Expectation::Object => "an object",
+            Expectation::List => "a list",
+            Expectation::Text => "a text",
+            Expectation::Number => "a whole number from 0",
+            Expectation::FromOne => "a whole number from 1",
+            Expectation::Level => "\"none\", \"note\", \"warning\" or \"error\"",
+            Expectation::ColumnKind => "\"utf16CodeUnits\" or \"unicodeCodePoints\"",
+            Expectation::Message => "a text, or the id of one of the rule's message strings",
+            Expectation::Rule => "the index of a rule of the run",
+            Expectation::Artifact => "a uri, or the index of an artifact of the run",
+            Expectation::RegionStart => "startLine, charOffset or byteOffset",
+        })
+    }
+}

@@ -1,0 +1,137 @@
+//! The fixes that a result suggests.
+
+use crate::location::Context;
+use crate::message::text_in;
+use crate::node::{List, Node, Troubles};
+use crate::region::{carried_in, region_of};
+use crate::uri::path_in;
+use redraw_report::diagnostic::{Child, Edit, Severity};
+use std::alloc::AllocError;
+
+/// What stands over a fix that isn't described.
+const UNDESCRIBED: &str = "apply this fix";
+
+/// What is said of a list of fixes: one help for each description, with the fixes of that description, one of which is to be
+/// made. Those of one description have to stand in a row. A fix with something wrong in it is left out.
+pub fn children_of(
+    fixes: &List<'_, '_>,
+    context: &Context<'_>,
+    troubles: &mut Troubles,
+) -> Result<Vec<Child>, AllocError> {
+    let mut children: Vec<Child> = Vec::new(context.alloc);
+    for (index, value) in fixes.items.iter().enumerate() {
+        let fix = fixes.node(index, value);
+        if let Some(edits) = edits_of(&fix, context, troubles)? {
+            let message = description_of(&fix, context, troubles)?;
+            add_fix(&mut children, message, edits, context)?;
+        }
+    }
+    Ok(children)
+}
+
+/// The description of a fix.
+fn description_of(
+    fix: &Node<'_, '_>,
+    context: &Context<'_>,
+    troubles: &mut Troubles,
+) -> Result<String, AllocError> {
+    match text_in(context.alloc, fix, "description", &context.rule, troubles)? {
+        Some(message) => Ok(message),
+        None => String::from_str(context.alloc, UNDESCRIBED),
+    }
+}
+
+/// Adds a fix: to the last help, where that has the same description, else as one more.
+fn add_fix(
+    children: &mut Vec<Child>,
+    message: String,
+    edits: Vec<Edit>,
+    context: &Context<'_>,
+) -> Result<(), AllocError> {
+    if let Some(last) = children.last_mut() {
+        if last.message.as_str() == message.as_str() {
+            last.alternatives.push(edits)?;
+            return Ok(());
+        }
+    }
+    let mut alternatives = Vec::new(context.alloc);
+    alternatives.push(edits)?;
+    children.push(Child {
+        severity: Severity::Help,
+        message,
+        spans: Vec::new(context.alloc),
+        alternatives,
+    })?;
+    Ok(())
+}
+
+/// The edits of a fix, in all files; `None` where something is wrong with one of them, which is told: the others alone would be
+/// another fix.
+fn edits_of(
+    fix: &Node<'_, '_>,
+    context: &Context<'_>,
+    troubles: &mut Troubles,
+) -> Result<Option<Vec<Edit>>, AllocError> {
+    let told = troubles.lines.len();
+    let mut edits = Vec::new(context.alloc);
+    let changes = fix.needed_list("artifactChanges", troubles);
+    for (index, value) in changes.items.iter().enumerate() {
+        add_change(&mut edits, &changes.node(index, value), context, troubles)?;
+    }
+    if troubles.lines.len() > told {
+        return Ok(None);
+    }
+    Ok(Some(edits))
+}
+
+/// Adds the edits of one file.
+fn add_change(
+    edits: &mut Vec<Edit>,
+    change: &Node<'_, '_>,
+    context: &Context<'_>,
+    troubles: &mut Troubles,
+) -> Result<(), AllocError> {
+    let Some(file) = path_in(context.alloc, change, context.run, troubles)? else {
+        return Ok(());
+    };
+    let replacements = change.needed_list("replacements", troubles);
+    for (index, value) in replacements.items.iter().enumerate() {
+        let replacement = replacements.node(index, value);
+        if let Some(edit) = edit_of(&replacement, file.as_str(), context, troubles)? {
+            edits.push(edit)?;
+        }
+    }
+    Ok(())
+}
+
+/// The edit of a replacement. One whose content is no text isn't one that can be drawn.
+fn edit_of(
+    replacement: &Node<'_, '_>,
+    file: &str,
+    context: &Context<'_>,
+    troubles: &mut Troubles,
+) -> Result<Option<Edit>, AllocError> {
+    let Some(deleted) = replacement.needed("deletedRegion", troubles) else {
+        return Ok(None);
+    };
+    let region = region_of(&deleted, context.unit, troubles);
+    let (Some(region), Some(text)) = (region, inserted_in(replacement, troubles)) else {
+        return Ok(None);
+    };
+    let alloc = context.alloc;
+    Ok(Some(Edit {
+        file: String::from_str(alloc, file)?,
+        region,
+        replacement: String::from_str(alloc, text)?,
+        carried: carried_in(alloc, &deleted, context.unit, troubles)?,
+    }))
+}
+
+/// The text that a replacement puts in: none where it only takes text away.
+fn inserted_in<'v>(replacement: &Node<'v, '_>, troubles: &mut Troubles) -> Option<&'v str> {
+    if !replacement.has("insertedContent") {
+        return Some("");
+    }
+    let content = replacement.needed("insertedContent", troubles)?;
+    content.needed_text("text", troubles)
+}

@@ -1,0 +1,42 @@
+//! The texts of messages.
+
+use crate::expectation::Expectation;
+use crate::node::{Node, Troubles};
+use crate::placeholders::filled;
+use crate::rule::Rule;
+use std::alloc::{AllocError, Global};
+
+/// The text of the message in the field of this name, if there is one: its own, or one of the rule's by its id, with its
+/// arguments in the place of placeholders. A text of its own without arguments stays as it is.
+pub fn text_in(
+    alloc: Global,
+    object: &Node<'_, '_>,
+    name: &str,
+    rule: &Rule<'_>,
+    troubles: &mut Troubles,
+) -> Result<Option<String>, AllocError> {
+    let Some(message) = object.object(name, troubles) else {
+        return Ok(None);
+    };
+    let arguments = message.list("arguments", troubles).items;
+    let own = message.text("text", troubles);
+    let Some(text) = own.or(text_by_id(&message, rule, troubles)) else {
+        message.tell(troubles, Expectation::Message);
+        return Ok(None);
+    };
+    let text = if own.is_some() && arguments.is_empty() {
+        String::from_str(alloc, text)?
+    } else {
+        filled(alloc, text, arguments)?
+    };
+    Ok(Some(text))
+}
+
+/// The text of the rule that a message names by its id.
+fn text_by_id<'v>(
+    message: &Node<'_, '_>,
+    rule: &Rule<'v>,
+    troubles: &mut Troubles,
+) -> Option<&'v str> {
+    rule.message_string(message.text("id", troubles)?)
+}

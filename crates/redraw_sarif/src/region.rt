@@ -1,0 +1,140 @@
+//! The regions of files, and what a log itself holds of them.
+
+use crate::expectation::Expectation;
+use crate::node::{Node, Troubles};
+use redraw_report::diagnostic::{Carried, LineRegion, Region, Unit};
+use std::alloc::{AllocError, Global};
+
+/// The part of a file that a region names: by lines and columns, else by characters, else by bytes. Where it says none of
+/// these, that is told.
+pub fn region_of(region: &Node<'_, '_>, unit: Unit, troubles: &mut Troubles) -> Option<Region> {
+    if let Some(start_line) = region.from_one("startLine", troubles) {
+        return Some(Region::Lines(line_region(region, start_line, unit, troubles)));
+    }
+    if let Some(start) = region.number("charOffset", troubles) {
+        let length = region.number("charLength", troubles).unwrap_or(0);
+        let end = start.saturating_add(length);
+        return Some(Region::Chars { start, end, unit });
+    }
+    if let Some(start) = region.number("byteOffset", troubles) {
+        let length = region.number("byteLength", troubles).unwrap_or(0);
+        let end = start.saturating_add(length);
+        return Some(Region::Bytes { start, end });
+    }
+    region.tell(troubles, Expectation::RegionStart);
+    None
+}
+
+/// The region that begins on this line. Where it names no line to end with, it ends on this one.
+fn line_region(
+    region: &Node<'_, '_>,
+    start_line: usize,
+    unit: Unit,
+    troubles: &mut Troubles,
+) -> LineRegion {
+    LineRegion {
+        start_line,
+        start_column: region.from_one("startColumn", troubles),
+        end_line: region.from_one("endLine", troubles).unwrap_or(start_line),
+        end_column: region.from_one("endColumn", troubles),
+        unit,
+    }
+}
+
+/// The lines that a location itself holds: those around its region, else those of the region.
+pub fn carried_of(
+    alloc: Global,
+    around: &Option<Node<'_, '_>>,
+    region: &Option<Node<'_, '_>>,
+    unit: Unit,
+    troubles: &mut Troubles,
+) -> Result<Option<Carried>, AllocError> {
+    if let Some(around) = around {
+        if let Some(carried) = carried_in(alloc, around, unit, troubles)? {
+            return Ok(Some(carried));
+        }
+    }
+    match region {
+        Some(region) => carried_in(alloc, region, unit, troubles),
+        None => Ok(None),
+    }
+}
+
+/// The lines that a region's snippet holds; none of a region that isn't told by its lines. Before a snippet that begins within
+/// its first line, blanks stand for what comes before it.
+pub fn carried_in(
+    alloc: Global,
+    region: &Node<'_, '_>,
+    unit: Unit,
+    troubles: &mut Troubles,
+) -> Result<Option<Carried>, AllocError> {
+    let (Some(snippet), Some(first_line)) = (snippet_in(region, troubles), first_line_of(region))
+    else {
+        return Ok(None);
+    };
+    // What is wrong with the region itself is told where it is read.
+    let mut told_elsewhere = Troubles::new(alloc);
+    let lines = line_region(region, first_line, unit, &mut told_elsewhere);
+    let before = lines.start_column.unwrap_or(1).saturating_sub(1);
+    let is_whole = has_whole_lines(&lines, before, snippet);
+    let blanks = if is_whole { 0 } else { before };
+    Ok(Some(Carried {
+        first_line,
+        text: lines_of(alloc, blanks, snippet)?,
+        is_whole,
+    }))
+}
+
+/// The text of a region's snippet.
+fn snippet_in<'v>(region: &Node<'v, '_>, troubles: &mut Troubles) -> Option<&'v str> {
+    region.object("snippet", troubles)?.text("text", troubles)
+}
+
+/// The line that a region begins on.
+fn first_line_of(region: &Node<'_, '_>) -> Option<usize> {
+    match region.value.get("startLine")?.as_u64() {
+        Some(number) if number > 0 => Some(number as usize),
+        _ => None,
+    }
+}
+
+/// Whether a snippet has all of the lines that its region touches: the region has no columns, or the last line is longer than
+/// the region says. The snippet is to have the region's text alone, but some tools write the lines.
+fn has_whole_lines(lines: &LineRegion, before: usize, snippet: &str) -> bool {
+    let Some(end) = lines.end_column else {
+        return before == 0;
+    };
+    let skipped = if lines.end_line == lines.start_line {
+        before
+    } else {
+        0
+    };
+    let last = snippet.lines().last().unwrap_or("");
+    units_of(last, lines.unit) > end.saturating_sub(1).saturating_sub(skipped)
+}
+
+/// How many units a text has.
+fn units_of(text: &str, unit: Unit) -> usize {
+    match unit {
+        Unit::CodePoints => text.chars().count(),
+        Unit::Utf16 => text.encode_utf16().count(),
+    }
+}
+
+/// The most blanks that are put before a snippet.
+const MOST_BLANKS: usize = 1000;
+
+/// The lines of a text, with line feeds between them, and blanks before the first.
+fn lines_of(alloc: Global, blanks: usize, text: &str) -> Result<String, AllocError> {
+    let mut out = String::new(alloc);
+    for _ in 0..blanks.min(MOST_BLANKS) {
+        out.push(' ')?;
+    }
+    for (index, line) in text.lines().enumerate() {
+        if index > 0 {
+            out.push('\n')?;
+        }
+        out.push_str(line)?;
+    }
+    Ok(out)
+}

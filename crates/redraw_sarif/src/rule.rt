@@ -1,0 +1,164 @@
+//! The rule that a result breaks, and how severe that is.
+
+use crate::expectation::Expectation;
+use crate::node::{Node, Troubles};
+use redraw_report::diagnostic::{Code, Severity};
+use serde_json::Value;
+use std::alloc::{AllocError, Global};
+
+/// The rule of a result, and the part of the tool that has it.
+#[derive(Clone, Copy)]
+pub struct Rule<'v> {
+    /// The tool's driver or one of its extensions.
+    component: Option<&'v Value>,
+    /// The rule, where the component has it.
+    rule: Option<&'v Value>,
+}
+
+impl<'v> Rule<'v> {
+    /// A text of the rule by its name.
+    fn text(&self, name: &str) -> Option<&'v str> {
+        self.rule?.get(name)?.as_str()
+    }
+
+    /// The text of the rule's, or else of the component's, message strings by this name.
+    pub fn message_string(&self, id: &str) -> Option<&'v str> {
+        match text_of_string(self.rule, "messageStrings", id) {
+            Some(text) => Some(text),
+            None => text_of_string(self.component, "globalMessageStrings", id),
+        }
+    }
+
+    /// What the rule says of itself in short.
+    pub fn description(&self) -> Option<&'v str> {
+        self.rule?.get("shortDescription")?.get("text")?.as_str()
+    }
+
+    /// The severity of results that don't say theirs.
+    fn severity(&self) -> Option<Severity> {
+        let configuration = self.rule?.get("defaultConfiguration")?;
+        severity_by_name(configuration.get("level")?.as_str()?)
+    }
+}
+
+/// The text of the message string of this id in an object's strings.
+fn text_of_string<'v>(object: Option<&'v Value>, strings: &str, id: &str) -> Option<&'v str> {
+    object?.get(strings)?.get(id)?.get("text")?.as_str()
+}
+
+/// The rule of a result: by its number, or else by its id. Where it is the number of no rule, that is told.
+pub fn rule_of<'v>(run: &'v Value, reported: &Node<'v, '_>, troubles: &mut Troubles) -> Rule<'v> {
+    let own = reported.number("ruleIndex", troubles);
+    let index = match reported.object("rule", troubles) {
+        Some(reference) => reference.number("index", troubles).or(own),
+        None => own,
+    };
+    let component = component_of(run, reported.value);
+    let rules = rules_of(component).unwrap_or(&[]);
+    let rule = match index {
+        Some(index) => rules.get(index),
+        None => rule_by_id(rules, id_of(reported.value).unwrap_or("")),
+    };
+    if index.is_some() && rule.is_none() {
+        reported.tell(troubles, Expectation::Rule);
+    }
+    Rule { component, rule }
+}
+
+/// The component whose rule a result names: an extension of the tool by its number, else the driver.
+fn component_of<'v>(run: &'v Value, reported: &Value) -> Option<&'v Value> {
+    let tool = run.get("tool")?;
+    match extension_of(reported) {
+        Some(index) => tool.get("extensions")?.get(index as usize),
+        None => tool.get("driver"),
+    }
+}
+
+/// The number of the extension that a result names.
+fn extension_of(reported: &Value) -> Option<u64> {
+    reported
+        .get("rule")?
+        .get("toolComponent")?
+        .get("index")?
+        .as_u64()
+}
+
+/// The rules of a component.
+fn rules_of<'v>(component: Option<&'v Value>) -> Option<&'v [Value]> {
+    Some(component?.get("rules")?.as_array()?.as_slice())
+}
+
+/// The id of the rule as a result has it.
+fn id_of(reported: &Value) -> Option<&str> {
+    match reported.get("ruleId") {
+        Some(id) => id.as_str(),
+        None => reported.get("rule")?.get("id")?.as_str(),
+    }
+}
+
+/// The rule of this id, or else that of the longest id of which this one is a part, as `CA1000` of `CA1000/1`.
+fn rule_by_id<'v>(rules: &'v [Value], id: &str) -> Option<&'v Value> {
+    let mut found = None;
+    let mut longest = 0;
+    for rule in rules {
+        if let Some(length) = length_of_part(rule, id) {
+            if length > longest {
+                longest = length;
+                found = Some(rule);
+            }
+        }
+    }
+    found
+}
+
+/// How long the id of a rule is, if it is this id or the part of it before a slash.
+fn length_of_part(rule: &Value, id: &str) -> Option<usize> {
+    let own = rule.get("id")?.as_str()?;
+    let rest = id.strip_prefix(own)?;
+    if rest.is_empty() || rest.starts_with('/') {
+        Some(own.len())
+    } else {
+        None
+    }
+}
+
+/// The name of a result's rule, with the address of its page.
+pub fn code_of(
+    alloc: Global,
+    reported: &Value,
+    rule: &Rule<'_>,
+) -> Result<Option<Code>, AllocError> {
+    let Some(id) = id_of(reported).or(rule.text("id")) else {
+        return Ok(None);
+    };
+    let id = String::from_str(alloc, id)?;
+    let url = match rule.text("helpUri") {
+        Some(url) => Some(String::from_str(alloc, url)?),
+        None => None,
+    };
+    Ok(Some(Code { id, url }))
+}
+
+/// How severe a result is: by its level, else a note where it isn't of the kind `fail`, else by its rule, else a warning.
+pub fn severity_of(reported: &Node<'_, '_>, rule: &Rule<'_>, troubles: &mut Troubles) -> Severity {
+    if let Some(level) = reported.text("level", troubles) {
+        match severity_by_name(level) {
+            Some(severity) => return severity,
+            None => reported.tell_field("level", troubles, Expectation::Level),
+        }
+    }
+    match reported.text("kind", troubles) {
+        Some(kind) if kind != "fail" => Severity::Note,
+        _ => rule.severity().unwrap_or(Severity::Warning),
+    }
+}
+
+/// The severity of a level of this name.
+fn severity_by_name(level: &str) -> Option<Severity> {
+    match level {
+        "error" => Some(Severity::Error),
+        "warning" => Some(Severity::Warning),
+        "note" | "none" => Some(Severity::Note),
+        _ => None,
+    }
+}

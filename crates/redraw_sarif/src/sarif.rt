@@ -1,0 +1,124 @@
+//! The runs of a log, and the findings of their results.
+
+use crate::expectation::Expectation;
+use crate::fixes::children_of;
+use crate::location::{Context, add_spans};
+use crate::message::text_in;
+use crate::node::{List, Node, Place, Troubles};
+use crate::rule::{code_of, rule_of, severity_of};
+use redraw_report::diagnostic::{Diagnostic, FileSpan, Unit};
+use serde_json::Value;
+use std::alloc::{AllocError, Global};
+
+/// What stands where a result says nothing, and its rule doesn't either.
+const NO_MESSAGE: &str = "the log has no message";
+
+/// The object of a log.
+pub fn log(document: &Value) -> Node<'_, '_> {
+    Node {
+        value: document,
+        place: Place::Document,
+    }
+}
+
+/// A run of a log.
+#[derive(Clone, Copy)]
+pub struct Run<'v, 'p> {
+    node: Node<'v, 'p>,
+    /// What its columns count.
+    unit: Unit,
+}
+
+impl<'v, 'p> Run<'v, 'p> {
+    /// The run that is told here. What is no object is a run without results, and is told.
+    pub fn new(node: Node<'v, 'p>, troubles: &mut Troubles) -> Run<'v, 'p> {
+        let _is_told = node.is_object(troubles);
+        let unit = unit_of(&node, troubles);
+        Run { node, unit }
+    }
+
+    /// The results of the run.
+    pub fn results(&self, troubles: &mut Troubles) -> List<'v, '_> {
+        self.node.list("results", troubles)
+    }
+
+    /// What a result of the run tells; `None` of what is no object, which is told.
+    pub fn finding(
+        &self,
+        alloc: Global,
+        reported: &Node<'v, '_>,
+        troubles: &mut Troubles,
+    ) -> Result<Option<Diagnostic>, AllocError> {
+        if !reported.is_object(troubles) {
+            return Ok(None);
+        }
+        let context = Context {
+            alloc,
+            run: self.node.value,
+            rule: rule_of(self.node.value, reported, troubles),
+            unit: self.unit,
+        };
+        Ok(Some(diagnostic_of(reported, &context, troubles)?))
+    }
+}
+
+/// What the columns of a run count: units of UTF-16 where it doesn't say.
+fn unit_of(run: &Node<'_, '_>, troubles: &mut Troubles) -> Unit {
+    match run.text("columnKind", troubles) {
+        Some("unicodeCodePoints") => Unit::CodePoints,
+        Some("utf16CodeUnits") | None => Unit::Utf16,
+        Some(_) => {
+            run.tell_field("columnKind", troubles, Expectation::ColumnKind);
+            Unit::Utf16
+        }
+    }
+}
+
+/// What a result tells.
+fn diagnostic_of(
+    reported: &Node<'_, '_>,
+    context: &Context<'_>,
+    troubles: &mut Troubles,
+) -> Result<Diagnostic, AllocError> {
+    let severity = severity_of(reported, &context.rule, troubles);
+    let message = message_of(reported, context, troubles)?;
+    let code = code_of(context.alloc, reported.value, &context.rule)?;
+    let spans = spans_of(reported, context, troubles)?;
+    let children = children_of(&reported.list("fixes", troubles), context, troubles)?;
+    Ok(Diagnostic {
+        severity,
+        message,
+        code,
+        spans,
+        children,
+    })
+}
+
+/// The message of a result; where it has none, what its rule says of itself.
+fn message_of(
+    reported: &Node<'_, '_>,
+    context: &Context<'_>,
+    troubles: &mut Troubles,
+) -> Result<String, AllocError> {
+    match text_in(context.alloc, reported, "message", &context.rule, troubles)? {
+        Some(text) => Ok(text),
+        None => {
+            let text = context.rule.description().unwrap_or(NO_MESSAGE);
+            String::from_str(context.alloc, text)
+        }
+    }
+}
+
+/// The places of a result: those where it is, and those that help to see it.
+fn spans_of(
+    reported: &Node<'_, '_>,
+    context: &Context<'_>,
+    troubles: &mut Troubles,
+) -> Result<Vec<FileSpan>, AllocError> {
+    let mut spans = Vec::new(context.alloc);
+    let own = reported.list("locations", troubles);
+    add_spans(&mut spans, &own, context, true, troubles)?;
+    let related = reported.list("relatedLocations", troubles);
+    add_spans(&mut spans, &related, context, false, troubles)?;
+    Ok(spans)
+}

@@ -1,0 +1,115 @@
+//! The files that a log names by addresses.
+
+use crate::expectation::Expectation;
+use crate::node::{Node, Troubles};
+use percent_encoding::percent_decode;
+use serde_json::Value;
+use std::alloc::{AllocError, Global};
+
+/// How many bases may stand on one another. A log whose bases go in a circle has no end of them.
+const BASES: usize = 16;
+
+/// An address, and the base that it is relative to.
+#[derive(Clone, Copy)]
+struct Address<'v> {
+    uri: &'v str,
+    base: Option<&'v str>,
+}
+
+/// The path of the file at the artifact's location in an object's field `artifactLocation`. It may be relative: to where, the
+/// log doesn't say. `None` where the location isn't there, or has neither an address nor the number of an artifact that has
+/// one; both is told.
+pub fn path_in(
+    alloc: Global,
+    object: &Node<'_, '_>,
+    run: &Value,
+    troubles: &mut Troubles,
+) -> Result<Option<String>, AllocError> {
+    let Some(location) = object.needed("artifactLocation", troubles) else {
+        return Ok(None);
+    };
+    match address_of(run, location.value) {
+        Some(address) => Ok(Some(path_at(alloc, run, address)?)),
+        None => {
+            location.tell(troubles, Expectation::Artifact);
+            Ok(None)
+        }
+    }
+}
+
+/// The address of an artifact's location: its own, or that of the artifact with its number.
+fn address_of<'v>(run: &'v Value, location: &'v Value) -> Option<Address<'v>> {
+    let named = match location.get("uri") {
+        Some(_) => location,
+        None => {
+            let index = location.get("index")?.as_u64()?;
+            run.get("artifacts")?.get(index as usize)?.get("location")?
+        }
+    };
+    Some(Address {
+        uri: named.get("uri")?.as_str()?,
+        base: base_of(named),
+    })
+}
+
+/// The name of the base that a location is relative to.
+fn base_of(location: &Value) -> Option<&str> {
+    location.get("uriBaseId")?.as_str()
+}
+
+/// The path that an address names, after its base, which may have a base itself. A base without an address adds nothing.
+fn path_at(alloc: Global, run: &Value, address: Address<'_>) -> Result<String, AllocError> {
+    let mut whole = String::from_str(alloc, address.uri)?;
+    let mut base = address.base;
+    for _ in 0..BASES {
+        let Some(location) = base_location(run, base) else {
+            break;
+        };
+        if let Some(before) = uri_of(location) {
+            whole = joined(alloc, before, whole.as_str())?;
+        }
+        base = base_of(location);
+    }
+    decoded(alloc, local(whole.as_str()))
+}
+
+/// The location of the base of this name.
+fn base_location<'v>(run: &'v Value, id: Option<&str>) -> Option<&'v Value> {
+    run.get("originalUriBaseIds")?.get(id?)
+}
+
+/// The address of a location.
+fn uri_of(location: &Value) -> Option<&str> {
+    location.get("uri")?.as_str()
+}
+
+/// An address below another one.
+fn joined(alloc: Global, base: &str, uri: &str) -> Result<String, AllocError> {
+    let slash = if base.is_empty() || base.ends_with('/') {
+        ""
+    } else {
+        "/"
+    };
+    format!(in alloc; "{base}{slash}{uri}")
+}
+
+/// An address of a file without `file:`, without an empty host, and without the slash before the letter of a drive; another
+/// address without `./` before it.
+fn local(uri: &str) -> &str {
+    let Some(rest) = uri.strip_prefix("file:") else {
+        return uri.strip_prefix("./").unwrap_or(uri);
+    };
+    let path = rest.strip_prefix("//").unwrap_or(rest);
+    match path.as_bytes() {
+        [b'/', _, b':', ..] => path.strip_prefix('/').unwrap_or(path),
+        _ => path,
+    }
+}
+
+/// A path with characters for its escapes, unless these don't give characters.
+fn decoded(alloc: Global, path: &str) -> Result<String, AllocError> {
+    let mut bytes = Vec::new(alloc);
+    percent_decode(path.as_bytes()).append_to(&mut bytes)?;
+    let text = str::from_utf8(bytes.as_slice()).unwrap_or(path);
+    String::from_str(alloc, text)
+}
