@@ -10,7 +10,7 @@ pub returns : goal.returns
 returns c = record {
   added = λ above tail is tail_is.
       patches_added c.args.renderer.now c.args.frame c.args.around c.args.suggestion.now.snippet.now above tail c.args.buffer.now c.if-eq.buffer c.draw_suggestion.new.buffer c.line_numbers.result _ c.draw_suggestion.result
-      c.line_numbers.ensures.value (ap not c.is_nothing.ensures.value)
+      c.line_numbers.ensures.value (ap not c.is_nothing-follows.ensures.value)
       c.requires.prepared.some c.requires.room is tail_is c.requires.path
       (elim c.if-eq.branch [
         | then-eq+in_ok-draw_path w ↦ λ starts. w.buffer-is ∙ w.in_ok-draw_path.ensures.rows
