@@ -1,7 +1,6 @@
-use Rattle.std.proofs.Common.{◌≡◌, ◌∙◌, ◌++◌, ◌∷◌, [], Global, List, Vec, ap, cond, map, sym}
+use Rattle.std.proofs.Common.{◌≡◌, ◌∙◌, ◌++◌, ◌∷◌, [], Global, Vec, ap, cond, map, sym}
 use Rattle.std.specs.List.{filter}
 use Rattle.std.proofs.lemmas.List.{append-nil, take_all}
-use Rattle.snippet_model.specs.declared.snippet.Element.{Element}
 use Rattle.annotate_snippets.specs.Around.{is_drawn}
 use Rattle.annotate_snippets.specs.declared.renderer.text_form.DrawnElement.{DrawnElement}
 use Rattle.annotate_snippets.proofs.DrawnElementLemmas.{drawn_more, seen}
