@@ -45,7 +45,7 @@ impl fmt::Display for Tally {
 
 /// What is drawn from, and where it is written.
 #[derive(Drop)]
-pub struct Drawing<'r, S: Drop, W, V> {
+pub struct Drawing<'r, 'w, S: Drop, W, V> {
     pub alloc: Global,
     pub renderer: Renderer,
     pub sources: Sources<S>,
@@ -53,12 +53,12 @@ pub struct Drawing<'r, S: Drop, W, V> {
     pub err: &'r mut V,
     pub tally: Tally,
     /// The input that is read, as it is told.
-    pub input: &'r str,
+    pub input: &'w str,
     /// The line of it that is read, from 1; 0 where it isn't read by lines.
     pub line: u64,
 }
 
-impl<S: Shelf + Drop, W: Write, V: Write> Drawing<'_, S, W, V> {
+impl<S: Shelf + Drop, W: Write, V: Write> Drawing<'_, '_, S, W, V> {
     /// Draws what a part of the input tells, or tells what is wrong with it.
     pub fn finding(&mut self, read: Result<Diagnostic, Fault>) -> Result<(), Stop> {
         match read {
@@ -186,7 +186,7 @@ fn drawn_of<S: Shelf + Drop>(
 fn render_fitting(
     alloc: Global,
     renderer: &Renderer,
-    groups: &[Group<'_>],
+    groups: &Vec<Group<'_>>,
 ) -> Result<String, RenderError> {
     if report_fits(groups) {
         renderer.render(alloc, groups)

@@ -70,7 +70,7 @@ impl Reading {
     pub fn line<S: Shelf + Drop, W: Write, V: Write>(
         &mut self,
         line: &str,
-        drawing: &mut Drawing<'_, S, W, V>,
+        drawing: &mut Drawing<'_, '_, S, W, V>,
     ) -> Result<(), Stop> {
         if let Some(document) = &mut self.document {
             document.push_str("\n")?;
@@ -100,7 +100,7 @@ impl Reading {
     /// Ends the input: a document is read when all of its lines are there.
     pub fn end<S: Shelf + Drop, W: Write, V: Write>(
         &mut self,
-        drawing: &mut Drawing<'_, S, W, V>,
+        drawing: &mut Drawing<'_, '_, S, W, V>,
     ) -> Result<(), Stop> {
         let Some(document) = self.document.take() else {
             return Ok(());
@@ -119,7 +119,7 @@ impl Reading {
     fn value<S: Shelf + Drop, W: Write, V: Write>(
         &mut self,
         value: &Value,
-        drawing: &mut Drawing<'_, S, W, V>,
+        drawing: &mut Drawing<'_, '_, S, W, V>,
     ) -> Result<(), Stop> {
         let Some(kind) = kind_of(value) else {
             drawing.wrong("neither a message of rustc or cargo nor a SARIF log");
@@ -151,7 +151,7 @@ fn without_mark(line: &str) -> &str {
 /// Takes cargo's message, which has a diagnostic of rustc in it.
 fn cargo_message<S: Shelf + Drop, W: Write, V: Write>(
     node: &Node<'_, '_>,
-    drawing: &mut Drawing<'_, S, W, V>,
+    drawing: &mut Drawing<'_, '_, S, W, V>,
 ) -> Result<(), Stop> {
     match node.needed("message", Expectation::Object) {
         Ok(message) => drawing.finding(diagnostic_of(&message)),
@@ -163,7 +163,7 @@ fn cargo_message<S: Shelf + Drop, W: Write, V: Write>(
 /// or empty.
 pub fn draw_input<B: BufRead + Drop, S: Shelf + Drop, W: Write, V: Write>(
     input: B,
-    drawing: &mut Drawing<'_, S, W, V>,
+    drawing: &mut Drawing<'_, '_, S, W, V>,
 ) -> Result<bool, Stop> {
     let mut reading = Reading::new(drawing.alloc);
     drawing.line = 0;

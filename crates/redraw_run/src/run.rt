@@ -27,7 +27,7 @@ const ERRORS: u8 = 1;
 const FAILED: u8 = 2;
 
 /// The renderer that the options ask for.
-fn renderer_of(options: Options<'_>) -> Renderer {
+fn renderer_of(options: Options) -> Renderer {
     let renderer = if options.styled {
         Renderer::styled()
     } else {
@@ -47,12 +47,12 @@ fn renderer_of(options: Options<'_>) -> Renderer {
 
 /// The files below a folder, or below the one that the program runs in.
 #[derive(Drop)]
-pub struct Below<'r, R> {
+pub struct Below<'r, 'w, R> {
     rt: &'r R,
-    root: Option<&'r str>,
+    root: Option<&'w str>,
 }
 
-impl<R: Files + AllocGlobal> Shelf for Below<'_, R> {
+impl<R: Files + AllocGlobal> Shelf for Below<'_, '_, R> {
     fn bytes(&self, name: &str) -> Result<Option<Vec<u8>>, AllocError> {
         match self.root {
             Some(root) if !name.starts_with('/') => {
@@ -65,11 +65,11 @@ impl<R: Files + AllocGlobal> Shelf for Below<'_, R> {
 }
 
 /// Runs what the words ask for, and answers the status to end with.
-pub fn run<R: Files + Input + AllocGlobal, W: Write, V: Write>(
-    rt: &R,
-    words: &[&str],
-    out: &mut W,
-    err: &mut V,
+pub fn run<'r, 'w, R: Files + Input + AllocGlobal, W: Write, V: Write>(
+    rt: &'r R,
+    words: &[&'w str],
+    out: &'r mut W,
+    err: &'r mut V,
 ) -> u8 {
     let Some(command) = command_of(words) else {
         let _ = err.writeln(USAGE);
@@ -78,7 +78,7 @@ pub fn run<R: Files + Input + AllocGlobal, W: Write, V: Write>(
     let alloc = rt.alloc();
     let shelf = Below {
         rt,
-        root: command.options.root,
+        root: command.root,
     };
     let mut drawing = Drawing {
         alloc,
@@ -102,7 +102,7 @@ const INPUT: &str = "standard input";
 fn draw_inputs<'r, R: Files + Input + AllocGlobal, S: Shelf + Drop, W: Write, V: Write>(
     rt: &R,
     files: &[&'r str],
-    drawing: &mut Drawing<'r, S, W, V>,
+    drawing: &mut Drawing<'_, 'r, S, W, V>,
 ) -> bool {
     if files.is_empty() {
         let input = BufReader::new(rt.alloc(), rt.reader());
@@ -120,7 +120,7 @@ fn draw_inputs<'r, R: Files + Input + AllocGlobal, S: Shelf + Drop, W: Write, V:
 fn draw_file<R: Files + AllocGlobal, S: Shelf + Drop, W: Write, V: Write>(
     rt: &R,
     file: &str,
-    drawing: &mut Drawing<'_, S, W, V>,
+    drawing: &mut Drawing<'_, '_, S, W, V>,
 ) -> bool {
     let input = match fs::File::open(rt, file) {
         Ok(file) => BufReader::new(rt.alloc(), file),
@@ -132,7 +132,7 @@ fn draw_file<R: Files + AllocGlobal, S: Shelf + Drop, W: Write, V: Write>(
 /// The same of an input that could be opened or not.
 fn draw_opened<B: BufRead + Drop, S: Shelf + Drop, W: Write, V: Write>(
     input: io::Result<B>,
-    drawing: &mut Drawing<'_, S, W, V>,
+    drawing: &mut Drawing<'_, '_, S, W, V>,
 ) -> bool {
     drawing.line = 0;
     let drawn = match input {
@@ -155,7 +155,7 @@ fn draw_opened<B: BufRead + Drop, S: Shelf + Drop, W: Write, V: Write>(
 
 /// Tells how many findings were drawn, and answers the status to end with.
 fn finish<S: Shelf + Drop, W: Write, V: Write>(
-    drawing: &mut Drawing<'_, S, W, V>,
+    drawing: &mut Drawing<'_, '_, S, W, V>,
     is_whole: bool,
 ) -> u8 {
     let tally = drawing.tally;

@@ -11,7 +11,7 @@ use std::io::Write;
 /// Draws what the results of a log tell, each before the next is read.
 pub fn draw_log<S: Shelf + Drop, W: Write, V: Write>(
     document: &Value,
-    drawing: &mut Drawing<'_, S, W, V>,
+    drawing: &mut Drawing<'_, '_, S, W, V>,
 ) -> Result<(), Stop> {
     let mut troubles = Troubles::new(drawing.alloc);
     let log = log(document);
@@ -26,7 +26,7 @@ pub fn draw_log<S: Shelf + Drop, W: Write, V: Write>(
 /// Draws what the results of a run tell.
 fn draw_run<S: Shelf + Drop, W: Write, V: Write>(
     node: Node<'_, '_>,
-    drawing: &mut Drawing<'_, S, W, V>,
+    drawing: &mut Drawing<'_, '_, S, W, V>,
 ) -> Result<(), Stop> {
     let mut troubles = Troubles::new(drawing.alloc);
     let run = Run::new(node, &mut troubles);
@@ -42,7 +42,7 @@ fn draw_run<S: Shelf + Drop, W: Write, V: Write>(
 fn draw_result<'v, S: Shelf + Drop, W: Write, V: Write>(
     run: &Run<'v, '_>,
     reported: &Node<'v, '_>,
-    drawing: &mut Drawing<'_, S, W, V>,
+    drawing: &mut Drawing<'_, '_, S, W, V>,
 ) -> Result<(), Stop> {
     let mut troubles = Troubles::new(drawing.alloc);
     let found = run.finding(drawing.alloc, reported, &mut troubles)?;
@@ -59,7 +59,7 @@ fn draw_result<'v, S: Shelf + Drop, W: Write, V: Write>(
 /// Tells what is wrong with a part of a log.
 fn tell_all<S: Shelf + Drop, W: Write, V: Write>(
     troubles: &Troubles,
-    drawing: &mut Drawing<'_, S, W, V>,
+    drawing: &mut Drawing<'_, '_, S, W, V>,
 ) -> Result<(), Stop> {
     for line in &troubles.lines {
         drawing.tell(line.as_str());

@@ -2,7 +2,7 @@
 
 /// The options that stand before the files.
 #[derive(Clone, Copy, Debug, Default, PartialEq, Eq)]
-pub struct Options<'a> {
+pub struct Options {
     /// Whether strokes are drawn with line-drawing characters.
     pub unicode: bool,
     /// Whether reports are written without graphics.
@@ -13,15 +13,17 @@ pub struct Options<'a> {
     pub styled: bool,
     /// The width that lines are cut to, in columns, where one is given.
     pub width: Option<usize>,
-    /// The folder that files are read below, where one is given.
-    pub root: Option<&'a str>,
+    /// Which of the words names the folder that files are read below, where one does.
+    pub root_at: Option<usize>,
 }
 
 /// What a command line asks for.
 #[derive(Clone, Copy, Debug)]
 pub struct Command<'w, 'a> {
     /// How reports are drawn.
-    pub options: Options<'a>,
+    pub options: Options,
+    /// The folder that files are read below, where one is given.
+    pub root: Option<&'a str>,
     /// The files that are read; standard input where there are none.
     pub files: &'w [&'a str],
 }
@@ -34,10 +36,11 @@ fn number_of(word: &str) -> Option<usize> {
     }
 }
 
-/// The options with the one that the words begin with, and how many words give it; `None` where they begin with none.
-fn take_option<'a>(mut options: Options<'a>, words: &[&'a str]) -> Option<(Options<'a>, usize)> {
+/// The options with the one that the words begin with, and how many words give it; `None` where they begin with none. The first of
+/// these words is the one with this number.
+fn take_option(mut options: Options, words: &[&str], at: usize) -> Option<(Options, usize)> {
     let mut count = 1;
-    match *words {
+    match words {
         ["--unicode", ..] => options.unicode = true,
         ["--text", ..] => options.text = true,
         ["--short", ..] => options.short = true,
@@ -46,13 +49,52 @@ fn take_option<'a>(mut options: Options<'a>, words: &[&'a str]) -> Option<(Optio
             options.width = Some(number_of(digits)?);
             count = 2;
         }
-        ["--root", root, ..] => {
-            options.root = Some(root);
+        ["--root", _, ..] => {
+            options.root_at = Some(at.saturating_add(1));
             count = 2;
         }
         _ => return None,
     }
     Some((options, count))
+}
+
+/// The same of the words from this number on.
+fn option_at(options: Options, words: &[&str], at: usize) -> Option<(Options, usize)> {
+    take_option(options, words.get(at..)?, at)
+}
+
+/// The options that the words begin with, and how many words give them.
+fn options_in(words: &[&str]) -> (Options, usize) {
+    let mut options = Options::default();
+    let mut at = 0usize;
+    for _ in 0..words.len() {
+        match option_at(options, words, at) {
+            Some((changed, count)) => {
+                options = changed;
+                at = at.saturating_add(count);
+            }
+            None => return (options, at),
+        }
+    }
+    (options, at)
+}
+
+/// The folder that the words name.
+fn root_in<'a>(words: &[&'a str], options: Options) -> Option<&'a str> {
+    match words.get(options.root_at?) {
+        Some(root) => Some(*root),
+        None => None,
+    }
+}
+
+/// The files that the words from this number on name; `None` where one of them is no file.
+fn files_from<'w, 'a>(words: &'w [&'a str], at: usize) -> Option<&'w [&'a str]> {
+    let files = words.get(at..)?;
+    if files.iter().any(|word| is_option(word)) {
+        None
+    } else {
+        Some(files)
+    }
 }
 
 /// Whether a word is no file, since it begins as options do.
@@ -62,15 +104,11 @@ fn is_option(word: &str) -> bool {
 
 /// The command that the words ask for; `None` where they aren't of the form.
 pub fn command_of<'w, 'a>(words: &'w [&'a str]) -> Option<Command<'w, 'a>> {
-    let mut options = Options::default();
-    let mut at = 0;
-    while let Some((changed, count)) = take_option(options, &words[at..]) {
-        options = changed;
-        at += count;
-    }
-    let files = &words[at..];
-    if files.iter().any(|word| is_option(word)) {
-        return None;
-    }
-    Some(Command { options, files })
+    let (options, at) = options_in(words);
+    let files = files_from(words, at)?;
+    Some(Command {
+        options,
+        root: root_in(words, options),
+        files,
+    })
 }
