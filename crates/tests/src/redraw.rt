@@ -1,8 +1,8 @@
-//! Inputs drawn, with files in memory.
+//! Inputs of `redraw` drawn, with files in memory: what is told of an input, and what is drawn of the rest.
 use annotate_snippets::Renderer;
+use redraw_read::sources::{Shelf, Sources};
 use redraw_run::draw::{Drawing, Tally};
 use redraw_run::input::draw_input;
-use redraw_read::sources::{Shelf, Sources};
 use std::alloc::{AllocError, Global};
 use std::test::Fail;
 
@@ -63,9 +63,10 @@ fn drawn(alloc: Global, input: &[u8]) -> Result<Drawn, AllocError> {
 }
 
 /// A place on line 9 of a file that has one line.
-const PAST_END: &[u8] = b"{\"message\":\"m\",\"code\":null,\"level\":\"error\",\"spans\":[{\"file_name\":\"a\",\"line_start\":9,\"line_end\":9,\"column_start\":1,\"column_end\":2,\"is_primary\":true,\"label\":\"here\",\"text\":[]}],\"children\":[]}\n";
+const PAST_END: &[u8] =
+    b"{\"message\":\"m\",\"code\":null,\"level\":\"error\",\"spans\":[{\"file_name\":\"a\",\"line_start\":9,\"line_end\":9,\"column_start\":1,\"column_end\":2,\"is_primary\":true,\"label\":\"here\",\"text\":[]}],\"children\":[]}\n";
 
-/// A level that there isn't, a message without a finding, a text without a level, and what is no JSON.
+/// A level that there isn't, a message without a finding, a text without a level, and what isn't JSON.
 const FAULTY: &[u8] = b"{\"message\":\"m\",\"level\":\"loud\",\"spans\":[],\"children\":[]}
 {\"reason\":\"build-finished\",\"success\":true}
 {\"message\":\"m\",\"code\":null,\"level\":\"failure-note\",\"spans\":[],\"children\":[]}
