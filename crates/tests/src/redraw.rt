@@ -34,7 +34,7 @@ struct Drawn {
 }
 
 /// Draws an input, with a file `a` that holds `xy`.
-fn drawn(alloc: Global, input: &[u8]) -> Result<Drawn, AllocError> {
+fn run_over(alloc: Global, input: &[u8]) -> Result<Drawn, AllocError> {
     let mut out = Vec::new(alloc);
     let mut err = Vec::new(alloc);
     let room = Room {
@@ -75,7 +75,7 @@ no JSON
 
 #[test]
 fn a_place_that_is_not_in_its_source_is_told(rt: HostRuntime) -> Result<(), Fail> {
-    let run = drawn(rt.alloc(), PAST_END)?;
+    let run = run_over(rt.alloc(), PAST_END)?;
     let told: &[u8] =
         b"redraw: in:1: places that aren't in their source, drawn at the nearest one: 1\n";
     let text: &[u8] = b"error: m\n --> a:1:3\n  |\n1 | xy\n  |   ^ here\n\n";
@@ -87,7 +87,7 @@ fn a_place_that_is_not_in_its_source_is_told(rt: HostRuntime) -> Result<(), Fail
 
 #[test]
 fn what_is_wrong_is_told_and_the_rest_is_drawn(rt: HostRuntime) -> Result<(), Fail> {
-    let run = drawn(rt.alloc(), FAULTY)?;
+    let run = run_over(rt.alloc(), FAULTY)?;
     let told: &[u8] = b"redraw: in:1: level: expected ";
     let text: &[u8] = b"m\n";
     assert!(rt; run.is_known);
@@ -101,7 +101,7 @@ fn what_is_wrong_is_told_and_the_rest_is_drawn(rt: HostRuntime) -> Result<(), Fa
 
 #[test]
 fn an_input_of_another_form_is_not_known(rt: HostRuntime) -> Result<(), Fail> {
-    let run = drawn(rt.alloc(), b"{\"a\":1}\n")?;
+    let run = run_over(rt.alloc(), b"{\"a\":1}\n")?;
     assert!(rt; !run.is_known);
     assert_eq!(rt; run.tally.drawn, 0);
     Ok(())
