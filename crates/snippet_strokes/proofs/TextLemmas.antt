@@ -17,7 +17,18 @@ use Rattle.snippet_style.specs.Glyphs.{glyph_of}
 use Rattle.snippet_style.specs.declared.glyphs.DecorStyle.{DecorStyle}
 use Rattle.snippet_style.specs.declared.glyphs.DecorStyle.TheVariants.{Ascii, Unicode}
 use Rattle.snippet_text.specs.Normalized.{is_listed, norm, shown}
-use Rattle.snippet_text.proofs.WidthBounds.{length-chars}
+
+-- a text has no more characters than bytes
+length-chars_after : (n c : ℕ) (bytes : List ℕ) → length (chars_after n c bytes) ≤ length bytes + 1
+length-chars_after zero c [] = omega arith
+length-chars_after zero c (b ∷ bytes) = omega (arith, length-chars_after (continuation_len b) (lead_bits b) bytes)
+length-chars_after (suc n) c [] = omega arith
+length-chars_after (suc n) c (b ∷ bytes) = omega (arith, length-chars_after n (c * 64 + (b - 128)) bytes)
+
+length-chars : (bytes : List ℕ) → length (chars bytes) ≤ length bytes
+unfolding chars
+length-chars [] = omega arith
+length-chars (b ∷ bytes) = omega (arith, length-chars_after (continuation_len b) (lead_bits b) bytes)
 
 -- a text that fits is short once it is normalised
 pub norm_short : (bytes : List ℕ) → length bytes < 2 ^ 56 → length (norm (chars bytes)) < 2 ^ 60
