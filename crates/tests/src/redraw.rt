@@ -3,6 +3,7 @@ use annotate_snippets::Renderer;
 use redraw_read::sources::{Shelf, Sources};
 use redraw_run::draw::{Drawing, Tally};
 use redraw_run::input::draw_input;
+use redraw_run::stop::Stop;
 use std::alloc::{AllocError, Global};
 use std::test::Fail;
 
@@ -33,10 +34,13 @@ struct Drawn {
     tally: Tally,
 }
 
-/// Draws an input, with a file `a` that holds `xy`.
-fn run_over(alloc: Global, input: &[u8]) -> Result<Drawn, AllocError> {
-    let mut out = Vec::new(alloc);
-    let mut err = Vec::new(alloc);
+/// Draws an input into two writers, with a file `a` that holds `xy`, and answers whether its form is known, and the counts.
+fn draw_into<'r>(
+    alloc: Global,
+    input: &[u8],
+    out: &'r mut Vec<u8>,
+    err: &'r mut Vec<u8>,
+) -> Result<(bool, Tally), Stop> {
     let room = Room {
         alloc,
         name: "a",
@@ -46,20 +50,29 @@ fn run_over(alloc: Global, input: &[u8]) -> Result<Drawn, AllocError> {
         alloc,
         renderer: Renderer::plain(),
         sources: Sources::new(alloc, room),
-        out: &mut out,
-        err: &mut err,
+        out,
+        err,
         tally: Tally::default(),
         input: "in",
         line: 0,
     };
-    let is_known = draw_input(input, &mut drawing).map_err(|_| AllocError)?;
-    let tally = drawing.tally;
-    Ok(Drawn {
-        is_known,
-        out,
-        err,
-        tally,
-    })
+    let is_known = draw_input(input, &mut drawing)?;
+    Ok((is_known, drawing.tally))
+}
+
+/// The same into texts.
+fn run_over(alloc: Global, input: &[u8]) -> Result<Drawn, Fail> {
+    let mut out = Vec::new(alloc);
+    let mut err = Vec::new(alloc);
+    match draw_into(alloc, input, &mut out, &mut err) {
+        Ok((is_known, tally)) => Ok(Drawn {
+            is_known,
+            out,
+            err,
+            tally,
+        }),
+        Err(_) => Err(Fail::from(AllocError)),
+    }
 }
 
 /// A place on line 9 of a file that has one line.
