@@ -1,6 +1,6 @@
 //! A compiler: a type error with two labels and a note.
 ghost use Rattle.std.specs.Prelude.{IfOk};
-ghost use Rattle.annotate_snippets.specs.Fits.{AnnotationFits, SnippetFits};
+ghost use Rattle.annotate_snippets.specs.Fits.{AnnotationFits, GroupFits, SnippetFits};
 
 use annotate_snippets::level::{ERROR, NOTE};
 use annotate_snippets::renderer::RenderError;
@@ -12,7 +12,7 @@ const SOURCE: &str = "fn total(prices: &[u32]) -> u64 {\n    prices.iter().sum::
 
 /// The file's text with its two marks. A span counts bytes, as most parsers do.
 ///
-/// The clause tells the check of `mismatched_types` that each text is short enough to be drawn: each function is proved by
+/// The clause tells the check of `mismatch` that each text is short enough to be drawn: each function is proved by
 /// itself, and knows of another what that one's clauses say.
 fn marked(alloc: Global) -> Result<Snippet<'static, Annotation<'static>>, AllocError>
     ensures fits { IfOk result (SnippetFits AnnotationFits) }
@@ -30,16 +30,21 @@ fn marked(alloc: Global) -> Result<Snippet<'static, Annotation<'static>>, AllocE
         .annotation(wanted)
 }
 
-/// The report of the error. `Renderer::styled()` draws it in colour.
-pub fn mismatched_types(alloc: Global) -> Result<String, RenderError> {
-    let snippet = marked(alloc).map_err(RenderError::Memory)?;
+/// The error with its note.
+fn mismatch(alloc: Global) -> Result<Group<'static>, AllocError>
+    ensures fits { IfOk result GroupFits }
+{
+    let snippet = marked(alloc)?;
     let note = NOTE.message("`u64::from` makes a `u64` of a `u32`");
-    let group: Group<'static> = ERROR
+    ERROR
         .primary_title("mismatched types")
         .id("E0308")
-        .element(alloc, Element::from(snippet))
-        .map_err(RenderError::Memory)?
+        .element(alloc, Element::from(snippet))?
         .element(Element::from(note))
-        .map_err(RenderError::Memory)?;
+}
+
+/// The report of the error. `Renderer::styled()` draws it in colour.
+pub fn mismatched_types(alloc: Global) -> Result<String, RenderError> {
+    let group: Group<'static> = mismatch(alloc).map_err(RenderError::Memory)?;
     Renderer::plain().render(alloc, &[group])
 }

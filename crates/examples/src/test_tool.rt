@@ -1,6 +1,6 @@
 //! A test tool: the two sides of a failed assertion, for a terminal or, in one line, for an editor.
 ghost use Rattle.std.specs.Prelude.{IfOk};
-ghost use Rattle.annotate_snippets.specs.Fits.{AnnotationFits, SnippetFits, TextFits};
+ghost use Rattle.annotate_snippets.specs.Fits.{AnnotationFits, GroupFits, SnippetFits, TextFits};
 
 use annotate_snippets::level::ERROR;
 use annotate_snippets::renderer::RenderError;
@@ -34,21 +34,22 @@ fn side(
         .annotation(mark)
 }
 
+/// Both sides, one below the other.
+fn difference(alloc: Global) -> Result<Group<'static>, AllocError>
+    ensures fits { IfOk result GroupFits }
+{
+    let label = "expected `12`, found `13`";
+    let expected = side(alloc, "tests/receipt.txt", EXPECTED, 17..19, label)?;
+    let found = side(alloc, "out/receipt.txt", FOUND, 17..19, "found here")?;
+    ERROR
+        .primary_title("the receipts differ")
+        .element(alloc, Element::from(expected))?
+        .element(Element::from(found))
+}
+
 /// The report of an assertion that failed, in the form that the renderer is set to. With `short_message(true)` it is one line,
 /// which begins with a place that editors jump to, and which tells of the first side alone.
 pub fn failure(alloc: Global, renderer: &Renderer) -> Result<String, RenderError> {
-    let label = "expected `12`, found `13`";
-    let expected = side(alloc, "tests/receipt.txt", EXPECTED, 17..19, label).map_err(
-        RenderError::Memory,
-    )?;
-    let found = side(alloc, "out/receipt.txt", FOUND, 17..19, "found here").map_err(
-        RenderError::Memory,
-    )?;
-    let group: Group<'static> = ERROR
-        .primary_title("the receipts differ")
-        .element(alloc, Element::from(expected))
-        .map_err(RenderError::Memory)?
-        .element(Element::from(found))
-        .map_err(RenderError::Memory)?;
+    let group: Group<'static> = difference(alloc).map_err(RenderError::Memory)?;
     renderer.render(alloc, &[group])
 }
