@@ -65,7 +65,9 @@ lines_of-line (b ∷ c ∷ text) ending rest no_lf no_cr last =
 
 -- ---- the cut of a text
 
-line_bytes-line_with_byte : (b : ℕ) (text : List ℕ) (ending : EndLine) → line_bytes (line_with_byte b text ending) ≡ b ∷ line_bytes (text, ending)
+-- the bytes of a line with a byte in front
+
+pub line_bytes-line_with_byte : (b : ℕ) (text : List ℕ) (ending : EndLine) → line_bytes (line_with_byte b text ending) ≡ b ∷ line_bytes (text, ending)
 line_bytes-line_with_byte b [] Lf = cond_both (eqb b 13) ([], Crlf) (b ∷ [], Lf) (λ l. line_bytes l ≡ b ∷ 10 ∷ []) (λ is. ap (λ c. c ∷ 10 ∷ []) (sym (eqb-true b 13 is))) (λ _. refl)
 line_bytes-line_with_byte b [] Eof = refl
 line_bytes-line_with_byte b [] Crlf = refl

@@ -9,7 +9,7 @@ pub mod place;
 pub mod span;
 
 pub use counts::{ends_with_line_feed, line_feed_count, newline_count_before};
-pub use lines::{CursorLines, EndLine, newline_count};
+pub use lines::{CursorLines, EndLine, newline_count, without_line_end};
 pub use number::{LineNumbers, number_text};
 pub use place::Loc;
 pub use span::{SpanFault, check_span};

@@ -92,7 +92,7 @@ fn split_first_line(text: &str) -> (&str, &str)
 }
 
 /// A line's text, and how the line ends.
-fn without_line_end(line: &str) -> (&str, EndLine)
+pub fn without_line_end(line: &str) -> (&str, EndLine)
     requires one_line { IsOneLine line.now }
     ensures whole { line.now ≡ line_bytes (result.0.now, result.1) }
     ensures line { IsLine (result.0.now, result.1) }

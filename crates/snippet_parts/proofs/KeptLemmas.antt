@@ -1,12 +1,13 @@
 -- Which lines are kept.
 use Rattle.std.proofs.Common.{◌≡◌, ℕ, zero, suc, ◌+◌, ◌-◌, ◌<◌, ◌≤◌, Bool, true, false, ◌&&◌, ◌||◌, not, eqb, leb, ltb, max, List, [], ◌∷◌, ◌++◌, map, length, take, set, get_or, replicate, inl, inr, ◌⊎◌, refl, sym, ap, ◌∙◌, arith}
 use Rattle.std.specs.List.{list_any, range_with_len}
-use Rattle.std.proofs.lemmas.Bool.{cases_Bool, cases_lt, cases_eq, or_from, le-leb, lt-leb, lt-ltb, le-ltb, eq-eqb, ne_eqb, or_left, or_right}
+use Rattle.std.proofs.lemmas.Bool.{cases_Bool, cases_lt, cases_eq, and_left, or_from, or_parts, le-leb, lt-leb, lt-ltb, le-ltb, eq-eqb, ne_eqb, or_left, or_right}
 use Rattle.std.proofs.lemmas.List.{take_more, take_all, take-set-le}
 use Rattle.std.proofs.lemmas.List.Folds.{list_any_more}
 use Rattle.snippet_model.specs.declared.snippet.Annotation.{Annotation}
 use Rattle.snippet_parts.specs.declared.kept.Stretch.{Stretch}
-use Rattle.snippet_parts.specs.Stretches.{holds, furthest, is_covered}
+use Rattle.snippet_view.specs.Mark.{is_marking, touches}
+use Rattle.snippet_parts.specs.Stretches.{holds, furthest, is_covered, is_seen}
 
 -- ---- how far stretches reach
 
@@ -188,3 +189,10 @@ covered-more p marks i d before after within more so_far k = more k ∙ ap (λ b
 pub covered-all : (p : ℕ → Annotation → Bool) (marks : List Annotation) (i n : ℕ) (reach : List ℕ) (lent : List ℕ) → length marks ≤ i → length reach ≡ n → lent ≡ reach → ((k : ℕ) → is_covered reach k ≡ list_any (p k) (take i marks)) → map (is_covered lent) (range_with_len 0 (length lent)) ≡ map (λ k. list_any (p k) marks) (range_with_len 0 n)
 covered-all p marks i n reach lent all len is so_far =
     ap (λ xs. map (is_covered xs) (range_with_len 0 (length xs))) is ∙ ap (λ m. map (is_covered reach) (range_with_len 0 m)) len ∙ map-range-agree (is_covered reach) (λ k. list_any (p k) marks) 0 n (λ k. so_far k ∙ ap (list_any (p k)) (take_all i marks all))
+
+-- where all spans are marked, none that isn't touches a line
+pub unseen : (text : List ℕ) (k : ℕ) (marks : List Annotation) → list_any (λ (a : Annotation). not (is_marking a.kind)) marks ≡ false → list_any (is_seen text k) marks ≡ false
+unseen text k [] none = refl
+unseen text k (a ∷ marks) none =
+    let parts = or_parts (not (is_marking a.kind)) (list_any (λ (b : Annotation). not (is_marking b.kind)) marks) none in
+    or_from (is_seen text k a) (list_any (is_seen text k) marks) (and_left (not (is_marking a.kind)) (touches text a k) parts.0) (unseen text k marks parts.1)

@@ -4,4 +4,5 @@ pub mod EntryLemmas
 pub mod KeptLemmas
 pub mod LongLemmas
 pub mod OnLineLemmas
+pub mod StartLemmas
 pub mod TableLemmas

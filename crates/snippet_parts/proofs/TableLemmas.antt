@@ -12,49 +12,44 @@ use Rattle.snippet_lines.specs.declared.place.Loc.{Loc}
 use Rattle.snippet_lines.specs.Place.{HoldsByte, line_of, place_of, prefix_at, location_of, steps_after_text}
 use Rattle.snippet_lines.specs.Span.{IsSpanBorder}
 use Rattle.std.specs.Str.{IsCharBoundary, chars}
-use Rattle.snippet_parts.specs.LineTable.{LineEntry, entry_of, entry_at, entries_from}
-use Rattle.snippet_lines.proofs.LinesLemmas.{start_of-zero, start_of-cons, start_of-le, length-source_lines, text_at-stands}
+use Rattle.snippet_parts.specs.LineTable.{LineEntry, entry_of, entry_at, starts_from}
+use Rattle.snippet_lines.proofs.LinesLemmas.{start_of-zero, start_of-cons, start_of-end, start_of-le, joined-source_lines, length-source_lines, text_at-stands}
 use Rattle.snippet_lines.proofs.PlaceLemmas.{line_of-is, line_of-within, HoldsByte-source, text_at-end, IsCharBoundary-prefix}
 
 same_entry : (text : List ℕ) (number start next number' start' next' : ℕ) → number ≡ number' → start ≡ start' → next ≡ next' → ◌≡◌ {A = LineEntry} (record { text = text; number = number; start = start; next = next }) (record { text = text; number = number'; start = start'; next = next' })
 same_entry text number start next number' start' next' a b c = cc
 
-pub length-entries_from : (number start : ℕ) (ls : List Line) → length (entries_from number start ls) ≡ length ls
-length-entries_from number start [] = refl
-length-entries_from number start (l ∷ ls) = ap suc (length-entries_from (number + 1) (start + length (line_bytes l)) ls)
+-- where the k-th line starts
+pub length-starts_from : (start : ℕ) (ls : List Line) → length (starts_from start ls) ≡ length ls
+length-starts_from start [] = refl
+length-starts_from start (l ∷ ls) = ap suc (length-starts_from (start + length (line_bytes l)) ls)
 
--- the k-th entry
-pub entries_from-at : (number start : ℕ) (ls : List Line) (k : ℕ) (d : LineEntry) → k < length ls → get_or (entries_from number start ls) k d ≡ record { text = text_at ls k; number = number + k; start = start + start_of ls k; next = start + start_of ls (k + 1) }
-entries_from-at number start [] k d within = absurd (omega arith)
-entries_from-at number start (l ∷ ls) zero d within =
-    same_entry l.0 number start (start + length (line_bytes l)) (number + 0) (start + start_of (l ∷ ls) 0) (start + start_of (l ∷ ls) (0 + 1)) (omega arith) (omega (arith, start_of-zero (l ∷ ls))) (omega (arith, start_of-cons l ls 0, start_of-zero ls))
-entries_from-at number start (l ∷ ls) (suc k) d within =
+pub starts_from-at : (start : ℕ) (ls : List Line) (k d : ℕ) → k < length ls → get_or (starts_from start ls) k d ≡ start + start_of ls k
+starts_from-at start [] k d within = absurd (omega arith)
+starts_from-at start (l ∷ ls) zero d within = omega (arith, start_of-zero (l ∷ ls))
+starts_from-at start (l ∷ ls) (suc k) d within =
     let n : k + 1 ≡ suc k = omega arith in
-    let m : (k + 1) + 1 ≡ suc k + 1 = omega arith in
     let here : start_of (l ∷ ls) (suc k) ≡ length (line_bytes l) + start_of ls k = sym (ap (start_of (l ∷ ls)) n) ∙ start_of-cons l ls k in
-    let after : start_of (l ∷ ls) (suc k + 1) ≡ length (line_bytes l) + start_of ls (k + 1) = sym (ap (start_of (l ∷ ls)) m) ∙ start_of-cons l ls (k + 1) in
-    entries_from-at (number + 1) (start + length (line_bytes l)) ls k d (omega arith) ∙ same_entry (text_at ls k) (number + 1 + k) (start + length (line_bytes l) + start_of ls k) (start + length (line_bytes l) + start_of ls (k + 1)) (number + suc k) (start + start_of (l ∷ ls) (suc k)) (start + start_of (l ∷ ls) (suc k + 1)) (omega arith) (omega arith) (omega arith)
+    omega (arith, here, starts_from-at (start + length (line_bytes l)) ls k d (omega arith))
 
-module _ (source : List ℕ) (first : ℕ) (infos : List LineInfo) (table : map entry_of infos ≡ entries_from first 0 (source_lines source)) where
-  -- as many entries as lines
-  pub length-table : length infos ≡ length (source_lines source)
-  length-table = sym (length-map infos entry_of) ∙ ap length table ∙ length-entries_from first 0 (source_lines source)
+module _ (source starts : List ℕ) (table : starts ≡ starts_from 0 (source_lines source)) where
+  -- as many starts as lines
+  pub length-table : length starts ≡ length (source_lines source)
+  length-table = ap length table ∙ length-starts_from 0 (source_lines source)
 
-  -- an entry says what is true of its line
-  pub table-at : (k : ℕ) (d : LineInfo) → k < length (source_lines source) → entry_of (get_or infos k d) ≡ entry_at first (source_lines source) k
-  table-at k d within =
-      let ls : List Line = source_lines source in
-      let inside : k < length infos = omega (arith, length-table) in
-      sym (get_or-map entry_of infos k d (entry_of d) inside) ∙ ap (λ es. get_or es k (entry_of d)) table ∙ entries_from-at first 0 ls k (entry_of d) within ∙ same_entry (text_at ls k) (first + k) (0 + start_of ls k) (0 + start_of ls (k + 1)) (first + k) (start_of ls k) (start_of ls (k + 1)) refl (omega arith) (omega arith)
+  -- each is where its line starts
+  pub table-start : (k d : ℕ) → k < length starts → get_or starts k d ≡ start_of (source_lines source) k
+  table-start k d within =
+      omega (arith, ap (λ ss. get_or ss k d) table, starts_from-at 0 (source_lines source) k d (omega (arith, length-table)))
 
-  pub table-start : (k : ℕ) (d : LineInfo) → k < length infos → (get_or infos k d).start_byte ≡ start_of (source_lines source) k
-  table-start k d within = ap (λ (e : LineEntry). e.start) (table-at k d (omega (arith, length-table)))
+  -- after the last line the source ends
+  pub table-end : (k : ℕ) → length starts ≤ k → start_of (source_lines source) k ≡ length source
+  table-end k after = start_of-end (source_lines source) k (omega (arith, length-table)) ∙ ap length (joined-source_lines source)
 
--- one more entry, of the first line that is left
-pub table-more : (infos more : List LineInfo) (info : LineInfo) (number start next : ℕ) (left rest : List Line) (l : Line) (all : List LineEntry) → more ≡ infos ++ info ∷ [] → left ≡ l ∷ rest → next ≡ start + length (line_bytes l) → entry_of info ≡ record { text = l.0; number = number; start = start; next = next } → map entry_of infos ++ entries_from number start left ≡ all → map entry_of more ++ entries_from (number + 1) next rest ≡ all
-table-more infos more info number start next left rest l all more_is left_is next_is entry_is before =
-    let one : entry_of info ∷ entries_from (number + 1) next rest ≡ entries_from number start left = ap (λ e. e ∷ entries_from (number + 1) next rest) entry_is ∙ ap (λ n. (let e : LineEntry = record { text = l.0; number = number; start = start; next = n } in e) ∷ entries_from (number + 1) n rest) next_is ∙ sym (ap (entries_from number start) left_is) in
-    ap (λ es. map entry_of es ++ entries_from (number + 1) next rest) more_is ∙ ap (λ es. es ++ entries_from (number + 1) next rest) (map_push entry_of infos info) ∙ append_assoc (map entry_of infos) (entry_of info ∷ []) (entries_from (number + 1) next rest) ∙ ap (λ es. map entry_of infos ++ es) one ∙ before
+-- the entry of a line by its parts
+pub entry_at-is : (info : LineInfo) (first : ℕ) (ls : List Line) (k : ℕ) → info.line.now ≡ text_at ls k → info.line_index ≡ first + k → info.start_byte ≡ start_of ls k → info.end_byte ≡ start_of ls (k + 1) → entry_of info ≡ entry_at first ls k
+entry_at-is info first ls k text number start next =
+    ap (λ t. record { text = t; number = info.line_index; start = info.start_byte; next = info.end_byte }) text ∙ same_entry (text_at ls k) info.line_index info.start_byte info.end_byte (first + k) (start_of ls k) (start_of ls (k + 1)) number start next
 
 -- one more entry of the lines from number i on: that of line k
 pub entries-more : (first : ℕ) (ls : List Line) (infos more : List LineInfo) (info : LineInfo) (i k : ℕ) → i ≤ k → more ≡ infos ++ info ∷ [] → entry_of info ≡ entry_at first ls k → map entry_of infos ≡ map (entry_at first ls) (range_with_len i (k - i)) → map entry_of more ≡ map (entry_at first ls) (range_with_len i (k + 1 - i))
@@ -62,65 +57,63 @@ entries-more first ls infos more info i k low more_is entry before =
     let size : (k - i) + 1 ≡ k + 1 - i = omega arith in
     ap (map entry_of) more_is ∙ map_push entry_of infos info ∙ ap (λ es. es ++ entry_of info ∷ []) before ∙ ap (λ e. map (entry_at first ls) (range_with_len i (k - i)) ++ e ∷ []) entry ∙ sym (map-range_with_len_more (entry_at first ls) i (k - i) k (omega arith)) ∙ ap (λ n. map (entry_at first ls) (range_with_len i n)) size
 
--- the place where a binary search parts the lines that start at a byte or before it from the others
-abbrev pub IsParted : List LineInfo → ℕ → ℕ → Type 0
-IsParted infos byte i = IsPartitionPoint (λ (info : LineInfo). leb info.start_byte byte ≡ true) (λ (info : LineInfo). leb info.start_byte byte ≡ false) infos i
+-- the place where a binary search parts the starts at a byte or before it from the others
+abbrev pub IsParted : List ℕ → ℕ → ℕ → Type 0
+IsParted starts byte i = IsPartitionPoint (λ (start : ℕ). leb start byte ≡ true) (λ (start : ℕ). leb start byte ≡ false) starts i
 
-pub parted-some : (infos : List LineInfo) (byte i : ℕ) → 0 < length infos → HoldsAt (λ (info : LineInfo). info.start_byte ≤ byte) infos 0 → IsParted infos byte i → 1 ≤ i
+pub parted-some : (starts : List ℕ) (byte i : ℕ) → 0 < length starts → HoldsAt (λ (start : ℕ). start ≤ byte) starts 0 → IsParted starts byte i → 1 ≤ i
 parted-some [] byte i some first parted = absurd (omega arith)
-parted-some (x ∷ infos) byte zero some first parted =
-    absurd (omega (arith, first x, leb-false x.start_byte byte (parted.1 0 x (omega arith) (omega arith))))
-parted-some (x ∷ infos) byte (suc i) some first parted = omega arith
+parted-some (x ∷ starts) byte zero some first parted =
+    absurd (omega (arith, first x, leb-false x byte (parted.1 0 x (omega arith) (omega arith))))
+parted-some (x ∷ starts) byte (suc i) some first parted = omega arith
 
-pub parted-from : (infos : List LineInfo) (byte i : ℕ) → 1 ≤ i → IsParted infos byte i → HoldsAt (λ (info : LineInfo). info.start_byte ≤ byte) infos (i - 1)
-parted-from infos byte i some parted = λ d. leb-true (get_or infos (i - 1) d).start_byte byte (parted.0 (i - 1) d (omega arith) (omega arith))
+pub parted-from : (starts : List ℕ) (byte i : ℕ) → 1 ≤ i → IsParted starts byte i → HoldsAt (λ (start : ℕ). start ≤ byte) starts (i - 1)
+parted-from starts byte i some parted = λ d. leb-true (get_or starts (i - 1) d) byte (parted.0 (i - 1) d (omega arith) (omega arith))
 
-pub parted-to : (infos : List LineInfo) (byte i : ℕ) → 1 ≤ i → IsParted infos byte i → (i - 1) + 1 < length infos → HoldsAt (λ (info : LineInfo). byte < info.start_byte) infos ((i - 1) + 1)
-parted-to infos byte i some parted within = λ d. leb-false (get_or infos ((i - 1) + 1) d).start_byte byte (parted.1 ((i - 1) + 1) d (omega arith) within)
+pub parted-to : (starts : List ℕ) (byte i : ℕ) → 1 ≤ i → IsParted starts byte i → (i - 1) + 1 < length starts → HoldsAt (λ (start : ℕ). byte < start) starts ((i - 1) + 1)
+parted-to starts byte i some parted within = λ d. leb-false (get_or starts ((i - 1) + 1) d) byte (parted.1 ((i - 1) + 1) d (omega arith) within)
 
-module _ (source : List ℕ) (first : ℕ) (infos : List LineInfo) (table : map entry_of infos ≡ entries_from first 0 (source_lines source)) where
+module _ (source starts : List ℕ) (table : starts ≡ starts_from 0 (source_lines source)) where
   -- lines that follow start later
-  pub table-ordered : IsNonDecreasingBy (λ (info : LineInfo). info.start_byte) infos
+  pub table-ordered : IsNonDecreasingBy (λ (start : ℕ). start) starts
   table-ordered = λ i j d le within.
-      omega (arith, table-start source first infos table i d (omega arith), table-start source first infos table j d within, start_of-le (source_lines source) i j le)
+      omega (arith, table-start source starts table i d (omega arith), table-start source starts table j d within, start_of-le (source_lines source) i j le)
 
-  pub table-some : 0 < length infos
-  table-some = omega (arith, length-table source first infos table, length-source_lines source)
+  pub table-some : 0 < length starts
+  table-some = omega (arith, length-table source starts table, length-source_lines source)
 
-  pub table-first : (byte : ℕ) → HoldsAt (λ (info : LineInfo). info.start_byte ≤ byte) infos 0
-  table-first byte = λ d. omega (arith, table-start source first infos table 0 d table-some, start_of-zero (source_lines source))
+  pub table-first : (byte : ℕ) → HoldsAt (λ (start : ℕ). start ≤ byte) starts 0
+  table-first byte = λ d. omega (arith, table-start source starts table 0 d table-some, start_of-zero (source_lines source))
 
   -- the last line that starts at a byte or before it holds the byte
-  pub table-holding : (byte k : ℕ) (info : LineInfo) → k < length infos → HoldsAt (λ (i : LineInfo). i.start_byte ≤ byte) infos k → (k + 1 < length infos → HoldsAt (λ (i : LineInfo). byte < i.start_byte) infos (k + 1)) → info ≡ get_or infos k info → entry_of info ≡ entry_at first (source_lines source) (line_of (source_lines source) byte)
-  table-holding byte k info within from to is =
+  pub table-holding : (byte k : ℕ) → k < length starts → HoldsAt (λ (start : ℕ). start ≤ byte) starts k → (k + 1 < length starts → HoldsAt (λ (start : ℕ). byte < start) starts (k + 1)) → k ≡ line_of (source_lines source) byte
+  table-holding byte k within from to =
       let ls : List Line = source_lines source in
-      let same : length infos ≡ length ls = length-table source first infos table in
+      let same : length starts ≡ length ls = length-table source starts table in
       let holds : HoldsByte ls byte k = record {
         within = omega arith;
-        from = omega (arith, from info, table-start source first infos table k info within);
-        to = λ more. omega (arith, to (omega arith) info, table-start source first infos table (k + 1) info (omega arith));
+        from = omega (arith, from 0, table-start source starts table k 0 within);
+        to = λ more. omega (arith, to (omega arith) 0, table-start source starts table (k + 1) 0 (omega arith));
       } in
-      ap entry_of is ∙ table-at source first infos table k info (omega arith) ∙ ap (entry_at first ls) (sym (line_of-is ls byte k holds))
+      sym (line_of-is ls byte k holds)
 
-  -- the line of a number
-  pub line_at-some : (number index : ℕ) (info : LineInfo) → first ≤ number → index ≡ number - first → index < length infos → info ≡ get_or infos index info → (Some info.line.now ≡ line_at (record { text = source; first = first }) number) × StandsAt source info.line.now (start_of (source_lines source) (number - first))
-  line_at-some number index info ge index_is within is =
-      let ls : List Line = source_lines source in
-      let same : length infos ≡ length ls = length-table source first infos table in
-      let inside : number - first < length ls = omega arith in
-      let text : info.line.now ≡ text_at ls (number - first) = ap (λ (e : LineEntry). e.text) (ap entry_of is ∙ table-at source first infos table index info (omega arith)) ∙ ap (text_at ls) index_is in
-      let taken : (leb first number && ltb (number - first) (length ls)) ≡ true = and_from (leb first number) (ltb (number - first) (length ls)) (le-leb first number ge) (lt-ltb (number - first) (length ls) inside) in (
-        sym (cond-true (leb first number && ltb (number - first) (length ls)) (Some (text_at ls (number - first))) None taken ∙ ap (λ t. Some t) (sym text)),
-        subst (λ t. StandsAt source t (start_of ls (number - first))) (sym text) (text_at-stands source (number - first) inside),
-      )
+-- the line of a number
+pub line_at-some : (s : Source) (number index : ℕ) (text : List ℕ) → s.first ≤ number → index ≡ number - s.first → index < length (source_lines s.text) → text ≡ text_at (source_lines s.text) index → (Some text ≡ line_at s number) × StandsAt s.text text (start_of (source_lines s.text) (number - s.first))
+line_at-some s number index text ge index_is within is =
+    let ls : List Line = source_lines s.text in
+    let inside : number - s.first < length ls = omega arith in
+    let same : text ≡ text_at ls (number - s.first) = is ∙ ap (text_at ls) index_is in
+    let there : (leb s.first number && ltb (number - s.first) (length ls)) ≡ true = and_from (leb s.first number) (ltb (number - s.first) (length ls)) (le-leb s.first number ge) (lt-ltb (number - s.first) (length ls) inside) in (
+      sym (cond-true (leb s.first number && ltb (number - s.first) (length ls)) (Some (text_at ls (number - s.first))) None there ∙ ap (λ t. Some t) (sym same)),
+      subst (λ t. StandsAt s.text t (start_of ls (number - s.first))) (sym same) (text_at-stands s.text (number - s.first) inside),
+    )
 
-  -- a number after the last line
-  pub line_at-none : (number index : ℕ) → index ≡ number - first → length infos ≤ index → None ≡ line_at (record { text = source; first = first }) number
-  line_at-none number index index_is after =
-      let ls : List Line = source_lines source in
-      let same : length infos ≡ length ls = length-table source first infos table in
-      let out : (leb first number && ltb (number - first) (length ls)) ≡ false = and_right (leb first number) (ltb (number - first) (length ls)) (le-ltb (number - first) (length ls) (omega arith)) in
-      sym (cond-false (leb first number && ltb (number - first) (length ls)) (Some (text_at ls (number - first))) None out)
+-- a number after the last line
+pub line_at-none : (s : Source) (number index : ℕ) → index ≡ number - s.first → length (source_lines s.text) ≤ index → None ≡ line_at s number
+line_at-none s number index index_is after =
+    let ls : List Line = source_lines s.text in
+    let out : (leb s.first number && ltb (number - s.first) (length ls)) ≡ false = and_right (leb s.first number) (ltb (number - s.first) (length ls)) (le-ltb (number - s.first) (length ls) (omega arith)) in
+    sym (cond-false (leb s.first number && ltb (number - s.first) (length ls)) (Some (text_at ls (number - s.first))) None out)
 
 -- ---- the location of a byte, by the entry of its line
 

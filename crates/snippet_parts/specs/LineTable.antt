@@ -1,6 +1,7 @@
 -- The table of a source's lines.
 use Rattle.std.specs.Prelude.{◌≡◌, ℕ, ◌+◌, ◌-◌, ◌<◌, ◌^◌, List, [], ◌∷◌, length, map}
 use Rattle.std.specs.List.{range_with_len}
+use Rattle.std.specs.Str.{IsUtf8}
 use Rattle.snippet_parts.specs.declared.source_map.LineInfo.{LineInfo}
 use Rattle.snippet_lines.specs.Lines.{Line, line_bytes, source_lines, text_at, start_of, Source}
 use Rattle.snippet_lines.specs.Place.{line_of}
@@ -26,14 +27,14 @@ touched_entries s start end =
     let ls = source_lines s.text in
     map (entry_at s.first ls) (range_with_len (line_of ls start) (line_of ls end + 1 - line_of ls start))
 
--- the entries of some lines, of which the first has a number and starts at a byte
-abbrev pub entries_from : ℕ → ℕ → List Line → List LineEntry
-entries_from number start [] = []
-entries_from number start (l ∷ ls) =
-    record { text = l.0; number = number; start = start; next = start + length (line_bytes l) } ∷ entries_from (number + 1) (start + length (line_bytes l)) ls
+-- where some lines start, of which the first starts at a byte
+abbrev pub starts_from : ℕ → List Line → List ℕ
+starts_from start [] = []
+starts_from start (l ∷ ls) = start ∷ starts_from (start + length (line_bytes l)) ls
 
--- these are the lines of a source, and the numbers of the lines and of its bytes fit
-pub record IsLineTable (source : List ℕ) (first : ℕ) (infos : List LineInfo) : Type 0 where
-  pub entries : map entry_of infos ≡ entries_from first 0 (source_lines source)
+-- this is where the lines of a source start, which is UTF-8, and the numbers of the lines and of its bytes fit
+pub record IsLineTable (source : List ℕ) (first : ℕ) (starts : List ℕ) : Type 0 where
+  pub starts_are : starts ≡ starts_from 0 (source_lines source)
+  pub utf8 : IsUtf8 source
   pub short : length source < 2 ^ 56
   pub numbers : first + length (source_lines source) < 2 ^ 64

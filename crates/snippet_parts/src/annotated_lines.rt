@@ -32,10 +32,20 @@ pub(crate) fn annotated_lines<'a>(
     let mut lines = Vec::new(alloc);
     for index in 0..source.line_count() {
         if is_shown(fold, &kept, index) {
-            lines.push(annotated_line(alloc, source, index, keep[index], &entries)?)?;
+            lines.push(annotated_line(alloc, source, index, flag_at(&keep, index), &entries)?)?;
         }
     }
     Ok((greatest, lines))
+}
+
+/// The flag of line `index`, which is not set where the line has none.
+fn flag_at(flags: &[bool], index: usize) -> bool
+    ensures value { result ≡ slice_index_or flags.now index false }
+{
+    match flags.get(index) {
+        Some(flag) => *flag,
+        None => false,
+    }
 }
 
 /// Whether line `index` is shown, where it is known which lines are kept.

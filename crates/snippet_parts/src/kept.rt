@@ -1,7 +1,8 @@
 //! Which lines of a snippet are kept. Lines count from 0.
-ghost use Rattle.std.specs.Prelude.{◌≡◌, ℕ, ◌+◌, ◌<◌, ◌≤◌, ◌||◌, All, length, map, max, IfOk};
+ghost use Rattle.std.specs.Prelude.{◌≡◌, ℕ, ◌+◌, ◌<◌, ◌≤◌, ◌||◌, false, not, slice_index_or, All, length, map, max, IfOk};
 ghost use Rattle.std.specs.List.{list_any, range_with_len};
 ghost use Rattle.snippet_view.specs.Kept.{keeps};
+ghost use Rattle.snippet_view.specs.Mark as spec;
 ghost use Rattle.snippet_lines.specs.Lines.{source_lines};
 ghost use Rattle.snippet_view.specs.Marked.{first_line, last_line};
 ghost use Rattle.snippet_lines.specs.Span.{IsSpan};
@@ -39,10 +40,38 @@ pub(crate) fn kept(
     covered(alloc, &reach)
 }
 
-/// Of each line of a source, whether a span that isn't marked touches it.
+/// Of each line of a source, whether a span that isn't marked touches it. Where all are marked, no line has a flag.
 ///
 /// The one error is that memory ran out.
 pub(crate) fn seen(
+    alloc: Global,
+    source: &SourceMap<'_>,
+    annotations: &[Annotation<'_>],
+) -> Result<Vec<bool>, AllocError>
+    requires spans { All (λ a. IsSpan source.now.text a.span.start a.span.end) annotations.now }
+    ensures value { IfOk result (λ seen. (k : ℕ) → k < length (source_lines source.now.text)
+        → slice_index_or seen.items k false ≡ list_any (is_seen source.now.text k) annotations.now) }
+{
+    if has_unmarked(annotations) {
+        touched_lines(alloc, source, annotations)
+    } else {
+        Ok(Vec::new(alloc))
+    }
+}
+
+/// Whether one of some spans isn't marked.
+fn has_unmarked(annotations: &[Annotation<'_>]) -> bool
+    ensures value { result ≡ list_any (λ a. not (spec.is_marking a.kind)) annotations.now }
+{
+    annotations
+        .iter()
+        .any(|annotation| !is_marking(annotation.kind))
+}
+
+/// Of each line of a source, whether a span that isn't marked touches it.
+///
+/// The one error is that memory ran out.
+fn touched_lines(
     alloc: Global,
     source: &SourceMap<'_>,
     annotations: &[Annotation<'_>],

@@ -4,7 +4,7 @@ ghost use Rattle.std.specs.Option.{option_copied};
 ghost use Rattle.std.specs.List.{HoldsAt, list_any};
 ghost use Rattle.std.specs.List.Sorted.{IsNonDecreasingBy};
 ghost use Rattle.snippet_lines.specs.Lines.{Line, AreLinesOf, line_at, source_lines, text_at, start_of, newline_count, StandsAt};
-ghost use Rattle.snippet_parts.specs.LineTable.{entry_of, entry_at, entries_from, touched_entries};
+ghost use Rattle.snippet_parts.specs.LineTable.{entry_of, entry_at, starts_from, touched_entries};
 ghost use Rattle.snippet_lines.specs.Place.{line_of, location_of, steps_after_text, locations_of};
 ghost use Rattle.snippet_lines.specs.Span.{IsSpan, IsSpanBorder};
 ghost use Rattle.snippet_view.specs.Annotated as spec;
@@ -20,7 +20,8 @@ ghost use Rattle.snippet_splice.specs.Overlap.{AreDisjoint};
 ghost use Rattle.snippet_splice.specs.Splice.{IsSplice};
 
 use crate::annotated_lines::annotated_lines;
-use snippet_lines::lines::CursorLines;
+use memchr::memchr_iter;
+use snippet_lines::lines::without_line_end;
 use snippet_lines::place::Loc;
 use snippet_model::snippet::{Annotation, Patch};
 use snippet_splice::{SplicedLines, spliced_lines};
@@ -45,7 +46,8 @@ pub struct LineInfo<'a> {
 /// A source, cut into lines that have numbers.
 #[derive(Drop)]
 pub struct SourceMap<'a> {
-    lines: Vec<LineInfo<'a>>,
+    /// The byte at which each line starts.
+    starts: Vec<usize>,
     source: &'a str,
     line_start: usize,
 }
@@ -59,7 +61,7 @@ impl<'a> Model for SourceMap<'a> {
 
     ghost view = { λ m. record { text = m.source.now; first = m.line_start } };
 
-    ghost invariant = { λ m. IsLineTable m.source.now m.line_start m.lines.items };
+    ghost invariant = { λ m. IsLineTable m.source.now m.line_start m.starts.items };
 }
 
 impl<'a> SourceMap<'a> {
@@ -76,7 +78,7 @@ impl<'a> SourceMap<'a> {
         ensures ok { IfOk result (λ m. m ≡ record { text = source.now; first = line_start }) }
     {
         Ok(SourceMap {
-            lines: line_table(alloc, source, line_start)?,
+            starts: line_starts(alloc, source)?,
             source,
             line_start,
         })
@@ -104,7 +106,7 @@ impl<'a> SourceMap<'a> {
         ensures only { (ls : List Line) → AreLinesOf self.now.text ls
             → ls ≡ source_lines self.now.text }
     {
-        self.lines.len()
+        self.starts.len()
     }
 
     /// The text of the line of a number, without its end; `None` where the source has no such line.
@@ -114,8 +116,11 @@ impl<'a> SourceMap<'a> {
             IfSome result (λ t. StandsAt self.now.text t.now at) }
     {
         let index = number.checked_sub(self.line_start)?;
-        let info = self.lines.get(index)?;
-        Some(info.line)
+        if index < self.starts.len() {
+            Some(self.text_of_line(index))
+        } else {
+            None
+        }
     }
 
     /// The greatest depth of spans of several lines, and the lines that are kept, each with its entries.
@@ -156,7 +161,7 @@ impl<'a> SourceMap<'a> {
             → spec.depth_of self.now annotations.now a ≡ spec.depth_of self.now annotations.now b
             → spec.long_place (spec.long_entry self.now a) ≡ spec.long_place (spec.long_entry self.now b) }
     {
-        annotated_lines(*self.lines.allocator(), self, annotations, fold)
+        annotated_lines(*self.starts.allocator(), self, annotations, fold)
     }
 
     /// Where a span of bytes starts and ends.
@@ -196,7 +201,7 @@ impl<'a> SourceMap<'a> {
     {
         let first = self.line_index_of(span.start);
         let last = self.line_index_of(span.end);
-        let mut lines = Vec::new(*self.lines.allocator());
+        let mut lines = Vec::new(*self.starts.allocator());
         for index in first..last + 1 {
             lines.push(self.line_info(index))?;
         }
@@ -218,7 +223,7 @@ impl<'a> SourceMap<'a> {
         ensures none { IfOk result (λ t. IsNone t ↔ (patches.now ≡ [])) }
         ensures splice { IfOk result (λ t. IfSome t (IsSplice self.now.text (map edit_of patches.now) fold)) }
     {
-        spliced_lines(*self.lines.allocator(), self.source(), patches, fold)
+        spliced_lines(*self.starts.allocator(), self.source(), patches, fold)
     }
 
     /// The location of a byte, and 1 if the byte lies after the end of its line's text, else 0.
@@ -239,9 +244,11 @@ impl<'a> SourceMap<'a> {
     /// The line that holds a byte, from 0.
     pub(crate) fn line_index_of(&self, byte: usize) -> usize
         ensures value { result ≡ line_of (source_lines self.now.text) byte }
+        ensures within { result < length (source_lines self.now.text) }
         ensures bound { result + 1 < 2 ^ 64 }
+        ensures short { length self.now.text < 2 ^ 56 }
     {
-        self.line_holding(byte).line_index - self.line_start
+        last_starting_by(&self.starts, byte)
     }
 
     /// The text of line `index`, from 0, without its end.
@@ -257,7 +264,26 @@ impl<'a> SourceMap<'a> {
         requires within { index < length (source_lines self.now.text) }
         ensures entry { entry_of result ≡ entry_at self.now.first (source_lines self.now.text) index }
     {
-        self.lines[index]
+        let start = self.starts[index];
+        let end = self.line_end(index);
+        let (line, _) = without_line_end(&self.source[start..end]);
+        LineInfo {
+            line,
+            line_index: self.line_number_of(index),
+            start_byte: start,
+            end_byte: end,
+        }
+    }
+
+    /// The byte after line `index`, from 0, line end counted: the one at which the next line starts, if there is one.
+    fn line_end(&self, index: usize) -> usize
+        requires within { index < length (source_lines self.now.text) }
+        ensures value { result ≡ start_of (source_lines self.now.text) (index + 1) }
+    {
+        match self.starts.get(index + 1) {
+            Some(next) => *next,
+            None => self.source.len(),
+        }
     }
 
     /// The number of line `index`, from 0.
@@ -274,56 +300,33 @@ impl<'a> SourceMap<'a> {
             entry_of result ≡ entry_at self.now.first ls (line_of ls byte) }
         ensures short { length self.now.text < 2 ^ 56 }
     {
-        self.lines[last_starting_by(&self.lines, byte)]
+        self.line_info(self.line_index_of(byte))
     }
 }
 
-/// The last of some lines that starts at a byte or before it.
-fn last_starting_by(lines: &[LineInfo<'_>], byte: usize) -> usize
-    requires some { 0 < length lines.now }
-    requires ordered { IsNonDecreasingBy (λ info. info.start_byte) lines.now }
-    requires first { HoldsAt (λ info. info.start_byte ≤ byte) lines.now 0 }
-    ensures within { result < length lines.now }
-    ensures from { HoldsAt (λ info. info.start_byte ≤ byte) lines.now result }
-    ensures to { result + 1 < length lines.now
-        → HoldsAt (λ info. byte < info.start_byte) lines.now (result + 1) }
+/// The last of some lines that starts at a byte or before it, where these are the bytes at which they start.
+fn last_starting_by(starts: &[usize], byte: usize) -> usize
+    requires some { 0 < length starts.now }
+    requires ordered { IsNonDecreasingBy (λ start. start) starts.now }
+    requires first { HoldsAt (λ start. start ≤ byte) starts.now 0 }
+    ensures within { result < length starts.now }
+    ensures from { HoldsAt (λ start. start ≤ byte) starts.now result }
+    ensures to { result + 1 < length starts.now → HoldsAt (λ start. byte < start) starts.now (result + 1) }
 {
-    lines.partition_point(|info| info.start_byte <= byte) - 1
+    starts.partition_point(|start| *start <= byte) - 1
 }
 
-/// What is known of each line of a source whose first line has the number `line_start`.
-fn line_table<'a>(
-    alloc: Global,
-    source: &'a str,
-    line_start: usize,
-) -> Result<Vec<LineInfo<'a>>, AllocError>
+/// The byte at which each line of a source starts. An empty source has one line.
+fn line_starts(alloc: Global, source: &str) -> Result<Vec<usize>, AllocError>
     requires fits { length source.now < 2 ^ 56 }
-    requires numbers { line_start + newline_count source.now + 1 < 2 ^ 64 }
-    ensures entries { IfOk result
-        (λ infos. map entry_of infos.items ≡ entries_from line_start 0 (source_lines source.now)) }
+    ensures starts { IfOk result (λ starts. starts.items ≡ starts_from 0 (source_lines source.now)) }
 {
-    let mut lines = Vec::new(alloc);
-    if source.is_empty() {
-        lines.push(LineInfo {
-            line: source,
-            line_index: line_start,
-            start_byte: 0,
-            end_byte: 0,
-        })?;
-        return Ok(lines);
+    let mut starts = vec![in alloc; 0]?;
+    for line_feed in memchr_iter(b'\n', source.as_bytes()) {
+        let next = line_feed + 1;
+        if next < source.len() {
+            starts.push(next)?;
+        }
     }
-    let mut number = line_start;
-    let mut start = 0;
-    for (line, end_line) in CursorLines::new(source) {
-        let end = start + line.len() + end_line.len();
-        lines.push(LineInfo {
-            line,
-            line_index: number,
-            start_byte: start,
-            end_byte: end,
-        })?;
-        number += 1;
-        start = end;
-    }
-    Ok(lines)
+    Ok(starts)
 }

@@ -1,13 +1,20 @@
-use Rattle.std.proofs.Common.{◌∙◌, arith, length}
+use Rattle.std.proofs.Common.{◌≡◌, ◌<◌, ℕ, false, length, get_or, ap, sym, ◌∙◌, arith}
 use Rattle.std.proofs.lemmas.Result.{IfOk-weaker}
+use Rattle.std.specs.List.{list_any}
+use Rattle.std.proofs.lemmas.List.FromFn.{get_or-map-range_with_len}
 use Rattle.snippet_lines.specs.Lines.{source_lines}
 use Rattle.snippet_parts.specs.Stretches.{is_seen}
-use Rattle.snippet_parts.proofs.KeptLemmas.{covered-none, covered-all}
+use Rattle.snippet_parts.proofs.KeptLemmas.{unseen}
 use Rattle.snippet_parts.proofs.kept.seen.Goals as goal
 
-pub loop-annotation-init : goal.loop-annotation-init
-loop-annotation-init c =
-    (omega (arith, c.in_ok-reach.ensures.len, c.line_count.ensures.value, c.in_ok-reach.reach.ok.0), λ k. covered-none c.in_ok-reach.reach.items c.line_count.result k (c.in_ok-reach.ensures.items_if_clones_equal (λ y same. same)))
+pub returns-then-has_unmarked : goal.returns-then-has_unmarked
+returns-then-has_unmarked c =
+    let text = c.args.source.now.text in
+    let marks = c.args.annotations.now in
+    record { value = IfOk-weaker c.touched_lines.result _ _ (λ lines is k within. ap (λ bs. get_or bs k false) is ∙ get_or-map-range_with_len (λ j. list_any (is_seen text j) marks) 0 (length (source_lines text)) k k false within (omega arith)) c.touched_lines.ensures.value }
 
-pub returns : goal.returns
-returns c = record { value = IfOk-weaker c.covered.result _ _ (λ lines is. is ∙ covered-all (is_seen c.args.source.now.text) c.args.annotations.now c.loop-annotation.annotation-index (length (source_lines c.args.source.now.text)) c.loop-annotation.reach.items c.deref.result.now c.loop-annotation-test.false c.loop-annotation.invariant.0 c.deref.ensures.value c.loop-annotation.invariant.1) c.covered.ensures.value }
+pub returns-else-has_unmarked : goal.returns-else-has_unmarked
+returns-else-has_unmarked c =
+    let text = c.args.source.now.text in
+    let marks = c.args.annotations.now in
+    record { value = λ k within. ap (λ bs. get_or bs k false) c.new.ensures.items ∙ sym (unseen text k marks (sym c.has_unmarked.ensures.value ∙ c.if-has_unmarked.false)) }

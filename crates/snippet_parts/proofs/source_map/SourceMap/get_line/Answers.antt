@@ -1,29 +1,32 @@
-use Rattle.std.proofs.Common.{◌≡◌, ◌-◌, Some, None, subst, sym, ◌∙◌, ap, arith, length, get_or}
-use Rattle.std.proofs.lemmas.Bool.{ltb-true, ltb-false}
-use Rattle.std.specs.Option.{option_copied}
-use Rattle.snippet_parts.specs.declared.source_map.LineInfo.{LineInfo}
-use Rattle.snippet_lines.specs.Lines.{Source, line_at, source_lines, start_of, StandsAt}
-use Rattle.snippet_parts.proofs.TableLemmas.{line_at-some, line_at-none}
+use Rattle.std.proofs.Common.{◌≡◌, ◌<◌, ◌≤◌, ◌-◌, Some, ap, ◌∙◌, ℕ, length, arith}
+use Rattle.snippet_lines.specs.Lines.{Source, StandsAt, line_at, source_lines, start_of}
+use Rattle.snippet_parts.proofs.TableLemmas.{length-table, line_at-some, line_at-none}
 use Rattle.snippet_parts.proofs.source_map.SourceMap.get_line.Goals as goal
 
-pub returns-in_err-info-clause-value : goal.returns-in_err-info-clause-value
-returns-in_err-info-clause-value c =
+pub text_of_line-requires : goal.text_of_line-requires
+text_of_line-requires c =
     let m = c.self.inside in
-    let after = ltb-false c.in_ok-index.index (length c.deref.result.now) (sym c.in_err-info.ensures.lookup.0) in
-    let none = line_at-none m.source.now m.line_start m.lines.items c.self.invariant.entries c.args.number c.in_ok-index.index c.in_ok-index.ensures.1 (omega (arith, after, ap length c.deref.ensures.value)) in
-    ap option_copied c.from_residual-in_err-info.ensures ∙ subst (λ (s : Source). None ≡ line_at s c.args.number) c.self.view_is none
+    let same : length (source_lines m.source.now) ≡ length (source_lines c.args.self.now.text) = ap (λ (s : Source). length (source_lines s.text)) c.self.view_is in
+    record { within = omega (arith, same, length-table m.source.now m.starts.items c.self.invariant.starts_are, m.starts.ok.0, c.if-index-len.true, c.len.ensures) }
 
-found : (c : goal.After-t18-1) → (Some c.in_ok-info.info.now.line.now ≡ line_at c.args.self.now c.args.number) × StandsAt c.args.self.now.text c.in_ok-info.info.now.line.now (start_of (source_lines c.args.self.now.text) (c.args.number - c.args.self.now.first))
+found : (c : goal.After-t13-1) → (Some c.text_of_line.result.now ≡ line_at c.args.self.now c.args.number) × StandsAt c.args.self.now.text c.text_of_line.result.now (start_of (source_lines c.args.self.now.text) (c.args.number - c.args.self.now.first))
 found c =
     let m = c.self.inside in
-    let info : LineInfo = c.in_ok-info.info.now in
-    let same = c.deref.ensures.value in
-    let within = ltb-true c.in_ok-index.index (length c.deref.result.now) (sym c.in_ok-info.ensures.lookup.0) in
-    subst (λ (s : Source). (Some info.line.now ≡ line_at s c.args.number) × StandsAt s.text info.line.now (start_of (source_lines s.text) (c.args.number - s.first))) c.self.view_is
-    (line_at-some m.source.now m.line_start m.lines.items c.self.invariant.entries c.args.number c.in_ok-index.index info c.in_ok-index.ensures.0 c.in_ok-index.ensures.1 (omega (arith, within, ap length same)) (c.in_ok-info.ensures.lookup.1 ∙ ap (λ infos. get_or infos c.in_ok-index.index info) same))
+    let same : length (source_lines m.source.now) ≡ length (source_lines c.args.self.now.text) = ap (λ (s : Source). length (source_lines s.text)) c.self.view_is in
+    let first : m.line_start ≡ c.args.self.now.first = ap (λ (s : Source). s.first) c.self.view_is in
+    line_at-some c.args.self.now c.args.number c.in_ok-index.index c.text_of_line.result.now (omega (arith, c.in_ok-index.ensures.0, first)) (c.in_ok-index.ensures.1 ∙ ap (λ n. c.args.number - n) first)
+    (omega (arith, same, length-table m.source.now m.starts.items c.self.invariant.starts_are, m.starts.ok.0, c.if-index-len.true, c.len.ensures)) c.text_of_line.ensures.value
 
-pub returns-clause-value : goal.returns-clause-value
-returns-clause-value c = (found c).0
+pub returns-then-index-len-clause-value : goal.returns-then-index-len-clause-value
+returns-then-index-len-clause-value c = (found c).0
 
-pub returns-clause-stands : goal.returns-clause-stands
-returns-clause-stands c = (found c).1
+pub returns-then-index-len-clause-stands : goal.returns-then-index-len-clause-stands
+returns-then-index-len-clause-stands c = (found c).1
+
+pub returns-else-index-len-clause-value : goal.returns-else-index-len-clause-value
+returns-else-index-len-clause-value c =
+    let m = c.self.inside in
+    let same : length (source_lines m.source.now) ≡ length (source_lines c.args.self.now.text) = ap (λ (s : Source). length (source_lines s.text)) c.self.view_is in
+    let first : m.line_start ≡ c.args.self.now.first = ap (λ (s : Source). s.first) c.self.view_is in
+    line_at-none c.args.self.now c.args.number c.in_ok-index.index (c.in_ok-index.ensures.1 ∙ ap (λ n. c.args.number - n) first)
+    (omega (arith, same, length-table m.source.now m.starts.items c.self.invariant.starts_are, m.starts.ok.0, c.if-index-len.false, c.len.ensures))

@@ -2,7 +2,7 @@ use Rattle.std.proofs.Common.{◌≡◌, ℕ, length, take}
 use Rattle.std.specs.List.{list_any}
 use Rattle.snippet_lines.specs.Lines.{source_lines}
 use Rattle.snippet_parts.specs.Stretches.{is_covered, is_seen}
-use Rattle.snippet_parts.proofs.kept.seen.Given as goal
+use Rattle.snippet_parts.proofs.kept.touched_lines.Given as goal
 
 -- the lines that the spans so far cover
 abbrev pub invariant-loop-annotation : goal.invariant-loop-annotation
