@@ -9,6 +9,7 @@ mod lines;
 mod margin;
 mod marked;
 mod plain;
+mod public;
 mod refusals;
 mod sequences;
 mod source;
@@ -32,7 +33,8 @@ fn print_all(rt: &(impl Print + AllocGlobal)) -> io::Result<()> {
     sequences::print(rt)?;
     strokes::print(rt)?;
     builders::print(rt)?;
-    refusals::print(rt)
+    refusals::print(rt)?;
+    public::print(rt)
 }
 
 fn main(rt: HostRuntime) -> io::Result<()> {

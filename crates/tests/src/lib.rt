@@ -10,3 +10,5 @@ mod replay;
 mod report;
 #[cfg(test)]
 mod snip;
+#[cfg(test)]
+mod tidy;
