@@ -1,5 +1,5 @@
 -- Where edits stand in their lines of the source, one after the other.
-use Rattle.std.proofs.Common.{◌≡◌, ◌∙◌, ℕ, ◌+◌, ◌-◌, ◌≤◌, ◌<◌, inl, inr, Bool, List, [], ◌∷◌, ◌++◌, length, map, take, drop, refl, sym, ap, arith, append_assoc, subst}
+use Rattle.std.proofs.Common.{◌≡◌, ◌∙◌, ℕ, ◌-◌, ◌≤◌, inl, inr, Bool, List, [], ◌∷◌, ◌++◌, length, map, take, drop, refl, sym, ap, arith, append_assoc, subst}
 use Rattle.std.specs.List.{slice_range}
 use Rattle.std.specs.Str.{IsUtf8, chars}
 use Rattle.std.proofs.lemmas.Bool.{cases_lt}
@@ -51,8 +51,13 @@ pub utf8_more : (source part : List ℕ) (from at to : ℕ) → from ≤ at → 
 utf8_more source part from at to low high is front utf8 =
     subst IsUtf8 (ap (λ t. between source from at ++ t) is ∙ sym (between_more source from at to low high)) (IsUtf8-append (between source from at) part front utf8)
 
+-- counting goes on over a part: from the characters of a text's last line to those of the last line of both
+abbrev pub CountsOn : List ℕ → ℕ → ℕ → Type 0
+CountsOn part before after =
+    (front : List ℕ) → IsUtf8 front → before ≡ capped (length (chars (after_last_lf front))) → after ≡ capped (length (chars (after_last_lf (front ++ part))))
+
 -- what counts on from the characters before a byte gives those before a later one
-pub counted_more : (source part : List ℕ) (from at to before after : ℕ) → from ≤ at → at ≤ to → part ≡ between source at to → IsUtf8 (between source from at) → before ≡ characters_before source from at → ((front : List ℕ) → IsUtf8 front → before ≡ capped (length (chars (after_last_lf front))) → after ≡ capped (length (chars (after_last_lf (front ++ part))))) → after ≡ characters_before source from to
+pub counted_more : (source part : List ℕ) (from at to before after : ℕ) → from ≤ at → at ≤ to → part ≡ between source at to → IsUtf8 (between source from at) → before ≡ characters_before source from at → CountsOn part before after → after ≡ characters_before source from to
 counted_more source part from at to before after low high is front counted counts =
     counts (between source from at) front counted ∙ ap (λ t. capped (length (chars (after_last_lf t)))) (ap (λ t. between source from at ++ t) is ∙ sym (between_more source from at to low high))
 
@@ -63,9 +68,8 @@ extent_is feeds feeds' start start' end end' text f s e =
     ap (λ a. of a start end) f ∙ ap (λ b. of feeds' b end) s ∙ ap (of feeds' start') e
 
 -- one more place, and those that are left
-pub places_more : (source : List ℕ) (from at : ℕ) (x : Extent) (e : Edit) (es : List Edit) (places now : List PatchExtent) (place : PatchExtent) (all : List Extent) → now ≡ places ++ place ∷ [] → extent_of place ≡ x → map extent_of places ++ (x ∷ extents_from source from e.end es) ≡ all → map extent_of now ++ extents_from source from e.end es ≡ all
-places_more source from at x e es places now place all pushed is whole =
-    let left : List Extent = extents_from source from e.end es in
+pub places_more : (x : Extent) (left : List Extent) (places now : List PatchExtent) (place : PatchExtent) (all : List Extent) → now ≡ places ++ place ∷ [] → extent_of place ≡ x → map extent_of places ++ (x ∷ left) ≡ all → map extent_of now ++ left ≡ all
+places_more x left places now place all pushed is whole =
     ap (λ ps. map extent_of ps ++ left) pushed ∙ ap (λ xs. xs ++ left) (map-append extent_of places (place ∷ [])) ∙ append_assoc (map extent_of places) (extent_of place ∷ []) left ∙ ap (λ y. map extent_of places ++ (y ∷ left)) is ∙ whole
 
 -- so the stretches are those of the edits

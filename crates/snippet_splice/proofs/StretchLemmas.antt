@@ -1,5 +1,5 @@
 -- Tables of stretches, the pieces of a text, and what stands in a line before a byte.
-use Rattle.std.proofs.Common.{◌≡◌, ◌≢◌, ◌∙◌, ◌⊎◌, inl, inr, ℕ, zero, suc, ◌+◌, ◌-◌, ◌^◌, ◌<◌, ◌==◌, Bool, true, cond, eqb, List, [], ◌∷◌, ◌++◌, Vec, count_by, length, map, set, get_or, min, chars, lit<, refl, sym, ap, arith, if◌then◌else◌, append_assoc, subst}
+use Rattle.std.proofs.Common.{◌≡◌, ◌≢◌, ◌∙◌, ◌⊎◌, inl, inr, ℕ, zero, suc, ◌+◌, ◌<◌, ◌==◌, cond, eqb, List, [], ◌∷◌, ◌++◌, Vec, count_by, length, map, set, get_or, chars, lit<, refl, sym, ap, arith, if◌then◌else◌, subst}
 use Rattle.std.specs.List.{slice_split}
 use Rattle.std.specs.Str.{IsUtf8}
 use Rattle.std.specs.declared.alloc.Global.{Global}
@@ -146,7 +146,8 @@ chars_on front text before utf8 is =
       | inl zeros ↦
           let adds : (if count_by is_lf text == 0 then before else 0) ≡ before = cond-true (eqb (count_by is_lf text) 0) before 0 (eq-eqb _ 0 zeros) in
           let all : after_last_lf (front ++ text) ≡ after_last_lf front ++ after_last_lf text = after_append front text zeros ∙ ap (λ ys. after_last_lf front ++ ys) (sym (after_none text zeros)) in
-          let total : length (chars (after_last_lf (front ++ text))) ≡ length (chars (after_last_lf front)) + length (chars (after_last_lf text)) = ap (λ t. length (chars t)) all ∙ ap length (chars-append (after_last_lf front) (after_last_lf text) (after_utf8 front utf8)) ∙ length-append (chars (after_last_lf front)) (chars (after_last_lf text)) in
+          let joined : chars (after_last_lf (front ++ text)) ≡ chars (after_last_lf front) ++ chars (after_last_lf text) = ap chars all ∙ chars-append (after_last_lf front) (after_last_lf text) (after_utf8 front utf8) in
+          let total : length (chars (after_last_lf (front ++ text))) ≡ length (chars (after_last_lf front)) + length (chars (after_last_lf text)) = ap length joined ∙ length-append (chars (after_last_lf front)) (chars (after_last_lf text)) in
           omega (arith, adds, is, total)
       | inr some ↦
           let adds : (if count_by is_lf text == 0 then before else 0) ≡ 0 = cond-false (eqb (count_by is_lf text) 0) before 0 (false_from_ne_true _ (λ t. let none : count_by is_lf text ≡ 0 = eqb-true _ 0 t in omega (arith, none, some))) in

@@ -1,4 +1,4 @@
-use Rattle.std.proofs.Common.{◌≡◌, ◌≢◌, ◌∙◌, ◌+◌, ℕ, ap, arith, cond, count_by, eqb, if◌then◌else◌, nat_lt, sym}
+use Rattle.std.proofs.Common.{◌≡◌, ◌≢◌, ◌∙◌, ◌+◌, ℕ, ap, arith, cond, false, count_by, eqb, if◌then◌else◌, nat_lt, sym}
 use Rattle.std.proofs.lemmas.Bool.{cond-false, cond-true, eq-eqb, eqb-true, false_from_ne_true}
 use Rattle.snippet_lines.specs.Lines.{is_lf}
 use Rattle.snippet_splice.specs.Copied.{in_text}
@@ -34,5 +34,7 @@ returns-else-line_feed_count-eq0 c =
           let here : ℕ = characters_before source from e.end in
           let later : ℕ = start_character source from e.end in
           let steps : ℕ = if nat_lt (in_text source e.end) e.end then 1 else 0 in
-          c.saturating_add.ensures ∙ ap (λ m. capped (m + c.steps_after_text.result)) counts ∙ ap (λ m. capped (here + m)) c.steps_after_text.ensures.value ∙ sym (cond-false (eqb e.start e.end) (start_character source from e.start) (cond (eqb n 0) here later) (false_from_ne_true _ (λ t. other (eqb-true _ _ t))) ∙ cond-false (eqb n 0) here later (false_from_ne_true _ (λ t. let none : n ≡ 0 = eqb-true n 0 t in absurd (omega (arith, counted, none, c.if-line_feed_count-eq0.false)))));
+          let some : eqb n 0 ≡ false = false_from_ne_true _ (λ t. let none : n ≡ 0 = eqb-true n 0 t in absurd (omega (arith, counted, none, c.if-line_feed_count-eq0.false))) in
+          let there : cond (eqb e.start e.end) (start_character source from e.start) (cond (eqb n 0) here later) ≡ later = cond-false (eqb e.start e.end) (start_character source from e.start) (cond (eqb n 0) here later) (false_from_ne_true _ (λ t. other (eqb-true _ _ t))) ∙ cond-false (eqb n 0) here later some in
+          c.saturating_add.ensures ∙ ap (λ m. capped (m + c.steps_after_text.result)) counts ∙ ap (λ m. capped (here + m)) c.steps_after_text.ensures.value ∙ sym there;
     }

@@ -1,8 +1,7 @@
-use Rattle.std.proofs.Common.{◌≡◌, ◌∙◌, ◌+◌, ◌<◌, ◌≤◌, ℕ, List, [], ◌∷◌, ◌++◌, ap, arith, count_by, drop, get_or, if◌then◌else◌, length, map, nat_lt, subst, sym}
+use Rattle.std.proofs.Common.{◌≡◌, ◌∙◌, ◌+◌, ◌<◌, ◌≤◌, ℕ, List, [], ◌∷◌, ◌++◌, ap, arith, count_by, drop, get_or, length, map, subst}
 use Rattle.std.proofs.lemmas.List.{drop_more}
 use Rattle.snippet_lines.specs.Lines.{is_lf}
 use Rattle.snippet_splice.specs.declared.patches.TrimmedPatch.{TrimmedPatch}
-use Rattle.snippet_splice.specs.Copied.{in_text}
 use Rattle.snippet_splice.specs.Edits.{AreApart, Edit, trimmed_edit_of}
 use Rattle.snippet_splice.specs.Stretches.{Extent, capped, characters_before, end_character, extent_of, extents_from, start_character}
 use Rattle.snippet_splice.proofs.PlaceLemmas.{between, between_utf8, counted_more, extent_is, none_before, places_more, utf8_more}
@@ -54,5 +53,5 @@ loop-patch-preserved c =
       utf8 = utf8_more source c.text_between-inside.result.now from e.start e.end low apart.1 inside utf8 c.text_between-inside.utf8;
       counted = counted;
       apart = apart.2;
-      whole = places_more source from at x e es c.loop-patch.places.items c.push.new.self.items _ all c.in_ok-push.ensures.items (extent_is c.line_feed_count.result _ c.saturating_add-start.result _ c.end_char.result _ e.text feeds starts ends) whole;
+      whole = places_more x (extents_from source from e.end es) c.loop-patch.places.items c.push.new.self.items _ all c.in_ok-push.ensures.items (extent_is c.line_feed_count.result _ c.saturating_add-start.result _ c.end_char.result _ e.text feeds starts ends) whole;
     }

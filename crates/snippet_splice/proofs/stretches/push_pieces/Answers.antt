@@ -27,7 +27,10 @@ loop-piece-preserved c =
       whole = λ k.
           let later : List SubstitutionHighlight = pieces_on k (capped (line + 1)) 0 (pieces_of after) in
           let now : line_stretches c.push_stretch.new.lines.items k ≡ line_stretches old k ++ added k line start (capped (start + stretch_width piece)) = c.in_ok-push_stretch.ensures.value k ∙ ap (λ n. line_stretches old k ++ added k line start n) end in
-          ap (λ n. line_stretches c.push_stretch.new.lines.items k ++ pieces_on k n 0 (pieces_of after)) c.saturating_add-line.ensures ∙ ap (λ ys. ys ++ later) now ∙ append_assoc (line_stretches old k) (added k line start (capped (start + stretch_width piece))) later ∙ ap (λ ps. line_stretches old k ++ pieces_on k line start ps) (sym (pieces_cut rest piece after parts.0 parts.1)) ∙ c.loop-piece.invariant.whole k;
+          let one : List SubstitutionHighlight = added k line start (capped (start + stretch_width piece)) in
+          let next : pieces_on k c.saturating_add-line.result 0 (pieces_of after) ≡ later = ap (λ n. pieces_on k n 0 (pieces_of after)) c.saturating_add-line.ensures in
+          let left : one ++ later ≡ pieces_on k line start (pieces_of rest) = ap (pieces_on k line start) (sym (pieces_cut rest piece after parts.0 parts.1)) in
+          ap (λ ys. line_stretches c.push_stretch.new.lines.items k ++ ys) next ∙ ap (λ ys. ys ++ later) now ∙ append_assoc (line_stretches old k) one later ∙ ap (λ ys. line_stretches old k ++ ys) left ∙ c.loop-piece.invariant.whole k;
     }
 
 pub returns : goal.returns
@@ -39,5 +42,8 @@ returns c =
     let none = split_parts 10 rest None c.in_default.ensures.cases (lit< tt) in
     let end : c.saturating_add-end-2.result ≡ capped (start + stretch_width rest) = c.saturating_add-end-2.ensures ∙ ap (λ n. capped (start + n)) c.stretch_width-2.ensures.value in
     record {
-      value = on_ok_weaker c.push_stretch-2.result (λ adds k. adds k ∙ ap (λ n. line_stretches old k ++ added k line start n) end ∙ ap (λ ys. line_stretches old k ++ ys) (sym (append-nil (added k line start (capped (start + stretch_width rest))))) ∙ ap (λ ps. line_stretches old k ++ pieces_on k line start ps) (sym (pieces_whole rest none)) ∙ c.loop-piece.invariant.whole k) c.push_stretch-2.ensures.value;
+      value = on_ok_weaker c.push_stretch-2.result (λ adds k.
+          let one : List SubstitutionHighlight = added k line start (capped (start + stretch_width rest)) in
+          let left : one ≡ pieces_on k line start (pieces_of rest) = sym (append-nil one) ∙ ap (pieces_on k line start) (sym (pieces_whole rest none)) in
+          adds k ∙ ap (λ n. line_stretches old k ++ added k line start n) end ∙ ap (λ ys. line_stretches old k ++ ys) left ∙ c.loop-piece.invariant.whole k) c.push_stretch-2.ensures.value;
     }
