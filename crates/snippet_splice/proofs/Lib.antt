@@ -4,10 +4,12 @@ pub mod FeedLemmas
 pub mod LineLemmas
 pub mod OrderLemmas
 pub mod OverlapLemmas
+pub mod PlaceLemmas
 pub mod RangeLemmas
 pub mod SeenLemmas
 pub mod ShownLemmas
 pub mod SpliceLemmas
+pub mod StretchLemmas
 pub mod TouchLemmas
 pub mod TrimLemmas
 pub mod WriteLemmas

@@ -4,4 +4,5 @@ pub mod Overlap
 pub mod Shown
 pub mod Splice
 pub mod Spliced
+pub mod Stretches
 pub mod Trim

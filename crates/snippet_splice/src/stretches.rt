@@ -1,4 +1,13 @@
 //! Which stretches of lines a suggested edit writes anew, and which of the source it replaces.
+ghost use Rattle.std.specs.Prelude.{◌≡◌, ◌==◌, ◌≤◌, ◌<◌, ◌^◌, nat_lt, ℕ, List, ◌++◌, ◌∷◌, [], All, IfOk, OnOk, chars, length, map, if◌then◌else◌};
+ghost use Rattle.std.specs.List.{slice_range};
+ghost use Rattle.std.specs.Str.{IsUtf8};
+ghost use Rattle.snippet_lines.specs.Span.{IsSpan, IsSpanBorder};
+ghost use Rattle.snippet_splice.specs.Copied.{in_text};
+ghost use Rattle.snippet_splice.specs.Edits.{AreApart, trimmed_edit_of};
+ghost use Rattle.snippet_splice.specs.Stretches.{after_last_lf, capped, characters_before, end_character, extent_of, extents_from, line_stretches, pieces_of, pieces_on, start_character, stretches_on};
+ghost use Rattle.snippet_splice.specs.Stretches as spec;
+
 use crate::copy::text_place;
 use crate::patches::TrimmedPatch;
 use snippet_lines::line_feed_count;
@@ -14,9 +23,9 @@ pub struct SubstitutionHighlight {
     pub end: usize,
 }
 
-/// Where a patch stands in the source, by characters of its lines.
+/// Where a patch stands in the source, by characters of its lines, and its text.
 #[derive(Clone, Copy, Drop)]
-pub(crate) struct PatchExtent {
+pub(crate) struct PatchExtent<'a> {
     /// The line feeds between the end of the patch before it, or the beginning, and its start.
     feeds: usize,
     /// The characters of its line before its start.
@@ -25,15 +34,23 @@ pub(crate) struct PatchExtent {
     start: usize,
     /// The character number of its end.
     end: usize,
+    /// What stands in its place.
+    replacement: &'a str,
 }
 
 /// The places of some patches, in their order, if the line on which the first is looked for starts at `from`.
-pub(crate) fn patch_places(
+pub(crate) fn patch_places<'a>(
     alloc: Global,
     source: &str,
     from: usize,
-    patches: &[TrimmedPatch<'_>],
-) -> Result<Vec<PatchExtent>, AllocError> {
+    patches: &[TrimmedPatch<'a>],
+) -> Result<Vec<PatchExtent<'a>>, AllocError>
+    requires from { IsSpanBorder source.now from }
+    requires spans { All (λ t. IsSpan source.now t.span.start t.span.end) patches.now }
+    requires apart { AreApart from (map trimmed_edit_of patches.now) }
+    ensures value { IfOk result (λ places. map extent_of places.items
+        ≡ extents_from source.now from from (map trimmed_edit_of patches.now)) }
+{
     let mut places = Vec::new(alloc);
     let mut at = from;
     let mut chars = 0;
@@ -48,6 +65,7 @@ pub(crate) fn patch_places(
             text_start,
             start,
             end: end_char(source, patch, start, chars),
+            replacement: patch.replacement,
         })?;
         at = patch.span.end;
     }
@@ -56,64 +74,82 @@ pub(crate) fn patch_places(
 
 /// The character number of a patch's end: that of its start if its span is empty, and one more where it ends on a later
 /// line, after the text of that.
-fn end_char(source: &str, patch: &TrimmedPatch<'_>, start: usize, chars: usize) -> usize {
+fn end_char(source: &str, patch: &TrimmedPatch<'_>, start: usize, chars: usize) -> usize
+    requires span { IsSpan source.now patch.now.span.start patch.now.span.end }
+    ensures value { let e = trimmed_edit_of patch.now in (from : ℕ) → start ≡ start_character source.now from e.start
+        → chars ≡ characters_before source.now from e.end → result ≡ end_character source.now from e }
+{
     if patch.span.start == patch.span.end {
         return start;
     }
-    if text_between(source, patch.span.start, patch.span.end).contains('\n') {
-        chars.saturating_add(steps_after_text(source, patch.span.end))
-    } else {
+    if line_feed_count(text_between(source, patch.span.start, patch.span.end)) == 0 {
         chars
+    } else {
+        chars.saturating_add(steps_after_text(source, patch.span.end))
     }
 }
 
 /// The text from one byte of a source to another, bytes inside a line end moved before it.
-fn text_between<'a>(source: &'a str, from: usize, to: usize) -> &'a str {
-    source
-        .get(text_place(source, from)..text_place(source, to))
-        .unwrap_or("")
+fn text_between<'a>(source: &'a str, from: usize, to: usize) -> &'a str
+    ensures value { IsSpanBorder source.now from → IsSpanBorder source.now to
+        → result.now ≡ slice_range source.now (in_text source.now from) (in_text source.now to) }
+{
+    match source.get(text_place(source, from)..text_place(source, to)) {
+        Some(text) => text,
+        None => "",
+    }
 }
 
 /// 1 where a byte stands after the text of its line, else 0.
-fn steps_after_text(source: &str, byte: usize) -> usize {
+fn steps_after_text(source: &str, byte: usize) -> usize
+    ensures value { result ≡ (if nat_lt (in_text source.now byte) byte then 1 else 0) }
+{
     usize::from(text_place(source, byte) < byte)
 }
 
 /// The characters of a line before the end of a text, if so many stand before its beginning.
-fn chars_after(before: usize, text: &str) -> usize {
-    match text.rsplit_once('\n') {
-        Some((_, line)) => char_count(line),
-        None => before.saturating_add(char_count(text)),
+fn chars_after(before: usize, text: &str) -> usize
+    ensures value { (front : List ℕ) → IsUtf8 front → before ≡ capped (length (chars (after_last_lf front)))
+        → result ≡ capped (length (chars (after_last_lf (front ++ text.now)))) }
+{
+    let before = if line_feed_count(text) == 0 {
+        before
+    } else {
+        0
+    };
+    before.saturating_add(char_count(last_line(text)))
+}
+
+/// What stands after the last line feed of a text: all of it, if it has none.
+fn last_line(text: &str) -> &str
+    ensures value { result.now ≡ after_last_lf text.now }
+{
+    let mut rest = text;
+    while let Some((_, after)) = rest.split_once('\n') {
+        rest = after;
     }
+    rest
 }
 
 /// The stretches that are written anew, by lines of the text; `feeds` more lines follow the last patch.
 pub(crate) fn new_stretches(
     alloc: Global,
-    patches: &[TrimmedPatch<'_>],
-    places: &[PatchExtent],
+    places: &[PatchExtent<'_>],
     feeds: usize,
-) -> Result<Vec<Vec<SubstitutionHighlight>>, AllocError> {
+) -> Result<Vec<Vec<SubstitutionHighlight>>, AllocError>
+    ensures value { IfOk result (λ lines. (k : ℕ) → line_stretches lines.items k ≡ stretches_on k 0 0 0 (map extent_of places.now)) }
+{
     let mut lines = Vec::new(alloc);
     let mut line = 0usize;
     let mut shown = 0usize;
     let mut end = 0usize;
-    for (patch, place) in patches.iter().zip(places) {
+    for place in places {
         line = line.saturating_add(place.feeds);
-        let start = if place.feeds == 0 {
-            shown.saturating_add(place.start.saturating_sub(end))
-        } else {
-            place.start
-        };
-        push_pieces(alloc, &mut lines, line, start, patch.replacement)?;
-        let pieces = line_feed_count(patch.replacement);
-        line = line.saturating_add(pieces);
+        let start = text_start(shown, end, place);
+        push_pieces(alloc, &mut lines, line, start, place.replacement)?;
+        line = line.saturating_add(line_feed_count(place.replacement));
+        shown = shown_end(start, place);
         end = place.end;
-        shown = if pieces == 0 {
-            start.saturating_add(stretch_width(patch.replacement))
-        } else {
-            end
-        };
     }
     open_lines(
         alloc,
@@ -123,24 +159,54 @@ pub(crate) fn new_stretches(
     Ok(lines)
 }
 
-/// Adds a stretch for each piece of a replacement, cut at its line feeds: the first from `start` on, on line `line`, each
-/// other from the beginning of the next line on.
+/// The character at which the text of a patch begins, if character `end` of the source stands as character `shown` in its
+/// line: as in the source where it is the first on its line, else as far after the patch before it as there.
+fn text_start(shown: usize, end: usize, place: &PatchExtent<'_>) -> usize
+    ensures value { result ≡ spec.text_start shown end (extent_of place.now) }
+{
+    if place.feeds == 0 {
+        shown.saturating_add(place.start.saturating_sub(end))
+    } else {
+        place.start
+    }
+}
+
+/// As which character the end of a patch stands, whose text begins at character `start`: after that, but where the text has
+/// several lines, as in the source.
+fn shown_end(start: usize, place: &PatchExtent<'_>) -> usize
+    ensures value { result ≡ spec.shown_end start (extent_of place.now) }
+{
+    if line_feed_count(place.replacement) == 0 {
+        start.saturating_add(stretch_width(place.replacement))
+    } else {
+        place.end
+    }
+}
+
+/// Adds a stretch for each piece of a replacement, cut at its line feeds: the first from character `from` on, on line `first`,
+/// each other from the beginning of the next line on.
 fn push_pieces(
     alloc: Global,
     lines: &mut Vec<Vec<SubstitutionHighlight>>,
-    line: usize,
-    start: usize,
+    first: usize,
+    from: usize,
     replacement: &str,
-) -> Result<(), AllocError> {
-    let mut start = start;
-    let mut line = line;
-    for piece in replacement.split('\n') {
+) -> Result<(), AllocError>
+    ensures value { OnOk result ((k : ℕ) → line_stretches lines.new.items k
+        ≡ line_stretches lines.old.items k ++ pieces_on k first from (pieces_of replacement.now)) }
+{
+    let mut start = from;
+    let mut line = first;
+    let mut rest = replacement;
+    while let Some((piece, after)) = rest.split_once('\n') {
         let end = start.saturating_add(stretch_width(piece));
         push_stretch(alloc, lines, line, SubstitutionHighlight { start, end })?;
         start = 0;
         line = line.saturating_add(1);
+        rest = after;
     }
-    Ok(())
+    let end = start.saturating_add(stretch_width(rest));
+    push_stretch(alloc, lines, line, SubstitutionHighlight { start, end })
 }
 
 /// Adds a stretch to a line.
@@ -149,7 +215,10 @@ fn push_stretch(
     lines: &mut Vec<Vec<SubstitutionHighlight>>,
     line: usize,
     stretch: SubstitutionHighlight,
-) -> Result<(), AllocError> {
+) -> Result<(), AllocError>
+    ensures value { OnOk result ((k : ℕ) → line_stretches lines.new.items k
+        ≡ line_stretches lines.old.items k ++ (if line == k then stretch ∷ [] else [])) }
+{
     open_lines(alloc, lines, line.saturating_add(1))?;
     if let Some(stretches) = lines.get_mut(line) {
         stretches.push(stretch)?;
@@ -162,7 +231,10 @@ fn open_lines(
     alloc: Global,
     lines: &mut Vec<Vec<SubstitutionHighlight>>,
     count: usize,
-) -> Result<(), AllocError> {
+) -> Result<(), AllocError>
+    ensures same { (k : ℕ) → line_stretches lines.new.items k ≡ line_stretches lines.old.items k }
+    ensures enough { OnOk result (count ≤ length lines.new.items) }
+{
     for _ in lines.len()..count {
         lines.push(Vec::new(alloc))?;
     }
@@ -170,12 +242,11 @@ fn open_lines(
 }
 
 /// The characters of a text, a tab counted as four.
-fn stretch_width(text: &str) -> usize {
-    let mut width = 0usize;
-    for c in text.chars() {
-        width = width.saturating_add(if c == '\t' { 4 } else { 1 });
-    }
-    width
+fn stretch_width(text: &str) -> usize
+    ensures value { result ≡ spec.stretch_width text.now }
+{
+    let tabs = text.as_bytes().iter().filter(|b| **b == b'\t').count();
+    char_count(text).saturating_add(tabs.saturating_mul(3))
 }
 
 /// The stretches of the source that are replaced, by its lines from the beginning on, `count` of them.
@@ -183,7 +254,7 @@ pub(crate) fn replaced_stretches(
     alloc: Global,
     source: &str,
     patches: &[TrimmedPatch<'_>],
-    places: &[PatchExtent],
+    places: &[PatchExtent<'_>],
     count: usize,
 ) -> Result<Vec<Vec<SubstitutionHighlight>>, AllocError> {
     let mut lines = Vec::new(alloc);
@@ -204,7 +275,7 @@ fn push_replaced(
     alloc: Global,
     lines: &mut Vec<Vec<SubstitutionHighlight>>,
     line: usize,
-    place: PatchExtent,
+    place: PatchExtent<'_>,
     inside: &str,
 ) -> Result<(), AllocError> {
     let mut start = place.start;

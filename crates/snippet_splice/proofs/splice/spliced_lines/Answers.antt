@@ -9,6 +9,8 @@ use Rattle.snippet_splice.specs.Splice.{IsPlain}
 use Rattle.snippet_splice.specs.Spliced.{ranges_from, texts_of, AreFrom}
 use Rattle.snippet_splice.specs.Shown.{first_start, shown_line, shown_start, shown_rest, shown_text, closes_line, without_final_line_feeds}
 use Rattle.snippet_splice.proofs.OverlapLemmas.{apart-in_order, ordered-spans}
+use Rattle.snippet_splice.specs.Stretches.{extent_of, extents_from}
+use Rattle.snippet_splice.proofs.PlaceLemmas.{stretches_are}
 use Rattle.snippet_splice.proofs.ShownLemmas.{none-given, first-given, shown_start-border, shown-apart, shown-value, some-trimmed}
 use Rattle.snippet_splice.proofs.SpliceLemmas.{IsShownPart, shown-part}
 use Rattle.snippet_splice.proofs.WriteLemmas.{without_final-twice}
@@ -38,6 +40,20 @@ write_patches-requires-clause-apart c =
     let edits : map trimmed_edit_of c.deref-2.result.now ≡ trimmed_edits source es = ap (map trimmed_edit_of) c.deref-2.ensures.value ∙ c.in_ok-patches.ensures.edits in
     subst (λ n. AreApart n (map trimmed_edit_of c.deref-2.result.now)) (sym begin) (subst (AreApart (shown_start c.args.fold source (first_start (in_order es)))) (sym edits) apart)
 
+pub patch_places-requires-clause-from : goal.patch_places-requires-clause-from
+patch_places-requires-clause-from c =
+    inl (subst (IsCharBoundary c.args.source.now) (sym c.shown_start-start.ensures.value) (shown_start-border c.args.fold c.args.source.now c.in-Some.first.now.original_span.start c.utf8.source))
+
+pub patch_places-requires-clause-apart : goal.patch_places-requires-clause-apart
+patch_places-requires-clause-apart c =
+    let source : List ℕ = c.args.source.now in
+    let es : List Edit = map edit_of c.args.patches.now in
+    let apart : AreApart (shown_start c.args.fold source (first_start (in_order es))) (trimmed_edits source es) = shown-apart c.args.fold source es (apart-in_order es (ordered-spans source c.args.patches.now c.requires.spans) c.requires.disjoint) in
+    let first : c.in-Some.first.now.original_span.start ≡ first_start (in_order es) = first-given c.in_ok-patches.patches.items (in_order es) c.in-Some.first.now c.in_ok-patches.ensures.originals (sym (c.in-Some.ensures.value ∙ ap (λ l. slice_get l 0) c.deref.ensures.value)) in
+    let begin : c.shown_start-start.result ≡ shown_start c.args.fold source (first_start (in_order es)) = c.shown_start-start.ensures.value ∙ ap (shown_start c.args.fold source) first in
+    let edits : map trimmed_edit_of c.deref-4.result.now ≡ trimmed_edits source es = ap (map trimmed_edit_of) c.deref-4.ensures.value ∙ c.in_ok-patches.ensures.edits in
+    subst (λ n. AreApart n (map trimmed_edit_of c.deref-4.result.now)) (sym begin) (subst (AreApart (shown_start c.args.fold source (first_start (in_order es)))) (sym edits) apart)
+
 pub returns-clause-splice : goal.returns-clause-splice
 returns-clause-splice c =
     let source : List ℕ = c.args.source.now in
@@ -51,6 +67,9 @@ returns-clause-splice c =
     let whole : string_bytes c.in_ok-complete.complete ≡ without_final_line_feeds (string_bytes c.in_ok-written.written.text ++ c.shown_rest-rest.result.now) = c.in_ok-complete.ensures.value in
     let begin : c.shown_start-start.result ≡ shown_start c.args.fold source (first_start (in_order es)) = c.shown_start-start.ensures.value ∙ ap (shown_start c.args.fold source) first in
     let written : c.in_ok-written.written.ranges.items ≡ written_ranges source 0 (shown_start c.args.fold source (first_start (in_order es))) (trimmed_edits source es) = c.in_ok-written.ensures.ranges ∙ ap (λ n. written_ranges source 0 n (map trimmed_edit_of c.deref-2.result.now)) begin ∙ ap (written_ranges source 0 (shown_start c.args.fold source (first_start (in_order es)))) edits in
+    let ts : List Edit = map trimmed_edit_of c.deref-4.result.now in
+    let trimmed : ts ≡ trimmed_edits source es = ap (map trimmed_edit_of) c.deref-4.ensures.value ∙ c.in_ok-patches.ensures.edits in
+    let places : map extent_of c.deref-6.result.now ≡ extents_from source c.shown_start-start.result c.shown_start-start.result ts = ap (map extent_of) c.deref-6.ensures.value ∙ c.in_ok-places.ensures.value in
     let apart : AreApart 0 (in_order es) = apart-in_order es (ordered-spans source c.args.patches.now c.requires.spans) c.requires.disjoint in
     let some : trimmed_edits source es ≢ [] = some-trimmed c.in_ok-patches.patches.items (trimmed_edits source es) c.in-Some.first.now c.in_ok-patches.ensures.edits (sym (c.in-Some.ensures.value ∙ ap (λ l. slice_get l 0) c.deref.ensures.value)) in
     let part : IsPlain source es → IsShownPart c.args.fold source es = λ plain. shown-part c.args.fold source es plain.no_cr plain.before apart some in
@@ -63,6 +82,7 @@ returns-clause-splice c =
       value = value;
       ended = ap without_final_line_feeds whole ∙ without_final-twice (string_bytes c.in_ok-written.written.text ++ c.shown_rest-rest.result.now) ∙ sym whole;
       written = written;
+      stretches = λ k. c.in_ok-highlights.ensures.value k ∙ stretches_are c.args.fold source es ts c.shown_start-start.result k (map extent_of c.deref-6.result.now) begin trimmed places;
       text = λ plain. value ∙ (part plain).text ∙ sym (part plain).spliced;
       ranges = λ plain. ap (ranges_from (shown_line c.args.fold source es)) written ∙ written-ranges c.args.fold source es plain.no_cr plain.before apart;
       lines = λ plain texts_none. subst (λ t. AreFrom (shown_line c.args.fold source es) (texts_of (lines_of t)) (texts_of (source_lines (patched source es)))) (sym (value ∙ (part plain).text)) (shown-lines c.args.fold source es plain.no_cr texts_none (part plain));

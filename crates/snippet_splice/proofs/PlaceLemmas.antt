@@ -1,0 +1,79 @@
+-- Where edits stand in their lines of the source, one after the other.
+use Rattle.std.proofs.Common.{◌≡◌, ◌∙◌, ℕ, ◌-◌, ◌≤◌, inl, inr, Bool, List, [], ◌∷◌, ◌++◌, length, map, take, drop, refl, sym, ap, arith, append_assoc, subst}
+use Rattle.std.specs.List.{slice_range}
+use Rattle.std.specs.Str.{IsUtf8, chars}
+use Rattle.std.proofs.lemmas.Bool.{cases_lt}
+use Rattle.std.proofs.lemmas.List.{map-append}
+use Rattle.std.proofs.lemmas.Str.{IsUtf8-append, IsUtf8-nil}
+use Rattle.snippet_splice.specs.declared.stretches.PatchExtent.{PatchExtent}
+use Rattle.snippet_splice.specs.Copied.{in_text}
+use Rattle.snippet_splice.specs.Edits.{Edit, in_order, trimmed_edits}
+use Rattle.snippet_splice.specs.Shown.{first_start, shown_start}
+use Rattle.snippet_splice.specs.Stretches.{Extent, after_last_lf, capped, characters_before, extent_of, extents_from, new_stretches, stretches_on}
+use Rattle.snippet_splice.proofs.EditLemmas.{slice_split}
+use Rattle.snippet_splice.proofs.WriteLemmas.{in_text-mono}
+
+-- a source from one byte of its text to another
+abbrev pub between : List ℕ → ℕ → ℕ → List ℕ
+between source from to = slice_range source (in_text source from) (in_text source to)
+
+-- nothing stands from a byte on to one that isn't after it
+pub between_none : (source : List ℕ) (from to : ℕ) → in_text source to ≤ in_text source from → between source from to ≡ []
+between_none source from to low =
+    let zero : in_text source to - in_text source from ≡ 0 = omega (arith, low) in
+    ap (λ n. take n (drop (in_text source from) source)) zero
+
+-- so where no text stands between borders
+pub between_reversed : (source : List ℕ) (from to i j : ℕ) → i ≡ in_text source from → j ≡ in_text source to → (i ≤ j → ⊥) → [] ≡ between source from to
+between_reversed source from to i j is js none =
+    elim (cases_lt j i) [
+      | inl low ↦ sym (between_none source from to (omega (arith, low, is, js)))
+      | inr high ↦ absurd (none high)
+    ]
+
+pub between_utf8 : (source : List ℕ) (from : ℕ) → IsUtf8 (between source from from)
+between_utf8 source from = subst IsUtf8 (sym (between_none source from from (omega arith))) IsUtf8-nil
+
+nothing : capped (length (chars (after_last_lf []))) ≡ 0
+unfolding chars
+nothing = refl
+
+pub none_before : (source : List ℕ) (from : ℕ) → 0 ≡ characters_before source from from
+none_before source from =
+    sym (ap (λ t. capped (length (chars (after_last_lf t)))) (between_none source from from (omega arith)) ∙ nothing)
+
+-- up to a later byte
+between_more : (source : List ℕ) (from at to : ℕ) → from ≤ at → at ≤ to → between source from to ≡ between source from at ++ between source at to
+between_more source from at to low high =
+    slice_split source (in_text source from) (in_text source at) (in_text source to) (in_text-mono source from at low) (in_text-mono source at to high)
+
+pub utf8_more : (source part : List ℕ) (from at to : ℕ) → from ≤ at → at ≤ to → part ≡ between source at to → IsUtf8 (between source from at) → IsUtf8 part → IsUtf8 (between source from to)
+utf8_more source part from at to low high is front utf8 =
+    subst IsUtf8 (ap (λ t. between source from at ++ t) is ∙ sym (between_more source from at to low high)) (IsUtf8-append (between source from at) part front utf8)
+
+-- counting goes on over a part: from the characters of a text's last line to those of the last line of both
+abbrev pub CountsOn : List ℕ → ℕ → ℕ → Type 0
+CountsOn part before after =
+    (front : List ℕ) → IsUtf8 front → before ≡ capped (length (chars (after_last_lf front))) → after ≡ capped (length (chars (after_last_lf (front ++ part))))
+
+-- what counts on from the characters before a byte gives those before a later one
+pub counted_more : (source part : List ℕ) (from at to before after : ℕ) → from ≤ at → at ≤ to → part ≡ between source at to → IsUtf8 (between source from at) → before ≡ characters_before source from at → CountsOn part before after → after ≡ characters_before source from to
+counted_more source part from at to before after low high is front counted counts =
+    counts (between source from at) front counted ∙ ap (λ t. capped (length (chars (after_last_lf t)))) (ap (λ t. between source from at ++ t) is ∙ sym (between_more source from at to low high))
+
+-- where an edit stands
+pub extent_is : (feeds feeds' start start' end end' : ℕ) (text : List ℕ) → feeds ≡ feeds' → start ≡ start' → end ≡ end' → let of : ℕ → ℕ → ℕ → Extent = λ f s e. record { feeds = f; start = s; end = e; text = text } in of feeds start end ≡ of feeds' start' end'
+extent_is feeds feeds' start start' end end' text f s e =
+    let of : ℕ → ℕ → ℕ → Extent = λ a b c. record { feeds = a; start = b; end = c; text = text } in
+    ap (λ a. of a start end) f ∙ ap (λ b. of feeds' b end) s ∙ ap (of feeds' start') e
+
+-- one more place, and those that are left
+pub places_more : (x : Extent) (left : List Extent) (places now : List PatchExtent) (place : PatchExtent) (all : List Extent) → now ≡ places ++ place ∷ [] → extent_of place ≡ x → map extent_of places ++ (x ∷ left) ≡ all → map extent_of now ++ left ≡ all
+places_more x left places now place all pushed is whole =
+    ap (λ ps. map extent_of ps ++ left) pushed ∙ ap (λ xs. xs ++ left) (map-append extent_of places (place ∷ [])) ∙ append_assoc (map extent_of places) (extent_of place ∷ []) left ∙ ap (λ y. map extent_of places ++ (y ∷ left)) is ∙ whole
+
+-- so the stretches are those of the edits
+pub stretches_are : (fold : Bool) (source : List ℕ) (es ts : List Edit) (from k : ℕ) (xs : List Extent) → from ≡ shown_start fold source (first_start (in_order es)) → ts ≡ trimmed_edits source es → xs ≡ extents_from source from from ts → stretches_on k 0 0 0 xs ≡ new_stretches fold source es k
+unfolding new_stretches
+stretches_are fold source es ts from k xs starts edits is =
+    ap (stretches_on k 0 0 0) (is ∙ ap (λ n. extents_from source n n ts) starts ∙ ap (extents_from source (shown_start fold source (first_start (in_order es))) (shown_start fold source (first_start (in_order es)))) edits)

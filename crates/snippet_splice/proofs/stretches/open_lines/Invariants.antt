@@ -1,0 +1,10 @@
+use Rattle.std.proofs.Common.{◌≡◌, ◌≤◌, ℕ, length}
+use Rattle.snippet_splice.specs.Stretches.{line_stretches}
+use Rattle.snippet_splice.proofs.stretches.open_lines.Given as goal
+
+-- each line has the stretches that it had
+abbrev pub invariant-loop : goal.invariant-loop
+invariant-loop l = record {
+  same : (k : ℕ) → line_stretches l.lines.items k ≡ line_stretches l.initial.lines.items k;
+  counted : l.counter ≤ length l.lines.items;
+}

@@ -1,0 +1,57 @@
+use Rattle.std.proofs.Common.{◌≡◌, ◌∙◌, ◌+◌, ◌<◌, ◌≤◌, ℕ, List, [], ◌∷◌, ◌++◌, ap, arith, count_by, drop, get_or, length, map, subst}
+use Rattle.std.proofs.lemmas.List.{drop_more}
+use Rattle.snippet_lines.specs.Lines.{is_lf}
+use Rattle.snippet_splice.specs.declared.patches.TrimmedPatch.{TrimmedPatch}
+use Rattle.snippet_splice.specs.Edits.{AreApart, Edit, trimmed_edit_of}
+use Rattle.snippet_splice.specs.Stretches.{Extent, capped, characters_before, end_character, extent_of, extents_from, start_character}
+use Rattle.snippet_splice.proofs.PlaceLemmas.{between, between_utf8, counted_more, extent_is, none_before, places_more, utf8_more}
+use Rattle.snippet_splice.proofs.stretches.patch_places.Goals as goal
+
+pub loop-patch-init : goal.loop-patch-init
+loop-patch-init c =
+    let a = c.args in
+    record {
+      border = c.requires.from;
+      after = omega arith;
+      utf8 = between_utf8 a.source.now a.from;
+      counted = none_before a.source.now a.from;
+      apart = c.requires.apart;
+      whole = ap (λ ps. map extent_of ps ++ extents_from a.source.now a.from a.from (map trimmed_edit_of a.patches.now)) c.new-places.ensures.items;
+    }
+
+pub loop-patch-preserved : goal.loop-patch-preserved
+loop-patch-preserved c =
+    let source : List ℕ = c.args.source.now in
+    let from : ℕ = c.args.from in
+    let ps : List TrimmedPatch = c.args.patches.now in
+    let i : ℕ = c.loop-patch.patch-index in
+    let at : ℕ = c.loop-patch.at in
+    let inv = c.loop-patch.invariant in
+    let none : TrimmedPatch = record { original_span = record { start = 0; end = 0 }; span = record { start = 0; end = 0 }; replacement = record { ref_ptr = (0, 0); now = [] } } in
+    let p : TrimmedPatch = get_or ps i none in
+    let e : Edit = trimmed_edit_of p in
+    let es : List Edit = map trimmed_edit_of (drop (i + 1) ps) in
+    let within : i < length ps = c.loop-patch-test.true in
+    let left : map trimmed_edit_of (drop i ps) ≡ e ∷ es = ap (map trimmed_edit_of) (drop_more ps i none within) in
+    let apart : AreApart at (e ∷ es) = subst (AreApart at) left inv.apart in
+    let span = c.requires.spans i none within in
+    let low : from ≤ e.start = omega (arith, inv.after, apart.0) in
+    let front = c.text_between-between.ensures.value inv.border span.from in
+    let inside = c.text_between-inside.ensures.value span.from span.to in
+    let utf8 = utf8_more source c.text_between-between.result.now from at e.start inv.after apart.0 front inv.utf8 c.text_between-between.utf8 in
+    let before : c.chars_after-text_start.result ≡ characters_before source from e.start = counted_more source c.text_between-between.result.now from at e.start c.loop-patch.chars c.chars_after-text_start.result inv.after apart.0 front inv.utf8 inv.counted c.chars_after-text_start.ensures.value in
+    let counted : c.chars_after-chars.result ≡ characters_before source from e.end = counted_more source c.text_between-inside.result.now from e.start e.end c.chars_after-text_start.result c.chars_after-chars.result low apart.1 inside utf8 before c.chars_after-chars.ensures.value in
+    let starts : c.saturating_add-start.result ≡ start_character source from e.start = c.saturating_add-start.ensures ∙ ap (λ n. capped (n + c.steps_after_text.result)) before ∙ ap (λ n. capped (characters_before source from e.start + n)) c.steps_after_text.ensures.value in
+    let ends : c.end_char.result ≡ end_character source from e = c.end_char.ensures.value from starts counted in
+    let feeds : c.line_feed_count.result ≡ count_by is_lf (between source at e.start) = c.line_feed_count.ensures.value ∙ ap (count_by is_lf) front in
+    let x : Extent = record { feeds = count_by is_lf (between source at e.start); start = start_character source from e.start; end = end_character source from e; text = e.text } in
+    let all : List Extent = extents_from source from from (map trimmed_edit_of ps) in
+    let whole : map extent_of c.loop-patch.places.items ++ (x ∷ extents_from source from e.end es) ≡ all = subst (λ rest. map extent_of c.loop-patch.places.items ++ extents_from source from at rest ≡ all) left inv.whole in
+    record {
+      border = span.to;
+      after = omega (arith, low, apart.1);
+      utf8 = utf8_more source c.text_between-inside.result.now from e.start e.end low apart.1 inside utf8 c.text_between-inside.utf8;
+      counted = counted;
+      apart = apart.2;
+      whole = places_more x (extents_from source from e.end es) c.loop-patch.places.items c.push.new.self.items _ all c.in_ok-push.ensures.items (extent_is c.line_feed_count.result _ c.saturating_add-start.result _ c.end_char.result _ e.text feeds starts ends) whole;
+    }

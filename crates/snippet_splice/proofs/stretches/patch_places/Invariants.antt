@@ -1,0 +1,19 @@
+use Rattle.std.proofs.Common.{◌≡◌, ◌≤◌, ◌++◌, drop, map}
+use Rattle.std.specs.List.{slice_range}
+use Rattle.std.specs.Str.{IsUtf8}
+use Rattle.snippet_lines.specs.Span.{IsSpanBorder}
+use Rattle.snippet_splice.specs.Copied.{in_text}
+use Rattle.snippet_splice.specs.Edits.{AreApart, trimmed_edit_of}
+use Rattle.snippet_splice.specs.Stretches.{characters_before, extent_of, extents_from}
+use Rattle.snippet_splice.proofs.stretches.patch_places.Given as goal
+
+-- the places of the patches that are left complete those of all
+abbrev pub invariant-loop-patch : goal.invariant-loop-patch
+invariant-loop-patch l = record {
+  border : IsSpanBorder l.source l.at;
+  after : l.from ≤ l.at;
+  utf8 : IsUtf8 (slice_range l.source (in_text l.source l.from) (in_text l.source l.at));
+  counted : l.chars ≡ characters_before l.source l.from l.at;
+  apart : AreApart l.at (map trimmed_edit_of (drop l.patch-index l.patches));
+  whole : map extent_of l.places.items ++ extents_from l.source l.from l.at (map trimmed_edit_of (drop l.patch-index l.patches)) ≡ extents_from l.source l.from l.from (map trimmed_edit_of l.patches);
+}

@@ -1,0 +1,15 @@
+use Rattle.std.proofs.Common.{◌≡◌, ◌++◌, ℕ, length}
+use denote.Text.{Utf8}
+use denote.Shadow.{shadow}
+use Rattle.snippet_splice.specs.Stretches.{line_stretches, pieces_of, pieces_on}
+use Rattle.snippet_splice.proofs.stretches.push_pieces.Given as goal
+
+-- the pieces that are left complete those that are to be added
+abbrev pub invariant-loop-piece : goal.invariant-loop-piece
+invariant-loop-piece l = record {
+  text : shadow (Utf8 l.rest);
+  whole : (k : ℕ) → line_stretches l.lines.items k ++ pieces_on k l.line l.start (pieces_of l.rest) ≡ line_stretches l.fn.lines.items k ++ pieces_on k l.first l.from (pieces_of l.replacement);
+}
+
+abbrev pub decreases-loop-piece : goal.decreases-loop-piece
+decreases-loop-piece l = length l.rest
