@@ -11,7 +11,11 @@ use Rattle.snippet_grid.specs.Grid.{row_at}
 use Rattle.snippet_style.specs.Cell.{Cell, SPACE, text_cells}
 use Rattle.snippet_text.specs.Normalized.{is_listed}
 use Rattle.snippet_strokes.specs.declared.layout.Layout.{Layout}
-use Rattle.snippet_strokes.specs.Bars.{AddsElision, BarsDrawn, DrawsBars}
+use Rattle.snippet_strokes.specs.declared.bars.OpenBar.{OpenBar}
+use Rattle.snippet_strokes.specs.declared.bars.BarStroke.TheVariants.{Dotted}
+use Rattle.snippet_strokes.specs.Bars.{BarsDrawn, DrawsBars, barred}
+use Rattle.snippet_strokes.specs.Snippet.{AddsElision, gap_row}
+use Rattle.snippet_strokes.proofs.BarRows.{barred-below}
 use Rattle.snippet_model.specs.Rows.{IsFree}
 use Rattle.snippet_strokes.specs.Rows.{bare_elision_row}
 use Rattle.snippet_strokes.proofs.BarLemmas.{bar_space}
@@ -45,8 +49,8 @@ free_bare_elision Unicode gutter =
     free_led (gutter + 1) (elision_of Unicode) (All-cons P 0x2506 [] refl (All-nil P))
 
 -- the row with its bars
-pub elision_added : (layout : Layout) (old begun new : List (List Cell)) (row : ℕ) → row ≡ length old → layout.gutter + 3 ≤ layout.code → begun ≡ old ++ bare_elision_row layout.decor layout.gutter ∷ [] → DrawsBars layout row begun new → AddsElision layout old new
-elision_added layout old begun new row last place begins draws =
+pub elision_added : (layout : Layout) (open_bars : List OpenBar) (old begun new : List (List Cell)) (row : ℕ) → row ≡ length old → layout.gutter + 3 ≤ layout.code → begun ≡ old ++ bare_elision_row layout.decor layout.gutter ∷ [] → DrawsBars layout row begun new → new ≡ barred layout Dotted open_bars row begun → AddsElision layout open_bars old new
+elision_added layout open_bars old begun new row last place begins draws value =
     let bare = bare_elision_row layout.decor layout.gutter in
     let is_bare : row_at begun row ≡ bare = ap (λ rs. row_at rs row) begins ∙ get_or_push old bare [] row (sym last) in
     let drawn : BarsDrawn layout bare (row_at new row) = subst (λ cells. BarsDrawn layout cells (row_at new row)) is_bare (draws.rows row) in
@@ -65,6 +69,7 @@ elision_added layout old begun new row last place begins draws =
         ends = omega (arith, drawn.short, few, place);
         free = drawn.free (free_bare_elision layout.decor layout.gutter);
       };
+      row_is = ap (λ rs. row_at rs row) (value ∙ ap (λ r. barred layout Dotted open_bars r begun) last ∙ ap (barred layout Dotted open_bars (length old)) begins ∙ barred-below layout Dotted open_bars old (bare ∷ [])) ∙ get_or_push old (gap_row layout open_bars) [] row (sym last);
     }
   where
     split : (xs : List (List Cell)) (n : ℕ) → xs ≡ take n xs ++ drop n xs

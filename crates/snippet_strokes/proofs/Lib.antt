@@ -26,3 +26,6 @@ pub mod OpenLemmas
 pub mod ElisionLemmas
 pub mod WholeLineLemmas
 pub mod LineLemmas
+pub mod BarRows
+pub mod LowerWrites
+pub mod LineRowLemmas

@@ -27,7 +27,11 @@ use Rattle.snippet_text.specs.Width.{width_of}
 use Rattle.snippet_model.specs.AnnotationKind.{is_primary}
 use Rattle.snippet_view.specs.Measures.{StandsClear, is_bar}
 use Rattle.snippet_strokes.specs.Entries.{are_plain, is_end_part, shifted}
-use Rattle.snippet_strokes.specs.Bars.{AddsGap, DrawsBars}
+use Rattle.snippet_strokes.specs.declared.bars.OpenBar.{OpenBar}
+use Rattle.snippet_strokes.specs.declared.bars.BarStroke.TheVariants.{Solid}
+use Rattle.snippet_strokes.specs.Bars.{DrawsBars, barred, bars_apart, ends_of_bars, open_below}
+use Rattle.snippet_strokes.specs.LineRows.{AddsOwnRows}
+use Rattle.snippet_strokes.proofs.LineRowLemmas.{line_rows}
 use Rattle.snippet_strokes.proofs.BarLemmas.{AddsStrokes-drawn, bar_space}
 use Rattle.snippet_strokes.proofs.CellLemmas.{row_text-window_cells}
 use Rattle.snippet_strokes.proofs.WholeLemmas.{window_cells-whole}
@@ -35,7 +39,7 @@ use Rattle.snippet_lines.specs.Number.{shown_number}
 use Rattle.snippet_model.specs.Rows.{HasNoNumber, IsFree}
 use Rattle.snippet_strokes.specs.Rows.{window_cells, IsSourceRow, IsStrokeRow, HasNoBars, IsHighlighted, highlights, holds_character, role_in_source, AddsSourceRow, AddsStrokes}
 use Rattle.snippet_strokes.proofs.RowLemmas.{bare_row_left}
-use Rattle.snippet_strokes.specs.Snippet.{ShowsLine, AreLinesShown, AddsLine, AddsSnippet, IsGap}
+use Rattle.snippet_strokes.specs.Snippet.{ShowsLine, AreLinesShown, AddsGap, AddsLine, AddsSnippet, IsGap}
 
 -- a row of strokes holds no number, since spaces stand left of its separator
 no_number : (layout : Layout) (plain : Bool) (es : List LineAnnotation) (closes : Bool) (row : List Cell) → IsStrokeRow layout plain es closes row → HasNoNumber layout.gutter row
@@ -145,8 +149,8 @@ clear_entries margin dropped es all near uncut k d within columns =
     ]
 
 -- a source row, what its entries highlight, the strokes below and beside it, and the bars that run past show a line
-pub line_added : (layout : Layout) (margin : Margin) (numbers : LineNumbers) (closes : Bool) (info : AnnotatedLineInfo) (dropped : ℕ) (old mid high done new : List (List Cell)) (row : ℕ) → length (shown_number numbers layout.gutter info.line_index) ≤ layout.gutter + 1 → AddsSourceRow layout (shown_number numbers layout.gutter info.line_index) (window_cells layout.decor margin (norm (chars info.line.now))) old mid → row ≡ length old → dropped ≡ width_of (dropped_part (bounds_of margin).left (norm (chars info.line.now))) → All (λ e. is_bar e.annotation_type ≡ false → dropped ≤ e.start.display) info.annotations.items → IsHighlighted layout.code dropped (filter (λ e. not (is_end_part e.annotation_type)) info.annotations.items) (row_at mid row) (row_at high row) → ((r : ℕ) → r ≢ row → row_at high r ≡ row_at mid r) → length high ≡ length mid → ((above : List (List Cell)) (plain : List Cell) → high ≡ above ++ plain ∷ [] → HasNoBars layout plain → AddsStrokes layout margin.term_width (map (shifted dropped) info.annotations.items) closes above plain done) → DrawsBars layout row done new → AddsLine layout margin numbers closes info old new
-line_added layout margin numbers closes info dropped old mid high done new row short source last dropped_is clear highlights others count strokes draws =
+pub line_added : (layout : Layout) (margin : Margin) (numbers : LineNumbers) (closes : Bool) (open_bars bars : List OpenBar) (info : AnnotatedLineInfo) (dropped : ℕ) (old mid high done new : List (List Cell)) (row : ℕ) → length (shown_number numbers layout.gutter info.line_index) ≤ layout.gutter + 1 → AddsSourceRow layout (shown_number numbers layout.gutter info.line_index) (window_cells layout.decor margin (norm (chars info.line.now))) old mid → row ≡ length old → dropped ≡ width_of (dropped_part (bounds_of margin).left (norm (chars info.line.now))) → All (λ e. is_bar e.annotation_type ≡ false → dropped ≤ e.start.display) info.annotations.items → IsHighlighted layout.code dropped (filter (λ e. not (is_end_part e.annotation_type)) info.annotations.items) (row_at mid row) (row_at high row) → ((r : ℕ) → r ≢ row → row_at high r ≡ row_at mid r) → length high ≡ length mid → ((above : List (List Cell)) (plain : List Cell) → high ≡ above ++ plain ∷ [] → HasNoBars layout plain → AddsStrokes layout margin.term_width (map (shifted dropped) info.annotations.items) closes above plain done) → DrawsBars layout row done new → ((above : List (List Cell)) (bright : List Cell) → high ≡ above ++ bright ∷ [] → AddsOwnRows layout margin.term_width closes (norm (chars info.line.now)) dropped info.annotations.items above bright done) → bars ≡ bars_apart open_bars (ends_of_bars info.annotations.items) → new ≡ barred layout Solid bars row done → AddsLine layout margin numbers closes open_bars info old new
+line_added layout margin numbers closes open_bars bars info dropped old mid high done new row short source last dropped_is clear highlights others count strokes draws own bars_are value =
     let shown = shown_number numbers layout.gutter info.line_index in
     let text = norm (chars info.line.now) in
     let cells = window_cells layout.decor margin text in
@@ -181,17 +185,18 @@ line_added layout margin numbers closes info dropped old mid high done new row s
         strokes = adds.are;
         unnumbered = All-from_get_or (HasNoNumber layout.gutter) below [] (λ k within. no_number layout plain entries (closes && k + 1 == length below) (row_at below k) (adds.are.are k within));
         free = All-cons IsFree adds.source below (adds.beside.free (highlighted_free layout.code dropped es source.row bright is source.is.free)) free_below;
+        drawn = line_rows layout margin.term_width closes text dropped open_bars bars info.annotations.items old bright (adds.source ∷ below) done new row (own old bright top) last bars_are value adds.added;
       };
     }
 
--- the lines before one of a number were drawn: with rows that show the others they show all
-pub record AddsLines (layout : Layout) (margin : Margin) (numbers : LineNumbers) (closes : Bool) (infos : List AnnotatedLineInfo) (i : ℕ) (old new : List (List Cell)) : Type 0 where
+-- the lines before one of a number were drawn, and below them these bars are open: with rows that show the others they show all
+pub record AddsLines (layout : Layout) (margin : Margin) (numbers : LineNumbers) (closes : Bool) (infos : List AnnotatedLineInfo) (i : ℕ) (open_bars : List OpenBar) (old new : List (List Cell)) : Type 0 where
   pub rows : List (List Cell)
   pub added : new ≡ old ++ rows
-  pub shown : (rest : List (List Cell)) → AreLinesShown layout margin numbers closes (drop i infos) rest → AreLinesShown layout margin numbers closes infos (rows ++ rest)
+  pub shown : (rest : List (List Cell)) → AreLinesShown layout margin numbers closes open_bars (drop i infos) rest → AreLinesShown layout margin numbers closes [] infos (rows ++ rest)
 
 -- no line is drawn yet
-pub AddsLines-none : (layout : Layout) (margin : Margin) (numbers : LineNumbers) (closes : Bool) (infos : List AnnotatedLineInfo) (rows : List (List Cell)) → AddsLines layout margin numbers closes infos 0 rows rows
+pub AddsLines-none : (layout : Layout) (margin : Margin) (numbers : LineNumbers) (closes : Bool) (infos : List AnnotatedLineInfo) (rows : List (List Cell)) → AddsLines layout margin numbers closes infos 0 [] rows rows
 AddsLines-none layout margin numbers closes infos rows =
     record { rows = []; added = sym (append-nil rows); shown = λ rest shows. shows }
 
@@ -202,45 +207,45 @@ last_closes true infos i within =
 last_closes false infos i within = refl
 
 -- the line that stands next is drawn, and the row for lines that are left out after it
-pub AddsLines-next : (layout : Layout) (margin : Margin) (numbers : LineNumbers) (closes : Bool) (infos : List AnnotatedLineInfo) (i : ℕ) (info : AnnotatedLineInfo) (old before mid new : List (List Cell)) → i < length infos → info ≡ get_or infos i info → AddsLines layout margin numbers closes infos i old before → AddsLine layout margin numbers (closes && i + 1 == length infos) info before mid → AddsGap layout info.line_index (drop (i + 1) infos) mid new → AddsLines layout margin numbers closes infos (i + 1) old new
-AddsLines-next layout margin numbers closes infos i info old before mid new within is done line gap =
+pub AddsLines-next : (layout : Layout) (margin : Margin) (numbers : LineNumbers) (closes : Bool) (infos : List AnnotatedLineInfo) (i : ℕ) (info : AnnotatedLineInfo) (open_bars below : List OpenBar) (old before mid new : List (List Cell)) → i < length infos → info ≡ get_or infos i info → below ≡ open_below open_bars info.annotations.items → AddsLines layout margin numbers closes infos i open_bars old before → AddsLine layout margin numbers (closes && i + 1 == length infos) open_bars info before mid → AddsGap layout below info.line_index (drop (i + 1) infos) mid new → AddsLines layout margin numbers closes infos (i + 1) below old new
+AddsLines-next layout margin numbers closes infos i info open_bars below old before mid new within is below_is done line gap =
     let later = drop (i + 1) infos in
     let next : drop i infos ≡ info ∷ later = drop_more infos i info within ∙ ap (λ x. x ∷ later) (sym is) in
-    let shows : ShowsLine layout margin numbers (closes && length later == 0) info line.rows = subst (λ b. ShowsLine layout margin numbers b info line.rows) (last_closes closes infos i within) line.shown in
+    let shows : ShowsLine layout margin numbers (closes && length later == 0) open_bars info line.rows = subst (λ b. ShowsLine layout margin numbers b open_bars info line.rows) (last_closes closes infos i within) line.shown in
     let first = line.rows in
     let between = gap.rows in
     record {
       rows = done.rows ++ first ++ between;
       added = gap.added ∙ ap (λ rs. rs ++ between) (line.added ∙ ap (λ rs. rs ++ first) done.added) ∙ regroup old done.rows first between;
       shown = λ rest shown.
-          let all : AreLinesShown layout margin numbers closes (info ∷ later) (first ++ between ++ rest) = (first, between, rest, refl, shows, gap.is, shown) in
-          let whole : AreLinesShown layout margin numbers closes infos (done.rows ++ (first ++ between ++ rest)) = done.shown (first ++ between ++ rest) (subst (λ xs. AreLinesShown layout margin numbers closes xs (first ++ between ++ rest)) (sym next) all) in
-          subst (λ rs. AreLinesShown layout margin numbers closes infos rs) (sym (regroup done.rows first between rest)) whole;
+          let all : AreLinesShown layout margin numbers closes open_bars (info ∷ later) (first ++ between ++ rest) = (first, between, rest, refl, shows, subst (λ bs. IsGap layout bs info.line_index later between) below_is gap.is, subst (λ bs. AreLinesShown layout margin numbers closes bs later rest) below_is shown) in
+          let whole : AreLinesShown layout margin numbers closes [] infos (done.rows ++ (first ++ between ++ rest)) = done.shown (first ++ between ++ rest) (subst (λ xs. AreLinesShown layout margin numbers closes open_bars xs (first ++ between ++ rest)) (sym next) all) in
+          subst (λ rs. AreLinesShown layout margin numbers closes [] infos rs) (sym (regroup done.rows first between rest)) whole;
     }
   where
     regroup : (a b c d : List (List Cell)) → ((a ++ b) ++ c) ++ d ≡ a ++ ((b ++ c) ++ d)
     regroup a b c d = ap (λ rs. rs ++ d) (append_assoc a b c) ∙ append_assoc a (b ++ c) d
 
 -- all lines are drawn
-pub AddsSnippet-from_lines : (layout : Layout) (margin : Margin) (numbers : LineNumbers) (closes : Bool) (infos : List AnnotatedLineInfo) (i : ℕ) (old new : List (List Cell)) → i ≡ length infos → AddsLines layout margin numbers closes infos i old new → AddsSnippet layout margin numbers closes infos old new
-AddsSnippet-from_lines layout margin numbers closes infos i old new all done =
+pub AddsSnippet-from_lines : (layout : Layout) (margin : Margin) (numbers : LineNumbers) (closes : Bool) (infos : List AnnotatedLineInfo) (i : ℕ) (open_bars : List OpenBar) (old new : List (List Cell)) → i ≡ length infos → AddsLines layout margin numbers closes infos i open_bars old new → AddsSnippet layout margin numbers closes infos old new
+AddsSnippet-from_lines layout margin numbers closes infos i open_bars old new all done =
     let none : drop i infos ≡ [] = drop_all i infos (omega (arith, all)) in
-    let shown : AreLinesShown layout margin numbers closes infos (done.rows ++ []) = done.shown [] (subst (λ xs. AreLinesShown layout margin numbers closes xs []) (sym none) refl) in
+    let shown : AreLinesShown layout margin numbers closes [] infos (done.rows ++ []) = done.shown [] (subst (λ xs. AreLinesShown layout margin numbers closes open_bars xs []) (sym none) refl) in
     record {
       rows = done.rows;
       added = done.added;
-      shown = subst (λ rs. AreLinesShown layout margin numbers closes infos rs) (append-nil done.rows) shown;
+      shown = subst (λ rs. AreLinesShown layout margin numbers closes [] infos rs) (append-nil done.rows) shown;
     }
 
 -- the row for lines that are left out holds no listed character
-free_gap : (layout : Layout) (number : ℕ) (infos : List AnnotatedLineInfo) (rows : List (List Cell)) → IsGap layout number infos rows → All IsFree rows
-free_gap layout number [] rows none = All-same IsFree rows [] none (All-nil IsFree)
-free_gap layout number (next ∷ infos) rows (inl gap) =
+free_gap : (layout : Layout) (open_bars : List OpenBar) (number : ℕ) (infos : List AnnotatedLineInfo) (rows : List (List Cell)) → IsGap layout open_bars number infos rows → All IsFree rows
+free_gap layout open_bars number [] rows none = All-same IsFree rows [] none (All-nil IsFree)
+free_gap layout open_bars number (next ∷ infos) rows (inl gap) =
     All-same IsFree rows (gap.1 ∷ []) gap.2 (All-cons IsFree gap.1 [] gap.3.free (All-nil IsFree))
-free_gap layout number (next ∷ infos) rows (inr near) = All-same IsFree rows [] near.1 (All-nil IsFree)
+free_gap layout open_bars number (next ∷ infos) rows (inr near) = All-same IsFree rows [] near.1 (All-nil IsFree)
 
 -- no row of the lines holds a listed character
-pub free_from_AreLinesShown : (layout : Layout) (margin : Margin) (numbers : LineNumbers) (closes : Bool) (infos : List AnnotatedLineInfo) (rows : List (List Cell)) → AreLinesShown layout margin numbers closes infos rows → All IsFree rows
-free_from_AreLinesShown layout margin numbers closes [] rows none = All-same IsFree rows [] none (All-nil IsFree)
-free_from_AreLinesShown layout margin numbers closes (info ∷ infos) rows shown =
-    All-same IsFree rows (shown.0 ++ shown.1 ++ shown.2) shown.3 (All-append IsFree (shown.0 ++ shown.1) shown.2 (All-append IsFree shown.0 shown.1 shown.4.free (free_gap layout info.line_index infos shown.1 shown.5)) (free_from_AreLinesShown layout margin numbers closes infos shown.2 shown.6))
+pub free_from_AreLinesShown : (layout : Layout) (margin : Margin) (numbers : LineNumbers) (closes : Bool) (open_bars : List OpenBar) (infos : List AnnotatedLineInfo) (rows : List (List Cell)) → AreLinesShown layout margin numbers closes open_bars infos rows → All IsFree rows
+free_from_AreLinesShown layout margin numbers closes open_bars [] rows none = All-same IsFree rows [] none (All-nil IsFree)
+free_from_AreLinesShown layout margin numbers closes open_bars (info ∷ infos) rows shown =
+    All-same IsFree rows (shown.0 ++ shown.1 ++ shown.2) shown.3 (All-append IsFree (shown.0 ++ shown.1) shown.2 (All-append IsFree shown.0 shown.1 shown.4.free (free_gap layout (open_below open_bars info.annotations.items) info.line_index infos shown.1 shown.5)) (free_from_AreLinesShown layout margin numbers closes (open_below open_bars info.annotations.items) infos shown.2 shown.6))

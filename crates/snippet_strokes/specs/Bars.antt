@@ -1,14 +1,14 @@
 -- The bars of spans of several lines: which are open beside a line, and what drawing them changes.
-use Rattle.std.specs.Prelude.{◌≡◌, ◌<◌, ◌≤◌, ◌+◌, ◌==◌, ◌&&◌, ◌||◌, ℕ, max, nat_le, not, Bool, true, false, Option, Some, None, List, [], ◌∷◌, ◌++◌, drop, filter, length, take}
+use Rattle.std.specs.Prelude.{◌≡◌, ◌<◌, ◌≤◌, ◌+◌, ◌==◌, ◌&&◌, ◌||◌, ℕ, max, nat_le, not, Bool, true, false, Option, Some, None, List, [], ◌∷◌, ◌++◌, drop, filter, fold, length, map, take}
 use Rattle.std.specs.Char.{is_whitespace}
 use Rattle.std.specs.List.{filter_map, list_all, list_any, slice_index_or}
 use Rattle.snippet_view.specs.declared.entries.LineAnnotation.{LineAnnotation}
 use Rattle.snippet_view.specs.declared.entries.LineAnnotationType.{LineAnnotationType}
 use Rattle.snippet_view.specs.declared.entries.LineAnnotationType.TheVariants.{Singleline, MultilineStart, MultilineEnd, MultilineLine}
 use Rattle.snippet_view.specs.Measures.{is_bar}
-use Rattle.snippet_style.specs.Glyphs.{glyph_of}
+use Rattle.snippet_style.specs.Glyphs.{glyph_of, underline_role}
 use Rattle.snippet_grid.specs.Grid.{row_at}
-use Rattle.snippet_style.specs.Cell.{Cell, SPACE}
+use Rattle.snippet_style.specs.Cell.{Cell, SPACE, unlinked_cell, written}
 use Rattle.snippet_style.specs.declared.glyphs.DecorStyle.{DecorStyle}
 use Rattle.snippet_strokes.specs.declared.layout.Layout.{Layout}
 use Rattle.snippet_strokes.specs.declared.bars.OpenBar.{OpenBar}
@@ -18,9 +18,6 @@ use Rattle.snippet_strokes.specs.Entries.{IsBarCell}
 use Rattle.snippet_model.specs.AnnotationKind.{is_primary}
 use Rattle.snippet_model.specs.Rows.{IsFree}
 use Rattle.snippet_strokes.specs.Positions.{is_start_part}
-use Rattle.snippet_strokes.specs.Rows.{IsElisionRow}
-use Rattle.snippet_strokes.specs.Snippet.{IsGap}
-use Rattle.snippet_view.specs.declared.entries.AnnotatedLineInfo.{AnnotatedLineInfo}
 
 -- the bar that the start or the end of a span of several lines opens or closes
 abbrev pub bar_at : LineAnnotationType → Bool → Option OpenBar
@@ -44,11 +41,14 @@ has_depth bars depth = list_any (λ b. b.depth == depth) bars
 abbrev pub bars_apart : List OpenBar → List OpenBar → List OpenBar
 bars_apart bars others = filter (λ b. not (has_depth others b.depth)) bars
 
--- the bars that are open below a line, where these are open above it: those that no start or end on it closes, and those
--- that its starts and ends open
+-- the bars that are open below a line, where those of one list are open above it, and its starts and ends have those of the
+-- other: those above that no start or end closes, and those that its starts and ends open
+abbrev pub open_past : List OpenBar → List OpenBar → List OpenBar
+open_past open_bars ends = bars_apart open_bars ends ++ bars_apart ends open_bars
+
+-- the same, for a line of these entries
 abbrev pub open_below : List OpenBar → List LineAnnotation → List OpenBar
-open_below open_bars es =
-    bars_apart open_bars (ends_of_bars es) ++ bars_apart (ends_of_bars es) open_bars
+open_below open_bars es = open_past open_bars (ends_of_bars es)
 
 -- there is a cell for a bar, and one after it, between the separator and the code
 abbrev pub HasRoom : Layout → OpenBar → Type 0
@@ -64,6 +64,30 @@ abbrev pub bar_glyph : BarStroke → DecorStyle → Bool → ℕ
 bar_glyph Top decor primary = glyph_of decor primary 47 47 0x250F 0x250C
 bar_glyph Solid decor primary = glyph_of decor primary 124 124 0x2503 0x2502
 bar_glyph Dotted decor primary = glyph_of decor primary 124 124 0x2507 0x2506
+
+-- the cell of a part of a bar: its glyph, in the role of its strokes
+abbrev pub bar_part : Layout → BarStroke → OpenBar → Cell
+bar_part layout stroke bar =
+    unlinked_cell (underline_role bar.primary) (bar_glyph stroke layout.decor bar.primary)
+
+-- a row with a part of a bar in the cell of its depth, and with parts of some bars: of two of one depth the later one stands
+abbrev pub with_bar : Layout → BarStroke → List Cell → OpenBar → List Cell
+with_bar layout stroke row bar =
+    written SPACE row (layout.gutter + 2 + bar.depth) (bar_part layout stroke bar ∷ [])
+
+abbrev pub with_bars : Layout → BarStroke → List OpenBar → List Cell → List Cell
+with_bars layout stroke bars row = fold (with_bar layout stroke) row bars
+
+-- rows with parts of these bars in each from `row` on
+abbrev pub barred : Layout → BarStroke → List OpenBar → ℕ → List (List Cell) → List (List Cell)
+barred layout stroke bars row rows = take row rows ++ map (with_bars layout stroke bars) (drop row rows)
+
+-- each row from one to before another, as far as there are rows, was changed by this rule, and nothing else
+pub record ChangesRows (rule : List Cell → List Cell) (row end : ℕ) (old new : List (List Cell)) : Type 0 where
+  pub inside : (r : ℕ) → row ≤ r → r < end → r < length old → row_at new r ≡ rule (row_at old r)
+  pub before : (r : ℕ) → r < row → row_at new r ≡ row_at old r
+  pub after : (r : ℕ) → end ≤ r → row_at new r ≡ row_at old r
+  pub count : length new ≡ length old
 
 -- whether an entry of this line is drawn by bars alone: it is a bar, or a start with nothing but whitespace before it
 abbrev pub is_beside : List ℕ → LineAnnotation → Bool
@@ -100,15 +124,3 @@ pub record DrawsBars (layout : Layout) (row : ℕ) (old new : List (List Cell)) 
   pub above : (r : ℕ) → r < row → row_at new r ≡ row_at old r
   pub rows : (r : ℕ) → BarsDrawn layout (row_at old r) (row_at new r)
   pub count : length new ≡ length old
-
--- a row that stands for lines that are left out was added below the rows that are there
-pub record AddsElision (layout : Layout) (old new : List (List Cell)) : Type 0 where
-  pub row : List Cell
-  pub added : new ≡ old ++ row ∷ []
-  pub is : IsElisionRow layout row
-
--- the rows between a line of this number and the next of these lines were added
-pub record AddsGap (layout : Layout) (number : ℕ) (infos : List AnnotatedLineInfo) (old new : List (List Cell)) : Type 0 where
-  pub rows : List (List Cell)
-  pub added : new ≡ old ++ rows
-  pub is : IsGap layout number infos rows

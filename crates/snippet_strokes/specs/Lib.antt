@@ -7,3 +7,4 @@ pub mod Painting
 pub mod Rows
 pub mod Snippet
 pub mod Bars
+pub mod LineRows

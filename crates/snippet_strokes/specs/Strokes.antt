@@ -9,13 +9,13 @@ use Rattle.snippet_view.specs.declared.entries.LineAnnotationType.TheVariants.{S
 use Rattle.snippet_model.specs.AnnotationKind.{is_primary}
 use Rattle.snippet_strokes.specs.declared.layout.Layout.{Layout}
 use Rattle.snippet_strokes.specs.declared.positions.PlacedEntry.{PlacedEntry}
-use Rattle.snippet_strokes.specs.Entries.{label_role, label_text}
+use Rattle.snippet_strokes.specs.Entries.{label_role, label_text, wide_entries}
 use Rattle.snippet_view.specs.declared.entries.LineAnnotation.{LineAnnotation}
 use Rattle.snippet_style.specs.Cell.{Cell}
 use Rattle.snippet_style.specs.Separators.{separator_row}
 use Rattle.snippet_strokes.specs.Painting.{IsPaintingOrder, first_glyph, foot_glyph, mark_end}
 use Rattle.snippet_strokes.specs.Positions.{ArePlaced, has_label, has_stem, label_place, row_count}
-use Rattle.snippet_strokes.specs.Rows.{bare_row}
+use Rattle.snippet_strokes.specs.Rows.{CutsRows, bare_row}
 use Rattle.snippet_strokes.specs.Writes.{Write, column_of, glyph_at, painted, stretch_of}
 
 -- the role of an entry's strokes
@@ -137,13 +137,30 @@ abbrev pub strokes_of : Layout → ℕ → ℕ → List PlacedEntry → List Pla
 strokes_of layout row count placed order =
     connectors_of layout (row + 1) placed ++ corners_of layout row count placed ++ stems_of layout (row + 1) placed ++ labels_of layout (row + 1) placed ++ marks_of layout (row + 1) order
 
--- the rows of a line's strokes, below its source row, which is the last of those that were there: separators, with the last row as the
--- window closes or goes on, and over them all strokes. The entries are placed from right to left, and their marks painted in a
--- painting order
-pub record StrokesPainted (layout : Layout) (closes : Bool) (es : List LineAnnotation) (old new : List (List Cell)) : Type 0 where
+-- the source row of a line with the rows of its strokes below it, before they are drawn: separators, with the last row as the window
+-- closes or goes on
+abbrev pub begun_rows : Layout → Bool → ℕ → List Cell → List (List Cell)
+begun_rows layout closes count source =
+    source ∷ (replicate (count - 1) (separator_row layout.decor layout.gutter) ++ bare_row layout.decor layout.gutter closes ∷ [])
+
+-- the rows of a line with the strokes of these entries, of which this is the source row: as many as the entries ask for, and over
+-- them all strokes. The entries are placed from right to left, and their marks painted in a painting order. Of the first two rows,
+-- the source row and that of the marks, stretches are cut where entries are wide
+pub record StrokesPainted (layout : Layout) (room : ℕ) (closes : Bool) (es : List LineAnnotation) (source : List Cell) (rows : List (List Cell)) : Type 0 where
   pub placed : List PlacedEntry
   pub are : ArePlaced es placed
   pub order : List PlacedEntry
   pub same : IsPermutation placed order
   pub ordered : IsPaintingOrder (map (λ (e : PlacedEntry). e.entry) order)
-  pub new_is : new ≡ painted (strokes_of layout (length old - 1) (length old + row_count placed) placed order) (old ++ replicate (row_count placed - 1) (separator_row layout.decor layout.gutter) ++ bare_row layout.decor layout.gutter closes ∷ [])
+  pub top : List Cell
+  pub marks : List Cell
+  pub lower : List (List Cell)
+  pub painted_are : top ∷ marks ∷ lower ≡ painted (strokes_of layout 0 (row_count placed + 1) placed order) (begun_rows layout closes (row_count placed) source)
+  pub cut : CutsRows layout (wide_entries room layout.decor es) [] top marks lower rows
+  pub count : length rows ≡ row_count placed + 1
+
+-- the strokes of a line were drawn below its source row, which is the last row that is there, and beside it
+pub record AddsPainted (layout : Layout) (room : ℕ) (closes : Bool) (es : List LineAnnotation) (above : List (List Cell)) (source : List Cell) (new : List (List Cell)) : Type 0 where
+  pub rows : List (List Cell)
+  pub added : new ≡ above ++ rows
+  pub painted_are : StrokesPainted layout room closes es source rows

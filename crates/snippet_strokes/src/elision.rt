@@ -1,7 +1,8 @@
 //! The rows that stand for lines that aren't shown.
 ghost use Rattle.std.specs.Prelude.{◌≡◌, ◌+◌, ◌^◌, ◌<◌, ◌≤◌, ◌++◌, ◌∷◌, [], All, OnOk};
-ghost use Rattle.snippet_strokes.specs.Bars.{AddsElision, AddsGap, HasRoom};
+ghost use Rattle.snippet_strokes.specs.Bars.{HasRoom};
 ghost use Rattle.snippet_strokes.specs.Rows.{bare_elision_row};
+ghost use Rattle.snippet_strokes.specs.Snippet.{AddsElision, AddsGap};
 
 use crate::bars::{BarStroke, OpenBar, draw_bars};
 use crate::layout::Layout;
@@ -26,7 +27,7 @@ pub(crate) fn draw_gap(
     requires place { layout.gutter + 3 ≤ layout.code }
     requires narrow { layout.code < 2 ^ 63 + 2 ^ 32 }
     requires room { All (HasRoom layout) open_bars.now }
-    ensures added { OnOk result (AddsGap layout number rest.now buffer.old buffer.new) }
+    ensures added { OnOk result (AddsGap layout open_bars.now number rest.now buffer.old buffer.new) }
 {
     if rest.is_empty() || rest[0].line_index.saturating_sub(1) <= number {
         return Ok(());
@@ -49,7 +50,7 @@ fn draw_elision(
     requires place { layout.gutter + 3 ≤ layout.code }
     requires narrow { layout.code < 2 ^ 63 + 2 ^ 32 }
     requires room { All (HasRoom layout) open_bars.now }
-    ensures added { OnOk result (AddsElision layout buffer.old buffer.new) }
+    ensures added { OnOk result (AddsElision layout open_bars.now buffer.old buffer.new) }
 {
     let row = buffer.num_lines();
     begin_elision_row(buffer, layout)?;

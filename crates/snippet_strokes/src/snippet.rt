@@ -1,10 +1,12 @@
 //! The rows of a snippet: those of each line that is shown.
-ghost use Rattle.std.specs.Prelude.{◌≡◌, ◌+◌, ◌^◌, ◌<◌, ◌≤◌, ◌++◌, ◌∷◌, [], false, List, All, IfOk, IfSome, OnOk, length, map};
+ghost use Rattle.std.specs.Prelude.{◌≡◌, ◌+◌, ◌^◌, ◌<◌, ◌≤◌, ◌++◌, ◌∷◌, [], false, List, All, IfOk, IfSome, OnOk, chars, length, map};
 ghost use Rattle.snippet_view.specs.Measures.{StandsClear, is_bar};
 ghost use Rattle.snippet_strokes.specs.Entries.{HasPlace, HasBarCell, shifted};
 ghost use Rattle.snippet_strokes.specs.Bars.{HasRoom, ends_of_bars, open_below};
 ghost use Rattle.snippet_lines.specs.Number.{shown_number};
+ghost use Rattle.snippet_strokes.specs.LineRows.{AddsOwnRows};
 ghost use Rattle.snippet_strokes.specs.Rows.{AddsStrokes, HasNoBars};
+ghost use Rattle.snippet_text.specs.Normalized.{norm};
 ghost use Rattle.snippet_style.specs.Cell.{Cell};
 ghost use Rattle.snippet_strokes.specs.Snippet.{AddsLine, AddsSnippet};
 
@@ -102,7 +104,7 @@ fn draw_line(
     requires bar_cells { All (HasBarCell layout) info.now.annotations.items }
     requires labels { All (λ e. IfSome e.label (λ t. length t.now < 2 ^ 56)) info.now.annotations.items }
     requires room { All (HasRoom layout) open_bars.now }
-    ensures added { OnOk result (AddsLine layout margin numbers closes info.now buffer.old buffer.new) }
+    ensures added { OnOk result (AddsLine layout margin numbers closes open_bars.now info.now buffer.old buffer.new) }
     ensures bars { IfOk result (λ bars. bars.items ≡ open_below open_bars.now info.now.annotations.items) }
 {
     let (row, dropped) = draw_source_row(alloc, buffer, layout, numbers, margin, info)?;
@@ -149,6 +151,9 @@ fn draw_entries(
     ensures added { OnOk result ((above : List (List Cell)) (plain : List Cell) → buffer.old ≡ above ++ plain ∷ []
         → HasNoBars layout plain
         → AddsStrokes layout room (map (shifted dropped) info.now.annotations.items) closes above plain buffer.new) }
+    ensures own { OnOk result ((above : List (List Cell)) (source : List Cell) → buffer.old ≡ above ++ source ∷ []
+        → AddsOwnRows layout room closes (norm (chars info.now.line.now)) dropped info.now.annotations.items above source
+        buffer.new) }
 {
     if is_whole_line(alloc, info.line, &info.annotations)? {
         return draw_bars(alloc, buffer, layout, row, ends, BarStroke::Top);

@@ -1,11 +1,11 @@
 //! All that stands below the source row of a line, and the bars beside it of spans that begin or end there.
 ghost use Rattle.std.specs.Prelude.{◌≡◌, ◌+◌, ◌^◌, ◌<◌, ◌≤◌, ◌++◌, ◌∷◌, [], if◌then◌else◌, All, IfSome, List, OnOk, false, length, map};
-ghost use Rattle.snippet_strokes.specs.Entries.{HasPlace, HasBarCell, shifted, wide_entries};
+ghost use Rattle.snippet_strokes.specs.Entries.{HasPlace, HasBarCell, shifted};
 ghost use Rattle.snippet_view.specs.Measures.{is_bar};
 ghost use Rattle.snippet_style.specs.Cell.{Cell};
 ghost use Rattle.snippet_strokes.specs.Positions as spec;
 ghost use Rattle.snippet_strokes.specs.Rows.{AddsStrokes, HasNoBars};
-ghost use Rattle.snippet_strokes.specs.Strokes.{StrokesPainted};
+ghost use Rattle.snippet_strokes.specs.Strokes.{AddsPainted};
 ghost use Rattle.snippet_style.specs.Separators.{closing_row};
 
 use crate::connectors::draw_connectors;
@@ -60,9 +60,11 @@ pub(crate) fn draw_strokes(
     ensures added { OnOk result ((above : List (List Cell)) (plain : List Cell) → buffer.old ≡ above ++ plain ∷ []
         → HasNoBars layout plain
         → AddsStrokes layout room (map (shifted dropped) entries.now) closes above plain buffer.new) }
-    ensures painted { OnOk result (0 < length entries.now
-        → wide_entries room layout.decor (map (shifted dropped) entries.now) ≡ 0
-        → StrokesPainted layout closes (map (shifted dropped) entries.now) buffer.old buffer.new) }
+    ensures none { OnOk result (length entries.now ≡ 0 → buffer.new ≡ buffer.old
+        ++ (if closes then closing_row layout.decor layout.gutter ∷ [] else [])) }
+    ensures painted { OnOk result (0 < length entries.now → (above : List (List Cell)) (plain : List Cell)
+        → buffer.old ≡ above ++ plain ∷ []
+        → AddsPainted layout room closes (map (shifted dropped) entries.now) above plain buffer.new) }
 {
     if entries.is_empty() {
         return close_below(buffer, layout, closes);

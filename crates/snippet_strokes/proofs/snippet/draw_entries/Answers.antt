@@ -1,7 +1,15 @@
-use Rattle.std.proofs.Common.{◌≡◌, ◌∙◌, ap, sym, chars, true}
+use Rattle.std.proofs.Common.{◌≡◌, ◌∙◌, ◌<◌, List, ap, sym, subst, arith, length, map, chars, false, true}
+use Rattle.std.proofs.lemmas.List.{length_push}
+use Rattle.snippet_strokes.specs.declared.bars.BarStroke.TheVariants.{Top}
 use Rattle.std.proofs.lemmas.List.Elements.{All-same}
 use Rattle.std.proofs.lemmas.Result.{on_ok_weaker}
-use Rattle.snippet_strokes.specs.Bars.{HasRoom, ends_of_bars, is_whole_line}
+use Rattle.snippet_grid.proofs.OutcomeLemmas.{on_ok_two}
+use Rattle.snippet_strokes.specs.Entries.{shifted}
+use Rattle.snippet_strokes.specs.Strokes.{AddsPainted}
+use Rattle.snippet_style.specs.Cell.{Cell}
+use Rattle.snippet_view.specs.declared.entries.LineAnnotation.{LineAnnotation}
+use Rattle.snippet_strokes.specs.Bars.{HasRoom, barred, ends_of_bars, is_whole_line}
+use Rattle.snippet_strokes.proofs.LineRowLemmas.{own_strokes, own_whole}
 use Rattle.snippet_strokes.proofs.OpenLemmas.{room_ends}
 use Rattle.snippet_strokes.proofs.WholeLineLemmas.{whole_added}
 use Rattle.snippet_text.specs.Normalized.{norm}
@@ -19,4 +27,19 @@ returns-then-branch c =
     let whole : is_whole_line text es ≡ true = ap (is_whole_line text) (sym c.deref.ensures.value) ∙ sym c.in_ok-is_whole_line.ensures.value ∙ c.if-branch.true in
     record {
       added = on_ok_weaker c.draw_bars.result (λ draws above plain is bare. whole_added c.args.layout text c.args.room c.args.dropped c.args.closes es above plain c.args.buffer.now c.draw_bars.new.buffer c.args.row whole c.requires.last draws is bare) c.draw_bars.ensures.draws;
+      own = on_ok_weaker c.draw_bars.result (λ value above plain is.
+          let last : c.args.row ≡ length above = omega (arith, c.requires.last, ap length is, length_push above plain) in
+          own_whole c.args.layout c.args.room c.args.closes text c.args.dropped es above plain c.args.buffer.now c.draw_bars.new.buffer c.args.row whole is last (value ∙ ap (λ bars. barred c.args.layout Top bars c.args.row c.args.buffer.now) c.requires.ends)) c.draw_bars.ensures.value;
     }
+
+pub returns-clause-own : goal.returns-clause-own
+returns-clause-own c =
+    let es = c.args.info.now.annotations.items in
+    let text = norm (chars c.args.info.now.line.now) in
+    let given = c.deref-2.ensures.value in
+    let other : is_whole_line text es ≡ false = ap (is_whole_line text) (sym c.deref.ensures.value) ∙ sym c.in_ok-is_whole_line.ensures.value ∙ c.if-branch.false in
+    let new = c.draw_strokes.new.buffer in
+    let Painted : List LineAnnotation → List (List Cell) → List Cell → Type 0 = λ xs above source. AddsPainted c.args.layout c.args.room c.args.closes (map (shifted c.args.dropped) xs) above source new in
+    on_ok_two c.draw_strokes.result (λ none painted above source is.
+    let strokes : 0 < length es → Painted es above source = λ some. subst (λ xs. Painted xs above source) given (painted (omega (arith, some, ap length given)) above source is) in
+    own_strokes c.args.layout c.args.room c.args.closes text c.args.dropped es above source c.args.buffer.now new other is (λ empty. none (ap length given ∙ empty)) strokes) c.draw_strokes.ensures.none c.draw_strokes.ensures.painted

@@ -6,4 +6,4 @@ use Rattle.snippet_strokes.proofs.snippet.draw_snippet.Given as goal
 -- the lines before this one are drawn, and each bar that is open below them has its place
 abbrev pub invariant-loop-i : goal.invariant-loop-i
 invariant-loop-i l =
-    All (HasRoom l.layout) l.open_bars.items × AddsLines l.layout l.margin l.numbers l.closes l.infos l.i l.initial.buffer l.buffer
+    All (HasRoom l.layout) l.open_bars.items × AddsLines l.layout l.margin l.numbers l.closes l.infos l.i l.open_bars.items l.initial.buffer l.buffer

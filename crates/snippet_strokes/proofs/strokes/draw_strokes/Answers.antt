@@ -16,28 +16,15 @@ use Rattle.snippet_strokes.proofs.PositionLemmas.{entries_all, row_count_some, p
 use Rattle.snippet_strokes.proofs.BegunLemmas.{rows_begun, rows_ready, wide_entries-permutation}
 use Rattle.snippet_strokes.proofs.StrokeLemmas.{strokes_drawn, strokes_none}
 use Rattle.snippet_strokes.proofs.TextLemmas.{labels_short}
-use Rattle.std.proofs.Common.{get_or, take, drop}
-use Rattle.std.proofs.lemmas.List.{drop_more, length-take-le, take-append-drop}
 use Rattle.snippet_style.specs.Cell.{Cell}
 use Rattle.snippet_strokes.specs.declared.layout.Layout.{Layout}
 use Rattle.snippet_strokes.specs.Positions.{ArePlaced}
-use Rattle.snippet_strokes.specs.Rows.{CutsRows}
 use Rattle.snippet_strokes.specs.Labels.{StandsWhole}
 use Rattle.snippet_strokes.specs.Strokes.{connectors_of, corners_of, labels_of, stems_of, strokes_of}
 use Rattle.snippet_strokes.specs.Writes.{painted}
 use Rattle.snippet_strokes.proofs.WriteLemmas.{strokes_painted}
+use Rattle.snippet_strokes.proofs.LineRowLemmas.{painted_added}
 use Rattle.snippet_strokes.proofs.strokes.draw_strokes.Goals as goal
-
--- where no entry is wide nothing is cut
-cut_nothing : (layout : Layout) (wide row : ℕ) (old new : List (List Cell)) → wide ≡ 0 → row + 1 < length old → ((above : List (List Cell)) (source marks : List Cell) (below : List (List Cell)) → length above ≡ row → old ≡ above ++ source ∷ marks ∷ below → CutsRows layout wide above source marks below new) → new ≡ old
-cut_nothing layout wide row old new none there cuts =
-    let above = take row old in
-    let source = get_or old row [] in
-    let marks = get_or old (row + 1) [] in
-    let below = drop (row + 1 + 1) old in
-    let is : old ≡ above ++ source ∷ marks ∷ below = sym (take-append-drop row old) ∙ ap (λ xs. above ++ xs) (drop_more old row [] (omega (arith, there)) ∙ ap (λ xs. source ∷ xs) (drop_more old (row + 1) [] there)) in
-    let cut : CutsRows layout wide above source marks below new = cuts above source marks below (length-take-le row old (omega (arith, there))) is in
-    cut.new_is ∙ ap (λ s. above ++ s ∷ cut.marks_now ∷ below) (cut.source_cut.uncut none) ∙ ap (λ m. above ++ source ∷ m ∷ below) (cut.marks_cut.uncut none) ∙ sym is
 
 pub row_count-requires : goal.row_count-requires
 row_count-requires c =
@@ -130,7 +117,11 @@ returns-then-is_empty c =
     let es = map (shifted c.args.dropped) c.args.entries.now in
     let given : length c.args.entries.now ≡ 0 = grind arith in
     let none : length es ≡ 0 = length-map c.args.entries.now (shifted c.args.dropped) ∙ given in
-    record { added = on_ok_weaker c.close_below.result (λ adds above plain old_is bare_bars. strokes_none c.args.layout c.args.room c.args.closes es above plain c.args.buffer.now c.close_below.new.buffer c.requires.place none old_is bare_bars adds) c.close_below.ensures.added; painted = on_ok_weaker c.close_below.result (λ _ some _. absurd (omega (arith, given, some))) c.close_below.ensures.added }
+    record {
+      added = on_ok_weaker c.close_below.result (λ adds above plain old_is bare_bars. strokes_none c.args.layout c.args.room c.args.closes es above plain c.args.buffer.now c.close_below.new.buffer c.requires.place none old_is bare_bars adds) c.close_below.ensures.added;
+      none = on_ok_weaker c.close_below.result (λ adds _. adds) c.close_below.ensures.added;
+      painted = on_ok_weaker c.close_below.result (λ _ some above plain _. absurd (omega (arith, given, some))) c.close_below.ensures.added;
+    }
 
 pub returns : goal.returns
 returns c =
@@ -170,22 +161,24 @@ returns c =
           let marks_row : below ≡ length above + 1 = c.in_ok-below.ensures.row ∙ sym long in
           let begins : begun ≡ (above ++ plain ∷ []) ++ replicate (row_count placed - 1) sep ++ end ∷ [] = c.in_ok-below.ensures.added ∙ ap (λ n. c.args.buffer.now ++ replicate (n - 1) sep ++ end ∷ []) count ∙ ap (λ old. old ++ replicate (row_count placed - 1) sep ++ end ∷ []) old_is in
           strokes_drawn layout c.args.room c.args.closes es placed above plain begun joined barred stemmed labelled new c.requires.place c.in_ok-placed.ensures.placed places bare_bars begins (subst (λ n. DrawsFrom n (layout.gutter + 3) begun joined) marks_row c.in_ok-draw_connectors.ensures.draws) c.in_ok-draw_connectors.ensures.bar_cells no_lines (subst (λ n. DrawsBarCells layout n joined barred) source_row c.in_ok-draw_corners.ensures.draws) no_bars (subst (λ n. (from : ℕ) → All (λ (e : PlacedEntry). StandsFrom layout.code from e.entry) placed → DrawsFrom n from barred stemmed) marks_row stems) no_stems (subst (λ n. (from : ℕ) → All (λ (e : PlacedEntry). StandsFrom layout.code from e.entry) placed → DrawsFrom n from stemmed labelled) marks_row labels) stem_starts c.in_ok-draw_labels.ensures.starts no_labels (subst (λ n. (e : PlacedEntry) → placed ≡ e ∷ [] → e.position ≡ 0 → 0 < e.entry.end.display → has_label e ≡ true → labelled ≡ cells_written stemmed n (layout.code + e.entry.end.display + 1) (text_cells (label_role e.entry.kind) (label_text e.entry))) marks_row lone) (subst (λ n. AreMarked layout placed n labelled new) marks_row c.in_ok-draw_marks.ensures.marked) (subst (λ n. All (StandsWhole layout n new) placed) marks_row stands) c.cut_wide.new.buffer (wide_entries c.args.room layout.decor (map f c.deref-7.result.now)) some wide (λ up source marks rest same. cut up source marks rest (same ∙ sym source_row))) c.cut_wide.ensures.cut;
-      painted = on_ok_weaker c.cut_wide.result (λ cut _ none.
+      none = on_ok_weaker c.cut_wide.result (λ _ none. absurd (omega (arith, given, none))) c.cut_wide.ensures.cut;
+      painted = on_ok_weaker c.cut_wide.result (λ cut _ above plain old_is.
           let rows : List (List Cell) = c.args.buffer.now ++ replicate (row_count placed - 1) sep ++ end ∷ [] in
           let begun_is : begun ≡ rows = c.in_ok-below.ensures.added ∙ ap (λ n. c.args.buffer.now ++ replicate (n - 1) sep ++ end ∷ []) count in
           let long : length begun ≡ length c.args.buffer.now + row_count placed = rows_begun c.args.buffer.now begun sep end c.row_count.result (omega (arith, count, row_count_some placed)) c.in_ok-below.ensures.added ∙ ap (λ n. length c.args.buffer.now + n) count in
           let joined_long : length joined ≡ length begun = c.in_ok-draw_connectors.ensures.draws.count in
           let same_long : length labelled ≡ length begun = (c.in_ok-draw_labels.ensures.draws 0 (λ k d within. omega arith)).count ∙ (c.in_ok-draw_stems.ensures.draws 0 (λ k d within. omega arith)).count ∙ c.in_ok-draw_corners.ensures.draws.draws.count ∙ joined_long in
           let there : below < length labelled = omega (arith, same_long, long, c.in_ok-below.ensures.row, row_count_some placed) in
-          let uncut : c.cut_wide.new.buffer ≡ new = cut_nothing layout _ c.args.row new c.cut_wide.new.buffer (wide ∙ none) (omega (arith, c.in_ok-draw_marks.ensures.marked.painted.count there, there, c.in_ok-below.ensures.row, c.requires.last)) cut in
           let row_is : below ≡ c.args.row + 1 = c.in_ok-below.ensures.row ∙ c.requires.last in
-          let last_row : c.args.row ≡ length c.args.buffer.now - 1 = omega (arith, c.requires.last) in
-          record {
-            placed = placed;
-            are = c.in_ok-placed.ensures.placed;
-            order = after;
-            same = c.in_ok-draw_marks.ensures.same;
-            ordered = c.in_ok-draw_marks.ensures.ordered;
-            new_is = uncut ∙ strokes_painted layout c.args.row below (length joined) (length c.args.buffer.now + row_count placed) placed after rows begun joined barred stemmed labelled new row_is (joined_long ∙ long) begun_is (c.in_ok-draw_connectors.ensures.painted ∙ ap (λ xs. painted (connectors_of layout below xs) begun) c.deref-3.ensures.value) (c.in_ok-draw_corners.ensures.painted ∙ ap (λ xs. painted (corners_of layout c.args.row (length joined) xs) joined) c.deref-4.ensures.value) (c.in_ok-draw_stems.ensures.painted ∙ ap (λ xs. painted (stems_of layout below xs) barred) c.deref-5.ensures.value) (c.in_ok-draw_labels.ensures.painted ∙ ap (λ xs. painted (labels_of layout below xs) stemmed) c.deref-6.ensures.value) c.in_ok-draw_marks.ensures.painted ∙ ap (λ n. painted (strokes_of layout n (length c.args.buffer.now + row_count placed) placed after) rows) last_row;
-          }) c.cut_wide.ensures.cut;
+          let last_row : c.args.row ≡ length above = omega (arith, c.requires.last, ap length old_is, length_push above plain) in
+          let lines : joined ≡ painted (connectors_of layout below placed) begun = c.in_ok-draw_connectors.ensures.painted ∙ ap (λ xs. painted (connectors_of layout below xs) begun) c.deref-3.ensures.value in
+          let bars : barred ≡ painted (corners_of layout c.args.row (length joined) placed) joined = c.in_ok-draw_corners.ensures.painted ∙ ap (λ xs. painted (corners_of layout c.args.row (length joined) xs) joined) c.deref-4.ensures.value in
+          let hung : stemmed ≡ painted (stems_of layout below placed) barred = c.in_ok-draw_stems.ensures.painted ∙ ap (λ xs. painted (stems_of layout below xs) barred) c.deref-5.ensures.value in
+          let named : labelled ≡ painted (labels_of layout below placed) stemmed = c.in_ok-draw_labels.ensures.painted ∙ ap (λ xs. painted (labels_of layout below xs) stemmed) c.deref-6.ensures.value in
+          let all : ℕ = length c.args.buffer.now + row_count placed in
+          let new_is = strokes_painted layout c.args.row below (length joined) all placed after rows begun joined barred stemmed labelled new row_is (joined_long ∙ long) begun_is lines bars hung named c.in_ok-draw_marks.ensures.painted in
+          let all_rows : length new ≡ all = c.in_ok-draw_marks.ensures.marked.painted.count there ∙ same_long ∙ long in
+          let wide_count : ℕ = wide_entries c.args.room layout.decor (map f c.deref-7.result.now) in
+          let marked = c.in_ok-draw_marks.ensures in
+          painted_added layout c.args.room c.args.closes es placed after above plain c.args.buffer.now new c.cut_wide.new.buffer c.args.row wide_count c.in_ok-placed.ensures.placed marked.same marked.ordered old_is last_row all_rows new_is wide cut) c.cut_wide.ensures.cut;
     }

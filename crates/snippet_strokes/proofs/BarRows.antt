@@ -1,0 +1,166 @@
+-- Rows with bars: what drawing them one side after another makes.
+use Rattle.std.proofs.Common.{◌≡◌, ℕ, zero, suc, ◌+◌, ◌-◌, ◌<◌, ◌≤◌, List, [], ◌∷◌, ◌++◌, length, map, take, drop, replicate, get_or, refl, sym, ap, ◌∙◌, subst, arith, inl, inr}
+use Rattle.std.proofs.lemmas.Bool.{cases_lt, cases_eq}
+use Rattle.std.proofs.lemmas.List.{drop_all, ext_get_or, get_or_append_left, get_or-append_right, get_or-drop, get_or-map, get_or-replicate, get_or-take, length-append, length-drop, length-map, length-replicate, length-take-le, take_all, take_more}
+use Rattle.std.proofs.lemmas.List.Sums.{fold-append}
+use Rattle.snippet_grid.specs.Grid.{cells_written, row_at}
+use Rattle.snippet_grid.proofs.GridLemmas.{row_at-cells_written_other, row_at-cells_written_same, WritesCells-cells_written}
+use Rattle.snippet_style.specs.Cell.{Cell, SPACE, unlinked_cell, written}
+use Rattle.snippet_style.specs.Glyphs.{underline_role}
+use Rattle.snippet_style.proofs.CellLemmas.{length-written, slice_index_or-written_after, slice_index_or-written_before, slice_index_or-written_inside}
+use Rattle.snippet_strokes.specs.declared.layout.Layout.{Layout}
+use Rattle.snippet_strokes.specs.declared.bars.BarStroke.{BarStroke}
+use Rattle.snippet_strokes.specs.declared.bars.OpenBar.{OpenBar}
+use Rattle.snippet_strokes.specs.Bars.{ChangesRows, StandsBeside, bar_glyph, bar_part, barred, with_bar, with_bars}
+
+-- ---- rows that were changed by a rule
+
+pub ChangesRows-none : (rule : List Cell → List Cell) (row end : ℕ) (rows : List (List Cell)) → end ≤ row → ChangesRows rule row end rows rows
+ChangesRows-none rule row end rows none =
+    record {
+      inside = λ r from to there. absurd (omega (arith, from, to, none));
+      before = λ r above. refl;
+      after = λ r below. refl;
+      count = refl;
+    }
+
+-- a rule that changes nothing
+pub ChangesRows-start : (rule : List Cell → List Cell) (row end : ℕ) (rows : List (List Cell)) → ((cells : List Cell) → rule cells ≡ cells) → ChangesRows rule row end rows rows
+ChangesRows-start rule row end rows same =
+    record {
+      inside = λ r from to there. sym (same (row_at rows r));
+      before = λ r above. refl;
+      after = λ r below. refl;
+      count = refl;
+    }
+
+-- one row more, in which these cells were written
+pub ChangesRows-next : (at : ℕ) (cells : List Cell) (row r : ℕ) (old mid new : List (List Cell)) → row ≤ r → r < length old → ChangesRows (λ cs. written SPACE cs at cells) row r old mid → new ≡ cells_written mid r at cells → ChangesRows (λ cs. written SPACE cs at cells) row (r + 1) old new
+ChangesRows-next at cells row r old mid new low there done writes =
+    let here : row_at new r ≡ written SPACE (row_at mid r) at cells = ap (λ rows. row_at rows r) writes ∙ row_at-cells_written_same mid r at cells in
+    record {
+      inside = λ n from to within. elim (cases_eq n r) [
+        | inl same ↦
+            ap (row_at new) same ∙ here ∙ ap (λ cs. written SPACE cs at cells) (done.after r (omega arith) ∙ ap (row_at old) (sym same))
+        | inr other ↦ beside n other ∙ done.inside n from (omega (arith, to, other)) within
+      ];
+      before = λ n above. beside n (λ same. omega (arith, same, above, low)) ∙ done.before n above;
+      after = λ n below. beside n (λ same. omega (arith, same, below)) ∙ done.after n (omega (arith, below));
+      count = ap length writes ∙ (let count = (WritesCells-cells_written mid r at cells).count in let long : length (cells_written mid r at cells) ≡ length old = omega (arith, count, done.count, there) in long);
+    }
+  where
+    beside : (n : ℕ) → (n ≡ r → ⊥) → row_at new n ≡ row_at mid n
+    beside n other = ap (λ rows. row_at rows n) writes ∙ row_at-cells_written_other mid r at cells n other
+
+-- one rule after another, where a third one does what both do
+pub ChangesRows-more : (first second both : List Cell → List Cell) (row end : ℕ) (old mid new : List (List Cell)) → end ≡ length old → ((cells : List Cell) → second (first cells) ≡ both cells) → ChangesRows first row end old mid → ChangesRows second row (length mid) mid new → ChangesRows both row end old new
+ChangesRows-more first second both row end old mid new all same done more =
+    record {
+      inside = λ r from to there. more.inside r from (omega (arith, there, done.count)) (omega (arith, there, done.count)) ∙ ap second (done.inside r from to there) ∙ same (row_at old r);
+      before = λ r above. more.before r above ∙ done.before r above;
+      after = λ r below. more.after r (omega (arith, below, all, done.count)) ∙ done.after r below;
+      count = more.count ∙ done.count;
+    }
+
+-- where all rows from `row` on were changed, they are a value
+pub barred-is : (layout : Layout) (stroke : BarStroke) (bars : List OpenBar) (row : ℕ) (old new : List (List Cell)) → ChangesRows (with_bars layout stroke bars) row (length old) old new → new ≡ barred layout stroke bars row old
+barred-is layout stroke bars row old new changes =
+    elim (cases_lt row (length old)) [
+      | inl inside ↦
+          let short : length (take row old) ≡ row = length-take-le row old (omega (arith, inside)) in
+          ext_get_or [] new (barred layout stroke bars row old) (omega (arith, changes.count, length-append (take row old) (map rule (drop row old)), length-map (drop row old) rule, length-drop row old, short, inside)) (λ r within. elim (cases_lt r row) [
+            | inl above ↦
+                changes.before r above ∙ sym (get_or_append_left (take row old) (map rule (drop row old)) [] r (omega (arith, short, above)) ∙ get_or-take row old r [] above)
+            | inr low ↦
+                let there : r < length old = omega (arith, within, changes.count) in
+                let place : row + (r - row) ≡ r = omega (arith, low) in
+                changes.inside r low there there ∙ sym (get_or-append_right (take row old) (map rule (drop row old)) row r [] short low ∙ get_or-map rule (drop row old) (r - row) [] [] (omega (arith, length-drop row old, there, low)) ∙ ap rule (get_or-drop row old (r - row) [] ∙ ap (row_at old) place))
+          ])
+      | inr past ↦
+          let whole : take row old ≡ old = take_all row old (omega (arith, past)) in
+          let none : drop row old ≡ [] = drop_all row old (omega (arith, past)) in
+          ext_get_or [] new old changes.count (λ r within. changes.before r (omega (arith, within, changes.count, past))) ∙ sym (ap (λ rows. take row old ++ map rule rows) none ∙ append_none (take row old) ∙ whole)
+    ]
+  where
+    rule : List Cell → List Cell
+    rule = with_bars layout stroke bars
+
+    append_none : (rows : List (List Cell)) → rows ++ [] ≡ rows
+    append_none [] = refl
+    append_none (x ∷ rows) = ap (λ rs. x ∷ rs) (append_none rows)
+
+-- bars beside the rows that stand below others
+pub barred-below : (layout : Layout) (stroke : BarStroke) (bars : List OpenBar) (above rows : List (List Cell)) → barred layout stroke bars (length above) (above ++ rows) ≡ above ++ map (with_bars layout stroke bars) rows
+barred-below layout stroke bars [] rows = refl
+barred-below layout stroke bars (x ∷ above) rows = ap (λ rs. x ∷ rs) (barred-below layout stroke bars above rows)
+
+-- ---- bars that stand side by side
+
+-- a cell more of a text that repeats one
+written-next : (row : List Cell) (at n : ℕ) (cell : Cell) → written SPACE (written SPACE row at (replicate n cell)) (at + n) (cell ∷ []) ≡ written SPACE row at (replicate (n + 1) cell)
+written-next row at n cell =
+    let few : List Cell = replicate n cell in
+    let more : List Cell = replicate (n + 1) cell in
+    let mid : List Cell = written SPACE row at few in
+    let count : length few ≡ n = length-replicate n cell in
+    let count_more : length more ≡ n + 1 = length-replicate (n + 1) cell in
+    ext_get_or SPACE (written SPACE mid (at + n) (cell ∷ [])) (written SPACE row at more) (omega (arith, length-written SPACE mid (at + n) (cell ∷ []), length-written SPACE row at few, length-written SPACE row at more, count, count_more)) (λ k within. elim (cases_lt k at) [
+      | inl left ↦
+          slice_index_or-written_before SPACE mid (at + n) (cell ∷ []) k (omega (arith, left)) ∙ slice_index_or-written_before SPACE row at few k left ∙ sym (slice_index_or-written_before SPACE row at more k left)
+      | inr from ↦
+          let j : ℕ = k - at in
+          let place : at + j ≡ k = omega (arith, from) in
+          elim (cases_lt k (at + n)) [
+            | inl inside ↦
+                slice_index_or-written_before SPACE mid (at + n) (cell ∷ []) k inside ∙ ap (λ i. get_or mid i SPACE) (sym place) ∙ slice_index_or-written_inside SPACE row at few j SPACE (omega (arith, inside, from, count)) ∙ get_or-replicate n j cell SPACE (omega (arith, inside, from)) ∙ sym (ap (λ i. get_or (written SPACE row at more) i SPACE) (sym place) ∙ slice_index_or-written_inside SPACE row at more j SPACE (omega (arith, inside, from, count_more)) ∙ get_or-replicate (n + 1) j cell SPACE (omega (arith, inside, from)))
+            | inr past ↦ elim (cases_eq k (at + n)) [
+              | inl here ↦
+                  let last : at + n + 0 ≡ k = omega (arith, here) in
+                  ap (λ i. get_or (written SPACE mid (at + n) (cell ∷ [])) i SPACE) (sym last) ∙ slice_index_or-written_inside SPACE mid (at + n) (cell ∷ []) 0 SPACE (omega arith) ∙ sym (ap (λ i. get_or (written SPACE row at more) i SPACE) (sym place) ∙ slice_index_or-written_inside SPACE row at more j SPACE (omega (arith, here, from, count_more)) ∙ get_or-replicate (n + 1) j cell SPACE (omega (arith, here, from)))
+              | inr after ↦
+                  let beyond : at + n + 1 ≤ k = omega (arith, past, after) in
+                  slice_index_or-written_after SPACE mid (at + n) (cell ∷ []) k SPACE beyond ∙ slice_index_or-written_after SPACE row at few k SPACE (omega (arith, count, beyond)) ∙ sym (slice_index_or-written_after SPACE row at more k SPACE (omega (arith, count_more, beyond)))
+            ]
+          ]
+    ])
+
+module _ (layout : Layout) (stroke : BarStroke) where
+  -- a bar that stands so many cells right of another, in its role, has its part
+  beside_part : (first bar : OpenBar) (k : ℕ) (row : List Cell) → StandsBeside first k bar → with_bar layout stroke row bar ≡ written SPACE row (layout.gutter + 2 + first.depth + k) (bar_part layout stroke first ∷ [])
+  beside_part first bar k row beside =
+      let place : layout.gutter + 2 + bar.depth ≡ layout.gutter + 2 + first.depth + k = omega (arith, beside.depth) in
+      ap (λ n. written SPACE row n (bar_part layout stroke bar ∷ [])) place ∙ ap (λ p. written SPACE row (layout.gutter + 2 + first.depth + k) (unlinked_cell (underline_role p) (bar_glyph stroke layout.decor p) ∷ [])) beside.primary
+
+  -- one bar more
+  bars_more : (bars : List OpenBar) (i : ℕ) (d : OpenBar) (row : List Cell) → i < length bars → with_bars layout stroke (take (i + 1) bars) row ≡ with_bar layout stroke (with_bars layout stroke (take i bars) row) (get_or bars i d)
+  bars_more bars i d row within =
+      ap (λ bs. with_bars layout stroke bs row) (take_more bars i d within) ∙ fold-append (with_bar layout stroke) row (take i bars) (get_or bars i d ∷ [])
+
+  -- bars that stand side by side are one text
+  side_more : (bars : List OpenBar) (from n : ℕ) (first : OpenBar) (row : List Cell) → from + (n + 1) ≤ length bars → ((k : ℕ) (d : OpenBar) → k < n + 1 → StandsBeside first k (get_or bars (from + k) d)) → written SPACE (with_bars layout stroke (take from bars) row) (layout.gutter + 2 + first.depth) (replicate (n + 1) (bar_part layout stroke first)) ≡ with_bars layout stroke (take (from + (n + 1)) bars) row
+  side_more bars from zero first row within beside =
+      let here : from + 0 ≡ from = omega arith in
+      let at : ℕ = layout.gutter + 2 + first.depth in
+      let none : at + 0 ≡ at = omega arith in
+      let cells : List Cell = bar_part layout stroke first ∷ [] in
+      let before : List Cell = with_bars layout stroke (take from bars) row in
+      let own : StandsBeside first 0 (get_or bars from first) = subst (λ i. StandsBeside first 0 (get_or bars i first)) here (beside 0 first (omega arith)) in
+      sym (bars_more bars from first row (omega (arith, within)) ∙ beside_part first (get_or bars from first) 0 before own ∙ ap (λ n. written SPACE before n cells) none)
+  side_more bars from (suc m) first row within beside =
+      let at : ℕ = layout.gutter + 2 + first.depth in
+      let cell : Cell = bar_part layout stroke first in
+      let before : List Cell = with_bars layout stroke (take from bars) row in
+      let j : ℕ = suc m in
+      let one : m + 1 ≡ j = omega arith in
+      let further : from + j + 1 ≡ from + (j + 1) = omega arith in
+      let so_far : written SPACE before at (replicate j cell) ≡ with_bars layout stroke (take (from + j) bars) row = subst (λ i. written SPACE before at (replicate i cell) ≡ with_bars layout stroke (take (from + i) bars) row) one (side_more bars from m first row (omega (arith, within)) (λ k d low. beside k d (omega (arith, low)))) in
+      let next = bars_more bars (from + j) first row (omega (arith, within)) ∙ beside_part first (get_or bars (from + j) first) j (with_bars layout stroke (take (from + j) bars) row) (beside j first (omega arith)) ∙ ap (λ cells. written SPACE cells (at + j) (cell ∷ [])) (sym so_far) ∙ written-next before at j cell in
+      sym next ∙ ap (λ i. with_bars layout stroke (take i bars) row) further
+
+  -- the bars from one place to before another
+  pub side_drawn : (bars : List OpenBar) (from to : ℕ) (first : OpenBar) (row : List Cell) → from < to → to ≤ length bars → ((k : ℕ) (d : OpenBar) → k < to - from → StandsBeside first k (get_or bars (from + k) d)) → written SPACE (with_bars layout stroke (take from bars) row) (layout.gutter + 2 + first.depth) (replicate (to - from) (bar_part layout stroke first)) ≡ with_bars layout stroke (take to bars) row
+  side_drawn bars from to first row some within beside =
+      let n : ℕ = to - from - 1 in
+      let many : n + 1 ≡ to - from = omega (arith, some) in
+      let end : from + (n + 1) ≡ to = omega (arith, some) in
+      ap (λ k. written SPACE (with_bars layout stroke (take from bars) row) (layout.gutter + 2 + first.depth) (replicate k (bar_part layout stroke first))) (sym many) ∙ side_more bars from n first row (omega (arith, within, end)) (λ k d low. beside k d (omega (arith, low, many))) ∙ ap (λ k. with_bars layout stroke (take k bars) row) end

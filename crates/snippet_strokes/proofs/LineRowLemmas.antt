@@ -1,0 +1,179 @@
+-- The rows of a line, as they are drawn below those that are there.
+use Rattle.std.proofs.Common.{◌≡◌, ℕ, ◌+◌, ◌-◌, ◌<◌, ◌≤◌, Bool, true, false, List, [], ◌∷◌, ◌++◌, length, map, replicate, drop, get_or, refl, sym, ap, ◌∙◌, subst, arith}
+use Rattle.std.specs.Prelude.{if◌then◌else◌}
+use Rattle.std.specs.List.Sorted.{IsPermutation}
+use Rattle.std.proofs.lemmas.Bool.{false≢true}
+use Rattle.std.proofs.lemmas.List.{append_assoc, drop_more, length-append, length_push}
+use Rattle.snippet_style.specs.Cell.{Cell}
+use Rattle.snippet_style.specs.Separators.{closing_row, separator_row}
+use Rattle.snippet_view.specs.declared.entries.LineAnnotation.{LineAnnotation}
+use Rattle.snippet_strokes.specs.declared.bars.OpenBar.{OpenBar}
+use Rattle.snippet_strokes.specs.declared.bars.BarStroke.TheVariants.{Top, Solid}
+use Rattle.snippet_strokes.specs.declared.layout.Layout.{Layout}
+use Rattle.snippet_strokes.specs.declared.positions.PlacedEntry.{PlacedEntry}
+use Rattle.snippet_strokes.specs.Bars.{barred, bars_apart, ends_of_bars, is_whole_line, with_bars}
+use Rattle.snippet_strokes.specs.Entries.{shifted, wide_entries}
+use Rattle.snippet_strokes.specs.LineRows.{AddsOwnRows, AreLineRows, AreOwnRows}
+use Rattle.snippet_strokes.specs.Painting.{IsPaintingOrder}
+use Rattle.snippet_strokes.specs.Positions.{ArePlaced, row_count}
+use Rattle.snippet_strokes.specs.Rows.{CutsRows, bare_row}
+use Rattle.snippet_strokes.specs.Strokes.{AddsPainted, StrokesPainted, begun_rows, strokes_of}
+use Rattle.snippet_strokes.specs.Writes.{Write, painted}
+use Rattle.snippet_strokes.proofs.BarRows.{barred-below}
+use Rattle.snippet_strokes.proofs.LowerWrites.{lowered, painted-below, strokes-lowered}
+use Rattle.snippet_strokes.proofs.PositionLemmas.{row_count_some}
+
+-- rows that are begun below others
+begun_below : (layout : Layout) (closes : Bool) (count : ℕ) (above : List (List Cell)) (source : List Cell) → (above ++ source ∷ []) ++ replicate (count - 1) (separator_row layout.decor layout.gutter) ++ bare_row layout.decor layout.gutter closes ∷ [] ≡ above ++ begun_rows layout closes count source
+begun_below layout closes count above source =
+    let seps = replicate (count - 1) (separator_row layout.decor layout.gutter) in
+    let end = bare_row layout.decor layout.gutter closes ∷ [] in
+    append_assoc (above ++ source ∷ []) seps end ∙ append_assoc above (source ∷ []) (seps ++ end)
+
+-- rows of which there are two at least
+two_more : (rows : List (List Cell)) → 1 < length rows → rows ≡ get_or rows 0 [] ∷ get_or rows 1 [] ∷ drop 2 rows
+two_more [] some = absurd (omega (arith, some))
+two_more (x ∷ []) some = absurd (omega (arith, some))
+two_more (x ∷ y ∷ rows) some = refl
+
+-- the strokes of a line, painted and then cut, are its rows
+module _ (layout : Layout) (room : ℕ) (closes : Bool) (es : List LineAnnotation) (placed order : List PlacedEntry) (above : List (List Cell)) (source : List Cell) (old new final : List (List Cell)) (row wide : ℕ)
+    (are : ArePlaced es placed)
+    (same : IsPermutation placed order)
+    (ordered : IsPaintingOrder (map (λ (e : PlacedEntry). e.entry) order))
+    (old_is : old ≡ above ++ source ∷ [])
+    (row_is : row ≡ length above)
+    (long : length new ≡ length old + row_count placed)
+    (new_is : new ≡ painted (strokes_of layout row (length old + row_count placed) placed order) (old ++ replicate (row_count placed - 1) (separator_row layout.decor layout.gutter) ++ bare_row layout.decor layout.gutter closes ∷ []))
+    (wide_is : wide ≡ wide_entries room layout.decor es)
+    (cuts : (up : List (List Cell)) (top marks : List Cell) (lower : List (List Cell)) → length up ≡ row → new ≡ up ++ top ∷ marks ∷ lower → CutsRows layout wide up top marks lower final) where
+  abbrev count : ℕ
+  count = row_count placed
+
+  -- the bare rows, and the line's own rows before they are cut
+  abbrev bare : List (List Cell)
+  bare = begun_rows layout closes count source
+
+  abbrev strokes : List Write
+  strokes = strokes_of layout 0 (count + 1) placed order
+
+  abbrev own : List (List Cell)
+  own = painted strokes bare
+
+  all_rows : length old + count ≡ length above + (count + 1)
+  all_rows = omega (arith, ap length old_is, length_push above source)
+
+  new_below : new ≡ above ++ own
+  new_below =
+      let seps : List (List Cell) = replicate (count - 1) (separator_row layout.decor layout.gutter) in
+      let end : List (List Cell) = bare_row layout.decor layout.gutter closes ∷ [] in
+      let n : ℕ = length above in
+      let begun : old ++ seps ++ end ≡ above ++ bare = ap (λ rs. rs ++ seps ++ end) old_is ∙ begun_below layout closes count above source in
+      let by_row = ap (λ r. painted (strokes_of layout r (length old + count) placed order) (old ++ seps ++ end)) row_is in
+      let by_count = ap (λ m. painted (strokes_of layout n m placed order) (old ++ seps ++ end)) all_rows in
+      let by_rows = ap (painted (strokes_of layout n (n + (count + 1)) placed order)) begun in
+      let lower = ap (λ ws. painted ws (above ++ bare)) (strokes-lowered layout n (count + 1) placed order) in
+      new_is ∙ by_row ∙ by_count ∙ by_rows ∙ lower ∙ painted-below above strokes bare
+
+  pub painted_added : AddsPainted layout room closes es above source final
+  painted_added =
+      let many : length own ≡ count + 1 = omega (arith, ap length new_below, length-append above own, long, all_rows) in
+      let top : List Cell = get_or own 0 [] in
+      let marks : List Cell = get_or own 1 [] in
+      let lower : List (List Cell) = drop 2 own in
+      let parts : own ≡ top ∷ marks ∷ lower = two_more own (omega (arith, many, row_count_some placed)) in
+      let few : length (top ∷ marks ∷ lower) ≡ count + 1 = sym (ap length parts) ∙ many in
+      let cut : CutsRows layout wide above top marks lower final = cuts above top marks lower (sym row_is) (new_below ∙ ap (λ rs. above ++ rs) parts) in
+      let exact : CutsRows layout (wide_entries room layout.decor es) above top marks lower final = subst (λ w. CutsRows layout w above top marks lower final) wide_is cut in
+      record {
+        rows = exact.source_now ∷ exact.marks_now ∷ lower;
+        added = exact.new_is;
+        painted_are = record {
+          placed = placed;
+          are = are;
+          order = order;
+          same = same;
+          ordered = ordered;
+          top = top;
+          marks = marks;
+          lower = lower;
+          painted_are = sym parts;
+          cut = record {
+            source_now = exact.source_now;
+            marks_now = exact.marks_now;
+            new_is = refl;
+            source_cut = exact.source_cut;
+            marks_cut = exact.marks_cut;
+          };
+          count = few;
+        };
+      }
+
+module _ (layout : Layout) (room : ℕ) (closes : Bool) (text : List ℕ) (dropped : ℕ) where
+  abbrev OwnRows : List LineAnnotation → List (List Cell) → List Cell → List (List Cell) → Type 0
+  OwnRows es above source new = AddsOwnRows layout room closes text dropped es above source new
+
+  -- a line that is marked as a whole
+  pub own_whole : (es : List LineAnnotation) (above : List (List Cell)) (source : List Cell) (old new : List (List Cell)) (row : ℕ) → is_whole_line text es ≡ true → old ≡ above ++ source ∷ [] → row ≡ length above → new ≡ barred layout Top (ends_of_bars es) row old → OwnRows es above source new
+  own_whole es above source old new row whole old_is row_is new_is =
+      let bars : List OpenBar = ends_of_bars es in
+      let by_row = ap (λ r. barred layout Top bars r old) row_is in
+      let by_rows = ap (barred layout Top bars (length above)) old_is in
+      record {
+        rows = with_bars layout Top bars source ∷ [];
+        added = new_is ∙ by_row ∙ by_rows ∙ barred-below layout Top bars above (source ∷ []);
+        are = record {
+          whole = λ _. refl;
+          none = λ empty. absurd (false≢true (sym (ap (is_whole_line text) empty) ∙ whole));
+          strokes = λ other _. absurd (false≢true (sym other ∙ whole));
+        };
+      }
+
+  -- what stands below a line without entries
+  abbrev end_rows : List (List Cell)
+  end_rows = if closes then closing_row layout.decor layout.gutter ∷ [] else []
+
+  abbrev Painted : List LineAnnotation → List (List Cell) → List Cell → List (List Cell) → Type 0
+  Painted es above source new = AddsPainted layout room closes (map (shifted dropped) es) above source new
+
+  -- a line that isn't
+  pub own_strokes : (es : List LineAnnotation) (above : List (List Cell)) (source : List Cell) (old new : List (List Cell)) → is_whole_line text es ≡ false → old ≡ above ++ source ∷ [] → (length es ≡ 0 → new ≡ old ++ end_rows) → (0 < length es → Painted es above source new) → OwnRows es above source new
+  own_strokes [] above source old new other old_is bare strokes =
+      record {
+        rows = source ∷ end_rows;
+        added = bare refl ∙ ap (λ rows. rows ++ end_rows) old_is ∙ append_assoc above (source ∷ []) end_rows;
+        are = record {
+          whole = λ whole. absurd (false≢true (sym other ∙ whole));
+          none = λ _. refl;
+          strokes = λ _ some. absurd (omega (arith, some));
+        };
+      }
+  own_strokes (e ∷ es) above source old new other old_is bare strokes =
+      let adds = strokes (omega arith) in
+      record {
+        rows = adds.rows;
+        added = adds.added;
+        are = record {
+          whole = λ whole. absurd (false≢true (sym other ∙ whole));
+          none = λ empty. absurd (omega (arith, ap length empty));
+          strokes = λ _ _. adds.painted_are;
+        };
+      }
+
+  -- bars that run past a line stand beside all its rows
+  pub line_rows : (open_bars bars : List OpenBar) (es : List LineAnnotation) (above : List (List Cell)) (source : List Cell) (rows done new : List (List Cell)) (row : ℕ) → OwnRows es above source done → row ≡ length above → bars ≡ bars_apart open_bars (ends_of_bars es) → new ≡ barred layout Solid bars row done → new ≡ above ++ rows → AreLineRows layout room closes text dropped open_bars es source rows
+  line_rows open_bars bars es above source rows done new row own row_is bars_are new_is added =
+      let past : List OpenBar = bars_apart open_bars (ends_of_bars es) in
+      let below = barred-below layout Solid past above own.rows in
+      let by_bars = ap (λ bs. barred layout Solid bs row done) bars_are in
+      let by_row = ap (λ r. barred layout Solid past r done) row_is in
+      let by_rows = ap (barred layout Solid past (length above)) own.added in
+      record {
+        own = own.rows;
+        are = own.are;
+        rows_are = same_after above rows (map (with_bars layout Solid past) own.rows) (sym added ∙ new_is ∙ by_bars ∙ by_row ∙ by_rows ∙ below);
+      }
+    where
+      same_after : (front a b : List (List Cell)) → front ++ a ≡ front ++ b → a ≡ b
+      same_after [] a b same = same
+      same_after (x ∷ front) a b same = same_after front a b (cc same)

@@ -1,0 +1,204 @@
+-- Writes into rows that stand below others are writes into these rows alone.
+use Rattle.std.proofs.Common.{◌≡◌, ℕ, zero, suc, ◌+◌, ◌-◌, ◌<◌, ◌==◌, nat_lt, cond, true, false, Bool, List, [], ◌∷◌, ◌++◌, length, map, take, drop, replicate, get_or, refl, sym, ap, ◌∙◌, subst, arith}
+use Rattle.std.specs.List.{flat_map, range_with_len}
+use Rattle.std.proofs.lemmas.List.{map-append}
+use Rattle.std.proofs.lemmas.List.Concat.{flat_map-cons}
+use Rattle.snippet_grid.specs.Grid.{cells_written, row_at}
+use Rattle.snippet_model.specs.AnnotationKind.{is_primary}
+use Rattle.snippet_style.specs.Cell.{Cell, SPACE, text_cells, written}
+use Rattle.snippet_style.specs.Glyphs.{glyph_of}
+use Rattle.snippet_style.specs.declared.role.ElementStyle.{ElementStyle}
+use Rattle.snippet_view.specs.declared.entries.LineAnnotationType.{LineAnnotationType}
+use Rattle.snippet_view.specs.declared.entries.LineAnnotationType.TheVariants.{Singleline, MultilineStart, MultilineEnd, MultilineLine}
+use Rattle.snippet_strokes.specs.declared.layout.Layout.{Layout}
+use Rattle.snippet_strokes.specs.declared.positions.PlacedEntry.{PlacedEntry}
+use Rattle.snippet_strokes.specs.Painting.{first_glyph, foot_glyph, mark_end}
+use Rattle.snippet_strokes.specs.Positions.{has_label, has_stem, label_place}
+use Rattle.snippet_strokes.specs.Strokes.{bar_of, bottom_of, connector_by, connector_of, connectors_of, corner_by, corner_of, corners_of, is_hidden, label_of, label_write, labels_of, line_to, mark_of, marks_of, stem_of, stem_write, stems_of, stroke_role, strokes_of, top_of}
+use Rattle.snippet_strokes.specs.Writes.{Write, column_of, glyph_at, painted, stretch_of, written_by}
+
+-- a write so many rows farther down
+abbrev pub lowered : ℕ → Write → Write
+lowered n w = record w { row = n + w.row }
+
+-- ---- rows below others
+
+written-cons : (x : List Cell) (xs : List (List Cell)) (at : ℕ) (new : List (List Cell)) → written [] (x ∷ xs) (suc at) new ≡ x ∷ written [] xs at new
+unfolding written
+written-cons x xs at new =
+    let fill : suc at - suc (length xs) ≡ at - length xs = omega arith in
+    let past : suc at + length new ≡ suc (at + length new) = omega arith in
+    ap (λ n. take (suc at) ((x ∷ xs) ++ replicate n []) ++ new ++ drop (suc at + length new) (x ∷ xs)) fill ∙ ap (λ n. (x ∷ take at (xs ++ replicate (at - length xs) [])) ++ new ++ drop n (x ∷ xs)) past
+
+written-below : (above xs : List (List Cell)) (at : ℕ) (new : List (List Cell)) → written [] (above ++ xs) (length above + at) new ≡ above ++ written [] xs at new
+written-below [] xs at new = ap (λ n. written [] xs n new) (let none : 0 + at ≡ at = omega arith in none)
+written-below (x ∷ above) xs at new =
+    let next : suc (length above) + at ≡ suc (length above + at) = omega arith in
+    ap (λ n. written [] (x ∷ (above ++ xs)) n new) next ∙ written-cons x (above ++ xs) (length above + at) new ∙ ap (λ rows. x ∷ rows) (written-below above xs at new)
+
+row_at-below : (above xs : List (List Cell)) (r : ℕ) → row_at (above ++ xs) (length above + r) ≡ row_at xs r
+row_at-below [] xs r = ap (row_at xs) (let none : 0 + r ≡ r = omega arith in none)
+row_at-below (x ∷ above) xs r =
+    let next : suc (length above) + r ≡ suc (length above + r) = omega arith in
+    ap (row_at (x ∷ (above ++ xs))) next ∙ row_at-below above xs r
+
+painted_one : (above rows : List (List Cell)) (w : Write) → written_by (above ++ rows) (lowered (length above) w) ≡ above ++ written_by rows w
+painted_one above rows w =
+    let cells : List Cell = text_cells w.role w.text in
+    ap (λ row. written [] (above ++ rows) (length above + w.row) (written SPACE row w.cell cells ∷ [])) (row_at-below above rows w.row) ∙ written-below above rows w.row (written SPACE (row_at rows w.row) w.cell cells ∷ [])
+
+pub painted-below : (above : List (List Cell)) (ws : List Write) (rows : List (List Cell)) → painted (map (lowered (length above)) ws) (above ++ rows) ≡ above ++ painted ws rows
+painted-below above [] rows = refl
+painted-below above (w ∷ ws) rows =
+    ap (painted (map (lowered (length above)) ws)) (painted_one above rows w) ∙ painted-below above ws (written_by rows w)
+
+-- ---- the strokes of a line
+
+-- what a rule gives for each of some things, so many rows farther down
+flat_map-lowered : {X : Type 0} (n : ℕ) (f g : X → List Write) → ((x : X) → f x ≡ map (lowered n) (g x)) → (xs : List X) → flat_map f xs ≡ map (lowered n) (flat_map g xs)
+flat_map-lowered n f g same [] = refl
+flat_map-lowered n f g same (x ∷ xs) =
+    flat_map-cons f x xs ∙ ap (λ ws. ws ++ flat_map f xs) (same x) ∙ ap (λ ws. map (lowered n) (g x) ++ ws) (flat_map-lowered n f g same xs) ∙ sym (ap (map (lowered n)) (flat_map-cons g x xs) ∙ map-append (lowered n) (g x) (flat_map g xs))
+
+stretch-lowered : (n low row from to glyph : ℕ) (role : ElementStyle) → low ≡ n + row → stretch_of low from to glyph role ≡ map (lowered n) (stretch_of row from to glyph role)
+stretch-lowered n low row from to glyph role is =
+    ap (λ r. stretch_of r from to glyph role) is ∙ either (nat_lt from to)
+  where
+    w : Write
+    w = record { row = row; cell = from; text = replicate (to - from) glyph; role = role }
+
+    either : (some : Bool) → cond some (lowered n w ∷ []) [] ≡ map (lowered n) (cond some (w ∷ []) [])
+    either true = refl
+    either false = refl
+
+-- numbers in a row, each so much greater
+range-lowered : (f g : ℕ → Write) (n a low count : ℕ) → low ≡ n + a → ((r : ℕ) → f (n + r) ≡ lowered n (g r)) → map f (range_with_len low count) ≡ map (lowered n) (map g (range_with_len a count))
+range-lowered f g n a low zero is same = refl
+range-lowered f g n a low (suc count) is same =
+    ap (λ w. w ∷ map f (range_with_len (low + 1) count)) (ap f is ∙ same a) ∙ ap (λ ws. lowered n (g a) ∷ ws) (range-lowered f g n (a + 1) (low + 1) count (omega (arith, is)) same)
+
+column-lowered : (n start end cell glyph : ℕ) (role : ElementStyle) → column_of (n + start) (n + end) cell glyph role ≡ map (lowered n) (column_of start end cell glyph role)
+column-lowered n start end cell glyph role =
+    let f : ℕ → Write = λ r. glyph_at r cell glyph role in
+    let many : n + end - (n + start) ≡ end - start = omega arith in
+    ap (λ k. map f (range_with_len (n + start) k)) many ∙ range-lowered f f n start (n + start) (end - start) refl (λ r. refl)
+
+module _ (layout : Layout) (n : ℕ) where
+  connectors-lowered : (row : ℕ) (es : List PlacedEntry) → connectors_of layout (n + row) es ≡ map (lowered n) (connectors_of layout row es)
+  connectors-lowered row es =
+      flat_map-lowered n (connector_of layout (n + row)) (connector_of layout row) (λ e. by_part e e.entry.annotation_type) es
+    where
+      line : (e : PlacedEntry) (depth : ℕ) → line_to layout (n + row) e depth ≡ map (lowered n) (line_to layout row e depth)
+      line e depth =
+          stretch-lowered n (n + row + e.position) (row + e.position) (layout.gutter + 3 + depth) (layout.code + e.entry.start.display) (glyph_of layout.decor (is_primary e.entry.kind) 95 95 0x2501 0x2500) (stroke_role e) (omega arith)
+
+      by_part : (e : PlacedEntry) (part : LineAnnotationType) → connector_by layout (n + row) e part ≡ map (lowered n) (connector_by layout row e part)
+      by_part e Singleline = refl
+      by_part e (MultilineStart depth) = line e depth
+      by_part e (MultilineEnd depth) = line e depth
+      by_part e (MultilineLine depth) = refl
+
+  corners-lowered : (row count : ℕ) (es : List PlacedEntry) → corners_of layout (n + row) (n + count) es ≡ map (lowered n) (corners_of layout row count es)
+  corners-lowered row count es =
+      flat_map-lowered n (corner_of layout (n + row) (n + count)) (corner_of layout row count) (λ e. by_part e e.entry.annotation_type) es
+    where
+      bar : (e : PlacedEntry) (depth start end low high : ℕ) → low ≡ n + start → high ≡ n + end → bar_of layout e depth low high ≡ map (lowered n) (bar_of layout e depth start end)
+      bar e depth start end low high is_low is_high =
+          ap (λ s. bar_of layout e depth s high) is_low ∙ ap (λ t. bar_of layout e depth (n + start) t) is_high ∙ column-lowered n start end (layout.gutter + 2 + depth) (glyph_of layout.decor (is_primary e.entry.kind) 124 124 0x2503 0x2502) (stroke_role e)
+
+      corner : (e : PlacedEntry) → n + row + 1 + e.position ≡ n + (row + 1 + e.position)
+      corner e = omega arith
+
+      top : (e : PlacedEntry) (depth : ℕ) → top_of layout (n + row) (n + count) e depth ≡ map (lowered n) (top_of layout row count e depth)
+      top e depth =
+          let glyph : ℕ = glyph_of layout.decor (is_primary e.entry.kind) 32 32 0x250F 0x250C in
+          ap (λ r. glyph_at r (layout.gutter + 2 + depth) glyph (stroke_role e) ∷ bar_of layout e depth (r + 1) (n + count)) (corner e) ∙ ap (λ ws. lowered n (glyph_at (row + 1 + e.position) (layout.gutter + 2 + depth) glyph (stroke_role e)) ∷ ws) (bar e depth (row + 1 + e.position + 1) count (n + (row + 1 + e.position) + 1) (n + count) (omega arith) refl)
+
+      bottom : (e : PlacedEntry) (depth : ℕ) → bottom_of layout (n + row) e depth ≡ map (lowered n) (bottom_of layout row e depth)
+      bottom e depth =
+          let glyph : ℕ = glyph_of layout.decor (is_primary e.entry.kind) 124 124 0x2517 0x2514 in
+          let own : Write = glyph_at (row + 1 + e.position) (layout.gutter + 2 + depth) glyph (stroke_role e) in
+          ap (λ r. bar_of layout e depth (n + row) r ++ glyph_at r (layout.gutter + 2 + depth) glyph (stroke_role e) ∷ []) (corner e) ∙ ap (λ ws. ws ++ lowered n own ∷ []) (bar e depth row (row + 1 + e.position) (n + row) (n + (row + 1 + e.position)) refl refl) ∙ sym (map-append (lowered n) (bar_of layout e depth row (row + 1 + e.position)) (own ∷ []))
+
+      by_part : (e : PlacedEntry) (part : LineAnnotationType) → corner_by layout (n + row) (n + count) e part ≡ map (lowered n) (corner_by layout row count e part)
+      by_part e Singleline = refl
+      by_part e (MultilineStart depth) = top e depth
+      by_part e (MultilineEnd depth) = bottom e depth
+      by_part e (MultilineLine depth) = refl
+
+  stem-lowered : (row : ℕ) (e : PlacedEntry) → stem_of layout (n + row) e ≡ map (lowered n) (stem_of layout row e)
+  stem-lowered row e =
+      ap (λ ws. cond (has_stem e) ws []) cells ∙ either (has_stem e) (map (stem_write layout row e) (range_with_len 0 (e.position + 1)))
+    where
+      glyph : ℕ → ℕ
+      glyph below = cond (below == e.position) (foot_glyph layout.decor e) (glyph_of layout.decor (is_primary e.entry.kind) 124 124 0x2502 0x2502)
+
+      one : (below : ℕ) → stem_write layout (n + row) e below ≡ lowered n (stem_write layout row e below)
+      one below =
+          ap (λ r. glyph_at r (layout.code + e.entry.start.display) (glyph below) (stroke_role e)) (let same : n + row + below ≡ n + (row + below) = omega arith in same)
+
+      all : (belows : List ℕ) → map (stem_write layout (n + row) e) belows ≡ map (lowered n) (map (stem_write layout row e) belows)
+      all [] = refl
+      all (below ∷ belows) =
+          ap (λ w. w ∷ map (stem_write layout (n + row) e) belows) (one below) ∙ ap (λ ws. lowered n (stem_write layout row e below) ∷ ws) (all belows)
+
+      cells : map (stem_write layout (n + row) e) (range_with_len 0 (e.position + 1)) ≡ map (lowered n) (map (stem_write layout row e) (range_with_len 0 (e.position + 1)))
+      cells = all (range_with_len 0 (e.position + 1))
+
+      either : (some : Bool) (ws : List Write) → cond some (map (lowered n) ws) [] ≡ map (lowered n) (cond some ws [])
+      either true ws = refl
+      either false ws = refl
+
+  stems-lowered : (row : ℕ) (es : List PlacedEntry) → stems_of layout (n + row) es ≡ map (lowered n) (stems_of layout row es)
+  stems-lowered row [] = refl
+  stems-lowered row (e ∷ later) =
+      ap (λ ws. ws ++ stems_of layout (n + row) later) (either (is_hidden e later)) ∙ ap (λ ws. map (lowered n) (cond (is_hidden e later) [] (stem_of layout row e)) ++ ws) (stems-lowered row later) ∙ sym (map-append (lowered n) (cond (is_hidden e later) [] (stem_of layout row e)) (stems_of layout row later))
+    where
+      either : (hidden : Bool) → cond hidden [] (stem_of layout (n + row) e) ≡ map (lowered n) (cond hidden [] (stem_of layout row e))
+      either true = refl
+      either false = stem-lowered row e
+
+  labels-lowered : (row : ℕ) (es : List PlacedEntry) → labels_of layout (n + row) es ≡ map (lowered n) (labels_of layout row es)
+  labels-lowered row es =
+      flat_map-lowered n (label_of layout (n + row)) (label_of layout row) (λ e. either e (has_label e)) es
+    where
+      one : (e : PlacedEntry) → label_write layout (n + row) e ≡ lowered n (label_write layout row e)
+      one e =
+          let w : Write = label_write layout row e in
+          ap (λ (r : ℕ). record w { row = r }) (let same : n + row + (label_place e).0 ≡ n + (row + (label_place e).0) = omega arith in same)
+
+      either : (e : PlacedEntry) (labelled : Bool) → cond labelled (label_write layout (n + row) e ∷ []) [] ≡ map (lowered n) (cond labelled (label_write layout row e ∷ []) [])
+      either e true = ap (λ w. w ∷ []) (one e)
+      either e false = refl
+
+  marks-lowered : (row : ℕ) (es : List PlacedEntry) → marks_of layout (n + row) es ≡ map (lowered n) (marks_of layout row es)
+  marks-lowered row es =
+      flat_map-lowered n (mark_of layout (n + row)) (mark_of layout row) (λ e. either e (nat_lt (layout.code + e.entry.start.display) (layout.code + mark_end e))) es
+    where
+      from : PlacedEntry → ℕ
+      from e = layout.code + e.entry.start.display
+
+      line : PlacedEntry → ℕ → List Write
+      line e r = stretch_of r (layout.code + e.entry.start.display + 1) (layout.code + mark_end e) (glyph_of layout.decor (is_primary e.entry.kind) 94 45 0x2501 0x2500) (stroke_role e)
+
+      first : PlacedEntry → ℕ → Write
+      first e r = glyph_at r (layout.code + e.entry.start.display) (first_glyph layout.decor e) (stroke_role e)
+
+      either : (e : PlacedEntry) (some : Bool) → cond some (first e (n + row) ∷ line e (n + row)) [] ≡ map (lowered n) (cond some (first e row ∷ line e row) [])
+      either e true = ap (λ ws. lowered n (first e row) ∷ ws) (stretch-lowered n (n + row) row (layout.code + e.entry.start.display + 1) (layout.code + mark_end e) (glyph_of layout.decor (is_primary e.entry.kind) 94 45 0x2501 0x2500) (stroke_role e) refl)
+      either e false = refl
+
+  -- all strokes of a line
+  pub strokes-lowered : (count : ℕ) (placed order : List PlacedEntry) → strokes_of layout n (n + count) placed order ≡ map (lowered n) (strokes_of layout 0 count placed order)
+  strokes-lowered count placed order =
+      let none : n + 0 ≡ n = omega arith in
+      let one : List Write = connectors_of layout 1 placed in
+      let two : List Write = corners_of layout 0 count placed in
+      let three : List Write = stems_of layout 1 placed in
+      let four : List Write = labels_of layout 1 placed in
+      let five : List Write = marks_of layout 1 order in
+      let corners : corners_of layout n (n + count) placed ≡ map (lowered n) two = ap (λ r. corners_of layout r (n + count) placed) (sym none) ∙ corners-lowered 0 count placed in
+      join (connectors-lowered 1 placed) corners (stems-lowered 1 placed) (labels-lowered 1 placed) (marks-lowered 1 order) ∙ sym (map-append (lowered n) (one ++ two ++ three ++ four) five ∙ ap (λ ws. ws ++ map (lowered n) five) (map-append (lowered n) (one ++ two ++ three) four ∙ ap (λ ws. ws ++ map (lowered n) four) (map-append (lowered n) (one ++ two) three ∙ ap (λ ws. ws ++ map (lowered n) three) (map-append (lowered n) one two))))
+    where
+      join : {a b c d e a' b' c' d' e' : List Write} → a ≡ a' → b ≡ b' → c ≡ c' → d ≡ d' → e ≡ e' → a ++ b ++ c ++ d ++ e ≡ a' ++ b' ++ c' ++ d' ++ e'
+      join a b c d e = cc
