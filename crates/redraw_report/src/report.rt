@@ -325,7 +325,10 @@ fn marked_elements<'a>(
 fn patch_of<'a>(change: &Change<'a>) -> Patch<'a>
     ensures value { edited_view result ≡ edited_of change.now }
 {
-    Patch::new(change.start..change.end, change.text)
+    Patch {
+        span: change.start..change.end,
+        replacement: CowStr::Borrowed(change.text),
+    }
 }
 
 /// The patches of some edits.
