@@ -1,7 +1,7 @@
 //! What a tool told of one finding, whatever format it wrote it in.
 
 /// One finding: what is wrong, where, and what else is said of it.
-#[derive(Debug, Drop)]
+#[derive(Drop)]
 pub struct Diagnostic {
     /// How severe it is.
     pub severity: Severity,
@@ -16,7 +16,7 @@ pub struct Diagnostic {
 }
 
 /// How severe something is.
-#[derive(Clone, Copy, Debug, PartialEq, Eq)]
+#[derive(Clone, Copy, PartialEq, Eq)]
 pub enum Severity {
     Error,
     Warning,
@@ -28,7 +28,7 @@ pub enum Severity {
 }
 
 /// The name of a rule, and the address of a page that explains it.
-#[derive(Debug, Drop)]
+#[derive(Drop)]
 pub struct Code {
     /// The name, as `E0308`.
     pub id: String,
@@ -37,7 +37,7 @@ pub struct Code {
 }
 
 /// What is said of a finding beside its message: a note or help, with places of its own, with edits, or with neither.
-#[derive(Debug, Drop)]
+#[derive(Drop)]
 pub struct Child {
     /// How severe it is.
     pub severity: Severity,
@@ -50,7 +50,7 @@ pub struct Child {
 }
 
 /// A place in a file that is spoken of.
-#[derive(Debug, Drop)]
+#[derive(Drop)]
 pub struct FileSpan {
     /// The file, by the name that the tool gave it.
     pub file: String,
@@ -65,7 +65,7 @@ pub struct FileSpan {
 }
 
 /// A suggested edit: a part of a file, and the text that is to stand in its place.
-#[derive(Debug, Drop)]
+#[derive(Drop)]
 pub struct Edit {
     /// The file, by the name that the tool gave it.
     pub file: String,
@@ -78,7 +78,7 @@ pub struct Edit {
 }
 
 /// Lines of a file that the input itself holds.
-#[derive(Debug, Drop)]
+#[derive(Drop)]
 pub struct Carried {
     /// The number of the first of the lines, from 1.
     pub first_line: usize,
@@ -90,7 +90,7 @@ pub struct Carried {
 }
 
 /// A part of a file, as the tool counted it.
-#[derive(Clone, Copy, Debug, PartialEq, Eq)]
+#[derive(Clone, Copy, PartialEq, Eq)]
 pub enum Region {
     /// From byte `start` to before byte `end` of the file, from 0.
     Bytes {
@@ -110,7 +110,7 @@ pub enum Region {
 /// A part of a file by lines and columns, all counted from 1: from a column of a line to before a column of the same or a
 /// later line. Without a start column it begins with its first line, without an end column it ends with its last line,
 /// before that line's end.
-#[derive(Clone, Copy, Debug, PartialEq, Eq)]
+#[derive(Clone, Copy, PartialEq, Eq)]
 pub struct LineRegion {
     pub start_line: usize,
     pub start_column: Option<usize>,
@@ -121,7 +121,7 @@ pub struct LineRegion {
 }
 
 /// What a tool counts as one character.
-#[derive(Clone, Copy, Debug, PartialEq, Eq)]
+#[derive(Clone, Copy, PartialEq, Eq)]
 pub enum Unit {
     /// Units of UTF-16: a character outside of the basic plane is two.
     Utf16,

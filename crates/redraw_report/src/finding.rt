@@ -3,7 +3,7 @@
 use crate::diagnostic::{Code, Severity};
 
 /// Text that places are shown in.
-#[derive(Clone, Copy, Debug)]
+#[derive(Clone, Copy)]
 pub struct Shown<'a> {
     /// The path that is shown for it.
     pub path: &'a str,
@@ -12,7 +12,7 @@ pub struct Shown<'a> {
 }
 
 /// What is at hand of a file.
-#[derive(Clone, Copy, Debug)]
+#[derive(Clone, Copy)]
 pub enum Content<'a> {
     /// Lines of it, the first of which has this number.
     Lines {
@@ -27,7 +27,7 @@ pub enum Content<'a> {
 }
 
 /// A finding, by places in sources, which are told by their index in a list.
-#[derive(Debug, Drop)]
+#[derive(Drop)]
 pub struct Finding<'a> {
     pub severity: Severity,
     /// What is wrong. The text isn't trusted.
@@ -41,7 +41,7 @@ pub struct Finding<'a> {
 }
 
 /// A place that is spoken of.
-#[derive(Clone, Copy, Debug)]
+#[derive(Clone, Copy)]
 pub struct Mark<'a> {
     /// The source, by its index.
     pub source: usize,
@@ -56,7 +56,7 @@ pub struct Mark<'a> {
 }
 
 /// A note or help, with places of its own, with edits, or with neither.
-#[derive(Debug, Drop)]
+#[derive(Drop)]
 pub struct Remark<'a> {
     pub severity: Severity,
     /// What is said. The text isn't trusted.
@@ -68,7 +68,7 @@ pub struct Remark<'a> {
 }
 
 /// A suggestion: edits of one source, which are made together.
-#[derive(Debug, Drop)]
+#[derive(Drop)]
 pub struct Offer<'a> {
     /// The source, by its index.
     pub source: usize,
@@ -78,7 +78,7 @@ pub struct Offer<'a> {
 }
 
 /// A part of a source, and the text that is to stand in its place.
-#[derive(Clone, Copy, Debug)]
+#[derive(Clone, Copy)]
 pub struct Change<'a> {
     /// The byte of the source where the part starts.
     pub start: usize,

@@ -7,4 +7,7 @@ pub mod finding;
 pub mod fits;
 pub mod lines;
 pub mod locate;
+mod marks;
+mod offers;
 pub mod report;
+mod titles;

@@ -8,7 +8,7 @@ use crate::diagnostic::{Region, Unit};
 use crate::lines::{first_line, line_length};
 
 /// A part of a text, from a byte to before another, both between characters.
-#[derive(Clone, Copy, Debug, PartialEq, Eq)]
+#[derive(Clone, Copy)]
 pub struct Located {
     pub start: usize,
     pub end: usize,
@@ -17,14 +17,14 @@ pub struct Located {
 }
 
 /// A byte of a text, and whether it is the one that was asked for.
-#[derive(Clone, Copy, Debug, PartialEq, Eq)]
+#[derive(Clone, Copy)]
 pub struct Place {
     pub byte: usize,
     pub exact: bool,
 }
 
 /// A text that regions are looked for in.
-#[derive(Clone, Copy, Debug)]
+#[derive(Clone, Copy)]
 pub struct Lookup<'a> {
     pub text: &'a str,
     /// Where its lines start.

@@ -2,7 +2,7 @@ use Rattle.std.proofs.Common.{◌≤◌, arith, length, map}
 use Rattle.redraw_report.specs.Report.{source_parts}
 use Rattle.redraw_report.specs.View.{part_view}
 use Rattle.redraw_report.proofs.Joined.{none-added}
-use Rattle.redraw_report.proofs.report.add_source_at.Goals as goal
+use Rattle.redraw_report.proofs.marks.add_source_at.Goals as goal
 
 pub returns-in-None : goal.returns-in-None
 returns-in-None c =

@@ -2,7 +2,7 @@ use Rattle.std.proofs.Common.{◌≡◌, ◌++◌, map, take}
 use Rattle.std.specs.List.{flat_map}
 use Rattle.redraw_report.specs.Report.{label_in}
 use Rattle.redraw_report.specs.View.{part_view}
-use Rattle.redraw_report.proofs.report.add_labels.Given as goal
+use Rattle.redraw_report.proofs.marks.add_labels.Given as goal
 
 -- what was added so far
 abbrev pub invariant-loop-mark : goal.invariant-loop-mark

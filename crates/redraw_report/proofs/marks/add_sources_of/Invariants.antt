@@ -1,6 +1,6 @@
 use Rattle.std.proofs.Common.{◌≡◌, take}
 use Rattle.redraw_report.specs.Report.{with_sources}
-use Rattle.redraw_report.proofs.report.add_sources_of.Given as goal
+use Rattle.redraw_report.proofs.marks.add_sources_of.Given as goal
 
 -- the indexes so far
 abbrev pub invariant-loop-mark : goal.invariant-loop-mark

@@ -1,5 +1,5 @@
 use Rattle.redraw_report.proofs.Joined.{sources-next}
-use Rattle.redraw_report.proofs.report.add_sources_of.Goals as goal
+use Rattle.redraw_report.proofs.marks.add_sources_of.Goals as goal
 
 pub loop-mark-preserved : goal.loop-mark-preserved
 loop-mark-preserved c =

@@ -2,7 +2,7 @@ use Rattle.std.proofs.Common.{◌≡◌, map, take}
 use Rattle.std.specs.List.{flat_map}
 use Rattle.redraw_report.specs.Report.{mark_in}
 use Rattle.redraw_report.specs.View.{marked_view}
-use Rattle.redraw_report.proofs.report.annotations_in.Given as goal
+use Rattle.redraw_report.proofs.marks.annotations_in.Given as goal
 
 -- the annotations so far
 abbrev pub invariant-loop-mark : goal.invariant-loop-mark

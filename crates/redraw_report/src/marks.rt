@@ -1,0 +1,243 @@
+//! What is drawn of places: each source with those that are in it.
+ghost use Rattle.std.specs.Prelude.{◌≡◌, ◌++◌, IfOk, OnOk, map};
+ghost use Rattle.std.specs.List.{flat_map};
+ghost use Rattle.redraw_report.specs.Report as spec;
+ghost use Rattle.redraw_report.specs.Report.{label_in, label_rows, mark_in, marked_of, marked_parts, parts_at, source_parts, with_index, with_source, with_sources};
+ghost use Rattle.redraw_report.specs.View.{marked_view, part_view};
+
+use crate::diagnostic::Severity;
+use crate::finding::{Content, Mark, Shown};
+use crate::titles::message_of;
+use snippet_model::{Annotation, AnnotationKind, Element, Origin, Padding, Snippet};
+use snippet_text::CowStr;
+use std::alloc::{AllocError, Global};
+
+/// Adds an index, if it isn't there yet.
+fn add_index(order: &mut Vec<usize>, index: usize) -> Result<(), AllocError>
+    ensures order { OnOk result (order.new.items ≡ with_index order.old.items index) }
+{
+    if !order.contains(&index) {
+        order.push(index)?;
+    }
+    Ok(())
+}
+
+/// Adds the index of a place's source, but of a place that isn't primary only where all are taken.
+fn add_source_of(order: &mut Vec<usize>, mark: &Mark<'_>, primary: bool) -> Result<(), AllocError>
+    ensures order { OnOk result (order.new.items ≡ with_source primary order.old.items mark.now) }
+{
+    if primary && !mark.is_primary {
+        return Ok(());
+    }
+    add_index(order, mark.source)
+}
+
+/// Adds the indexes of the sources of some places, or only of the primary ones.
+fn add_sources_of(
+    order: &mut Vec<usize>,
+    marks: &[Mark<'_>],
+    primary: bool,
+) -> Result<(), AllocError>
+    ensures order { OnOk result (order.new.items ≡ with_sources primary order.old.items marks.now) }
+{
+    for mark in marks {
+        add_source_of(order, mark, primary)?;
+    }
+    Ok(())
+}
+
+/// The sources of some places, by their index, each once: those of primary places first, then the others as they come.
+fn sources_of(alloc: Global, marks: &[Mark<'_>]) -> Result<Vec<usize>, AllocError>
+    ensures value { IfOk result (λ order. order.items ≡ spec.sources_of marks.now) }
+{
+    let mut order = Vec::new(alloc);
+    add_sources_of(&mut order, marks, true)?;
+    add_sources_of(&mut order, marks, false)?;
+    Ok(order)
+}
+
+/// How a place is marked.
+fn kind_of(mark: &Mark<'_>) -> AnnotationKind
+    ensures value { result ≡ (marked_of mark.now).kind }
+{
+    if mark.is_primary {
+        AnnotationKind::Primary
+    } else {
+        AnnotationKind::Context
+    }
+}
+
+/// The annotation of a place.
+fn annotation_of<'a>(mark: &Mark<'a>) -> Annotation<'a>
+    ensures value { marked_view result ≡ marked_of mark.now }
+{
+    Annotation {
+        span: mark.start..mark.end,
+        label: match mark.label {
+            Some(label) => Some(CowStr::Borrowed(label)),
+            None => None,
+        },
+        kind: kind_of(mark),
+        highlight_source: false,
+    }
+}
+
+/// Adds the annotation of a place, if it is in this source.
+fn add_annotation<'a>(
+    annotations: &mut Vec<Annotation<'a>>,
+    source: usize,
+    mark: &Mark<'a>,
+) -> Result<(), AllocError>
+    ensures added { OnOk result (map marked_view annotations.new.items
+        ≡ map marked_view annotations.old.items ++ mark_in source mark.now) }
+{
+    if mark.source == source {
+        annotations.push(annotation_of(mark))?;
+    }
+    Ok(())
+}
+
+/// The annotations of the places that are in this source.
+fn annotations_in<'a>(
+    alloc: Global,
+    source: usize,
+    marks: &[Mark<'a>],
+) -> Result<Vec<Annotation<'a>>, AllocError>
+    ensures value { IfOk result (λ annotations. map marked_view annotations.items ≡ flat_map (mark_in source) marks.now) }
+{
+    let mut annotations = Vec::new(alloc);
+    for mark in marks {
+        add_annotation(&mut annotations, source, mark)?;
+    }
+    Ok(annotations)
+}
+
+/// Adds what is said of a place, below an empty row.
+fn add_label_rows<'a>(
+    alloc: Global,
+    elements: &mut Vec<Element<'a>>,
+    label: Option<&'a str>,
+) -> Result<(), AllocError>
+    ensures added { OnOk result (map part_view elements.new.items ≡ map part_view elements.old.items ++ label_rows label.entry) }
+{
+    if let Some(label) = label {
+        let message = message_of(alloc, Severity::Note, label)?;
+        elements.push(Element::Padding(Padding))?;
+        elements.push(message)?;
+    }
+    Ok(())
+}
+
+/// The same of a place that is in this source.
+fn add_label<'a>(
+    alloc: Global,
+    elements: &mut Vec<Element<'a>>,
+    source: usize,
+    mark: &Mark<'a>,
+) -> Result<(), AllocError>
+    ensures added { OnOk result (map part_view elements.new.items ≡ map part_view elements.old.items ++ label_in source mark.now) }
+{
+    if mark.source == source {
+        add_label_rows(alloc, elements, mark.label)?;
+    }
+    Ok(())
+}
+
+/// Adds what is said of each place that is in this source.
+fn add_labels<'a>(
+    alloc: Global,
+    elements: &mut Vec<Element<'a>>,
+    source: usize,
+    marks: &[Mark<'a>],
+) -> Result<(), AllocError>
+    ensures added { OnOk result (map part_view elements.new.items
+        ≡ map part_view elements.old.items ++ flat_map (label_in source) marks.now) }
+{
+    for mark in marks {
+        add_label(alloc, elements, source, mark)?;
+    }
+    Ok(())
+}
+
+/// Adds a source with the places that are in it.
+fn add_source<'a>(
+    alloc: Global,
+    elements: &mut Vec<Element<'a>>,
+    shown: &Shown<'a>,
+    source: usize,
+    marks: &[Mark<'a>],
+) -> Result<(), AllocError>
+    ensures added { OnOk result (map part_view elements.new.items
+        ≡ map part_view elements.old.items ++ source_parts marks.now source shown.now) }
+{
+    match shown.content {
+        Content::Lines { text, first_line } => {
+            let markers = annotations_in(alloc, source, marks)?;
+            elements.push(Element::Cause(Snippet {
+                path: Some(CowStr::Borrowed(shown.path)),
+                line_start: first_line,
+                source: CowStr::Borrowed(text),
+                markers,
+                line_numbering: true,
+                fold: true,
+            }))?;
+            Ok(())
+        }
+        Content::Nothing { line, column } => {
+            elements.push(Element::Origin(Origin {
+                path: CowStr::Borrowed(shown.path),
+                line,
+                char_column: column,
+            }))?;
+            add_labels(alloc, elements, source, marks)
+        }
+    }
+}
+
+/// The same of the source with this index; nothing where there is none.
+fn add_source_at<'a>(
+    alloc: Global,
+    elements: &mut Vec<Element<'a>>,
+    sources: &[Shown<'a>],
+    source: usize,
+    marks: &[Mark<'a>],
+) -> Result<(), AllocError>
+    ensures added { OnOk result (map part_view elements.new.items
+        ≡ map part_view elements.old.items ++ parts_at sources.now marks.now source) }
+{
+    match sources.get(source) {
+        Some(shown) => add_source(alloc, elements, shown, source, marks),
+        None => Ok(()),
+    }
+}
+
+/// The same of the sources with these indexes, in their order.
+fn add_each_source<'a>(
+    alloc: Global,
+    elements: &mut Vec<Element<'a>>,
+    sources: &[Shown<'a>],
+    order: &[usize],
+    marks: &[Mark<'a>],
+) -> Result<(), AllocError>
+    ensures added { OnOk result (map part_view elements.new.items
+        ≡ map part_view elements.old.items ++ flat_map (parts_at sources.now marks.now) order.now) }
+{
+    for source in order {
+        add_source_at(alloc, elements, sources, *source, marks)?;
+    }
+    Ok(())
+}
+
+/// What is drawn of some places: each source with those that are in it.
+pub fn marked_elements<'a>(
+    alloc: Global,
+    sources: &[Shown<'a>],
+    marks: &[Mark<'a>],
+) -> Result<Vec<Element<'a>>, AllocError>
+    ensures value { IfOk result (λ elements. map part_view elements.items ≡ marked_parts sources.now marks.now) }
+{
+    let order = sources_of(alloc, marks)?;
+    let mut elements = Vec::new(alloc);
+    add_each_source(alloc, &mut elements, sources, &order, marks)?;
+    Ok(elements)
+}

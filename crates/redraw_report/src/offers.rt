@@ -1,0 +1,135 @@
+//! What is drawn of suggestions: the first of them, and how many more there are.
+ghost use Rattle.std.specs.Prelude.{◌≡◌, ◌++◌, IfOk, OnOk, map, string_bytes};
+ghost use Rattle.std.specs.List.{flat_map};
+ghost use Rattle.redraw_report.specs.Report as spec;
+ghost use Rattle.redraw_report.specs.Report.{edited_of, more_parts, offered, offers_parts};
+ghost use Rattle.redraw_report.specs.View.{edited_view, part_view};
+
+use crate::diagnostic::Severity;
+use crate::finding::{Change, Content, Offer, Shown};
+use crate::titles::level_of;
+use snippet_model::{Element, Patch, Snippet};
+use snippet_text::CowStr;
+use std::alloc::{AllocError, Global};
+
+/// How many edits of which one is to be made are shown; of more it is told how many there are.
+const SHOWN_OFFERS: usize = 4;
+
+/// The patch of an edit.
+fn patch_of<'a>(change: &Change<'a>) -> Patch<'a>
+    ensures value { edited_view result ≡ edited_of change.now }
+{
+    Patch {
+        span: change.start..change.end,
+        replacement: CowStr::Borrowed(change.text),
+    }
+}
+
+/// The patches of some edits.
+fn patches_of<'a>(alloc: Global, changes: &[Change<'a>]) -> Result<Vec<Patch<'a>>, AllocError>
+    ensures value { IfOk result (λ patches. map edited_view patches.items ≡ map edited_of changes.now) }
+{
+    let mut patches = Vec::new(alloc);
+    for change in changes {
+        patches.push(patch_of(change))?;
+    }
+    Ok(patches)
+}
+
+/// Adds lines with the edits of an offer; nothing where there are none.
+fn add_edits<'a>(
+    alloc: Global,
+    elements: &mut Vec<Element<'a>>,
+    shown: &Shown<'a>,
+    offer: &Offer<'a>,
+) -> Result<(), AllocError>
+    ensures added { OnOk result (map part_view elements.new.items
+        ≡ map part_view elements.old.items ++ spec.offer_parts offer.now shown.now) }
+{
+    if let Content::Lines { text, first_line } = shown.content {
+        let markers = patches_of(alloc, &offer.changes)?;
+        elements.push(Element::Suggestion(Snippet {
+            path: Some(CowStr::Borrowed(shown.path)),
+            line_start: first_line,
+            source: CowStr::Borrowed(text),
+            markers,
+            line_numbering: true,
+            fold: offer.is_folded,
+        }))?;
+    }
+    Ok(())
+}
+
+/// Adds what is drawn of an offer.
+fn add_offer<'a>(
+    alloc: Global,
+    elements: &mut Vec<Element<'a>>,
+    sources: &[Shown<'a>],
+    offer: &Offer<'a>,
+) -> Result<(), AllocError>
+    ensures added { OnOk result (map part_view elements.new.items
+        ≡ map part_view elements.old.items ++ offered sources.now offer.now) }
+{
+    match sources.get(offer.source) {
+        Some(shown) => add_edits(alloc, elements, shown, offer),
+        None => Ok(()),
+    }
+}
+
+/// Adds what is drawn of some offers, one below the other.
+fn add_each_offer<'a>(
+    alloc: Global,
+    elements: &mut Vec<Element<'a>>,
+    sources: &[Shown<'a>],
+    offers: &[Offer<'a>],
+) -> Result<(), AllocError>
+    ensures added { OnOk result (map part_view elements.new.items
+        ≡ map part_view elements.old.items ++ flat_map (offered sources.now) offers.now) }
+{
+    for offer in offers {
+        add_offer(alloc, elements, sources, offer)?;
+    }
+    Ok(())
+}
+
+/// The text that tells how many offers there are beside those that are shown.
+fn more_text(alloc: Global, more: usize) -> Result<String, AllocError>
+    ensures value { IfOk result (λ text. string_bytes text ≡ spec.more_text more) }
+{
+    if more == 1 {
+        format!(in alloc; "and {more} other candidate")
+    } else {
+        format!(in alloc; "and {more} other candidates")
+    }
+}
+
+/// Adds how many offers there are beside those that are shown, if there are any.
+fn add_more<'a>(
+    alloc: Global,
+    elements: &mut Vec<Element<'a>>,
+    more: usize,
+) -> Result<(), AllocError>
+    ensures added { OnOk result (map part_view elements.new.items ≡ map part_view elements.old.items ++ more_parts more) }
+{
+    if more > 0 {
+        let text = more_text(alloc, more)?;
+        let message = level_of(Severity::Plain).message_cow(CowStr::Owned(text));
+        elements.push(Element::Message(message))?;
+    }
+    Ok(())
+}
+
+/// Adds what is drawn of the first offers, and how many more there are.
+pub fn add_offers<'a>(
+    alloc: Global,
+    elements: &mut Vec<Element<'a>>,
+    sources: &[Shown<'a>],
+    offers: &[Offer<'a>],
+) -> Result<(), AllocError>
+    ensures added { OnOk result (map part_view elements.new.items
+        ≡ map part_view elements.old.items ++ offers_parts sources.now offers.now) }
+{
+    let count = offers.len().min(SHOWN_OFFERS);
+    add_each_offer(alloc, elements, sources, &offers[..count])?;
+    add_more(alloc, elements, offers.len() - count)
+}

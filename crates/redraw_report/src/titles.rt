@@ -1,0 +1,79 @@
+//! Titles and messages: what is said, how severe it is, and which rule it is about.
+ghost use Rattle.std.specs.Prelude.{◌≡◌, IfOk};
+ghost use Rattle.redraw_report.specs.Report as spec;
+ghost use Rattle.redraw_report.specs.Report.{headed_of, named_of, remark_headed, said};
+ghost use Rattle.redraw_report.specs.View.{headed_view, named_view, part_view};
+
+use crate::diagnostic::{Code, Severity};
+use crate::finding::{Finding, Remark};
+use snippet_model::{Element, Id, Level, Title};
+use snippet_style::LevelInner;
+use snippet_text::{CowStr, normalized};
+use std::alloc::{AllocError, Global};
+
+/// The level that a severity is drawn by.
+pub fn level_of<'a>(severity: Severity) -> Level<'a>
+    ensures value { result ≡ spec.level_of severity }
+{
+    match severity {
+        Severity::Error => Level::standard(LevelInner::Error),
+        Severity::Warning => Level::standard(LevelInner::Warning),
+        Severity::Info => Level::standard(LevelInner::Info),
+        Severity::Note => Level::standard(LevelInner::Note),
+        Severity::Help => Level::standard(LevelInner::Help),
+        Severity::Plain => Level::standard(LevelInner::Note).no_name(),
+    }
+}
+
+/// The identifier of a rule's name, with its address.
+fn id_of<'a>(code: &'a Code) -> Id<'a>
+    ensures value { named_view result ≡ named_of code.now }
+{
+    Id {
+        id: Some(CowStr::Borrowed(code.id.as_str())),
+        url: match &code.url {
+            Some(url) => Some(CowStr::Borrowed(url.as_str())),
+            None => None,
+        },
+    }
+}
+
+/// The title of a finding.
+pub fn title_of<'a>(finding: &Finding<'a>) -> Title<'a>
+    ensures value { headed_view result ≡ headed_of finding.now }
+{
+    Title {
+        level: level_of(finding.severity),
+        id: match finding.code {
+            Some(code) => Some(id_of(code)),
+            None => None,
+        },
+        text: CowStr::Borrowed(finding.message),
+        allows_styling: false,
+    }
+}
+
+/// The title of a remark that has a group of its own.
+pub fn remark_title<'a>(alloc: Global, remark: &Remark<'a>) -> Result<Title<'a>, AllocError>
+    ensures value { IfOk result (λ title. headed_view title ≡ remark_headed remark.now) }
+{
+    let text = normalized(alloc, remark.message)?;
+    Ok(Title {
+        level: level_of(remark.severity),
+        id: None,
+        text,
+        allows_styling: true,
+    })
+}
+
+/// A message of this severity.
+pub fn message_of<'a>(
+    alloc: Global,
+    severity: Severity,
+    text: &'a str,
+) -> Result<Element<'a>, AllocError>
+    ensures value { IfOk result (λ element. part_view element ≡ said severity text.now) }
+{
+    let text = normalized(alloc, text)?;
+    Ok(Element::Message(level_of(severity).message_cow(text)))
+}
