@@ -105,12 +105,12 @@ cause_shown r frame around s rows drawable room drawn =
     let are : AreCauseRows r frame (closes_with around) s drawn.lines = drawn.are in
     let ks : List ℕ = shown_lines s.fold (cow_str_bytes s.source) s.markers.items in
     let fit : All (λ (info : AnnotatedLineInfo). length (shown_number (line_numbers r s.line_numbering) frame.gutter info.line_index) ≤ frame.gutter + 1) are.infos = numbers_fit r frame s are.infos room drawable are.lines in
-    let named = named_lines r frame s drawable.spans are.margin are.room are.bounds are.ordered (closes_with around) ks are.infos drawn.lines (shown_within src s.markers.items drawable.spans s.fold) are.lines fit are.shown in
+    let named = named_lines r frame s drawable.spans are.margin are.room are.bounds are.ordered (closes_with around) [] ks are.infos drawn.lines (shown_within src s.markers.items drawable.spans s.fold) are.lines fit are.shown in
     let head : List (List Cell) = cause_head r frame around s in
     let tail : List (List Cell) = rows_after_cause r frame around in
     let part : List NamedRow = others head ++ (named.part ++ others tail) in
     let cells : cells_of part ≡ rows = cells_of-append (others head) (named.part ++ others tail) ∙ ap (λ rs. rs ++ cells_of (named.part ++ others tail)) (cells_of-others head) ∙ ap (λ rs. head ++ rs) (cells_of-append named.part (others tail) ∙ ap (λ rs. rs ++ cells_of (others tail)) named.cells ∙ ap (λ rs. drawn.lines ++ rs) (cells_of-others tail)) ∙ sym drawn.rows_are in
-    let lines_free : All IsFree drawn.lines = free_from_AreLinesShown (layout_in r frame) are.margin (line_numbers r s.line_numbering) (closes_with around) are.infos drawn.lines are.shown in
+    let lines_free : All IsFree drawn.lines = free_from_AreLinesShown (layout_in r frame) are.margin (line_numbers r s.line_numbering) (closes_with around) [] are.infos drawn.lines are.shown in
     let all_free : All IsFree (head ++ (drawn.lines ++ tail)) = All-append IsFree head (drawn.lines ++ tail) (head_free r frame around s) (All-append IsFree drawn.lines tail lines_free (after_free r frame around s)) in
     record {
       part = part;
@@ -124,6 +124,7 @@ cause_shown r frame around s rows drawable room drawn =
         ends = subst (λ js. All (λ a. Contains js (first_line (cow_str_bytes s.source) a) × Contains js (last_line (cow_str_bytes s.source) a)) s.markers.items) (sym named.lines) (ends_shown src s.markers.items drawable.spans s.fold);
         ordered = subst IsAscending (sym named.lines) (shown_ascending src s.markers.items drawable.spans s.fold);
         named = named.are;
+        drawn = named.drawn;
       };
       free = free_named part (subst (All IsFree) (sym (cells ∙ drawn.rows_are)) all_free);
     }

@@ -3,6 +3,7 @@ pub mod BoundsLaws
 pub mod CauseShown
 pub mod DisjointLemmas
 pub mod DrawnElementLemmas
+pub mod DrawnLines
 pub mod ElementRows
 pub mod ElementShown
 pub mod FaultLemmas
@@ -17,6 +18,7 @@ pub mod LabelLemmas
 pub mod LineLemmas
 pub mod ListLemmas
 pub mod MarkLemmas
+pub mod NotDrawn
 pub mod NotLabelled
 pub mod NotOffered
 pub mod NotShown

@@ -38,6 +38,7 @@ use Rattle.snippet_lines.specs.Number.{shown_number}
 use Rattle.snippet_model.specs.Rows.{HasNoNumber}
 use Rattle.snippet_strokes.specs.Rows.{bare_row, IsSourceRow, IsStrokeRow, ShowsMarks}
 use Rattle.snippet_strokes.specs.Snippet as strokes
+use Rattle.snippet_strokes.specs.Bars.{Bar}
 use Rattle.snippet_strokes.specs.declared.layout.Layout.{Layout}
 use Rattle.snippet_strokes.proofs.SnippetLemmas.{highlighted_left, highlighted_text}
 use Rattle.snippet_titles.proofs.TextLemmas.{row_text-text_cells}
@@ -213,13 +214,13 @@ single_columns dropped es all clear = λ i d within.
     no_bar (MultilineLine depth) is = cc
 
 module _ (r : Renderer) (frame : Frame) (s : Snippet Annotation) (spans : All (λ a. IsSpan (cow_str_bytes s.source) a.span.start a.span.end) s.markers.items) (margin : Margin) (room : margin.term_width ≡ room_of r frame) (bounds : bounds_of margin ≡ bounds_in r frame s) (ordered : (bounds_of margin).left ≤ (bounds_of margin).right) where
-  abbrev row_shows : Bool → AnnotatedLineInfo → List (List Cell) → Type 0
-  row_shows closes info rows = strokes.ShowsLine (layout_in r frame) margin (line_numbers r s.line_numbering) closes info rows
+  abbrev row_shows : Bool → List Bar → AnnotatedLineInfo → List (List Cell) → Type 0
+  row_shows closes open_bars info rows = strokes.ShowsLine (layout_in r frame) margin (line_numbers r s.line_numbering) closes open_bars info rows
 
   abbrev placeholder_width : ℕ
   placeholder_width = length (placeholder_of r.decor_style)
 
-  module _ (closes : Bool) (k : ℕ) (info : AnnotatedLineInfo) (rows : List (List Cell)) (within : k < length (source_lines (cow_str_bytes s.source))) (seen : seen_kept info ≡ kept_line (numbered_source s) s.markers.items k) (fits : length (shown_number (line_numbers r s.line_numbering) frame.gutter info.line_index) ≤ frame.gutter + 1) (shows : row_shows closes info rows) where
+  module _ (closes : Bool) (open_bars : List Bar) (k : ℕ) (info : AnnotatedLineInfo) (rows : List (List Cell)) (within : k < length (source_lines (cow_str_bytes s.source))) (seen : seen_kept info ≡ kept_line (numbered_source s) s.markers.items k) (fits : length (shown_number (line_numbers r s.line_numbering) frame.gutter info.line_index) ≤ frame.gutter + 1) (shows : row_shows closes open_bars info rows) where
     abbrev text : List ℕ
     text = norm (chars_at (cow_str_bytes s.source) k)
 

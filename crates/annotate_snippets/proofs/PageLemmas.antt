@@ -5,7 +5,7 @@ use Rattle.std.specs.Cow.{cow_str_bytes}
 use Rattle.std.specs.Char.{is_ascii_alphanumeric}
 use Rattle.std.proofs.lemmas.Bool.{le-ltb, lt-ltb}
 use Rattle.std.proofs.lemmas.Bool.Decides.{nat_tests}
-use Rattle.std.proofs.lemmas.List.{append_assoc, get_or-replicate, get_or_append_left, length-map, length-replicate, map-append}
+use Rattle.std.proofs.lemmas.List.{append_assoc, get_or-replicate, get_or_append_left, length-append, length-map, length-replicate, map-append}
 use Rattle.std.proofs.lemmas.List.Elements.{All-head, All-tail}
 use Rattle.snippet_model.specs.declared.snippet.Annotation.{Annotation}
 use Rattle.snippet_model.specs.declared.snippet.Snippet.{Snippet}
@@ -22,14 +22,17 @@ use Rattle.snippet_lines.specs.Lines.{source_lines}
 use Rattle.snippet_view.specs.Margin.{bounds_of}
 use Rattle.snippet_lines.specs.Span.{IsSpan}
 use Rattle.snippet_lines.specs.Number.{shown_number}
+use Rattle.snippet_strokes.specs.Bars.{Bar, open_below, open_past}
 use Rattle.snippet_strokes.specs.Rows.{bare_elision_row}
 use Rattle.snippet_strokes.specs.Snippet as strokes
 use Rattle.annotate_snippets.specs.declared.renderer.Renderer.{Renderer}
 use Rattle.annotate_snippets.specs.declared.renderer.frame.Frame.{Frame}
 use Rattle.annotate_snippets.specs.Drawn.{layout_in}
 use Rattle.annotate_snippets.specs.Gutter.{line_numbers, numbered_source}
-use Rattle.annotate_snippets.specs.Page.{SourceRow, Elision, NamedRow, lines_named, names_in, names_of_lines, cells_of, cells_below, others, rows_below}
+use Rattle.annotate_snippets.specs.LineRows.{AreRowsDrawn, IsLineDrawn, bars_on}
+use Rattle.annotate_snippets.specs.Page.{SourceRow, Elision, Other, NamedRow, lines_named, names_in, names_of_lines, cells_of, cells_below, others, rows_below}
 use Rattle.annotate_snippets.specs.Shown.{AreRowsOf, IsRowBelow, ShowsLabels, ShowsLineAndMarks, ShowsMarksOf, bounds_in, room_of}
+use Rattle.annotate_snippets.proofs.DrawnLines.{bars_seen, line_drawn}
 use Rattle.annotate_snippets.proofs.LineLemmas.{labels_of_line, marks_of_line, marks_there, row_below, source_line}
 use Rattle.annotate_snippets.proofs.LabelLemmas.{head_same, tail_same}
 
@@ -83,13 +86,13 @@ module _ (r : Renderer) (frame : Frame) (s : Snippet Annotation) (spans : All (�
   NumberFits info = length (shown_number (line_numbers r s.line_numbering) frame.gutter info.line_index) ≤ frame.gutter + 1
 
   -- the rows of a line show it, with the marks below
-  line_and_marks : (last : Bool) (k : ℕ) (info : AnnotatedLineInfo) (rows : List (List Cell)) (more : List NamedRow) → k < own_lines → seen_kept info ≡ line_of_snippet k → NumberFits info → (shows : strokes.ShowsLine (layout_in r frame) margin (line_numbers r s.line_numbering) last info rows) → rows_below more ≡ [] → ShowsLineAndMarks r frame s k shows.source (cells_below (others shows.below ++ more)) (rows_below (others shows.below ++ more))
-  line_and_marks last k info rows more within seen fits shows ends =
+  line_and_marks : (last : Bool) (open_bars : List Bar) (k : ℕ) (info : AnnotatedLineInfo) (rows : List (List Cell)) (more : List NamedRow) → k < own_lines → seen_kept info ≡ line_of_snippet k → NumberFits info → (shows : strokes.ShowsLine (layout_in r frame) margin (line_numbers r s.line_numbering) last open_bars info rows) → rows_below more ≡ [] → ShowsLineAndMarks r frame s k shows.source (cells_below (others shows.below ++ more)) (rows_below (others shows.below ++ more))
+  line_and_marks last open_bars k info rows more within seen fits shows ends =
       record {
         dropped = shows.dropped;
-        line = source_line r frame s spans margin room bounds ordered last k info rows within seen fits shows;
-        marks = λ qualifies. subst (λ row. ShowsMarksOf r.decor_style frame s k shows.dropped row) (sym (below-first shows.below more (marks_there r frame s spans margin room bounds ordered last k info rows within seen fits shows qualifies))) (marks_of_line r frame s spans margin room bounds ordered last k info rows within seen fits shows qualifies);
-        labels = λ uncut. subst (λ lower. ShowsLabels frame s k shows.dropped lower) (sym (below-own shows.below more ends)) (labels_of_line r frame s spans margin room bounds ordered last k info rows within seen fits shows uncut);
+        line = source_line r frame s spans margin room bounds ordered last open_bars k info rows within seen fits shows;
+        marks = λ qualifies. subst (λ row. ShowsMarksOf r.decor_style frame s k shows.dropped row) (sym (below-first shows.below more (marks_there r frame s spans margin room bounds ordered last open_bars k info rows within seen fits shows qualifies))) (marks_of_line r frame s spans margin room bounds ordered last open_bars k info rows within seen fits shows qualifies);
+        labels = λ uncut. subst (λ lower. ShowsLabels frame s k shows.dropped lower) (sym (below-own shows.below more ends)) (labels_of_line r frame s spans margin room bounds ordered last open_bars k info rows within seen fits shows uncut);
       }
 
   -- rows below a line, with the last of which the window closes where no row stands after
@@ -113,7 +116,7 @@ module _ (r : Renderer) (frame : Frame) (s : Snippet Annotation) (spans : All (�
       with_last (x ∷ xs) = grind (arith, nat_tests)
 
   -- rows with names: those that show these lines, and the others below them
-  pub record AreNamed (ks : List ℕ) (rows : List (List Cell)) : Type 0 where
+  pub record AreNamed (open_bars : List Bar) (ks : List ℕ) (rows : List (List Cell)) : Type 0 where
     pub part : List NamedRow
     pub cells : cells_of part ≡ rows
     pub lines : lines_named part ≡ ks
@@ -121,9 +124,10 @@ module _ (r : Renderer) (frame : Frame) (s : Snippet Annotation) (spans : All (�
     pub are : AreRowsOf r frame closes s part
     pub ends : (length part == 0) ≡ (length ks == 0)
     pub begins : rows_below part ≡ []
+    pub drawn : AreRowsDrawn r frame closes s open_bars part
 
   -- the rows between a line and the next: one where lines are left out
-  pub record IsGapNamed (j : ℕ) (ks : List ℕ) (rows : List (List Cell)) : Type 0 where
+  pub record IsGapNamed (open_bars : List Bar) (j : ℕ) (ks : List ℕ) (rows : List (List Cell)) : Type 0 where
     pub gap : List NamedRow
     pub cells : cells_of gap ≡ rows
     pub lines : (more : List NamedRow) → lines_named (gap ++ more) ≡ lines_named more
@@ -131,12 +135,13 @@ module _ (r : Renderer) (frame : Frame) (s : Snippet Annotation) (spans : All (�
     pub are : (more : List NamedRow) → AreRowsOf r frame closes s more → AreRowsOf r frame closes s (gap ++ more)
     pub ends : (more : List NamedRow) → (length more == 0) ≡ (length ks == 0) → (length (gap ++ more) == 0) ≡ (length ks == 0)
     pub begins : (more : List NamedRow) → rows_below more ≡ [] → rows_below (gap ++ more) ≡ []
+    pub drawn : (more : List NamedRow) → AreRowsDrawn r frame closes s open_bars more → AreRowsDrawn r frame closes s open_bars (gap ++ more)
 
-  gap_named : (j : ℕ) (ks : List ℕ) (info : AnnotatedLineInfo) (infos : List AnnotatedLineInfo) (rows : List (List Cell)) → seen_kept info ≡ line_of_snippet j → map seen_kept infos ≡ map line_of_snippet ks → strokes.IsGap (layout_in r frame) info.line_index infos rows → IsGapNamed j ks rows
-  gap_named j [] info [] rows here lines gap = record { gap = []; cells = sym gap; lines = λ more. refl; names = λ more none. ap (λ names. SourceRow j ∷ names) none; are = λ more are. are; ends = λ more same. same; begins = λ more none. none }
-  gap_named j [] info (next ∷ infos) rows here lines gap = cc
-  gap_named j (k ∷ ks) info [] rows here lines gap = cc
-  gap_named j (k ∷ ks) info (next ∷ infos) rows here lines gap =
+  gap_named : (open_bars : List Bar) (j : ℕ) (ks : List ℕ) (info : AnnotatedLineInfo) (infos : List AnnotatedLineInfo) (rows : List (List Cell)) → seen_kept info ≡ line_of_snippet j → map seen_kept infos ≡ map line_of_snippet ks → strokes.IsGap (layout_in r frame) open_bars info.line_index infos rows → IsGapNamed open_bars j ks rows
+  gap_named open_bars j [] info [] rows here lines gap = record { gap = []; cells = sym gap; lines = λ more. refl; names = λ more none. ap (λ names. SourceRow j ∷ names) none; are = λ more are. are; ends = λ more same. same; begins = λ more none. none; drawn = λ more drawn. drawn }
+  gap_named open_bars j [] info (next ∷ infos) rows here lines gap = cc
+  gap_named open_bars j (k ∷ ks) info [] rows here lines gap = cc
+  gap_named open_bars j (k ∷ ks) info (next ∷ infos) rows here lines gap =
       let there : seen_kept next ≡ line_of_snippet k = head_same (seen_kept next) (line_of_snippet k) (map seen_kept infos) (map line_of_snippet ks) lines in
       let own : info.line_index ≡ s.line_start + j = ap (λ (l : KeptLine). l.number) here in
       let its : next.line_index ≡ s.line_start + k = ap (λ (l : KeptLine). l.number) there in
@@ -152,6 +157,7 @@ module _ (r : Renderer) (frame : Frame) (s : Snippet Annotation) (spans : All (�
               are = λ more are. (record { unnumbered = λ c left. ap (λ (cell : Cell). is_ascii_alphanumeric cell.ch) (left_out.3.left c (omega arith)) ∙ elision_unnumbered r.decor_style frame.gutter c left; is = left_out.3 }, are);
               ends = λ more same. some_more (length more) (length ks);
               begins = λ more none. refl;
+              drawn = λ more drawn. (left_out.4, drawn);
             }
         | inr next_to ↦
             let near : ltb (j + 1) k ≡ false = le-ltb (j + 1) k (omega (arith, own, its, next_to.0)) in
@@ -163,26 +169,46 @@ module _ (r : Renderer) (frame : Frame) (s : Snippet Annotation) (spans : All (�
               are = λ more are. are;
               ends = λ more same. same;
               begins = λ more none. none;
+              drawn = λ more drawn. drawn;
             }
       ]
+
+  -- the bars that are open below a line are those that its spans leave open
+  open_seen : (open_bars : List Bar) (k : ℕ) (info : AnnotatedLineInfo) → seen_kept info ≡ line_of_snippet k → open_below open_bars info.annotations.items ≡ open_past open_bars (bars_on s k)
+  open_seen open_bars k info seen =
+      ap (open_past open_bars) (bars_seen s k info.annotations.items (ap (λ (l : KeptLine). l.parts) seen))
+
+  -- rows below a line are drawn with it
+  others_drawn : (open_bars : List Bar) (rows : List (List Cell)) (more : List NamedRow) → AreRowsDrawn r frame closes s open_bars more → AreRowsDrawn r frame closes s open_bars (others rows ++ more)
+  others_drawn open_bars [] more drawn = drawn
+  others_drawn open_bars (row ∷ rows) more drawn = (tt, others_drawn open_bars rows more drawn)
+
+  -- a line is the last where all rows after its source row are its own
+  last_is : (rows : List (List Cell)) (more : List NamedRow) (last : Bool) → (length more == 0) ≡ last → (closes && length rows == length (others rows ++ more)) ≡ (closes && last)
+  last_is rows more last ends =
+      ap (λ b. closes && b) (same_long (length rows) (length more) (length (others rows ++ more)) (length-append (others rows) more ∙ ap (λ n. n + length more) (length-map rows (λ (cells : List Cell). record { name = Other; cells = cells }))) ∙ ends)
+    where
+      same_long : (m n all : ℕ) → all ≡ m + n → (m == all) ≡ (n == 0)
+      same_long m n all is = grind (arith, nat_tests, is)
 
   -- as many lines are left as there are entries of lines
   none_left : (ks : List ℕ) (infos : List AnnotatedLineInfo) → map seen_kept infos ≡ map line_of_snippet ks → (length ks == 0) ≡ (length infos == 0)
   none_left ks infos same =
       ap (λ n. n == 0) (sym (length-map ks line_of_snippet) ∙ sym (ap length same) ∙ length-map infos seen_kept)
 
-  pub named_lines : (ks : List ℕ) (infos : List AnnotatedLineInfo) (rows : List (List Cell)) → All (λ k. k < own_lines) ks → map seen_kept infos ≡ map line_of_snippet ks → All NumberFits infos → strokes.AreLinesShown (layout_in r frame) margin (line_numbers r s.line_numbering) closes infos rows → AreNamed ks rows
-  named_lines [] [] rows within lines fit shown = record { part = []; cells = sym shown; lines = refl; names = refl; are = tt; ends = refl; begins = refl }
-  named_lines [] (info ∷ infos) rows within lines fit shown = cc
-  named_lines (k ∷ ks) [] rows within lines fit shown = cc
-  named_lines (k ∷ ks) (info ∷ infos) rows within lines fit shown =
+  pub named_lines : (open_bars : List Bar) (ks : List ℕ) (infos : List AnnotatedLineInfo) (rows : List (List Cell)) → All (λ k. k < own_lines) ks → map seen_kept infos ≡ map line_of_snippet ks → All NumberFits infos → strokes.AreLinesShown (layout_in r frame) margin (line_numbers r s.line_numbering) closes open_bars infos rows → AreNamed open_bars ks rows
+  named_lines open_bars [] [] rows within lines fit shown = record { part = []; cells = sym shown; lines = refl; names = refl; are = tt; ends = refl; begins = refl; drawn = tt }
+  named_lines open_bars [] (info ∷ infos) rows within lines fit shown = cc
+  named_lines open_bars (k ∷ ks) [] rows within lines fit shown = cc
+  named_lines open_bars (k ∷ ks) (info ∷ infos) rows within lines fit shown =
       let here = head_same (seen_kept info) (line_of_snippet k) (map seen_kept infos) (map line_of_snippet ks) lines in
       let further = tail_same (seen_kept info) (line_of_snippet k) (map seen_kept infos) (map line_of_snippet ks) lines in
-      let rest : AreNamed ks shown.2 = named_lines ks infos shown.2 (All-tail (λ j. j < own_lines) k ks within) further (All-tail NumberFits info infos fit) shown.6 in
+      let open_now : List Bar = open_below open_bars info.annotations.items in
+      let rest : AreNamed open_now ks shown.2 = named_lines open_now ks infos shown.2 (All-tail (λ j. j < own_lines) k ks within) further (All-tail NumberFits info infos fit) shown.6 in
       let last : Bool = length infos == 0 in
-      let shows : strokes.ShowsLine (layout_in r frame) margin (line_numbers r s.line_numbering) (closes && last) info shown.0 = shown.4 in
+      let shows : strokes.ShowsLine (layout_in r frame) margin (line_numbers r s.line_numbering) (closes && last) open_bars info shown.0 = shown.4 in
       let source_row : NamedRow = record { name = SourceRow k; cells = shows.source } in
-      let between : IsGapNamed k ks shown.1 = gap_named k ks info infos shown.1 here further shown.5 in
+      let between : IsGapNamed open_now k ks shown.1 = gap_named open_now k ks info infos shown.1 here further shown.5 in
       let after : List NamedRow = between.gap ++ rest.part in
       let ends : (length after == 0) ≡ last = between.ends rest.part rest.ends ∙ none_left ks infos further in
       record {
@@ -190,7 +216,11 @@ module _ (r : Renderer) (frame : Frame) (s : Snippet Annotation) (spans : All (�
         cells = ap (λ rs. shows.source ∷ rs) (cells_of-append (others shows.below) after ∙ ap (λ rs. rs ++ cells_of after) (cells_of-others shows.below) ∙ ap (λ rs. shows.below ++ rs) (cells_of-append between.gap rest.part ∙ ap (λ rs. rs ++ cells_of rest.part) between.cells ∙ ap (λ rs. shown.1 ++ rs) rest.cells)) ∙ ap (λ rs. rs ++ (shown.1 ++ shown.2)) (sym shows.rows_are) ∙ sym (append_assoc shown.0 shown.1 shown.2) ∙ sym shown.3;
         lines = ap (λ js. k ∷ js) (lines_named-others shows.below after ∙ between.lines rest.part ∙ rest.lines);
         names = ap (λ names. SourceRow k ∷ names) (names_in-others shows.below after) ∙ between.names rest.part rest.names;
-        are = (line_and_marks (closes && last) k info shown.0 after (All-head (λ j. j < own_lines) k ks within) here (All-head NumberFits info infos fit) shows (between.begins rest.part rest.begins), others_are last shows.below after ends (λ i inside. row_below r.decor_style frame (closes && last) _ _ shows.below i inside shows.unnumbered (shows.strokes.are i inside)) (between.are rest.part rest.are));
+        are = (line_and_marks (closes && last) open_bars k info shown.0 after (All-head (λ j. j < own_lines) k ks within) here (All-head NumberFits info infos fit) shows (between.begins rest.part rest.begins), others_are last shows.below after ends (λ i inside. row_below r.decor_style frame (closes && last) _ _ shows.below i inside shows.unnumbered (shows.strokes.are i inside)) (between.are rest.part rest.are));
         ends = some_more (length (others shows.below ++ after)) (length ks);
         begins = refl;
+        drawn = (
+          subst (λ below. IsLineDrawn r frame (closes && length below == length (others shows.below ++ after)) s open_bars k (shows.source ∷ below)) (sym (below-own shows.below after (between.begins rest.part rest.begins))) (subst (λ b. IsLineDrawn r frame b s open_bars k (shows.source ∷ shows.below)) (sym (last_is shows.below after last ends)) (line_drawn r frame s margin room bounds (closes && last) open_bars k info shown.0 here shows)),
+          subst (λ bs. AreRowsDrawn r frame closes s bs (others shows.below ++ after)) (open_seen open_bars k info here) (others_drawn open_now shows.below after (between.drawn rest.part rest.drawn)),
+        );
       }

@@ -55,7 +55,7 @@ pub record AreCauseRows (r : Renderer) (frame : Frame) (closes : Bool) (s : Snip
   pub room : margin.term_width ≡ r.term_width - frame.code
   pub bounds : bounds_of margin ≡ margin_of (r.term_width - frame.code) s.fold (numbered_source s) s.markers.items
   pub ordered : (bounds_of margin).left ≤ (bounds_of margin).right
-  pub shown : AreLinesShown (layout_in r frame) margin (line_numbers r s.line_numbering) closes infos rows
+  pub shown : AreLinesShown (layout_in r frame) margin (line_numbers r s.line_numbering) closes [] infos rows
 
 -- such rows were added below those that are there
 pub record AddsCauseLines (r : Renderer) (frame : Frame) (closes : Bool) (s : Snippet Annotation) (old new : List (List Cell)) : Type 0 where

@@ -16,3 +16,4 @@ pub use Rattle.snippet_model.specs.Level
 pub use Rattle.snippet_model.specs.Trusted
 pub use Rattle.snippet_lines.specs.Span
 pub use Rattle.snippet_splice.specs.Edits
+pub mod LineRows

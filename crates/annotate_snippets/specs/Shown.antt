@@ -57,6 +57,7 @@ use Rattle.annotate_snippets.specs.declared.renderer.element_context.Next.{Next}
 use Rattle.annotate_snippets.specs.declared.renderer.element_context.ElementContext.{ElementContext}
 use Rattle.annotate_snippets.specs.Around.{closes_with, drawn_elements, file_of_group, is_end, next_of, path_bytes, place_at, context_at, suggestion_rows}
 use Rattle.annotate_snippets.specs.Gutter.{frame_of, line_numbers, number_text, numbered_source}
+use Rattle.annotate_snippets.specs.LineRows.{AreRowsDrawn}
 use Rattle.annotate_snippets.specs.Page.{RowName, SourceRow, Elision, OfferedLine, RemovedLine, Other, NamedRow, lines_named, lines_offered, lines_removed, names_in, names_of_lines, cells_below, cells_of, rows_below, others, GroupPage, Page, page_text, PrintsPage, IsAscending, page_links}
 use Rattle.annotate_snippets.specs.Rows.{cause_head, message_style, origin_rows, place_found, place_given, rows_after_cause, rows_after_title, suggestion_head}
 
@@ -255,7 +256,8 @@ pub record NamesLocation (r : Renderer) (frame : Frame) (s : Snippet Annotation)
 -- each once and in order, those that are kept and each single line between two of them, with a row between where lines are
 -- left out, and each row is what its name says; and below them what sets off a message, or closes the group. So each line on which
 -- a span begins or ends has one source row, and source rows of greater lines stand lower. Where the snippet is of the group's
--- primary file and has a path and spans that are marked, none of several lines, the first row names the first of their places
+-- primary file and has a path and spans that are marked, none of several lines, the first row names the first of their places.
+-- All rows of a line are what its entries, and the bars that are open above it, make of the row that holds the line alone
 pub record ShowsSnippet (r : Renderer) (frame : Frame) (around : ElementContext) (s : Snippet Annotation) (rows : List NamedRow) : Type 0 where
   pub after : List NamedRow
   pub rows_are : rows ≡ others (cause_head r frame around s) ++ (after ++ others (rows_after_cause r frame around))
@@ -265,6 +267,7 @@ pub record ShowsSnippet (r : Renderer) (frame : Frame) (around : ElementContext)
   pub ends : All (λ a. Contains (lines_named after) (first_line (cow_str_bytes s.source) a) × Contains (lines_named after) (last_line (cow_str_bytes s.source) a)) s.markers.items
   pub ordered : IsAscending (lines_named after)
   pub named : AreRowsOf r frame (closes_with around) s after
+  pub drawn : AreRowsDrawn r frame (closes_with around) s [] after
 
 -- the row offers line j of the patched source: its number in the gutter, a separator, `+` or the glyph of a changed line after
 -- it and no other letter or digit between them and the line; and three cells after the gutter, to the row's end, the

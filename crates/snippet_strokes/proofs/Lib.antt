@@ -29,3 +29,4 @@ pub mod LineLemmas
 pub mod BarRows
 pub mod LowerWrites
 pub mod LineRowLemmas
+pub mod LineRowLaws

@@ -19,6 +19,10 @@ use Rattle.snippet_model.specs.AnnotationKind.{is_primary}
 use Rattle.snippet_model.specs.Rows.{IsFree}
 use Rattle.snippet_strokes.specs.Positions.{is_start_part}
 
+-- a bar, under a name that other crates can use
+abbrev pub Bar : Type 0
+Bar = OpenBar
+
 -- the bar that the start or the end of a span of several lines opens or closes
 abbrev pub bar_at : LineAnnotationType → Bool → Option OpenBar
 bar_at Singleline primary = None

@@ -1,4 +1,4 @@
-use Rattle.std.proofs.Common.{◌≡◌, ◌∙◌, ◌+◌, ◌-◌, ◌≤◌, ◌==◌, ℕ, cond, All, Bool, List, ap, arith, inl, inr, length, map, refl, subst, sym}
+use Rattle.std.proofs.Common.{◌≡◌, ◌∙◌, ◌+◌, ◌-◌, ◌≤◌, ◌==◌, ℕ, cond, [], All, Bool, List, ap, arith, inl, inr, length, map, refl, subst, sym}
 use Rattle.std.proofs.lemmas.Bool.{cases_Bool}
 use Rattle.std.proofs.lemmas.Result.{on_ok_weaker}
 use Rattle.std.specs.Cow.{cow_str_bytes}
@@ -116,7 +116,7 @@ returns c =
           room = c.margin_for-margin.ensures.room ∙ room;
           bounds = bounds;
           ordered = c.margin_for-margin.ensures.ordered;
-          shown = subst (λ (numbers : LineNumbers). AreLinesShown (layout_in c.args.renderer.now frame) c.margin_for-margin.result numbers c.args.closes c.deref-2.result.now adds.rows) c.line_numbers-numbers.ensures.value adds.shown;
+          shown = subst (λ (numbers : LineNumbers). AreLinesShown (layout_in c.args.renderer.now frame) c.margin_for-margin.result numbers c.args.closes [] c.deref-2.result.now adds.rows) c.line_numbers-numbers.ensures.value adds.shown;
         };
       }) c.draw_snippet.ensures.added;
     }

@@ -1,0 +1,69 @@
+-- The rows of a line are what the spans of the snippet make of it.
+use Rattle.std.proofs.Common.{◌≡◌, ℕ, ◌+◌, Bool, Option, List, [], ◌∷◌, ◌++◌, map, chars, refl, sym, ap, subst, ◌∙◌}
+use Rattle.std.specs.List.{filter_map}
+use Rattle.std.proofs.lemmas.List.Elements.{filter_map-append}
+use Rattle.snippet_model.specs.AnnotationKind.{is_primary}
+use Rattle.snippet_model.specs.declared.snippet.Annotation.{Annotation}
+use Rattle.snippet_model.specs.declared.snippet.Snippet.{Snippet}
+use Rattle.snippet_style.specs.Cell.{Cell}
+use Rattle.snippet_text.specs.Normalized.{norm}
+use Rattle.snippet_view.specs.Annotated.{KeptLine, PartEntry, kept_line, seen_kept, seen_part}
+use Rattle.snippet_view.specs.Margin.{bounds_of}
+use Rattle.snippet_view.specs.declared.entries.AnnotatedLineInfo.{AnnotatedLineInfo}
+use Rattle.snippet_view.specs.declared.entries.LineAnnotation.{LineAnnotation}
+use Rattle.snippet_view.specs.declared.margin.Margin.{Margin}
+use Rattle.snippet_lines.specs.Number.{shown_number}
+use Rattle.snippet_lines.specs.declared.number.LineNumbers.{LineNumbers}
+use Rattle.snippet_strokes.specs.Bars.{Bar, bar_at, bar_of, ends_of_bars}
+use Rattle.snippet_strokes.specs.LineRows.{AreLineRows}
+use Rattle.snippet_strokes.specs.Rows.{IsSourceRow, window_cells}
+use Rattle.snippet_strokes.specs.Snippet as strokes
+use Rattle.annotate_snippets.specs.declared.renderer.Renderer.{Renderer}
+use Rattle.annotate_snippets.specs.declared.renderer.frame.Frame.{Frame}
+use Rattle.annotate_snippets.specs.Drawn.{layout_in}
+use Rattle.annotate_snippets.specs.Gutter.{line_numbers, number_text, numbered_source}
+use Rattle.annotate_snippets.specs.LineRows.{IsLineDrawn, bars_on, entries_on}
+use Rattle.annotate_snippets.specs.Shown.{bounds_in, room_of}
+
+bars_of_parts : (es : List LineAnnotation) → ends_of_bars es ≡ filter_map (λ (p : PartEntry). bar_at p.part (is_primary p.entry.kind)) (map seen_part es)
+bars_of_parts [] = refl
+bars_of_parts (e ∷ es) =
+    let h : PartEntry → Option Bar = λ p. bar_at p.part (is_primary p.entry.kind) in
+    filter_map-append bar_of (e ∷ []) es ∙ ap (λ bs. filter_map h (seen_part e ∷ []) ++ bs) (bars_of_parts es) ∙ sym (filter_map-append h (seen_part e ∷ []) (map seen_part es))
+
+-- the bars of a line's entries are those of its spans
+pub bars_seen : (s : Snippet Annotation) (k : ℕ) (es : List LineAnnotation) → map seen_part es ≡ entries_on s k → ends_of_bars es ≡ bars_on s k
+bars_seen s k es are =
+    bars_of_parts es ∙ ap (filter_map (λ (p : PartEntry). bar_at p.part (is_primary p.entry.kind))) are
+
+module _ (r : Renderer) (frame : Frame) (s : Snippet Annotation) (margin : Margin) (room : margin.term_width ≡ room_of r frame) (bounds : bounds_of margin ≡ bounds_in r frame s) where
+  abbrev numbers : LineNumbers
+  numbers = line_numbers r s.line_numbering
+
+  abbrev Shows : Bool → List Bar → AnnotatedLineInfo → List (List Cell) → Type 0
+  Shows closes open_bars info rows =
+      strokes.ShowsLine (layout_in r frame) margin numbers closes open_bars info rows
+
+  pub line_drawn : (closes : Bool) (open_bars : List Bar) (k : ℕ) (info : AnnotatedLineInfo) (rows : List (List Cell)) → seen_kept info ≡ kept_line (numbered_source s) s.markers.items k → (shows : Shows closes open_bars info rows) → IsLineDrawn r frame closes s open_bars k (shows.source ∷ shows.below)
+  line_drawn closes open_bars k info rows seen shows =
+      let layout = layout_in r frame in
+      let text : List ℕ = norm (chars info.line.now) in
+      let es : List LineAnnotation = info.annotations.items in
+      let number : shown_number numbers frame.gutter info.line_index ≡ number_text r s.line_numbering frame.gutter (s.line_start + k) = ap (λ n. shown_number numbers frame.gutter n) (ap (λ (l : KeptLine). l.number) seen) in
+      let Drawn : List (List Cell) → Type 0 = λ rs. AreLineRows layout margin.term_width closes text shows.dropped open_bars es shows.highlighted rs in
+      record {
+        entries = es;
+        are = ap (λ (l : KeptLine). l.parts) seen;
+        margin = margin;
+        room = room;
+        bounds = bounds;
+        text = text;
+        text_is = ap (λ bytes. norm (chars bytes)) (ap (λ (l : KeptLine). l.text) seen);
+        dropped = shows.dropped;
+        dropped_is = shows.dropped_is;
+        plain = shows.plain;
+        shows = subst (λ shown. IsSourceRow layout shown (window_cells r.decor_style margin text) shows.plain) number shows.shows;
+        highlighted = shows.highlighted;
+        highlights = shows.highlights;
+        drawn = subst Drawn shows.rows_are shows.drawn;
+      }

@@ -1,0 +1,77 @@
+-- The rows of a snippet's lines, as what the spans of the snippet make of its lines.
+use Rattle.std.specs.Prelude.{◌≡◌, ℕ, ◌+◌, ◌-◌, ◌==◌, ◌&&◌, Bool, not, List, [], ◌∷◌, filter, length, map}
+use Rattle.std.specs.List.{filter_map}
+use Rattle.std.specs.Cow.{cow_str_bytes}
+use Rattle.snippet_model.specs.AnnotationKind.{is_primary}
+use Rattle.snippet_model.specs.declared.snippet.Annotation.{Annotation}
+use Rattle.snippet_model.specs.declared.snippet.Snippet.{Snippet}
+use Rattle.snippet_style.specs.Cell.{Cell}
+use Rattle.snippet_text.specs.Normalized.{norm}
+use Rattle.snippet_text.specs.Width.{width_of}
+use Rattle.snippet_view.specs.Annotated.{PartEntry, parts_on, seen_part}
+use Rattle.snippet_view.specs.Margin.{bounds_of}
+use Rattle.snippet_view.specs.Measures.{margin_of}
+use Rattle.snippet_view.specs.Window.{chars_at, dropped_part}
+use Rattle.snippet_view.specs.declared.entries.LineAnnotation.{LineAnnotation}
+use Rattle.snippet_view.specs.declared.margin.Margin.{Margin}
+use Rattle.snippet_strokes.specs.Bars.{Bar, bar_at, open_past}
+use Rattle.snippet_strokes.specs.Entries.{is_end_part}
+use Rattle.snippet_strokes.specs.LineRows.{AreLineRows}
+use Rattle.snippet_strokes.specs.Rows.{IsHighlighted, IsSourceRow, window_cells}
+use Rattle.snippet_strokes.specs.Snippet.{gap_row}
+use Rattle.annotate_snippets.specs.declared.renderer.Renderer.{Renderer}
+use Rattle.annotate_snippets.specs.declared.renderer.frame.Frame.{Frame}
+use Rattle.annotate_snippets.specs.Drawn.{layout_in}
+use Rattle.annotate_snippets.specs.Gutter.{number_text, numbered_source}
+use Rattle.annotate_snippets.specs.Page.{RowName, SourceRow, Elision, OfferedLine, RemovedLine, Other, NamedRow, rows_below}
+
+-- the entries of a snippet's spans on line k
+abbrev pub entries_on : Snippet Annotation → ℕ → List PartEntry
+entries_on s k = parts_on (numbered_source s) s.markers.items k
+
+-- the bar that the start or the end of a span of several lines has, and those of all that stand on line k
+abbrev pub bars_on : Snippet Annotation → ℕ → List Bar
+bars_on s k = filter_map (λ e. bar_at e.part (is_primary e.entry.kind)) (entries_on s k)
+
+-- the bars that are open below a row of this name, where these are open above it
+abbrev pub open_after : Snippet Annotation → RowName → List Bar → List Bar
+open_after s (SourceRow k) open_bars = open_past open_bars (bars_on s k)
+open_after s Elision open_bars = open_bars
+open_after s (OfferedLine j) open_bars = open_bars
+open_after s (RemovedLine i) open_bars = open_bars
+open_after s Other open_bars = open_bars
+
+-- the rows are those of line k, the source row and all below it, where these bars are open above it: what its entries and those
+-- bars make of the row that holds the number, the separator and the window of the line between the snippet's bounds alone, with
+-- the roles that entries highlight. The group's window may close with the line
+pub record IsLineDrawn (r : Renderer) (frame : Frame) (closes : Bool) (s : Snippet Annotation) (open_bars : List Bar) (k : ℕ) (rows : List (List Cell)) : Type 0 where
+  pub entries : List LineAnnotation
+  pub are : map seen_part entries ≡ entries_on s k
+  pub margin : Margin
+  pub room : margin.term_width ≡ r.term_width - frame.code
+  pub bounds : bounds_of margin ≡ margin_of (r.term_width - frame.code) s.fold (numbered_source s) s.markers.items
+  pub text : List ℕ
+  pub text_is : text ≡ norm (chars_at (cow_str_bytes s.source) k)
+  pub dropped : ℕ
+  pub dropped_is : dropped ≡ width_of (dropped_part (bounds_of margin).left text)
+  pub plain : List Cell
+  pub shows : IsSourceRow (layout_in r frame) (number_text r s.line_numbering frame.gutter (s.line_start + k)) (window_cells r.decor_style margin text) plain
+  pub highlighted : List Cell
+  pub highlights : IsHighlighted frame.code dropped (filter (λ e. not (is_end_part e.annotation_type)) entries) plain highlighted
+  pub drawn : AreLineRows (layout_in r frame) margin.term_width closes text dropped open_bars entries highlighted rows
+
+-- a row of a snippet's lines, with the rows after it, where these bars are open above it: the rows of a line, or the one in place of
+-- lines that are left out, with the bars that run past these. A row below a line is one of that line's
+abbrev pub IsRowDrawn : Renderer → Frame → Bool → Snippet Annotation → List Bar → RowName → List Cell → List NamedRow → Type 0
+IsRowDrawn r frame closes s open_bars (SourceRow k) row rows =
+    IsLineDrawn r frame (closes && length (rows_below rows) == length rows) s open_bars k (row ∷ rows_below rows)
+IsRowDrawn r frame closes s open_bars Elision row rows = row ≡ gap_row (layout_in r frame) open_bars
+IsRowDrawn r frame closes s open_bars (OfferedLine j) row rows = Unit {0}
+IsRowDrawn r frame closes s open_bars (RemovedLine i) row rows = Unit {0}
+IsRowDrawn r frame closes s open_bars Other row rows = Unit {0}
+
+-- each row is, where these bars are open above the first
+abbrev pub AreRowsDrawn : Renderer → Frame → Bool → Snippet Annotation → List Bar → List NamedRow → Type 0
+AreRowsDrawn r frame closes s open_bars [] = Unit {0}
+AreRowsDrawn r frame closes s open_bars (row ∷ rows) =
+    IsRowDrawn r frame closes s open_bars row.name row.cells rows × AreRowsDrawn r frame closes s (open_after s row.name open_bars) rows
