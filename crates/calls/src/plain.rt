@@ -43,60 +43,28 @@ impl PlainGrid {
     pub fn make(&mut self, alloc: Global, call: Call) -> Result<(), AllocError> {
         match call {
             Call::Putc(row, cell, character, role) => {
-                let mut text = String::new(alloc);
-                text.push(character)?;
-                write(
-                    alloc,
-                    &mut self.rows,
-                    row,
-                    cell as usize,
-                    text.as_str(),
-                    role,
-                )
+                write_character(alloc, &mut self.rows, row, cell as usize, character, role)
             }
             Call::Puts(row, cell, text, role) => {
                 write(alloc, &mut self.rows, row, usize::from(cell), text, role)
             }
-            Call::Append(row, text, role) => {
-                let end = match self.rows.get(usize::from(row)) {
-                    Some(cells) => cells.len(),
-                    None => 0,
-                };
-                write(alloc, &mut self.rows, row, end, text, role)
-            }
+            Call::Append(row, text, role) => append(alloc, &mut self.rows, row, text, role),
             Call::Replace(row, start, end, text) => {
-                let (row, start, end) = (usize::from(row), usize::from(start), usize::from(end));
-                if row < self.rows.len() && start < end && end <= self.rows[row].len() {
-                    let cells = replaced(alloc, &self.rows[row], start, end, text)?;
-                    self.rows[row] = cells;
-                }
-                Ok(())
+                replace(alloc, &mut self.rows, row, (start, end), text)
             }
             Call::SetStyle(row, cell, role, overwrite) => {
                 let end = cell.saturating_add(1);
-                change_row(
-                    &mut self.rows,
-                    row,
-                    cell,
-                    end,
-                    Change::Restyle(role, overwrite),
-                );
+                let change = Change::Restyle(role, overwrite);
+                change_row(&mut self.rows, row, cell, end, change);
                 Ok(())
             }
             Call::SetStyleRange(row, start, end, role, overwrite) => {
-                let (row, start, end) = (usize::from(row), usize::from(start), usize::from(end));
-                change_row(
-                    &mut self.rows,
-                    row,
-                    start,
-                    end,
-                    Change::Restyle(role, overwrite),
-                );
+                let change = Change::Restyle(role, overwrite);
+                change_range(&mut self.rows, row, (start, end), change);
                 Ok(())
             }
             Call::Link(row, start, end, url) => {
-                let (row, start, end) = (usize::from(row), usize::from(start), usize::from(end));
-                change_row(&mut self.rows, row, start, end, Change::Link(url));
+                change_range(&mut self.rows, row, (start, end), Change::Link(url));
                 Ok(())
             }
         }
@@ -120,6 +88,35 @@ impl PlainGrid {
         }
         Ok(text)
     }
+}
+
+/// Writes a character, and adds the rows and cells that it needs.
+fn write_character(
+    alloc: Global,
+    rows: &mut Vec<Vec<PlainCell>>,
+    row: u8,
+    at: usize,
+    character: char,
+    role: ElementStyle,
+) -> Result<(), AllocError> {
+    let mut text = String::new(alloc);
+    text.push(character)?;
+    write(alloc, rows, row, at, text.as_str(), role)
+}
+
+/// Writes a text after the last cell of a row.
+fn append(
+    alloc: Global,
+    rows: &mut Vec<Vec<PlainCell>>,
+    row: u8,
+    text: &str,
+    role: ElementStyle,
+) -> Result<(), AllocError> {
+    let end = match rows.get(usize::from(row)) {
+        Some(cells) => cells.len(),
+        None => 0,
+    };
+    write(alloc, rows, row, end, text, role)
 }
 
 /// Writes a text, if it has a character, and adds the rows and cells that it needs.
@@ -171,6 +168,23 @@ fn write_cells(
     Ok(())
 }
 
+/// Puts a text in place of some cells of a row, where the row holds them all.
+fn replace(
+    alloc: Global,
+    rows: &mut Vec<Vec<PlainCell>>,
+    row: u8,
+    range: (u8, u8),
+    text: &str,
+) -> Result<(), AllocError> {
+    let row = usize::from(row);
+    let (start, end) = (usize::from(range.0), usize::from(range.1));
+    if row < rows.len() && start < end && end <= rows[row].len() {
+        let cells = replaced(alloc, &rows[row], start, end, text)?;
+        rows[row] = cells;
+    }
+    Ok(())
+}
+
 /// The cells of a row with a text in place of some.
 fn replaced(
     alloc: Global,
@@ -202,6 +216,12 @@ fn replaced(
 enum Change {
     Restyle(ElementStyle, bool),
     Link(&'static str),
+}
+
+/// Changes the cells of a row that are there, from the first number of a range to before the second.
+fn change_range(rows: &mut Vec<Vec<PlainCell>>, row: u8, range: (u8, u8), change: Change) {
+    let (start, end) = (usize::from(range.0), usize::from(range.1));
+    change_row(rows, usize::from(row), start, end, change);
 }
 
 /// Changes the cells of a row from `start` to before `end` that are there.
