@@ -79,7 +79,7 @@ fn steps_after_text(source: &str, byte: usize) -> usize {
     usize::from(text_place(source, byte) < byte)
 }
 
-/// The characters of a line before the end of a text, if so many stand before its beginning.
+/// The characters of a line before the end of a text, if this many stand before its beginning.
 fn chars_after(before: usize, text: &str) -> usize {
     match text.rsplit_once('\n') {
         Some((_, line)) => char_count(line),
@@ -157,7 +157,7 @@ fn push_stretch(
     Ok(())
 }
 
-/// Adds lines without stretches until there are so many.
+/// Adds lines without stretches until there are this many.
 fn open_lines(
     alloc: Global,
     lines: &mut Vec<Vec<SubstitutionHighlight>>,
