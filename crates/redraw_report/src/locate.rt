@@ -151,7 +151,7 @@ fn place_after(bytes: &[u8], units: usize, unit: Unit) -> Place
     }
 }
 
-/// How many units a character counts, told at its first byte; 0 at the others.
+/// How many units a character counts, at its first byte; 0 at the others.
 fn units_at(byte: u8, unit: Unit) -> usize
     ensures value { result ≡ spec.units_at unit byte }
 {

@@ -17,7 +17,7 @@ use snippet_style::LevelInner;
 use snippet_text::{CowStr, normalize_untrusted_str};
 use std::alloc::{AllocError, Global};
 
-/// How many edits of which one is to be made are shown; of more it is told how many there are.
+/// How many edits are shown, of which one is to be made; where there are more, a message says how many more.
 const SHOWN_OFFERS: usize = 4;
 
 /// The level that a severity is drawn by.
