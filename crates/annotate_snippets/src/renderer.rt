@@ -256,7 +256,7 @@ impl Renderer {
     pub fn render(&self, alloc: Global, groups: Report<'_>) -> Result<String, RenderError>
         requires fits { ReportFits groups.now }
 
-        // A report is refused for the first reason in order: that the short form misses a title, or a fault of what it holds.
+        // A report is refused for the first reason in order: that the short form lacks a title, or a fault of what it holds.
         ensures refused { IfSome (spec.first_refusal self.now groups.now) (λ refusal. result ≡ Err refusal) }
 
         // One within bounds gives a text where memory is found.
@@ -289,7 +289,7 @@ impl Renderer {
     ) -> Result<Vec<String>, RenderError>
         requires fits { ReportFits groups.now }
 
-        // A report is refused for the first reason in order: that the short form misses a title, or a fault of what it holds.
+        // A report is refused for the first reason in order: that the short form lacks a title, or a fault of what it holds.
         ensures refused { IfSome (spec.first_refusal self.now groups.now) (λ refusal. result ≡ Err refusal) }
 
         // One within bounds gives its texts where memory is found.

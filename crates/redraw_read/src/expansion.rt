@@ -48,7 +48,7 @@ pub fn shown_place(span: &Value) -> &Value {
     }
 }
 
-/// The call around a place that is told beside it, and how: none where the place is shown in it.
+/// The call around a place that is shown beside it, and how: none where the place is shown in it.
 pub fn told_call(span: &Value) -> Option<(&Value, &'static str)> {
     if !has_text(span) {
         return None;

@@ -1,4 +1,4 @@
-//! Where the places that a tool told of are, in the sources that are at hand.
+//! Where the places that a tool names are, in the sources that are at hand.
 
 use crate::sources::{Shelf, Source, Sources};
 use redraw_report::diagnostic::{Carried, Child, Diagnostic, Edit, FileSpan, Region};
@@ -68,7 +68,7 @@ impl<'a> Placing<'a> {
         }
     }
 
-    /// The finding that a diagnostic tells.
+    /// The finding that a diagnostic reports.
     pub fn finding<S: Shelf + Drop>(
         &mut self,
         sources: &'a Sources<S>,
@@ -88,7 +88,7 @@ impl<'a> Placing<'a> {
         })
     }
 
-    /// The remark that a child tells.
+    /// The remark that a child makes.
     fn remark<S: Shelf + Drop>(
         &mut self,
         sources: &'a Sources<S>,

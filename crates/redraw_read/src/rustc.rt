@@ -33,7 +33,7 @@ pub fn diagnostic_of(node: &Node<'_, '_>) -> Result<Diagnostic, Fault> {
     })
 }
 
-/// Adds what is told of the macros that a diagnostic originates in, before the edits that are suggested.
+/// Adds the notes on the macros that a diagnostic originates in, before the edits that are suggested.
 fn add_macro_note(
     node: &Node<'_, '_>,
     macros: Macros<'_>,
@@ -58,7 +58,7 @@ fn add_macro_note(
     Ok(())
 }
 
-/// The places of a diagnostic, and the calls of macros that are told beside them.
+/// The places of a diagnostic, and the calls of macros that are shown beside them.
 fn spans_of(node: &Node<'_, '_>) -> Result<Vec<FileSpan>, Fault> {
     let field = node.needed("spans", Expectation::List)?;
     let values = listed(node, "spans")?;
@@ -72,7 +72,7 @@ fn spans_of(node: &Node<'_, '_>) -> Result<Vec<FileSpan>, Fault> {
     Ok(spans)
 }
 
-/// Adds the call of a macro that is told beside a primary place, where there is one and it isn't there yet.
+/// Adds the call of a macro that is shown beside a primary place, where there is one and it isn't there yet.
 fn add_call(node: &Node<'_, '_>, spans: &mut Vec<FileSpan>) -> Result<(), Fault> {
     if !node.flag("is_primary")? {
         return Ok(());

@@ -1,4 +1,4 @@
-//! What a tool told of one finding, whatever format it wrote it in.
+//! What a tool reports of one finding, in whatever format it wrote that.
 
 /// One finding: what is wrong, where, and what else is said of it.
 #[derive(Drop)]

@@ -26,7 +26,7 @@ pub enum Content<'a> {
     },
 }
 
-/// A finding, by places in sources, which are told by their index in a list.
+/// A finding, by places in sources, which are named by their index in a list.
 #[derive(Drop)]
 pub struct Finding<'a> {
     pub severity: Severity,

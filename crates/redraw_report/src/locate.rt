@@ -129,7 +129,7 @@ fn place_in_line(line: &[u8], column: usize, unit: Unit) -> Place
     place_after(line, column - 1, unit)
 }
 
-/// The place before which a text has so many units.
+/// The place before which a text has this many units.
 fn place_after(bytes: &[u8], units: usize, unit: Unit) -> Place
     ensures value { result ≡ place_from unit 0 bytes.now units }
     ensures within { result.byte ≤ length bytes.now }
@@ -151,7 +151,7 @@ fn place_after(bytes: &[u8], units: usize, unit: Unit) -> Place
     }
 }
 
-/// How many units a character counts, told at its first byte; 0 at the others.
+/// How many units a character counts, at its first byte; 0 at the others.
 fn units_at(byte: u8, unit: Unit) -> usize
     ensures value { result ≡ spec.units_at unit byte }
 {

@@ -12,7 +12,7 @@ use snippet_model::{Element, Patch, Snippet};
 use snippet_text::CowStr;
 use std::alloc::{AllocError, Global};
 
-/// How many edits of which one is to be made are shown; of more it is told how many there are.
+/// How many edits are shown, of which one is to be made; where there are more, a message says how many more.
 const SHOWN_OFFERS: usize = 4;
 
 /// The patch of an edit.

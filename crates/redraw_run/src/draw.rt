@@ -52,14 +52,14 @@ pub struct Drawing<'r, 'w, S: Drop, W, V> {
     pub out: &'r mut W,
     pub err: &'r mut V,
     pub tally: Tally,
-    /// The input that is read, as it is told.
+    /// The name of the input that is read, as messages give it.
     pub input: &'w str,
     /// The line of it that is read, from 1; 0 where it isn't read by lines.
     pub line: u64,
 }
 
 impl<S: Shelf + Drop, W: Write, V: Write> Drawing<'_, '_, S, W, V> {
-    /// Draws what a part of the input tells, or tells what is wrong with it.
+    /// Draws what a part of the input reports, or says what is wrong with it.
     pub fn finding(&mut self, read: Result<Diagnostic, Fault>) -> Result<(), Stop> {
         match read {
             Ok(diagnostic) => self.draw(&diagnostic),
@@ -109,7 +109,7 @@ impl<S: Shelf + Drop, W: Write, V: Write> Drawing<'_, '_, S, W, V> {
         }
     }
 
-    /// Draws the finding that a diagnostic tells.
+    /// Draws the finding that a diagnostic reports.
     pub fn draw(&mut self, diagnostic: &Diagnostic) -> Result<(), Stop> {
         load_files(&mut self.sources, diagnostic)?;
         let drawn = drawn_of(self.alloc, &self.renderer, &self.sources, diagnostic)?;

@@ -38,7 +38,7 @@ fn draw_run<S: Shelf + Drop, W: Write, V: Write>(
     Ok(())
 }
 
-/// Draws what a result of a run tells, after what is wrong with it.
+/// Draws what a result of a run reports, after what is wrong with it.
 fn draw_result<'v, S: Shelf + Drop, W: Write, V: Write>(
     run: &Run<'v, '_>,
     reported: &Node<'v, '_>,

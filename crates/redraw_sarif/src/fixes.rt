@@ -65,7 +65,7 @@ fn add_fix(
     Ok(())
 }
 
-/// The edits of a fix, in all files; `None` where something is wrong with one of them, which is told: the others alone would be
+/// The edits of a fix, in all files; `None` where something is wrong with one of them, which is reported: the others alone would be
 /// another fix.
 fn edits_of(
     fix: &Node<'_, '_>,

@@ -6,7 +6,7 @@ use redraw_report::diagnostic::{Carried, LineRegion, Region, Unit};
 use std::alloc::{AllocError, Global};
 
 /// The part of a file that a region names: by lines and columns, else by characters, else by bytes. Where it says none of
-/// these, that is told.
+/// these, that is reported.
 pub fn region_of(region: &Node<'_, '_>, unit: Unit, troubles: &mut Troubles) -> Option<Region> {
     if let Some(start_line) = region.from_one("startLine", troubles) {
         return Some(Region::Lines(line_region(region, start_line, unit, troubles)));
@@ -60,7 +60,7 @@ pub fn carried_of(
     }
 }
 
-/// The lines that a region's snippet holds; none of a region that isn't told by its lines. Before a snippet that begins within
+/// The lines that a region's snippet holds; none of a region that isn't given by its lines. Before a snippet that begins within
 /// its first line, blanks stand for what comes before it.
 pub fn carried_in(
     alloc: Global,
@@ -72,7 +72,7 @@ pub fn carried_in(
     else {
         return Ok(None);
     };
-    // What is wrong with the region itself is told where it is read.
+    // What is wrong with the region itself is reported where it is read.
     let mut told_elsewhere = Troubles::new(alloc);
     let lines = line_region(region, first_line, unit, &mut told_elsewhere);
     let before = lines.start_column.unwrap_or(1).saturating_sub(1);

@@ -46,7 +46,7 @@ fn text_of_string<'v>(object: Option<&'v Value>, strings: &str, id: &str) -> Opt
     object?.get(strings)?.get(id)?.get("text")?.as_str()
 }
 
-/// The rule of a result: by its number, or else by its id. Where it is the number of no rule, that is told.
+/// The rule of a result: by its number, or else by its id. Where it is the number of no rule, that is reported.
 pub fn rule_of<'v>(run: &'v Value, reported: &Node<'v, '_>, troubles: &mut Troubles) -> Rule<'v> {
     let own = reported.number("ruleIndex", troubles);
     let index = match reported.object("rule", troubles) {

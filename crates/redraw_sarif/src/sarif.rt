@@ -30,7 +30,7 @@ pub struct Run<'v, 'p> {
 }
 
 impl<'v, 'p> Run<'v, 'p> {
-    /// The run that is told here. What is no object is a run without results, and is told.
+    /// The run that this value describes. A value that is no object is a run without results, and is reported.
     pub fn new(node: Node<'v, 'p>, troubles: &mut Troubles) -> Run<'v, 'p> {
         let _is_told = node.is_object(troubles);
         let unit = unit_of(&node, troubles);
@@ -42,7 +42,7 @@ impl<'v, 'p> Run<'v, 'p> {
         self.node.list("results", troubles)
     }
 
-    /// What a result of the run tells; `None` of what is no object, which is told.
+    /// What a result of the run reports; `None` for a value that is no object, which is reported as wrong.
     pub fn finding(
         &self,
         alloc: Global,
@@ -74,7 +74,7 @@ fn unit_of(run: &Node<'_, '_>, troubles: &mut Troubles) -> Unit {
     }
 }
 
-/// What a result tells.
+/// What a result reports.
 fn diagnostic_of(
     reported: &Node<'_, '_>,
     context: &Context<'_>,

@@ -18,7 +18,7 @@ struct Address<'v> {
 
 /// The path of the file at the artifact's location in an object's field `artifactLocation`. It may be relative: to where, the
 /// log doesn't say. `None` where the location isn't there, or has neither an address nor the number of an artifact that has
-/// one; both is told.
+/// one; both are reported.
 pub fn path_in(
     alloc: Global,
     object: &Node<'_, '_>,

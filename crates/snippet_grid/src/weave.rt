@@ -60,7 +60,7 @@ fn row_end(runs: &[Run<'_>], from: usize, row: usize) -> usize
     to
 }
 
-/// Adds a row of so many cells to a text: what its runs hold, and unstyled spaces between them.
+/// Adds a row of this many cells to a text: what its runs hold, and unstyled spaces between them.
 fn weave_row(
     out: &mut String,
     text: &str,

@@ -9,7 +9,7 @@ use snippet_view::is_trivial;
 
 /// The last line up to which a span of several lines has bars after its first one, which it is where there are none.
 ///
-/// At most four lines after the first one are shown, and not the trivial ones at their end.
+/// At most the three lines after the first one have bars, and not the trivial ones at their end.
 pub(crate) fn bars_end(source: &SourceMap<'_>, first: usize, last: usize) -> usize
     requires ordered { first ≤ last }
     requires within { last < length (source_lines source.now.text) }
@@ -36,7 +36,7 @@ pub(crate) fn has_closing_bar(source: &SourceMap<'_>, first: usize, last: usize)
     beginning(first, last) < last - 1 && !is_trivial_line(source, last - 1)
 }
 
-/// The line up to which the beginning of a span is shown: four lines after the first at most.
+/// The line before which the beginning of a span ends: the fourth after the first, or the last one if that comes sooner.
 fn beginning(first: usize, last: usize) -> usize
     requires ordered { first ≤ last }
     ensures value { result ≡ min (first + 4) last }

@@ -107,7 +107,7 @@ fn steps_after_text(source: &str, byte: usize) -> usize
     usize::from(text_place(source, byte) < byte)
 }
 
-/// The characters of a line before the end of a text, if so many stand before its beginning.
+/// The characters of a line before the end of a text, if this many stand before its beginning.
 fn chars_after(before: usize, text: &str) -> usize
     ensures value { (front : List ℕ) → IsUtf8 front → before ≡ capped (length (chars (after_last_lf front)))
         → result ≡ capped (length (chars (after_last_lf (front ++ text.now)))) }
@@ -226,7 +226,7 @@ fn push_stretch(
     Ok(())
 }
 
-/// Adds lines without stretches until there are so many.
+/// Adds lines without stretches until there are this many.
 fn open_lines(
     alloc: Global,
     lines: &mut Vec<Vec<SubstitutionHighlight>>,

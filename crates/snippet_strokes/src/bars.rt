@@ -162,7 +162,7 @@ fn side_end(bars: &[OpenBar], from: usize) -> usize
     to
 }
 
-/// Draws a part of so many bars that stand side by side, in one role, in each row from this one on.
+/// Draws a part of this many bars that stand side by side, in one role, in each row from this one on.
 fn draw_side(
     alloc: Global,
     buffer: &mut StyledBuffer,

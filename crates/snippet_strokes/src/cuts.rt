@@ -55,7 +55,7 @@ pub(crate) fn overlapping(
     Ok(overlapped)
 }
 
-/// Whether one of these entries is wide, in a room of so many columns.
+/// Whether one of these entries is wide, in a room of this many columns.
 fn has_wide(room: usize, decor: DecorStyle, placed: &[PlacedEntry]) -> bool
     requires columns { All (λ e. HasPlace e.entry) placed.now }
 {
@@ -169,7 +169,7 @@ fn cut_entry(
     cut_stretch(buffer, layout.decor, row, start, end)
 }
 
-/// Whether an entry is wide, in a room of so many columns.
+/// Whether an entry is wide, in a room of this many columns.
 fn is_wide(room: usize, decor: DecorStyle, entry: &LineAnnotation) -> bool
     requires columns { HasPlace entry.now }
     ensures value { result ≡ is_wide_entry room (length (placeholder_of decor)) entry.now }
@@ -180,7 +180,7 @@ fn is_wide(room: usize, decor: DecorStyle, entry: &LineAnnotation) -> bool
         && width > 10 + char_count(decor.placeholder())
 }
 
-/// How many columns stay at each end of an entry that is cut, in a room of so many columns.
+/// How many columns stay at each end of an entry that is cut, in a room of this many columns.
 fn end_columns(room: usize) -> usize
     ensures few { result ≤ room + 5 }
 {

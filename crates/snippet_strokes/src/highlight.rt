@@ -10,7 +10,7 @@ use snippet_grid::StyledBuffer;
 use snippet_view::{LineAnnotation, LineAnnotationType};
 use std::alloc::AllocError;
 
-/// Gives the characters of a source row, of which so many columns are dropped on the left, that entries ask to highlight the
+/// Gives the characters of a source row, of which this many columns are dropped on the left, that entries ask to highlight the
 /// role of these entries' marks, primary ones over those for context. Starts and ends of spans of several lines ask for nothing.
 ///
 /// # Errors

@@ -7,7 +7,7 @@ use snippet_grid::StyledBuffer;
 use snippet_style::ElementStyle;
 use std::alloc::{AllocError, Global};
 
-/// A text that holds a glyph so many times.
+/// A text that holds a glyph this many times.
 ///
 /// # Errors
 ///

@@ -55,7 +55,7 @@ impl<'a> PlacedEntry<'a> {
     }
 }
 
-/// The entries of a line from right to left, each with the place of its label, where so many columns of the line are
+/// The entries of a line from right to left, each with the place of its label, where this many columns of the line are
 /// dropped on the left.
 ///
 /// ```text
@@ -108,7 +108,7 @@ fn labelled_entries<'a>(
     Ok(labelled)
 }
 
-/// An entry, where so many columns of its line are dropped on the left.
+/// An entry, where this many columns of its line are dropped on the left.
 fn shifted<'a>(entry: &LineAnnotation<'a>, dropped: usize) -> LineAnnotation<'a>
     ensures value { result ≡ shifted dropped entry.now }
 {
@@ -247,7 +247,7 @@ fn asks(placed: &PlacedEntry) -> bool
     placed.has_label() || placed.takes_space()
 }
 
-/// The position of an entry in front of others, where this one is reached.
+/// The position of an entry before others, where this one is reached.
 pub(crate) fn position_at(reached: usize, entry: &PlacedEntry, others: &[PlacedEntry]) -> usize
     requires columns { All (λ e. e.entry.end.display < 2 ^ 60) others.now }
     ensures value { result ≡ spec.position_at reached entry.now others.now }
@@ -336,7 +336,7 @@ fn reaches(position: usize, entry: &PlacedEntry, other: &PlacedEntry) -> bool
         && (entry.has_label() || (position == 0 && ends_no_later(other, entry)))
 }
 
-/// Whether one of two entries starts in the columns of the other, those of the first being so many more.
+/// Whether one of two entries starts in the columns of the other, those of the first being this many more.
 pub(crate) fn overlap(first: &PlacedEntry, more: usize, second: &PlacedEntry) -> bool
     requires room { first.now.entry.end.display + more < 2 ^ 64 }
     ensures value { result ≡ spec.do_overlap first.now more second.now }

@@ -127,7 +127,7 @@ fn draw_line(
     Ok(below)
 }
 
-/// Draws the strokes of a line, of which so many columns are dropped on the left, where these bars start or end on it. Its
+/// Draws the strokes of a line, of which this many columns are dropped on the left, where these bars start or end on it. Its
 /// source row is the last row of the grid. A line that is marked as a whole has no strokes but the tops of its bars.
 fn draw_entries(
     alloc: Global,

@@ -93,7 +93,7 @@ fn draw_stem(
     Ok(())
 }
 
-/// The glyph of an entry's stem, so many rows below the row of the marks: at its foot another one.
+/// The glyph of an entry's stem, this many rows below the row of the marks; at its foot it is another one.
 fn stem_glyph(placed: &PlacedEntry, foot: char, stem: char, below: usize) -> char
     ensures value { result ≡ (if below == placed.now.position then foot else stem) }
 {

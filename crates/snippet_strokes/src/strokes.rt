@@ -21,10 +21,10 @@ use snippet_grid::StyledBuffer;
 use snippet_view::LineAnnotation;
 use std::alloc::{AllocError, Global};
 
-/// Draws the strokes of a line, of which so many columns are dropped on the left, below its source row, which has this number
+/// Draws the strokes of a line, of which this many columns are dropped on the left, below its source row, which has this number
 /// and is the last one: none if the line has no entries, and else the row of its marks and the rows of the labels that hang
 /// from them and of the lines that lead to bars. Where the window closes with the line, its last row begins with the closing
-/// glyph; a line with no entries then has a row for it. Wide spans are cut to a room of so many columns.
+/// glyph; a line with no entries then has a row for it. Wide spans are cut to a room of this many columns.
 ///
 /// ```text
 ///       | --^^--             │ ┬─┯━──             1 | |   b)             1 │ ┃   b)

@@ -68,7 +68,7 @@ fn draw_glyph(
     Ok(())
 }
 
-/// Draws the row that a suggestion ends with, so many rows below all that stands in the grid, and gives its number.
+/// Draws the row that a suggestion ends with, this many rows below all that stands in the grid, and gives its number.
 ///
 /// ```text
 ///      ╰╴      at the end of a group

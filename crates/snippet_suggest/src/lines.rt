@@ -148,7 +148,7 @@ fn line_at<'a>(lines: &[&'a str], k: usize) -> &'a str
     }
 }
 
-/// The number of the line so many lines after one.
+/// The number of the line this many lines after another.
 pub(crate) fn number_after(first: usize, lines: usize) -> usize
     ensures value { result ≡ number_after first lines }
 {

@@ -28,7 +28,7 @@ pub(crate) struct PatchColumns {
     width: usize,
 }
 
-/// How far columns move: so many to the right, and then so many to the left.
+/// How far columns move: first to the right, and then to the left.
 #[derive(Clone, Copy, Drop)]
 struct Shift {
     right: usize,

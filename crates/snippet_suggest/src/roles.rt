@@ -33,7 +33,7 @@ pub(crate) fn paint_stretches(
     Ok(())
 }
 
-/// The cell of a character with so many tabs before it, each of which takes four cells.
+/// The cell of a character with this many tabs before it, each of which takes four cells.
 fn stretch_cell(layout: SuggestionLayout, character: usize, tabs: usize) -> usize {
     layout
         .gutter

@@ -44,7 +44,7 @@ pub(crate) fn shown_lines(
     Ok(shown)
 }
 
-/// Which of so many lines are shown by themselves: those that a range holds, or all, if lines aren't folded.
+/// Which of this many lines are shown by themselves: those that a range holds, or all, if lines aren't folded.
 fn touched_table(
     alloc: Global,
     count: usize,

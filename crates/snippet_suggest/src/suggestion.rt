@@ -214,7 +214,7 @@ fn trimmed_span(source: &SourceMap<'_>, patches: &[TrimmedPatch<'_>]) -> Range<u
     match patches {
         [] => 0..source.source().len(),
         [only] => only.span.start..only.span.end,
-        // The patches stand apart, so the first starts in front of the end of the last.
+        // The patches stand apart, so the first starts before the end of the last.
         [first, .., last] => first.span.start.min(last.span.end)..last.span.end,
     }
 }

@@ -301,7 +301,7 @@ pub(crate) fn column_unless(plain: bool, loc: Loc) -> Option<usize>
     if plain { None } else { Some(loc.char + 1) }
 }
 
-/// Whether the first characters of a line, so many of them, are whitespace.
+/// Whether this many characters at the start of a line are whitespace.
 fn is_blank_before(line: Option<&str>, count: usize) -> bool
     ensures value { result ≡ spec.is_blank_before (option_copied line.entry) count }
 {
@@ -328,7 +328,7 @@ fn is_blank_to(line: &str, count: usize) -> bool
     true
 }
 
-/// Whether a line has so many characters, and nothing but whitespace after them.
+/// Whether a line has at least this many characters, and nothing but whitespace after them.
 fn is_blank_after(line: Option<&str>, count: usize) -> bool
     ensures value { result ≡ spec.is_blank_after (option_copied line.entry) count }
 {

@@ -104,7 +104,7 @@ impl<'a> TextForm<'a> {
         Ok(())
     }
 
-    /// Adds so many spaces without codes.
+    /// Adds this many spaces without codes.
     pub fn add_spaces(&mut self, count: usize) -> Result<(), AllocError>
         ensures added { OnOk result (self.new ≡ self.old ++ bare (replicate count 32)) }
     {
@@ -182,7 +182,7 @@ fn write_part(
     }
 }
 
-/// Adds so many spaces to a text.
+/// Adds this many spaces to a text.
 fn write_spaces(out: &mut String, count: usize) -> Result<(), AllocError>
     ensures added { OnOk result (string_bytes out.new ≡ string_bytes out.old ++ replicate count 32) }
 {

@@ -40,7 +40,7 @@ pub(crate) fn link_from<'a>(
     Ok(())
 }
 
-/// Adds so many spaces after the cells of a row, of which there are `end`.
+/// Adds this many spaces after the cells of a row, of which there are `end`.
 pub(crate) fn add_spaces(
     buffer: &mut StyledBuffer,
     row: usize,

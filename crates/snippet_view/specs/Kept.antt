@@ -34,7 +34,7 @@ is_trivial line = length (trimmed line) == 0 || is_bracket (trimmed line) || is_
 abbrev pub is_trivial_line : List ℕ → ℕ → Bool
 is_trivial_line source k = is_trivial (chars (text_at (source_lines source) k))
 
--- of a span of several lines: the line up to which its beginning is shown, four after the first at most
+-- of a span of several lines: the line before which its beginning ends, at most the fourth after the first
 abbrev pub beginning : List ℕ → Annotation → ℕ
 beginning source a = min (first_line source a + 4) (last_line source a)
 

@@ -13,7 +13,7 @@ use crate::margin::Margin;
 use crate::window::leading_whitespace;
 use snippet_text::str_width;
 
-/// The margin for the lines of a snippet, in a room of so many columns. Bars take no part.
+/// The margin for the lines of a snippet, in a room of this many columns. Bars take no part.
 pub fn margin_for(lines: &[AnnotatedLineInfo], room: usize) -> Margin
     requires texts { All (λ info. length info.line.now < 2 ^ 56) lines.now }
     requires labels { All (λ info. All (λ e. IfSome e.label (λ t. length t.now < 2 ^ 56)) info.annotations.items)

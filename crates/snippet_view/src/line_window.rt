@@ -34,7 +34,7 @@ pub struct LineWindow<'a> {
     pub end: Option<usize>,
 }
 
-/// The window of a line of so many columns, between the bounds of a margin. Of the line's normalised text `text` is the part,
+/// The window of a line of this many columns, between the bounds of a margin. Of the line's normalised text `text` is the part,
 /// after `skipped` columns, that holds the window.
 pub fn window_of<'a>(
     margin: Margin,
@@ -102,7 +102,7 @@ fn uncovered<'a>(margin: Margin, columns: usize, inner: &'a str) -> (Option<usiz
     }
 }
 
-/// The width of the fewest characters that reach so many columns, or of all, and what stands after them.
+/// The width of the fewest characters that reach this many columns, or of all, and what stands after them.
 fn after_columns(text: &str, columns: usize) -> (usize, &str)
     requires few { columns < 2 ^ 60 }
     ensures width { let cs = chars text.now in result.0 ≡ width_of (take (reaching columns cs) cs) }
@@ -113,7 +113,7 @@ fn after_columns(text: &str, columns: usize) -> (usize, &str)
     (width, &text[at..])
 }
 
-/// Where the fewest characters end that reach so many columns, or all, in bytes and in columns.
+/// Where the fewest characters end that reach this many columns, or all, in bytes and in columns.
 pub(crate) fn reaching_end(text: &str, columns: usize) -> (usize, usize)
     requires few { columns < 2 ^ 60 }
     ensures bytes { let cs = chars text.now in result.0 ≡ bytes_of (take (reaching columns cs) cs) }
@@ -132,7 +132,7 @@ pub(crate) fn reaching_end(text: &str, columns: usize) -> (usize, usize)
     (at, width)
 }
 
-/// The first characters that fit in so many columns, and their width.
+/// The first characters that fit in this many columns, and their width.
 fn within_columns(text: &str, columns: usize) -> (&str, usize)
     ensures value { let cs = chars text.now in chars result.0.now ≡ take (fitting columns cs) cs }
     ensures width { result.1 ≡ width_of (chars result.0.now) }
@@ -141,7 +141,7 @@ fn within_columns(text: &str, columns: usize) -> (&str, usize)
     (&text[..at], width)
 }
 
-/// Where the last of the characters ends that fit in so many columns, in bytes and in columns.
+/// Where the last of the characters ends that fit in this many columns, in bytes and in columns.
 pub(crate) fn fitting_end(text: &str, columns: usize) -> (usize, usize)
     ensures bytes { let cs = chars text.now in result.0 ≡ bytes_of (take (fitting columns cs) cs) }
     ensures width { let cs = chars text.now in result.1 ≡ width_of (take (fitting columns cs) cs) }
@@ -172,7 +172,7 @@ fn walked_end(text: &str, columns: usize) -> (usize, usize)
     (at, columns - left)
 }
 
-/// The width of a text, if it fits in so many columns and has no more bytes than these, as most texts that fit: then no walk
+/// The width of a text, if it fits in this many columns and has no more bytes than these, as most texts that fit: then no walk
 /// over its characters is needed.
 fn whole_width(text: &str, columns: usize) -> Option<usize>
     ensures value { IfSome result (λ width. width ≡ width_of (chars text.now)) }
@@ -185,7 +185,7 @@ fn whole_width(text: &str, columns: usize) -> Option<usize>
     if width <= columns { Some(width) } else { None }
 }
 
-/// How many characters, up to the last one, of a text of this width reach so many columns: the fewest, or all.
+/// How many characters, up to the last one, of a text of this width reach this many columns: the fewest, or all.
 fn last_reaching(text: &str, width: usize, columns: usize) -> usize
     requires width { width ≡ width_of (chars text.now) }
     ensures value { result ≡ reaching_last columns (chars text.now) }

@@ -65,7 +65,7 @@ fn after_fewer(text: &str, columns: usize) -> (usize, &str)
     }
 }
 
-/// The fewest characters of a text of this width that reach so many columns, or all.
+/// The fewest characters of a text of this width that reach this many columns, or all.
 fn part_reaching(text: &str, width: usize, columns: usize) -> &str
     requires width { width ≡ width_of (chars text.now) }
     requires few { columns < 2 ^ 60 }

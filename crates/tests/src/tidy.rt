@@ -156,7 +156,7 @@ impl Write for Full {
     }
 }
 
-/// What is told of so many lines, each an `x` and a blank; there are 10,000 to 99,999 of them.
+/// What is printed for this many lines, each an `x` and a blank; there are 10,000 to 99,999 of them.
 fn many_told(alloc: Global, lines: usize) -> Result<String, AllocError> {
     let mut told = String::from_str(
         alloc,

@@ -22,7 +22,7 @@ pub enum GroupPosition {
 }
 
 impl GroupPosition {
-    /// The place of the group of this number, from 0, among so many.
+    /// The place of the group of this number, from 0, among this many groups.
     pub fn at(count: usize, index: usize) -> GroupPosition
         ensures value { result ≡ place_at count index }
     {

@@ -16,7 +16,7 @@ pub struct Frame {
     pub code: usize,
 }
 
-/// The frame in a gutter of this width, where so many bars stand side by side.
+/// The frame in a gutter of this width, where this many bars stand side by side.
 ///
 /// ```text
 ///     1 |   f(a,      one bar: the code stands two cells farther right

@@ -11,7 +11,7 @@ use snippet_model::snippet::{Annotation, Element, Group, Marker, Patch, Snippet}
 use snippet_parts::{SpanFault, check_span, line_feed_count, newline_count};
 use snippet_splice::check_patches;
 
-/// The refusal of a report in a form, if it is refused: for want of a title where the form needs one, then for its first fault,
+/// The refusal of a report in a form, if it is refused: for a missing title where the form needs one, then for its first fault,
 /// which is the same in each form.
 pub fn first_refusal(form: Form, groups: &[Group]) -> Option<RenderError>
     ensures value { result ≡ spec.refusal_in form groups.now }
@@ -115,7 +115,7 @@ fn first_of_suggestion(
 fn end_fault(group: usize, element: usize, line_start: usize, source: &str) -> Option<RenderError>
     ensures value { result ≡ first_of (number_faults group element (number_after_lines line_start source.now)) }
 {
-    // A source has at most one line more than bytes. Where so many fit, they needn't be counted.
+    // A source has at most one line more than bytes. Where that many fit, they needn't be counted.
     if source.len() < usize::MAX - line_start {
         return None;
     }
@@ -133,7 +133,7 @@ fn patched_end_fault(
     ensures value { result ≡ first_of (number_faults group element (number_after_lines line_start source.now + added_lines patches.now)) }
 {
     match greatest_end(line_start, source, patches) {
-        // Where so many would fit, the lines needn't be counted.
+        // Where that many would fit, the lines needn't be counted.
         Some(_) => None,
         None => {
             missing_number(
