@@ -5,6 +5,9 @@ use Rattle.snippet_splice.specs.Edits.{Edit, trimmed_edit, trimmed_edits, patche
 use Rattle.snippet_splice.specs.Overlap.{overlap, first_overlap}
 use Rattle.snippet_splice.specs.Shown.{shown_text}
 use Rattle.snippet_splice.specs.Spliced.{last_line_reached, spliced_text, line_ranges}
+use Rattle.snippet_splice.specs.Stretches.{new_stretches}
+use Rattle.snippet_splice.specs.declared.stretches.SubstitutionHighlight.{SubstitutionHighlight}
+use Rattle.std.specs.Str.{chars}
 use Rattle.snippet_lines.specs.Lines.{start_of}
 use Rattle.snippet_lines.specs.Place.{line_of}
 
@@ -99,3 +102,32 @@ inside_line_end = refl
 line_ends : shown_text false (97 ∷ 13 ∷ 10 ∷ 98 ∷ 13 ∷ 10 ∷ 99 ∷ []) (edit 3 3 (120 ∷ []) ∷ []) ≡ 97 ∷ 10 ∷ 120 ∷ 98 ∷ 13 ∷ 10 ∷ 99 ∷ []
 unfolding shown_text trimmed_edit sandwich kept_before start_of line_of
 line_ends = refl
+
+-- ---- stretches that are written anew
+
+abbrev stretch : ℕ → ℕ → SubstitutionHighlight
+stretch start end = record { start = start; end = end }
+
+-- of `foo()` with `x` put in at 4 the fifth character
+stretch_of_an_argument : new_stretches false (102 ∷ 111 ∷ 111 ∷ 40 ∷ 41 ∷ []) (edit 4 4 (120 ∷ []) ∷ []) 0 ≡ stretch 4 5 ∷ []
+unfolding new_stretches trimmed_edit sandwich kept_before chars
+stretch_of_an_argument = refl
+
+-- a tab takes four
+stretch_of_a_tab : new_stretches false (97 ∷ []) (edit 0 0 (9 ∷ []) ∷ []) 0 ≡ stretch 0 4 ∷ []
+unfolding new_stretches trimmed_edit sandwich kept_before chars
+stretch_of_a_tab = refl
+
+-- of `ab` with `x`, LF, `y` put in at 1 the second character of the first line, and the first of the second line
+stretches_of_two_lines : new_stretches false (97 ∷ 98 ∷ []) (edit 1 1 (120 ∷ 10 ∷ 121 ∷ []) ∷ []) 0 ≡ stretch 1 2 ∷ []
+unfolding new_stretches trimmed_edit sandwich kept_before chars
+stretches_of_two_lines = refl
+
+stretches_of_the_second : new_stretches false (97 ∷ 98 ∷ []) (edit 1 1 (120 ∷ 10 ∷ 121 ∷ []) ∷ []) 1 ≡ stretch 0 1 ∷ []
+unfolding new_stretches trimmed_edit sandwich kept_before chars
+stretches_of_the_second = refl
+
+-- of `a b` with `x` put in at 0 and `y` at 2 the first character and, moved by that, the fourth
+stretches_of_two_edits : new_stretches false (97 ∷ 32 ∷ 98 ∷ []) (edit 0 0 (120 ∷ []) ∷ edit 2 2 (121 ∷ []) ∷ []) 0 ≡ stretch 0 1 ∷ stretch 3 4 ∷ []
+unfolding new_stretches trimmed_edit sandwich kept_before chars
+stretches_of_two_edits = refl
