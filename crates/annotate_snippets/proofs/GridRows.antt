@@ -3,12 +3,11 @@ use Rattle.std.proofs.Common.{◌≡◌, ℕ, ◌+◌, ◌<◌, All, Option, Non
 use Rattle.std.specs.List.{enumerate_from, slice_get}
 use Rattle.std.specs.Option.{option_copied, option_or}
 use Rattle.std.proofs.lemmas.Bool.{cases_lt}
-use Rattle.std.proofs.lemmas.List.{length-append, length-map, map-append, take_all}
+use Rattle.std.proofs.lemmas.List.{length-append, length-map, map-append, take_all, take_more}
 use Rattle.std.proofs.lemmas.List.FromFn.{length-enumerate_from}
 use Rattle.std.proofs.lemmas.Option.{slice_get-get_or, slice_get_within}
 use Rattle.snippet_model.specs.declared.snippet.Group.{Group}
 use Rattle.snippet_view.proofs.PartLemmas.{All-unmapped}
-use Rattle.snippet_suggest.proofs.DrawnLemmas.{next_of}
 use Rattle.annotate_snippets.specs.Around.{drawn_elements, file_of_group, place_at}
 use Rattle.annotate_snippets.specs.Drawn.{AreGridsOf, HasRoomFor, IsGroupGrid}
 use Rattle.annotate_snippets.specs.Gutter.{code_after, depth_of_group, frame_of, gutter_of_report}
@@ -84,7 +83,7 @@ turn_grid r groups ps n m i p frame place file grid grids new same turn frame_he
     let within : n < length groups = slice_get_within groups n g here in
     let found : Some (get_or groups n g) ≡ Some g = sym (slice_get-get_or groups n g within) ∙ here in
     let is : get_or groups n g ≡ g = cc in
-    let taken : take m groups ≡ take n groups ++ g ∷ [] = ap (λ k. take k groups) next ∙ next_of groups n g within ∙ ap (λ x. take n groups ++ x ∷ []) is in
+    let taken : take m groups ≡ take n groups ++ g ∷ [] = ap (λ k. take k groups) next ∙ take_more groups n g within ∙ ap (λ x. take n groups ++ x ∷ []) is in
     let whole : IsGroupGrid r (frame_of r groups g) (place_at (length groups) n) (file_of_group groups g) g grid.buffer =
     subst (λ f. IsGroupGrid r f (place_at (length groups) n) (file_of_group groups g) g grid.buffer) frame_here (subst (λ at_place. IsGroupGrid r frame at_place (file_of_group groups g) g grid.buffer) (place_here ∙ ap (place_at (length groups)) at) (subst (λ path. IsGroupGrid r frame place path g grid.buffer) file_here drawn)) in
     record {

@@ -2,35 +2,16 @@
 use Rattle.std.proofs.Common.{◌≡◌, ℕ, zero, suc, ◌+◌, ◌<◌, List, [], ◌∷◌, ◌++◌, length, take, get_or, refl, sym, ap, subst, ◌∙◌, arith}
 use Rattle.std.specs.List.{AllZip, join_with_byte}
 use Rattle.std.proofs.Math.Seq.{take-suc}
-use Rattle.std.proofs.lemmas.List.{append_assoc}
+use Rattle.std.proofs.lemmas.List.{append_assoc, take_more}
 use Rattle.snippet_grid.specs.Woven.{Prints}
 use Rattle.snippet_style.specs.declared.stylesheet.Stylesheet.{Stylesheet}
 use Rattle.annotate_snippets.specs.Page.{PrintsGrids}
 use Rattle.annotate_snippets.specs.declared.renderer.graphic.GroupGrid.{GroupGrid}
-
--- what holds of the items of two lists, place by place, and what follows from it
-pub AllZip-weaker : {A B : Type 0} (P Q : A → B → Type 0) → ((x : A) (y : B) → P x y → Q x y) → (xs : List A) (ys : List B) → AllZip P xs ys → AllZip Q xs ys
-AllZip-weaker P Q weaker [] [] holds = tt
-AllZip-weaker P Q weaker [] (y ∷ ys) holds = absurd holds
-AllZip-weaker P Q weaker (x ∷ xs) [] holds = absurd holds
-AllZip-weaker P Q weaker (x ∷ xs) (y ∷ ys) holds =
-    (weaker x y holds.0, AllZip-weaker P Q weaker xs ys holds.1)
-
--- one more of both: the next item of the first list, and an item after the second
-pub AllZip-last : {A B : Type 0} (P : A → B → Type 0) (xs : List A) (ys : List B) (x : A) (y : B) → AllZip P xs ys → P x y → AllZip P (xs ++ x ∷ []) (ys ++ y ∷ [])
-AllZip-last P [] [] x y before last = (last, tt)
-AllZip-last P [] (z ∷ ys) x y before last = absurd before
-AllZip-last P (z ∷ xs) [] x y before last = absurd before
-AllZip-last P (v ∷ xs) (z ∷ ys) x y before last = (before.0, AllZip-last P xs ys x y before.1 last)
-
--- the items before one, and that one
-take-next : {A : Type 0} (xs : List A) (i : ℕ) (d : A) → i < length xs → take (i + 1) xs ≡ take i xs ++ get_or xs i d ∷ []
-take-next xs i d within =
-    ap (λ n. take n xs) (let e : i + 1 ≡ suc i = omega arith in e) ∙ take-suc xs i d within
+pub use Rattle.snippet_model.proofs.ZipLemmas.{AllZip-last, AllZip-weaker}
 
 pub AllZip-push : {A B : Type 0} (P : A → B → Type 0) (xs : List A) (i : ℕ) (d : A) → i < length xs → (ys new : List B) (y : B) → new ≡ ys ++ y ∷ [] → AllZip P (take i xs) ys → P (get_or xs i d) y → AllZip P (take (i + 1) xs) new
 AllZip-push P xs i d within ys new y pushed before last =
-    subst (λ zs. AllZip P zs new) (sym (take-next xs i d within)) (subst (λ zs. AllZip P (take i xs ++ get_or xs i d ∷ []) zs) (sym pushed) (AllZip-last P (take i xs) ys (get_or xs i d) y before last))
+    subst (λ zs. AllZip P zs new) (sym (take_more xs i d within)) (subst (λ zs. AllZip P (take i xs ++ get_or xs i d ∷ []) zs) (sym pushed) (AllZip-last P (take i xs) ys (get_or xs i d) y before last))
 
 -- one more part after some that are joined
 join-last : (x : List ℕ) (xs : List (List ℕ)) (part : List ℕ) → join_with_byte 10 ((x ∷ xs) ++ part ∷ []) ≡ join_with_byte 10 (x ∷ xs) ++ 10 ∷ part

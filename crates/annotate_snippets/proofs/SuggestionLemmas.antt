@@ -22,13 +22,7 @@ use Rattle.annotate_snippets.specs.Page.{IsAscending, NamedRow, OfferedLine, Oth
 use Rattle.annotate_snippets.specs.Shown.{HasStrokes, IsOfferedRow, IsSuggestionRow, name_of_row}
 use Rattle.annotate_snippets.specs.declared.renderer.Renderer.{Renderer}
 use Rattle.annotate_snippets.specs.declared.renderer.frame.Frame.{Frame}
-
--- numbers that rise from one on lie between it and the other bound, and ascend
-rising_within : (from to : ℕ) (ks : List ℕ) → AreRising from to ks → from ≤ to
-rising_within from to [] rising = rising
-rising_within from to (k ∷ ks) rising =
-    let rest : k + 1 ≤ to = rising_within (k + 1) to ks rising.1 in
-    omega (arith, rising.0)
+use Rattle.snippet_suggest.proofs.RisingLemmas.{rising_bound as rising_within}
 
 pub rising_ascends : (from to : ℕ) (ks : List ℕ) → AreRising from to ks → IsAscending ks
 rising_ascends from to [] rising = tt

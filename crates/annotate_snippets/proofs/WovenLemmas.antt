@@ -12,15 +12,7 @@ use Rattle.snippet_style.specs.declared.stylesheet.Stylesheet.{Stylesheet}
 use Rattle.snippet_grid.proofs.WovenLemmas.{IsWoven-from_prints}
 use Rattle.annotate_snippets.specs.Page.{ArePrinted, Page, PrintsPage, group_rows, page_links, page_text}
 use Rattle.annotate_snippets.specs.declared.renderer.graphic.GroupGrid.{GroupGrid}
-
--- after pieces that end their links, others that do so end them too
-ended-append : (inside : Bool) (ps qs : List Piece) → AreLinksEnded inside ps → AreLinksEnded false qs → AreLinksEnded inside (ps ++ qs)
-ended-append inside [] qs before after = subst (λ b. AreLinksEnded b qs) (sym before) after
-ended-append inside (Char ch ∷ ps) qs before after = ended-append inside ps qs before after
-ended-append inside (Opening style ∷ ps) qs before after = ended-append inside ps qs before after
-ended-append inside (Reset style ∷ ps) qs before after = ended-append inside ps qs before after
-ended-append inside (LinkTo url ∷ ps) qs before after = (before.0, ended-append true ps qs before.1 after)
-ended-append inside (LinkEnd ∷ ps) qs before after = (before.0, ended-append false ps qs before.1 after)
+use Rattle.snippet_grid.proofs.WovenLemmas.{ended-append}
 
 -- no text is woven
 pub IsWoven-nil : (sheet : Stylesheet) → IsWoven sheet [] [] []

@@ -5,10 +5,7 @@ use Rattle.std.proofs.Math.Seq.{take-suc}
 use Rattle.std.proofs.lemmas.Option.{slice_get_past}
 use Rattle.redraw_report.specs.declared.finding.Mark.{Mark}
 use Rattle.redraw_report.specs.Report.{with_source, with_sources}
-
-pub append_none : {A : Type 0} (xs : List A) → xs ++ [] ≡ xs
-append_none [] = refl
-append_none (x ∷ xs) = ap (λ (l : List _). x ∷ l) (append_none xs)
+pub use Rattle.std.proofs.lemmas.List.{append-nil as append_none}
 
 -- the sources of places, and of one place more
 sources-join : (primary : Bool) (order : List ℕ) (ms : List Mark) (m : Mark) → with_sources primary order (ms ++ m ∷ []) ≡ with_source primary (with_sources primary order ms) m

@@ -7,54 +7,14 @@ use Rattle.std.proofs.lemmas.Str.{encodes-chars, encodes-append, length-le-encod
 use Rattle.std.proofs.lemmas.List.{places, same_lists, at_drop_more, take-append-drop, take_at, drop_at, drop-take, take-take, length-append, length-take-le, length-drop, take_more, append-nil}
 use Rattle.snippet_grid.proofs.StretchLemmas.{stretch, length-stretch_of}
 use Rattle.snippet_grid.proofs.RunLemmas.{IsUtf8-run_bytes}
-use Rattle.snippet_grid.specs.Runs.{IsRun, IsPart, bytes_of, run_bytes, run_chars}
+use Rattle.snippet_grid.specs.Runs.{IsRun, IsPart, run_bytes, run_chars}
 use Rattle.snippet_grid.specs.declared.runs.Run.{Run}
+use Rattle.snippet_style.specs.Cell.{bytes_of}
+pub use Rattle.snippet_style.proofs.CutLemmas.{text_parts, cut_boundary, cut_front, cut_back, bytes-push, IsNext, take-next, drop-next, bytes_within, bytes_next}
 
 -- how long the bytes of a run are
 pub run_long : (text : List ℕ) (run : Run) → IsRun text run → length (run_bytes text run) ≡ run.end - run.start
 run_long text run is = length-stretch_of text run.start run.end is.within
-
--- the scalars of a list's two parts
-scalars_back : (xs ys : List ℕ) → scalars (xs ++ ys) ≡ true → scalars ys ≡ true
-scalars_back [] ys all = all
-scalars_back (x ∷ xs) ys all = scalars_back xs ys (grind arith)
-
-scalars_front : (xs ys : List ℕ) → scalars (xs ++ ys) ≡ true → scalars xs ≡ true
-scalars_front [] ys all = refl
-scalars_front (x ∷ xs) ys all =
-    let rest = scalars_front xs ys (grind arith) in
-    grind arith
-
--- a text, cut after its first n characters
-pub text_parts : (text : List ℕ) (n : ℕ) → IsUtf8 text → text ≡ encode_utf8_all (take n (chars text)) ++ encode_utf8_all (drop n (chars text))
-text_parts text n utf8 =
-    sym (encodes-chars text utf8) ∙ ap encode_utf8_all (sym (take-append-drop n (chars text))) ∙ encodes-append (take n (chars text)) (drop n (chars text))
-
-all_scalars : (text : List ℕ) (n : ℕ) → IsUtf8 text → scalars (take n (chars text) ++ drop n (chars text)) ≡ true
-all_scalars text n utf8 = ap scalars (take-append-drop n (chars text)) ∙ scalars-chars text utf8
-
-pub cut_boundary : (text : List ℕ) (n at : ℕ) → IsUtf8 text → at ≡ bytes_of (take n (chars text)) → IsCharBoundary text at
-cut_boundary text n at utf8 is =
-    let back = drop n (chars text) in
-    subst (IsCharBoundary text) (sym is) (IsCharBoundary-at_seam text (encode_utf8_all (take n (chars text))) (encode_utf8_all back) (text_parts text n utf8) (back, (scalars_back (take n (chars text)) back (all_scalars text n utf8), refl)))
-
-pub cut_front : (text : List ℕ) (n at : ℕ) → IsUtf8 text → at ≡ bytes_of (take n (chars text)) → chars (take at text) ≡ take n (chars text)
-cut_front text n at utf8 is =
-    let front = take n (chars text) in
-    let back = drop n (chars text) in
-    let bytes : take at text ≡ encode_utf8_all front = ap (take at) (text_parts text n utf8) ∙ take_at (encode_utf8_all front) (encode_utf8_all back) at (sym is) in
-    ap chars bytes ∙ chars-encodes front (scalars_front front back (all_scalars text n utf8))
-
-pub cut_back : (text : List ℕ) (n at : ℕ) → IsUtf8 text → at ≡ bytes_of (take n (chars text)) → chars (drop at text) ≡ drop n (chars text)
-cut_back text n at utf8 is =
-    let front = take n (chars text) in
-    let back = drop n (chars text) in
-    let bytes : drop at text ≡ encode_utf8_all back = ap (drop at) (text_parts text n utf8) ∙ drop_at (encode_utf8_all front) (encode_utf8_all back) at (sym is) in
-    ap chars bytes ∙ chars-encodes back (scalars_back front back (all_scalars text n utf8))
-
-bytes-push : (cs : List ℕ) (c : ℕ) → bytes_of (cs ++ c ∷ []) ≡ bytes_of cs + length (encode_utf8 c)
-bytes-push cs c =
-    ap length (encodes-append cs (c ∷ []) ∙ ap (λ bs. encode_utf8_all cs ++ bs) (append-nil (encode_utf8 c))) ∙ length-append (encode_utf8_all cs) (encode_utf8 c)
 
 -- where characters take one byte each, so do the first of them
 bytes_single : (cs : List ℕ) (n : ℕ) → bytes_of cs ≡ length cs → n ≤ length cs → bytes_of (take n cs) ≡ n
@@ -69,25 +29,6 @@ run_single text run n utf8 is single within =
     let bytes = run_bytes text run in
     let whole : bytes_of (run_chars text run) ≡ length bytes = ap length (encodes-chars bytes (IsUtf8-run_bytes text run utf8 is)) in
     sym (bytes_single (run_chars text run) n (omega (arith, whole, run_long text run is, single, is.counted)) (omega (arith, is.counted, within)))
-
--- the character that stands next
-abbrev pub IsNext : List ℕ → ℕ → ℕ → Type 0
-IsNext cs n c = (n < length cs) × (c ≡ get_or cs n c)
-
-take-next : (cs : List ℕ) (n c : ℕ) → IsNext cs n c → take (n + 1) cs ≡ take n cs ++ c ∷ []
-take-next cs n c next = take_more cs n c next.0 ∙ ap (λ x. take n cs ++ x ∷ []) (sym next.1)
-
-drop-next : (cs : List ℕ) (n c : ℕ) → IsNext cs n c → drop n cs ≡ c ∷ drop (n + 1) cs
-drop-next cs n c next = at_drop_more (λ xs. xs) cs n c next.0 ∙ ap (λ x. x ∷ drop (n + 1) cs) (sym next.1)
-
--- no more bytes stand before a character than the text has
-pub bytes_within : (text : List ℕ) (n : ℕ) → IsUtf8 text → bytes_of (take n (chars text)) ≤ length text
-bytes_within text n utf8 =
-    omega (arith, ap length (text_parts text n utf8), length-append (encode_utf8_all (take n (chars text))) (encode_utf8_all (drop n (chars text))))
-
-pub bytes_next : (text : List ℕ) (n at c : ℕ) → IsUtf8 text → IsNext (chars text) n c → at ≡ bytes_of (take n (chars text)) → at + length (encode_utf8 c) ≤ length text
-bytes_next text n at c utf8 next is =
-    omega (arith, is, bytes_within text (n + 1) utf8, ap bytes_of (take-next (chars text) n c next), bytes-push (take n (chars text)) c)
 
 -- how far the first n characters have come
 pub record CutSoFar (count : ℕ) (cs : List ℕ) (n at left : ℕ) : Type 0 where

@@ -5,13 +5,13 @@ pub mod CutLemmas
 pub mod GridChanged
 pub mod GridLemmas
 pub mod GridShown
-pub mod TouchedRuns
 pub mod OutcomeLemmas
 pub mod PieceLemmas
 pub mod PrintsOnce
 pub mod PutLemmas
 pub mod ReplaceLemmas
 pub mod ReplacedRow
+pub mod RowLemmas
 pub mod RowPut
 pub mod RowWoven
 pub mod RowsWoven
@@ -22,5 +22,6 @@ pub mod SpanLemmas
 pub mod StretchLemmas
 pub mod StretchPrinted
 pub mod TouchLemmas
+pub mod TouchedRuns
 pub mod WeaveLemmas
 pub mod WovenLemmas

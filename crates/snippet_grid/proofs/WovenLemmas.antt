@@ -127,7 +127,7 @@ cells_ended sheet level style link (LinkTo url ∷ ps) cells (none, _, _, prints
 cells_ended sheet level style link (LinkEnd ∷ ps) cells (there, _, _, prints) =
     (there_is link there, cells_ended sheet level style None ps cells prints)
 
-ended-append : (inside : Bool) (ps qs : List Piece) → AreLinksEnded inside ps → AreLinksEnded false qs → AreLinksEnded inside (ps ++ qs)
+pub ended-append : (inside : Bool) (ps qs : List Piece) → AreLinksEnded inside ps → AreLinksEnded false qs → AreLinksEnded inside (ps ++ qs)
 ended-append inside [] qs none ended = subst (λ (b : Bool). AreLinksEnded b qs) (sym none) ended
 ended-append inside (Char ch ∷ ps) qs front ended = ended-append inside ps qs front ended
 ended-append inside (Opening s ∷ ps) qs front ended = ended-append inside ps qs front ended

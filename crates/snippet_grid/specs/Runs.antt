@@ -73,10 +73,6 @@ pub record IsMoved (old new : List ℕ) (run moved : Run) : Type 0 where
   pub link : option_copied moved.link ≡ option_copied run.link
   pub bytes : run_bytes new moved ≡ run_bytes old run
 
--- how many bytes characters take
-abbrev pub bytes_of : List ℕ → ℕ
-bytes_of cs = length (encode_utf8_all cs)
-
 -- the part of a run from one of its cells to before another
 pub record IsPart (text : List ℕ) (run : Run) (from to : ℕ) (part : Run) : Type 0 where
   pub is_run : IsRun text part

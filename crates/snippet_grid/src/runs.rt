@@ -1,10 +1,11 @@
 //! Runs of neighbouring cells that share their role and their link.
 ghost use Rattle.std.specs.Prelude.{◌≡◌, ◌+◌, ◌-◌, ◌<◌, ◌≤◌, ◌^◌, ℕ, List, true, false, length, min, take, drop, All, IfOk, OnOk, OnErr, string_bytes, vec_len};
-ghost use Rattle.snippet_grid.specs.Runs.{IsRun, Continues, Differ, IsJoined, IsMoved, IsPart, BeginsWith, ShowsMore, ShowsCopy, FitsMoved, AddsRun, IsRow, EndsBy, FitIn, Precedes, BeginsAfter, BeginsBy, bytes_of, run_bytes, run_chars};
+ghost use Rattle.snippet_grid.specs.Runs.{IsRun, Continues, Differ, IsJoined, IsMoved, IsPart, BeginsWith, ShowsMore, ShowsCopy, FitsMoved, AddsRun, IsRow, EndsBy, FitIn, Precedes, BeginsAfter, BeginsBy, run_bytes, run_chars};
 ghost use Rattle.snippet_grid.specs.Changes.{num_touched};
 ghost use Rattle.snippet_grid.specs.declared.runs.Run.{Run};
 ghost use Rattle.std.specs.List.{AllPairs, slice_index_or};
 ghost use Rattle.std.specs.Str.{chars};
+ghost use Rattle.snippet_style.specs.Cell.{bytes_of};
 
 use snippet_style::ElementStyle;
 use std::alloc::AllocError;

@@ -1,2 +1,3 @@
 pub mod CloneLemmas
+pub mod RowLemmas
 pub mod ZipLemmas

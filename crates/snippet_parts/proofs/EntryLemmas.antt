@@ -20,6 +20,8 @@ use Rattle.snippet_parts.specs.LongSpans.{seen_long, HasFit}
 use Rattle.snippet_parts.specs.declared.long_spans.LongSpan.{LongSpan}
 use Rattle.snippet_lines.specs.declared.place.Loc.{Loc}
 use Rattle.snippet_view.proofs.RawDepthLemmas.{same-true}
+use Rattle.std.proofs.lemmas.Simd.{map-map}
+use Rattle.snippet_view.proofs.PartLemmas.{list_any-map}
 
 filter-after : (p : ℕ → Bool) (u from n : ℕ) → ((k : ℕ) → from ≤ k → leb k u ≡ p k) → u < from → filter p (range_with_len from n) ≡ []
 filter-after p u from zero same past = refl
@@ -85,10 +87,6 @@ fit-same s l d start end fit =
 
 -- ---- the entries of all spans of several lines
 
-list_any-map : {X Y : Type 0} (p : Y → Bool) (f : X → Y) (xs : List X) → list_any p (map f xs) ≡ list_any (λ x. p (f x)) xs
-list_any-map p f [] = refl
-list_any-map p f (x ∷ xs) = ap (λ b. p (f x) || b) (list_any-map p f xs)
-
 -- a span as it is drawn
 pub promoted-primary : (before : List LongSpan) (l : LongSpan) (b : Bool) → b ≡ (is_primary l.kind || list_any (λ (o : LongSpan). is_primary o.kind && same_place (long_place (seen_long l)) (long_place (seen_long o))) before) → b ≡ true → record (seen_long l) { kind = Primary } ≡ promoted (map seen_long before) (seen_long l)
 promoted-primary before l b is there =
@@ -114,10 +112,6 @@ parts-more s places spans i x now new all depth again e within is pushed deep am
     ∙ append_assoc now (span_parts s (depth_among places (long_place (seen_long x))) (stands_among (seen_long x) later) (promoted earlier (seen_long x))) (long_parts s places (earlier ++ seen_long x ∷ []) later)
     ∙ sym (ap (λ es. now ++ long_parts s places es (drop i (map seen_long spans))) e3 ∙ ap (λ es. now ++ long_parts s places earlier es) e1)
     ∙ before
-
-map-map : {X Y Z : Type 0} (f : Y → Z) (g : X → Y) (xs : List X) → map f (map g xs) ≡ map (λ x. f (g x)) xs
-map-map f g [] = refl
-map-map f g (x ∷ xs) = ap (λ zs. f (g x) ∷ zs) (map-map f g xs)
 
 -- the places of spans
 pub places-are : (places : List LongExtent) (spans : List LongSpan) → places ≡ map (λ (l : LongSpan). long_place (seen_long l)) spans → places ≡ map long_place (map seen_long spans)

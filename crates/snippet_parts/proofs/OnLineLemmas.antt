@@ -30,6 +30,7 @@ use Rattle.snippet_view.proofs.MarkLemmas.{start-line, end-line}
 use Rattle.snippet_view.proofs.PartLemmas.{All-order}
 use Rattle.snippet_view.proofs.ShownFacts.{contains-cases, contains-filter, contains-here, contains-there, first-kept, last-kept, span-kept, kept-ascends}
 use Rattle.snippet_lines.proofs.PlaceLemmas.{line_of-within}
+use Rattle.snippet_view.proofs.MarginLaws.{start_byte as start-byte}
 
 -- ---- elements
 
@@ -75,10 +76,6 @@ long-among s marks a among long =
 record IsPlaced (s : Source) (e : Entry) : Type 0 where
   pub start : e.start ≡ (locations_of s e.start.byte e.end.byte).0
   pub end : e.end ≡ (locations_of s e.start.byte e.end.byte).1
-
-start-byte : (s : Source) (a : Annotation) → (long_entry s a).start.byte ≡ a.span.start
-unfolding locations_of start_location location_of
-start-byte s a = refl
 
 end-byte : (s : Source) (a : Annotation) → (long_entry s a).end.byte ≡ a.span.end
 unfolding locations_of start_location end_location location_of

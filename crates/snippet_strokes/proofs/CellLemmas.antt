@@ -25,6 +25,7 @@ use Rattle.snippet_strokes.specs.Rows.{begun_cells, ended_cells, shown_cells, wi
 use Rattle.snippet_strokes.proofs.DrawLemmas.{free_drawn}
 use Rattle.snippet_strokes.proofs.RowLemmas.{free_written}
 use Rattle.snippet_strokes.proofs.TextLemmas.{chars_some}
+pub use Rattle.snippet_grid.proofs.RowLemmas.{row_text-text_cells}
 
 -- the cells that are written from a cell on, after those that stand there
 abbrev pub put : ℕ → List Cell → List Cell → List Cell
@@ -97,10 +98,6 @@ row_text-written cells at new =
     let front : map f (take at (cells ++ replicate (at - length cells) SPACE)) ≡ take at (map f cells ++ replicate (at - length (map f cells)) 32) = sym (take-map f at (cells ++ replicate (at - length cells) SPACE)) ∙ ap (take at) (map-append f cells (replicate (at - length cells) SPACE) ∙ ap (λ p. map f cells ++ p) pad) in
     let back : map f (drop (at + length new) cells) ≡ drop (at + length (map f new)) (map f cells) = sym (drop-map f (at + length new) cells) ∙ ap (λ n. drop (at + n) (map f cells)) (sym (length-map new f)) in
     map-append f (take at (cells ++ replicate (at - length cells) SPACE) ++ new) (drop (at + length new) cells) ∙ ap (λ xs. xs ++ map f (drop (at + length new) cells)) (map-append f (take at (cells ++ replicate (at - length cells) SPACE)) new ∙ ap (λ xs. xs ++ map f new) front) ∙ ap (λ xs. (take at (map f cells ++ replicate (at - length (map f cells)) 32) ++ map f new) ++ xs) back
-
-pub row_text-text_cells : (role : ElementStyle) (cs : List ℕ) → row_text (text_cells role cs) ≡ cs
-row_text-text_cells role [] = refl
-row_text-text_cells role (c ∷ cs) = ap (λ xs. c ∷ xs) (row_text-text_cells role cs)
 
 row_text-begun : (decor : DecorStyle) (start : Option ℕ) (text : List ℕ) → row_text (begun_cells decor start text) ≡ begun_with (placeholder_of decor) start text
 row_text-begun decor None text = row_text-text_cells Quotation text

@@ -17,7 +17,8 @@ use Rattle.snippet_strokes.specs.declared.layout.Layout.{Layout}
 use Rattle.snippet_strokes.specs.Entries.{IsBarCell}
 use Rattle.snippet_model.specs.Rows.{IsFreeCell}
 use Rattle.snippet_strokes.specs.Painting.{DrawsFrom, KeepsBarCells, DrawsBarCells}
-use Rattle.snippet_strokes.proofs.TextLemmas.{All-from_none}
+use Rattle.snippet_model.proofs.RowLemmas.{each_fails}
+pub use Rattle.snippet_model.proofs.RowLemmas.{free_drawn}
 
 -- nothing is drawn yet
 pub DrawsFrom-none : (row from : ℕ) (rows : List (List Cell)) → DrawsFrom row from rows rows
@@ -72,11 +73,6 @@ DrawsFrom-writes row r from at old new cells writes lower within right all =
       count = omega (arith, writes.count, within);
     }
 
--- cells drawn of characters that aren't listed are free
-pub free_drawn : (role : ElementStyle) (cs : List ℕ) → All (λ c. is_listed c ≡ false) cs → All IsFreeCell (text_cells role cs)
-free_drawn role cs free =
-    All-text_cells IsFreeCell role cs (All-weaker (λ c. is_listed c ≡ false) (λ c. IsFreeCell (unlinked_cell role c)) (λ c is. (is, refl)) cs free)
-
 -- what is drawn in cells from the code on is no part of a bar
 pub KeepsBarCells-none : (layout : Layout) (rows : List (List Cell)) → KeepsBarCells layout rows rows
 KeepsBarCells-none layout rows = λ r c left is. is
@@ -112,7 +108,7 @@ free_bar_glyphs Unicode = refl
 
 pub free_bar : (decor : DecorStyle) (cell : Cell) → IsBarCell decor cell → IsFreeCell cell
 free_bar decor cell is =
-    (in_glyphs cell.ch (bar_glyphs decor) (All-from_none (bar_glyphs decor) (free_bar_glyphs decor)) is.glyph, is.link)
+    (in_glyphs cell.ch (bar_glyphs decor) (each_fails is_listed (bar_glyphs decor) (free_bar_glyphs decor)) is.glyph, is.link)
 
 -- the space is one, and so are the glyphs that bars are drawn with
 pub bar_space : (decor : DecorStyle) → IsBarCell decor SPACE

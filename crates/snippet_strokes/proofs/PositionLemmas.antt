@@ -17,11 +17,7 @@ use Rattle.snippet_strokes.specs.Positions.{ArePlaced, IsFromRight, HasItsLabel,
 use Rattle.snippet_strokes.specs.Painting.{HasRows}
 use Rattle.snippet_view.specs.Measures.{greatest}
 use Rattle.snippet_strokes.specs.Entries.{HasPlace}
-
--- a test of changed elements
-list_any-map : {X Y : Type 0} (p : Y → Bool) (f : X → Y) (xs : List X) → list_any p (map f xs) ≡ list_any (λ x. p (f x)) xs
-list_any-map p f [] = refl
-list_any-map p f (x ∷ xs) = ap (λ b. p (f x) || b) (list_any-map p f xs)
+use Rattle.snippet_view.proofs.PartLemmas.{list_any-map}
 
 -- one more position is known
 pub positions_more : (ps : List ℕ) (es : List PlacedEntry) (all : List ℕ) (i reached : ℕ) (d : PlacedEntry) → i < length es → ps ++ positions reached (drop i es) ≡ all → let e = get_or es i d in let others = drop (i + 1) es in (ps ++ position_at reached e others ∷ []) ++ positions (position_after (position_at reached e others) e others) others ≡ all

@@ -20,37 +20,9 @@ use Rattle.snippet_strokes.specs.declared.layout.Layout.{Layout}
 use Rattle.snippet_model.specs.Rows.{IsFree}
 use Rattle.snippet_strokes.specs.Rows.{bare_row, IsSourceRow, AddsSourceRow, with_cells}
 use Rattle.snippet_style.specs.Separators.{separator_row}
-
--- writing into an empty row
-written-nil : (at : ℕ) (cells : List Cell) → written SPACE [] at cells ≡ replicate at SPACE ++ cells
-written-nil at cells =
-    same_lists _ _ (unfold written in grind (arith, places)) (λ k d h. unfold written in grind (arith, places))
-
--- a row that is begun by some cells alone
-pub begun_by : (old new : List (List Cell)) (row at : ℕ) (cells : List Cell) → row ≡ length old → new ≡ cells_written old row at cells → new ≡ old ++ (replicate at SPACE ++ cells) ∷ []
-begun_by old new row at cells below writes =
-    writes ∙ ap (λ r. cells_written old r at cells) below ∙ cells_written_below old at cells ∙ ap (λ r. old ++ r ∷ []) (written-nil at cells)
-
--- a row that is begun by a text
-pub begun_by_text : (old new : List (List Cell)) (row at : ℕ) (text chs : List ℕ) → row ≡ length old → chars text ≡ chs → 0 < length chs → (0 < length text → new ≡ cells_written old row at (text_cells LineNumber (chars text))) → new ≡ old ++ (replicate at SPACE ++ text_cells LineNumber chs) ∷ []
-begun_by_text old new row at text chs below is some writes =
-    begun_by old new row at (text_cells LineNumber chs) below (writes (omega (arith, length-chars_le text, ap length is, some)) ∙ ap (λ cs. cells_written old row at (text_cells LineNumber cs)) is)
-
--- a row that is begun by the separator alone
-pub begun : (old new : List (List Cell)) (row gutter stroke : ℕ) (decor : DecorStyle) → row ≡ length old → stroke ≡ separator_of decor → new ≡ cells_written old row (gutter + 1) (text_cells LineNumber (stroke ∷ [])) → new ≡ old ++ separator_row decor gutter ∷ []
-begun old new row gutter stroke decor below glyph writes =
-    writes ∙ ap (λ r. cells_written old r (gutter + 1) (text_cells LineNumber (stroke ∷ []))) below ∙ ap (λ s. cells_written old (length old) (gutter + 1) (text_cells LineNumber (s ∷ []))) glyph ∙ cells_written_below old (gutter + 1) (text_cells LineNumber (separator_of decor ∷ [])) ∙ ap (λ r. old ++ r ∷ []) (written-nil (gutter + 1) (text_cells LineNumber (separator_of decor ∷ [])))
-
--- a row after a text was put into it: one with no bytes leaves it as it was
-abbrev pub texted : List ℕ → List Cell → ℕ → List Cell → List Cell
-texted [] row at cells = row
-texted (b ∷ bs) row at cells = written SPACE row at cells
-
--- a text that was put into the last row
-pub text_put : (above mid new : List (List Cell)) (row : List Cell) (r at : ℕ) (bytes : List ℕ) (cells : List Cell) → mid ≡ above ++ row ∷ [] → r ≡ length above → (0 < length bytes → new ≡ cells_written mid r at cells) → (bytes ≡ [] → new ≡ mid) → new ≡ above ++ texted bytes row at cells ∷ []
-text_put above mid new row r at [] cells before last writes stays = stays refl ∙ before
-text_put above mid new row r at (b ∷ bs) cells before last writes stays =
-    writes (omega arith) ∙ ap (λ rows. cells_written rows r at cells) before ∙ ap (λ i. cells_written (above ++ row ∷ []) i at cells) last ∙ cells_written_last above row at cells
+pub use Rattle.snippet_style.proofs.RowLemmas.{written-nil, led_before, closing_some}
+pub use Rattle.snippet_grid.proofs.RowLemmas.{begun_by, begun_by_text, separator_row-begun as begun, texted, text_put}
+pub use Rattle.snippet_model.proofs.RowLemmas.{free_separator_row, free_written}
 
 -- writing from a list's start on
 written_start : (xs new : List Cell) → written SPACE xs 0 new ≡ new ++ drop (length new) xs
@@ -85,21 +57,6 @@ separator_row_blank decor gutter c other =
       | inr right ↦ get_or_past (separator_row decor gutter) c SPACE (omega (arith, length-separator_row decor gutter))
     ]
 
--- a separator is no listed character
-free_separator : (decor : DecorStyle) → is_listed (separator_of decor) ≡ false
-free_separator Ascii = refl
-free_separator Unicode = refl
-
-pub free_separator_row : (decor : DecorStyle) (gutter : ℕ) → IsFree (separator_row decor gutter)
-free_separator_row decor gutter =
-    let P : Cell → Type 0 = IsFreeCell in
-    All-append P (replicate (gutter + 1) SPACE) (text_cells LineNumber (separator_of decor ∷ [])) (All-replicate P (gutter + 1) SPACE (refl, refl)) (All-cons P (unlinked_cell LineNumber (separator_of decor)) [] (free_separator decor, refl) (All-nil P))
-
--- a row of spaces and some characters after them, read cell by cell
-led_before : (n c : ℕ) (cells : List Cell) → c < n → slice_index_or (replicate n SPACE ++ cells) c SPACE ≡ SPACE
-led_before n c cells left =
-    get_or_append_left (replicate n SPACE) cells SPACE c (omega (arith, length-replicate n SPACE, left)) ∙ get_or-replicate n c SPACE SPACE left
-
 pub length-led : (n : ℕ) (chs : List ℕ) → length (replicate n SPACE ++ text_cells LineNumber chs) ≡ n + length chs
 length-led n chs =
     length-append (replicate n SPACE) (text_cells LineNumber chs) ∙ ap (λ k. k + length (text_cells LineNumber chs)) (length-replicate n SPACE) ∙ ap (λ k. n + k) (length-text_cells LineNumber chs)
@@ -108,11 +65,6 @@ pub free_led : (n : ℕ) (chs : List ℕ) → All (λ c. is_listed c ≡ false) 
 free_led n chs free =
     let P : Cell → Type 0 = IsFreeCell in
     All-append P (replicate n SPACE) (text_cells LineNumber chs) (All-replicate P n SPACE (refl, refl)) (free_drawn LineNumber chs free)
-
--- closing glyphs are one or two characters, none of them listed
-pub closing_some : (decor : DecorStyle) → 0 < length (closing_of decor)
-closing_some Ascii = omega arith
-closing_some Unicode = omega arith
 
 pub closing_short : (decor : DecorStyle) → length (closing_of decor) ≤ 2
 closing_short Ascii = omega arith
@@ -141,14 +93,6 @@ bare_row_right decor gutter closes c right =
 pub free_bare_row : (decor : DecorStyle) (gutter : ℕ) (closes : Bool) → IsFree (bare_row decor gutter closes)
 free_bare_row decor gutter true = free_led (gutter + 1) (closing_of decor) (free_closing decor)
 free_bare_row decor gutter false = free_separator_row decor gutter
-
--- a write of free cells keeps a row free
-pub free_written : (row : List Cell) (at : ℕ) (cells : List Cell) → IsFree row → IsFree cells → IsFree (written SPACE row at cells)
-unfolding written
-free_written row at cells free_row free_cells =
-    let P : Cell → Type 0 = IsFreeCell in
-    let pad = replicate (at - length row) SPACE in
-    All-append P (take at (row ++ pad) ++ cells) (drop (at + length cells) row) (All-append P (take at (row ++ pad)) cells (All-take P at (row ++ pad) (All-append P row pad free_row (All-replicate P (at - length row) SPACE (refl, refl)))) free_cells) (All-drop P (at + length cells) row free_row)
 
 -- the row that has its number, read
 length-front : (layout : Layout) (shown : List ℕ) → length shown ≤ layout.gutter + 1 → length (front layout shown) ≡ layout.gutter + 2

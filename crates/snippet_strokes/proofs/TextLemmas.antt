@@ -17,31 +17,12 @@ use Rattle.snippet_style.specs.Glyphs.{glyph_of}
 use Rattle.snippet_style.specs.declared.glyphs.DecorStyle.{DecorStyle}
 use Rattle.snippet_style.specs.declared.glyphs.DecorStyle.TheVariants.{Ascii, Unicode}
 use Rattle.snippet_text.specs.Normalized.{is_listed, norm, shown}
-
--- a text has no more characters than bytes
-length-chars_after : (n c : ℕ) (bytes : List ℕ) → length (chars_after n c bytes) ≤ length bytes + 1
-length-chars_after zero c [] = omega arith
-length-chars_after zero c (b ∷ bytes) = omega (arith, length-chars_after (continuation_len b) (lead_bits b) bytes)
-length-chars_after (suc n) c [] = omega arith
-length-chars_after (suc n) c (b ∷ bytes) = omega (arith, length-chars_after n (c * 64 + (b - 128)) bytes)
-
-length-chars : (bytes : List ℕ) → length (chars bytes) ≤ length bytes
-unfolding chars
-length-chars [] = omega arith
-length-chars (b ∷ bytes) = omega (arith, length-chars_after (continuation_len b) (lead_bits b) bytes)
+use Rattle.snippet_style.proofs.CellLemmas.{length-chars_le as length-chars}
+use Rattle.snippet_model.proofs.RowLemmas.{each_fails}
 
 -- a text that fits is short once it is normalised
 pub norm_short : (bytes : List ℕ) → length bytes < 2 ^ 56 → length (norm (chars bytes)) < 2 ^ 60
 norm_short bytes fits = omega (arith, length-norm (chars bytes), length-chars bytes)
-
--- characters of which no one is listed, one by one
-pub All-from_none : (cs : List ℕ) → list_any is_listed cs ≡ false → All (λ c. is_listed c ≡ false) cs
-All-from_none [] none = let P : ℕ → Type 0 = λ c. is_listed c ≡ false in All-nil P
-All-from_none (c ∷ cs) none =
-    let P : ℕ → Type 0 = λ c. is_listed c ≡ false in
-    let first : is_listed c ≡ false = grind arith in
-    let later : list_any is_listed cs ≡ false = grind arith in
-    All-cons P c cs first (All-from_none cs later)
 
 -- a stem is no listed character
 pub free_stem : (decor : DecorStyle) (primary : Bool) → is_listed (glyph_of decor primary 124 124 0x2502 0x2502) ≡ false
@@ -91,7 +72,7 @@ free_label_text e = text_free e.label
   where
     text_free : (label : Option (Bor (List ℕ))) → All (λ c. is_listed c ≡ false) (label_chars label)
     text_free None = All-nil (λ c. is_listed c ≡ false)
-    text_free (Some label) = All-from_none (norm (chars label.now)) (list_any-norm (chars label.now))
+    text_free (Some label) = each_fails is_listed (norm (chars label.now)) (list_any-norm (chars label.now))
 
 -- a text that has a character has a byte, and one that has none has none
 pub bytes_some : (bytes : List ℕ) → IsUtf8 bytes → not (length (chars bytes) == 0) ≡ true → 0 < length bytes

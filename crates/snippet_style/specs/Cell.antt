@@ -1,5 +1,5 @@
 -- What stands in one place of a page.
-use Rattle.std.specs.Prelude.{◌+◌, ◌-◌, ℕ, Bool, true, false, List, ◌++◌, length, map, take, drop, replicate, Option, None}
+use Rattle.std.specs.Prelude.{◌+◌, ◌-◌, ℕ, Bool, true, false, List, ◌++◌, length, map, take, drop, replicate, Option, None, encode_utf8_all}
 use Rattle.snippet_style.specs.declared.role.ElementStyle.{ElementStyle}
 use Rattle.snippet_style.specs.declared.role.ElementStyle.TheVariants.{NoStyle, Quotation}
 
@@ -31,3 +31,7 @@ abbrev pub gives_way : ElementStyle → Bool
 gives_way NoStyle = true
 gives_way Quotation = true
 gives_way other = false
+
+-- how many bytes characters take
+abbrev pub bytes_of : List ℕ → ℕ
+bytes_of cs = length (encode_utf8_all cs)

@@ -1,18 +1,12 @@
 -- Rows that are drawn one after another.
 use Rattle.std.proofs.Common.{◌≡◌, ℕ, ◌+◌, ◌<◌, List, [], ◌∷◌, ◌++◌, length, take, get_or, sym, ap, ◌∙◌, arith, subst, append_assoc}
 use Rattle.std.specs.List.{AllZip}
-use Rattle.std.proofs.lemmas.List.{append-nil, places, same_lists}
+use Rattle.std.proofs.lemmas.List.{append-nil, take_more}
 use Rattle.snippet_style.specs.Cell.{Cell}
 use Rattle.snippet_suggest.specs.declared.layout.SuggestionLayout.{SuggestionLayout}
 use Rattle.snippet_suggest.specs.declared.shown.ShownLine.{ShownLine}
 use Rattle.snippet_suggest.specs.Rows.{AddsRow, AddsShown, IsShownRow}
-
--- one more on each side
-pub zip_push : {A B : Type 0} (R : A → B → Type 0) (xs : List A) (ys : List B) (x : A) (y : B) → AllZip R xs ys → R x y → AllZip R (xs ++ x ∷ []) (ys ++ y ∷ [])
-zip_push R [] [] x y all is = (is, tt)
-zip_push R [] (b ∷ ys) x y all is = elim all [ ]
-zip_push R (a ∷ xs) [] x y all is = elim all [ ]
-zip_push R (a ∷ xs) (b ∷ ys) x y all is = (all.0, zip_push R xs ys x y all.1 is)
+pub use Rattle.snippet_model.proofs.ZipLemmas.{AllZip-last as zip_push}
 
 -- nothing is drawn yet, and one row more is
 pub shown_none : (layout : SuggestionLayout) (first : ℕ) (lines : List (List ℕ)) (old : List (List Cell)) → AddsShown layout first lines [] old old
@@ -31,10 +25,6 @@ shown_more layout first lines shown now line old mid new more adds row =
       are = zip_push (IsShownRow layout first lines) shown adds.rows line row.row adds.are row.is;
     })
 
--- the first of some and one more
-pub next_of : {A : Type 0} (xs : List A) (i : ℕ) (d : A) → i < length xs → take (i + 1) xs ≡ take i xs ++ get_or xs i d ∷ []
-next_of xs i d within = same_lists _ _ (grind (arith, places)) (λ k e h. grind (arith, places))
-
 pub shown_next : (layout : SuggestionLayout) (first : ℕ) (lines : List (List ℕ)) (shown : List ShownLine) (i : ℕ) (d : ShownLine) (old mid new : List (List Cell)) → i < length shown → AddsShown layout first lines (take i shown) old mid → AddsRow (IsShownRow layout first lines (get_or shown i d)) mid new → AddsShown layout first lines (take (i + 1) shown) old new
 shown_next layout first lines shown i d old mid new within adds row =
-    shown_more layout first lines (take i shown) (take (i + 1) shown) (get_or shown i d) old mid new (next_of shown i d within) adds row
+    shown_more layout first lines (take i shown) (take (i + 1) shown) (get_or shown i d) old mid new (take_more shown i d within) adds row

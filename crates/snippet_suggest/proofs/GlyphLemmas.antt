@@ -10,6 +10,7 @@ use Rattle.snippet_suggest.specs.declared.glyphs.SuggestionGlyph.TheVariants.{Op
 use Rattle.snippet_text.specs.Normalized.{is_listed}
 use Rattle.snippet_suggest.specs.Glyphs.{glyph_of, is_sign}
 use Rattle.snippet_suggest.specs.Rows.{IsSign, is_stroke}
+pub use Rattle.snippet_style.proofs.GlyphLemmas.{chars-end}
 
 pub chars-minus : chars (45 ∷ 32 ∷ []) ≡ codes "- "
 unfolding lib.Utf8.encode
@@ -42,10 +43,6 @@ chars-branch = chars-encodes (codes "├╴") refl
 pub chars-stroke : chars (226 ∷ 148 ∷ 130 ∷ []) ≡ codes "│"
 unfolding lib.Utf8.encode
 chars-stroke = chars-encodes (codes "│") refl
-
-pub chars-end : chars (226 ∷ 149 ∷ 176 ∷ 226 ∷ 149 ∷ 180 ∷ []) ≡ codes "╰╴"
-unfolding lib.Utf8.encode
-chars-end = chars-encodes (codes "╰╴") refl
 
 pub chars-stroke_space : chars (226 ∷ 148 ∷ 130 ∷ 32 ∷ []) ≡ codes "│ "
 unfolding lib.Utf8.encode

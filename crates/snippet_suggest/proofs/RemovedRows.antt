@@ -1,14 +1,14 @@
 -- Rows of removed lines, below some rows.
 use Rattle.std.proofs.Common.{◌≡◌, ℕ, ◌+◌, ◌-◌, ◌<◌, ◌≤◌, Bool, true, false, List, [], ◌∷◌, ◌++◌, get_or, length, take, refl, sym, ap, ◌∙◌, arith, append_assoc, subst, if◌then◌else◌}
 use Rattle.std.specs.List.{AllZip}
-use Rattle.std.proofs.lemmas.List.{append-nil, get_or-map, length-append, length-map, length-take, take_all}
+use Rattle.std.proofs.lemmas.List.{append-nil, get_or-map, length-append, length-map, length-take, take_all, take_more}
 use Rattle.snippet_style.specs.Cell.{Cell}
 use Rattle.snippet_parts.specs.declared.source_map.LineInfo.{LineInfo}
 use Rattle.snippet_suggest.specs.declared.layout.SuggestionLayout.{SuggestionLayout}
 use Rattle.snippet_suggest.specs.Given.{texts_at}
 use Rattle.snippet_suggest.specs.Order.{counted_from, number_after, numbered_at, removed_from}
 use Rattle.snippet_suggest.specs.Rows.{AddsRemoved, AddsRow, AddsRows, IsRowOfRemoved, IsTail, Shows}
-use Rattle.snippet_suggest.proofs.DrawnLemmas.{next_of, zip_push}
+use Rattle.snippet_suggest.proofs.DrawnLemmas.{zip_push}
 
 -- rows of lines that are removed are rows of a suggestion
 removed_zip : (layout : SuggestionLayout) (first : ℕ) (lines : List (List ℕ)) (i : ℕ) (removed : List (ℕ × List ℕ)) (rows : List (List Cell)) → AllZip (IsRowOfRemoved layout) removed rows → AllZip (Shows layout first lines) (removed_from i removed) rows
@@ -49,7 +49,7 @@ counted_next first infos i d within =
     let texts : List (List ℕ) = texts_at infos in
     let inside : i < length texts = omega (arith, length-map infos text) in
     let count : i ≡ 0 + length (take i texts) = omega (arith, length-take i texts, inside) in
-    ap (λ t. counted_from first 0 (take i texts) ++ (number_after first i, t) ∷ []) (sym (get_or-map text infos i d [] within)) ∙ ap (λ (n : ℕ). counted_from first 0 (take i texts) ++ (number_after first n, get_or texts i []) ∷ []) count ∙ sym (counted_push first 0 (take i texts) (get_or texts i [])) ∙ ap (counted_from first 0) (sym (next_of texts i [] inside))
+    ap (λ t. counted_from first 0 (take i texts) ++ (number_after first i, t) ∷ []) (sym (get_or-map text infos i d [] within)) ∙ ap (λ (n : ℕ). counted_from first 0 (take i texts) ++ (number_after first n, get_or texts i []) ∷ []) count ∙ sym (counted_push first 0 (take i texts) (get_or texts i [])) ∙ ap (counted_from first 0) (sym (take_more texts i [] inside))
 
 pub removed_more : (layout : SuggestionLayout) (first number : ℕ) (infos : List LineInfo) (i : ℕ) (d : LineInfo) (old mid new : List (List Cell)) → i < length infos → number ≡ number_after first i → AddsRemoved layout (counted_from first 0 (take i (texts_at infos))) old mid → AddsRow (IsRowOfRemoved layout (number, (get_or infos i d).line.now)) mid new → AddsRemoved layout (counted_from first 0 (take (i + 1) (texts_at infos))) old new
 removed_more layout first number infos i d old mid new within counted adds more =
@@ -76,7 +76,7 @@ numbered_next : (infos : List LineInfo) (i : ℕ) (d : LineInfo) → i < length 
 numbered_next infos i d within =
     let line : LineInfo → ℕ × List ℕ = λ info. (info.line_index, info.line.now) in
     let inside : i < length (numbered_at infos) = omega (arith, length-map infos line) in
-    ap (λ t. take i (numbered_at infos) ++ t ∷ []) (sym (get_or-map line infos i d (0, []) within)) ∙ sym (next_of (numbered_at infos) i (0, []) inside)
+    ap (λ t. take i (numbered_at infos) ++ t ∷ []) (sym (get_or-map line infos i d (0, []) within)) ∙ sym (take_more (numbered_at infos) i (0, []) inside)
 
 all_numbered : (infos : List LineInfo) (i : ℕ) → length infos ≤ i → take i (numbered_at infos) ≡ numbered_at infos
 all_numbered infos i all =

@@ -11,7 +11,7 @@ use Rattle.snippet_suggest.specs.Rows.{NumberFits}
 use Rattle.snippet_suggest.specs.Shown.{lines_from, shown_run, shown_from, shown_lines, number_of, numbers_shown, AreRising}
 
 -- the bounds of ascending numbers, and two such lists joined
-rising_bound : (from to : ℕ) (ks : List ℕ) → AreRising from to ks → from ≤ to
+pub rising_bound : (from to : ℕ) (ks : List ℕ) → AreRising from to ks → from ≤ to
 rising_bound from to [] rising = rising
 rising_bound from to (k ∷ ks) rising = omega (arith, rising.0, rising_bound (k + 1) to ks rising.1)
 

@@ -14,73 +14,18 @@ use Rattle.snippet_style.proofs.CellLemmas.{All-text_cells, length-text_cells, l
 use Rattle.snippet_text.specs.Normalized.{is_listed}
 use Rattle.snippet_model.specs.Rows.{IsFreeCell, IsFree}
 use Rattle.snippet_suggest.specs.Rows.{HoldsText}
-
--- writing into an empty row
-pub written-nil : (at : ℕ) (cells : List Cell) → written SPACE [] at cells ≡ replicate at SPACE ++ cells
-written-nil at cells =
-    same_lists _ _ (unfold written in grind (arith, places)) (λ k d h. unfold written in grind (arith, places))
-
--- a row that is begun by some cells
-pub begun_by : (old new : List (List Cell)) (row at : ℕ) (cells : List Cell) → row ≡ length old → new ≡ cells_written old row at cells → new ≡ old ++ (replicate at SPACE ++ cells) ∷ []
-begun_by old new row at cells below writes =
-    writes ∙ ap (λ r. cells_written old r at cells) below ∙ cells_written_below old at cells ∙ ap (λ r. old ++ r ∷ []) (written-nil at cells)
-
--- a row after a text was put into it: one with no bytes leaves it as it was
-abbrev pub texted : List ℕ → List Cell → ℕ → List Cell → List Cell
-texted [] row at cells = row
-texted (b ∷ bs) row at cells = written SPACE row at cells
-
--- a text that was put into the last row
-pub text_put : (above mid new : List (List Cell)) (row : List Cell) (r at : ℕ) (bytes : List ℕ) (cells : List Cell) → mid ≡ above ++ row ∷ [] → r ≡ length above → (0 < length bytes → new ≡ cells_written mid r at cells) → (bytes ≡ [] → new ≡ mid) → new ≡ above ++ texted bytes row at cells ∷ []
-text_put above mid new row r at [] cells before last writes stays = stays refl ∙ before
-text_put above mid new row r at (b ∷ bs) cells before last writes stays =
-    writes (omega arith) ∙ ap (λ rows. cells_written rows r at cells) before ∙ ap (λ i. cells_written (above ++ row ∷ []) i at cells) last ∙ cells_written_last above row at cells
-
--- cells drawn of characters that aren't listed are free
-pub free_drawn : (role : ElementStyle) (cs : List ℕ) → All (λ c. is_listed c ≡ false) cs → IsFree (text_cells role cs)
-free_drawn role cs free =
-    All-text_cells IsFreeCell role cs (All-weaker (λ c. is_listed c ≡ false) (λ c. IsFreeCell (unlinked_cell role c)) (λ c is. (is, refl)) cs free)
-
--- elements of which none passes a test, one by one
-pub All-from_none : (p : ℕ → Bool) (xs : List ℕ) → list_any p xs ≡ false → All (λ x. p x ≡ false) xs
-All-from_none p [] none = let P : ℕ → Type 0 = λ x. p x ≡ false in All-nil P
-All-from_none p (x ∷ xs) none =
-    let P : ℕ → Type 0 = λ x. p x ≡ false in
-    let first : p x ≡ false = grind arith in
-    let later : list_any p xs ≡ false = grind arith in
-    All-cons P x xs first (All-from_none p xs later)
-
--- a write of free cells keeps a row free
-pub free_written : (row : List Cell) (at : ℕ) (cells : List Cell) → IsFree row → IsFree cells → IsFree (written SPACE row at cells)
-unfolding written
-free_written row at cells free_row free_cells =
-    let P : Cell → Type 0 = IsFreeCell in
-    let pad = replicate (at - length row) SPACE in
-    All-append P (take at (row ++ pad) ++ cells) (drop (at + length cells) row) (All-append P (take at (row ++ pad)) cells (All-take P at (row ++ pad) (All-append P row pad free_row (All-replicate P (at - length row) SPACE (refl, refl)))) free_cells) (All-drop P (at + length cells) row free_row)
+pub use Rattle.snippet_style.proofs.RowLemmas.{written-nil, led_before}
+pub use Rattle.snippet_grid.proofs.RowLemmas.{begun_by, texted, text_put, row_text-text_cells}
+pub use Rattle.snippet_model.proofs.RowLemmas.{each_fails as All-from_none, free_drawn, free_written, free_led}
 
 pub free_texted : (bytes : List ℕ) (row : List Cell) (at : ℕ) (cells : List Cell) → IsFree row → IsFree cells → IsFree (texted bytes row at cells)
 free_texted [] row at cells free_row free_cells = free_row
 free_texted (b ∷ bs) row at cells free_row free_cells = free_written row at cells free_row free_cells
 
--- a row of spaces and some free cells after them
-pub free_led : (n : ℕ) (cells : List Cell) → IsFree cells → IsFree (replicate n SPACE ++ cells)
-free_led n cells free =
-    let P : Cell → Type 0 = IsFreeCell in
-    All-append P (replicate n SPACE) cells (All-replicate P n SPACE (refl, refl)) free
-
-pub led_before : (n c : ℕ) (cells : List Cell) → c < n → slice_index_or (replicate n SPACE ++ cells) c SPACE ≡ SPACE
-led_before n c cells left =
-    get_or_append_left (replicate n SPACE) cells SPACE c (omega (arith, length-replicate n SPACE, left)) ∙ get_or-replicate n c SPACE SPACE left
-
 -- how long a row is once a text was put into it
 pub length-texted_le : (bytes : List ℕ) (row : List Cell) (at width : ℕ) (cells : List Cell) → length row ≤ width → at + length cells ≤ width → length (texted bytes row at cells) ≤ width
 length-texted_le [] row at width cells short fits = short
 length-texted_le (b ∷ bs) row at width cells short fits = omega (arith, length-written SPACE row at cells)
-
--- the characters of cells that are drawn
-pub row_text-text_cells : (role : ElementStyle) (cs : List ℕ) → row_text (text_cells role cs) ≡ cs
-row_text-text_cells role [] = refl
-row_text-text_cells role (c ∷ cs) = ap (λ t. c ∷ t) (row_text-text_cells role cs)
 
 -- a text that is put after a row stands there to the row's end
 pub holds_texted : (gutter : ℕ) (bytes : List ℕ) (row : List Cell) (role : ElementStyle) → length row ≤ gutter + 3 → HoldsText gutter (chars bytes) (texted bytes row (gutter + 3) (text_cells role (chars bytes)))

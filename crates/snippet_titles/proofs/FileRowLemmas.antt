@@ -17,6 +17,9 @@ use Rattle.snippet_titles.specs.declared.origin.OriginLayout.{OriginLayout}
 use Rattle.snippet_titles.specs.Origin.{file_glyph, file_row, origin_row, origin_text}
 use Rattle.snippet_style.specs.Separators.{separator_row, closing_row}
 use Rattle.snippet_titles.proofs.ExtendLemmas.{extended, extended_from, length-begun}
+use Rattle.snippet_style.proofs.RowLemmas.{closing_some as closing-some}
+use Rattle.snippet_grid.proofs.RowLemmas.{begun_by_text}
+pub use Rattle.snippet_grid.proofs.RowLemmas.{separator_row-begun}
 
 -- the glyphs that only the rows of paths have, as characters
 pub chars-alone : chars (32 ∷ 226 ∷ 148 ∷ 128 ∷ 226 ∷ 150 ∷ 184 ∷ 32 ∷ []) ≡ codes " ─▸ "
@@ -42,10 +45,6 @@ file_glyph-some Later Unicode = omega arith
 file_glyph-some Secondary Ascii = omega arith
 file_glyph-some Secondary Unicode = omega arith
 
-closing-some : (decor : DecorStyle) → 0 < length (closing_of decor)
-closing-some Ascii = omega arith
-closing-some Unicode = omega arith
-
 -- each glyph has at most four characters
 pub file_glyph-short : (start : FileStart) (decor : DecorStyle) → length (file_glyph start decor) ≤ 4
 file_glyph-short Alone Ascii = omega arith
@@ -57,21 +56,6 @@ file_glyph-short Later Unicode = omega arith
 file_glyph-short Secondary Ascii = omega arith
 file_glyph-short Secondary Unicode = omega arith
 
--- writing into an empty row
-written-nil : (at : ℕ) (cells : List Cell) → written SPACE [] at cells ≡ replicate at SPACE ++ cells
-written-nil at cells =
-    same_lists _ _ (unfold written in grind (arith, places)) (λ k d h. unfold written in grind (arith, places))
-
--- a row that is begun by some cells alone
-begun_by : (old new : List (List Cell)) (row at : ℕ) (cells : List Cell) → row ≡ length old → new ≡ cells_written old row at cells → new ≡ old ++ (replicate at SPACE ++ cells) ∷ []
-begun_by old new row at cells below writes =
-    writes ∙ ap (λ r. cells_written old r at cells) below ∙ cells_written_below old at cells ∙ ap (λ r. old ++ r ∷ []) (written-nil at cells)
-
--- a row that is begun by a text
-begun_by_text : (old new : List (List Cell)) (row at : ℕ) (text glyph : List ℕ) → row ≡ length old → chars text ≡ glyph → 0 < length glyph → (0 < length text → new ≡ cells_written old row at (text_cells LineNumber (chars text))) → new ≡ old ++ (replicate at SPACE ++ text_cells LineNumber glyph) ∷ []
-begun_by_text old new row at text glyph below is some writes =
-    begun_by old new row at (text_cells LineNumber glyph) below (writes (omega (arith, length-chars_le text, ap length is, some)) ∙ ap (λ cs. cells_written old row at (text_cells LineNumber cs)) is)
-
 -- the row that leads to a file
 pub file_row-begun : (old new : List (List Cell)) (row : ℕ) (text : List ℕ) (layout : OriginLayout) (start : FileStart) → row ≡ length old → chars text ≡ file_glyph start layout.decor → (0 < length text → new ≡ cells_written old row layout.gutter (text_cells LineNumber (chars text))) → new ≡ old ++ file_row layout start ∷ []
 unfolding file_row
@@ -82,11 +66,6 @@ file_row-begun old new row text layout start below is writes =
 pub closing_row-begun : (old new : List (List Cell)) (row gutter : ℕ) (text : List ℕ) (decor : DecorStyle) → row ≡ length old → chars text ≡ closing_of decor → (0 < length text → new ≡ cells_written old row (gutter + 1) (text_cells LineNumber (chars text))) → new ≡ old ++ closing_row decor gutter ∷ []
 closing_row-begun old new row gutter text decor below is writes =
     begun_by_text old new row (gutter + 1) text (closing_of decor) below is (closing-some decor) writes
-
--- the separator row
-pub separator_row-begun : (old new : List (List Cell)) (row gutter stroke : ℕ) (decor : DecorStyle) → row ≡ length old → stroke ≡ separator_of decor → new ≡ cells_written old row (gutter + 1) (text_cells LineNumber (stroke ∷ [])) → new ≡ old ++ separator_row decor gutter ∷ []
-separator_row-begun old new row gutter stroke decor below is writes =
-    begun_by old new row (gutter + 1) (text_cells LineNumber (separator_of decor ∷ [])) below (writes ∙ ap (λ s. cells_written old row (gutter + 1) (text_cells LineNumber (s ∷ []))) is)
 
 -- the row of a path: the row that leads to it, with the text after that
 pub origin_row-begun : (old now new : List (List Cell)) (row : ℕ) (text path : List ℕ) (layout : OriginLayout) (start : FileStart) (place : OriginLocation) → row ≡ length old → now ≡ old ++ file_row layout start ∷ [] → chars text ≡ origin_text layout.anonymized path place → (0 < length text → new ≡ cells_written now row (length (row_at now row)) (text_cells LineAndColumn (chars text))) → (text ≡ [] → new ≡ now) → new ≡ old ++ origin_row layout start path place ∷ []

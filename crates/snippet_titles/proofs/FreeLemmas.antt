@@ -23,18 +23,11 @@ use Rattle.snippet_titles.specs.declared.style.TitleStyle.TheVariants.{Title, Sh
 use Rattle.snippet_titles.specs.Heading.{bracketed_text, closing_of, colon_of, shown_text, heading_lines, heading_rows, id_text, indent_cells, is_set, label_cells, label_text, label_width, lines_below, note_bar_of, note_sign_of, on_top, opening_of, roles_of, sign_cells, trimmed}
 use Rattle.snippet_titles.specs.Shown.{IsFreeButText}
 use Rattle.snippet_titles.proofs.TextLemmas.{row_text-append, row_text-after, row_text-text_cells, row_text-label, row_text-spaces}
+use Rattle.snippet_model.proofs.RowLemmas.{each_fails as fails_each}
 
 -- a character that isn't listed
 abbrev pub IsUnlisted : ℕ → Type 0
 IsUnlisted c = is_listed c ≡ false
-
--- where no element passes a test, each fails it
-fails_each : (p : ℕ → Bool) (xs : List ℕ) → list_any p xs ≡ false → All (λ x. p x ≡ false) xs
-fails_each p [] none = All-nil (λ x. p x ≡ false)
-fails_each p (x ∷ xs) none =
-    let first : p x ≡ false = grind (arith, none) in
-    let later : list_any p xs ≡ false = grind (arith, none) in
-    All-cons (λ y. p y ≡ false) x xs first (fails_each p xs later)
 
 -- normalised text holds no listed character
 pub norm-free : (cs : List ℕ) → All IsUnlisted (norm cs)

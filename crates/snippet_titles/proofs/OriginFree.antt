@@ -22,14 +22,7 @@ use Rattle.snippet_style.specs.Separators.{separator_row, closing_row}
 use Rattle.snippet_titles.proofs.DigitLemmas.{IsDigit}
 use Rattle.snippet_titles.proofs.OriginText.{place_text-each}
 use Rattle.snippet_titles.proofs.HeadLemmas.{primary_head-each, secondary_head-each, nameless_head-each}
-
--- where no element passes a test, each fails it
-pub each-fails : (p : ℕ → Bool) (xs : List ℕ) → list_any p xs ≡ false → All (λ x. p x ≡ false) xs
-each-fails p [] none = All-nil (λ x. p x ≡ false)
-each-fails p (x ∷ xs) none =
-    let first : p x ≡ false = grind (arith, none) in
-    let later : list_any p xs ≡ false = grind (arith, none) in
-    All-cons (λ y. p y ≡ false) x xs first (each-fails p xs later)
+pub use Rattle.snippet_model.proofs.RowLemmas.{each_fails as each-fails, free_drawn as text_cells-free, free_separator_row as separator_row-free}
 
 -- no glyph is a listed character
 glyphs-unlisted : (start : FileStart) (decor : DecorStyle) → list_any is_listed (file_glyph start decor) ≡ false
@@ -46,23 +39,9 @@ closing-unlisted : (decor : DecorStyle) → list_any is_listed (closing_of decor
 closing-unlisted Ascii = refl
 closing-unlisted Unicode = refl
 
-separator-unlisted : (decor : DecorStyle) → list_any is_listed (separator_of decor ∷ []) ≡ false
-separator-unlisted Ascii = refl
-separator-unlisted Unicode = refl
-
--- cells drawn of characters that aren't listed are free, after spaces too
-text_cells-free : (role : ElementStyle) (cs : List ℕ) → All (λ c. is_listed c ≡ false) cs → IsFree (text_cells role cs)
-text_cells-free role cs free =
-    All-text_cells IsFreeCell role cs (All-weaker (λ c. is_listed c ≡ false) (λ c. IsFreeCell (unlinked_cell role c)) (λ c is. (is, refl)) cs free)
-
 after_spaces-free : (n : ℕ) (role : ElementStyle) (cs : List ℕ) → list_any is_listed cs ≡ false → IsFree (replicate n SPACE ++ text_cells role cs)
 after_spaces-free n role cs none =
     All-append IsFreeCell (replicate n SPACE) (text_cells role cs) (All-replicate IsFreeCell n SPACE (refl, refl)) (text_cells-free role cs (each-fails is_listed cs none))
-
--- the rows that set others off are free
-pub separator_row-free : (decor : DecorStyle) (gutter : ℕ) → IsFree (separator_row decor gutter)
-separator_row-free decor gutter =
-    after_spaces-free (gutter + 1) LineNumber (separator_of decor ∷ []) (separator-unlisted decor)
 
 pub closing_row-free : (decor : DecorStyle) (gutter : ℕ) → IsFree (closing_row decor gutter)
 closing_row-free decor gutter =

@@ -7,12 +7,9 @@ use Rattle.snippet_view.specs.declared.depths.LongExtent.{LongExtent}
 use Rattle.snippet_view.specs.Depths.{same_place, share_line, places_of, raw_depth, raw_depth_among, greatest_raw_depth, greatest_depth, depth_among, SharesWithFirst, IsChainOf, IsLongestChain, raw_depths}
 use Rattle.snippet_view.proofs.RawDepthLemmas.{among-after, among-most, among-new, any-at, fold-max, greatest-bound, greatest-is, length-raw_depths, max_of, places-bound, raw_depths-are, same-true}
 use Rattle.snippet_view.proofs.DepthSearchLemmas.{near_max-after, no_place, raw_depth-near, raw_depth-some}
+use Rattle.std.proofs.lemmas.Simd.{map-map}
 
 -- ---- depths
-
-map-map : {X Y Z : Type 0} (f : Y → Z) (g : X → Y) (xs : List X) → map f (map g xs) ≡ map (λ x. f (g x)) xs
-map-map f g [] = refl
-map-map f g (x ∷ xs) = ap (λ zs. f (g x) ∷ zs) (map-map f g xs)
 
 pub depths-are : (ps : List LongExtent) → map (λ raw. greatest_depth ps - raw + 1) (raw_depths ps) ≡ map (depth_among ps) ps
 depths-are ps = ap (map (λ raw. greatest_depth ps - raw + 1)) (raw_depths-are ps) ∙ map-map (λ raw. greatest_depth ps - raw + 1) (raw_depth_among (places_of ps)) ps

@@ -1,52 +1,14 @@
 -- How the window of a line is found, character by character.
-use Rattle.std.proofs.Common.{◌≡◌, ◌^◌, Option, Some, None, IfSome, unwrap_or, ℕ, ◌+◌, ◌-◌, ◌<◌, ◌≤◌, cond, eqb, leb, true, false, List, [], ◌∷◌, ◌++◌, length, take, drop, get_or, refl, sym, ap, ◌∙◌, subst, le_refl, arith, chars, encode_utf8, encode_utf8_all, IsUtf8}
-use Rattle.std.proofs.Math.Utf8.{scalars}
-use Rattle.std.specs.Str.{IsCharBoundary}
-use Rattle.std.proofs.lemmas.Str.{encodes-chars, encodes-append, scalars-chars, chars-encodes, IsCharBoundary-at_seam}
-use Rattle.std.proofs.lemmas.List.{at_drop_more, drop_all, take-append-drop, take_at, drop_at, length-append, length-drop, length-take, take_all, take_more, append-nil}
+use Rattle.std.proofs.Common.{◌≡◌, ◌^◌, Option, Some, None, IfSome, unwrap_or, ℕ, ◌+◌, ◌-◌, ◌<◌, ◌≤◌, cond, eqb, leb, true, false, List, [], ◌∷◌, ◌++◌, length, take, drop, refl, sym, ap, ◌∙◌, le_refl, arith, chars, encode_utf8, IsUtf8}
+use Rattle.std.proofs.lemmas.Str.{encodes-chars}
+use Rattle.std.proofs.lemmas.List.{drop_all, length-drop, length-take, take_all}
 use Rattle.std.proofs.lemmas.List.Sums.{sum_by-cons, fold_push}
 use Rattle.std.proofs.lemmas.Bool.{le-leb}
 use Rattle.std.proofs.lemmas.Bool.Decides.{nat_tests}
 use Rattle.snippet_text.specs.Width.{char_width, width_of}
-use Rattle.snippet_view.specs.Window.{reaching, fitting, reaching_last, bytes_of, uncovered_part}
-
--- the scalars of a list's two parts
-scalars_back : (xs ys : List ℕ) → scalars (xs ++ ys) ≡ true → scalars ys ≡ true
-scalars_back [] ys all = all
-scalars_back (x ∷ xs) ys all = scalars_back xs ys (grind arith)
-
-scalars_front : (xs ys : List ℕ) → scalars (xs ++ ys) ≡ true → scalars xs ≡ true
-scalars_front [] ys all = refl
-scalars_front (x ∷ xs) ys all =
-    let rest = scalars_front xs ys (grind arith) in
-    grind arith
-
--- a text, cut after its first n characters
-pub text_parts : (text : List ℕ) (n : ℕ) → IsUtf8 text → text ≡ encode_utf8_all (take n (chars text)) ++ encode_utf8_all (drop n (chars text))
-text_parts text n utf8 =
-    sym (encodes-chars text utf8) ∙ ap encode_utf8_all (sym (take-append-drop n (chars text))) ∙ encodes-append (take n (chars text)) (drop n (chars text))
-
-all_scalars : (text : List ℕ) (n : ℕ) → IsUtf8 text → scalars (take n (chars text) ++ drop n (chars text)) ≡ true
-all_scalars text n utf8 = ap scalars (take-append-drop n (chars text)) ∙ scalars-chars text utf8
-
-pub cut_boundary : (text : List ℕ) (n at : ℕ) → IsUtf8 text → at ≡ bytes_of (take n (chars text)) → IsCharBoundary text at
-cut_boundary text n at utf8 is =
-    let back = drop n (chars text) in
-    subst (IsCharBoundary text) (sym is) (IsCharBoundary-at_seam text (encode_utf8_all (take n (chars text))) (encode_utf8_all back) (text_parts text n utf8) (back, (scalars_back (take n (chars text)) back (all_scalars text n utf8), refl)))
-
-pub cut_front : (text : List ℕ) (n at : ℕ) → IsUtf8 text → at ≡ bytes_of (take n (chars text)) → chars (take at text) ≡ take n (chars text)
-cut_front text n at utf8 is =
-    let front = take n (chars text) in
-    let back = drop n (chars text) in
-    let bytes : take at text ≡ encode_utf8_all front = ap (take at) (text_parts text n utf8) ∙ take_at (encode_utf8_all front) (encode_utf8_all back) at (sym is) in
-    ap chars bytes ∙ chars-encodes front (scalars_front front back (all_scalars text n utf8))
-
-pub cut_back : (text : List ℕ) (n at : ℕ) → IsUtf8 text → at ≡ bytes_of (take n (chars text)) → chars (drop at text) ≡ drop n (chars text)
-cut_back text n at utf8 is =
-    let front = take n (chars text) in
-    let back = drop n (chars text) in
-    let bytes : drop at text ≡ encode_utf8_all back = ap (drop at) (text_parts text n utf8) ∙ drop_at (encode_utf8_all front) (encode_utf8_all back) at (sym is) in
-    ap chars bytes ∙ chars-encodes back (scalars_back front back (all_scalars text n utf8))
+use Rattle.snippet_view.specs.Window.{reaching, fitting, reaching_last, uncovered_part}
+use Rattle.snippet_style.specs.Cell.{bytes_of}
+pub use Rattle.snippet_style.proofs.CutLemmas.{text_parts, cut_boundary, cut_front, cut_back, bytes-push, IsNext, take-next, drop-next, bytes_within, bytes_next}
 
 -- one more character
 pub width-cons : (c : ℕ) (cs : List ℕ) → width_of (c ∷ cs) ≡ char_width c + width_of cs
@@ -54,29 +16,6 @@ width-cons c cs = sum_by-cons char_width c cs
 
 width-push : (cs : List ℕ) (c : ℕ) → width_of (cs ++ c ∷ []) ≡ width_of cs + char_width c
 width-push cs c = fold_push (λ a x. a + char_width x) 0 cs c
-
-bytes-push : (cs : List ℕ) (c : ℕ) → bytes_of (cs ++ c ∷ []) ≡ bytes_of cs + length (encode_utf8 c)
-bytes-push cs c =
-    ap length (encodes-append cs (c ∷ []) ∙ ap (λ bs. encode_utf8_all cs ++ bs) (append-nil (encode_utf8 c))) ∙ length-append (encode_utf8_all cs) (encode_utf8 c)
-
--- the character that stands next
-abbrev pub IsNext : List ℕ → ℕ → ℕ → Type 0
-IsNext cs n c = (n < length cs) × (c ≡ get_or cs n c)
-
-take-next : (cs : List ℕ) (n c : ℕ) → IsNext cs n c → take (n + 1) cs ≡ take n cs ++ c ∷ []
-take-next cs n c next = take_more cs n c next.0 ∙ ap (λ x. take n cs ++ x ∷ []) (sym next.1)
-
-drop-next : (cs : List ℕ) (n c : ℕ) → IsNext cs n c → drop n cs ≡ c ∷ drop (n + 1) cs
-drop-next cs n c next = at_drop_more (λ xs. xs) cs n c next.0 ∙ ap (λ x. x ∷ drop (n + 1) cs) (sym next.1)
-
--- no more bytes stand before a character than the text has
-pub bytes_within : (text : List ℕ) (n : ℕ) → IsUtf8 text → bytes_of (take n (chars text)) ≤ length text
-bytes_within text n utf8 =
-    omega (arith, ap length (text_parts text n utf8), length-append (encode_utf8_all (take n (chars text))) (encode_utf8_all (drop n (chars text))))
-
-pub bytes_next : (text : List ℕ) (n at c : ℕ) → IsUtf8 text → IsNext (chars text) n c → at ≡ bytes_of (take n (chars text)) → at + length (encode_utf8 c) ≤ length text
-bytes_next text n at c utf8 next is =
-    omega (arith, is, bytes_within text (n + 1) utf8, ap bytes_of (take-next (chars text) n c next), bytes-push (take n (chars text)) c)
 
 -- the characters so far don't reach so many columns: what is left is reached after them
 pub record ReachesSoFar (columns : ℕ) (cs : List ℕ) (n at width : ℕ) : Type 0 where

@@ -275,7 +275,7 @@ part_measured g fold s marks k c ns kept found inside =
     among_flat_map (measured g) (filter has_columns (kept_parts fold s marks)) p c (among_filter has_columns (kept_parts fold s marks) p here found.2) (subst (λ ms. Among ms c) (sym found.4) inside)
 
 -- the start of a span, by its byte
-start_byte : (s : Source) (a : Annotation) → (long_entry s a).start.byte ≡ a.span.start
+pub start_byte : (s : Source) (a : Annotation) → (long_entry s a).start.byte ≡ a.span.start
 unfolding locations_of start_location location_of
 start_byte s a = refl
 

@@ -1,7 +1,7 @@
 -- What holds of each entry that is made: of those of each span.
-use Rattle.std.proofs.Common.{◌≡◌, ℕ, ◌+◌, ◌-◌, ◌<◌, ◌≤◌, Bool, true, false, ◌&&◌, cond, not, ltb, min, List, [], ◌∷◌, ◌++◌, map, get_or, ◌⊎◌, inl, inr, refl, ◌∙◌, arith}
+use Rattle.std.proofs.Common.{◌≡◌, ℕ, ◌+◌, ◌-◌, ◌<◌, ◌≤◌, Bool, true, false, ◌&&◌, cond, not, ltb, min, List, [], ◌∷◌, ◌++◌, map, get_or, ◌⊎◌, inl, inr, ◌||◌, refl, ap, arith}
 use Rattle.std.specs.List.{All, Contains, filter, list_any, range_with_len}
-use Rattle.std.proofs.lemmas.Bool.{cond-false, cond_both, and_parts, ltb-true}
+use Rattle.std.proofs.lemmas.Bool.{cond_both, and_parts, ltb-true}
 use Rattle.std.proofs.lemmas.List.Elements.{All-nil, All-cons, All-head, All-tail, All-append, All-map, All-weaker, All-contains_itself}
 use Rattle.std.proofs.lemmas.List.FromFn.{length-range_with_len, get_or-range_with_len}
 use Rattle.snippet_model.specs.declared.snippet.Annotation.{Annotation}
@@ -15,6 +15,7 @@ use Rattle.snippet_view.specs.Depths.{depth_among, same_place}
 use Rattle.snippet_view.specs.Kept.{is_trivial_line}
 use Rattle.snippet_lines.specs.Lines.{Source}
 use Rattle.snippet_view.specs.Marked.{Entry}
+pub use Rattle.snippet_lines.proofs.OrderLemmas.{filter-none}
 
 -- ---- lists
 
@@ -38,10 +39,6 @@ pub All-range : (a n : ℕ) → All (λ k. (a ≤ k) × (k < a + n)) (range_with
 All-range a n k d within =
     let below : k < n = omega (arith, length-range_with_len a n) in
     let at : get_or (range_with_len a n) k d ≡ a + k = get_or-range_with_len a n k d below in (omega arith, omega arith)
-
-pub filter-none : {X : Type 0} (p : X → Bool) (xs : List X) → All (λ x. p x ≡ false) xs → filter p xs ≡ []
-filter-none p [] all = refl
-filter-none p (x ∷ xs) all = cond-false (p x) (x ∷ filter p xs) (filter p xs) (All-head (λ x. p x ≡ false) x xs all) ∙ filter-none p xs (All-tail (λ x. p x ≡ false) x xs all)
 
 pub All-unmapped : {X Y : Type 0} (P : Y → Type 0) (f : X → Y) (xs : List X) → All P (map f xs) → All (λ x. P (f x)) xs
 All-unmapped P f [] all = All-nil (λ x. P (f x))
@@ -108,3 +105,8 @@ pub made-all : (P : PartEntry → Type 0) (s : Source) (marks : List Annotation)
 made-all P s marks short long =
     let singles : All P (map (single_part s) (filter (is_short s.text) marks)) = All-map P (single_part s) (filter (is_short s.text) marks) (All-filtered (is_short s.text) (λ a. P (single_part s a)) marks (All-weaker (Contains marks) (λ a. is_short s.text a ≡ true → P (single_part s a)) short marks (All-contains_itself marks))) in
     All-append P (map (single_part s) (filter (is_short s.text) marks)) (long_parts s (long_places s marks) [] (long_spans s marks)) singles (longs-all P s marks long)
+
+-- a test of elements that were made from others, by those
+pub list_any-map : {X Y : Type 0} (p : Y → Bool) (f : X → Y) (xs : List X) → list_any p (map f xs) ≡ list_any (λ x. p (f x)) xs
+list_any-map p f [] = refl
+list_any-map p f (x ∷ xs) = ap (λ b. p (f x) || b) (list_any-map p f xs)

@@ -1,5 +1,5 @@
 -- The window of a line: the part of it that is shown.
-use Rattle.std.specs.Prelude.{◌≡◌, ℕ, ◌+◌, ◌-◌, ◌≤◌, ◌==◌, ◌&&◌, ◌||◌, ◌⊎◌, nat_lt, nat_le, min, zero, suc, Bool, false, not, List, [], ◌∷◌, ◌++◌, Option, Some, None, is_none, chars, unwrap_or, encode_utf8_all, length, take, drop, if◌then◌else◌}
+use Rattle.std.specs.Prelude.{◌≡◌, ℕ, ◌+◌, ◌-◌, ◌≤◌, ◌==◌, ◌&&◌, ◌||◌, ◌⊎◌, nat_lt, nat_le, min, zero, suc, Bool, false, not, List, [], ◌∷◌, ◌++◌, Option, Some, None, is_none, chars, unwrap_or, length, take, drop, if◌then◌else◌}
 use Rattle.std.specs.List.{list_all, list_any}
 use Rattle.std.specs.Option.{option_map}
 use Rattle.std.specs.Char.{is_whitespace}
@@ -30,10 +30,6 @@ reaching columns (c ∷ cs) = if columns == 0 then 0 else reaching (columns - ch
 abbrev pub fitting : ℕ → List ℕ → ℕ
 fitting columns [] = 0
 fitting columns (c ∷ cs) = if nat_le (char_width c) columns then fitting (columns - char_width c) cs + 1 else 0
-
--- how many bytes some characters have
-abbrev pub bytes_of : List ℕ → ℕ
-bytes_of cs = length (encode_utf8_all cs)
 
 -- where the window of a text begins, and where it ends, in columns, in a room of so many: at these bounds, but a text
 -- that fits after its beginning isn't cut at the right

@@ -9,6 +9,7 @@ use Rattle.annotate_snippets.specs.declared.snippet.Element.{Element}
 use Rattle.annotate_snippets.specs.declared.snippet.Group.{Group}
 use Rattle.annotate_snippets.specs.declared.snippet.Title.{Title}
 use Rattle.tidy_run.specs.Report.{IsGroupOf, IsReportOf, Told}
+use Rattle.std.proofs.lemmas.List.{append-nil as append_none}
 
 -- a group of a title and an element, where there is memory for it
 pub group-of : (r : Result Group AllocError) (level : Level) (text : List ℕ) (trusted : Bool) (title : Title) (element : Element)
@@ -32,10 +33,6 @@ group-of (Ok g) level text trusted title element titled kind elements l t i s =
 flat_map-join : {A B : Type 0} (f : A → List B) (xs ys : List A) → flat_map f (xs ++ ys) ≡ flat_map f xs ++ flat_map f ys
 flat_map-join f [] ys = refl
 flat_map-join f (x ∷ xs) ys = ap (λ l. f x ++ l) (flat_map-join f xs ys) ∙ sym (append_assoc (f x) (flat_map f xs) (flat_map f ys))
-
-append_none : {A : Type 0} (xs : List A) → xs ++ [] ≡ xs
-append_none [] = refl
-append_none (x ∷ xs) = ap (λ (l : List _). x ∷ l) (append_none xs)
 
 -- one report after another
 pub report-join : (path source : List ℕ) (told more : List Told) (groups others : List Group) → IsReportOf path source told groups → IsReportOf path source more others → IsReportOf path source (told ++ more) (groups ++ others)

@@ -10,8 +10,9 @@ use Rattle.snippet_lines.specs.Number.{shown_number}
 use Rattle.snippet_strokes.proofs.CellLemmas.{cells_are, part_few, unlisted_part}
 use Rattle.snippet_lines.proofs.NumberLemmas.{chars-shown_number, shown_number_unlisted}
 use Rattle.snippet_strokes.proofs.RowLemmas.{AddsSourceRow-same}
-use Rattle.snippet_strokes.proofs.TextLemmas.{All-from_none, norm_short}
+use Rattle.snippet_strokes.proofs.TextLemmas.{norm_short}
 use Rattle.snippet_strokes.proofs.source_row.draw_source_row.Goals as goal
+use Rattle.snippet_model.proofs.RowLemmas.{each_fails}
 
 pub window_of-window-requires-clause-short : goal.window_of-window-requires-clause-short
 window_of-window-requires-clause-short c =
@@ -41,7 +42,7 @@ write_source_row-requires-clause-text_free c =
     let text = ap chars c.as_str.ensures.value ∙ c.in_ok-text.ensures.value in
     let within = part_of_norm c.args.margin c.str_width-width.result c.near_part-near.result.skipped line (chars c.near_part-near.result.text.now) (chars c.as_str.result.now) c.str_width-width.ensures.value text c.near_part-near.ensures.holds in
     let part = uncovered_part bounds.left placeholder (inner_part c.args.margin.term_width bounds.left bounds.right (norm line)) in
-    ap (list_any is_listed) (c.window_of-window.ensures.text (norm line) within) ∙ list_any_none is_listed part (unlisted_part bounds.left c.args.margin.term_width bounds.left bounds.right placeholder (norm line) (All-from_none (norm line) (list_any-norm line)))
+    ap (list_any is_listed) (c.window_of-window.ensures.text (norm line) within) ∙ list_any_none is_listed part (unlisted_part bounds.left c.args.margin.term_width bounds.left bounds.right placeholder (norm line) (each_fails is_listed (norm line) (list_any-norm line)))
 
 pub returns-clause-added : goal.returns-clause-added
 returns-clause-added c =

@@ -3,9 +3,9 @@ use Rattle.std.proofs.lemmas.Iterator.{YieldsList-from_chars}
 use Rattle.std.proofs.lemmas.List.{length_push, take_all}
 use Rattle.std.proofs.lemmas.Iterator.Consumers.{YieldsList-turn, YieldsList-end}
 use Rattle.snippet_text.specs.Width.{width_of}
-use Rattle.snippet_view.specs.Window.{bytes_of}
 use Rattle.snippet_view.proofs.LineWindowLemmas.{fits_next, fits_enough, fits_all, fits_start, bytes_next}
 use Rattle.snippet_view.proofs.line_window.walked_end.Goals as goal
+use Rattle.snippet_style.specs.Cell.{bytes_of}
 
 pub loop-c-init : goal.loop-c-init
 loop-c-init c = fits_start c.args.columns (chars c.args.text.now)
