@@ -197,6 +197,11 @@ IsWoven-from_prints sheet level rows text prints =
       ended = woven.ended;
     }
 
+-- what was added, where the rows are read as others
+pub AddsRows-same : (sheet : Stylesheet) (level : LevelInner) (rows added : List (List Cell)) (old start text : List ℕ) → added ≡ rows → start ≡ old → AddsRows sheet level added start text → AddsRows sheet level rows old text
+AddsRows-same sheet level rows added old start text same begun adds =
+    subst (λ (t : List ℕ). AddsRows sheet level rows t text) begun (subst (λ (rs : List (List Cell)). AddsRows sheet level rs start text) same adds)
+
 -- what was added to an empty text
 pub Prints-from_adds : (sheet : Stylesheet) (level : LevelInner) (rows added : List (List Cell)) (old text : List ℕ) → added ≡ rows → old ≡ [] → AddsRows sheet level added old text → Prints sheet level rows text
 Prints-from_adds sheet level rows added old text same none adds =

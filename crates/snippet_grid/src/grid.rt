@@ -10,7 +10,7 @@ ghost use Rattle.snippet_style.specs.declared.role.ElementStyle.TheVariants.{Lin
 ghost use Rattle.std.specs.Str.{chars};
 ghost use Rattle.snippet_grid.specs.Print as spec;
 ghost use Rattle.snippet_style.specs.Stylesheet.{is_plain_sheet};
-ghost use Rattle.snippet_grid.specs.Woven.{Prints, IsWoven, links_of};
+ghost use Rattle.snippet_grid.specs.Woven.{AddsRows, Prints, IsWoven, links_of};
 
 use crate::change::{Change, change_cells};
 use crate::put::Spare;
@@ -311,16 +311,34 @@ impl<'a> StyledBuffer<'a> {
         ensures plain { IfOk result (λ t. is_plain_sheet sheet.now ≡ true → links_of self.now ≡ []
             → string_bytes t ≡ encode_utf8_all (spec.plain_text self.now)) }
     {
+        let mut text = String::new(self.alloc);
+        self.render_into(&mut text, level, sheet)?;
+        Ok(text)
+    }
+
+    /// Adds the text that `render` gives to one that is there.
+    ///
+    /// # Errors
+    ///
+    /// There is no memory for the text. What was added until then stays.
+    pub fn render_into(
+        &self,
+        out: &mut String,
+        level: LevelInner,
+        sheet: &Stylesheet,
+    ) -> Result<(), AllocError>
+        ensures added { OnOk result
+            (AddsRows sheet.now level self.now (string_bytes out.old) (string_bytes out.new)) }
+    {
         // Codes take about as much as the text itself.
-        let mut text = String::with_capacity(self.alloc, self.text.len().saturating_mul(2))?;
+        out.reserve(self.text.len().saturating_mul(2))?;
         weave_rows(
-            &mut text,
+            out,
             self.text.as_str(),
             &self.runs,
             &self.widths,
             level,
             sheet,
-        )?;
-        Ok(text)
+        )
     }
 }

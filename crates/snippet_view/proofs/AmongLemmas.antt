@@ -164,7 +164,7 @@ among_filter_map h (z ∷ zs) x y (inr later) is =
 
 -- ---- the least and the greatest number of a list
 
-least_among : (n : ℕ) (ns : List ℕ) → Among (n ∷ ns) (unwrap_or (least (n ∷ ns)) 0)
+pub least_among : (n : ℕ) (ns : List ℕ) → Among (n ∷ ns) (unwrap_or (least (n ∷ ns)) 0)
 least_among n [] = inl refl
 least_among n (m ∷ ns) =
     let rest : ℕ = unwrap_or (least (m ∷ ns)) 0 in

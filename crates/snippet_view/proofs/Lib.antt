@@ -14,6 +14,8 @@ pub mod PlaceBounds
 pub mod RawDepthLemmas
 pub mod ShownFacts
 pub mod LocationLaws
+pub mod LongStarts
+pub mod NamingLaws
 pub mod LocationLemmas
 pub mod NearLemmas
 pub mod ShownLemmas

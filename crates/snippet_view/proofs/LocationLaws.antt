@@ -29,12 +29,12 @@ use Rattle.snippet_view.proofs.ShownLemmas.{filter-map}
 -- ---- lists
 
 -- the element at which a number is least, among some that aren't none
-record IsLeast {X : Type 0} (f : X → ℕ) (xs : List X) (x : X) : Type 0 where
+pub record IsLeast {X : Type 0} (f : X → ℕ) (xs : List X) (x : X) : Type 0 where
   pub among : Contains xs x
   pub is : least (map f xs) ≡ Some (f x)
   pub lowest : (y : X) → Contains xs y → f x ≤ f y
 
-least-first : {X : Type 0} (f : X → ℕ) (x : X) (xs : List X) → (y : X) × IsLeast f (x ∷ xs) y
+pub least-first : {X : Type 0} (f : X → ℕ) (x : X) (xs : List X) → (y : X) × IsLeast f (x ∷ xs) y
 least-first f x [] = (x, record { among = contains-here x x [] refl; is = refl; lowest = only })
   where
     only : (y : _) → Contains (x ∷ []) y → f x ≤ f y
@@ -82,10 +82,10 @@ filter-agree p q (x ∷ xs) same =
 
 -- ---- the first line that has a place
 
-ascends-tail : (k : ℕ) (ks : List ℕ) → Ascends (k ∷ ks) → Ascends ks
+pub ascends-tail : (k : ℕ) (ks : List ℕ) → Ascends (k ∷ ks) → Ascends ks
 ascends-tail k ks rises i j d less within = rises (suc i) (suc j) d (omega arith) (omega arith)
 
-ascends-head : (k : ℕ) (ks : List ℕ) (j : ℕ) → Ascends (k ∷ ks) → Contains ks j → k < j
+pub ascends-head : (k : ℕ) (ks : List ℕ) (j : ℕ) → Ascends (k ∷ ks) → Contains ks j → k < j
 ascends-head k ks j rises found = omega (arith, rises 0 (suc found.0) j (omega arith) (omega (arith, found.1)), found.2)
 
 -- it is the place on one of the lines, and no line above has one
@@ -131,7 +131,7 @@ first-of place_on line_at (k ∷ ks) some rises among has =
     by (Some place) is rest = (k, place, first-here place_on line_at k ks place rises is)
 
 -- where no line has a place there is none
-first-none : (place_on : KeptLine → Option Location) (line_at : ℕ → KeptLine) (ks : List ℕ) → ((k : ℕ) → place_on (line_at k) ≡ None) → first_place place_on (map line_at ks) ≡ None
+pub first-none : (place_on : KeptLine → Option Location) (line_at : ℕ → KeptLine) (ks : List ℕ) → ((k : ℕ) → place_on (line_at k) ≡ None) → first_place place_on (map line_at ks) ≡ None
 first-none place_on line_at [] none = refl
 first-none place_on line_at (k ∷ ks) none =
     ap (λ o. option_or o (first_place place_on (map line_at ks))) (none k) ∙ first-none place_on line_at ks none

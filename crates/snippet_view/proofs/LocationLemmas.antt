@@ -1,9 +1,11 @@
 -- The place that the head of a snippet names, line by line and entry by entry.
-use Rattle.std.proofs.Common.{◌≡◌, ℕ, ◌+◌, ◌<◌, ◌≤◌, true, false, min, Option, Some, None, List, [], ◌∷◌, ◌++◌, map, length, take, drop, get_or, refl, sym, ap, ◌∙◌}
+use Rattle.std.proofs.Common.{◌≡◌, ℕ, ◌+◌, ◌<◌, ◌≤◌, Bool, true, false, min, Option, Some, None, List, [], ◌∷◌, ◌++◌, map, length, take, drop, get_or, refl, sym, ap, ◌∙◌}
+use Rattle.std.specs.List.{filter}
 use Rattle.std.specs.Option.{option_map_or, option_or}
 use Rattle.std.proofs.lemmas.Bool.{cond-true, cond-false}
-use Rattle.std.proofs.lemmas.List.{append-nil, at_drop_all, at_drop_more, map_more, map_push}
+use Rattle.std.proofs.lemmas.List.{append-nil, at_drop_all, at_drop_more, map_more, map_push, take_more}
 use Rattle.std.proofs.lemmas.List.Elements.{filter-append}
+use Rattle.snippet_model.specs.declared.snippet.Annotation.{Annotation}
 use Rattle.snippet_view.specs.declared.entries.AnnotatedLineInfo.{AnnotatedLineInfo}
 use Rattle.snippet_view.specs.declared.entries.LineAnnotation.{LineAnnotation}
 use Rattle.snippet_view.specs.declared.location.Location.{Location}
@@ -74,3 +76,21 @@ primary_column-same es i d before within other known =
     let e : LineAnnotation = get_or es i d in
     known
     ∙ sym (ap (λ ps. least (start_columns ps)) (primary-more es i d within ∙ ap (λ ps. primary_parts (map seen_part (take i es)) ++ ps) (cond-false (is_primary e.kind) (seen_part e ∷ []) [] other) ∙ append-nil (primary_parts (map seen_part (take i es)))))
+
+-- ---- the bytes at which spans start
+
+filter-more : {X : Type 0} (test : X → Bool) (xs : List X) (i : ℕ) (x : X) → i < length xs → x ≡ get_or xs i x → filter test (take (i + 1) xs) ≡ filter test (take i xs) ++ filter test (x ∷ [])
+filter-more test xs i x within is = ap (filter test) (take_more xs i x within) ∙ filter-append test (take i xs) (get_or xs i x ∷ []) ∙ ap (λ y. filter test (take i xs) ++ filter test (y ∷ [])) (sym is)
+
+-- the least byte of the spans up to the i-th that pass a test, with the next: with its start where it passes
+pub start-more : (test : Annotation → Bool) (marks : List Annotation) (i : ℕ) (a : Annotation) (before : Option ℕ) → i < length marks → a ≡ get_or marks i a → test a ≡ true → before ≡ least (map (λ (b : Annotation). b.span.start) (filter test (take i marks))) → Some (option_map_or (λ n. min n a.span.start) before a.span.start) ≡ least (map (λ (b : Annotation). b.span.start) (filter test (take (i + 1) marks)))
+start-more test marks i a before within is passes known =
+    let start = λ (b : Annotation). b.span.start in
+    let so_far = filter test (take i marks) in
+    ap (λ o. Some (option_map_or (λ n. min n a.span.start) o a.span.start)) known
+    ∙ sym (ap (λ xs. least (map start xs)) (filter-more test marks i a within is ∙ ap (λ xs. so_far ++ xs) (cond-true (test a) (a ∷ []) [] passes)) ∙ ap least (map_push start so_far a) ∙ least-push (map start so_far) a.span.start)
+
+pub start-same : (test : Annotation → Bool) (marks : List Annotation) (i : ℕ) (a : Annotation) (before : Option ℕ) → i < length marks → a ≡ get_or marks i a → test a ≡ false → before ≡ least (map (λ (b : Annotation). b.span.start) (filter test (take i marks))) → before ≡ least (map (λ (b : Annotation). b.span.start) (filter test (take (i + 1) marks)))
+start-same test marks i a before within is fails known =
+    let so_far = filter test (take i marks) in
+    known ∙ sym (ap (λ xs. least (map (λ (b : Annotation). b.span.start) xs)) (filter-more test marks i a within is ∙ ap (λ xs. so_far ++ xs) (cond-false (test a) (a ∷ []) [] fails) ∙ append-nil so_far))

@@ -76,7 +76,7 @@ pub record HoldsOfSpan (P : PartEntry → Type 0) (s : Source) (depth : ℕ) (e 
   pub end : P (end_part e (MultilineEnd depth))
   pub again : P (end_part e Singleline)
 
-span-all : (P : PartEntry → Type 0) (s : Source) (depth : ℕ) (again : Bool) (e : Entry) → HoldsOfSpan P s depth e → All P (span_parts s depth again e)
+pub span-all : (P : PartEntry → Type 0) (s : Source) (depth : ℕ) (again : Bool) (e : Entry) → HoldsOfSpan P s depth e → All P (span_parts s depth again e)
 span-all P s depth true e holds = All-cons P (end_part e Singleline) [] holds.again (All-nil P)
 span-all P s depth false e holds =
     let bars : List PartEntry = map (λ k. bar_part e depth (s.first + k)) (bar_lines s.text (e.start.line - s.first) (e.end.line - s.first)) in

@@ -10,6 +10,7 @@ use Rattle.snippet_lines.specs.Lines.{Source}
 use Rattle.snippet_lines.specs.Place.{start_location}
 use Rattle.snippet_view.specs.Annotated.{PartEntry, KeptLine}
 use Rattle.snippet_model.specs.AnnotationKind.{is_primary}
+use Rattle.snippet_view.specs.Mark.{is_marking}
 use Rattle.snippet_view.specs.Marked.{first_line}
 use Rattle.snippet_view.specs.Measures.{least}
 
@@ -54,6 +55,25 @@ primary_place lines = option_or (first_place (least_place primary_parts) lines) 
 -- first line alone
 abbrev pub secondary_place : List KeptLine → Option Location
 secondary_place lines = option_or (first_place entry_place lines) (first_place bare_place lines)
+
+-- ---- by the bytes at which spans start
+
+-- the bytes at which the primary spans start, and those at which the marked ones do
+abbrev pub primary_starts : List Annotation → List ℕ
+primary_starts marks = map (λ a. a.span.start) (filter (λ a. is_primary a.kind) marks)
+
+abbrev pub marked_starts : List Annotation → List ℕ
+marked_starts marks = map (λ a. a.span.start) (filter (λ a. is_marking a.kind) marks)
+
+-- the byte at which the first primary span starts; where none is primary, the first that is marked
+abbrev pub naming_start : List Annotation → Option ℕ
+naming_start marks = option_or (least (primary_starts marks)) (least (marked_starts marks))
+
+-- the place of a byte at which a span starts, as a head names it
+abbrev pub place_at : Source → ℕ → Location
+place_at s b =
+    let at = start_location s b in
+    record { line = at.line; column = Some (at.char + 1) }
 
 -- ---- by the spans of a snippet
 

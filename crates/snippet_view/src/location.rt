@@ -1,7 +1,8 @@
 //! The place that the head of a snippet names after its path.
-ghost use Rattle.std.specs.Prelude.{◌≡◌, true, false, Bool, List, All, map};
+ghost use Rattle.std.specs.Prelude.{◌≡◌, ℕ, true, false, Bool, List, All, IfSome, map};
 ghost use Rattle.std.specs.List.{list_any};
-ghost use Rattle.std.specs.Option.{IsSomeAnd};
+ghost use Rattle.std.specs.Option.{IsSomeAnd, option_map};
+ghost use Rattle.std.specs.Str.{IsUtf8};
 ghost use Rattle.snippet_model.specs.declared.snippet.Annotation.{Annotation};
 ghost use Rattle.snippet_lines.specs.Lines.{Source};
 ghost use Rattle.snippet_lines.specs.Span.{IsSpan};
@@ -10,11 +11,11 @@ ghost use Rattle.snippet_view.specs.Entries.{AllEntries, HasCharacterRoom};
 ghost use Rattle.snippet_view.specs.Mark.{is_marking};
 ghost use Rattle.snippet_view.specs.Measures.{least};
 ghost use Rattle.snippet_view.specs.Location as spec;
-ghost use Rattle.snippet_view.specs.Location.{IsLocation, start_columns};
+ghost use Rattle.snippet_view.specs.Location.{IsLocation, marked_starts, place_at, primary_starts, start_columns};
 
 use crate::entries::{AnnotatedLineInfo, LineAnnotation};
 use crate::extent::lesser;
-use snippet_model::snippet::AnnotationKind;
+use snippet_model::snippet::{Annotation, AnnotationKind};
 
 /// A line of a source, and a column there, as the head of a snippet names them.
 #[derive(Clone, Copy, Debug)]
@@ -74,6 +75,57 @@ pub fn secondary_place(lines: &[AnnotatedLineInfo<'_>]) -> Option<Location>
         line: first.line_index,
         column: None,
     })
+}
+
+/// The byte at which the first primary span starts; where none is primary, the first span that is marked. `None` where none
+/// is.
+///
+/// The place of this byte is the one that `primary_place` finds among the lines that are kept.
+pub fn naming_start(annotations: &[Annotation<'_>]) -> Option<usize>
+    ensures value { result ≡ spec.naming_start annotations.now }
+    // A span of no bytes may stand there.
+    ensures border { (source : List ℕ) → All (λ a. IsSpan source a.span.start a.span.end) annotations.now
+        → IfSome result (λ start. IsSpan source start start) }
+    ensures named { (fold : Bool) (s : Source) → IsUtf8 s.text → All (λ a. IsSpan s.text a.span.start a.span.end) annotations.now
+        → spec.primary_place (annotated_lines fold s annotations.now) ≡ option_map (place_at s) result }
+{
+    match first_primary(annotations) {
+        Some(start) => Some(start),
+        None => first_marked(annotations),
+    }
+}
+
+/// The least byte at which one of some spans starts that are primary, if there are any.
+fn first_primary(annotations: &[Annotation<'_>]) -> Option<usize>
+    ensures value { result ≡ least (primary_starts annotations.now) }
+{
+    let mut least = None;
+    for annotation in annotations {
+        if annotation.kind == AnnotationKind::Primary {
+            least = lesser(least, annotation.span.start);
+        }
+    }
+    least
+}
+
+/// The same of those that are marked.
+fn first_marked(annotations: &[Annotation<'_>]) -> Option<usize>
+    ensures value { result ≡ least (marked_starts annotations.now) }
+{
+    let mut least = None;
+    for annotation in annotations {
+        if is_marked(annotation.kind) {
+            least = lesser(least, annotation.span.start);
+        }
+    }
+    least
+}
+
+/// Whether spans of a kind are marked.
+fn is_marked(kind: AnnotationKind) -> bool
+    ensures value { result ≡ is_marking kind }
+{
+    matches!(kind, AnnotationKind::Primary | AnnotationKind::Context)
 }
 
 /// The place on a line of the least column at which an entry starts, if there is one.

@@ -1,18 +1,13 @@
-use Rattle.std.proofs.Common.{◌∙◌, string_bytes}
+use Rattle.std.proofs.Common.{refl, string_bytes}
 use Rattle.snippet_grid.specs.Print.{plain_text}
 use Rattle.snippet_grid.specs.Woven.{Prints, links_of}
-use Rattle.snippet_grid.proofs.GridShown.{IsGrid-read, grid_read}
 use Rattle.snippet_grid.proofs.PrintsOnce.{Prints-unique}
 use Rattle.snippet_grid.proofs.WovenLemmas.{Prints-from_adds, IsWoven-from_prints, plain_woven}
 use Rattle.snippet_grid.proofs.grid.StyledBuffer.render.Goals as goal
 
-pub weave_rows-requires : goal.weave_rows-requires
-weave_rows-requires c =
-    record { grid = IsGrid-read (string_bytes c.self.inside.text) c.as_str.result.now c.self.inside.runs.items c.deref.result.now c.self.inside.widths.items c.deref-2.result.now c.as_str.ensures.value c.deref.ensures.value c.deref-2.ensures.value c.self.invariant.0 }
-
-printed : (c : goal.In_ok-weave_rows) → Prints c.args.sheet.now c.args.level c.args.self.now (string_bytes c.weave_rows.new.out)
+printed : (c : goal.In_ok-render_into) → Prints c.args.sheet.now c.args.level c.args.self.now (string_bytes c.render_into.new.out)
 printed c =
-    Prints-from_adds c.args.sheet.now c.args.level c.args.self.now _ _ _ (grid_read (string_bytes c.self.inside.text) c.as_str.result.now c.self.inside.runs.items c.deref.result.now c.self.inside.widths.items c.deref-2.result.now c.as_str.ensures.value c.deref.ensures.value c.deref-2.ensures.value ∙ c.self.view_is) c.in_ok-text.ensures.bytes c.in_ok-weave_rows.ensures.text
+    Prints-from_adds c.args.sheet.now c.args.level c.args.self.now _ _ _ refl c.new-text.ensures.bytes c.in_ok-render_into.ensures.added
 
 pub returns-clause-prints : goal.returns-clause-prints
 returns-clause-prints c = printed c
