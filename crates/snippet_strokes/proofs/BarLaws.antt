@@ -59,11 +59,15 @@ module _ (layout : Layout) (stroke : BarStroke) (bar : OpenBar) where
   bar_stands (b ∷ bars) row alone (suc k, within, same) =
       bar_stands bars (with_bar layout stroke row b) (All-tail (λ x. x.depth ≡ bar.depth → x ≡ bar) b bars alone) (k, omega arith, same)
 
--- so a bar that is open above a line and goes on past it stands beside each of the line's rows, in the cell of its depth
-pub bar_past : (layout : Layout) (room : ℕ) (closes : Bool) (text : List ℕ) (dropped : ℕ) (open_bars : List OpenBar) (es : List LineAnnotation) (source : List Cell) (rows : List (List Cell)) → AreLineRows layout room closes text dropped open_bars es source rows → (bar : OpenBar) → Contains (bars_apart open_bars (ends_of_bars es)) bar → HasOwnDepth bar (bars_apart open_bars (ends_of_bars es)) → (i : ℕ) → i < length rows → cell_at rows i (layout.gutter + 2 + bar.depth) ≡ bar_part layout Solid bar
-bar_past layout room closes text dropped open_bars es source rows drawn bar among alone i within =
-    let past : List OpenBar = bars_apart open_bars (ends_of_bars es) in
-    let rule : List Cell → List Cell = with_bars layout Solid past in
-    let inside : i < length drawn.own = omega (arith, within, ap length drawn.rows_are, length-map drawn.own rule) in
-    let row : row_at rows i ≡ rule (row_at drawn.own i) = ap (λ rs. row_at rs i) drawn.rows_are ∙ get_or-map rule drawn.own i [] [] inside in
-    ap (λ cells. get_or cells (layout.gutter + 2 + bar.depth) SPACE) row ∙ bar_stands layout Solid bar past (row_at drawn.own i) alone among
+module _ (layout : Layout) (room : ℕ) (closes : Bool) (text : List ℕ) (dropped : ℕ) (open_bars : List OpenBar) (es : List LineAnnotation) (source : List Cell) (rows : List (List Cell)) where
+  -- the bars that are open above a line and go on past it
+  abbrev past : List OpenBar
+  past = bars_apart open_bars (ends_of_bars es)
+
+  -- so each of these stands beside each of the line's rows, in the cell of its depth, where no other has that depth
+  pub bar_past : AreLineRows layout room closes text dropped open_bars es source rows → (bar : OpenBar) → Contains past bar → HasOwnDepth bar past → (i : ℕ) → i < length rows → cell_at rows i (layout.gutter + 2 + bar.depth) ≡ bar_part layout Solid bar
+  bar_past drawn bar among alone i within =
+      let rule : List Cell → List Cell = with_bars layout Solid past in
+      let inside : i < length drawn.own = omega (arith, within, ap length drawn.rows_are, length-map drawn.own rule) in
+      let row : row_at rows i ≡ rule (row_at drawn.own i) = ap (λ rs. row_at rs i) drawn.rows_are ∙ get_or-map rule drawn.own i [] [] inside in
+      ap (λ cells. get_or cells (layout.gutter + 2 + bar.depth) SPACE) row ∙ bar_stands layout Solid bar past (row_at drawn.own i) alone among

@@ -19,6 +19,7 @@ use Rattle.snippet_strokes.specs.Labels.{IsStrokeCell, LabelsStand, PlacedLabel,
 use Rattle.snippet_strokes.specs.Positions.{ArePlaced, HasItsLabel, has_label, label_place}
 use Rattle.snippet_strokes.specs.Strokes.{label_write}
 use Rattle.snippet_strokes.specs.Writes.{Reaches}
+use Rattle.snippet_strokes.proofs.StrokeCells.{BesideLabels}
 use Rattle.snippet_strokes.proofs.LabelLaw.{label_parts, placed_apart}
 
 -- ---- what a rule gives for things in another order
@@ -142,7 +143,7 @@ reached layout e r c is =
     lt a b is = grind (arith, nat_tests, is)
 
 -- no label of placed entries has a cell, if none has it where they are given
-beside_labels : (layout : Layout) (row r c : ℕ) (placed : List PlacedEntry) → count_by (λ e. is_cell_of r c (placed_label layout e)) placed ≡ 0 → All (λ e. has_label e ≡ true → Reaches (row + r) c (label_write layout row e) → ⊥) placed
+beside_labels : (layout : Layout) (row r c : ℕ) (placed : List PlacedEntry) → count_by (λ e. is_cell_of r c (placed_label layout e)) placed ≡ 0 → BesideLabels layout row (row + r) c placed
 beside_labels layout row r c placed none k d within has there =
     let e : PlacedEntry = get_or placed k d in
     let at : ℕ = layout.code + (label_place e).1 in
@@ -151,8 +152,13 @@ beside_labels layout row r c placed none k d within has there =
     inside : (a r b c n : ℕ) → a ≡ r → b ≤ c → c < b + n → (a == r && (nat_le b c && nat_lt c (b + n))) ≡ true
     inside a r b c n same from to = grind (arith, nat_tests, same, from, to)
 
+-- in the rows from `row` on each cell from the code on that no label reaches is a space or a stroke's
+abbrev pub HasStrokesBeside : Layout → ℕ → List PlacedEntry → List (List Cell) → Type 0
+HasStrokesBeside layout row placed rows =
+    (r c : ℕ) → layout.code ≤ c → BesideLabels layout row (row + r) c placed → IsStrokeCell layout.decor (cell_at rows (row + r) c)
+
 -- labels that stand whole in the rows from `row` on stand so in those rows alone, for each entry as it is given
-pub LabelsStand-placed : (layout : Layout) (row : ℕ) (es : List LineAnnotation) (placed : List PlacedEntry) (rows below : List (List Cell)) → ArePlaced es placed → All (λ (e : PlacedEntry). HasPlace e.entry) placed → All (StandsWhole layout row rows) placed → ((r c : ℕ) → layout.code ≤ c → All (λ (e : PlacedEntry). has_label e ≡ true → Reaches (row + r) c (label_write layout row e) → ⊥) placed → IsStrokeCell layout.decor (cell_at rows (row + r) c)) → ((r c : ℕ) → cell_at below r c ≡ cell_at rows (row + r) c) → LabelsStand layout es below
+pub LabelsStand-placed : (layout : Layout) (row : ℕ) (es : List LineAnnotation) (placed : List PlacedEntry) (rows below : List (List Cell)) → ArePlaced es placed → All (λ (e : PlacedEntry). HasPlace e.entry) placed → All (StandsWhole layout row rows) placed → HasStrokesBeside layout row placed rows → ((r c : ℕ) → cell_at below r c ≡ cell_at rows (row + r) c) → LabelsStand layout es below
 LabelsStand-placed layout row es placed rows below is places stands beside same =
     let f : PlacedEntry → LineAnnotation = λ e. e.entry in
     let moved : Reordered f placed es = reordered f placed es (IsPermutation-sym es (map f placed) is.same) in

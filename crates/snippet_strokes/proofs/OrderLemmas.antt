@@ -107,6 +107,10 @@ from_right_from_sort (first ∷ rest) sorted =
 -- ---- what a stable sort makes of entries
 
 -- the code's order of placing is that of the definition
+abbrev pub place_less : PlacedEntry → PlacedEntry → Bool
+place_less x y =
+    is_lt (ordering_then (nat_cmp (place_key y).0.0 (place_key x).0.0) (nat_cmp (place_key y).0.1 (place_key x).0.1))
+
 place_tells : (a b c d : ℕ) → is_lt (ordering_then (nat_cmp c a) (nat_cmp d b)) ≡ (nat_lt c a || (a == c && nat_lt d b))
 place_tells a b c d = grind (arith, nat_tests)
 
@@ -140,15 +144,18 @@ module _ {X : Type 0} (lt by : X → X → Bool) (same : (x y : X) → lt x y �
       sym (filter_agree (ties lt x) (ties by x) (ties_same x) ys) ∙ stable x ∙ filter_agree (ties lt x) (ties by x) (ties_same x) xs
 
 -- so entries that are sorted by that key are those that are given, in order
-pub order_of_sort : (given sorted : List PlacedEntry) → IsSortedBy (λ (x y : PlacedEntry). is_lt (ordering_then (nat_cmp (place_key y).0.0 (place_key x).0.0) (nat_cmp (place_key y).0.1 (place_key x).0.1))) sorted → IsStableBy (λ (x y : PlacedEntry). is_lt (ordering_then (nat_cmp (place_key y).0.0 (place_key x).0.0) (nat_cmp (place_key y).0.1 (place_key x).0.1))) given sorted → map (λ (e : PlacedEntry). e.entry) sorted ≡ ordered_by is_placed_before (map (λ (e : PlacedEntry). e.entry) given)
+pub order_of_sort : (given sorted : List PlacedEntry) → IsSortedBy place_less sorted → IsStableBy place_less given sorted → map (λ (e : PlacedEntry). e.entry) sorted ≡ ordered_by is_placed_before (map (λ (e : PlacedEntry). e.entry) given)
 unfolding placed_before
 order_of_sort given sorted up stable =
     let f : PlacedEntry → LineAnnotation = λ e. e.entry in
-    let lt : PlacedEntry → PlacedEntry → Bool = λ x y. is_lt (ordering_then (nat_cmp (place_key y).0.0 (place_key x).0.0) (nat_cmp (place_key y).0.1 (place_key x).0.1)) in
-    let same : (x y : PlacedEntry) → lt x y ≡ placed_before x y = λ x y. place_tells x.entry.start.display x.entry.start.char y.entry.start.display y.entry.start.char in
-    ap (map f) (sorted-only placed_before place_order given sorted (sorted_same lt placed_before same sorted up) (stable_same lt placed_before same given sorted stable)) ∙ map-ordered_by f is_placed_before given
+    let same : (x y : PlacedEntry) → place_less x y ≡ placed_before x y = λ x y. place_tells x.entry.start.display x.entry.start.char y.entry.start.display y.entry.start.char in
+    ap (map f) (sorted-only placed_before place_order given sorted (sorted_same place_less placed_before same sorted up) (stable_same place_less placed_before same given sorted stable)) ∙ map-ordered_by f is_placed_before given
 
 -- the same for the order of painting
+abbrev pub paint_less : PlacedEntry → PlacedEntry → Bool
+paint_less x y =
+    is_lt (ordering_then (nat_cmp (paint_key y).0.0 (paint_key x).0.0) (bool_cmp (paint_key x).1 (paint_key y).1))
+
 paint_tells : (m n : ℕ) (x y : Bool) → is_lt (ordering_then (nat_cmp n m) (bool_cmp x y)) ≡ (nat_lt n m || (m == n && (not x && y)))
 paint_tells m n true true = grind (arith, nat_tests)
 paint_tells m n true false = grind (arith, nat_tests)
@@ -179,9 +186,8 @@ paint_order = record {
   chain = λ x y z g h. paint_chain (entry_width x.entry) (entry_width y.entry) (entry_width z.entry) (is_primary x.entry.kind) (is_primary y.entry.kind) (is_primary z.entry.kind) g h;
 }
 
-pub painting_order_of_sort : (given sorted : List PlacedEntry) → IsSortedBy (λ (x y : PlacedEntry). is_lt (ordering_then (nat_cmp (paint_key y).0.0 (paint_key x).0.0) (bool_cmp (paint_key x).1 (paint_key y).1))) sorted → IsStableBy (λ (x y : PlacedEntry). is_lt (ordering_then (nat_cmp (paint_key y).0.0 (paint_key x).0.0) (bool_cmp (paint_key x).1 (paint_key y).1))) given sorted → sorted ≡ painting_order given
+pub painting_order_of_sort : (given sorted : List PlacedEntry) → IsSortedBy paint_less sorted → IsStableBy paint_less given sorted → sorted ≡ painting_order given
 unfolding painted_before
 painting_order_of_sort given sorted up stable =
-    let lt : PlacedEntry → PlacedEntry → Bool = λ x y. is_lt (ordering_then (nat_cmp (paint_key y).0.0 (paint_key x).0.0) (bool_cmp (paint_key x).1 (paint_key y).1)) in
-    let same : (x y : PlacedEntry) → lt x y ≡ painted_before x y = λ x y. paint_tells (entry_width x.entry) (entry_width y.entry) (is_primary x.entry.kind) (is_primary y.entry.kind) in
-    sorted-only painted_before paint_order given sorted (sorted_same lt painted_before same sorted up) (stable_same lt painted_before same given sorted stable)
+    let same : (x y : PlacedEntry) → paint_less x y ≡ painted_before x y = λ x y. paint_tells (entry_width x.entry) (entry_width y.entry) (is_primary x.entry.kind) (is_primary y.entry.kind) in
+    sorted-only painted_before paint_order given sorted (sorted_same paint_less painted_before same sorted up) (stable_same paint_less painted_before same given sorted stable)

@@ -17,7 +17,7 @@ use Rattle.snippet_strokes.specs.Labels.{IsStrokeCell, stroke_glyphs}
 use Rattle.snippet_strokes.specs.Painting.{first_glyph, foot_glyph, foot_of, mark_end}
 use Rattle.snippet_strokes.specs.Positions.{has_label, has_stem, takes_space}
 use Rattle.snippet_strokes.specs.Writes.{Reaches, Write, cell_of_write, glyph_at, painted, stretch_of}
-use Rattle.snippet_strokes.specs.Strokes.{bar_of, connector_of, connectors_of, corner_by, corner_of, corners_of, label_of, label_write, labels_of, mark_of, marks_of, stems_of, stroke_role, strokes_of}
+use Rattle.snippet_strokes.specs.Strokes.{bar_of, connector_of, connectors_of, corner_by, corner_of, corners_of, label_of, label_write, labels_of, mark_of, marks_of, stems_of, stroke_role, strokes_of, stem_of}
 use Rattle.snippet_strokes.proofs.BarWrites.{All-column_of, All-connector_of, All-stretch_of}
 use Rattle.snippet_strokes.proofs.LabelWrites.{All-label_of}
 use Rattle.snippet_strokes.proofs.StemWrites.{All-stem_of, All-stems_of}
@@ -88,6 +88,10 @@ first_among decor e = by_parts decor (is_primary e.entry.kind) (takes_space e) (
 
 -- ---- writes
 
+-- no label of these entries, whose marks stand in this row, reaches a cell
+abbrev pub BesideLabels : Layout → ℕ → ℕ → ℕ → List PlacedEntry → Type 0
+BesideLabels layout row r c es = All (λ e. has_label e ≡ true → Reaches r c (label_write layout row e) → ⊥) es
+
 module _ (layout : Layout) (r c : ℕ) (right : layout.code ≤ c) where
   abbrev P : Cell → Type 0
   P = IsStrokeCell layout.decor
@@ -145,17 +149,22 @@ module _ (layout : Layout) (r c : ℕ) (right : layout.code ≤ c) where
       by_part e (MultilineLine depth) bar_cell = All-nil Q
 
   stems : (row : ℕ) (es : List PlacedEntry) → All Q (stems_of layout row es)
-  stems row es =
-      All-stems_of Q layout row es (λ k d within.
-      let e : PlacedEntry = get_or es k d in
-      let primary : Bool = is_primary e.entry.kind in
-      All-stem_of Q layout row e (λ b low. of_glyph (row + b) (layout.code + e.entry.start.display) (cond (b == e.position) (foot_glyph layout.decor e) (glyph_of layout.decor primary 124 124 0x2502 0x2502)) e (either (b == e.position) (foot_glyph layout.decor e) (glyph_of layout.decor primary 124 124 0x2502 0x2502) (foot_among e.entry.annotation_type layout.decor primary (has_label e)) (stem_among layout.decor primary))))
+  stems row es = All-stems_of Q layout row es (λ k d within. stem (get_or es k d))
     where
-      either : (b : Bool) (foot stem : ℕ) → Among layout.decor foot → Among layout.decor stem → Among layout.decor (cond b foot stem)
-      either true foot stem is_foot is_stem = is_foot
-      either false foot stem is_foot is_stem = is_stem
+      either : (b : Bool) (foot line : ℕ) → Among layout.decor foot → Among layout.decor line → Among layout.decor (cond b foot line)
+      either true foot line is_foot is_line = is_foot
+      either false foot line is_foot is_line = is_line
 
-  labels : (row : ℕ) (es : List PlacedEntry) → All (λ e. has_label e ≡ true → Reaches r c (label_write layout row e) → ⊥) es → All Q (labels_of layout row es)
+      stem : (e : PlacedEntry) → All Q (stem_of layout row e)
+      stem e =
+          let primary : Bool = is_primary e.entry.kind in
+          let foot : ℕ = foot_glyph layout.decor e in
+          let line : ℕ = glyph_of layout.decor primary 124 124 0x2502 0x2502 in
+          let is_foot : Among layout.decor foot = foot_among e.entry.annotation_type layout.decor primary (has_label e) in
+          let among : (b : Bool) → Among layout.decor (cond b foot line) = λ b. either b foot line is_foot (stem_among layout.decor primary) in
+          All-stem_of Q layout row e (λ b low. of_glyph (row + b) (layout.code + e.entry.start.display) (cond (b == e.position) foot line) e (among (b == e.position)))
+
+  labels : (row : ℕ) (es : List PlacedEntry) → BesideLabels layout row r c es → All Q (labels_of layout row es)
   labels row es beside =
       All-flat_map Q (label_of layout row) es (λ k d within. All-label_of Q layout row (get_or es k d) (λ has there. absurd (beside k d within has there)))
 
@@ -176,7 +185,7 @@ module _ (layout : Layout) (r c : ℕ) (right : layout.code ≤ c) where
           ]
 
   -- so all strokes of a line leave in a cell that no label reaches a space or a stroke, if nothing else stood there before
-  pub cell_of_strokes : (row count : ℕ) (placed order : List PlacedEntry) (rows : List (List Cell)) → All (λ e. HasBarCell layout e.entry) placed → P (cell_at rows r c) → All (λ e. has_label e ≡ true → Reaches r c (label_write layout (row + 1) e) → ⊥) placed → P (cell_at (painted (strokes_of layout row count placed order) rows) r c)
+  pub cell_of_strokes : (row count : ℕ) (placed order : List PlacedEntry) (rows : List (List Cell)) → All (λ e. HasBarCell layout e.entry) placed → P (cell_at rows r c) → BesideLabels layout (row + 1) r c placed → P (cell_at (painted (strokes_of layout row count placed order) rows) r c)
   cell_of_strokes row count placed order rows bar_cells before beside =
       let one : List Write = connectors_of layout (row + 1) placed in
       let two : List Write = corners_of layout row count placed in

@@ -27,9 +27,8 @@ use Rattle.snippet_strokes.specs.Rows.{bare_row, CutsRows, IsBeside, IsCut, HasN
 use Rattle.snippet_style.specs.Separators.{separator_row, closing_row}
 use Rattle.snippet_strokes.proofs.DrawLemmas.{DrawsFrom-more, bar_space}
 use Rattle.snippet_strokes.specs.Labels.{IsStrokeCell, StandsWhole}
-use Rattle.snippet_strokes.specs.Strokes.{label_write}
-use Rattle.snippet_strokes.specs.Writes.{Reaches}
-use Rattle.snippet_strokes.proofs.LabelPlaces.{LabelsStand-none, LabelsStand-placed}
+use Rattle.snippet_strokes.proofs.LabelPlaces.{HasStrokesBeside, LabelsStand-none, LabelsStand-placed}
+use Rattle.snippet_strokes.proofs.StrokeCells.{BesideLabels}
 use Rattle.snippet_strokes.proofs.MarkLemmas.{mark_shown}
 use Rattle.snippet_strokes.proofs.PaintLemmas.{IsPlainEntry, covered_painted, mark_end_plain, spaceless}
 use Rattle.snippet_strokes.proofs.PositionLemmas.{entries_all, line_positions_low, of_positions, positions-unlabelled, positions_sole, row_count_one, row_count_some, stemless_bare, stemless_beside}
@@ -56,7 +55,7 @@ module _ (layout : Layout) (room : ℕ) (closes : Bool) (es : List LineAnnotatio
     (lone_label : (e : PlacedEntry) → placed ≡ e ∷ [] → e.position ≡ 0 → 0 < e.entry.end.display → has_label e ≡ true → labelled ≡ cells_written stemmed (length above_rows + 1) (layout.code + e.entry.end.display + 1) (text_cells (label_role e.entry.kind) (label_text e.entry)))
     (marked : AreMarked layout placed (length above_rows + 1) labelled new)
     (stands : All (StandsWhole layout (length above_rows + 1) new) placed)
-    (strokes : (r c : ℕ) → layout.code ≤ c → IsStrokeCell layout.decor (cell_at begun r c) → All (λ (e : PlacedEntry). has_label e ≡ true → Reaches r c (label_write layout (length above_rows + 1) e) → ⊥) placed → IsStrokeCell layout.decor (cell_at new r c)) where
+    (strokes : (r c : ℕ) → layout.code ≤ c → IsStrokeCell layout.decor (cell_at begun r c) → BesideLabels layout (length above_rows + 1) r c placed → IsStrokeCell layout.decor (cell_at new r c)) where
   -- the rows that were there
   abbrev old : List (List Cell)
   old = above_rows ++ plain_row ∷ []
@@ -394,7 +393,7 @@ module _ (layout : Layout) (room : ℕ) (closes : Bool) (es : List LineAnnotatio
       ]
 
   -- so in each cell that no label has stands a space or a stroke
-  beside_labels : (k c : ℕ) → layout.code ≤ c → All (λ (e : PlacedEntry). has_label e ≡ true → Reaches (row + k) c (label_write layout row e) → ⊥) placed → IsStrokeCell layout.decor (cell_at new (row + k) c)
+  beside_labels : HasStrokesBeside layout row placed new
   beside_labels k c right beside =
       strokes (row + k) c right (inl (begun_space k c right)) beside
 

@@ -21,7 +21,7 @@ use Rattle.snippet_strokes.specs.Positions.{ArePlaced}
 use Rattle.snippet_strokes.specs.Labels.{IsStrokeCell, StandsWhole}
 use Rattle.snippet_strokes.specs.Strokes.{connectors_of, corners_of, label_write, labels_of, stems_of, strokes_of}
 use Rattle.snippet_strokes.specs.Writes.{Reaches, painted}
-use Rattle.snippet_strokes.proofs.StrokeCells.{cell_of_strokes}
+use Rattle.snippet_strokes.proofs.StrokeCells.{BesideLabels, cell_of_strokes}
 use Rattle.snippet_strokes.proofs.WriteLemmas.{strokes_painted}
 use Rattle.snippet_strokes.proofs.LineRowLemmas.{painted_added}
 use Rattle.snippet_strokes.proofs.strokes.draw_strokes.Goals as goal
@@ -166,7 +166,7 @@ returns c =
     let all : ℕ = length c.args.buffer.now + row_count placed in
     let new_is : new ≡ painted (strokes_of layout c.args.row all placed after) rows = strokes_painted layout c.args.row below (length joined) all placed after rows begun joined barred stemmed labelled new row_is (joined_long ∙ long) begun_is lines bars hung named c.in_ok-draw_marks.ensures.painted in
     let bar_cells : All (λ (e : PlacedEntry). HasBarCell layout e.entry) placed = entries_all (HasBarCell layout) es placed c.in_ok-placed.ensures.placed.same (shifted_bars layout c.args.dropped c.args.entries.now c.requires.bar_cells) in
-    let IsBeside : ℕ → ℕ → ℕ → Type 0 = λ n r at. All (λ (e : PlacedEntry). has_label e ≡ true → Reaches r at (label_write layout n e) → ⊥) placed in
+    let IsBeside : ℕ → ℕ → ℕ → Type 0 = λ n r at. BesideLabels layout n r at placed in
     let IsStroke : List (List Cell) → ℕ → ℕ → Type 0 = λ g r at. IsStrokeCell layout.decor (cell_at g r at) in
     let cells : (r at : ℕ) → layout.code ≤ at → IsStroke begun r at → IsBeside below r at → IsStroke new r at = λ r at right before beside. subst (λ g. IsStroke g r at) (sym new_is) (cell_of_strokes layout r at right c.args.row all placed after rows bar_cells (subst (λ g. IsStroke g r at) begun_is before) (subst (λ n. IsBeside n r at) row_is beside)) in
     record {
