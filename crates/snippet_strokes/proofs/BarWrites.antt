@@ -39,7 +39,7 @@ KeepsBarCells-painted layout ws rows bar_cells r c left before =
 -- ---- lines to bars
 
 -- what holds of the one text of a stretch
-All-stretch_of : (P : Write → Type 0) (row from to glyph : ℕ) (role : ElementStyle) → P (record { row = row; cell = from; text = replicate (to - from) glyph; role = role }) → All P (stretch_of row from to glyph role)
+pub All-stretch_of : (P : Write → Type 0) (row from to glyph : ℕ) (role : ElementStyle) → P (record { row = row; cell = from; text = replicate (to - from) glyph; role = role }) → All P (stretch_of row from to glyph role)
 All-stretch_of P row from to glyph role holds =
     let w : Write = record { row = row; cell = from; text = replicate (to - from) glyph; role = role } in
     elim (nat_lt from to) as (λ b. All P (cond b (w ∷ []) [])) [
@@ -48,7 +48,7 @@ All-stretch_of P row from to glyph role holds =
     ]
 
 -- what holds of the lines of starts and ends holds of those of all entries
-All-connector_of : (P : Write → Type 0) (layout : Layout) (row : ℕ) (e : PlacedEntry) → ((depth : ℕ) → All P (line_to layout row e depth)) → All P (connector_of layout row e)
+pub All-connector_of : (P : Write → Type 0) (layout : Layout) (row : ℕ) (e : PlacedEntry) → ((depth : ℕ) → All P (line_to layout row e depth)) → All P (connector_of layout row e)
 All-connector_of P layout row e holds = by_part e.entry.annotation_type
   where
     by_part : (part : LineAnnotationType) → All P (connector_by layout row e part)
@@ -129,7 +129,7 @@ DrawsBarCells-painted layout row count (w ∷ ws) old is all =
     DrawsBarCells-more layout row old mid (painted ws mid) (DrawsBarCells-writes layout row w.row w.cell old mid cell (subst (WritesCells old mid w.row w.cell) (ap (text_cells w.role) bar.one) writes) bar.below there bar.right bar.left bar.bar_cell) (DrawsBarCells-painted layout row count ws mid same (All-tail B w ws all))
 
 -- what holds of each glyph of a column
-All-column_of : (P : Write → Type 0) (start end cell glyph : ℕ) (role : ElementStyle) → ((r : ℕ) → start ≤ r → r < end → P (glyph_at r cell glyph role)) → All P (column_of start end cell glyph role)
+pub All-column_of : (P : Write → Type 0) (start end cell glyph : ℕ) (role : ElementStyle) → ((r : ℕ) → start ≤ r → r < end → P (glyph_at r cell glyph role)) → All P (column_of start end cell glyph role)
 All-column_of P start end cell glyph role holds =
     let f : ℕ → Write = λ r. glyph_at r cell glyph role in
     All-map P f (range_with_len start (end - start)) (λ k d within.

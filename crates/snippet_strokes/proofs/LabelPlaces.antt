@@ -1,24 +1,25 @@
 -- The labels of entries, in the order in which the entries are given.
-use Rattle.std.proofs.Common.{◌≡◌, ℕ, suc, ◌+◌, ◌<◌, ◌≤◌, ◌==◌, ◌&&◌, nat_le, nat_lt, not, max, cond, Bool, true, false, List, [], ◌∷◌, length, map, get_or, set, refl, sym, ap, ◌∙◌, arith, inl, inr, ◌⊎◌, All, chars, count_by}
+use Rattle.std.proofs.Common.{◌≡◌, ℕ, suc, ◌+◌, ◌<◌, ◌≤◌, ◌==◌, ◌&&◌, nat_le, nat_lt, not, max, cond, Bool, true, false, List, [], ◌∷◌, length, map, get_or, set, refl, sym, ap, subst, ◌∙◌, arith, inl, inr, ◌⊎◌, All, chars, count_by}
 use Rattle.std.specs.List.{swap}
 use Rattle.std.specs.List.Sorted.{IsPermutation}
 use Rattle.std.specs.Cow.{cow_str_bytes}
-use Rattle.std.proofs.lemmas.Bool.{and_parts, cases_Bool, eq-eqb}
+use Rattle.std.proofs.lemmas.Bool.{and_parts, cases_Bool, eq-eqb, false≢true}
 use Rattle.std.proofs.lemmas.Bool.Decides.{nat_tests}
 use Rattle.std.proofs.lemmas.List.{get_or-map, map-set}
-use Rattle.std.proofs.lemmas.List.Elements.{All-map}
+use Rattle.std.proofs.lemmas.List.Elements.{All-cons, All-map, All-nil}
 use Rattle.std.proofs.lemmas.List.Sorted.{All-permutation, IsPermutation-keeps, IsPermutation-refl, IsPermutation-swap, IsPermutation-sym, IsPermutation-trans, sum_by-IsPermutation}
 use Rattle.std.proofs.lemmas.List.Sums.{sum_by-cons}
 use Rattle.snippet_grid.specs.Grid.{cell_at}
-use Rattle.snippet_style.specs.Cell.{Cell}
+use Rattle.snippet_style.specs.Cell.{Cell, SPACE}
 use Rattle.snippet_view.specs.declared.entries.LineAnnotation.{LineAnnotation}
 use Rattle.snippet_strokes.specs.declared.layout.Layout.{Layout}
 use Rattle.snippet_strokes.specs.declared.positions.PlacedEntry.{PlacedEntry}
 use Rattle.snippet_strokes.specs.Entries.{HasPlace, label_text}
-use Rattle.snippet_strokes.specs.Labels.{LabelsStand, PlacedLabel, StandsIn, StandsWhole, is_cell_of}
+use Rattle.snippet_strokes.specs.Labels.{IsStrokeCell, LabelsStand, PlacedLabel, StandsIn, StandsWhole, is_cell_of}
 use Rattle.snippet_strokes.specs.Positions.{ArePlaced, HasItsLabel, has_label, label_place}
 use Rattle.snippet_strokes.specs.Strokes.{label_write}
 use Rattle.snippet_strokes.specs.Writes.{Reaches}
+use Rattle.snippet_strokes.proofs.StrokeCells.{BesideLabels}
 use Rattle.snippet_strokes.proofs.LabelLaw.{label_parts, placed_apart}
 
 -- ---- what a rule gives for things in another order
@@ -59,6 +60,18 @@ none_pass q [] none = refl
 none_pass q (x ∷ xs) none =
     let here : ◌≡◌ {A = ℕ} (cond (q x) 1 0) 0 = ap (λ b. cond b 1 0) (none 0 x (omega arith)) in
     omega (arith, sum_by-cons (λ y. cond (q y) 1 0) x xs, here, none_pass q xs (λ j d within. none (suc j) d (omega (arith, within))))
+
+-- if so many pass that none does, each fails
+all_fail : {X : Type 0} (q : X → Bool) (xs : List X) → count_by q xs ≡ 0 → All (λ x. q x ≡ false) xs
+all_fail q [] none = All-nil (λ x. q x ≡ false)
+all_fail {X} q (x ∷ xs) none =
+    let F : X → Type 0 = λ y. q y ≡ false in
+    let parts = sum_by-cons (λ y. cond (q y) 1 0) x xs in
+    All-cons F x xs (fails (q x) (omega (arith, parts, none))) (all_fail q xs (omega (arith, parts, none)))
+  where
+    fails : (b : Bool) → ◌≡◌ {A = ℕ} (cond b 1 0) 0 → b ≡ false
+    fails true is = cc is
+    fails false is = refl
 
 one_passes : {X : Type 0} (q : X → Bool) (xs : List X) → ((i j : ℕ) (d d2 : X) → i < j → j < length xs → q (get_or xs i d) ≡ true → q (get_or xs j d2) ≡ true → ⊥) → count_by q xs ≤ 1
 one_passes q [] apart = omega arith
@@ -129,9 +142,24 @@ reached layout e r c is =
     lt : (a b : ℕ) → nat_lt a b ≡ true → a < b
     lt a b is = grind (arith, nat_tests, is)
 
+-- no label of placed entries has a cell, if none has it where they are given
+beside_labels : (layout : Layout) (row r c : ℕ) (placed : List PlacedEntry) → count_by (λ e. is_cell_of r c (placed_label layout e)) placed ≡ 0 → BesideLabels layout row (row + r) c placed
+beside_labels layout row r c placed none k d within has there =
+    let e : PlacedEntry = get_or placed k d in
+    let at : ℕ = layout.code + (label_place e).1 in
+    false≢true (sym (all_fail (λ x. is_cell_of r c (placed_label layout x)) placed none k d within) ∙ inside (label_place e).0 r at c (length (label_text e.entry)) (omega (arith, there.row)) there.from there.to)
+  where
+    inside : (a r b c n : ℕ) → a ≡ r → b ≤ c → c < b + n → (a == r && (nat_le b c && nat_lt c (b + n))) ≡ true
+    inside a r b c n same from to = grind (arith, nat_tests, same, from, to)
+
+-- in the rows from `row` on each cell from the code on that no label reaches is a space or a stroke's
+abbrev pub HasStrokesBeside : Layout → ℕ → List PlacedEntry → List (List Cell) → Type 0
+HasStrokesBeside layout row placed rows =
+    (r c : ℕ) → layout.code ≤ c → BesideLabels layout row (row + r) c placed → IsStrokeCell layout.decor (cell_at rows (row + r) c)
+
 -- labels that stand whole in the rows from `row` on stand so in those rows alone, for each entry as it is given
-pub LabelsStand-placed : (layout : Layout) (row : ℕ) (es : List LineAnnotation) (placed : List PlacedEntry) (rows below : List (List Cell)) → ArePlaced es placed → All (λ (e : PlacedEntry). HasPlace e.entry) placed → All (StandsWhole layout row rows) placed → ((r c : ℕ) → cell_at below r c ≡ cell_at rows (row + r) c) → LabelsStand layout es below
-LabelsStand-placed layout row es placed rows below is places stands same =
+pub LabelsStand-placed : (layout : Layout) (row : ℕ) (es : List LineAnnotation) (placed : List PlacedEntry) (rows below : List (List Cell)) → ArePlaced es placed → All (λ (e : PlacedEntry). HasPlace e.entry) placed → All (StandsWhole layout row rows) placed → HasStrokesBeside layout row placed rows → ((r c : ℕ) → cell_at below r c ≡ cell_at rows (row + r) c) → LabelsStand layout es below
+LabelsStand-placed layout row es placed rows below is places stands beside same =
     let f : PlacedEntry → LineAnnotation = λ e. e.entry in
     let moved : Reordered f placed es = reordered f placed es (IsPermutation-sym es (map f placed) is.same) in
     let order : List PlacedEntry = moved.order in
@@ -155,15 +183,19 @@ LabelsStand-placed layout row es placed rows below is places stands same =
           placed_apart layout 0 es placed i j d d2 is places before within (shows_label (get_or placed i d) (is.labels i d (omega (arith, before, within))) (omega (arith, here.from, here.to))) (shows_label (get_or placed j d2) (is.labels j d2 within) (omega (arith, there.from, there.to))) r c here there) in
           let kept : count_by q order ≡ count_by q placed = sum_by-IsPermutation (λ e. cond (q e) 1 0) placed order moved.same in
           omega (arith, few, kept, count-map (is_cell_of r c) g order);
+      others = λ r c right none.
+          let q : PlacedEntry → Bool = λ e. is_cell_of r c (g e) in
+          let kept : count_by q order ≡ count_by q placed = sum_by-IsPermutation (λ e. cond (q e) 1 0) placed order moved.same in
+          subst (IsStrokeCell layout.decor) (sym (same r c)) (beside r c right (beside_labels layout row r c placed (sym kept ∙ sym (count-map (is_cell_of r c) g order) ∙ none)));
     }
   where
     entries : (xs : List PlacedEntry) → map (λ (l : PlacedLabel). l.entry) (map (placed_label layout) xs) ≡ map (λ (e : PlacedEntry). e.entry) xs
     entries [] = refl
     entries (x ∷ xs) = ap (λ es. x.entry ∷ es) (entries xs)
 
--- where no entry has a label to show, none stands anywhere
-pub LabelsStand-none : (layout : Layout) (es : List LineAnnotation) (rows : List (List Cell)) → All (λ e. label_text e ≡ []) es → LabelsStand layout es rows
-LabelsStand-none layout es rows none =
+-- where no entry has a label to show, none stands anywhere, and where nothing is drawn, spaces do
+pub LabelsStand-none : (layout : Layout) (es : List LineAnnotation) (rows : List (List Cell)) → All (λ e. label_text e ≡ []) es → ((r c : ℕ) → layout.code ≤ c → cell_at rows r c ≡ SPACE) → LabelsStand layout es rows
+LabelsStand-none layout es rows none blank =
     let g : LineAnnotation → PlacedLabel = λ e. record { entry = e; row = 0; cell = 0 } in
     record {
       labels = map g es;
@@ -172,6 +204,7 @@ LabelsStand-none layout es rows none =
       apart = λ r c.
           let empty : count_by (λ e. is_cell_of r c (g e)) es ≡ 0 = none_pass (λ e. is_cell_of r c (g e)) es (λ j d within. no_cell r c (length (label_text (get_or es j d))) (ap length (none j d within))) in
           omega (arith, empty, count-map (is_cell_of r c) g es);
+      others = λ r c right _. inl (blank r c right);
     }
   where
     entries : (xs : List LineAnnotation) → map (λ (l : PlacedLabel). l.entry) (map (λ e. record { entry = e; row = 0; cell = 0 }) xs) ≡ xs
@@ -194,6 +227,7 @@ LabelsStand-kept layout es old new is same =
             place = stands.place;
           };
       apart = is.apart;
+      others = λ r c right none. subst (IsStrokeCell layout.decor) (sym (same r c right)) (is.others r c right none);
     }
   where
     right : (l : PlacedLabel) (n : ℕ) → ((l.row ≡ 0) × (l.cell ≡ layout.code + max l.entry.end.display 1 + 1)) ⊎ ((0 < l.row) × (l.cell ≡ layout.code + l.entry.start.display)) → layout.code ≤ l.cell + n

@@ -5,6 +5,7 @@ pub mod OrderLemmas
 pub mod PositionLemmas
 pub mod CellLemmas
 pub mod DrawLemmas
+pub mod Examples
 pub mod WriteLemmas
 pub mod WriteLaws
 pub mod LabelWrites
@@ -16,6 +17,7 @@ pub mod MarkWrites
 pub mod MarkLemmas
 pub mod ShiftLemmas
 pub mod BegunLemmas
+pub mod StrokeCells
 pub mod StrokeLemmas
 pub mod WholeLemmas
 pub mod SnippetLemmas
@@ -26,6 +28,7 @@ pub mod OpenLemmas
 pub mod ElisionLemmas
 pub mod WholeLineLemmas
 pub mod LineLemmas
+pub mod BarLaws
 pub mod BarRows
 pub mod LowerWrites
 pub mod LineRowLemmas

@@ -1,9 +1,8 @@
 -- The rows of a line, as they are drawn below those that are there.
-use Rattle.std.proofs.Common.{◌≡◌, ℕ, ◌+◌, ◌-◌, ◌<◌, ◌≤◌, Bool, true, false, List, [], ◌∷◌, ◌++◌, length, map, replicate, drop, get_or, refl, sym, ap, ◌∙◌, subst, arith}
+use Rattle.std.proofs.Common.{◌≡◌, ℕ, ◌+◌, ◌-◌, ◌<◌, Bool, true, false, List, [], ◌∷◌, ◌++◌, length, map, replicate, drop, get_or, refl, sym, ap, ◌∙◌, subst, arith}
 use Rattle.std.specs.Prelude.{if◌then◌else◌}
-use Rattle.std.specs.List.Sorted.{IsPermutation}
 use Rattle.std.proofs.lemmas.Bool.{false≢true}
-use Rattle.std.proofs.lemmas.List.{append_assoc, drop_more, length-append, length_push}
+use Rattle.std.proofs.lemmas.List.{append_assoc, length-append, length_push}
 use Rattle.snippet_style.specs.Cell.{Cell}
 use Rattle.snippet_style.specs.Separators.{closing_row, separator_row}
 use Rattle.snippet_view.specs.declared.entries.LineAnnotation.{LineAnnotation}
@@ -13,14 +12,14 @@ use Rattle.snippet_strokes.specs.declared.layout.Layout.{Layout}
 use Rattle.snippet_strokes.specs.declared.positions.PlacedEntry.{PlacedEntry}
 use Rattle.snippet_strokes.specs.Bars.{barred, bars_apart, ends_of_bars, is_whole_line, with_bars}
 use Rattle.snippet_strokes.specs.Entries.{shifted, wide_entries}
-use Rattle.snippet_strokes.specs.LineRows.{AddsOwnRows, AreLineRows, AreOwnRows}
-use Rattle.snippet_strokes.specs.Painting.{IsPaintingOrder}
+use Rattle.snippet_strokes.specs.LineRows.{AddsOwnRows, AreLineRows}
+use Rattle.snippet_strokes.specs.Painting.{painting_order}
 use Rattle.snippet_strokes.specs.Positions.{ArePlaced, row_count}
 use Rattle.snippet_strokes.specs.Rows.{CutsRows, bare_row}
-use Rattle.snippet_strokes.specs.Strokes.{AddsPainted, StrokesPainted, begun_rows, strokes_of}
+use Rattle.snippet_strokes.specs.Strokes.{AddsPainted, begun_rows, strokes_of}
 use Rattle.snippet_strokes.specs.Writes.{Write, painted}
 use Rattle.snippet_strokes.proofs.BarRows.{barred-below}
-use Rattle.snippet_strokes.proofs.LowerWrites.{lowered, painted-below, strokes-lowered}
+use Rattle.snippet_strokes.proofs.LowerWrites.{painted-below, strokes-lowered}
 use Rattle.snippet_strokes.proofs.PositionLemmas.{row_count_some}
 
 -- rows that are begun below others
@@ -39,8 +38,7 @@ two_more (x ∷ y ∷ rows) some = refl
 -- the strokes of a line, painted and then cut, are its rows
 module _ (layout : Layout) (room : ℕ) (closes : Bool) (es : List LineAnnotation) (placed order : List PlacedEntry) (above : List (List Cell)) (source : List Cell) (old new final : List (List Cell)) (row wide : ℕ)
     (are : ArePlaced es placed)
-    (same : IsPermutation placed order)
-    (ordered : IsPaintingOrder (map (λ (e : PlacedEntry). e.entry) order))
+    (order_is : order ≡ painting_order placed)
     (old_is : old ≡ above ++ source ∷ [])
     (row_is : row ≡ length above)
     (long : length new ≡ length old + row_count placed)
@@ -91,13 +89,10 @@ module _ (layout : Layout) (room : ℕ) (closes : Bool) (es : List LineAnnotatio
         painted_are = record {
           placed = placed;
           are = are;
-          order = order;
-          same = same;
-          ordered = ordered;
           top = top;
           marks = marks;
           lower = lower;
-          painted_are = sym parts;
+          painted_are = sym parts ∙ ap (λ os. painted (strokes_of layout 0 (count + 1) placed os) bare) order_is;
           cut = record {
             source_now = exact.source_now;
             marks_now = exact.marks_now;

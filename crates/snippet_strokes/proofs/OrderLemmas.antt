@@ -1,16 +1,21 @@
 -- The order that entries are painted in.
-use Rattle.std.proofs.Common.{◌≡◌, ℕ, zero, suc, ◌+◌, ◌<◌, ◌≤◌, Bool, true, false, List, [], ◌∷◌, length, map, get_or, refl, sym, subst, arith, inl, inr, nat_cmp, is_lt}
+use Rattle.std.proofs.Common.{◌≡◌, ℕ, zero, suc, ◌+◌, ◌<◌, ◌≤◌, ◌==◌, ◌&&◌, ◌||◌, nat_lt, not, Bool, true, false, List, [], ◌∷◌, length, map, get_or, refl, sym, ap, ◌∙◌, subst, arith, inl, inr, nat_cmp, is_lt}
+use Rattle.std.specs.Cmp.{IsStrictWeakOrder}
+use Rattle.std.specs.List.Sorted.{IsSortedBy, IsStableBy, ties}
 use Rattle.std.specs.Ordering.{ordering_then, bool_cmp}
 use Rattle.std.specs.declared.cmp.Reverse.{Reverse}
 use Rattle.std.proofs.lemmas.Bool.{cases_lt}
 use Rattle.std.proofs.lemmas.Bool.Decides.{nat_tests}
 use Rattle.std.proofs.lemmas.List.{get_or-map, length-map}
+use Rattle.std.proofs.lemmas.List.Elements.{filter_agree}
+use Rattle.snippet_lines.specs.Order.{ordered_by}
+use Rattle.snippet_lines.proofs.OrderLemmas.{map-ordered_by, sorted-only}
 use Rattle.snippet_view.specs.declared.entries.LineAnnotation.{LineAnnotation}
 use Rattle.snippet_strokes.specs.declared.positions.PlacedEntry.{PlacedEntry}
 use Rattle.snippet_strokes.specs.Entries.{entry_width}
 use Rattle.snippet_model.specs.AnnotationKind.{is_primary}
-use Rattle.snippet_strokes.specs.Painting.{CoversOver, IsPaintingOrder}
-use Rattle.snippet_strokes.specs.Positions.{StandsLeft, IsFromRight}
+use Rattle.snippet_strokes.specs.Painting.{CoversOver, IsPaintingOrder, is_painted_before, painting_order}
+use Rattle.snippet_strokes.specs.Positions.{StandsLeft, IsFromRight, is_placed_before}
 
 -- the key that entries are sorted by
 abbrev pub paint_key : PlacedEntry → Reverse ℕ × Bool
@@ -98,3 +103,91 @@ from_right_from_sort (first ∷ rest) sorted =
     let step = place_not_less a.entry.start.display b.entry.start.display a.entry.start.char b.entry.start.char (sorted k first (omega arith) fits) in
     record { column = step.0; character = step.1 } in
     from_neighbours StandsLeft StandsLeft-refl StandsLeft-trans es (entries_next StandsLeft first ps next)
+
+-- ---- what a stable sort makes of entries
+
+-- the code's order of placing is that of the definition
+abbrev pub place_less : PlacedEntry → PlacedEntry → Bool
+place_less x y =
+    is_lt (ordering_then (nat_cmp (place_key y).0.0 (place_key x).0.0) (nat_cmp (place_key y).0.1 (place_key x).0.1))
+
+place_tells : (a b c d : ℕ) → is_lt (ordering_then (nat_cmp c a) (nat_cmp d b)) ≡ (nat_lt c a || (a == c && nat_lt d b))
+place_tells a b c d = grind (arith, nat_tests)
+
+placed_before : PlacedEntry → PlacedEntry → Bool
+placed_before x y = is_placed_before x.entry y.entry
+
+place_one_way : (a b c d : ℕ) → (nat_lt c a || (a == c && nat_lt d b)) ≡ true → (nat_lt a c || (c == a && nat_lt b d)) ≡ false
+place_one_way a b c d h = grind (arith, nat_tests)
+
+place_chain : (a b c d e f : ℕ) → (nat_lt c a || (a == c && nat_lt d b)) ≡ false → (nat_lt e c || (c == e && nat_lt f d)) ≡ false → (nat_lt e a || (a == e && nat_lt f b)) ≡ false
+place_chain a b c d e f g h = grind (arith, nat_tests)
+
+place_order : IsStrictWeakOrder placed_before
+unfolding placed_before
+place_order = record {
+  one_way = λ x y h. place_one_way x.entry.start.display x.entry.start.char y.entry.start.display y.entry.start.char h;
+  chain = λ x y z g h. place_chain x.entry.start.display x.entry.start.char y.entry.start.display y.entry.start.char z.entry.start.display z.entry.start.char g h;
+}
+
+-- a stable sort by one test is one by a test that answers the same
+module _ {X : Type 0} (lt by : X → X → Bool) (same : (x y : X) → lt x y ≡ by x y) where
+  sorted_same : (xs : List X) → IsSortedBy lt xs → IsSortedBy by xs
+  sorted_same xs sorted k d low fits =
+      sym (same (get_or xs (k + 1) d) (get_or xs k d)) ∙ sorted k d low fits
+
+  ties_same : (x y : X) → ties lt x y ≡ ties by x y
+  ties_same x y = ap (λ b. not b && not (lt y x)) (same x y) ∙ ap (λ b. not (by x y) && not b) (same y x)
+
+  stable_same : (xs ys : List X) → IsStableBy lt xs ys → IsStableBy by xs ys
+  stable_same xs ys stable x =
+      sym (filter_agree (ties lt x) (ties by x) (ties_same x) ys) ∙ stable x ∙ filter_agree (ties lt x) (ties by x) (ties_same x) xs
+
+-- so entries that are sorted by that key are those that are given, in order
+pub order_of_sort : (given sorted : List PlacedEntry) → IsSortedBy place_less sorted → IsStableBy place_less given sorted → map (λ (e : PlacedEntry). e.entry) sorted ≡ ordered_by is_placed_before (map (λ (e : PlacedEntry). e.entry) given)
+unfolding placed_before
+order_of_sort given sorted up stable =
+    let f : PlacedEntry → LineAnnotation = λ e. e.entry in
+    let same : (x y : PlacedEntry) → place_less x y ≡ placed_before x y = λ x y. place_tells x.entry.start.display x.entry.start.char y.entry.start.display y.entry.start.char in
+    ap (map f) (sorted-only placed_before place_order given sorted (sorted_same place_less placed_before same sorted up) (stable_same place_less placed_before same given sorted stable)) ∙ map-ordered_by f is_placed_before given
+
+-- the same for the order of painting
+abbrev pub paint_less : PlacedEntry → PlacedEntry → Bool
+paint_less x y =
+    is_lt (ordering_then (nat_cmp (paint_key y).0.0 (paint_key x).0.0) (bool_cmp (paint_key x).1 (paint_key y).1))
+
+paint_tells : (m n : ℕ) (x y : Bool) → is_lt (ordering_then (nat_cmp n m) (bool_cmp x y)) ≡ (nat_lt n m || (m == n && (not x && y)))
+paint_tells m n true true = grind (arith, nat_tests)
+paint_tells m n true false = grind (arith, nat_tests)
+paint_tells m n false true = grind (arith, nat_tests)
+paint_tells m n false false = grind (arith, nat_tests)
+
+painted_before : PlacedEntry → PlacedEntry → Bool
+painted_before x y = is_painted_before x.entry y.entry
+
+paint_one_way : (m n : ℕ) (x y : Bool) → (nat_lt n m || (m == n && (not x && y))) ≡ true → (nat_lt m n || (n == m && (not y && x))) ≡ false
+paint_one_way m n true true h = grind (arith, nat_tests, h)
+paint_one_way m n true false h = grind (arith, nat_tests, h)
+paint_one_way m n false true h = grind (arith, nat_tests, h)
+paint_one_way m n false false h = grind (arith, nat_tests, h)
+
+paint_chain : (m n o : ℕ) (x y z : Bool) → (nat_lt n m || (m == n && (not x && y))) ≡ false → (nat_lt o n || (n == o && (not y && z))) ≡ false → (nat_lt o m || (m == o && (not x && z))) ≡ false
+paint_chain m n o true y true g h = grind (arith, nat_tests, g, h)
+paint_chain m n o true y false g h = grind (arith, nat_tests, g, h)
+paint_chain m n o false true true g h = grind (arith, nat_tests, g, h)
+paint_chain m n o false true false g h = grind (arith, nat_tests, g, h)
+paint_chain m n o false false true g h = grind (arith, nat_tests, g, h)
+paint_chain m n o false false false g h = grind (arith, nat_tests, g, h)
+
+paint_order : IsStrictWeakOrder painted_before
+unfolding painted_before
+paint_order = record {
+  one_way = λ x y h. paint_one_way (entry_width x.entry) (entry_width y.entry) (is_primary x.entry.kind) (is_primary y.entry.kind) h;
+  chain = λ x y z g h. paint_chain (entry_width x.entry) (entry_width y.entry) (entry_width z.entry) (is_primary x.entry.kind) (is_primary y.entry.kind) (is_primary z.entry.kind) g h;
+}
+
+pub painting_order_of_sort : (given sorted : List PlacedEntry) → IsSortedBy paint_less sorted → IsStableBy paint_less given sorted → sorted ≡ painting_order given
+unfolding painted_before
+painting_order_of_sort given sorted up stable =
+    let same : (x y : PlacedEntry) → paint_less x y ≡ painted_before x y = λ x y. paint_tells (entry_width x.entry) (entry_width y.entry) (is_primary x.entry.kind) (is_primary y.entry.kind) in
+    sorted-only painted_before paint_order given sorted (sorted_same paint_less painted_before same sorted up) (stable_same paint_less painted_before same given sorted stable)

@@ -11,9 +11,10 @@ use Rattle.std.proofs.lemmas.List.Folds.{list_all-map, list_any_none}
 use Rattle.std.proofs.lemmas.List.Sums.{AllPass-from_list_all}
 use Rattle.std.specs.List.Sorted.{IsPermutation}
 use Rattle.std.proofs.lemmas.List.Sorted.{All-permutation, IsPermutation-map}
+use Rattle.snippet_lines.specs.Order.{ordered_by}
 use Rattle.snippet_view.specs.declared.entries.LineAnnotation.{LineAnnotation}
 use Rattle.snippet_strokes.specs.declared.positions.PlacedEntry.{PlacedEntry}
-use Rattle.snippet_strokes.specs.Positions.{ArePlaced, IsFromRight, HasItsLabel, asks, do_overlap, ends_no_later, has_label, takes_space, has_stem, is_start, is_start_part, are_starts, crosses, crowds, position_at, position_after, positions, flipped, line_positions, lowest_position, row_count, label_place, unplaced}
+use Rattle.snippet_strokes.specs.Positions.{ArePlaced, IsFromRight, HasItsLabel, asks, do_overlap, ends_no_later, has_label, takes_space, has_stem, is_start, is_start_part, are_starts, crosses, crowds, position_at, position_after, positions, flipped, line_positions, lowest_position, row_count, label_place, unplaced, is_placed_before}
 use Rattle.snippet_strokes.specs.Painting.{HasRows}
 use Rattle.snippet_view.specs.Measures.{greatest}
 use Rattle.snippet_strokes.specs.Entries.{HasPlace}
@@ -272,10 +273,11 @@ written_back xs ys len is kept =
     ap (λ rest. take len (xs ++ rest)) (drop_all (length xs) ys (omega (arith, long))) ∙ ap (take len) (append-nil xs) ∙ take_all len xs (omega (arith, is, long))
 
 -- entries that were put in an order and got the positions of it are placed
-pub ArePlaced-from : (es : List LineAnnotation) (labelled sorted placed : List PlacedEntry) (ps : List ℕ) → map (λ (e : PlacedEntry). e.entry) labelled ≡ es → All HasItsLabel labelled → IsPermutation labelled sorted → IsFromRight (map (λ (e : PlacedEntry). e.entry) sorted) → ps ≡ line_positions sorted → map (λ (e : PlacedEntry). e.position) placed ≡ ps → map unplaced placed ≡ map unplaced sorted → ArePlaced es placed
-ArePlaced-from es labelled sorted placed ps entries labels same ordered are got kept =
+pub ArePlaced-from : (es : List LineAnnotation) (labelled sorted placed : List PlacedEntry) (ps : List ℕ) → map (λ (e : PlacedEntry). e.entry) labelled ≡ es → All HasItsLabel labelled → IsPermutation labelled sorted → map (λ (e : PlacedEntry). e.entry) sorted ≡ ordered_by is_placed_before (map (λ (e : PlacedEntry). e.entry) labelled) → IsFromRight (map (λ (e : PlacedEntry). e.entry) sorted) → ps ≡ line_positions sorted → map (λ (e : PlacedEntry). e.position) placed ≡ ps → map unplaced placed ≡ map unplaced sorted → ArePlaced es placed
+ArePlaced-from es labelled sorted placed ps entries labels same order ordered are got kept =
     let f : PlacedEntry → LineAnnotation = λ e. e.entry in
     record {
+      order = entries_kept placed sorted kept ∙ order ∙ ap (ordered_by is_placed_before) entries;
       same = subst (IsPermutation es) (sym (entries_kept placed sorted kept)) (subst (λ xs. IsPermutation xs (map f sorted)) entries (IsPermutation-map f labelled sorted same));
       from_right = subst IsFromRight (sym (entries_kept placed sorted kept)) ordered;
       labels = all_kept HasItsLabel placed sorted (λ e has. has) (λ e has. has) kept (All-permutation HasItsLabel labelled sorted same labels);

@@ -30,7 +30,7 @@ All-stem_of P layout row e holds =
     ]
 
 -- what holds of the stem of each entry holds of those that are drawn
-All-stems_of : (P : Write → Type 0) (layout : Layout) (row : ℕ) (es : List PlacedEntry) → ((k : ℕ) (d : PlacedEntry) → k < length es → All P (stem_of layout row (get_or es k d))) → All P (stems_of layout row es)
+pub All-stems_of : (P : Write → Type 0) (layout : Layout) (row : ℕ) (es : List PlacedEntry) → ((k : ℕ) (d : PlacedEntry) → k < length es → All P (stem_of layout row (get_or es k d))) → All P (stems_of layout row es)
 All-stems_of P layout row [] each = All-nil P
 All-stems_of P layout row (e ∷ later) each =
     All-append P (cond (is_hidden e later) [] (stem_of layout row e)) (stems_of layout row later) (elim (is_hidden e later) as (λ b. All P (cond b [] (stem_of layout row e))) [

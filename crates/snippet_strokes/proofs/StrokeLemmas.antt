@@ -1,10 +1,11 @@
 -- The rows of a line's strokes, once all are drawn.
-use Rattle.std.proofs.Common.{◌≡◌, ◌≢◌, ℕ, zero, suc, ◌+◌, ◌-◌, ◌<◌, ◌≤◌, ◌==◌, ◌&&◌, max, not, Bool, if◌then◌else◌, true, false, List, [], ◌∷◌, ◌++◌, length, map, take, drop, replicate, get_or, refl, sym, ap, ◌∙◌, subst, arith, inl, All, Contains, chars}
+use Rattle.std.proofs.Common.{◌≡◌, ◌≢◌, ℕ, zero, suc, ◌+◌, ◌-◌, ◌<◌, ◌≤◌, ◌==◌, ◌&&◌, max, not, Bool, if◌then◌else◌, true, false, List, [], ◌∷◌, ◌++◌, length, map, take, drop, replicate, get_or, refl, sym, ap, ◌∙◌, subst, arith, inl, inr, All, Contains, chars}
 use Rattle.std.specs.List.{slice_index_or}
 use Rattle.std.specs.List.Sorted.{IsPermutation}
 use Rattle.std.specs.Cow.{cow_str_bytes}
+use Rattle.std.proofs.lemmas.Bool.{cases_lt}
 use Rattle.std.proofs.lemmas.Bool.Decides.{nat_tests}
-use Rattle.std.proofs.lemmas.List.{length-append, length-replicate, length-map, length-drop, get_or_append_left, get_or_push, length_push, get_or-drop, append_assoc, drop_more, take-take}
+use Rattle.std.proofs.lemmas.List.{length-append, length-replicate, length-map, length-drop, get_or_append_left, get_or_past, get_or_push, length_push, get_or-drop, append_assoc, drop_more, take-take}
 use Rattle.std.proofs.lemmas.List.Elements.{All-from_get_or, All-nil, All-cons}
 use Rattle.std.proofs.lemmas.List.Sorted.{IsPermutation-map, IsPermutation-trans, length_permutation, Contains-permutation}
 use Rattle.snippet_view.specs.declared.entries.LineAnnotation.{LineAnnotation}
@@ -25,8 +26,9 @@ use Rattle.snippet_model.specs.Rows.{IsFree}
 use Rattle.snippet_strokes.specs.Rows.{bare_row, CutsRows, IsBeside, IsCut, HasNoBars, IsStrokeRow, AddsStrokes, ShowsMarks}
 use Rattle.snippet_style.specs.Separators.{separator_row, closing_row}
 use Rattle.snippet_strokes.proofs.DrawLemmas.{DrawsFrom-more, bar_space}
-use Rattle.snippet_strokes.specs.Labels.{StandsWhole}
-use Rattle.snippet_strokes.proofs.LabelPlaces.{LabelsStand-none, LabelsStand-placed}
+use Rattle.snippet_strokes.specs.Labels.{IsStrokeCell, StandsWhole}
+use Rattle.snippet_strokes.proofs.LabelPlaces.{HasStrokesBeside, LabelsStand-none, LabelsStand-placed}
+use Rattle.snippet_strokes.proofs.StrokeCells.{BesideLabels}
 use Rattle.snippet_strokes.proofs.MarkLemmas.{mark_shown}
 use Rattle.snippet_strokes.proofs.PaintLemmas.{IsPlainEntry, covered_painted, mark_end_plain, spaceless}
 use Rattle.snippet_strokes.proofs.PositionLemmas.{entries_all, line_positions_low, of_positions, positions-unlabelled, positions_sole, row_count_one, row_count_some, stemless_bare, stemless_beside}
@@ -52,7 +54,8 @@ module _ (layout : Layout) (room : ℕ) (closes : Bool) (es : List LineAnnotatio
     (no_labels : All (λ e. has_label e ≡ false) placed → labelled ≡ stemmed)
     (lone_label : (e : PlacedEntry) → placed ≡ e ∷ [] → e.position ≡ 0 → 0 < e.entry.end.display → has_label e ≡ true → labelled ≡ cells_written stemmed (length above_rows + 1) (layout.code + e.entry.end.display + 1) (text_cells (label_role e.entry.kind) (label_text e.entry)))
     (marked : AreMarked layout placed (length above_rows + 1) labelled new)
-    (stands : All (StandsWhole layout (length above_rows + 1) new) placed) where
+    (stands : All (StandsWhole layout (length above_rows + 1) new) placed)
+    (strokes : (r c : ℕ) → layout.code ≤ c → IsStrokeCell layout.decor (cell_at begun r c) → BesideLabels layout (length above_rows + 1) r c placed → IsStrokeCell layout.decor (cell_at new r c)) where
   -- the rows that were there
   abbrev old : List (List Cell)
   old = above_rows ++ plain_row ∷ []
@@ -381,6 +384,19 @@ module _ (layout : Layout) (room : ℕ) (closes : Bool) (es : List LineAnnotatio
   rows_new marks_now uncut zero c = ap (λ cells. get_or cells c SPACE) uncut ∙ ap (λ n. cell_at new n c) (let same : row ≡ row + 0 = omega arith in same)
   rows_new marks_now uncut (suc k) c = ap (λ cells. get_or cells c SPACE) (lower_at k)
 
+  -- below a line spaces stand from the code on before it is drawn
+  begun_space : (k c : ℕ) → layout.code ≤ c → cell_at begun (row + k) c ≡ SPACE
+  begun_space k c right =
+      elim (cases_lt k (row_count placed)) [
+        | inl within ↦ ap (λ cells. slice_index_or cells c SPACE) (begun_at k within) ∙ bare_row_right layout.decor layout.gutter (closes && k + 1 == row_count placed) c (omega (arith, right, place))
+        | inr past ↦ ap (λ cells. slice_index_or cells c SPACE) (get_or_past begun (row + k) [] (omega (arith, past, long_begun)))
+      ]
+
+  -- so in each cell that no label has stands a space or a stroke
+  beside_labels : HasStrokesBeside layout row placed new
+  beside_labels k c right beside =
+      strokes (row + k) c right (inl (begun_space k c right)) beside
+
   -- the rows of a line's strokes are added, once those of the source and of the marks are cut where entries are wide
   pub strokes_added : (final : List (List Cell)) → 0 < length es → CutsRows layout (wide_entries room layout.decor es) above_rows source (row_at new row) lower final → AddsStrokes layout room es closes above_rows plain_row final
   strokes_added final some cuts =
@@ -399,7 +415,7 @@ module _ (layout : Layout) (room : ℕ) (closes : Bool) (es : List LineAnnotatio
           lone = λ flat one. long ∙ one_row_lone one;
           bare = λ flat none. omega (arith, long, one_row_bare flat none);
           marks = λ flat. subst (ShowsMarks layout.decor layout.code es) (sym (cuts.marks_cut.uncut (narrow flat))) (shows_marks flat);
-          labels = λ uncut _. LabelsStand-placed layout row es placed new rows is places stands (rows_new cuts.marks_now (cuts.marks_cut.uncut uncut));
+          labels = λ uncut _. LabelsStand-placed layout row es placed new rows is places stands beside_labels (rows_new cuts.marks_now (cuts.marks_cut.uncut uncut));
           are = λ k inside. subst (λ n. IsStrokeRow layout plain es (closes && k + 1 == n) (row_at rows k)) (sym long) (stroke_rows wide narrow cuts.marks_now cuts.marks_cut k (omega (arith, inside, long)));
         };
       }
@@ -435,7 +451,7 @@ strokes_none layout room closes es above plain old new place none old_is bare_ba
         some = λ _ some. absurd (omega (arith, some, none));
         lone = λ _ one. absurd (omega (arith, one, none));
         bare = λ _ _. short closes;
-        labels = λ _ _. LabelsStand-none layout es _ (λ k d within. absurd (omega (arith, within, none)));
+        labels = λ _ _. LabelsStand-none layout es _ (λ k d within. absurd (omega (arith, within, none))) (blank closes);
         marks = λ _. record {
           marks = λ p kind mark. absurd (omega (arith, mark.among.1, none));
           unmarked = λ p none_covers. ap has_mark_role (space closes p);
@@ -457,6 +473,11 @@ strokes_none layout room closes es above plain old new place none old_is bare_ba
     short : (closes : Bool) → length (if closes then closing_row layout.decor layout.gutter ∷ [] else []) ≤ 1
     short true = omega arith
     short false = omega arith
+
+    blank : (closes : Bool) (r c : ℕ) → layout.code ≤ c → cell_at (if closes then closing_row layout.decor layout.gutter ∷ [] else []) r c ≡ SPACE
+    blank true zero c right = bare_row_right layout.decor layout.gutter true c (omega (arith, right, place))
+    blank true (suc r) c right = refl
+    blank false r c right = refl
 
     space : (closes : Bool) (p : ℕ) → slice_index_or (row_at (if closes then closing_row layout.decor layout.gutter ∷ [] else []) 0) (layout.code + p) SPACE ≡ SPACE
     space true p = bare_row_right layout.decor layout.gutter true (layout.code + p) (omega (arith, place))

@@ -7,16 +7,16 @@ use Rattle.snippet_view.specs.declared.entries.LineAnnotationType.TheVariants.{S
 use Rattle.snippet_strokes.specs.Painting.{foot_of}
 use Rattle.snippet_text.proofs.NormLemmas.{list_any-norm, length-norm}
 use Rattle.snippet_strokes.specs.Entries.{label_chars, label_text, shifted}
-use Rattle.std.specs.List.{flat_map, list_any}
+use Rattle.std.specs.List.{list_any}
 use Rattle.std.specs.Str.{chars, chars_after, continuation_len, lead_bits}
 use Rattle.std.proofs.lemmas.Bool.Decides.{nat_tests}
 use Rattle.std.proofs.lemmas.Bool.{cases_lt}
-use Rattle.std.proofs.lemmas.List.{length-append, nil_from_length}
+use Rattle.std.proofs.lemmas.List.{nil_from_length}
 use Rattle.std.proofs.lemmas.List.Elements.{All-nil, All-cons, All-map}
 use Rattle.snippet_style.specs.Glyphs.{glyph_of}
 use Rattle.snippet_style.specs.declared.glyphs.DecorStyle.{DecorStyle}
 use Rattle.snippet_style.specs.declared.glyphs.DecorStyle.TheVariants.{Ascii, Unicode}
-use Rattle.snippet_text.specs.Normalized.{is_listed, norm, shown}
+use Rattle.snippet_text.specs.Normalized.{is_listed, norm}
 use Rattle.snippet_style.proofs.CellLemmas.{length-chars_le as length-chars}
 use Rattle.snippet_model.proofs.RowLemmas.{each_fails}
 

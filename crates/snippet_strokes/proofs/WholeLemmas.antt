@@ -2,7 +2,6 @@
 use Rattle.std.proofs.Common.{◌≡◌, ℕ, ◌+◌, ◌-◌, ◌≤◌, min, cond, leb, ltb, true, false, None, Some, List, [], ◌∷◌, length, refl, ap, ◌∙◌, arith, unwrap_or}
 use Rattle.std.proofs.lemmas.Bool.{le-leb}
 use Rattle.std.proofs.lemmas.List.{take_all}
-use Rattle.std.proofs.lemmas.List.Sums.{sum_by-cons}
 use Rattle.snippet_view.specs.declared.margin.Margin.{Margin}
 use Rattle.snippet_view.specs.Margin.{bounds_of}
 use Rattle.snippet_view.specs.Window.{reaching, fitting, reaching_last, window_left, window_right, inner_part, covered_columns, uncovered_part, covered_end}

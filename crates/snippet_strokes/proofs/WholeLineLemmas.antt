@@ -87,7 +87,7 @@ AreStrokes-whole layout text room dropped closes es whole =
       lone = λ plain one. absurd (none plain);
       bare = λ plain labels. absurd (none plain);
       marks = λ plain. absurd (none plain);
-      labels = λ _ ends. LabelsStand-none layout (map (shifted dropped) es) [] (beside_unlabelled text dropped es whole ends);
+      labels = λ _ ends. LabelsStand-none layout (map (shifted dropped) es) [] (beside_unlabelled text dropped es whole ends) (λ r c right. refl);
       are = λ k within. absurd (omega (arith, within));
     }
 

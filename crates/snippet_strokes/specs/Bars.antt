@@ -1,5 +1,5 @@
 -- The bars of spans of several lines: which are open beside a line, and what drawing them changes.
-use Rattle.std.specs.Prelude.{◌≡◌, ◌<◌, ◌≤◌, ◌+◌, ◌==◌, ◌&&◌, ◌||◌, ℕ, max, nat_le, not, Bool, true, false, Option, Some, None, List, [], ◌∷◌, ◌++◌, drop, filter, fold, length, map, take}
+use Rattle.std.specs.Prelude.{◌≡◌, ◌<◌, ◌≤◌, ◌+◌, ◌==◌, ◌&&◌, ◌||◌, ℕ, max, nat_le, not, Bool, true, false, Option, Some, None, All, List, [], ◌∷◌, ◌++◌, drop, filter, fold, length, map, take}
 use Rattle.std.specs.Char.{is_whitespace}
 use Rattle.std.specs.List.{filter_map, list_all, list_any, slice_index_or}
 use Rattle.snippet_view.specs.declared.entries.LineAnnotation.{LineAnnotation}
@@ -44,6 +44,10 @@ has_depth bars depth = list_any (λ b. b.depth == depth) bars
 -- the bars whose depth none of the others has
 abbrev pub bars_apart : List OpenBar → List OpenBar → List OpenBar
 bars_apart bars others = filter (λ b. not (has_depth others b.depth)) bars
+
+-- of some bars none but this one has its depth
+abbrev pub HasOwnDepth : OpenBar → List OpenBar → Type 0
+HasOwnDepth bar bars = All (λ b. b.depth ≡ bar.depth → b ≡ bar) bars
 
 -- the bars that are open below a line, where those of one list are open above it, and its starts and ends have those of the
 -- other: those above that no start or end closes, and those that its starts and ends open

@@ -1,12 +1,15 @@
 -- What is promised of the labels of a line: none is lost.
-use Rattle.std.specs.Prelude.{ℕ, Bool, true, ◌+◌, ◌<◌, ◌≤◌, ◌≡◌, ◌⊎◌, ◌==◌, ◌&&◌, ◌||◌, nat_le, nat_lt, max, All, List, [], count_by, length, map, slice_index_or}
-use Rattle.snippet_style.specs.Cell.{Cell, unlinked_cell}
+use Rattle.std.specs.Prelude.{ℕ, Bool, true, ◌+◌, ◌<◌, ◌≤◌, ◌≡◌, ◌⊎◌, ◌==◌, ◌&&◌, ◌||◌, nat_le, nat_lt, max, All, List, [], codes, count_by, length, map, slice_index_or}
+use Rattle.std.specs.List.{list_any}
+use Rattle.snippet_style.specs.Cell.{Cell, SPACE, unlinked_cell}
+use Rattle.snippet_style.specs.declared.glyphs.DecorStyle.{DecorStyle}
+use Rattle.snippet_style.specs.declared.glyphs.DecorStyle.TheVariants.{Ascii, Unicode}
 use Rattle.snippet_grid.specs.Grid.{cell_at}
 use Rattle.snippet_view.specs.Measures.{is_bar}
 use Rattle.snippet_view.specs.declared.entries.LineAnnotation.{LineAnnotation}
 use Rattle.snippet_strokes.specs.declared.layout.Layout.{Layout}
 use Rattle.snippet_strokes.specs.declared.positions.PlacedEntry.{PlacedEntry}
-use Rattle.snippet_strokes.specs.Entries.{label_role, label_text}
+use Rattle.snippet_strokes.specs.Entries.{has_mark_role, label_role, label_text}
 use Rattle.snippet_strokes.specs.Positions.{has_label, is_start_part, label_place}
 
 -- the label of an entry, if it has one, stands whole at its place, in the role of labels of its kind
@@ -30,13 +33,24 @@ pub record StandsIn (layout : Layout) (rows : List (List Cell)) (l : PlacedLabel
   pub whole : (n : ℕ) → n < length (label_text l.entry) → cell_at rows l.row (l.cell + n) ≡ unlinked_cell (label_role l.entry.kind) (slice_index_or (label_text l.entry) n 0)
   pub place : ((l.row ≡ 0) × (l.cell ≡ layout.code + max l.entry.end.display 1 + 1)) ⊎ ((0 < l.row) × (l.cell ≡ layout.code + l.entry.start.display))
 
+-- the glyphs that strokes are drawn with from the code on: marks, stems, the lines that lead to bars, and what stands where they meet
+abbrev pub stroke_glyphs : DecorStyle → List ℕ
+stroke_glyphs Ascii = codes "^-|_"
+stroke_glyphs Unicode = codes "━─│┯┬╿┛┘┙┥┤"
+
+-- a cell below a line, from the code on, that is none of a label's: a space, or the glyph of a stroke in a role of marks
+abbrev pub IsStrokeCell : DecorStyle → Cell → Type 0
+IsStrokeCell decor cell =
+    (cell ≡ SPACE) ⊎ ((list_any (λ g. cell.ch == g) (stroke_glyphs decor) ≡ true) × (has_mark_role cell ≡ true))
+
 -- the labels of a line's entries stand in the rows of its strokes, one for each entry, in their order: each that shows anything
--- stands whole, and no cell is one of two labels
+-- stands whole, no cell is one of two labels, and each that is of none is a space or a stroke's
 pub record LabelsStand (layout : Layout) (es : List LineAnnotation) (rows : List (List Cell)) : Type 0 where
   pub labels : List PlacedLabel
   pub are : map (λ (l : PlacedLabel). l.entry) labels ≡ es
   pub stand : All (λ l. 0 < length (label_text l.entry) → StandsIn layout rows l) labels
   pub apart : (r c : ℕ) → count_by (is_cell_of r c) labels ≤ 1
+  pub others : (r c : ℕ) → layout.code ≤ c → count_by (is_cell_of r c) labels ≡ 0 → IsStrokeCell layout.decor (cell_at rows r c)
 
 -- an entry has a label only where a span ends: the start of one of several lines, or a bar, has none
 abbrev pub IsLabelledAtEnd : LineAnnotation → Type 0

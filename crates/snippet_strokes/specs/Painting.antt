@@ -1,5 +1,6 @@
 -- How the strokes of a line are drawn, one over another.
-use Rattle.std.specs.Prelude.{◌≡◌, ◌≢◌, ℕ, ◌+◌, ◌<◌, ◌≤◌, ◌==◌, ◌&&◌, ◌||◌, max, Bool, false, true, List, [], ◌∷◌, All, IsPermutation, drop, length, map, slice_index_or, if◌then◌else◌}
+use Rattle.std.specs.Prelude.{◌≡◌, ◌≢◌, ℕ, ◌+◌, ◌<◌, ◌≤◌, ◌==◌, ◌&&◌, ◌||◌, nat_lt, not, max, Bool, false, true, List, [], ◌∷◌, All, IsPermutation, drop, length, map, slice_index_or, if◌then◌else◌}
+use Rattle.snippet_lines.specs.Order.{ordered_by}
 use Rattle.snippet_view.specs.declared.entries.LineAnnotation.{LineAnnotation}
 use Rattle.snippet_view.specs.declared.entries.LineAnnotationType.{LineAnnotationType}
 use Rattle.snippet_view.specs.declared.entries.LineAnnotationType.TheVariants.{Singleline, MultilineStart, MultilineEnd, MultilineLine}
@@ -57,6 +58,16 @@ pub record CoversOver (earlier later : LineAnnotation) : Type 0 where
 -- each entry may be painted over all that stand before it
 abbrev pub IsPaintingOrder : List LineAnnotation → Type 0
 IsPaintingOrder es = (i j : ℕ) (d : LineAnnotation) → i ≤ j → j < length es → CoversOver (slice_index_or es i d) (slice_index_or es j d)
+
+-- whether an entry is painted before another: it is wider, or as wide, and for context where the other is primary
+abbrev pub is_painted_before : LineAnnotation → LineAnnotation → Bool
+is_painted_before e f =
+    nat_lt (entry_width f) (entry_width e) || (entry_width e == entry_width f && (not (is_primary e.kind) && is_primary f.kind))
+
+-- placed entries in the order in which their marks are painted: the widest first, those of one width with the primary ones last, and
+-- else as they are placed
+abbrev pub painting_order : List PlacedEntry → List PlacedEntry
+painting_order placed = ordered_by (λ e f. is_painted_before e.entry f.entry) placed
 
 -- the glyph at the first column of an entry's mark: of a start or an end the corner where the line to its bar meets the mark,
 -- or where a stem leads down to that line the stem's top; of another entry the top of the stem that its label hangs from,

@@ -5,6 +5,7 @@ use Rattle.std.specs.Cow.{cow_str_bytes}
 use Rattle.snippet_view.specs.declared.entries.LineAnnotation.{LineAnnotation}
 use Rattle.snippet_view.specs.declared.entries.LineAnnotationType.{LineAnnotationType}
 use Rattle.snippet_view.specs.declared.entries.LineAnnotationType.TheVariants.{Singleline, MultilineStart, MultilineEnd, MultilineLine}
+use Rattle.snippet_lines.specs.Order.{ordered_by}
 use Rattle.snippet_view.specs.Measures.{greatest}
 use Rattle.snippet_strokes.specs.declared.positions.PlacedEntry.{PlacedEntry}
 use Rattle.snippet_strokes.specs.Entries.{is_end_part, label_text}
@@ -135,8 +136,15 @@ pub record StandsLeft (earlier later : LineAnnotation) : Type 0 where
 abbrev pub IsFromRight : List LineAnnotation → Type 0
 IsFromRight es = (i j : ℕ) (d : LineAnnotation) → i ≤ j → j < length es → StandsLeft (slice_index_or es i d) (slice_index_or es j d)
 
--- the entries of a line from right to left, each with its label, at the positions of that order
+-- whether an entry is placed before another: it starts farther right, or at the same column and a greater character
+abbrev pub is_placed_before : LineAnnotation → LineAnnotation → Bool
+is_placed_before e f =
+    nat_lt f.start.display e.start.display || (e.start.display == f.start.display && nat_lt f.start.char e.start.char)
+
+-- the entries of a line from right to left, and as they are given where they start at one character, each with its label, at the
+-- positions of that order (`same` and `from_right` follow from `order`)
 pub record ArePlaced (es : List LineAnnotation) (placed : List PlacedEntry) : Type 0 where
+  pub order : map (λ e. e.entry) placed ≡ ordered_by is_placed_before es
   pub same : IsPermutation es (map (λ e. e.entry) placed)
   pub from_right : IsFromRight (map (λ e. e.entry) placed)
   pub labels : All HasItsLabel placed

@@ -1,6 +1,6 @@
 -- What is written for the strokes of a line, as lists of writes: its labels, its stems, its marks, the lines that lead to bars,
 -- and the bars of the spans that begin or end on it.
-use Rattle.std.specs.Prelude.{ℕ, ◌≡◌, ◌+◌, ◌-◌, ◌==◌, ◌&&◌, nat_le, nat_lt, Bool, false, List, [], ◌∷◌, ◌++◌, IsPermutation, length, map, replicate, if◌then◌else◌}
+use Rattle.std.specs.Prelude.{ℕ, ◌≡◌, ◌+◌, ◌-◌, ◌==◌, ◌&&◌, nat_le, nat_lt, Bool, false, List, [], ◌∷◌, ◌++◌, length, map, replicate, if◌then◌else◌}
 use Rattle.std.specs.List.{flat_map, range_with_len}
 use Rattle.snippet_style.specs.declared.role.ElementStyle.{ElementStyle}
 use Rattle.snippet_style.specs.Glyphs.{glyph_of, underline_role}
@@ -13,7 +13,7 @@ use Rattle.snippet_strokes.specs.Entries.{label_role, label_text, wide_entries}
 use Rattle.snippet_view.specs.declared.entries.LineAnnotation.{LineAnnotation}
 use Rattle.snippet_style.specs.Cell.{Cell}
 use Rattle.snippet_style.specs.Separators.{separator_row}
-use Rattle.snippet_strokes.specs.Painting.{IsPaintingOrder, first_glyph, foot_glyph, mark_end}
+use Rattle.snippet_strokes.specs.Painting.{first_glyph, foot_glyph, mark_end, painting_order}
 use Rattle.snippet_strokes.specs.Positions.{ArePlaced, has_label, has_stem, label_place, row_count}
 use Rattle.snippet_strokes.specs.Rows.{CutsRows, bare_row}
 use Rattle.snippet_strokes.specs.Writes.{Write, column_of, glyph_at, painted, stretch_of}
@@ -144,18 +144,15 @@ begun_rows layout closes count source =
     source ∷ (replicate (count - 1) (separator_row layout.decor layout.gutter) ++ bare_row layout.decor layout.gutter closes ∷ [])
 
 -- the rows of a line with the strokes of these entries, of which this is the source row: as many as the entries ask for, and over
--- them all strokes. The entries are placed from right to left, and their marks painted in a painting order. Of the first two rows,
--- the source row and that of the marks, stretches are cut where entries are wide
+-- them all strokes. The entries are placed from right to left, and their marks painted in the order of painting. Of the first two
+-- rows, the source row and that of the marks, stretches are cut where entries are wide
 pub record StrokesPainted (layout : Layout) (room : ℕ) (closes : Bool) (es : List LineAnnotation) (source : List Cell) (rows : List (List Cell)) : Type 0 where
   pub placed : List PlacedEntry
   pub are : ArePlaced es placed
-  pub order : List PlacedEntry
-  pub same : IsPermutation placed order
-  pub ordered : IsPaintingOrder (map (λ (e : PlacedEntry). e.entry) order)
   pub top : List Cell
   pub marks : List Cell
   pub lower : List (List Cell)
-  pub painted_are : top ∷ marks ∷ lower ≡ painted (strokes_of layout 0 (row_count placed + 1) placed order) (begun_rows layout closes (row_count placed) source)
+  pub painted_are : top ∷ marks ∷ lower ≡ painted (strokes_of layout 0 (row_count placed + 1) placed (painting_order placed)) (begun_rows layout closes (row_count placed) source)
   pub cut : CutsRows layout (wide_entries room layout.decor es) [] top marks lower rows
   pub count : length rows ≡ row_count placed + 1
 

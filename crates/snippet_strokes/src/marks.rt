@@ -5,7 +5,7 @@ ghost use Rattle.snippet_view.specs.declared.entries.LineAnnotation.{LineAnnotat
 ghost use Rattle.snippet_strokes.specs.Entries.{HasPlace};
 ghost use Rattle.snippet_strokes.specs.Positions.{ArePlaced};
 ghost use Rattle.snippet_strokes.specs.Labels.{StandsWhole};
-ghost use Rattle.snippet_strokes.specs.Painting.{AreMarked, IsPaintingOrder, first_glyph, mark_end};
+ghost use Rattle.snippet_strokes.specs.Painting.{AreMarked, IsPaintingOrder, first_glyph, mark_end, painting_order};
 ghost use Rattle.snippet_strokes.specs.Strokes.{mark_of, marks_of};
 ghost use Rattle.snippet_strokes.specs.Writes.{painted};
 
@@ -45,6 +45,7 @@ pub(crate) fn draw_marks(
         → All (λ e. HasPlace e.entry) placed.old.items → All (StandsWhole layout row buffer.old) placed.old.items
         → All (StandsWhole layout row buffer.new) placed.old.items) }
     ensures same { OnOk result (IsPermutation placed.old.items placed.new.items) }
+    ensures order { OnOk result (placed.new.items ≡ painting_order placed.old.items) }
 {
     sort_for_painting(placed)?;
     paint_entries(alloc, buffer, layout, row, placed)
@@ -59,6 +60,7 @@ pub(crate) fn draw_marks(
 fn sort_for_painting(placed: &mut Vec<PlacedEntry>) -> Result<(), AllocError>
     ensures same { OnOk result (IsPermutation placed.old.items placed.new.items) }
     ensures ordered { OnOk result (IsPaintingOrder (map (λ e. e.entry) placed.new.items)) }
+    ensures order { OnOk result (placed.new.items ≡ painting_order placed.old.items) }
 {
     placed.sort_by_key(|p| (Reverse(entry_width(&p.entry)), is_primary(p.entry.kind)))
 }

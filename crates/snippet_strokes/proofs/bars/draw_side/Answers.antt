@@ -5,7 +5,7 @@ use Rattle.std.specs.List.{list_any}
 use Rattle.std.specs.Str.{chars}
 use Rattle.snippet_style.specs.Glyphs.{bar_glyphs}
 use Rattle.snippet_grid.specs.Grid.{WritesCells, cells_written}
-use Rattle.snippet_strokes.specs.Bars.{ChangesRows, bar_glyph, bar_part}
+use Rattle.snippet_strokes.specs.Bars.{bar_glyph, bar_part}
 use Rattle.snippet_strokes.proofs.BarRows.{ChangesRows-next, ChangesRows-none}
 use Rattle.snippet_style.specs.Cell.{Cell, text_cells, unlinked_cell}
 use Rattle.snippet_strokes.specs.Entries.{IsBarCell}

@@ -35,4 +35,5 @@ returns c =
       marked = on_ok_weaker c.paint_entries.result marks c.paint_entries.ensures.painted;
       stand = on_ok_weaker c.paint_entries.result (λ drawn_now given placed places. labels_kept layout row given es old new placed places (marks drawn_now)) c.paint_entries.ensures.painted;
       same = on_ok_weaker c.paint_entries.result (λ _. c.in_ok-sort_for_painting.ensures.same) c.paint_entries.ensures.painted;
+      order = on_ok_weaker c.paint_entries.result (λ _. c.in_ok-sort_for_painting.ensures.order) c.paint_entries.ensures.painted;
     }

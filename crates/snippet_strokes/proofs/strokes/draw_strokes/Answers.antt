@@ -1,4 +1,4 @@
-use Rattle.std.proofs.Common.{◌≡◌, ◌∙◌, ◌+◌, ◌-◌, ◌<◌, ◌^◌, List, ◌++◌, ◌∷◌, [], true, false, ℕ, refl, All, map, replicate, ap, sym, subst, arith, length}
+use Rattle.std.proofs.Common.{◌≡◌, ◌∙◌, ◌+◌, ◌-◌, ◌<◌, ◌≤◌, ◌^◌, List, ◌++◌, ◌∷◌, [], true, false, ℕ, refl, All, map, replicate, ap, sym, subst, arith, length}
 use Rattle.std.proofs.lemmas.Result.{on_ok_weaker}
 use Rattle.std.proofs.lemmas.List.{length_push, length-map}
 use Rattle.std.proofs.lemmas.List.Sorted.{All-permutation, IsPermutation-map, IsPermutation-trans, length_permutation}
@@ -6,7 +6,7 @@ use Rattle.snippet_view.specs.declared.entries.LineAnnotation.{LineAnnotation}
 use Rattle.snippet_strokes.specs.declared.positions.PlacedEntry.{PlacedEntry}
 use Rattle.snippet_strokes.specs.Painting.{AreMarked, HasRows, MarksStarts, StandsFrom, DrawsFrom, DrawsBarCells}
 use Rattle.snippet_strokes.specs.Positions.{HasItsLabel, has_label, has_stem, row_count}
-use Rattle.snippet_grid.specs.Grid.{cells_written}
+use Rattle.snippet_grid.specs.Grid.{cell_at, cells_written}
 use Rattle.snippet_style.specs.Cell.{text_cells}
 use Rattle.snippet_strokes.specs.Entries.{HasPlace, HasBarCell, is_single, label_role, label_text, shifted, wide_entries}
 use Rattle.snippet_strokes.proofs.ShiftLemmas.{shifted_places, shifted_bars}
@@ -17,11 +17,11 @@ use Rattle.snippet_strokes.proofs.BegunLemmas.{rows_begun, rows_ready, wide_entr
 use Rattle.snippet_strokes.proofs.StrokeLemmas.{strokes_drawn, strokes_none}
 use Rattle.snippet_strokes.proofs.TextLemmas.{labels_short}
 use Rattle.snippet_style.specs.Cell.{Cell}
-use Rattle.snippet_strokes.specs.declared.layout.Layout.{Layout}
 use Rattle.snippet_strokes.specs.Positions.{ArePlaced}
-use Rattle.snippet_strokes.specs.Labels.{StandsWhole}
-use Rattle.snippet_strokes.specs.Strokes.{connectors_of, corners_of, labels_of, stems_of, strokes_of}
-use Rattle.snippet_strokes.specs.Writes.{painted}
+use Rattle.snippet_strokes.specs.Labels.{IsStrokeCell, StandsWhole}
+use Rattle.snippet_strokes.specs.Strokes.{connectors_of, corners_of, label_write, labels_of, stems_of, strokes_of}
+use Rattle.snippet_strokes.specs.Writes.{Reaches, painted}
+use Rattle.snippet_strokes.proofs.StrokeCells.{BesideLabels, cell_of_strokes}
 use Rattle.snippet_strokes.proofs.WriteLemmas.{strokes_painted}
 use Rattle.snippet_strokes.proofs.LineRowLemmas.{painted_added}
 use Rattle.snippet_strokes.proofs.strokes.draw_strokes.Goals as goal
@@ -154,31 +154,35 @@ returns c =
     let places : All (λ (e : PlacedEntry). HasPlace e.entry) placed = entries_all HasPlace es placed c.in_ok-placed.ensures.placed.same (shifted_places c.args.dropped c.args.entries.now c.requires.columns) in
     let written : All (StandsWhole layout below labelled) placed = subst (λ (ps : List PlacedEntry). ArePlaced es ps → All (StandsWhole layout below labelled) ps) c.deref-6.ensures.value (c.in_ok-draw_labels.ensures.stand es) c.in_ok-placed.ensures.placed in
     let stands : All (StandsWhole layout below new) placed = c.in_ok-draw_marks.ensures.stand es c.in_ok-placed.ensures.placed places written in
+    let rows : List (List Cell) = c.args.buffer.now ++ replicate (row_count placed - 1) sep ++ end ∷ [] in
+    let begun_is : begun ≡ rows = c.in_ok-below.ensures.added ∙ ap (λ n. c.args.buffer.now ++ replicate (n - 1) sep ++ end ∷ []) count in
+    let long : length begun ≡ length c.args.buffer.now + row_count placed = rows_begun c.args.buffer.now begun sep end c.row_count.result (omega (arith, count, row_count_some placed)) c.in_ok-below.ensures.added ∙ ap (λ n. length c.args.buffer.now + n) count in
+    let joined_long : length joined ≡ length begun = c.in_ok-draw_connectors.ensures.draws.count in
+    let row_is : below ≡ c.args.row + 1 = c.in_ok-below.ensures.row ∙ c.requires.last in
+    let lines : joined ≡ painted (connectors_of layout below placed) begun = c.in_ok-draw_connectors.ensures.painted ∙ ap (λ xs. painted (connectors_of layout below xs) begun) c.deref-3.ensures.value in
+    let bars : barred ≡ painted (corners_of layout c.args.row (length joined) placed) joined = c.in_ok-draw_corners.ensures.painted ∙ ap (λ xs. painted (corners_of layout c.args.row (length joined) xs) joined) c.deref-4.ensures.value in
+    let hung : stemmed ≡ painted (stems_of layout below placed) barred = c.in_ok-draw_stems.ensures.painted ∙ ap (λ xs. painted (stems_of layout below xs) barred) c.deref-5.ensures.value in
+    let named : labelled ≡ painted (labels_of layout below placed) stemmed = c.in_ok-draw_labels.ensures.painted ∙ ap (λ xs. painted (labels_of layout below xs) stemmed) c.deref-6.ensures.value in
+    let all : ℕ = length c.args.buffer.now + row_count placed in
+    let new_is : new ≡ painted (strokes_of layout c.args.row all placed after) rows = strokes_painted layout c.args.row below (length joined) all placed after rows begun joined barred stemmed labelled new row_is (joined_long ∙ long) begun_is lines bars hung named c.in_ok-draw_marks.ensures.painted in
+    let bar_cells : All (λ (e : PlacedEntry). HasBarCell layout e.entry) placed = entries_all (HasBarCell layout) es placed c.in_ok-placed.ensures.placed.same (shifted_bars layout c.args.dropped c.args.entries.now c.requires.bar_cells) in
+    let IsBeside : ℕ → ℕ → ℕ → Type 0 = λ n r at. BesideLabels layout n r at placed in
+    let IsStroke : List (List Cell) → ℕ → ℕ → Type 0 = λ g r at. IsStrokeCell layout.decor (cell_at g r at) in
+    let cells : (r at : ℕ) → layout.code ≤ at → IsStroke begun r at → IsBeside below r at → IsStroke new r at = λ r at right before beside. subst (λ g. IsStroke g r at) (sym new_is) (cell_of_strokes layout r at right c.args.row all placed after rows bar_cells (subst (λ g. IsStroke g r at) begun_is before) (subst (λ n. IsBeside n r at) row_is beside)) in
     record {
       added = on_ok_weaker c.cut_wide.result (λ cut above plain old_is bare_bars.
           let long : length above + 1 ≡ length c.args.buffer.now = sym (ap length old_is ∙ length_push above plain) in
           let source_row : c.args.row ≡ length above = omega (arith, long, c.requires.last) in
           let marks_row : below ≡ length above + 1 = c.in_ok-below.ensures.row ∙ sym long in
           let begins : begun ≡ (above ++ plain ∷ []) ++ replicate (row_count placed - 1) sep ++ end ∷ [] = c.in_ok-below.ensures.added ∙ ap (λ n. c.args.buffer.now ++ replicate (n - 1) sep ++ end ∷ []) count ∙ ap (λ old. old ++ replicate (row_count placed - 1) sep ++ end ∷ []) old_is in
-          strokes_drawn layout c.args.room c.args.closes es placed above plain begun joined barred stemmed labelled new c.requires.place c.in_ok-placed.ensures.placed places bare_bars begins (subst (λ n. DrawsFrom n (layout.gutter + 3) begun joined) marks_row c.in_ok-draw_connectors.ensures.draws) c.in_ok-draw_connectors.ensures.bar_cells no_lines (subst (λ n. DrawsBarCells layout n joined barred) source_row c.in_ok-draw_corners.ensures.draws) no_bars (subst (λ n. (from : ℕ) → All (λ (e : PlacedEntry). StandsFrom layout.code from e.entry) placed → DrawsFrom n from barred stemmed) marks_row stems) no_stems (subst (λ n. (from : ℕ) → All (λ (e : PlacedEntry). StandsFrom layout.code from e.entry) placed → DrawsFrom n from stemmed labelled) marks_row labels) stem_starts c.in_ok-draw_labels.ensures.starts no_labels (subst (λ n. (e : PlacedEntry) → placed ≡ e ∷ [] → e.position ≡ 0 → 0 < e.entry.end.display → has_label e ≡ true → labelled ≡ cells_written stemmed n (layout.code + e.entry.end.display + 1) (text_cells (label_role e.entry.kind) (label_text e.entry))) marks_row lone) (subst (λ n. AreMarked layout placed n labelled new) marks_row c.in_ok-draw_marks.ensures.marked) (subst (λ n. All (StandsWhole layout n new) placed) marks_row stands) c.cut_wide.new.buffer (wide_entries c.args.room layout.decor (map f c.deref-7.result.now)) some wide (λ up source marks rest same. cut up source marks rest (same ∙ sym source_row))) c.cut_wide.ensures.cut;
+          strokes_drawn layout c.args.room c.args.closes es placed above plain begun joined barred stemmed labelled new c.requires.place c.in_ok-placed.ensures.placed places bare_bars begins (subst (λ n. DrawsFrom n (layout.gutter + 3) begun joined) marks_row c.in_ok-draw_connectors.ensures.draws) c.in_ok-draw_connectors.ensures.bar_cells no_lines (subst (λ n. DrawsBarCells layout n joined barred) source_row c.in_ok-draw_corners.ensures.draws) no_bars (subst (λ n. (from : ℕ) → All (λ (e : PlacedEntry). StandsFrom layout.code from e.entry) placed → DrawsFrom n from barred stemmed) marks_row stems) no_stems (subst (λ n. (from : ℕ) → All (λ (e : PlacedEntry). StandsFrom layout.code from e.entry) placed → DrawsFrom n from stemmed labelled) marks_row labels) stem_starts c.in_ok-draw_labels.ensures.starts no_labels (subst (λ n. (e : PlacedEntry) → placed ≡ e ∷ [] → e.position ≡ 0 → 0 < e.entry.end.display → has_label e ≡ true → labelled ≡ cells_written stemmed n (layout.code + e.entry.end.display + 1) (text_cells (label_role e.entry.kind) (label_text e.entry))) marks_row lone) (subst (λ n. AreMarked layout placed n labelled new) marks_row c.in_ok-draw_marks.ensures.marked) (subst (λ n. All (StandsWhole layout n new) placed) marks_row stands) (λ r at right before beside. cells r at right before (subst (λ n. IsBeside n r at) (sym marks_row) beside)) c.cut_wide.new.buffer (wide_entries c.args.room layout.decor (map f c.deref-7.result.now)) some wide (λ up source marks rest same. cut up source marks rest (same ∙ sym source_row))) c.cut_wide.ensures.cut;
       none = on_ok_weaker c.cut_wide.result (λ _ none. absurd (omega (arith, given, none))) c.cut_wide.ensures.cut;
       painted = on_ok_weaker c.cut_wide.result (λ cut _ above plain old_is.
-          let rows : List (List Cell) = c.args.buffer.now ++ replicate (row_count placed - 1) sep ++ end ∷ [] in
-          let begun_is : begun ≡ rows = c.in_ok-below.ensures.added ∙ ap (λ n. c.args.buffer.now ++ replicate (n - 1) sep ++ end ∷ []) count in
-          let long : length begun ≡ length c.args.buffer.now + row_count placed = rows_begun c.args.buffer.now begun sep end c.row_count.result (omega (arith, count, row_count_some placed)) c.in_ok-below.ensures.added ∙ ap (λ n. length c.args.buffer.now + n) count in
-          let joined_long : length joined ≡ length begun = c.in_ok-draw_connectors.ensures.draws.count in
           let same_long : length labelled ≡ length begun = (c.in_ok-draw_labels.ensures.draws 0 (λ k d within. omega arith)).count ∙ (c.in_ok-draw_stems.ensures.draws 0 (λ k d within. omega arith)).count ∙ c.in_ok-draw_corners.ensures.draws.draws.count ∙ joined_long in
           let there : below < length labelled = omega (arith, same_long, long, c.in_ok-below.ensures.row, row_count_some placed) in
-          let row_is : below ≡ c.args.row + 1 = c.in_ok-below.ensures.row ∙ c.requires.last in
           let last_row : c.args.row ≡ length above = omega (arith, c.requires.last, ap length old_is, length_push above plain) in
-          let lines : joined ≡ painted (connectors_of layout below placed) begun = c.in_ok-draw_connectors.ensures.painted ∙ ap (λ xs. painted (connectors_of layout below xs) begun) c.deref-3.ensures.value in
-          let bars : barred ≡ painted (corners_of layout c.args.row (length joined) placed) joined = c.in_ok-draw_corners.ensures.painted ∙ ap (λ xs. painted (corners_of layout c.args.row (length joined) xs) joined) c.deref-4.ensures.value in
-          let hung : stemmed ≡ painted (stems_of layout below placed) barred = c.in_ok-draw_stems.ensures.painted ∙ ap (λ xs. painted (stems_of layout below xs) barred) c.deref-5.ensures.value in
-          let named : labelled ≡ painted (labels_of layout below placed) stemmed = c.in_ok-draw_labels.ensures.painted ∙ ap (λ xs. painted (labels_of layout below xs) stemmed) c.deref-6.ensures.value in
-          let all : ℕ = length c.args.buffer.now + row_count placed in
-          let new_is = strokes_painted layout c.args.row below (length joined) all placed after rows begun joined barred stemmed labelled new row_is (joined_long ∙ long) begun_is lines bars hung named c.in_ok-draw_marks.ensures.painted in
           let all_rows : length new ≡ all = c.in_ok-draw_marks.ensures.marked.painted.count there ∙ same_long ∙ long in
           let wide_count : ℕ = wide_entries c.args.room layout.decor (map f c.deref-7.result.now) in
           let marked = c.in_ok-draw_marks.ensures in
-          painted_added layout c.args.room c.args.closes es placed after above plain c.args.buffer.now new c.cut_wide.new.buffer c.args.row wide_count c.in_ok-placed.ensures.placed marked.same marked.ordered old_is last_row all_rows new_is wide cut) c.cut_wide.ensures.cut;
+          painted_added layout c.args.room c.args.closes es placed after above plain c.args.buffer.now new c.cut_wide.new.buffer c.args.row wide_count c.in_ok-placed.ensures.placed marked.order old_is last_row all_rows new_is wide cut) c.cut_wide.ensures.cut;
     }
