@@ -9,7 +9,7 @@ use Rattle.snippet_splice.specs.declared.stretches.PatchExtent.{PatchExtent}
 use Rattle.snippet_splice.specs.Copied.{in_text}
 use Rattle.snippet_splice.specs.Edits.{Edit, in_order, trimmed_edits}
 use Rattle.snippet_splice.specs.Shown.{first_start, shown_start}
-use Rattle.snippet_splice.specs.Stretches.{Extent, after_last_lf, capped, characters_before, extent_of, extents_from, new_stretches, stretches_on}
+use Rattle.snippet_splice.specs.Stretches.{Extent, after_last_lf, capped, characters_before, extent_of, extents_from, new_stretches, replaced_on, replaced_stretches, stretches_on}
 use Rattle.snippet_splice.proofs.EditLemmas.{slice_split}
 use Rattle.snippet_splice.proofs.WriteLemmas.{in_text-mono}
 
@@ -62,10 +62,10 @@ counted_more source part from at to before after low high is front counted count
     counts (between source from at) front counted ∙ ap (λ t. capped (length (chars (after_last_lf t)))) (ap (λ t. between source from at ++ t) is ∙ sym (between_more source from at to low high))
 
 -- where an edit stands
-pub extent_is : (feeds feeds' start start' end end' : ℕ) (text : List ℕ) → feeds ≡ feeds' → start ≡ start' → end ≡ end' → let of : ℕ → ℕ → ℕ → Extent = λ f s e. record { feeds = f; start = s; end = e; text = text } in of feeds start end ≡ of feeds' start' end'
-extent_is feeds feeds' start start' end end' text f s e =
-    let of : ℕ → ℕ → ℕ → Extent = λ a b c. record { feeds = a; start = b; end = c; text = text } in
-    ap (λ a. of a start end) f ∙ ap (λ b. of feeds' b end) s ∙ ap (of feeds' start') e
+pub extent_is : (x : Extent) (feeds before start end : ℕ) (under : List ℕ) → feeds ≡ x.feeds → before ≡ x.before → start ≡ x.start → end ≡ x.end → under ≡ x.under → record { feeds = feeds; before = before; start = start; end = end; under = under; text = x.text } ≡ x
+extent_is x feeds before start end under f b s e u =
+    let of : ℕ → ℕ → ℕ → ℕ → List ℕ → Extent = λ n m i j t. record { feeds = n; before = m; start = i; end = j; under = t; text = x.text } in
+    ap (λ n. of n before start end under) f ∙ ap (λ n. of x.feeds n start end under) b ∙ ap (λ n. of x.feeds x.before n end under) s ∙ ap (λ n. of x.feeds x.before x.start n under) e ∙ ap (of x.feeds x.before x.start x.end) u
 
 -- one more place, and those that are left
 pub places_more : (x : Extent) (left : List Extent) (places now : List PatchExtent) (place : PatchExtent) (all : List Extent) → now ≡ places ++ place ∷ [] → extent_of place ≡ x → map extent_of places ++ (x ∷ left) ≡ all → map extent_of now ++ left ≡ all
@@ -77,3 +77,8 @@ pub stretches_are : (fold : Bool) (source : List ℕ) (es ts : List Edit) (from 
 unfolding new_stretches
 stretches_are fold source es ts from k xs starts edits is =
     ap (stretches_on k 0 0 0) (is ∙ ap (λ n. extents_from source n n ts) starts ∙ ap (extents_from source (shown_start fold source (first_start (in_order es))) (shown_start fold source (first_start (in_order es)))) edits)
+
+pub replaced_are : (fold : Bool) (source : List ℕ) (es ts : List Edit) (from k : ℕ) (xs : List Extent) → from ≡ shown_start fold source (first_start (in_order es)) → ts ≡ trimmed_edits source es → xs ≡ extents_from source from from ts → replaced_on k 0 xs ≡ replaced_stretches fold source es k
+unfolding replaced_stretches
+replaced_are fold source es ts from k xs starts edits is =
+    ap (replaced_on k 0) (is ∙ ap (λ n. extents_from source n n ts) starts ∙ ap (extents_from source (shown_start fold source (first_start (in_order es))) (shown_start fold source (first_start (in_order es)))) edits)

@@ -1,17 +1,18 @@
 -- Tables of stretches, the pieces of a text, and what stands in a line before a byte.
-use Rattle.std.proofs.Common.{◌≡◌, ◌≢◌, ◌∙◌, ◌⊎◌, inl, inr, ℕ, zero, suc, ◌+◌, ◌<◌, ◌==◌, cond, eqb, List, [], ◌∷◌, ◌++◌, Vec, count_by, length, map, set, get_or, chars, lit<, refl, sym, ap, arith, if◌then◌else◌, subst}
-use Rattle.std.specs.List.{slice_split}
+use Rattle.std.proofs.Common.{◌≡◌, ◌≢◌, ◌∙◌, ◌⊎◌, inl, inr, ℕ, zero, suc, ◌+◌, ◌-◌, ◌<◌, ◌==◌, cond, eqb, List, [], ◌∷◌, ◌++◌, Vec, count_by, length, map, take, set, get_or, chars, lit<, refl, sym, ap, arith, if◌then◌else◌, subst}
+use Rattle.std.specs.List.{onto_first, slice_split}
 use Rattle.std.specs.Str.{IsUtf8}
 use Rattle.std.specs.declared.alloc.Global.{Global}
-use Rattle.std.proofs.lemmas.Bool.{eq-eqb, eqb-true, cond-true, cond-false, false_from_ne_true, cases_eq}
+use Rattle.std.proofs.lemmas.Bool.{eq-eqb, eqb-true, cond-true, cond-false, false_from_ne_true, cases_Bool, cases_eq}
 use Rattle.std.proofs.lemmas.Bool.Decides.{nat_tests}
-use Rattle.std.proofs.lemmas.List.{append-nil, get_or_default, get_or-map, get_or-set_other, get_or-set_same, length-append, length-map, map-set}
+use Rattle.std.proofs.lemmas.List.{append-nil, get_or_default, get_or-map, get_or-set_other, get_or-set_same, length-append, length-map, map-set, places, same_lists}
 use Rattle.std.proofs.lemmas.List.Splits.{slice_split_at, slice_split_none}
 use Rattle.std.proofs.lemmas.List.Sums.{sum_by-cons}
 use Rattle.std.proofs.lemmas.Str.{chars-append}
-use Rattle.snippet_lines.specs.Lines.{is_lf}
+use Rattle.snippet_lines.specs.Lines.{is_lf, last_byte}
+use Rattle.snippet_lines.proofs.CursorLemmas.{last_byte-not}
 use Rattle.snippet_splice.specs.declared.stretches.SubstitutionHighlight.{SubstitutionHighlight}
-use Rattle.snippet_splice.specs.Stretches.{after_last_lf, capped, line_stretches}
+use Rattle.snippet_splice.specs.Stretches.{after_last_lf, capped, line_stretches, pieces_of, taken_on, without_cr}
 use Rattle.snippet_splice.proofs.RangeLemmas.{feeds-append}
 use Rattle.snippet_splice.proofs.WriteLemmas.{utf8-after}
 
@@ -154,3 +155,47 @@ chars_on front text before utf8 is =
           let total : length (chars (after_last_lf (front ++ text))) ≡ length (chars (after_last_lf text)) = ap (λ t. length (chars t)) (after_other front text some) in
           omega (arith, adds, total)
     ]
+
+-- ---- pieces of the source
+
+-- each text has a first piece
+record Pieces (text : List ℕ) : Type 0 where
+  pub first : List ℕ
+  pub rest : List (List ℕ)
+  pub are : pieces_of text ≡ first ∷ rest
+
+pieces_some : (text : List ℕ) → Pieces text
+pieces_some [] = record { first = []; rest = []; are = refl }
+pieces_some (b ∷ bs) =
+    let later = pieces_some bs in
+    elim (cases_Bool (is_lf b)) [
+      | inl lf ↦ record { first = []; rest = pieces_of bs; are = cond-true (is_lf b) ([] ∷ pieces_of bs) (onto_first b (pieces_of bs)) lf }
+      | inr other ↦
+          record {
+            first = b ∷ later.first;
+            rest = later.rest;
+            are = cond-false (is_lf b) ([] ∷ pieces_of bs) (onto_first b (pieces_of bs)) other ∙ ap (onto_first b) later.are;
+          }
+    ]
+
+-- what the first of several takes, and the others
+pub taken_cut : (k line before start end : ℕ) (piece after : List ℕ) → taken_on k line before start end (piece ∷ pieces_of after) ≡ (if line == k then record { start = start; end = capped (before + length (chars (without_cr piece))) } ∷ [] else []) ++ taken_on k (capped (line + 1)) 0 0 end (pieces_of after)
+taken_cut k line before start end piece after =
+    let later = pieces_some after in
+    let one : List SubstitutionHighlight = if line == k then record { start = start; end = capped (before + length (chars (without_cr piece))) } ∷ [] else [] in
+    ap (λ ps. taken_on k line before start end (piece ∷ ps)) later.are ∙ ap (λ ps. one ++ taken_on k (capped (line + 1)) 0 0 end ps) (sym later.are)
+
+-- a text without the CR that ends it
+pub without_cr-push : (text front : List ℕ) → text ≡ front ++ 13 ∷ [] → without_cr text ≡ front
+without_cr-push text front is = ap without_cr is ∙ pushed front
+  where
+    pushed : (front : List ℕ) → without_cr (front ++ 13 ∷ []) ≡ front
+    pushed front =
+        let whole : List ℕ = front ++ 13 ∷ [] in
+        let long : length whole ≡ length front + 1 = length-append front (13 ∷ []) in
+        let last : last_byte whole ≡ 13 = grind (arith, places) in
+        cond-true (eqb (last_byte whole) 13) (take (length whole - 1) whole) whole (eq-eqb _ 13 last) ∙ same_lists _ _ (grind (arith, places)) (λ k d h. grind (arith, places))
+
+pub without_cr-stays : (text : List ℕ) → ((front : List ℕ) → text ≢ front ++ 13 ∷ []) → without_cr text ≡ text
+without_cr-stays text open_end =
+    cond-false (eqb (last_byte text) 13) (take (length text - 1) text) text (false_from_ne_true _ (λ t. last_byte-not text 13 (lit< tt) open_end (eqb-true _ 13 t)))

@@ -1,8 +1,8 @@
 -- Which stretches of the lines that are shown the texts of trimmed edits take.
-use Rattle.std.specs.Prelude.{ℕ, ◌+◌, ◌-◌, ◌*◌, ◌^◌, nat_lt, min, ◌==◌, Bool, Vec, List, [], ◌∷◌, ◌++◌, length, map, count_by, chars, if◌then◌else◌}
+use Rattle.std.specs.Prelude.{ℕ, ◌+◌, ◌-◌, ◌*◌, ◌^◌, nat_lt, min, ◌==◌, Bool, Vec, List, [], ◌∷◌, ◌++◌, length, map, take, count_by, chars, if◌then◌else◌}
 use Rattle.std.specs.List.{slice_index_or, slice_range, slice_split}
 use Rattle.std.specs.declared.alloc.Global.{Global}
-use Rattle.snippet_lines.specs.Lines.{is_lf}
+use Rattle.snippet_lines.specs.Lines.{is_lf, last_byte}
 use Rattle.snippet_splice.specs.declared.stretches.PatchExtent.{PatchExtent}
 use Rattle.snippet_splice.specs.declared.stretches.SubstitutionHighlight.{SubstitutionHighlight}
 use Rattle.snippet_splice.specs.Copied.{in_text}
@@ -56,11 +56,13 @@ end_character source from e =
     else start_character source from e.end
 
 -- where an edit stands in its lines of the source: how many LF stand between the edit before it and its start, how many characters
--- of a line stand before its start and before its end, and its text
+-- of a line stand before its start and before its end, how many of them are of the text of its line, what it stands over, and its text
 pub record Extent : Type 0 where
   pub feeds : ℕ
+  pub before : ℕ
   pub start : ℕ
   pub end : ℕ
+  pub under : List ℕ
   pub text : List ℕ
 
 -- where some edits do, which stand after a byte, if a line begins at byte `from`
@@ -69,13 +71,16 @@ extents_from source from at [] = []
 extents_from source from at (e ∷ es) =
     record {
       feeds = count_by is_lf (slice_range source (in_text source at) (in_text source e.start));
+      before = characters_before source from e.start;
       start = start_character source from e.start;
       end = end_character source from e;
+      under = slice_range source (in_text source e.start) (in_text source e.end);
       text = e.text;
     } ∷ extents_from source from e.end es
 
 abbrev pub extent_of : PatchExtent → Extent
-extent_of p = record { feeds = p.feeds; start = p.start; end = p.end; text = p.replacement.now }
+extent_of p =
+    record { feeds = p.feeds; before = p.text_start; start = p.start; end = p.end; under = p.inside.now; text = p.replacement.now }
 
 -- the character at which the text of an edit begins, if character `end` of the source stands as character `shown` in its line: as in
 -- the source where it is the first on its line, else as far after the edit before it as there
@@ -99,3 +104,32 @@ unfoldable pub new_stretches : Bool → List ℕ → List Edit → ℕ → List 
 new_stretches fold source es k =
     let from = shown_start fold source (first_start (in_order es)) in
     stretches_on k 0 0 0 (extents_from source from from (trimmed_edits source es))
+
+-- ---- the stretches of the source that edits stand over
+
+-- the text of a line that an LF ends: without the CR before that
+abbrev pub without_cr : List ℕ → List ℕ
+without_cr text = if last_byte text == 13 then take (length text - 1) text else text
+
+-- what is taken of line k by pieces that stand one to a line from this one on, where `before` characters of the first line's text
+-- stand before the first piece: that from character `start` on, any other from the beginning of its line; the last to character `end`,
+-- any other to the end of its line's text
+abbrev pub taken_on : ℕ → ℕ → ℕ → ℕ → ℕ → List (List ℕ) → List SubstitutionHighlight
+taken_on k line before start end [] = []
+taken_on k line before start end (piece ∷ []) = if line == k then record { start = start; end = end } ∷ [] else []
+taken_on k line before start end (piece ∷ next ∷ pieces) =
+    (if line == k then record { start = start; end = capped (before + length (chars (without_cr piece))) } ∷ [] else [])
+    ++ taken_on k (capped (line + 1)) 0 0 end (next ∷ pieces)
+
+-- the stretches of line k of the source, from one of its lines on, which some edits stand over
+abbrev pub replaced_on : ℕ → ℕ → List Extent → List SubstitutionHighlight
+replaced_on k line [] = []
+replaced_on k line (x ∷ xs) =
+    let first = capped (line + x.feeds) in
+    taken_on k first x.before x.start x.end (pieces_of x.under) ++ replaced_on k (capped (first + count_by is_lf x.under)) xs
+
+-- those of line k after the first that is shown, which the edits replace
+unfoldable pub replaced_stretches : Bool → List ℕ → List Edit → ℕ → List SubstitutionHighlight
+replaced_stretches fold source es k =
+    let from = shown_start fold source (first_start (in_order es)) in
+    replaced_on k 0 (extents_from source from from (trimmed_edits source es))

@@ -70,7 +70,7 @@ pub fn spliced_lines<'a>(
     let more = if fold { 0 } else { line_feed_count(after) };
     let lines = source_lines_shown(source, start, &patches, fold);
     let highlights = new_stretches(alloc, &places, more)?;
-    let replaced_highlights = replaced_stretches(alloc, source, &patches, &places, lines)?;
+    let replaced_highlights = replaced_stretches(alloc, &places, lines)?;
     Ok(Some(SplicedLines {
         complete,
         patches,

@@ -5,7 +5,7 @@ ghost use Rattle.std.specs.Str.{IsUtf8};
 ghost use Rattle.snippet_lines.specs.Span.{IsSpan, IsSpanBorder};
 ghost use Rattle.snippet_splice.specs.Copied.{in_text};
 ghost use Rattle.snippet_splice.specs.Edits.{AreApart, trimmed_edit_of};
-ghost use Rattle.snippet_splice.specs.Stretches.{after_last_lf, capped, characters_before, end_character, extent_of, extents_from, line_stretches, pieces_of, pieces_on, start_character, stretches_on};
+ghost use Rattle.snippet_splice.specs.Stretches.{after_last_lf, capped, characters_before, end_character, extent_of, extents_from, line_stretches, pieces_of, pieces_on, replaced_on, start_character, stretches_on, taken_on, without_cr};
 ghost use Rattle.snippet_splice.specs.Stretches as spec;
 
 use crate::copy::text_place;
@@ -25,7 +25,7 @@ pub struct SubstitutionHighlight {
 
 /// Where a patch stands in the source, by characters of its lines, and its text.
 #[derive(Clone, Copy, Drop)]
-pub(crate) struct PatchExtent<'a> {
+pub(crate) struct PatchExtent<'s, 'a> {
     /// The line feeds between the end of the patch before it, or the beginning, and its start.
     feeds: usize,
     /// The characters of its line before its start.
@@ -34,17 +34,19 @@ pub(crate) struct PatchExtent<'a> {
     start: usize,
     /// The character number of its end.
     end: usize,
+    /// The text of the source that it stands over.
+    inside: &'s str,
     /// What stands in its place.
     replacement: &'a str,
 }
 
 /// The places of some patches, in their order, if the line on which the first is looked for starts at `from`.
-pub(crate) fn patch_places<'a>(
+pub(crate) fn patch_places<'s, 'a>(
     alloc: Global,
-    source: &str,
+    source: &'s str,
     from: usize,
     patches: &[TrimmedPatch<'a>],
-) -> Result<Vec<PatchExtent<'a>>, AllocError>
+) -> Result<Vec<PatchExtent<'s, 'a>>, AllocError>
     requires from { IsSpanBorder source.now from }
     requires spans { All (λ t. IsSpan source.now t.span.start t.span.end) patches.now }
     requires apart { AreApart from (map trimmed_edit_of patches.now) }
@@ -65,6 +67,7 @@ pub(crate) fn patch_places<'a>(
             text_start,
             start,
             end: end_char(source, patch, start, chars),
+            inside,
             replacement: patch.replacement,
         })?;
         at = patch.span.end;
@@ -134,7 +137,7 @@ fn last_line(text: &str) -> &str
 /// The stretches that are written anew, by lines of the text; `feeds` more lines follow the last patch.
 pub(crate) fn new_stretches(
     alloc: Global,
-    places: &[PatchExtent<'_>],
+    places: &[PatchExtent<'_, '_>],
     feeds: usize,
 ) -> Result<Vec<Vec<SubstitutionHighlight>>, AllocError>
     ensures value { IfOk result (λ lines. (k : ℕ) → line_stretches lines.items k ≡ stretches_on k 0 0 0 (map extent_of places.now)) }
@@ -161,7 +164,7 @@ pub(crate) fn new_stretches(
 
 /// The character at which the text of a patch begins, if character `end` of the source stands as character `shown` in its
 /// line: as in the source where it is the first on its line, else as far after the patch before it as there.
-fn text_start(shown: usize, end: usize, place: &PatchExtent<'_>) -> usize
+fn text_start(shown: usize, end: usize, place: &PatchExtent<'_, '_>) -> usize
     ensures value { result ≡ spec.text_start shown end (extent_of place.now) }
 {
     if place.feeds == 0 {
@@ -173,7 +176,7 @@ fn text_start(shown: usize, end: usize, place: &PatchExtent<'_>) -> usize
 
 /// As which character the end of a patch stands, whose text begins at character `start`: after that, but where the text has
 /// several lines, as in the source.
-fn shown_end(start: usize, place: &PatchExtent<'_>) -> usize
+fn shown_end(start: usize, place: &PatchExtent<'_, '_>) -> usize
     ensures value { result ≡ spec.shown_end start (extent_of place.now) }
 {
     if line_feed_count(place.replacement) == 0 {
@@ -252,18 +255,17 @@ fn stretch_width(text: &str) -> usize
 /// The stretches of the source that are replaced, by its lines from the beginning on, `count` of them.
 pub(crate) fn replaced_stretches(
     alloc: Global,
-    source: &str,
-    patches: &[TrimmedPatch<'_>],
-    places: &[PatchExtent<'_>],
+    places: &[PatchExtent<'_, '_>],
     count: usize,
-) -> Result<Vec<Vec<SubstitutionHighlight>>, AllocError> {
+) -> Result<Vec<Vec<SubstitutionHighlight>>, AllocError>
+    ensures value { IfOk result (λ lines. (k : ℕ) → line_stretches lines.items k ≡ replaced_on k 0 (map extent_of places.now)) }
+{
     let mut lines = Vec::new(alloc);
     let mut line = 0usize;
-    for (patch, place) in patches.iter().zip(places) {
-        let inside = text_between(source, patch.span.start, patch.span.end);
+    for place in places {
         line = line.saturating_add(place.feeds);
-        push_replaced(alloc, &mut lines, line, *place, inside)?;
-        line = line.saturating_add(line_feed_count(inside));
+        push_replaced(alloc, &mut lines, line, place)?;
+        line = line.saturating_add(line_feed_count(place.inside));
     }
     open_lines(alloc, &mut lines, count)?;
     Ok(lines)
@@ -274,17 +276,18 @@ pub(crate) fn replaced_stretches(
 fn push_replaced(
     alloc: Global,
     lines: &mut Vec<Vec<SubstitutionHighlight>>,
-    line: usize,
-    place: PatchExtent<'_>,
-    inside: &str,
-) -> Result<(), AllocError> {
+    first: usize,
+    place: &PatchExtent<'_, '_>,
+) -> Result<(), AllocError>
+    ensures value { let x = extent_of place.now in OnOk result ((k : ℕ) → line_stretches lines.new.items k
+        ≡ line_stretches lines.old.items k ++ taken_on k first x.before x.start x.end (pieces_of x.under)) }
+{
     let mut start = place.start;
     let mut before = place.text_start;
-    let mut line = line;
-    let mut rest = inside;
+    let mut line = first;
+    let mut rest = place.inside;
     while let Some((piece, after)) = rest.split_once('\n') {
-        let text = piece.strip_suffix('\r').unwrap_or(piece);
-        let end = before.saturating_add(char_count(text));
+        let end = before.saturating_add(char_count(without_return(piece)));
         push_stretch(alloc, lines, line, SubstitutionHighlight { start, end })?;
         start = 0;
         before = 0;
@@ -293,4 +296,14 @@ fn push_replaced(
     }
     let end = place.end;
     push_stretch(alloc, lines, line, SubstitutionHighlight { start, end })
+}
+
+/// The text of a line that a line feed ends, without a carriage return before that.
+fn without_return(piece: &str) -> &str
+    ensures value { result.now ≡ without_cr piece.now }
+{
+    match piece.strip_suffix('\r') {
+        Some(text) => text,
+        None => piece,
+    }
 }

@@ -10,7 +10,7 @@ use Rattle.snippet_splice.specs.Spliced.{ranges_from, texts_of, AreFrom}
 use Rattle.snippet_splice.specs.Shown.{first_start, shown_line, shown_start, shown_rest, shown_text, closes_line, without_final_line_feeds}
 use Rattle.snippet_splice.proofs.OverlapLemmas.{apart-in_order, ordered-spans}
 use Rattle.snippet_splice.specs.Stretches.{extent_of, extents_from}
-use Rattle.snippet_splice.proofs.PlaceLemmas.{stretches_are}
+use Rattle.snippet_splice.proofs.PlaceLemmas.{replaced_are, stretches_are}
 use Rattle.snippet_splice.proofs.ShownLemmas.{none-given, first-given, shown_start-border, shown-apart, shown-value, some-trimmed}
 use Rattle.snippet_splice.proofs.SpliceLemmas.{IsShownPart, shown-part}
 use Rattle.snippet_splice.proofs.WriteLemmas.{without_final-twice}
@@ -83,6 +83,7 @@ returns-clause-splice c =
       ended = ap without_final_line_feeds whole ∙ without_final-twice (string_bytes c.in_ok-written.written.text ++ c.shown_rest-rest.result.now) ∙ sym whole;
       written = written;
       stretches = λ k. c.in_ok-highlights.ensures.value k ∙ stretches_are c.args.fold source es ts c.shown_start-start.result k (map extent_of c.deref-6.result.now) begin trimmed places;
+      replaced = λ k. c.in_ok-replaced_highlights.ensures.value k ∙ replaced_are c.args.fold source es ts c.shown_start-start.result k (map extent_of c.deref-7.result.now) begin trimmed (ap (map extent_of) c.deref-7.ensures.value ∙ c.in_ok-places.ensures.value);
       text = λ plain. value ∙ (part plain).text ∙ sym (part plain).spliced;
       ranges = λ plain. ap (ranges_from (shown_line c.args.fold source es)) written ∙ written-ranges c.args.fold source es plain.no_cr plain.before apart;
       lines = λ plain texts_none. subst (λ t. AreFrom (shown_line c.args.fold source es) (texts_of (lines_of t)) (texts_of (source_lines (patched source es)))) (sym (value ∙ (part plain).text)) (shown-lines c.args.fold source es plain.no_cr texts_none (part plain));

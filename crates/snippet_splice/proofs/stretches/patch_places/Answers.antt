@@ -44,7 +44,7 @@ loop-patch-preserved c =
     let starts : c.saturating_add-start.result ≡ start_character source from e.start = c.saturating_add-start.ensures ∙ ap (λ n. capped (n + c.steps_after_text.result)) before ∙ ap (λ n. capped (characters_before source from e.start + n)) c.steps_after_text.ensures.value in
     let ends : c.end_char.result ≡ end_character source from e = c.end_char.ensures.value from starts counted in
     let feeds : c.line_feed_count.result ≡ count_by is_lf (between source at e.start) = c.line_feed_count.ensures.value ∙ ap (count_by is_lf) front in
-    let x : Extent = record { feeds = count_by is_lf (between source at e.start); start = start_character source from e.start; end = end_character source from e; text = e.text } in
+    let x : Extent = record { feeds = count_by is_lf (between source at e.start); before = characters_before source from e.start; start = start_character source from e.start; end = end_character source from e; under = between source e.start e.end; text = e.text } in
     let all : List Extent = extents_from source from from (map trimmed_edit_of ps) in
     let whole : map extent_of c.loop-patch.places.items ++ (x ∷ extents_from source from e.end es) ≡ all = subst (λ rest. map extent_of c.loop-patch.places.items ++ extents_from source from at rest ≡ all) left inv.whole in
     record {
@@ -53,5 +53,5 @@ loop-patch-preserved c =
       utf8 = utf8_more source c.text_between-inside.result.now from e.start e.end low apart.1 inside utf8 c.text_between-inside.utf8;
       counted = counted;
       apart = apart.2;
-      whole = places_more x (extents_from source from e.end es) c.loop-patch.places.items c.push.new.self.items _ all c.in_ok-push.ensures.items (extent_is c.line_feed_count.result _ c.saturating_add-start.result _ c.end_char.result _ e.text feeds starts ends) whole;
+      whole = places_more x (extents_from source from e.end es) c.loop-patch.places.items c.push.new.self.items _ all c.in_ok-push.ensures.items (extent_is x c.line_feed_count.result c.chars_after-text_start.result c.saturating_add-start.result c.end_char.result c.text_between-inside.result.now feeds before starts ends inside) whole;
     }

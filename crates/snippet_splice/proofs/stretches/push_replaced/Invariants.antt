@@ -1,11 +1,15 @@
-use Rattle.std.proofs.Common.{length}
+use Rattle.std.proofs.Common.{◌≡◌, ◌++◌, ℕ, length}
 use denote.Text.{Utf8}
 use denote.Shadow.{shadow}
+use Rattle.snippet_splice.specs.Stretches.{line_stretches, pieces_of, taken_on}
 use Rattle.snippet_splice.proofs.stretches.push_replaced.Given as goal
 
--- what is left is text
+-- what is left of the text completes what is to be taken
 abbrev pub invariant-loop-piece : goal.invariant-loop-piece
-invariant-loop-piece l = shadow (Utf8 l.rest)
+invariant-loop-piece l = record {
+  text : shadow (Utf8 l.rest);
+  whole : (k : ℕ) → line_stretches l.lines.items k ++ taken_on k l.line l.before l.start l.place.end (pieces_of l.rest) ≡ line_stretches l.fn.lines.items k ++ taken_on k l.first l.place.text_start l.place.start l.place.end (pieces_of l.place.inside.now);
+}
 
 abbrev pub decreases-loop-piece : goal.decreases-loop-piece
 decreases-loop-piece l = length l.rest
