@@ -13,7 +13,9 @@ use Rattle.snippet_grid.specs.declared.change.Change.{Change}
 use Rattle.snippet_grid.specs.declared.runs.Run.{Run}
 
 -- the first cells of a stretch, cut from the run that holds them
-pub part_held : (text : List ℕ) (runs : List Run) (part : Run) (d : Run) (row from to end n : ℕ) → IsRow text row runs → n < length runs → (get_or runs n d).cell ≤ from → from < end → end ≤ to → end ≤ (get_or runs n d).cell + (get_or runs n d).count → IsPart text (get_or runs n d) from end part → IsPartOfRow text row from to (λ c. shown text runs row c) part
+pub part_held : (text : List ℕ) (runs : List Run) (part : Run) (d : Run) (row from to end n : ℕ) → IsRow text row runs → n < length runs
+    → (get_or runs n d).cell ≤ from → from < end → end ≤ to → end ≤ (get_or runs n d).cell + (get_or runs n d).count
+    → IsPart text (get_or runs n d) from end part → IsPartOfRow text row from to (λ c. shown text runs row c) part
 part_held text runs part d row from to end n are within low some below high cut =
     let run : Run = get_or runs n d in
     record {
@@ -23,11 +25,15 @@ part_held text runs part d row from to end n are within low some below high cut 
       within = omega (arith, cut.count);
       cells = λ c first last.
           let place : from + (c - from) ≡ c = omega arith in
-          piece_cell text text run part part from from from end c (BeginsWith-same text) (are.are_runs n d within) cut low (omega arith) (omega (arith, cut.cell)) refl refl refl refl (omega (arith, cut.cell)) (omega (arith, cut.cell, cut.count)) ∙ ap (λ i. run_cell text run i) place ∙ sym (shown_in text row c n runs d are within (omega arith) (omega (arith, cut.count)));
+          piece_cell text text run part part from from from end c (BeginsWith-same text) (are.are_runs n d within) cut low (omega arith)
+          (omega (arith, cut.cell)) refl refl refl refl (omega (arith, cut.cell)) (omega (arith, cut.cell, cut.count))
+          ∙ ap (λ i. run_cell text run i) place ∙ sym (shown_in text row c n runs d are within (omega arith) (omega (arith, cut.count)));
     }
 
 -- no run holds a cell between those that end before it and those that begin after it
-free_between : (text : List ℕ) (runs : List Run) (row from c n : ℕ) → IsRow text row runs → n ≤ length runs → ((d : Run) → 0 < n → (get_or runs (n - 1) d).cell + (get_or runs (n - 1) d).count ≤ from) → from ≤ c → ((d : Run) → n < length runs → c < (get_or runs n d).cell) → shown text runs row c ≡ SPACE
+free_between : (text : List ℕ) (runs : List Run) (row from c n : ℕ) → IsRow text row runs → n ≤ length runs
+    → ((d : Run) → 0 < n → (get_or runs (n - 1) d).cell + (get_or runs (n - 1) d).count ≤ from) → from ≤ c
+    → ((d : Run) → n < length runs → c < (get_or runs n d).cell) → shown text runs row c ≡ SPACE
 free_between text runs row from c n are within before low follows =
     painted_unheld text row c SPACE runs (λ k d inside.
     let x = get_or runs k d in
@@ -47,7 +53,10 @@ free_between text runs row from c n are within before low follows =
     ])
 
 -- the first cells of a stretch, which no run holds
-pub part_free : (old new : List ℕ) (runs : List Run) (part : Run) (row from to end n : ℕ) → IsRow old row runs → n ≤ length runs → ((d : Run) → 0 < n → (get_or runs (n - 1) d).cell + (get_or runs (n - 1) d).count ≤ from) → ((d : Run) → n < length runs → end ≤ (get_or runs n d).cell) → end ≤ to → IsGap new row from end part → IsPartOfRow new row from to (λ c. shown old runs row c) part
+pub part_free : (old new : List ℕ) (runs : List Run) (part : Run) (row from to end n : ℕ) → IsRow old row runs → n ≤ length runs
+    → ((d : Run) → 0 < n → (get_or runs (n - 1) d).cell + (get_or runs (n - 1) d).count ≤ from)
+    → ((d : Run) → n < length runs → end ≤ (get_or runs n d).cell) → end ≤ to → IsGap new row from end part
+    → IsPartOfRow new row from to (λ c. shown old runs row c) part
 part_free old new runs part row from to end n are within before follows below gap =
     record {
       is_run = gap.is_run;
@@ -83,7 +92,10 @@ change_start old runs row from to change is some =
     }
 
 -- a part that was put changed
-pub put_span : (now mid new : List ℕ) (runs_now runs_new : List Run) (part changed : Run) (row col to : ℕ) (change : Change) → BeginsWith now mid → All (λ x. IsRun now x) runs_now → IsPartOfRow mid row col to (λ c. shown now runs_now row c) part → IsChanged change part changed → IsPut mid new runs_now runs_new changed → ShowsSpan now new runs_now runs_new row col (col + part.count) (λ c. changed_by change (shown now runs_now row c))
+pub put_span : (now mid new : List ℕ) (runs_now runs_new : List Run) (part changed : Run) (row col to : ℕ) (change : Change) → BeginsWith now mid
+    → All (λ x. IsRun now x) runs_now → IsPartOfRow mid row col to (λ c. shown now runs_now row c) part → IsChanged change part changed
+    → IsPut mid new runs_now runs_new changed
+    → ShowsSpan now new runs_now runs_new row col (col + part.count) (λ c. changed_by change (shown now runs_now row c))
 put_span now mid new runs_now runs_new part changed row col to change grows are is same put =
     let g = λ (c : ℕ). changed_by change (shown now runs_now row c) in
     let end : ℕ = col + part.count in
@@ -102,7 +114,10 @@ put_span now mid new runs_now runs_new part changed row col to change grows are 
       ]
     ]
 
-pub change_next : (old now mid new : List ℕ) (runs_old runs_now runs_new : List Run) (part changed : Run) (row from to : ℕ) (change : Change) (col : ℕ) → ChangeSoFar old now runs_old runs_now row from to change col → BeginsWith now mid → BeginsWith mid new → IsPartOfRow mid row col to (λ c. shown now runs_now row c) part → IsChanged change part changed → IsPut mid new runs_now runs_new changed → ChangeSoFar old new runs_old runs_new row from to change (col + part.count)
+pub change_next : (old now mid new : List ℕ) (runs_old runs_now runs_new : List Run) (part changed : Run) (row from to : ℕ) (change : Change)
+    (col : ℕ) → ChangeSoFar old now runs_old runs_now row from to change col → BeginsWith now mid → BeginsWith mid new
+    → IsPartOfRow mid row col to (λ c. shown now runs_now row c) part → IsChanged change part changed → IsPut mid new runs_now runs_new changed
+    → ChangeSoFar old new runs_old runs_new row from to change (col + part.count)
 change_next old now mid new runs_old runs_now runs_new part changed row from to change col so_far grows more is same put =
     let f = λ (c : ℕ). changed_by change (shown old runs_old row c) in
     let g = λ (c : ℕ). changed_by change (shown now runs_now row c) in
@@ -119,7 +134,9 @@ change_next old now mid new runs_old runs_now runs_new part changed row from to 
       low = omega (arith, so_far.low);
       high = is.within;
       ends = λ n all within. put.ends n (so_far.ends n all within) (omega (arith, ends));
-      shows = span_joined old now new runs_old runs_now runs_new row from col (col + part.count) f g f so_far.low (omega arith) (λ c above below. refl) (λ c above below. ap (λ (d : Cell). changed_by change d) (so_far.shows c ∙ pick (f c) (shown old runs_old row c) (within_after from col c above))) so_far.shows here;
+      shows = span_joined old now new runs_old runs_now runs_new row from col (col + part.count) f g f so_far.low (omega arith)
+          (λ c above below. refl) (λ c above below. ap (λ (d : Cell). changed_by change d)
+          (so_far.shows c ∙ pick (f c) (shown old runs_old row c) (within_after from col c above))) so_far.shows here;
       count = omega (arith, so_far.count, put.few, is.is_run.some, so_far.low);
     }
 

@@ -74,7 +74,10 @@ copy_start old out runs row from to at is ends =
     }
 
 -- a cell of a piece is the cell of the run that it was cut from
-pub piece_cell : (old now : List ℕ) (run part piece : Run) (from at start end c : ℕ) → BeginsWith old now → IsRun old run → IsPart now run start end part → run.cell ≤ start → from ≤ start → piece.cell ≡ at + (start - from) → piece.start ≡ part.start → piece.end ≡ part.end → piece.role ≡ part.role → option_copied piece.link ≡ option_copied part.link → piece.cell ≤ c → c < piece.cell + (end - start) → run_cell now piece c ≡ run_cell old run (from + (c - at))
+pub piece_cell : (old now : List ℕ) (run part piece : Run) (from at start end c : ℕ) → BeginsWith old now → IsRun old run
+    → IsPart now run start end part → run.cell ≤ start → from ≤ start → piece.cell ≡ at + (start - from) → piece.start ≡ part.start
+    → piece.end ≡ part.end → piece.role ≡ part.role → option_copied piece.link ≡ option_copied part.link → piece.cell ≤ c
+    → c < piece.cell + (end - start) → run_cell now piece c ≡ run_cell old run (from + (c - at))
 piece_cell old now run part piece from at start end c grows is cut low from_le cell starts ends role link above below =
     let cs = run_chars old run in
     let bytes : run_bytes now piece ≡ run_bytes now part = ap (λ s. take (piece.end - s) (drop s now)) starts ∙ ap (λ e. take (e - part.start) (drop part.start now)) ends in
@@ -85,7 +88,12 @@ piece_cell old now run part piece from at start end c grows is cut low from_le c
     cell_same (run_cell now piece c) (run_cell old run (from + (c - at))) ch (role ∙ cut.role) (link ∙ cut.link)
 
 -- one more run was copied
-copied_cell : (old now : List ℕ) (run part piece : Run) (from to at start end r c : ℕ) (before outside : Cell) → BeginsWith old now → IsRun old run → IsPart now run start end part → start ≡ max run.cell from → end ≡ min (run.cell + run.count) to → start < end → piece.row ≡ run.row → piece.cell ≡ at + (start - from) → piece.count ≡ part.count → piece.start ≡ part.start → piece.end ≡ part.end → piece.role ≡ part.role → option_copied piece.link ≡ option_copied part.link → (if holds piece r c then run_cell now piece c else (if is_copied from to at c then before else outside)) ≡ (if is_copied from to at c then (if holds run r (from + (c - at)) then run_cell old run (from + (c - at)) else before) else outside)
+copied_cell : (old now : List ℕ) (run part piece : Run) (from to at start end r c : ℕ) (before outside : Cell) → BeginsWith old now → IsRun old run
+    → IsPart now run start end part → start ≡ max run.cell from → end ≡ min (run.cell + run.count) to → start < end → piece.row ≡ run.row
+    → piece.cell ≡ at + (start - from) → piece.count ≡ part.count → piece.start ≡ part.start → piece.end ≡ part.end → piece.role ≡ part.role
+    → option_copied piece.link ≡ option_copied part.link
+    → (if holds piece r c then run_cell now piece c else (if is_copied from to at c then before else outside))
+    ≡ (if is_copied from to at c then (if holds run r (from + (c - at)) then run_cell old run (from + (c - at)) else before) else outside)
 copied_cell old now run part piece from to at start end r c before outside grows is cut is_start is_end some row cell count starts ends role link =
     let there = from + (c - at) in
     let x = run_cell now piece c in
@@ -112,7 +120,9 @@ copied_cell old now run part piece from to at start end r c before outside grows
                   | inl within ↦
                       let first : piece.cell ≤ c = omega arith in
                       let last : c < piece.cell + (end - start) = omega arith in
-                      pick x kept (holds_inside piece r c (row ∙ here) first (omega arith)) ∙ piece_cell old now run part piece from at start end c grows is cut low from_le cell starts ends role link first last ∙ sym (pick more outside yes ∙ pick y before (holds_inside run r there here reaches within))
+                      pick x kept (holds_inside piece r c (row ∙ here) first (omega arith))
+                      ∙ piece_cell old now run part piece from at start end c grows is cut low from_le cell starts ends role link first last
+                      ∙ sym (pick more outside yes ∙ pick y before (holds_inside run r there here reaches within))
                 ]
               ]
             ]
@@ -124,7 +134,12 @@ shown_more : (text : List ℕ) (runs : List Run) (n r c : ℕ) (d : Run) → n <
 shown_more text runs n r c d within =
     ap (λ (xs : List Run). shown text xs r c) (take_more runs n d within) ∙ painted-append text r c SPACE (take n runs) (get_or runs n d ∷ [])
 
-pub copy_next : (old now new : List ℕ) (out_old out_now out_new runs : List Run) (run part piece : Run) (row from to at n start end : ℕ) → n < length runs → run ≡ get_or runs n run → IsRow old row runs → CopySoFar old now out_old out_now runs row from to at n → IsPart now run start end part → start ≡ max run.cell from → end ≡ min (run.cell + run.count) to → start < end → piece.row ≡ row → piece.cell ≡ at + (start - from) → piece.count ≡ part.count → piece.start ≡ part.start → piece.end ≡ part.end → piece.role ≡ part.role → option_copied piece.link ≡ option_copied part.link → BeginsWith now new → ShowsMore now new out_now out_new piece → All (λ x. IsRun new x) out_new → AddsRun out_now out_new piece → CopySoFar old new out_old out_new runs row from to at (n + 1)
+pub copy_next : (old now new : List ℕ) (out_old out_now out_new runs : List Run) (run part piece : Run) (row from to at n start end : ℕ)
+    → n < length runs → run ≡ get_or runs n run → IsRow old row runs → CopySoFar old now out_old out_now runs row from to at n
+    → IsPart now run start end part → start ≡ max run.cell from → end ≡ min (run.cell + run.count) to → start < end → piece.row ≡ row
+    → piece.cell ≡ at + (start - from) → piece.count ≡ part.count → piece.start ≡ part.start → piece.end ≡ part.end → piece.role ≡ part.role
+    → option_copied piece.link ≡ option_copied part.link → BeginsWith now new → ShowsMore now new out_now out_new piece
+    → All (λ x. IsRun new x) out_new → AddsRun out_now out_new piece → CopySoFar old new out_old out_new runs row from to at (n + 1)
 copy_next old now new out_old out_now out_new runs run part piece row from to at n start end within read are so_far cut is_start is_end some piece_row cell count starts ends role link grows shows are_new adds =
     let is : IsRun old run = subst (λ x. IsRun old x) (sym read) (are.are_runs n run within) in
     let run_row : run.row ≡ row = subst (λ (x : Run). x.row ≡ row) (sym read) (are.in_row n run within) in
@@ -158,12 +173,17 @@ copy_next old now new out_old out_now out_new runs run part piece row from to at
           let before = shown old (take n runs) r there in
           let outside = shown old out_old r c in
           let one_more : shown old (take (n + 1) runs) r there ≡ (if holds run r there then run_cell old run there else before) = shown_more old runs n r there run within ∙ ap (λ (x : Run). if holds x r there then run_cell old x there else before) (sym read) in
-          shows r c ∙ ap (λ (d : Cell). if holds piece r c then run_cell now piece c else d) (so_far.shows r c) ∙ copied_cell old now run part piece from to at start end r c before outside so_far.grows is cut is_start is_end some (piece_row ∙ sym run_row) cell count starts ends role link ∙ ap (λ (d : Cell). if is_copied from to at c then d else outside) (sym one_more);
+          shows r c ∙ ap (λ (d : Cell). if holds piece r c then run_cell now piece c else d) (so_far.shows r c)
+          ∙ copied_cell old now run part piece from to at start end r c before outside so_far.grows is cut is_start is_end some
+          (piece_row ∙ sym run_row) cell count starts ends role link
+          ∙ ap (λ (d : Cell). if is_copied from to at c then d else outside) (sym one_more);
       count = omega (arith, so_far.count, adds.count, touched_more from to n runs run within read, touched_one from to run (omega arith));
     }
 
 -- a run that has no cell in the stretch
-pub copy_past : (old now : List ℕ) (out_old out_now runs : List Run) (run : Run) (row from to at n start end : ℕ) → n < length runs → run ≡ get_or runs n run → CopySoFar old now out_old out_now runs row from to at n → start ≡ max run.cell from → end ≡ min (run.cell + run.count) to → end ≤ start → CopySoFar old now out_old out_now runs row from to at (n + 1)
+pub copy_past : (old now : List ℕ) (out_old out_now runs : List Run) (run : Run) (row from to at n start end : ℕ) → n < length runs
+    → run ≡ get_or runs n run → CopySoFar old now out_old out_now runs row from to at n → start ≡ max run.cell from
+    → end ≡ min (run.cell + run.count) to → end ≤ start → CopySoFar old now out_old out_now runs row from to at (n + 1)
 copy_past old now out_old out_now runs run row from to at n start end within read so_far is_start is_end none =
     record {
       grows = so_far.grows;

@@ -63,7 +63,11 @@ front_within text s e a ordered inside within =
     same_lists _ _ (grind (arith, places)) (λ k d h. grind (arith, places))
 
 -- the part of a run from one of its cells to before another
-pub IsPart-cut : (text : List ℕ) (run part : Run) (from to a b : ℕ) → IsUtf8 text → IsRun text run → run.cell ≤ from → from < to → to ≤ run.cell + run.count → a ≡ bytes_of (take (from - run.cell) (run_chars text run)) → b ≡ bytes_of (take (to - run.cell) (run_chars text run)) → part.row ≡ run.row → part.cell ≡ from → part.count ≡ to - from → part.start ≡ run.start + a → part.end ≡ run.start + b → part.role ≡ run.role → option_copied part.link ≡ option_copied run.link → IsPart text run from to part
+pub IsPart-cut : (text : List ℕ) (run part : Run) (from to a b : ℕ) → IsUtf8 text → IsRun text run → run.cell ≤ from → from < to
+    → to ≤ run.cell + run.count → a ≡ bytes_of (take (from - run.cell) (run_chars text run))
+    → b ≡ bytes_of (take (to - run.cell) (run_chars text run)) → part.row ≡ run.row → part.cell ≡ from → part.count ≡ to - from
+    → part.start ≡ run.start + a → part.end ≡ run.start + b → part.role ≡ run.role → option_copied part.link ≡ option_copied run.link
+    → IsPart text run from to part
 IsPart-cut text run part from to a b utf8 is low some high is_a is_b row cell count start end role link =
     let bytes = run_bytes text run in
     let cs = run_chars text run in
@@ -84,7 +88,10 @@ IsPart-cut text run part from to a b utf8 is low some high is_a is_b row cell co
     let part_chars : run_chars text part ≡ take (to - from) (drop i cs) =
     ap chars part_bytes ∙ cut_back front i a utf8_front a_is ∙ ap (drop i) front_chars ∙ ap (λ n. drop i (take n cs)) (sym index) ∙ drop-take i (to - from) cs in
     let front_at : (n k : ℕ) → n ≡ bytes_of (take k cs) → n ≤ length bytes → is_utf8 (take (run.start + n) text) ≡ true =
-    λ n k is_n within_n. is_utf8-from_IsUtf8 (take (run.start + n) text) (subst IsUtf8 (sym (front_within text run.start run.end n is.ordered (omega arith) is.within)) (IsUtf8-append (take run.start text) (take n bytes) (IsUtf8-from_is_utf8 (take run.start text) is.starts) (IsUtf8-take bytes n utf8_bytes (cut_boundary bytes k n utf8_bytes is_n)))) in
+    λ n k is_n within_n. is_utf8-from_IsUtf8 (take (run.start + n) text)
+    (subst IsUtf8 (sym (front_within text run.start run.end n is.ordered (omega arith) is.within))
+    (IsUtf8-append (take run.start text) (take n bytes) (IsUtf8-from_is_utf8 (take run.start text) is.starts)
+    (IsUtf8-take bytes n utf8_bytes (cut_boundary bytes k n utf8_bytes is_n)))) in
     record {
       is_run = record {
         ordered = omega (arith, start, end, a_within);

@@ -43,7 +43,9 @@ ChangesCells-unique f old a b row start end one two =
     ]) (λ r other. one.others r other ∙ sym (two.others r other))
 
 -- runs that show cells of a row changed, read cell by cell
-ChangesCells-shown : (f : Cell → Cell) (old new : List ℕ) (runs now : List Run) (w : List ℕ) (row start end last : ℕ) → last ≡ min end (get_or w row 0) → FitIn w runs → FitIn w now → ShowsSpan old new runs now row start last (λ c. f (shown old runs row c)) → ((r c : ℕ) → r ≢ row → shown new now r c ≡ shown old runs r c) → ChangesCells f (grid_shown old runs w) (grid_shown new now w) row start end
+ChangesCells-shown : (f : Cell → Cell) (old new : List ℕ) (runs now : List Run) (w : List ℕ) (row start end last : ℕ)
+    → last ≡ min end (get_or w row 0) → FitIn w runs → FitIn w now → ShowsSpan old new runs now row start last (λ c. f (shown old runs row c))
+    → ((r c : ℕ) → r ≢ row → shown new now r c ≡ shown old runs r c) → ChangesCells f (grid_shown old runs w) (grid_shown new now w) row start end
 ChangesCells-shown f old new runs now w row start end last is_last fit_old fit_new shows others =
     let before = grid_shown old runs w in
     let follows = grid_shown new now w in
@@ -61,7 +63,9 @@ ChangesCells-shown f old new runs now w row start end last is_last fit_old fit_n
     }
 
 -- and so what they show is the change
-pub grid_span : (f : Cell → Cell) (old new : List ℕ) (runs now : List Run) (w : List ℕ) (row start end last : ℕ) → last ≡ min end (get_or w row 0) → FitIn w runs → FitIn w now → ShowsSpan old new runs now row start last (λ c. f (shown old runs row c)) → ((r c : ℕ) → r ≢ row → shown new now r c ≡ shown old runs r c) → grid_shown new now w ≡ cells_changed f (grid_shown old runs w) row start end
+pub grid_span : (f : Cell → Cell) (old new : List ℕ) (runs now : List Run) (w : List ℕ) (row start end last : ℕ) → last ≡ min end (get_or w row 0)
+    → FitIn w runs → FitIn w now → ShowsSpan old new runs now row start last (λ c. f (shown old runs row c))
+    → ((r c : ℕ) → r ≢ row → shown new now r c ≡ shown old runs r c) → grid_shown new now w ≡ cells_changed f (grid_shown old runs w) row start end
 grid_span f old new runs now w row start end last is_last fit_old fit_new shows others =
     let before = grid_shown old runs w in
     ChangesCells-unique f before (grid_shown new now w) (cells_changed f before row start end) row start end (ChangesCells-shown f old new runs now w row start end last is_last fit_old fit_new shows others) (ChangesCells-cells_changed f before row start end)
@@ -93,7 +97,10 @@ pub FitIn-put : (old new : List ℕ) (runs now fresh : List Run) (w : List ℕ) 
 FitIn-put old new runs now fresh w row start end put fit ends =
     inside-put w new runs now fresh row start end put.at.ordered put.at.within put.at.inside fit put.is_row ends put.is
 
-pub grid_changed : (f : Cell → Cell) (old new : List ℕ) (runs now fresh : List Run) (w : List ℕ) (row start end last from to : ℕ) → IsExchanged old new runs now fresh row from to → last ≡ min end (get_or w row 0) → FitIn w runs → FitIn w now → ShowsSpan old new (stretch runs from to) fresh row start last (λ c. f (shown old (stretch runs from to) row c)) → grid_shown new now w ≡ cells_changed f (grid_shown old runs w) row start end
+pub grid_changed : (f : Cell → Cell) (old new : List ℕ) (runs now fresh : List Run) (w : List ℕ) (row start end last from to : ℕ)
+    → IsExchanged old new runs now fresh row from to → last ≡ min end (get_or w row 0) → FitIn w runs → FitIn w now
+    → ShowsSpan old new (stretch runs from to) fresh row start last (λ c. f (shown old (stretch runs from to) row c))
+    → grid_shown new now w ≡ cells_changed f (grid_shown old runs w) row start end
 grid_changed f old new runs now fresh w row start end last from to put is_last fit_old fit_new shows =
     let was : (c : ℕ) → shown old (stretch runs from to) row c ≡ shown old runs row c = λ c. row_shows old runs row from to c put.at in
     let g = λ (c : ℕ). f (shown old (stretch runs from to) row c) in
@@ -103,6 +110,9 @@ grid_changed f old new runs now fresh w row start end last from to put is_last f
     grid_span f old new runs now w row start end last is_last fit_old fit_new there (λ r c other. put_elsewhere old new runs now fresh row from to r c put other)
 
 -- the change of a grid whose lengths were lent, read cell by cell
-pub reads_changed : {T E : Type 0} (r : Result T E) (f : Cell → Cell) (grid : List (List Cell)) (old new : List ℕ) (runs now : List Run) (w lent : List ℕ) (row start end : ℕ) → lent ≡ w → grid_shown old runs w ≡ grid → OnOk r (grid_shown new now lent ≡ cells_changed f (grid_shown old runs lent) row start end) → OnOk r (ChangesCells f grid (grid_shown new now w) row start end)
+pub reads_changed : {T E : Type 0} (r : Result T E) (f : Cell → Cell) (grid : List (List Cell)) (old new : List ℕ) (runs now : List Run)
+    (w lent : List ℕ) (row start end : ℕ) → lent ≡ w → grid_shown old runs w ≡ grid
+    → OnOk r (grid_shown new now lent ≡ cells_changed f (grid_shown old runs lent) row start end)
+    → OnOk r (ChangesCells f grid (grid_shown new now w) row start end)
 reads_changed r f grid old new runs now w lent row start end same was is =
     on_ok_weaker r (λ equal. ChangesCells-from_equal f grid (grid_shown new now w) row start end (subst (λ (v : List ℕ). grid_shown new now v ≡ cells_changed f (grid_shown old runs v) row start end) same equal ∙ ap (λ (rows : List (List Cell)). cells_changed f rows row start end) was)) is

@@ -98,7 +98,9 @@ WritesCells-unique old a b row at cells one two =
     get_or_default a r d [] within ∙ each r ∙ sym (get_or_default b r d [] inside))
 
 -- a word over others writes its cells
-WritesCells-shown : (old mid new : List ℕ) (runs now : List Run) (w v : List ℕ) (run : Run) (row at : ℕ) (role : ElementStyle) (word : List ℕ) → BeginsWith old mid → All (λ x. IsRun old x) runs → FitIn w runs → FitIn v now → IsWord mid row at role word run → ShowsMore mid new runs now run → IsWidened w v row (at + length (chars word)) → WritesCells (grid_shown old runs w) (grid_shown new now v) row at (text_cells role (chars word))
+WritesCells-shown : (old mid new : List ℕ) (runs now : List Run) (w v : List ℕ) (run : Run) (row at : ℕ) (role : ElementStyle) (word : List ℕ)
+    → BeginsWith old mid → All (λ x. IsRun old x) runs → FitIn w runs → FitIn v now → IsWord mid row at role word run → ShowsMore mid new runs now run
+    → IsWidened w v row (at + length (chars word)) → WritesCells (grid_shown old runs w) (grid_shown new now v) row at (text_cells role (chars word))
 WritesCells-shown old mid new runs now w v run row at role word grows are fit_old fit_new is shows wide =
     let cells = text_cells role (chars word) in
     let before = grid_shown old runs w in
@@ -114,7 +116,9 @@ WritesCells-shown old mid new runs now w v run row at role word grows are fit_ol
           let yes = holds_inside run row (at + k) is.row_is (omega (arith, is.cell_is)) (omega (arith, is.cell_is, count, long)) in
           let index : (at + k) - run.cell ≡ k = omega (arith, is.cell_is) in
           let ch : get_or (run_chars mid run) ((at + k) - run.cell) 32 ≡ get_or (chars word) k 0 = ap (λ (cs : List ℕ). get_or cs ((at + k) - run.cell) 32) is.chars_are ∙ ap (λ i. get_or (chars word) i 32) index ∙ get_or_default (chars word) k 32 0 (omega arith) in
-          cell_shown new now v row (at + k) fit_new ∙ shows row (at + k) ∙ pick (run_cell mid run (at + k)) (shown mid runs row (at + k)) yes ∙ cell_same (run_cell mid run (at + k)) record { ch = get_or (chars word) k 0; role = role; link = None } ch is.role_is is.unlinked ∙ sym (slice_index_or-text_cells role (chars word) k SPACE (omega arith));
+          cell_shown new now v row (at + k) fit_new ∙ shows row (at + k) ∙ pick (run_cell mid run (at + k)) (shown mid runs row (at + k)) yes
+          ∙ cell_same (run_cell mid run (at + k)) record { ch = get_or (chars word) k 0; role = role; link = None } ch is.role_is is.unlinked
+          ∙ sym (slice_index_or-text_cells role (chars word) k SPACE (omega arith));
       before = λ c low. same_cell row c (holds_before run row c (omega (arith, is.cell_is)));
       after = λ c high. same_cell row c (holds_after run row c (omega (arith, is.cell_is, count, long)));
       others = λ r other. same_row old new runs now w v r (wide.others r other) (λ c. unchanged r c (holds_elsewhere run r c (λ h. other (sym h ∙ is.row_is))));
@@ -122,12 +126,20 @@ WritesCells-shown old mid new runs now w v run row at role word grows are fit_ol
       count = count_shown new now v ∙ wide.count ∙ ap (λ n. max n (row + 1)) (sym (count_shown old runs w));
     }
 
-pub grid_written : (old mid new : List ℕ) (runs now : List Run) (w v : List ℕ) (run : Run) (row at : ℕ) (role : ElementStyle) (word : List ℕ) → BeginsWith old mid → All (λ x. IsRun old x) runs → FitIn w runs → FitIn v now → IsWord mid row at role word run → ShowsMore mid new runs now run → IsWidened w v row (at + length (chars word)) → grid_shown new now v ≡ cells_written (grid_shown old runs w) row at (text_cells role (chars word))
+pub grid_written : (old mid new : List ℕ) (runs now : List Run) (w v : List ℕ) (run : Run) (row at : ℕ) (role : ElementStyle) (word : List ℕ)
+    → BeginsWith old mid → All (λ x. IsRun old x) runs → FitIn w runs → FitIn v now → IsWord mid row at role word run → ShowsMore mid new runs now run
+    → IsWidened w v row (at + length (chars word))
+    → grid_shown new now v ≡ cells_written (grid_shown old runs w) row at (text_cells role (chars word))
 grid_written old mid new runs now w v run row at role word grows are fit_old fit_new is shows wide =
-    WritesCells-unique (grid_shown old runs w) (grid_shown new now v) (cells_written (grid_shown old runs w) row at (text_cells role (chars word))) row at (text_cells role (chars word)) (WritesCells-shown old mid new runs now w v run row at role word grows are fit_old fit_new is shows wide) (WritesCells-cells_written (grid_shown old runs w) row at (text_cells role (chars word)))
+    WritesCells-unique (grid_shown old runs w) (grid_shown new now v) (cells_written (grid_shown old runs w) row at (text_cells role (chars word)))
+    row at (text_cells role (chars word))
+    (WritesCells-shown old mid new runs now w v run row at role word grows are fit_old fit_new is shows wide)
+    (WritesCells-cells_written (grid_shown old runs w) row at (text_cells role (chars word)))
 
 -- a word that was put at the end of the text
-pub IsWord-pushed : (old new word : List ℕ) (run : Run) (row at : ℕ) (role : ElementStyle) → IsUtf8 old → IsUtf8 new → 0 < length (chars word) → at + length (chars word) < 2 ^ 64 → new ≡ old ++ word → run.row ≡ row → run.cell ≡ at → run.count ≡ length (chars word) → run.start ≡ length old → run.end ≡ length new → run.role ≡ role → option_copied run.link ≡ None → IsWord new row at role word run
+pub IsWord-pushed : (old new word : List ℕ) (run : Run) (row at : ℕ) (role : ElementStyle) → IsUtf8 old → IsUtf8 new → 0 < length (chars word)
+    → at + length (chars word) < 2 ^ 64 → new ≡ old ++ word → run.row ≡ row → run.cell ≡ at → run.count ≡ length (chars word) → run.start ≡ length old
+    → run.end ≡ length new → run.role ≡ role → option_copied run.link ≡ None → IsWord new row at role word run
 IsWord-pushed old new word run row at role utf8 utf8_new some fits pushed row_is cell_is count start end role_is unlinked =
     let grows : BeginsWith old new = subst (λ (t : List ℕ). BeginsWith old t) (sym pushed) (BeginsWith-append old word) in
     let bytes : run_bytes new run ≡ word = ap (λ s. stretch new s run.end) start ∙ ap (λ e. stretch new (length old) e) end ∙ ap (λ (t : List ℕ). stretch t (length old) (length t)) pushed ∙ stretch_added old word in

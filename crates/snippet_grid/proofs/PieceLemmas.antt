@@ -14,7 +14,9 @@ use Rattle.snippet_grid.specs.Runs.{IsRun, IsRow, IsPart, BeginsWith, ShowsMore,
 use Rattle.snippet_grid.specs.declared.runs.Run.{Run}
 
 -- a part of a run shows what the run shows where it holds the same
-part_shows : (text : List ℕ) (run part : Run) (from to r c : ℕ) (d : Cell) → IsPart text run from to part → run.cell ≤ from → to ≤ run.cell + run.count → (run.cell ≤ c → c < run.cell + run.count → (from ≤ c) × (c < to)) → (if holds part r c then run_cell text part c else d) ≡ (if holds run r c then run_cell text run c else d)
+part_shows : (text : List ℕ) (run part : Run) (from to r c : ℕ) (d : Cell) → IsPart text run from to part → run.cell ≤ from
+    → to ≤ run.cell + run.count → (run.cell ≤ c → c < run.cell + run.count → (from ≤ c) × (c < to))
+    → (if holds part r c then run_cell text part c else d) ≡ (if holds run r c then run_cell text run c else d)
 part_shows text run part from to r c d cut low high same =
     let x = run_cell text part c in
     let y = run_cell text run c in
@@ -24,7 +26,9 @@ part_shows text run part from to r c d cut low high same =
           let there = same held.low held.high in
           let yes = holds_inside part r c (cut.row ∙ held.row_is) (omega (arith, cut.cell, there.0)) (omega (arith, cut.cell, cut.count, there.1)) in
           let index : (from - run.cell) + (c - part.cell) ≡ c - run.cell = omega (arith, cut.cell, there.0) in
-          let ch : x.ch ≡ y.ch = ap (λ (t : List ℕ). get_or t (c - part.cell) 32) cut.chars_are ∙ get_or-take (to - from) (drop (from - run.cell) cs) (c - part.cell) 32 (omega (arith, cut.cell, there.0, there.1)) ∙ get_or-drop (from - run.cell) cs (c - part.cell) 32 ∙ ap (λ k. get_or cs k 32) index in
+          let ch : x.ch ≡ y.ch = ap (λ (t : List ℕ). get_or t (c - part.cell) 32) cut.chars_are
+          ∙ get_or-take (to - from) (drop (from - run.cell) cs) (c - part.cell) 32 (omega (arith, cut.cell, there.0, there.1))
+          ∙ get_or-drop (from - run.cell) cs (c - part.cell) 32 ∙ ap (λ k. get_or cs k 32) index in
           pick x d yes ∙ cell_same x y ch cut.role cut.link ∙ sym (pick y d (holds_inside run r c held.row_is held.low held.high))
       | inr free ↦ elim (cases_held part r c) [
         | inl held ↦ absurd (true≢false (sym (holds_inside run r c (sym cut.row ∙ held.row_is) (omega (arith, cut.cell, held.low)) (omega (arith, cut.cell, cut.count, held.high))) ∙ free))
@@ -142,7 +146,9 @@ IsBack-none text runs run all =
     }
 
 -- the last run ends after the run
-pub IsBack-some : (text : List ℕ) (runs : List Run) (run last right : Run) (i from to : ℕ) → IsTouched text run runs → i + 1 ≡ length runs → last ≡ get_or runs i last → from ≡ run.cell + run.count → to ≡ last.cell + last.count → from < to → IsPart text last from to right → IsBack text runs run (right ∷ [])
+pub IsBack-some : (text : List ℕ) (runs : List Run) (run last right : Run) (i from to : ℕ) → IsTouched text run runs → i + 1 ≡ length runs
+    → last ≡ get_or runs i last → from ≡ run.cell + run.count → to ≡ last.cell + last.count → from < to → IsPart text last from to right
+    → IsBack text runs run (right ∷ [])
 IsBack-some text runs run last right i from to is is_last read is_from is_to past cut =
     let within : i < length runs = omega arith in
     let split : runs ≡ take i runs ++ last ∷ [] = sym (take_all (i + 1) runs (omega arith)) ∙ take_more runs i last within ∙ ap (λ x. take i runs ++ x ∷ []) (sym read) in
@@ -159,7 +165,10 @@ IsBack-some text runs run last right i from to is is_last read is_from is_to pas
           let last_d : get_or runs i d ≡ last = get_or_default runs i d last within ∙ sym read in
           let end : (get_or runs k d).cell + (get_or runs k d).count ≤ last.cell = subst (λ (x : Run). (get_or runs k d).cell + (get_or runs k d).count ≤ x.cell) last_d ((is.is_row.ordered k i d short within).cells one) in
           subst (λ (x : Run). x.cell + x.count ≤ c) (sym seen) (omega (arith, end, starts, is_from, after))) in
-          part_shows text last right from to r c SPACE cut starts (omega (arith, is_to)) (λ low high. (omega (arith, is_from, after), omega (arith, is_to, high))) ∙ sym (ap (λ (l : List Run). shown text l r c) split ∙ painted-append text r c SPACE (take i runs) (last ∷ []) ∙ ap (λ (d : Cell). if holds last r c then run_cell text last c else d) (painted_unheld text r c SPACE (take i runs) front));
+          part_shows text last right from to r c SPACE cut starts (omega (arith, is_to))
+          (λ low high. (omega (arith, is_from, after), omega (arith, is_to, high)))
+          ∙ sym (ap (λ (l : List Run). shown text l r c) split ∙ painted-append text r c SPACE (take i runs) (last ∷ []) ∙ ap (λ (d : Cell).
+          if holds last r c then run_cell text last c else d) (painted_unheld text r c SPACE (take i runs) front));
       starts = All-cons (λ x. run.cell + run.count ≤ x.cell) right [] (omega (arith, cut.cell, is_from)) (All-nil _);
       ends = λ n all.
           let high : last.cell + last.count ≤ n = subst (λ (x : Run). x.cell + x.count ≤ n) (sym read) (all i last within) in
@@ -203,7 +212,9 @@ begun_by old new runs front begun run is is_front shows are adds =
     }
 
 -- the pieces show the run over what the touched runs show
-pieces_show : (t0 t1 t2 : List ℕ) (runs front begun pieces back : List Run) (run : Run) → IsTouched t0 run runs → IsFront t0 runs run front → IsBack t0 runs run back → ShowsMore t0 t1 front begun run → ((r c : ℕ) → shown t2 pieces r c ≡ painted t0 r c (shown t1 begun r c) back) → ShowsMore t0 t2 runs pieces run
+pieces_show : (t0 t1 t2 : List ℕ) (runs front begun pieces back : List Run) (run : Run) → IsTouched t0 run runs → IsFront t0 runs run front
+    → IsBack t0 runs run back → ShowsMore t0 t1 front begun run → ((r c : ℕ) → shown t2 pieces r c ≡ painted t0 r c (shown t1 begun r c) back)
+    → ShowsMore t0 t2 runs pieces run
 pieces_show t0 t1 t2 runs front begun pieces back run touched is_front is_back shows over =
     λ r c.
     let x = run_cell t0 run c in
@@ -237,7 +248,9 @@ pieces_show t0 t1 t2 runs front begun pieces back run touched is_front is_back s
     ]
 
 -- with nothing after the run
-pub ArePieces-two : (old new : List ℕ) (runs front pieces : List Run) (run : Run) → IsTouched old run runs → IsRun old run → IsFront old runs run front → IsBack old runs run [] → ShowsMore old new front pieces run → All (λ x. IsRun new x) pieces → AddsRun front pieces run → ArePieces old new runs pieces run
+pub ArePieces-two : (old new : List ℕ) (runs front pieces : List Run) (run : Run) → IsTouched old run runs → IsRun old run
+    → IsFront old runs run front → IsBack old runs run [] → ShowsMore old new front pieces run → All (λ x. IsRun new x) pieces
+    → AddsRun front pieces run → ArePieces old new runs pieces run
 ArePieces-two old new runs front pieces run touched is is_front is_back shows are adds =
     let begun = begun_by old new runs front pieces run is is_front shows are adds in
     record {
@@ -252,7 +265,10 @@ ArePieces-two old new runs front pieces run touched is is_front is_back shows ar
     }
 
 -- with what the last run holds after it
-pub ArePieces-three : (t0 t1 t2 : List ℕ) (runs front begun pieces : List Run) (run right : Run) → IsTouched t0 run runs → IsRun t0 run → IsFront t0 runs run front → IsBack t0 runs run (right ∷ []) → ShowsMore t0 t1 front begun run → All (λ x. IsRun t1 x) begun → AddsRun front begun run → BeginsWith t0 t1 → ShowsMore t1 t2 begun pieces right → All (λ x. IsRun t2 x) pieces → AddsRun begun pieces right → ArePieces t0 t2 runs pieces run
+pub ArePieces-three : (t0 t1 t2 : List ℕ) (runs front begun pieces : List Run) (run right : Run) → IsTouched t0 run runs → IsRun t0 run
+    → IsFront t0 runs run front → IsBack t0 runs run (right ∷ []) → ShowsMore t0 t1 front begun run → All (λ x. IsRun t1 x) begun
+    → AddsRun front begun run → BeginsWith t0 t1 → ShowsMore t1 t2 begun pieces right → All (λ x. IsRun t2 x) pieces → AddsRun begun pieces right
+    → ArePieces t0 t2 runs pieces run
 ArePieces-three t0 t1 t2 runs front begun pieces run right touched is is_front is_back shows are adds grows shows_more are_more adds_more =
     let begins = begun_by t0 t1 runs front begun run is is_front shows are adds in
     let is_right : IsRun t0 right = is_back.is_row.are_runs 0 right (omega arith) in
@@ -298,7 +314,11 @@ set_split xs start end y one within =
     same_lists _ _ (grind (arith, places, length-set xs start y)) (λ k d h. grind (arith, places, length-set xs start y, cases_lt k start, cases_eq k start, get_or-set_other xs start k y d, get_or-set_same xs start y d))
 
 -- what is put where it makes a single run longer
-pub IsPut-one : (old new : List ℕ) (runs : List Run) (run first whole : Run) (start end : ℕ) → end - start ≡ 1 → end ≤ length runs → first ≡ get_or runs start first → ((k : ℕ) (d : Run) → k < start → IsClear (get_or runs k d) run) → ((k : ℕ) (d : Run) → start ≤ k → k < end → Touches (get_or runs k d) run) → ((k : ℕ) (d : Run) → end ≤ k → k < length runs → IsClear run (get_or runs k d)) → All (λ x. IsRun old x) runs → AreOrdered runs → AreApart runs → BeginsWith old new → IsRun old run → Continues first run → IsJoined old new first run whole → IsPut old new runs (set runs start whole) run
+pub IsPut-one : (old new : List ℕ) (runs : List Run) (run first whole : Run) (start end : ℕ) → end - start ≡ 1 → end ≤ length runs
+    → first ≡ get_or runs start first → ((k : ℕ) (d : Run) → k < start → IsClear (get_or runs k d) run)
+    → ((k : ℕ) (d : Run) → start ≤ k → k < end → Touches (get_or runs k d) run)
+    → ((k : ℕ) (d : Run) → end ≤ k → k < length runs → IsClear run (get_or runs k d)) → All (λ x. IsRun old x) runs → AreOrdered runs → AreApart runs
+    → BeginsWith old new → IsRun old run → Continues first run → IsJoined old new first run whole → IsPut old new runs (set runs start whole) run
 IsPut-one old new runs run first whole start end one within read above touch below are ordered apart grows is goes joined =
     let low : start ≤ end = omega (arith, one) in
     let only : stretch runs start end ≡ first ∷ [] = ap (λ n. take n (drop start runs)) one ∙ take_more (drop start runs) 0 first (omega (arith, length-drop start runs, one, within)) ∙ ap (λ x. x ∷ []) (get_or-drop start runs 0 first ∙ ap (λ k. get_or runs k first) (omega arith) ∙ sym read) in

@@ -139,7 +139,9 @@ are_runs-put old new runs now fresh row start end grows are is_row is =
     let all : All (λ x. IsRun new x) runs = All-IsRun-grown old new runs grows are in
     subst (λ (l : List Run). All (λ x. IsRun new x) l) (sym is) (All-append (λ x. IsRun new x) (take start runs ++ fresh) (drop end runs) (All-append (λ x. IsRun new x) (take start runs) fresh (All-take (λ x. IsRun new x) start runs all) is_row.are_runs) (All-drop (λ x. IsRun new x) end runs all))
 
-pub ordered-put : (new : List ℕ) (runs now fresh : List Run) (row start end : ℕ) → start ≤ end → end ≤ length runs → ((k : ℕ) (d : Run) → k < start → (get_or runs k d).row < row) → ((k : ℕ) (d : Run) → end ≤ k → k < length runs → row < (get_or runs k d).row) → AreOrdered runs → IsRow new row fresh → now ≡ take start runs ++ fresh ++ drop end runs → AreOrdered now
+pub ordered-put : (new : List ℕ) (runs now fresh : List Run) (row start end : ℕ) → start ≤ end → end ≤ length runs
+    → ((k : ℕ) (d : Run) → k < start → (get_or runs k d).row < row) → ((k : ℕ) (d : Run) → end ≤ k → k < length runs → row < (get_or runs k d).row)
+    → AreOrdered runs → IsRow new row fresh → now ≡ take start runs ++ fresh ++ drop end runs → AreOrdered now
 ordered-put new runs now fresh row start end low high above below ordered is_row is =
     let xs = take start runs in
     let zs = drop end runs in
@@ -154,9 +156,23 @@ ordered-put new runs now fresh row start end low high above below ordered is_row
     subst (λ (z : Run). Precedes (get_or zs i d) z) (sym (get_or-drop end runs j d)) (subst (λ (z : Run). Precedes z (get_or runs (end + j) d)) (sym (get_or-drop end runs i d)) (ordered (end + i) (end + j) d (omega arith) (omega (arith, length-drop end runs)))) in
     let xs_rows : All (λ x. x.row < row) xs = λ k d within. let at = left k d within in subst (λ (z : Run). z.row < row) (sym at.1) (above k d at.0) in
     let zs_rows : All (λ x. row < x.row) zs = λ k d within. subst (λ (z : Run). row < z.row) (sym (get_or-drop end runs k d)) (below (end + k) d (omega arith) (omega (arith, length-drop end runs))) in
-    let front : AreOrdered (xs ++ fresh) = AllPairs-append (λ a b. Precedes a b) xs fresh xs_ordered is_row.ordered (λ i j d i_within j_within. record { rows = omega (arith, xs_rows i d i_within, is_row.in_row j d j_within); cells = λ same. absurd (omega (arith, xs_rows i d i_within, is_row.in_row j d j_within, same)) }) in
+    let front : AreOrdered (xs ++ fresh) = AllPairs-append (λ a b. Precedes a b)
+    xs fresh xs_ordered is_row.ordered
+    (λ i j d i_within j_within.
+    record {
+      rows = omega (arith, xs_rows i d i_within, is_row.in_row j d j_within);
+      cells =
+          λ same. absurd (omega (arith, xs_rows i d i_within, is_row.in_row j d j_within, same));
+    }) in
     let front_rows : All (λ x. x.row ≤ row) (xs ++ fresh) = All-append (λ x. x.row ≤ row) xs fresh (λ k d within. omega (arith, xs_rows k d within)) (λ k d within. omega (arith, is_row.in_row k d within)) in
-    subst (λ (l : List Run). AreOrdered l) (sym is) (AllPairs-append (λ a b. Precedes a b) (xs ++ fresh) zs front zs_ordered (λ i j d i_within j_within. record { rows = omega (arith, front_rows i d i_within, zs_rows j d j_within); cells = λ same. absurd (omega (arith, front_rows i d i_within, zs_rows j d j_within, same)) }))
+    subst (λ (l : List Run). AreOrdered l) (sym is)
+    (AllPairs-append (λ a b. Precedes a b) (xs ++ fresh)
+    zs front zs_ordered (λ i j d i_within j_within.
+    record {
+      rows = omega (arith, front_rows i d i_within, zs_rows j d j_within);
+      cells =
+          λ same. absurd (omega (arith, front_rows i d i_within, zs_rows j d j_within, same));
+    }))
 
 -- a part of the front or of the back of a list
 pub AllPairs-take : {X : Type 0} (R : X → X → Type 0) (n : ℕ) (xs : List X) → AllPairs R xs → AllPairs R (take n xs)
@@ -172,7 +188,9 @@ AllPairs-drop R n xs pairs =
     subst (λ z. R (get_or (drop n xs) i d) z) (sym (get_or-drop n xs j d)) (subst (λ z. R z (get_or xs (n + j) d)) (sym (get_or-drop n xs i d)) (pairs (n + i) (n + j) d (omega arith) (omega (arith, length-drop n xs))))
 
 -- runs that touch differ still
-pub apart-put : (new : List ℕ) (runs now fresh : List Run) (row start end : ℕ) → start ≤ end → end ≤ length runs → ((k : ℕ) (d : Run) → k < start → (get_or runs k d).row < row) → ((k : ℕ) (d : Run) → end ≤ k → k < length runs → row < (get_or runs k d).row) → AreApart runs → IsRow new row fresh → now ≡ take start runs ++ fresh ++ drop end runs → AreApart now
+pub apart-put : (new : List ℕ) (runs now fresh : List Run) (row start end : ℕ) → start ≤ end → end ≤ length runs
+    → ((k : ℕ) (d : Run) → k < start → (get_or runs k d).row < row) → ((k : ℕ) (d : Run) → end ≤ k → k < length runs → row < (get_or runs k d).row)
+    → AreApart runs → IsRow new row fresh → now ≡ take start runs ++ fresh ++ drop end runs → AreApart now
 apart-put new runs now fresh row start end low high above below apart is_row is =
     let xs = take start runs in
     let zs = drop end runs in
@@ -184,7 +202,10 @@ apart-put new runs now fresh row start end low high above below apart is_row is 
     let front_rows : All (λ x. x.row ≤ row) (xs ++ fresh) = All-append (λ x. x.row ≤ row) xs fresh (λ k d within. omega (arith, xs_rows k d within)) (λ k d within. omega (arith, is_row.in_row k d within)) in
     subst (λ (l : List Run). AreApart l) (sym is) (AllPairs-append (λ a b. Differ a b) (xs ++ fresh) zs front (AllPairs-drop (λ a b. Differ a b) end runs apart) (λ i j d i_within j_within goes. absurd (omega (arith, front_rows i d i_within, zs_rows j d j_within, goes.row))))
 
-pub inside-put : (widths : List ℕ) (new : List ℕ) (runs now fresh : List Run) (row start end : ℕ) → start ≤ end → end ≤ length runs → ((k : ℕ) (d : Run) → start ≤ k → k < end → (get_or runs k d).row ≡ row) → FitIn widths runs → IsRow new row fresh → (EndsBy (get_or widths row 0) (stretch runs start end) → EndsBy (get_or widths row 0) fresh) → now ≡ take start runs ++ fresh ++ drop end runs → FitIn widths now
+pub inside-put : (widths : List ℕ) (new : List ℕ) (runs now fresh : List Run) (row start end : ℕ) → start ≤ end → end ≤ length runs
+    → ((k : ℕ) (d : Run) → start ≤ k → k < end → (get_or runs k d).row ≡ row) → FitIn widths runs → IsRow new row fresh
+    → (EndsBy (get_or widths row 0) (stretch runs start end) → EndsBy (get_or widths row 0) fresh) → now ≡ take start runs ++ fresh ++ drop end runs
+    → FitIn widths now
 inside-put widths new runs now fresh row start end low high inside fit is_row ends is =
     let P = λ (x : Run). x.cell + x.count ≤ get_or widths x.row 0 in
     let ys = stretch runs start end in

@@ -36,7 +36,9 @@ span_empty text out row at word g none =
     ])
 
 -- a word that was added after some runs
-pub word_span : (t0 t1 t2 : List ℕ) (out now : List Run) (run : Run) (row at : ℕ) (role : ElementStyle) (word : List ℕ) → BeginsWith t0 t1 → All (λ x. IsRun t0 x) out → IsWord t1 row at role word run → ShowsMore t1 t2 out now run → ShowsSpan t0 t2 out now row at (at + length (chars word)) (λ c. get_or (text_cells role (chars word)) (c - at) SPACE)
+pub word_span : (t0 t1 t2 : List ℕ) (out now : List Run) (run : Run) (row at : ℕ) (role : ElementStyle) (word : List ℕ) → BeginsWith t0 t1
+    → All (λ x. IsRun t0 x) out → IsWord t1 row at role word run → ShowsMore t1 t2 out now run
+    → ShowsSpan t0 t2 out now row at (at + length (chars word)) (λ c. get_or (text_cells role (chars word)) (c - at) SPACE)
 word_span t0 t1 t2 out now run row at role word grows are is shows =
     λ c.
     let end = at + length (chars word) in
@@ -58,7 +60,10 @@ word_span t0 t1 t2 out now run row at role word grows are is shows =
     ]
 
 -- a row that was copied up to a text and after it
-pub row_replaced : (t0 t1 t2 t3 : List ℕ) (runs f0 f1 f2 f3 : List Run) (row start end at top : ℕ) (cells : List Cell) → start ≤ end → at ≡ start + length cells → 2 ^ 64 ≤ top + 1 → IsRow t0 row runs → BeginsWith t0 t1 → BeginsWith t1 t2 → ShowsCopy t0 t1 f0 f1 runs 0 start 0 → ShowsSpan t1 t2 f1 f2 row start at (λ c. get_or cells (c - start) SPACE) → EndsBy at f2 → ShowsCopy t2 t3 f2 f3 runs end top at → ShowsReplaced t0 t3 runs f3 row start end cells
+pub row_replaced : (t0 t1 t2 t3 : List ℕ) (runs f0 f1 f2 f3 : List Run) (row start end at top : ℕ) (cells : List Cell) → start ≤ end
+    → at ≡ start + length cells → 2 ^ 64 ≤ top + 1 → IsRow t0 row runs → BeginsWith t0 t1 → BeginsWith t1 t2 → ShowsCopy t0 t1 f0 f1 runs 0 start 0
+    → ShowsSpan t1 t2 f1 f2 row start at (λ c. get_or cells (c - start) SPACE) → EndsBy at f2 → ShowsCopy t2 t3 f2 f3 runs end top at
+    → ShowsReplaced t0 t3 runs f3 row start end cells
 row_replaced t0 t1 t2 t3 runs f0 f1 f2 f3 row start end at top cells some is_at wide are grows more first second ends third =
     let g = λ (c : ℕ). get_or cells (c - start) SPACE in
     let back = λ (c : ℕ). shown t2 runs row (end + (c - at)) in
@@ -99,7 +104,11 @@ ReplacesCells-unique old a b row start end cells some within one two =
       ]
     ]) (λ r other. one.others r other ∙ sym (two.others r other))
 
-pub grid_replaced : (old new : List ℕ) (runs now fresh : List Run) (w v : List ℕ) (row start end from to : ℕ) (cells : List Cell) → IsExchanged old new runs now fresh row from to → start < end → end ≤ get_or w row 0 → FitIn w runs → FitIn v now → length v ≡ length w → get_or v row 0 + (end - start) ≡ get_or w row 0 + length cells → ((r : ℕ) → r ≢ row → get_or v r 0 ≡ get_or w r 0) → ShowsReplaced old new (stretch runs from to) fresh row start end cells → grid_shown new now v ≡ cells_replaced (grid_shown old runs w) row start end cells
+pub grid_replaced : (old new : List ℕ) (runs now fresh : List Run) (w v : List ℕ) (row start end from to : ℕ) (cells : List Cell)
+    → IsExchanged old new runs now fresh row from to → start < end → end ≤ get_or w row 0 → FitIn w runs → FitIn v now → length v ≡ length w
+    → get_or v row 0 + (end - start) ≡ get_or w row 0 + length cells → ((r : ℕ) → r ≢ row → get_or v r 0 ≡ get_or w r 0)
+    → ShowsReplaced old new (stretch runs from to) fresh row start end cells
+    → grid_shown new now v ≡ cells_replaced (grid_shown old runs w) row start end cells
 grid_replaced old new runs now fresh w v row start end from to cells put some within fit_old fit_new count wide others shows =
     let before = grid_shown old runs w in
     let follows = grid_shown new now v in

@@ -40,7 +40,9 @@ put_shows text runs now fresh row start end c at is =
 pub put_others : (text : List ℕ) (runs now fresh : List Run) (row start end r c : ℕ) → RowAt runs row start end → All (λ x. x.row ≡ row) fresh → now ≡ take start runs ++ fresh ++ drop end runs → r ≢ row → shown text now r c ≡ shown text runs r c
 put_others text runs now fresh row start end r c at in_row is other =
     let no_fresh : All (λ x. x.row ≡ r → ⊥) fresh = λ k d within same. other (sym same ∙ in_row k d within) in
-    ap (λ (l : List Run). shown text l r c) is ∙ painted_outer text r c (take start runs) fresh (drop end runs) no_fresh ∙ sym (ap (λ (l : List Run). shown text l r c) (split_three runs start end at.ordered at.within) ∙ painted_outer text r c (take start runs) (stretch runs start end) (drop end runs) (no_middle runs row start end r at other))
+    ap (λ (l : List Run). shown text l r c) is ∙ painted_outer text r c (take start runs) fresh (drop end runs) no_fresh
+    ∙ sym (ap (λ (l : List Run). shown text l r c) (split_three runs start end at.ordered at.within) ∙ painted_outer text r c (take start
+    runs) (stretch runs start end) (drop end runs) (no_middle runs row start end r at other))
 
 pub put_length : (runs now fresh : List Run) (row start end : ℕ) → RowAt runs row start end → now ≡ take start runs ++ fresh ++ drop end runs → length now + (end - start) ≡ length runs + length fresh
 put_length runs now fresh row start end at is =

@@ -74,14 +74,21 @@ woven_start sheet level text runs row old =
     record { goes = λ rest more prints. record { pieces = rest; text_is = refl; prints = prints }; after = λ k d before within. absurd (omega arith); ahead = λ k d follows within. omega arith }
 
 -- a gap was printed
-pub woven_gap : (sheet : Stylesheet) (level : LevelInner) (text : List ℕ) (runs : List Run) (row n col to count : ℕ) (style space : Style) (link : Option Url) (old now new : List ℕ) → col < to → count ≡ to - col → ((k : ℕ) (d : Run) → n ≤ k → k < length runs → to ≤ (get_or runs k d).cell) → space ≡ style_of sheet level NoStyle → PrintsStretch (replicate count 32) style space link None now new → WovenTo sheet level text runs row n col style link old now → WovenTo sheet level text runs row n to space None old new
+pub woven_gap : (sheet : Stylesheet) (level : LevelInner) (text : List ℕ) (runs : List Run) (row n col to count : ℕ) (style space : Style)
+    (link : Option Url) (old now new : List ℕ) → col < to → count ≡ to - col
+    → ((k : ℕ) (d : Run) → n ≤ k → k < length runs → to ≤ (get_or runs k d).cell) → space ≡ style_of sheet level NoStyle
+    → PrintsStretch (replicate count 32) style space link None now new → WovenTo sheet level text runs row n col style link old now
+    → WovenTo sheet level text runs row n to space None old new
 woven_gap sheet level text runs row n col to count style space link old now new some is_count before is prints woven =
     let word : List ℕ = replicate count 32 in
     let more : List Cell = alike NoStyle None word in
     let long : length word ≡ count = length-replicate count 32 in
     let long_more : length more ≡ count = length-map word (λ ch. (let cell : Cell = record { ch = ch; role = NoStyle; link = None } in cell)) ∙ long in
     let cells : cells_to text runs row to ≡ cells_to text runs row col ++ more = cells_more text runs row col to more (omega arith) (λ k within.
-    get_or-map (λ ch. (let cell : Cell = record { ch = ch; role = NoStyle; link = None } in cell)) word k 32 SPACE (omega arith) ∙ ap (λ ch. (let cell : Cell = record { ch = ch; role = NoStyle; link = None } in cell)) (get_or-replicate count k 32 32 (omega arith)) ∙ sym (shown_gap text row (col + k) n runs (λ j d first inside. omega (arith, woven.after j d first inside)) (λ j d later inside. omega (arith, before j d later inside)))) in
+    get_or-map (λ ch. (let cell : Cell = record { ch = ch; role = NoStyle; link = None } in cell)) word k 32 SPACE (omega arith)
+    ∙ ap (λ ch. (let cell : Cell = record { ch = ch; role = NoStyle; link = None } in cell)) (get_or-replicate count k 32 32 (omega arith))
+    ∙ sym (shown_gap text row (col + k) n runs (λ j d first inside. omega (arith, woven.after j d first inside))
+    (λ j d later inside. omega (arith, before j d later inside)))) in
     record {
       goes = subst (λ (cs : List Cell). Goes sheet level (Some space) None cs old new) (sym cells) (stretch_printed sheet level style space NoStyle link None word (cells_to text runs row col) old now new (omega arith) is prints woven.goes);
       after = λ k d first inside. omega (arith, woven.after k d first inside);
@@ -89,7 +96,11 @@ woven_gap sheet level text runs row n col to count style space link old now new 
     }
 
 -- a run was printed
-pub woven_run : (sheet : Stylesheet) (level : LevelInner) (text : List ℕ) (runs : List Run) (row n col : ℕ) (d : Run) (style next : Style) (link : Option Url) (old now new : List ℕ) → IsRow text row runs → n < length runs → (let run = get_or runs n d in col ≡ run.cell → next ≡ style_of sheet level run.role → PrintsStretch (run_chars text run) style next link (option_copied run.link) now new → WovenTo sheet level text runs row n col style link old now → WovenTo sheet level text runs row (n + 1) (run.cell + run.count) next (option_copied run.link) old new)
+pub woven_run : (sheet : Stylesheet) (level : LevelInner) (text : List ℕ) (runs : List Run) (row n col : ℕ) (d : Run) (style next : Style)
+    (link : Option Url) (old now new : List ℕ) → IsRow text row runs → n < length runs
+    → (let run = get_or runs n d in col ≡ run.cell → next ≡ style_of sheet level run.role
+    → PrintsStretch (run_chars text run) style next link (option_copied run.link) now new → WovenTo sheet level text runs row n col style link old now
+    → WovenTo sheet level text runs row (n + 1) (run.cell + run.count) next (option_copied run.link) old new)
 woven_run sheet level text runs row n col d style next link old now new is_row within =
     λ here is prints woven.
     let run : Run = get_or runs n d in
@@ -102,7 +113,9 @@ woven_run sheet level text runs row n col d style next link old now new is_row w
     let index : (col + k) - run.cell ≡ k = omega arith in
     get_or-map as_cell word k 32 SPACE (omega arith) ∙ ap (λ i. as_cell (get_or word i 32)) (sym index) ∙ sym (shown_in text row (col + k) n runs d is_row within (omega arith) (omega (arith, is_run.counted)))) in
     record {
-      goes = subst (λ (cs : List Cell). Goes sheet level (Some next) (option_copied run.link) cs old new) (sym cells) (stretch_printed sheet level style next run.role link (option_copied run.link) word (cells_to text runs row col) old now new (omega (arith, is_run.counted, is_run.some)) is prints woven.goes);
+      goes = subst (λ (cs : List Cell). Goes sheet level (Some next) (option_copied run.link) cs old new) (sym cells)
+          (stretch_printed sheet level style next run.role link (option_copied run.link) word (cells_to text runs row col)
+          old now new (omega (arith, is_run.counted, is_run.some)) is prints woven.goes);
       after = λ k e first inside. elim (cases_lt k n) [
         | inl before ↦ omega (arith, woven.after k e before inside)
         | inr last ↦

@@ -32,7 +32,10 @@ rows_more sheet level old now fed new (head ∷ rows) row some broken above adde
     let are = above.are in
     record {
       pieces = above.pieces ++ more;
-      text_is = added.text_is ∙ ap (λ (t : List ℕ). t ++ bytes) (broken ∙ ap (λ (t : List ℕ). t ++ encode_utf8 10) above.text_is) ∙ append_assoc (old ++ flat_map piece_text above.pieces) (encode_utf8 10) bytes ∙ append_assoc old (flat_map piece_text above.pieces) (encode_utf8 10 ++ bytes) ∙ ap (λ (t : List ℕ). old ++ t) (sym (flat_map-append piece_text above.pieces more));
+      text_is = added.text_is ∙ ap (λ (t : List ℕ). t ++ bytes) (broken ∙ ap (λ (t : List ℕ). t ++ encode_utf8 10) above.text_is)
+          ∙ append_assoc (old ++ flat_map piece_text above.pieces) (encode_utf8 10) bytes
+          ∙ append_assoc old (flat_map piece_text above.pieces) (encode_utf8 10 ++ bytes)
+          ∙ ap (λ (t : List ℕ). old ++ t) (sym (flat_map-append piece_text above.pieces more));
       are = (are.0, are.1 ++ more, ap (λ (ps : List Piece). ps ++ more) are.2 ∙ append_assoc are.0 are.1 more, are.3, further-append sheet level are.1 more rows (row ∷ []) are.4 below);
     }
 
@@ -45,7 +48,9 @@ pub record RowsTo (sheet : Stylesheet) (level : LevelInner) (text : List ℕ) (r
   pub below : (k : ℕ) (d : Run) → from ≤ k → k < length runs → r ≤ (get_or runs k d).row
 
 -- the runs of a row show its cells
-pub cells_of_row : (text : List ℕ) (runs : List Run) (widths : List ℕ) (r from to : ℕ) → from ≤ to → to ≤ length runs → ((k : ℕ) (d : Run) → k < from → (get_or runs k d).row < r) → ((k : ℕ) (d : Run) → to ≤ k → k < length runs → r < (get_or runs k d).row) → cells_to text (stretch runs from to) r (get_or widths r 0) ≡ row_at (grid_shown text runs widths) r
+pub cells_of_row : (text : List ℕ) (runs : List Run) (widths : List ℕ) (r from to : ℕ) → from ≤ to → to ≤ length runs
+    → ((k : ℕ) (d : Run) → k < from → (get_or runs k d).row < r) → ((k : ℕ) (d : Run) → to ≤ k → k < length runs → r < (get_or runs k d).row)
+    → cells_to text (stretch runs from to) r (get_or widths r 0) ≡ row_at (grid_shown text runs widths) r
 cells_of_row text runs widths r from to low high above below =
     let xs = take from runs in
     let zs = drop to runs in
@@ -65,7 +70,12 @@ cells_of_row text runs widths r from to low high above below =
     get_or-map-range_with_len f 0 n k k d inside (omega arith) ∙ same k ∙ sym (get_or-map-range_with_len g 0 n k k d inside (omega arith))) ∙ sym (row_shown text runs widths r)
 
 -- one more row
-pub rows_next : (sheet : Stylesheet) (level : LevelInner) (text : List ℕ) (runs : List Run) (widths : List ℕ) (r from to : ℕ) (old now fed new : List ℕ) → r < length widths → from ≤ to → to ≤ length runs → ((k : ℕ) (d : Run) → from ≤ k → k < to → (get_or runs k d).row ≡ r) → ((k : ℕ) (d : Run) → to ≤ k → k < length runs → r < (get_or runs k d).row) → (r ≡ 0 → fed ≡ now) → (0 < r → fed ≡ now ++ encode_utf8 10) → AddsRow sheet level (cells_to text (stretch runs from to) r (get_or widths r 0)) fed new → RowsTo sheet level text runs widths r from old now → RowsTo sheet level text runs widths (r + 1) to old new
+pub rows_next : (sheet : Stylesheet) (level : LevelInner) (text : List ℕ) (runs : List Run) (widths : List ℕ) (r from to : ℕ)
+    (old now fed new : List ℕ) → r < length widths → from ≤ to → to ≤ length runs
+    → ((k : ℕ) (d : Run) → from ≤ k → k < to → (get_or runs k d).row ≡ r) → ((k : ℕ) (d : Run) → to ≤ k → k < length runs → r < (get_or runs k d).row)
+    → (r ≡ 0 → fed ≡ now) → (0 < r → fed ≡ now ++ encode_utf8 10)
+    → AddsRow sheet level (cells_to text (stretch runs from to) r (get_or widths r 0)) fed new → RowsTo sheet level text runs widths r from old now
+    → RowsTo sheet level text runs widths (r + 1) to old new
 rows_next sheet level text runs widths r from to old now fed new within low high inside below first further added so_far =
     let grid = grid_shown text runs widths in
     let row = row_at grid r in

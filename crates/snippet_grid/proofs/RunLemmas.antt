@@ -41,7 +41,10 @@ IsUtf8-run_bytes text run whole is =
     IsUtf8-stretch text run.start run.end whole is.ordered is.within is.starts is.ends
 
 -- two runs, where the text goes on after the first with the second's characters
-pub IsJoined-here : (text : List ℕ) (first second whole : Run) → IsUtf8 text → IsRun text first → IsRun text second → Continues first second → take (second.end - second.start) (drop first.end text) ≡ run_bytes text second → whole.row ≡ first.row → whole.cell ≡ first.cell → whole.count ≡ first.count + second.count → whole.start ≡ first.start → whole.end ≡ first.end + (second.end - second.start) → whole.role ≡ first.role → option_copied whole.link ≡ option_copied first.link → IsJoined text text first second whole
+pub IsJoined-here : (text : List ℕ) (first second whole : Run) → IsUtf8 text → IsRun text first → IsRun text second → Continues first second
+    → take (second.end - second.start) (drop first.end text) ≡ run_bytes text second → whole.row ≡ first.row → whole.cell ≡ first.cell
+    → whole.count ≡ first.count + second.count → whole.start ≡ first.start → whole.end ≡ first.end + (second.end - second.start)
+    → whole.role ≡ first.role → option_copied whole.link ≡ option_copied first.link → IsJoined text text first second whole
 IsJoined-here text first second whole utf8 one two goes there row cell count start end role link =
     let ordered : first.end ≤ whole.end = omega (arith, end) in
     let stands : stretch text first.end whole.end ≡ run_bytes text second =
@@ -71,7 +74,9 @@ IsJoined-here text first second whole utf8 one two goes there row cell count sta
     }
 
 -- a copy of a run's characters at the end of the text
-pub IsMoved-here : (old new : List ℕ) (run moved : Run) → IsUtf8 old → IsUtf8 new → IsRun old run → new ≡ old ++ run_bytes old run → moved.row ≡ run.row → moved.cell ≡ run.cell → moved.count ≡ run.count → moved.start ≡ length old → moved.end ≡ length new → moved.role ≡ run.role → option_copied moved.link ≡ option_copied run.link → IsMoved old new run moved
+pub IsMoved-here : (old new : List ℕ) (run moved : Run) → IsUtf8 old → IsUtf8 new → IsRun old run → new ≡ old ++ run_bytes old run
+    → moved.row ≡ run.row → moved.cell ≡ run.cell → moved.count ≡ run.count → moved.start ≡ length old → moved.end ≡ length new
+    → moved.role ≡ run.role → option_copied moved.link ≡ option_copied run.link → IsMoved old new run moved
 IsMoved-here old new run moved utf8 utf8_new is grown row cell count start end role link =
     let grows : BeginsWith old new = subst (λ (t : List ℕ). BeginsWith old t) (sym grown) (BeginsWith-append old (run_bytes old run)) in
     let bytes : run_bytes new moved ≡ run_bytes old run =
@@ -96,7 +101,10 @@ IsMoved-here old new run moved utf8 utf8_new is grown row cell count start end r
     }
 
 -- a run that was moved, and another copied after it
-pub IsJoined-after : (old mid new : List ℕ) (first second front after whole : Run) → IsUtf8 new → IsRun old second → Continues first second → BeginsWith old mid → BeginsWith mid new → IsMoved old mid first front → IsMoved mid new second after → after.start ≡ length mid → whole.row ≡ front.row → whole.cell ≡ front.cell → whole.count ≡ first.count + second.count → whole.start ≡ front.start → whole.end ≡ after.end → whole.role ≡ front.role → option_copied whole.link ≡ option_copied front.link → IsJoined old new first second whole
+pub IsJoined-after : (old mid new : List ℕ) (first second front after whole : Run) → IsUtf8 new → IsRun old second → Continues first second
+    → BeginsWith old mid → BeginsWith mid new → IsMoved old mid first front → IsMoved mid new second after → after.start ≡ length mid
+    → whole.row ≡ front.row → whole.cell ≡ front.cell → whole.count ≡ first.count + second.count → whole.start ≡ front.start → whole.end ≡ after.end
+    → whole.role ≡ front.role → option_copied whole.link ≡ option_copied front.link → IsJoined old new first second whole
 IsJoined-after old mid new first second front after whole utf8 is_second goes grows more moved copied begins row cell count start end role link =
     let counts : whole.count ≡ front.count + after.count = omega (arith, count, moved.count, copied.count) in
     let both : Continues front after = record {

@@ -55,7 +55,9 @@ cell_same a b ch role link =
     ap (λ (x : ℕ). (let cell : Cell = record { ch = x; role = a.role; link = a.link } in cell)) ch ∙ ap (λ x. (let cell : Cell = record { ch = b.ch; role = x; link = a.link } in cell)) role ∙ ap (λ (x : Option (List ℕ)). (let cell : Cell = record { ch = b.ch; role = b.role; link = x } in cell)) link
 
 -- two runs made one show what both show
-joined_cell : (old new : List ℕ) (first second whole : Run) (r c : ℕ) (d : Cell) → IsRun old first → IsRun old second → Continues first second → IsJoined old new first second whole → (if holds whole r c then run_cell new whole c else d) ≡ (if holds second r c then run_cell old second c else (if holds first r c then run_cell old first c else d))
+joined_cell : (old new : List ℕ) (first second whole : Run) (r c : ℕ) (d : Cell) → IsRun old first → IsRun old second → Continues first second
+    → IsJoined old new first second whole → (if holds whole r c then run_cell new whole c else d)
+    ≡ (if holds second r c then run_cell old second c else (if holds first r c then run_cell old first c else d))
 joined_cell old new first second whole r c d one two goes joined =
     let x = run_cell new whole c in
     let y = run_cell old second c in
@@ -78,7 +80,9 @@ joined_cell old new first second whole r c d one two goes joined =
                   | inl in_first ↦
                       let whole_yes = holds_inside whole r c (joined.row ∙ row) (omega (arith, joined.cell)) (omega (arith, joined.cell, joined.count)) in
                       let second_no = holds_before second r c (omega (arith, goes.touches)) in
-                      let ch : x.ch ≡ z.ch = ap (λ (cs : List ℕ). get_or cs (c - whole.cell) 32) joined.chars_are ∙ ap (λ k. get_or (run_chars old first ++ run_chars old second) (c - k) 32) joined.cell ∙ get_or_append_left (run_chars old first) (run_chars old second) 32 (c - first.cell) (omega arith) in
+                      let ch : x.ch ≡ z.ch = ap (λ (cs : List ℕ). get_or cs (c - whole.cell) 32) joined.chars_are
+                      ∙ ap (λ k. get_or (run_chars old first ++ run_chars old second) (c - k) 32) joined.cell
+                      ∙ get_or_append_left (run_chars old first) (run_chars old second) 32 (c - first.cell) (omega arith) in
                       pick x d whole_yes ∙ cell_same x z ch joined.role joined.link ∙ sym (pick y rest second_no ∙ pick z d (holds_inside first r c row low in_first))
                   | inr after_first ↦
                       elim (cases_lt c (second.cell + second.count)) [
@@ -86,7 +90,10 @@ joined_cell old new first second whole r c d one two goes joined =
                             let whole_yes = holds_inside whole r c (joined.row ∙ row) (omega (arith, joined.cell)) (omega (arith, joined.cell, joined.count, goes.touches)) in
                             let second_yes = holds_inside second r c (sym goes.row ∙ row) (omega (arith, goes.touches)) in_second in
                             let index : c - first.cell - first.count ≡ c - second.cell = omega (arith, goes.touches) in
-                            let ch : x.ch ≡ y.ch = ap (λ (cs : List ℕ). get_or cs (c - whole.cell) 32) joined.chars_are ∙ ap (λ k. get_or (run_chars old first ++ run_chars old second) (c - k) 32) joined.cell ∙ get_or-append_right (run_chars old first) (run_chars old second) first.count (c - first.cell) 32 long (omega arith) ∙ ap (λ k. get_or (run_chars old second) k 32) index in
+                            let ch : x.ch ≡ y.ch = ap (λ (cs : List ℕ). get_or cs (c - whole.cell) 32) joined.chars_are
+                            ∙ ap (λ k. get_or (run_chars old first ++ run_chars old second) (c - k) 32) joined.cell
+                            ∙ get_or-append_right (run_chars old first) (run_chars old second) first.count (c - first.cell) 32 long (omega arith)
+                            ∙ ap (λ k. get_or (run_chars old second) k 32) index in
                             pick x d whole_yes ∙ cell_same x y ch (joined.role ∙ goes.role) (joined.link ∙ goes.link) ∙ sym (pick y rest second_yes)
                         | inr after ↦
                             let whole_no = holds_after whole r c (omega (arith, joined.cell, joined.count, goes.touches)) in
@@ -98,7 +105,9 @@ joined_cell old new first second whole r c d one two goes joined =
     ]
 
 -- the last run joined with another
-pub ShowsMore-joined : (old new : List ℕ) (runs : List Run) (i : ℕ) (last run whole : Run) → i + 1 ≡ length runs → last ≡ get_or runs i last → BeginsWith old new → All (λ x. IsRun old x) runs → IsRun old run → Continues last run → IsJoined old new last run whole → ShowsMore old new runs (set runs i whole) run
+pub ShowsMore-joined : (old new : List ℕ) (runs : List Run) (i : ℕ) (last run whole : Run) → i + 1 ≡ length runs → last ≡ get_or runs i last
+    → BeginsWith old new → All (λ x. IsRun old x) runs → IsRun old run → Continues last run → IsJoined old new last run whole
+    → ShowsMore old new runs (set runs i whole) run
 ShowsMore-joined old new runs i last run whole is_last read grows are is goes joined =
     λ r c.
     let front = take i runs in
@@ -108,7 +117,11 @@ ShowsMore-joined old new runs i last run whole is_last read grows are is goes jo
     let is_run : IsRun old last = subst (λ x. IsRun old x) (sym read) (are i last within) in
     let below = shown new front r c in
     let stays : below ≡ shown old front r c = painted-grown old new r c SPACE front grows (All-take (λ x. IsRun old x) i runs are) in
-    ap (λ (xs : List Run). shown new xs r c) now ∙ painted-append new r c SPACE front (whole ∷ []) ∙ joined_cell old new last run whole r c below is_run is goes joined ∙ ap (λ (d : Cell). if holds run r c then run_cell old run c else (if holds last r c then run_cell old last c else d)) stays ∙ ap (λ (d : Cell). if holds run r c then run_cell old run c else d) (sym (ap (λ (xs : List Run). shown old xs r c) split ∙ painted-append old r c SPACE front (last ∷ [])))
+    ap (λ (xs : List Run). shown new xs r c) now ∙ painted-append new r c SPACE front (whole ∷ [])
+    ∙ joined_cell old new last run whole r c below is_run is goes joined
+    ∙ ap (λ (d : Cell). if holds run r c then run_cell old run c else (if holds last r c then run_cell old last c else d)) stays
+    ∙ ap (λ (d : Cell). if holds run r c then run_cell old run c else d)
+    (sym (ap (λ (xs : List Run). shown old xs r c) split ∙ painted-append old r c SPACE front (last ∷ [])))
 
 -- a run that was pushed
 pub ShowsMore-pushed : (text : List ℕ) (runs now : List Run) (run : Run) → now ≡ runs ++ run ∷ [] → ShowsMore text text runs now run
@@ -181,7 +194,15 @@ AddsRun-joined old new runs i last run whole is_last read goes joined =
       after = λ y all is. All-set (λ x. Precedes x y) runs i whole record { rows = omega (arith, joined.row, goes.row, is.rows); cells = λ h. omega (arith, joined.cell, joined.count, goes.touches, is.cells (sym goes.row ∙ sym joined.row ∙ h)) } all;
       order = λ pairs all. AllPairs-set_last (λ a b. Precedes a b) runs i last whole is_last read pairs (λ x before. record { rows = omega (arith, joined.row, before.rows); cells = λ h. omega (arith, joined.cell, before.cells (h ∙ joined.row)) });
       apart = λ ordered before pairs. AllPairs-set_last (λ a b. Differ a b) runs i last whole is_last read pairs (λ x differs at. differs record { row = at.row ∙ joined.row; touches = at.touches ∙ joined.cell; role = at.role ∙ joined.role; link = at.link ∙ joined.link });
-      apart_after = λ y all is. All-set (λ x. Differ x y) runs i whole (λ at. is record { row = sym goes.row ∙ sym joined.row ∙ at.row; touches = omega (arith, joined.cell, joined.count, goes.touches, at.touches); role = sym goes.role ∙ sym joined.role ∙ at.role; link = sym goes.link ∙ sym joined.link ∙ at.link }) all;
+      apart_after = λ y all is. All-set (λ x. Differ x y)
+          runs i whole (λ at. is record {
+            row = sym goes.row ∙ sym joined.row ∙ at.row;
+            touches =
+                omega (arith, joined.cell, joined.count, goes.touches, at.touches);
+            role = sym goes.role ∙ sym joined.role ∙ at.role;
+            link =
+                sym goes.link ∙ sym joined.link ∙ at.link;
+          }) all;
       follows = λ x all is.
           let before : Precedes x last = subst (λ y. Precedes x y) (sym read) (all i last within) in
           All-set (λ y. Precedes x y) runs i whole record { rows = omega (arith, joined.row, before.rows); cells = λ h. omega (arith, joined.cell, before.cells (h ∙ joined.row)) } all;

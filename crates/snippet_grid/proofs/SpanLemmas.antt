@@ -23,7 +23,9 @@ pub within_after : (from to c : ℕ) → to ≤ c → is_within from to c ≡ fa
 within_after from to c after = and_right _ _ (le-ltb c to after)
 
 -- a span and the next one
-pub span_joined : (t0 t1 t2 : List ℕ) (o0 o1 o2 : List Run) (row from mid to : ℕ) (g h k : ℕ → Cell) → from ≤ mid → mid ≤ to → ((c : ℕ) → from ≤ c → c < mid → g c ≡ k c) → ((c : ℕ) → mid ≤ c → c < to → h c ≡ k c) → ShowsSpan t0 t1 o0 o1 row from mid g → ShowsSpan t1 t2 o1 o2 row mid to h → ShowsSpan t0 t2 o0 o2 row from to k
+pub span_joined : (t0 t1 t2 : List ℕ) (o0 o1 o2 : List Run) (row from mid to : ℕ) (g h k : ℕ → Cell) → from ≤ mid → mid ≤ to
+    → ((c : ℕ) → from ≤ c → c < mid → g c ≡ k c) → ((c : ℕ) → mid ≤ c → c < to → h c ≡ k c) → ShowsSpan t0 t1 o0 o1 row from mid g
+    → ShowsSpan t1 t2 o1 o2 row mid to h → ShowsSpan t0 t2 o0 o2 row from to k
 span_joined t0 t1 t2 o0 o1 o2 row from mid to g h k first_le second_le first_is second_is first second =
     λ c.
     let s0 = shown t0 o0 row c in
@@ -48,7 +50,9 @@ spaces_at n k =
     ]
 
 -- spaces that were put at the end of the text
-pub IsGap-pushed : (old new : List ℕ) (run : Run) (row from to n : ℕ) → IsUtf8 old → IsUtf8 new → from < to → to < 2 ^ 64 → n ≡ to - from → new ≡ old ++ replicate n 32 → run.row ≡ row → run.cell ≡ from → run.count ≡ n → run.start ≡ length old → run.end ≡ length new → run.role ≡ NoStyle → option_copied run.link ≡ None → IsGap new row from to run
+pub IsGap-pushed : (old new : List ℕ) (run : Run) (row from to n : ℕ) → IsUtf8 old → IsUtf8 new → from < to → to < 2 ^ 64 → n ≡ to - from
+    → new ≡ old ++ replicate n 32 → run.row ≡ row → run.cell ≡ from → run.count ≡ n → run.start ≡ length old → run.end ≡ length new
+    → run.role ≡ NoStyle → option_copied run.link ≡ None → IsGap new row from to run
 IsGap-pushed old new run row from to n utf8 utf8_new some fits is_n pushed row_is cell_is count start end role link =
     let word : List ℕ = replicate n 32 in
     let spelled : chars word ≡ word = chars-IsAscii word (λ i. elim (cases_lt i n) [

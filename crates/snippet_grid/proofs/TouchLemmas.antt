@@ -49,11 +49,18 @@ cases_some (run ∷ runs) r c =
     ]
 
 -- what stands before the run, or after it, is in order with what took the place of the runs between
-pub ShowsMore-touch : (old new : List ℕ) (xs ys zs fresh : List Run) (run : Run) → BeginsWith old new → All (λ x. IsRun old x) (xs ++ ys ++ zs) → All (λ x. IsRun old x) xs → All (λ x. IsRun old x) zs → All (λ x. Precedes x run) xs → All (λ z. Precedes run z) zs → ((i j : ℕ) (d : Run) → i < length xs → j < length ys → Precedes (get_or xs i d) (get_or ys j d)) → ((i j : ℕ) (d : Run) → i < length xs → j < length fresh → Precedes (get_or xs i d) (get_or fresh j d)) → ShowsMore old new ys fresh run → ShowsMore old new (xs ++ ys ++ zs) (xs ++ fresh ++ zs) run
+pub ShowsMore-touch : (old new : List ℕ) (xs ys zs fresh : List Run) (run : Run) → BeginsWith old new → All (λ x. IsRun old x) (xs ++ ys ++ zs)
+    → All (λ x. IsRun old x) xs → All (λ x. IsRun old x) zs → All (λ x. Precedes x run) xs → All (λ z. Precedes run z) zs
+    → ((i j : ℕ) (d : Run) → i < length xs → j < length ys → Precedes (get_or xs i d) (get_or ys j d))
+    → ((i j : ℕ) (d : Run) → i < length xs → j < length fresh → Precedes (get_or xs i d) (get_or fresh j d)) → ShowsMore old new ys fresh run
+    → ShowsMore old new (xs ++ ys ++ zs) (xs ++ fresh ++ zs) run
 ShowsMore-touch old new xs ys zs fresh run grows are are_xs are_zs before after order_old order_new shows =
     λ r c.
     let x = run_cell old run c in
-    let new_is : shown new (xs ++ fresh ++ zs) r c ≡ painted old r c (painted new r c (shown old xs r c) fresh) zs = painted-append new r c SPACE (xs ++ fresh) zs ∙ painted-grown old new r c (painted new r c SPACE (xs ++ fresh)) zs grows are_zs ∙ ap (λ (d : Cell). painted old r c d zs) (painted-append new r c SPACE xs fresh ∙ ap (λ (d : Cell). painted new r c d fresh) (painted-grown old new r c SPACE xs grows are_xs)) in
+    let new_is : shown new (xs ++ fresh ++ zs) r c ≡ painted old r c (painted new r c (shown old xs r c) fresh) zs =
+    painted-append new r c SPACE (xs ++ fresh) zs ∙ painted-grown old new r c (painted new r c SPACE (xs ++ fresh)) zs grows are_zs
+    ∙ ap (λ (d : Cell). painted old r c d zs)
+    (painted-append new r c SPACE xs fresh ∙ ap (λ (d : Cell). painted new r c d fresh) (painted-grown old new r c SPACE xs grows are_xs)) in
     let old_is : shown old (xs ++ ys ++ zs) r c ≡ painted old r c (painted old r c (shown old xs r c) ys) zs = painted-append old r c SPACE (xs ++ ys) zs ∙ ap (λ (d : Cell). painted old r c d zs) (painted-append old r c SPACE xs ys) in
     let was = shown old (xs ++ ys ++ zs) r c in
     elim (cases_some xs r c) [
@@ -143,7 +150,12 @@ clear_all runs run d start ordered high some last =
     ]
 
 -- a relation of each run to those after it stays where others take the place of those that a run touches
-pub AllPairs-put : (R : Run → Run → Type 0) (runs fresh : List Run) (run : Run) (start end : ℕ) → start ≤ end → end ≤ length runs → ((k : ℕ) (d : Run) → k < start → IsClear (get_or runs k d) run) → ((k : ℕ) (d : Run) → end ≤ k → k < length runs → IsClear run (get_or runs k d)) → AllPairs R runs → AllPairs R fresh → ((x : Run) → IsClear x run → All (λ y. R x y) (stretch runs start end) → All (λ y. R x y) fresh) → ((y : Run) → IsClear run y → All (λ x. R x y) (stretch runs start end) → All (λ x. R x y) fresh) → AllPairs R (take start runs ++ fresh ++ drop end runs)
+pub AllPairs-put : (R : Run → Run → Type 0) (runs fresh : List Run) (run : Run) (start end : ℕ) → start ≤ end → end ≤ length runs
+    → ((k : ℕ) (d : Run) → k < start → IsClear (get_or runs k d) run)
+    → ((k : ℕ) (d : Run) → end ≤ k → k < length runs → IsClear run (get_or runs k d)) → AllPairs R runs → AllPairs R fresh
+    → ((x : Run) → IsClear x run → All (λ y. R x y) (stretch runs start end) → All (λ y. R x y) fresh)
+    → ((y : Run) → IsClear run y → All (λ x. R x y) (stretch runs start end) → All (λ x. R x y) fresh)
+    → AllPairs R (take start runs ++ fresh ++ drop end runs)
 AllPairs-put R runs fresh run start end low high above below pairs middle first second =
     let xs = take start runs in
     let ys = stretch runs start end in
@@ -172,7 +184,9 @@ AllPairs-put R runs fresh run start end low high above below pairs middle first 
     AllPairs-append R (xs ++ fresh) zs (AllPairs-append R xs fresh (AllPairs-take R start runs pairs) middle across) (AllPairs-drop R end runs pairs) after
 
 -- the runs that a run touches
-pub touched_stretch : (text : List ℕ) (runs : List Run) (run : Run) (start end : ℕ) → start ≤ end → end ≤ length runs → All (λ x. IsRun text x) runs → AreOrdered runs → AreApart runs → ((k : ℕ) (d : Run) → start ≤ k → k < end → Touches (get_or runs k d) run) → IsTouched text run (stretch runs start end)
+pub touched_stretch : (text : List ℕ) (runs : List Run) (run : Run) (start end : ℕ) → start ≤ end → end ≤ length runs → All (λ x. IsRun text x) runs
+    → AreOrdered runs → AreApart runs → ((k : ℕ) (d : Run) → start ≤ k → k < end → Touches (get_or runs k d) run)
+    → IsTouched text run (stretch runs start end)
 touched_stretch text runs run start end low high are ordered apart touch =
     let ys = stretch runs start end in
     record {
@@ -187,7 +201,11 @@ Precedes-clear a b clear =
     record { rows = clear.rows; cells = λ same. omega (arith, clear.cells same) }
 
 -- what a run that was put over those that it touches leaves
-pub IsPut-touched : (old new : List ℕ) (runs now fresh : List Run) (run : Run) (start end : ℕ) → start ≤ end → end ≤ length runs → ((k : ℕ) (d : Run) → k < start → IsClear (get_or runs k d) run) → ((k : ℕ) (d : Run) → start ≤ k → k < end → Touches (get_or runs k d) run) → ((k : ℕ) (d : Run) → end ≤ k → k < length runs → IsClear run (get_or runs k d)) → All (λ x. IsRun old x) runs → AreOrdered runs → AreApart runs → BeginsWith old new → ArePieces old new (stretch runs start end) fresh run → now ≡ take start runs ++ fresh ++ drop end runs → IsPut old new runs now run
+pub IsPut-touched : (old new : List ℕ) (runs now fresh : List Run) (run : Run) (start end : ℕ) → start ≤ end → end ≤ length runs
+    → ((k : ℕ) (d : Run) → k < start → IsClear (get_or runs k d) run) → ((k : ℕ) (d : Run) → start ≤ k → k < end → Touches (get_or runs k d) run)
+    → ((k : ℕ) (d : Run) → end ≤ k → k < length runs → IsClear run (get_or runs k d)) → All (λ x. IsRun old x) runs → AreOrdered runs → AreApart runs
+    → BeginsWith old new → ArePieces old new (stretch runs start end) fresh run → now ≡ take start runs ++ fresh ++ drop end runs
+    → IsPut old new runs now run
 IsPut-touched old new runs now fresh run start end low high above touch below are ordered apart grows pieces is =
     let xs = take start runs in
     let ys = stretch runs start end in
@@ -215,8 +233,15 @@ IsPut-touched old new runs now fresh run start end low high above touch below ar
       are_runs = subst (λ (l : List Run). All (λ x. IsRun new x) l) (sym is) (All-append (λ x. IsRun new x) (xs ++ fresh) zs (All-append (λ x. IsRun new x) xs fresh (All-take (λ x. IsRun new x) start runs all) pieces.is_row.are_runs) (All-drop (λ x. IsRun new x) end runs all));
       ordered = subst AreOrdered (sym is) all_ordered;
       apart = subst AreApart (sym is) all_apart;
-      in_row = λ n all here. subst (λ (l : List Run). All (λ x. x.row ≡ n) l) (sym is) (All-append (λ x. x.row ≡ n) (xs ++ fresh) zs (All-append (λ x. x.row ≡ n) xs fresh (All-take (λ x. x.row ≡ n) start runs all) (λ k d within. pieces.is_row.in_row k d within ∙ here)) (All-drop (λ x. x.row ≡ n) end runs all));
-      ends = λ n all within. subst (λ (l : List Run). EndsBy n l) (sym is) (All-append (λ x. x.cell + x.count ≤ n) (xs ++ fresh) zs (All-append (λ x. x.cell + x.count ≤ n) xs fresh (All-take (λ x. x.cell + x.count ≤ n) start runs all) (pieces.ends n (All-take (λ x. x.cell + x.count ≤ n) (end - start) (drop start runs) (All-drop (λ x. x.cell + x.count ≤ n) start runs all)) within)) (All-drop (λ x. x.cell + x.count ≤ n) end runs all));
+      in_row = λ n all here. subst (λ (l : List Run). All (λ x. x.row ≡ n) l) (sym is)
+          (All-append (λ x. x.row ≡ n) (xs ++ fresh)
+          zs (All-append (λ x. x.row ≡ n) xs fresh (All-take (λ x. x.row ≡ n) start runs all) (λ k d within. pieces.is_row.in_row k d within ∙ here))
+          (All-drop (λ x. x.row ≡ n) end runs all));
+      ends = λ n all within. subst (λ (l : List Run). EndsBy n l) (sym is)
+          (All-append (λ x. x.cell + x.count ≤ n) (xs ++ fresh)
+          zs (All-append (λ x. x.cell + x.count ≤ n) xs fresh (All-take (λ x. x.cell + x.count ≤ n) start runs all)
+          (pieces.ends n (All-take (λ x. x.cell + x.count ≤ n) (end - start) (drop start runs) (All-drop (λ x. x.cell + x.count ≤ n) start runs all))
+          within)) (All-drop (λ x. x.cell + x.count ≤ n) end runs all));
       inside = λ widths fit within. inside-put widths new runs now fresh run.row start end low high (λ k d first last. (touch k d first last).row) fit pieces.is_row (λ ends. pieces.ends (get_or widths run.row 0) ends within) is;
       few =
           let count : length now ≡ length xs + length fresh + length zs = ap length is ∙ length-append (xs ++ fresh) zs ∙ ap (λ n. n + length zs) (length-append xs fresh) in

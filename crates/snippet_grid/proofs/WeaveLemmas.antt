@@ -76,7 +76,9 @@ kept sheet level style link done old now new cell is goes =
     subst (λ t. GoesTo sheet level style link done old t cell) (sym is) goes
 
 -- a link ended, or there was none
-link_ended : (sheet : Stylesheet) (level : LevelInner) (style : Style) (link : Option Url) (done : List Cell) (old now new : List ℕ) (cell : Cell) → link ≢ cell.link → (link ≡ None → new ≡ now) → (link ≢ None → link ≢ cell.link → new ≡ now ++ flat_map piece_text (LinkEnd ∷ [])) → GoesTo sheet level (Some style) link done old now cell → GoesTo sheet level (Some style) None done old new cell
+link_ended : (sheet : Stylesheet) (level : LevelInner) (style : Style) (link : Option Url) (done : List Cell) (old now new : List ℕ) (cell : Cell)
+    → link ≢ cell.link → (link ≡ None → new ≡ now) → (link ≢ None → link ≢ cell.link → new ≡ now ++ flat_map piece_text (LinkEnd ∷ []))
+    → GoesTo sheet level (Some style) link done old now cell → GoesTo sheet level (Some style) None done old new cell
 link_ended sheet level style link done old now new cell differs none ended goes =
     elim (cases_link link None) [
       | inl absent ↦ kept sheet level (Some style) None done old now new cell (none absent) (subst (λ l. GoesTo sheet level (Some style) l done old now cell) absent goes)
@@ -84,7 +86,10 @@ link_ended sheet level style link done old now new cell differs none ended goes 
     ]
 
 -- a style gave way to the next one, or went on
-style_changed : (sheet : Stylesheet) (level : LevelInner) (style next : Style) (link : Option Url) (done : List Cell) (old now new : List ℕ) (cell : Cell) → next ≡ style_of sheet level cell.role → (link ≡ None) ⊎ (link ≡ cell.link) → (style ≡ next → new ≡ now) → (style ≢ next → new ≡ now ++ flat_map piece_text (Reset style ∷ Opening next ∷ [])) → GoesTo sheet level (Some style) link done old now cell → GoesTo sheet level (Some next) link done old new cell
+style_changed : (sheet : Stylesheet) (level : LevelInner) (style next : Style) (link : Option Url) (done : List Cell) (old now new : List ℕ)
+    (cell : Cell) → next ≡ style_of sheet level cell.role → (link ≡ None) ⊎ (link ≡ cell.link) → (style ≡ next → new ≡ now)
+    → (style ≢ next → new ≡ now ++ flat_map piece_text (Reset style ∷ Opening next ∷ [])) → GoesTo sheet level (Some style) link done old now cell
+    → GoesTo sheet level (Some next) link done old new cell
 style_changed sheet level style next link done old now new cell is link_is continues changed goes =
     elim (cases_style style next) [
       | inl same ↦ kept sheet level (Some next) link done old now new cell (continues same) (subst (λ s. GoesTo sheet level (Some s) link done old now cell) same goes)
@@ -92,14 +97,19 @@ style_changed sheet level style next link done old now new cell is link_is conti
     ]
 
 -- the next link began, if there is one
-link_began : (sheet : Stylesheet) (level : LevelInner) (style : Style) (link next : Option Url) (done : List Cell) (old now new : List ℕ) (cell : Cell) → style ≡ style_of sheet level cell.role → cell.link ≡ next → link ≢ next → (next ≡ None → new ≡ now) → ((url : Url) → next ≡ Some url → link ≢ Some url → new ≡ now ++ flat_map piece_text (LinkTo url ∷ [])) → GoesTo sheet level (Some style) None done old now cell → GoesTo sheet level (Some style) next done old new cell
+link_began : (sheet : Stylesheet) (level : LevelInner) (style : Style) (link next : Option Url) (done : List Cell) (old now new : List ℕ)
+    (cell : Cell) → style ≡ style_of sheet level cell.role → cell.link ≡ next → link ≢ next → (next ≡ None → new ≡ now)
+    → ((url : Url) → next ≡ Some url → link ≢ Some url → new ≡ now ++ flat_map piece_text (LinkTo url ∷ []))
+    → GoesTo sheet level (Some style) None done old now cell → GoesTo sheet level (Some style) next done old new cell
 link_began sheet level style link None done old now new cell style_is is differs none begun goes =
     kept sheet level (Some style) None done old now new cell (none refl) goes
 link_began sheet level style link (Some url) done old now new cell style_is is differs none begun goes =
     λ rest more prints. grown sheet level done old now new (LinkTo url ∷ []) rest (cell ∷ more) (begun url refl differs) (goes (LinkTo url ∷ rest) more (refl, is, ap Some style_is, prints))
 
 -- the next character was printed
-char_printed : (sheet : Stylesheet) (level : LevelInner) (style : Style) (done : List Cell) (old now new : List ℕ) (cell : Cell) → style ≡ style_of sheet level cell.role → new ≡ now ++ encode_utf8 cell.ch → GoesTo sheet level (Some style) cell.link done old now cell → Goes sheet level (Some style) cell.link (done ++ cell ∷ []) old new
+char_printed : (sheet : Stylesheet) (level : LevelInner) (style : Style) (done : List Cell) (old now new : List ℕ) (cell : Cell)
+    → style ≡ style_of sheet level cell.role → new ≡ now ++ encode_utf8 cell.ch → GoesTo sheet level (Some style) cell.link done old now cell
+    → Goes sheet level (Some style) cell.link (done ++ cell ∷ []) old new
 char_printed sheet level style done old now new cell is pushed goes =
     λ rest more prints.
     let bytes : new ≡ now ++ flat_map piece_text (Char cell.ch ∷ []) = pushed ∙ ap (λ (t : List ℕ). now ++ t) (sym (append-nil (encode_utf8 cell.ch))) in
@@ -111,7 +121,14 @@ char_printed sheet level style done old now new cell is pushed goes =
     }
 
 -- the codes before a cell were written, and the cell was printed
-pub cell_printed : (sheet : Stylesheet) (level : LevelInner) (style next : Style) (link : Option Url) (done : List Cell) (old now ended changed begun new : List ℕ) (cell : Cell) → next ≡ style_of sheet level cell.role → (link ≡ cell.link → ended ≡ now) → (link ≡ None → ended ≡ now) → (link ≢ None → link ≢ cell.link → ended ≡ now ++ flat_map piece_text (LinkEnd ∷ [])) → (style ≡ next → changed ≡ ended) → (style ≢ next → changed ≡ ended ++ flat_map piece_text (Reset style ∷ Opening next ∷ [])) → (link ≡ cell.link → begun ≡ changed) → (cell.link ≡ None → begun ≡ changed) → ((url : Url) → cell.link ≡ Some url → link ≢ Some url → begun ≡ changed ++ flat_map piece_text (LinkTo url ∷ [])) → new ≡ begun ++ encode_utf8 cell.ch → Goes sheet level (Some style) link done old now → Goes sheet level (Some next) cell.link (done ++ cell ∷ []) old new
+pub cell_printed : (sheet : Stylesheet) (level : LevelInner) (style next : Style) (link : Option Url) (done : List Cell)
+    (old now ended changed begun new : List ℕ) (cell : Cell) → next ≡ style_of sheet level cell.role → (link ≡ cell.link → ended ≡ now)
+    → (link ≡ None → ended ≡ now) → (link ≢ None → link ≢ cell.link → ended ≡ now ++ flat_map piece_text (LinkEnd ∷ []))
+    → (style ≡ next → changed ≡ ended) → (style ≢ next → changed ≡ ended ++ flat_map piece_text (Reset style ∷ Opening next ∷ []))
+    → (link ≡ cell.link → begun ≡ changed) → (cell.link ≡ None → begun ≡ changed)
+    → ((url : Url) → cell.link ≡ Some url → link ≢ Some url → begun ≡ changed ++ flat_map piece_text (LinkTo url ∷ []))
+    → new ≡ begun ++ encode_utf8 cell.ch → Goes sheet level (Some style) link done old now
+    → Goes sheet level (Some next) cell.link (done ++ cell ∷ []) old new
 cell_printed sheet level style next link done old now ended changed begun new cell is continues absent ends style_continues style_changes link_continues link_absent begins pushed goes =
     let before : GoesTo sheet level (Some style) link done old now cell = λ rest more prints. goes rest (cell ∷ more) prints in
     let ready : GoesTo sheet level (Some next) cell.link done old begun cell = elim (cases_link link cell.link) [
@@ -136,13 +153,18 @@ whole sheet level row old now new rest is completes =
     }
 
 -- a row was closed
-pub row_closed : (sheet : Stylesheet) (level : LevelInner) (style : Style) (link : Option Url) (row : List Cell) (old now ended new : List ℕ) → (link ≡ None → ended ≡ now) → (link ≢ None → link ≢ None → ended ≡ now ++ flat_map piece_text (LinkEnd ∷ [])) → new ≡ ended ++ encode_utf8_all (reset style) → Goes sheet level (Some style) link row old now → AddsRow sheet level row old new
+pub row_closed : (sheet : Stylesheet) (level : LevelInner) (style : Style) (link : Option Url) (row : List Cell) (old now ended new : List ℕ)
+    → (link ≡ None → ended ≡ now) → (link ≢ None → link ≢ None → ended ≡ now ++ flat_map piece_text (LinkEnd ∷ []))
+    → new ≡ ended ++ encode_utf8_all (reset style) → Goes sheet level (Some style) link row old now → AddsRow sheet level row old new
 row_closed sheet level style link row old now ended new absent ends closed goes =
     let code : List ℕ = encode_utf8_all (reset style) in
     let close : flat_map piece_text (Reset style ∷ []) ≡ code = append-nil code in
     elim (cases_link link None) [
       | inl none ↦ whole sheet level row old now new (Reset style ∷ []) (closed ∙ ap (λ (t : List ℕ). t ++ code) (absent none) ∙ ap (λ (t : List ℕ). now ++ t) (sym close)) (goes (Reset style ∷ []) [] (refl, none≢some, inl none, (refl, refl, none)))
-      | inr there ↦ whole sheet level row old now new (LinkEnd ∷ Reset style ∷ []) (closed ∙ ap (λ (t : List ℕ). t ++ code) (ends there there) ∙ append_assoc now (flat_map piece_text (LinkEnd ∷ [])) code ∙ ap (λ (t : List ℕ). now ++ (flat_map piece_text (LinkEnd ∷ []) ++ t)) (sym close)) (goes (LinkEnd ∷ Reset style ∷ []) [] (there, there, (λ h. none≢some (sym h)), (refl, none≢some, inl refl, (refl, refl, refl))))
+      | inr there ↦ whole sheet level row old now new (LinkEnd ∷ Reset style ∷ [])
+          (closed ∙ ap (λ (t : List ℕ). t ++ code) (ends there there) ∙ append_assoc now (flat_map piece_text
+          (LinkEnd ∷ [])) code ∙ ap (λ (t : List ℕ). now ++ (flat_map piece_text (LinkEnd ∷ []) ++ t)) (sym close))
+          (goes (LinkEnd ∷ Reset style ∷ []) [] (there, there, (λ h. none≢some (sym h)), (refl, none≢some, inl refl, (refl, refl, refl))))
     ]
 
 -- further rows below further rows

@@ -177,12 +177,17 @@ woven-fed sheet ps plain links woven =
 further_woven : (sheet : Stylesheet) (level : LevelInner) (ps : List Piece) (rows : List (List Cell)) → PrintsFurther sheet level ps rows → AreWoven sheet ps (further_text rows) (links_of rows)
 further_woven sheet level ps [] none = none_woven sheet ps none
 further_woven sheet level ps (row ∷ rows) (first, others, split, prints, below) =
-    subst (λ (qs : List Piece). AreWoven sheet qs (further_text (row ∷ rows)) (links_of (row ∷ rows))) (sym split) (woven-append sheet (Char 10 ∷ first) others (10 ∷ row_text row) (further_text rows) (links_after None row) (links_of rows) (woven-fed sheet first (row_text row) (links_after None row) (row_woven sheet level first row prints)) (further_woven sheet level others rows below))
+    subst (λ (qs : List Piece). AreWoven sheet qs (further_text (row ∷ rows)) (links_of (row ∷ rows))) (sym split)
+    (woven-append sheet (Char 10 ∷ first) others (10 ∷ row_text row) (further_text rows) (links_after None row) (links_of rows)
+    (woven-fed sheet first (row_text row) (links_after None row) (row_woven sheet level first row prints))
+    (further_woven sheet level others rows below))
 
 rows_woven : (sheet : Stylesheet) (level : LevelInner) (ps : List Piece) (rows : List (List Cell)) → PrintsRows sheet level ps rows → AreWoven sheet ps (plain_text rows) (links_of rows)
 rows_woven sheet level ps [] none = none_woven sheet ps none
 rows_woven sheet level ps (row ∷ rows) (first, others, split, prints, below) =
-    subst (λ (qs : List Piece). AreWoven sheet qs (plain_text (row ∷ rows)) (links_of (row ∷ rows))) (sym split) (woven-append sheet first others (row_text row) (further_text rows) (links_after None row) (links_of rows) (row_woven sheet level first row prints) (further_woven sheet level others rows below))
+    subst (λ (qs : List Piece). AreWoven sheet qs (plain_text (row ∷ rows)) (links_of (row ∷ rows))) (sym split)
+    (woven-append sheet first others (row_text row) (further_text rows) (links_after None row) (links_of rows)
+    (row_woven sheet level first row prints) (further_woven sheet level others rows below))
 
 -- a printed grid is a woven text, whose plain text and links are the rows' own
 pub IsWoven-from_prints : (sheet : Stylesheet) (level : LevelInner) (rows : List (List Cell)) (text : List ℕ) → Prints sheet level rows text → IsWoven sheet text (plain_text rows) (links_of rows)

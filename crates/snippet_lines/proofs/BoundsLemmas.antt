@@ -84,7 +84,9 @@ module _ (source : List ℕ) (at start end : ℕ) (around : IsLineAround source 
   unfolding after_it
   closes_with_lf =
       let n : length the_line ≡ end - start = length-the_line in
-      let last : last_byte the_line ≡ get_or source (end - 1) 0 = ap (λ m. get_or the_line (m - 1) 0) n ∙ read (end - start - 1) (omega (arith, around.before, around.after)) ∙ (let e : start + (end - start - 1) ≡ end - 1 = omega (arith, around.before, around.after) in ap (λ m. get_or source m 0) e) in
+      let last : last_byte the_line ≡ get_or source (end - 1) 0 =
+      ap (λ m. get_or the_line (m - 1) 0) n ∙ read (end - start - 1) (omega (arith, around.before, around.after))
+      ∙ (let e : start + (end - start - 1) ≡ end - 1 = omega (arith, around.before, around.after) in ap (λ m. get_or source m 0) e) in
       ⊎_elim (λ lf. inl (last ∙ lf)) (λ all. inr (drop_all end source (omega (arith, all)))) around.closes
 
   some_line : 0 < length the_line
@@ -115,7 +117,19 @@ module _ (source : List ℕ) (at start end : ℕ) (around : IsLineAround source 
       let one : length (lines_of the_line) ≡ 1 = length-one the_line some_line line_is_one in
       let n : length (lines_of before_it ++ lines_of the_line) ≡ length (lines_of before_it) + 1 = omega (arith, length-append (lines_of before_it) (lines_of the_line)) in
       let split : source_lines source ≡ (lines_of before_it ++ lines_of the_line) ++ lines_of after_it = all_lines ∙ sym (append_assoc (lines_of before_it) (lines_of the_line) (lines_of after_it)) in
-      ap (λ ls. length (joined (take (length (lines_of before_it) + 1) ls))) split ∙ ap (λ ls. length (joined ls)) (take_at (lines_of before_it ++ lines_of the_line) (lines_of after_it) (length (lines_of before_it) + 1) n) ∙ ap length (flat_map-append line_bytes (lines_of before_it) (lines_of the_line)) ∙ length-append (joined (lines_of before_it)) (joined (lines_of the_line)) ∙ (let e : length (joined (lines_of before_it)) + length (joined (lines_of the_line)) ≡ end = omega (arith, ap length (joined-lines_of before_it), ap length (joined-lines_of the_line), length-before_it, length-the_line, around.before, around.after) in e)
+      ap (λ ls. length (joined (take (length (lines_of before_it) + 1) ls))) split
+      ∙ ap (λ ls. length (joined ls)) (take_at (lines_of before_it ++ lines_of the_line) (lines_of after_it) (length (lines_of before_it) + 1) n)
+      ∙ ap length (flat_map-append line_bytes (lines_of before_it) (lines_of the_line))
+      ∙ length-append (joined (lines_of before_it)) (joined (lines_of the_line))
+      ∙ (let e : length (joined (lines_of before_it)) + length (joined (lines_of the_line)) ≡ end = omega (
+        arith,
+        ap length (joined-lines_of before_it),
+        ap length (joined-lines_of the_line),
+        length-before_it,
+        length-the_line,
+        around.before,
+        around.after,
+      ) in e)
 
   index_within : index_of_it < length (source_lines source)
   unfolding index_of_it
@@ -141,7 +155,9 @@ module _ (source : List ℕ) (at start end : ℕ) (around : IsLineAround source 
   end-around b from to = sym end_is ∙ ap (λ k. start_of (source_lines source) (k + 1)) (sym (line_of-around b from to))
 
 -- which other bytes are on a byte's line
-pub same_line : (source : List ℕ) (byte start end : ℕ) → start ≡ start_of (source_lines source) (line_of (source_lines source) byte) → end ≡ start_of (source_lines source) (line_of (source_lines source) byte + 1) → (b : ℕ) → (line_of (source_lines source) b ≡ line_of (source_lines source) byte) ↔ ((start ≤ b) × ((b < end) ⊎ (end ≡ length source)))
+pub same_line : (source : List ℕ) (byte start end : ℕ) → start ≡ start_of (source_lines source) (line_of (source_lines source) byte)
+    → end ≡ start_of (source_lines source) (line_of (source_lines source) byte + 1) → (b : ℕ)
+    → (line_of (source_lines source) b ≡ line_of (source_lines source) byte) ↔ ((start ≤ b) × ((b < end) ⊎ (end ≡ length source)))
 same_line source byte start end start_is end_is b =
     let ls : List Line = source_lines source in
     let k : ℕ = line_of ls byte in
@@ -164,7 +180,12 @@ start_of-empty source k none =
     omega (arith, start_of-le ls k (k + length ls) (omega arith), start_of-end ls (k + length ls) (omega arith), ap length (joined-source_lines source))
 
 -- the bounds that are found around the byte `at`, which is `byte` or the last one, are those of the line that holds `byte`
-pub bounds-around : (source : List ℕ) (byte at start end : ℕ) → at ≡ min byte (length source - 1) → start ≤ at → (0 < start → get_or source (start - 1) 0 ≡ 10) → ((j : ℕ) → start ≤ j → j < at → get_or source j 0 ≢ 10) → end ≤ length source → (at < length source → at < end) → (get_or source (end - 1) 0 ≡ 10) ⊎ (end ≡ length source) → ((j : ℕ) → at ≤ j → j + 1 < end → get_or source j 0 ≢ 10) → (start ≡ start_of (source_lines source) (line_of (source_lines source) byte)) × (end ≡ start_of (source_lines source) (line_of (source_lines source) byte + 1))
+pub bounds-around : (source : List ℕ) (byte at start end : ℕ) → at ≡ min byte (length source - 1) → start ≤ at
+    → (0 < start → get_or source (start - 1) 0 ≡ 10) → ((j : ℕ) → start ≤ j → j < at → get_or source j 0 ≢ 10) → end ≤ length source
+    → (at < length source → at < end) → (get_or source (end - 1) 0 ≡ 10) ⊎ (end ≡ length source)
+    → ((j : ℕ) → at ≤ j → j + 1 < end → get_or source j 0 ≢ 10)
+    → (start ≡ start_of (source_lines source) (line_of (source_lines source) byte))
+    × (end ≡ start_of (source_lines source) (line_of (source_lines source) byte + 1))
 bounds-around source byte at start end at_is before opens none_before within after closes none_after =
     let ls : List Line = source_lines source in
     ⊎_elim (λ some.
@@ -198,7 +219,9 @@ line_bytes-slice source k within =
     let ls : List Line = source_lines source in
     let l : Line = get_or ls k ([], Eof) in
     let n : length (line_bytes l) ≡ start_of ls (k + 1) - start_of ls k = omega (arith, start_of-next ls k ([], Eof) within) in
-    ap (λ s. take (start_of ls (k + 1) - start_of ls k) (drop (start_of ls k) s)) (sym (joined-source_lines source)) ∙ ap (take (start_of ls (k + 1) - start_of ls k)) (drop_lines ls k ∙ ap joined (drop_more ls k ([], Eof) within)) ∙ take_at (line_bytes l) (joined (drop (k + 1) ls)) (start_of ls (k + 1) - start_of ls k) n
+    ap (λ s. take (start_of ls (k + 1) - start_of ls k) (drop (start_of ls k) s)) (sym (joined-source_lines source))
+    ∙ ap (take (start_of ls (k + 1) - start_of ls k)) (drop_lines ls k ∙ ap joined (drop_more ls k ([], Eof) within))
+    ∙ take_at (line_bytes l) (joined (drop (k + 1) ls)) (start_of ls (k + 1) - start_of ls k) n
 
 IsUtf8-from_line : (ls : List Line) (k : ℕ) → AreLines ls → IsUtf8 (joined ls) → IsUtf8 (joined (drop k ls))
 IsUtf8-from_line ls zero lines utf8 = utf8

@@ -11,7 +11,9 @@ bool_byte-cond true = refl
 bool_byte-cond false = refl
 
 -- the line feeds of a front, less one that ends it
-pub newline_count-cut : (text bytes : List ℕ) (end cut count : ℕ) (ended : Bool) (one rest : ℕ) → bytes ≡ text → cut ≡ min end (length bytes) → count ≡ count_by is_lf (take cut bytes) → ended ≡ (last_byte (take cut bytes) == 10) → one ≡ bool_byte ended → rest ≡ count - one → rest ≡ newline_count (take end text)
+pub newline_count-cut : (text bytes : List ℕ) (end cut count : ℕ) (ended : Bool) (one rest : ℕ) → bytes ≡ text → cut ≡ min end (length bytes)
+    → count ≡ count_by is_lf (take cut bytes) → ended ≡ (last_byte (take cut bytes) == 10) → one ≡ bool_byte ended → rest ≡ count - one
+    → rest ≡ newline_count (take end text)
 unfolding newline_count
 newline_count-cut text bytes end cut count ended one rest same at counted last is less =
     let front : take cut bytes ≡ take end text = ap (λ n. take n bytes) at ∙ ap (λ (bs : List ℕ). take (min end (length bs)) bs) same ∙ take_min end text in

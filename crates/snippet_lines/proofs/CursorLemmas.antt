@@ -80,7 +80,9 @@ count_by-none p (x ∷ xs) none =
     counted p x xs (false_from_ne_true (p x) (none 0 (omega arith))) ∙ count_by-none p xs (λ k l. none (suc k) (omega arith))
 
 -- a text without the LF that closes it, if one does, has as many LF as `newline_count` says, and is no longer
-pub count_by-stripped : (text : Bor (List ℕ)) (stripped : Option (Bor (List ℕ))) → MatchOption stripped ((front : List ℕ) → text.now ≢ front ++ 10 ∷ []) (λ x. text.now ≡ x.now ++ 10 ∷ []) → (count_by is_lf (unwrap_or stripped text).now ≡ newline_count text.now) × (length (unwrap_or stripped text).now ≤ length text.now)
+pub count_by-stripped : (text : Bor (List ℕ)) (stripped : Option (Bor (List ℕ)))
+    → MatchOption stripped ((front : List ℕ) → text.now ≢ front ++ 10 ∷ []) (λ x. text.now ≡ x.now ++ 10 ∷ [])
+    → (count_by is_lf (unwrap_or stripped text).now ≡ newline_count text.now) × (length (unwrap_or stripped text).now ≤ length text.now)
 count_by-stripped text None open_end = (sym (newline_count-open text.now open_end), le_refl (length text.now))
 count_by-stripped text (Some x) closed =
     (sym (newline_count-closed text.now x.now closed), omega (arith, ap length closed, length-append x.now (10 ∷ [])))

@@ -98,7 +98,10 @@ text_at-end source k within =
     omega (arith, text_at-within ls k within, start_of-le ls (k + 1) (k + 1 + length ls) (omega arith), start_of-end ls (k + 1 + length ls) (omega arith), ap length (joined-source_lines source))
 
 -- what stands before a byte on its line ends where a character does, if a span may start or end at the byte
-pub IsCharBoundary-prefix : (source : List ℕ) (b : ℕ) → IsSpanBorder source b → IsCharBoundary (text_at (source_lines source) (line_of (source_lines source) b)) (min (b - start_of (source_lines source) (line_of (source_lines source) b)) (length (text_at (source_lines source) (line_of (source_lines source) b))))
+pub IsCharBoundary-prefix : (source : List ℕ) (b : ℕ) → IsSpanBorder source b
+    → IsCharBoundary (text_at (source_lines source) (line_of (source_lines source) b))
+    (min (b - start_of (source_lines source) (line_of (source_lines source) b))
+    (length (text_at (source_lines source) (line_of (source_lines source) b))))
 IsCharBoundary-prefix source b border =
     let ls : List Line = source_lines source in
     let k : ℕ = line_of ls b in

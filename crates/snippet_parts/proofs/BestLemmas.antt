@@ -22,7 +22,9 @@ BestOf source marks k p None = All (λ a. IsMarkedAt source k p a → ⊥) marks
 BestOf source marks k p (Some best) = IsBest source marks k p best
 
 -- the span that is best stays so, where one more span is at least as wide, and wider if it alone is primary
-pub best-kept : (source : List ℕ) (marks : List Annotation) (k p : ℕ) (a : Annotation) (best : Mark) → (IsMarkedAt source k p a → best.width ≤ span_width source a) → (IsMarkedAt source k p a → a.kind ≡ Primary → best.width < span_width source a) → IsBest source marks k p best → IsBest source (marks ++ a ∷ []) k p best
+pub best-kept : (source : List ℕ) (marks : List Annotation) (k p : ℕ) (a : Annotation) (best : Mark)
+    → (IsMarkedAt source k p a → best.width ≤ span_width source a) → (IsMarkedAt source k p a → a.kind ≡ Primary → best.width < span_width source a)
+    → IsBest source marks k p best → IsBest source (marks ++ a ∷ []) k p best
 best-kept source marks k p a best wide wider before =
     let m = before.mark in
     record {
@@ -32,7 +34,9 @@ best-kept source marks k p a best wide wider before =
         covers = m.covers;
         is = m.is;
         least = λ other found at. ⊎_elim (λ old. m.least other old at) (λ same. subst (λ (o : Annotation). IsMarkedAt source k p o → span_width source m.span ≤ span_width source o) same (λ now. omega (arith, before.width, wide now)) at) (Contains-push_cases marks a other found);
-        primary_wins = λ context other found at primary. ⊎_elim (λ old. m.primary_wins context other old at primary) (λ same. subst (λ (o : Annotation). IsMarkedAt source k p o → o.kind ≡ Primary → span_width source m.span < span_width source o) same (λ now is. omega (arith, before.width, wider now is)) at primary) (Contains-push_cases marks a other found);
+        primary_wins = λ context other found at primary. ⊎_elim (λ old. m.primary_wins context other old at primary)
+            (λ same. subst (λ (o : Annotation). IsMarkedAt source k p o → o.kind ≡ Primary → span_width source m.span < span_width source o)
+            same (λ now is. omega (arith, before.width, wider now is)) at primary) (Contains-push_cases marks a other found);
       };
       width = before.width;
     }
@@ -43,7 +47,10 @@ best-unmarked source marks k p a None off before = All-push (λ a. IsMarkedAt so
 best-unmarked source marks k p a (Some best) off before = best-kept source marks k p a best (λ at. absurd (off at)) (λ at. absurd (off at)) before
 
 -- one more span is the best, where each one before it is at least as wide, and wider if that one alone is primary
-best-new : (source : List ℕ) (marks : List Annotation) (k p : ℕ) (a : Annotation) (new : Mark) → IsMarkedAt source k p a → new.width ≡ span_width source a → new.kind ≡ a.kind → ((other : Annotation) → Contains marks other → IsMarkedAt source k p other → new.width ≤ span_width source other) → (new.kind ≡ Context → (other : Annotation) → Contains marks other → IsMarkedAt source k p other → other.kind ≡ Primary → new.width < span_width source other) → IsBest source (marks ++ a ∷ []) k p new
+best-new : (source : List ℕ) (marks : List Annotation) (k p : ℕ) (a : Annotation) (new : Mark) → IsMarkedAt source k p a
+    → new.width ≡ span_width source a → new.kind ≡ a.kind
+    → ((other : Annotation) → Contains marks other → IsMarkedAt source k p other → new.width ≤ span_width source other)
+    → (new.kind ≡ Context → (other : Annotation) → Contains marks other → IsMarkedAt source k p other → other.kind ≡ Primary → new.width < span_width source other) → IsBest source (marks ++ a ∷ []) k p new
 best-new source marks k p a new at width kind least wins = record {
   mark = record {
     span = a;
@@ -66,7 +73,9 @@ best-first source marks k p a new at width kind none =
     best-new source marks k p a new at width kind (λ other found there. absurd (not other found there)) (λ _ other found there _. absurd (not other found there))
 
 -- a span that is narrower than the best before it, or primary and as wide
-pub best-narrower : (source : List ℕ) (marks : List Annotation) (k p : ℕ) (a : Annotation) (new best : Mark) → IsMarkedAt source k p a → new.width ≡ span_width source a → new.kind ≡ a.kind → new.width ≤ best.width → (new.kind ≡ Context → new.width < best.width) → IsBest source marks k p best → IsBest source (marks ++ a ∷ []) k p new
+pub best-narrower : (source : List ℕ) (marks : List Annotation) (k p : ℕ) (a : Annotation) (new best : Mark) → IsMarkedAt source k p a
+    → new.width ≡ span_width source a → new.kind ≡ a.kind → new.width ≤ best.width → (new.kind ≡ Context → new.width < best.width)
+    → IsBest source marks k p best → IsBest source (marks ++ a ∷ []) k p new
 best-narrower source marks k p a new best at width kind narrow narrower before =
     best-new source marks k p a new at width kind (λ other found there. omega (arith, narrow, before.width, before.mark.least other found there)) (λ context other found there _. omega (arith, narrower context, before.width, before.mark.least other found there))
 
@@ -76,12 +85,16 @@ best-turn source marks i k p a best within is now =
     subst (λ marks. BestOf source marks k p best) (sym (take_more marks i a within ∙ ap (λ a. take i marks ++ a ∷ []) (sym is))) now
 
 -- what is answered of all spans: the kind of the best one
-pub answer-mark : (s : Source) (marks : List Annotation) (i line p : ℕ) (best : Option Mark) (result : Option AnnotationKind) → length marks ≤ i → result ≡ option_map (λ (m : Mark). m.kind) best → ((k : ℕ) → line ≡ s.first + k → BestOf s.text (take i marks) k p best) → IfSome result (λ kind. (k : ℕ) → line ≡ s.first + k → IsMarkOf s.text marks k p kind)
+pub answer-mark : (s : Source) (marks : List Annotation) (i line p : ℕ) (best : Option Mark) (result : Option AnnotationKind) → length marks ≤ i
+    → result ≡ option_map (λ (m : Mark). m.kind) best → ((k : ℕ) → line ≡ s.first + k → BestOf s.text (take i marks) k p best)
+    → IfSome result (λ kind. (k : ℕ) → line ≡ s.first + k → IsMarkOf s.text marks k p kind)
 answer-mark s marks i line p None result all is bests = rw is tt
 answer-mark s marks i line p (Some best) result all is bests =
     rw is (λ k here. subst (λ marks. IsMarkOf s.text marks k p best.kind) (take_all i marks all) (bests k here).mark)
 
-pub answer-none : (s : Source) (marks : List Annotation) (i line p : ℕ) (best : Option Mark) (result : Option AnnotationKind) → length marks ≤ i → result ≡ option_map (λ (m : Mark). m.kind) best → ((k : ℕ) → line ≡ s.first + k → BestOf s.text (take i marks) k p best) → IfNone result ((k : ℕ) → line ≡ s.first + k → All (λ a. IsMarkedAt s.text k p a → ⊥) marks)
+pub answer-none : (s : Source) (marks : List Annotation) (i line p : ℕ) (best : Option Mark) (result : Option AnnotationKind) → length marks ≤ i
+    → result ≡ option_map (λ (m : Mark). m.kind) best → ((k : ℕ) → line ≡ s.first + k → BestOf s.text (take i marks) k p best)
+    → IfNone result ((k : ℕ) → line ≡ s.first + k → All (λ a. IsMarkedAt s.text k p a → ⊥) marks)
 answer-none s marks i line p None result all is bests =
     rw is (λ k here. subst (λ marks. All (λ a. IsMarkedAt s.text k p a → ⊥) marks) (take_all i marks all) (bests k here))
 answer-none s marks i line p (Some best) result all is bests = rw is tt

@@ -47,14 +47,21 @@ filter-upto p u from (suc n) m same within is =
     some m e = ap (range_with_len from) e
 
 -- the bars of a span: up to the last line of its beginning, and the one before its last line
-pub bars-are : (source : List ℕ) (first last u m : ℕ) (closing : Bool) → first ≤ u → u ≤ min (first + 4) last → ((k : ℕ) → first < k → leb k u ≡ list_any (λ j. not (is_trivial_line source j)) (range_with_len k (min (first + 4) last - k))) → closing ≡ (ltb (min (first + 4) last) (last - 1) && not (is_trivial_line source (last - 1))) → m ≡ u - first → range_with_len (first + 1) m ++ cond closing ((last - 1) ∷ []) [] ≡ bar_lines source first last
+pub bars-are : (source : List ℕ) (first last u m : ℕ) (closing : Bool) → first ≤ u → u ≤ min (first + 4) last
+    → ((k : ℕ) → first < k → leb k u ≡ list_any (λ j. not (is_trivial_line source j)) (range_with_len k (min (first + 4) last - k)))
+    → closing ≡ (ltb (min (first + 4) last) (last - 1) && not (is_trivial_line source (last - 1))) → m ≡ u - first
+    → range_with_len (first + 1) m ++ cond closing ((last - 1) ∷ []) [] ≡ bar_lines source first last
 bars-are source first last u m closing from to bars is count =
     ap (λ b. range_with_len (first + 1) m ++ cond b ((last - 1) ∷ []) []) is
-    ∙ ap (λ xs. xs ++ cond (ltb (min (first + 4) last) (last - 1) && not (is_trivial_line source (last - 1))) ((last - 1) ∷ []) []) (sym (filter-upto (λ k. list_any (λ j. not (is_trivial_line source j)) (range_with_len k (min (first + 4) last - k))) u (first + 1) (min (first + 4) last - first) m (λ k le. bars k (omega arith)) (omega arith) (omega arith)))
+    ∙ ap (λ xs. xs ++ cond (ltb (min (first + 4) last) (last - 1) && not (is_trivial_line source (last - 1))) ((last - 1) ∷ []) [])
+    (sym (filter-upto (λ k. list_any (λ j. not (is_trivial_line source j)) (range_with_len k (min (first + 4) last - k))) u (first + 1)
+    (min (first + 4) last - first) m (λ k le. bars k (omega arith)) (omega arith) (omega arith)))
 
 -- ---- bars that are pushed
 
-pub bars-more : (f : ℕ → PartEntry) (old now new : List LineAnnotation) (e : LineAnnotation) (a line : ℕ) → a ≤ line → new ≡ now ++ e ∷ [] → seen_part e ≡ f line → map seen_part now ≡ map seen_part old ++ map f (range_with_len a (line - a)) → map seen_part new ≡ map seen_part old ++ map f (range_with_len a ((line + 1) - a))
+pub bars-more : (f : ℕ → PartEntry) (old now new : List LineAnnotation) (e : LineAnnotation) (a line : ℕ) → a ≤ line → new ≡ now ++ e ∷ []
+    → seen_part e ≡ f line → map seen_part now ≡ map seen_part old ++ map f (range_with_len a (line - a))
+    → map seen_part new ≡ map seen_part old ++ map f (range_with_len a ((line + 1) - a))
 bars-more f old now new e a line le pushed is before =
     let count : (line + 1) - a ≡ (line - a) + 1 = omega arith in
     ap (map seen_part) pushed ∙ map_push seen_part now e ∙ ap (λ ps. ps ++ seen_part e ∷ []) before ∙ ap (λ p. (map seen_part old ++ map f (range_with_len a (line - a))) ++ p ∷ []) is
@@ -63,7 +70,12 @@ bars-more f old now new e a line le pushed is before =
     ∙ ap (λ n. map seen_part old ++ map f (range_with_len a n)) (sym count)
 
 -- all bars, with the one before the last line
-pub bars-closed : (f : ℕ → PartEntry) (old now new : List LineAnnotation) (e : LineAnnotation) (source : List ℕ) (first last u a n : ℕ) (closing : Bool) → closing ≡ true → new ≡ now ++ e ∷ [] → seen_part e ≡ f (last - 1) → map seen_part now ≡ map seen_part old ++ map f (range_with_len a n) → a ≡ first + 1 → n ≡ u - first → first ≤ u → u ≤ min (first + 4) last → ((k : ℕ) → first < k → leb k u ≡ list_any (λ j. not (is_trivial_line source j)) (range_with_len k (min (first + 4) last - k))) → closing ≡ (ltb (min (first + 4) last) (last - 1) && not (is_trivial_line source (last - 1))) → map seen_part new ≡ map seen_part old ++ map f (bar_lines source first last)
+pub bars-closed : (f : ℕ → PartEntry) (old now new : List LineAnnotation) (e : LineAnnotation) (source : List ℕ) (first last u a n : ℕ)
+    (closing : Bool) → closing ≡ true → new ≡ now ++ e ∷ [] → seen_part e ≡ f (last - 1)
+    → map seen_part now ≡ map seen_part old ++ map f (range_with_len a n) → a ≡ first + 1 → n ≡ u - first → first ≤ u → u ≤ min (first + 4) last
+    → ((k : ℕ) → first < k → leb k u ≡ list_any (λ j. not (is_trivial_line source j)) (range_with_len k (min (first + 4) last - k)))
+    → closing ≡ (ltb (min (first + 4) last) (last - 1) && not (is_trivial_line source (last - 1)))
+    → map seen_part new ≡ map seen_part old ++ map f (bar_lines source first last)
 bars-closed f old now new e source first last u a n closing there pushed is before at count from to bars close =
     let all : range_with_len (first + 1) n ++ cond closing ((last - 1) ∷ []) [] ≡ bar_lines source first last = bars-are source first last u n closing from to bars close count in
     ap (map seen_part) pushed ∙ map_push seen_part now e ∙ ap (λ ps. ps ++ seen_part e ∷ []) before ∙ ap (λ p. (map seen_part old ++ map f (range_with_len a n)) ++ p ∷ []) is
@@ -71,7 +83,11 @@ bars-closed f old now new e source first last u a n closing there pushed is befo
     ∙ ap (λ ps. map seen_part old ++ ps) (ap (λ x. map f (range_with_len x n) ++ f (last - 1) ∷ []) at ∙ sym (map-append f (range_with_len (first + 1) n) ((last - 1) ∷ [])) ∙ ap (λ b. map f (range_with_len (first + 1) n ++ cond b ((last - 1) ∷ []) [])) (sym there) ∙ ap (map f) all)
 
 -- all bars, without it
-pub bars-open : (f : ℕ → PartEntry) (old now : List LineAnnotation) (source : List ℕ) (first last u a n : ℕ) (closing : Bool) → closing ≡ false → map seen_part now ≡ map seen_part old ++ map f (range_with_len a n) → a ≡ first + 1 → n ≡ u - first → first ≤ u → u ≤ min (first + 4) last → ((k : ℕ) → first < k → leb k u ≡ list_any (λ j. not (is_trivial_line source j)) (range_with_len k (min (first + 4) last - k))) → closing ≡ (ltb (min (first + 4) last) (last - 1) && not (is_trivial_line source (last - 1))) → map seen_part now ≡ map seen_part old ++ map f (bar_lines source first last)
+pub bars-open : (f : ℕ → PartEntry) (old now : List LineAnnotation) (source : List ℕ) (first last u a n : ℕ) (closing : Bool) → closing ≡ false
+    → map seen_part now ≡ map seen_part old ++ map f (range_with_len a n) → a ≡ first + 1 → n ≡ u - first → first ≤ u → u ≤ min (first + 4) last
+    → ((k : ℕ) → first < k → leb k u ≡ list_any (λ j. not (is_trivial_line source j)) (range_with_len k (min (first + 4) last - k)))
+    → closing ≡ (ltb (min (first + 4) last) (last - 1) && not (is_trivial_line source (last - 1)))
+    → map seen_part now ≡ map seen_part old ++ map f (bar_lines source first last)
 bars-open f old now source first last u a n closing none before at count from to bars close =
     let all : range_with_len (first + 1) n ++ cond closing ((last - 1) ∷ []) [] ≡ bar_lines source first last = bars-are source first last u n closing from to bars close count in
     before ∙ ap (λ ps. map seen_part old ++ ps) (ap (λ x. map f (range_with_len x n)) at ∙ ap (map f) (sym (append-nil (range_with_len (first + 1) n)) ∙ ap (λ b. range_with_len (first + 1) n ++ cond b ((last - 1) ∷ []) []) (sym none) ∙ all))
@@ -83,21 +99,47 @@ same-bars f old source first last first' last' a b = ap (λ x. old ++ map f (bar
 -- a span as it is drawn fits as it did
 pub fit-same : (s : Source) (l d : LongSpan) → d.start ≡ l.start → d.end ≡ l.end → HasFit s l → HasFit s d
 fit-same s l d start end fit =
-    record { display = omega (arith, ap (λ (x : Loc). x.display) start, fit.display); end_display = omega (arith, ap (λ (x : Loc). x.display) end, fit.end_display); char = omega (arith, ap (λ (x : Loc). x.char) start, fit.char); lines = omega (arith, ap (λ (x : Loc). x.line) start, ap (λ (x : Loc). x.line) end, fit.lines); from = omega (arith, ap (λ (x : Loc). x.line) start, fit.from); within = omega (arith, ap (λ (x : Loc). x.line) end, fit.within) }
+    record {
+      display = omega (arith, ap (λ (x : Loc). x.display) start, fit.display);
+      end_display =
+          omega (arith, ap (λ (x : Loc). x.display) end, fit.end_display);
+      char = omega (arith, ap (λ (x : Loc). x.char) start, fit.char);
+      lines =
+          omega (arith, ap (λ (x : Loc). x.line) start, ap (λ (x : Loc). x.line) end, fit.lines);
+      from =
+          omega (arith, ap (λ (x : Loc). x.line) start, fit.from);
+      within = omega (arith, ap (λ (x : Loc). x.line) end, fit.within);
+    }
 
 -- ---- the entries of all spans of several lines
 
 -- a span as it is drawn
-pub promoted-primary : (before : List LongSpan) (l : LongSpan) (b : Bool) → b ≡ (is_primary l.kind || list_any (λ (o : LongSpan). is_primary o.kind && same_place (long_place (seen_long l)) (long_place (seen_long o))) before) → b ≡ true → record (seen_long l) { kind = Primary } ≡ promoted (map seen_long before) (seen_long l)
+pub promoted-primary : (before : List LongSpan) (l : LongSpan) (b : Bool)
+    → b ≡ (is_primary l.kind || list_any (λ (o : LongSpan). is_primary o.kind && same_place (long_place (seen_long l))
+    (long_place (seen_long o))) before) → b ≡ true → record (seen_long l) { kind = Primary } ≡ promoted (map seen_long before) (seen_long l)
 promoted-primary before l b is there =
-    sym (cond-true (is_promoted (map seen_long before) (seen_long l)) (record (seen_long l) { kind = Primary }) (seen_long l) (ap (λ c. is_primary l.kind || c) (list_any-map (λ (d : Entry). is_primary d.kind && same_place (long_place (seen_long l)) (long_place d)) seen_long before) ∙ sym is ∙ there))
+    sym (cond-true (is_promoted (map seen_long before) (seen_long l)) (record (seen_long l)
+    { kind = Primary }) (seen_long l)
+    (ap (λ c. is_primary l.kind ||
+    c) (list_any-map (λ (d : Entry). is_primary d.kind && same_place (long_place (seen_long l)) (long_place d)) seen_long before) ∙ sym is
+    ∙ there))
 
 pub promoted-plain : (before : List LongSpan) (l : LongSpan) (b : Bool) → b ≡ (is_primary l.kind || list_any (λ (o : LongSpan). is_primary o.kind && same_place (long_place (seen_long l)) (long_place (seen_long o))) before) → b ≡ false → seen_long l ≡ promoted (map seen_long before) (seen_long l)
 promoted-plain before l b is none =
-    sym (cond-false (is_promoted (map seen_long before) (seen_long l)) (record (seen_long l) { kind = Primary }) (seen_long l) (ap (λ c. is_primary l.kind || c) (list_any-map (λ (d : Entry). is_primary d.kind && same_place (long_place (seen_long l)) (long_place d)) seen_long before) ∙ sym is ∙ none))
+    sym (cond-false (is_promoted (map seen_long before) (seen_long l)) (record (seen_long l)
+    { kind = Primary }) (seen_long l)
+    (ap (λ c. is_primary l.kind ||
+    c) (list_any-map (λ (d : Entry). is_primary d.kind && same_place (long_place (seen_long l)) (long_place d)) seen_long before) ∙ sym is
+    ∙ none))
 
 -- one more span of several lines
-pub parts-more : (s : Source) (places : List LongExtent) (spans : List LongSpan) (i : ℕ) (x : LongSpan) (now new all : List PartEntry) (depth : ℕ) (again : Bool) (e : Entry) → i < length spans → x ≡ get_or spans i x → new ≡ now ++ span_parts s depth again e → depth ≡ depth_among places (long_place (seen_long x)) → again ≡ list_any (λ (o : LongSpan). same_place (long_place (seen_long x)) (long_place (seen_long o))) (drop (i + 1) spans) → e ≡ promoted (map seen_long (take i spans)) (seen_long x) → now ++ long_parts s places (take i (map seen_long spans)) (drop i (map seen_long spans)) ≡ all → new ++ long_parts s places (take (i + 1) (map seen_long spans)) (drop (i + 1) (map seen_long spans)) ≡ all
+pub parts-more : (s : Source) (places : List LongExtent) (spans : List LongSpan) (i : ℕ) (x : LongSpan) (now new all : List PartEntry) (depth : ℕ)
+    (again : Bool) (e : Entry) → i < length spans → x ≡ get_or spans i x → new ≡ now ++ span_parts s depth again e
+    → depth ≡ depth_among places (long_place (seen_long x))
+    → again ≡ list_any (λ (o : LongSpan). same_place (long_place (seen_long x)) (long_place (seen_long o))) (drop (i + 1) spans)
+    → e ≡ promoted (map seen_long (take i spans)) (seen_long x)
+    → now ++ long_parts s places (take i (map seen_long spans)) (drop i (map seen_long spans)) ≡ all
+    → new ++ long_parts s places (take (i + 1) (map seen_long spans)) (drop (i + 1) (map seen_long spans)) ≡ all
 parts-more s places spans i x now new all depth again e within is pushed deep among draw before =
     let later : List Entry = map seen_long (drop (i + 1) spans) in
     let earlier : List Entry = map seen_long (take i spans) in
@@ -105,7 +147,11 @@ parts-more s places spans i x now new all depth again e within is pushed deep am
     let e2 : drop (i + 1) (map seen_long spans) ≡ later = drop-map seen_long (i + 1) spans in
     let e3 : take i (map seen_long spans) ≡ earlier = take-map seen_long i spans in
     let e4 : take (i + 1) (map seen_long spans) ≡ earlier ++ seen_long x ∷ [] = take-map seen_long (i + 1) spans ∙ map_more seen_long spans i x within ∙ ap (λ y. earlier ++ seen_long y ∷ []) (sym is) in
-    let same : span_parts s depth again e ≡ span_parts s (depth_among places (long_place (seen_long x))) (stands_among (seen_long x) later) (promoted earlier (seen_long x)) = ap (λ n. span_parts s n again e) deep ∙ ap (λ b. span_parts s (depth_among places (long_place (seen_long x))) b e) (among ∙ sym (list_any-map (λ (d : Entry). same_place (long_place (seen_long x)) (long_place d)) seen_long (drop (i + 1) spans))) ∙ ap (λ d. span_parts s (depth_among places (long_place (seen_long x))) (stands_among (seen_long x) later) d) draw in
+    let same : span_parts s depth again e ≡ span_parts s (depth_among places (long_place (seen_long x))) (stands_among (seen_long x) later)
+    (promoted earlier (seen_long x)) = ap (λ n. span_parts s n again e) deep
+    ∙ ap (λ b. span_parts s (depth_among places (long_place (seen_long x))) b e)
+    (among ∙ sym (list_any-map (λ (d : Entry). same_place (long_place (seen_long x)) (long_place d)) seen_long (drop (i + 1) spans)))
+    ∙ ap (λ d. span_parts s (depth_among places (long_place (seen_long x))) (stands_among (seen_long x) later) d) draw in
     ap (λ ps. ps ++ long_parts s places (take (i + 1) (map seen_long spans)) (drop (i + 1) (map seen_long spans))) (pushed ∙ ap (λ ps. now ++ ps) same)
     ∙ ap (λ es. (now ++ span_parts s (depth_among places (long_place (seen_long x))) (stands_among (seen_long x) later) (promoted earlier (seen_long x))) ++ long_parts s places es (drop (i + 1) (map seen_long spans))) e4
     ∙ ap (λ es. (now ++ span_parts s (depth_among places (long_place (seen_long x))) (stands_among (seen_long x) later) (promoted earlier (seen_long x))) ++ long_parts s places (earlier ++ seen_long x ∷ []) es) e2
@@ -117,7 +163,9 @@ parts-more s places spans i x now new all depth again e within is pushed deep am
 pub places-are : (places : List LongExtent) (spans : List LongSpan) → places ≡ map (λ (l : LongSpan). long_place (seen_long l)) spans → places ≡ map long_place (map seen_long spans)
 places-are places spans is = is ∙ sym (map-map long_place seen_long spans)
 
-pub depths-of : (places : List LongExtent) (spans : List LongSpan) (depths : List ℕ) → places ≡ map (λ (l : LongSpan). long_place (seen_long l)) spans → depths ≡ map (depth_among places) places → depths ≡ map (λ (l : LongSpan). depth_among (map long_place (map seen_long spans)) (long_place (seen_long l))) spans
+pub depths-of : (places : List LongExtent) (spans : List LongSpan) (depths : List ℕ) → places ≡ map (λ (l : LongSpan). long_place (seen_long l)) spans
+    → depths ≡ map (depth_among places) places
+    → depths ≡ map (λ (l : LongSpan). depth_among (map long_place (map seen_long spans)) (long_place (seen_long l))) spans
 depths-of places spans depths is value =
     value ∙ ap (map (depth_among places)) is ∙ map-map (depth_among places) (λ (l : LongSpan). long_place (seen_long l)) spans ∙ ap (λ ps. map (λ (l : LongSpan). depth_among ps (long_place (seen_long l))) spans) (places-are places spans is)
 
@@ -152,7 +200,9 @@ any-filtered q p implied (x ∷ xs) =
 same-line : (x o : LongSpan) → same_place (long_place (seen_long x)) (long_place (seen_long o)) ≡ true → eqb o.start.line x.start.line ≡ true
 same-line x o same = eq-eqb o.start.line x.start.line (sym (ap (λ (p : LongExtent). p.first) (same-true (long_place (seen_long x)) (long_place (seen_long o)) same)))
 
-pub place-near : (x : LongSpan) (others near : List LongSpan) (b : Bool) → near ≡ filter (λ (o : LongSpan). eqb o.start.line x.start.line) others → b ≡ list_any (λ (o : LongSpan). same_place (long_place (seen_long x)) (long_place (seen_long o))) near → b ≡ list_any (λ (o : LongSpan). same_place (long_place (seen_long x)) (long_place (seen_long o))) others
+pub place-near : (x : LongSpan) (others near : List LongSpan) (b : Bool) → near ≡ filter (λ (o : LongSpan). eqb o.start.line x.start.line) others
+    → b ≡ list_any (λ (o : LongSpan). same_place (long_place (seen_long x)) (long_place (seen_long o))) near
+    → b ≡ list_any (λ (o : LongSpan). same_place (long_place (seen_long x)) (long_place (seen_long o))) others
 place-near x others near b is found =
     found ∙ ap (list_any (λ (o : LongSpan). same_place (long_place (seen_long x)) (long_place (seen_long o)))) is ∙ any-filtered (λ (o : LongSpan). same_place (long_place (seen_long x)) (long_place (seen_long o))) (λ (o : LongSpan). eqb o.start.line x.start.line) (same-line x) others
 
@@ -161,7 +211,14 @@ kind-other Primary other = absurd (other refl)
 kind-other Context other = refl
 kind-other Visible other = refl
 
-pub primary-near : (x : LongSpan) (others near : List LongSpan) (b : Bool) → near ≡ filter (λ (o : LongSpan). eqb o.start.line x.start.line) others → b ≡ list_any (λ (o : LongSpan). is_primary o.kind && same_place (long_place (seen_long x)) (long_place (seen_long o))) near → (x.kind ≡ Primary → ⊥) → b ≡ (is_primary x.kind || list_any (λ (o : LongSpan). is_primary o.kind && same_place (long_place (seen_long x)) (long_place (seen_long o))) others)
+pub primary-near : (x : LongSpan) (others near : List LongSpan) (b : Bool) → near ≡ filter (λ (o : LongSpan). eqb o.start.line x.start.line) others
+    → b ≡ list_any (λ (o : LongSpan). is_primary o.kind && same_place (long_place (seen_long x)) (long_place (seen_long o))) near
+    → (x.kind ≡ Primary → ⊥)
+    → b ≡ (is_primary x.kind || list_any (λ (o : LongSpan). is_primary o.kind && same_place (long_place (seen_long x))
+    (long_place (seen_long o))) others)
 primary-near x others near b is found other =
-    found ∙ ap (list_any (λ (o : LongSpan). is_primary o.kind && same_place (long_place (seen_long x)) (long_place (seen_long o)))) is ∙ any-filtered (λ (o : LongSpan). is_primary o.kind && same_place (long_place (seen_long x)) (long_place (seen_long o))) (λ (o : LongSpan). eqb o.start.line x.start.line) (λ o both. same-line x o (and_parts (is_primary o.kind) (same_place (long_place (seen_long x)) (long_place (seen_long o))) both).1) others
+    found ∙ ap (list_any (λ (o : LongSpan). is_primary o.kind && same_place (long_place (seen_long x)) (long_place (seen_long o)))) is
+    ∙ any-filtered (λ (o : LongSpan). is_primary o.kind && same_place (long_place (seen_long x)) (long_place (seen_long o)))
+    (λ (o : LongSpan). eqb o.start.line x.start.line)
+    (λ o both. same-line x o (and_parts (is_primary o.kind) (same_place (long_place (seen_long x)) (long_place (seen_long o))) both).1) others
     ∙ ap (λ p. p || list_any (λ (o : LongSpan). is_primary o.kind && same_place (long_place (seen_long x)) (long_place (seen_long o))) others) (sym (kind-other x.kind other))

@@ -112,7 +112,9 @@ keeps-all f l k marked bar why = or-same (leb f k && leb k l) ∙ sym (elim (cas
     why-kept (inr unmarked) from to = third (eqb k f) (eqb k l) (not marked) bar (ap not unmarked)
 
 -- one that is marked keeps its beginning and its end: u is the last line of its beginning, t the first of its end
-pub keeps-ends : (f l u t k : ℕ) (marked shown last_bar : Bool) → f < l → f ≤ u → u ≤ l → marked ≡ true → (f < k → leb k u ≡ shown) → (k + 1 ≡ l → leb t k ≡ last_bar) → ((k + 1 ≡ l → ⊥) → last_bar ≡ false) → t ≤ l → l ≤ t + 1 → ((leb f k && leb k u) || (leb t k && leb k l)) ≡ (leb f k && leb k l && (eqb k f || eqb k l || not marked || (ltb f k && (shown || last_bar))))
+pub keeps-ends : (f l u t k : ℕ) (marked shown last_bar : Bool) → f < l → f ≤ u → u ≤ l → marked ≡ true → (f < k → leb k u ≡ shown)
+    → (k + 1 ≡ l → leb t k ≡ last_bar) → ((k + 1 ≡ l → ⊥) → last_bar ≡ false) → t ≤ l → l ≤ t + 1
+    → ((leb f k && leb k u) || (leb t k && leb k l)) ≡ (leb f k && leb k l && (eqb k f || eqb k l || not marked || (ltb f k && (shown || last_bar))))
 keeps-ends f l u t k marked shown last_bar ordered from to is bars ends apart tl tail =
     elim (cases_lt k f) [
       | inl before ↦ outside (leb f k) (leb k u) (leb t k) (leb k l) (eqb k f || eqb k l || not marked || (ltb f k && (shown || last_bar))) (inl (lt-leb f k before, lt-leb t k (omega arith)))
@@ -182,11 +184,15 @@ or-assoc true b c = refl
 or-assoc false b c = refl
 
 -- one more span
-pub covered-more : (p : ℕ → Annotation → Bool) (marks : List Annotation) (i : ℕ) (d : Annotation) (before after : List ℕ) → i < length marks → ((k : ℕ) → is_covered after k ≡ (is_covered before k || p k (get_or marks i d))) → ((k : ℕ) → is_covered before k ≡ list_any (p k) (take i marks)) → (k : ℕ) → is_covered after k ≡ list_any (p k) (take (i + 1) marks)
+pub covered-more : (p : ℕ → Annotation → Bool) (marks : List Annotation) (i : ℕ) (d : Annotation) (before after : List ℕ) → i < length marks
+    → ((k : ℕ) → is_covered after k ≡ (is_covered before k || p k (get_or marks i d)))
+    → ((k : ℕ) → is_covered before k ≡ list_any (p k) (take i marks)) → (k : ℕ) → is_covered after k ≡ list_any (p k) (take (i + 1) marks)
 covered-more p marks i d before after within more so_far k = more k ∙ ap (λ b. b || p k (get_or marks i d)) (so_far k) ∙ sym (list_any_more (p k) marks i d within)
 
 -- all spans
-pub covered-all : (p : ℕ → Annotation → Bool) (marks : List Annotation) (i n : ℕ) (reach : List ℕ) (lent : List ℕ) → length marks ≤ i → length reach ≡ n → lent ≡ reach → ((k : ℕ) → is_covered reach k ≡ list_any (p k) (take i marks)) → map (is_covered lent) (range_with_len 0 (length lent)) ≡ map (λ k. list_any (p k) marks) (range_with_len 0 n)
+pub covered-all : (p : ℕ → Annotation → Bool) (marks : List Annotation) (i n : ℕ) (reach : List ℕ) (lent : List ℕ) → length marks ≤ i
+    → length reach ≡ n → lent ≡ reach → ((k : ℕ) → is_covered reach k ≡ list_any (p k) (take i marks))
+    → map (is_covered lent) (range_with_len 0 (length lent)) ≡ map (λ k. list_any (p k) marks) (range_with_len 0 n)
 covered-all p marks i n reach lent all len is so_far =
     ap (λ xs. map (is_covered xs) (range_with_len 0 (length xs))) is ∙ ap (λ m. map (is_covered reach) (range_with_len 0 m)) len ∙ map-range-agree (is_covered reach) (λ k. list_any (p k) marks) 0 n (λ k. so_far k ∙ ap (list_any (p k)) (take_all i marks all))
 

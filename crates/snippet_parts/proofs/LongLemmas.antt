@@ -51,7 +51,17 @@ long-lines s a ordered long =
 
 pub fit-long : (s : Source) (a : Annotation) (l : LongSpan) → a.span.start ≤ a.span.end → seen_long l ≡ long_entry s a → l.start.display < 2 ^ 58 → l.end.display ≤ 2 ^ 58 → l.start.char ≤ 2 ^ 56 → is_long s.text a ≡ true → HasFit s l
 fit-long s a l ordered seen display end char long =
-    record { display = display; end_display = end; char = omega arith; lines = omega (arith, ap (λ (e : Entry). e.start.line) seen, ap (λ (e : Entry). e.end.line) seen, long-lines s a ordered long); from = omega (arith, ap (λ (e : Entry). e.start.line) seen, start-line s a.span.start a.span.end); within = omega (arith, ap (λ (e : Entry). e.end.line) seen, end-line s a.span.start a.span.end, line_of-within s.text a.span.end) }
+    record {
+      display = display;
+      end_display = end;
+      char = omega arith;
+      lines =
+          omega (arith, ap (λ (e : Entry). e.start.line) seen, ap (λ (e : Entry). e.end.line) seen, long-lines s a ordered long);
+      from =
+          omega (arith, ap (λ (e : Entry). e.start.line) seen, start-line s a.span.start a.span.end);
+      within =
+          omega (arith, ap (λ (e : Entry). e.end.line) seen, end-line s a.span.start a.span.end, line_of-within s.text a.span.end);
+    }
 
 -- the order of the code's spans is that of what is seen of them
 pub long_spans-is : (s : Source) (given sorted : List LongSpan) (marks : List Annotation) → sorted ≡ ordered_by long_before given → map seen_long given ≡ map (long_entry s) (filter (is_long s.text) marks) → map seen_long sorted ≡ long_spans s marks

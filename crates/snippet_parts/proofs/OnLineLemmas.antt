@@ -140,14 +140,25 @@ span-bounds : (s : Source) (depth : ℕ) (again : Bool) (e : Entry) → again �
 span-bounds s depth true e last = cc
 span-bounds s depth false e last = record {
   begun = (start_part e depth, contains-here (start_part e depth) (start_part e depth) _ refl, record { start_is = refl; part = refl });
-  closed = (end_part e (MultilineEnd depth), contains-there (end_part e (MultilineEnd depth)) (start_part e depth) _ (Contains-append_right _ (end_part e (MultilineEnd depth) ∷ []) (end_part e (MultilineEnd depth)) (contains-here (end_part e (MultilineEnd depth)) (end_part e (MultilineEnd depth)) [] refl)), record { line = refl; end_is = refl; part = refl });
+  closed = (
+    end_part e (MultilineEnd depth),
+    contains-there (end_part e (MultilineEnd depth)) (start_part e depth)
+        _ (Contains-append_right _ (end_part e (MultilineEnd depth) ∷ []) (end_part e (MultilineEnd depth))
+        (contains-here (end_part e (MultilineEnd depth)) (end_part e (MultilineEnd depth)) [] refl)),
+    record { line = refl; end_is = refl; part = refl },
+  );
 }
 
 span-says : (s : Source) (depth : ℕ) (again : Bool) (e : Entry) → (p : PartEntry) × Contains (span_parts s depth again e) p × SaysOf e depth p
 span-says s depth true e =
     (end_part e Singleline, contains-here (end_part e Singleline) (end_part e Singleline) [] refl, record { line = refl; end_is = refl; label = refl; part = inr refl })
-span-says s depth false e =
-    (end_part e (MultilineEnd depth), contains-there (end_part e (MultilineEnd depth)) (start_part e depth) _ (Contains-append_right _ (end_part e (MultilineEnd depth) ∷ []) (end_part e (MultilineEnd depth)) (contains-here (end_part e (MultilineEnd depth)) (end_part e (MultilineEnd depth)) [] refl)), record { line = refl; end_is = refl; label = refl; part = inl refl })
+span-says s depth false e = (
+  end_part e (MultilineEnd depth),
+  contains-there (end_part e (MultilineEnd depth)) (start_part e depth)
+      _ (Contains-append_right _ (end_part e (MultilineEnd depth) ∷ []) (end_part e (MultilineEnd depth))
+      (contains-here (end_part e (MultilineEnd depth)) (end_part e (MultilineEnd depth)) [] refl)),
+  record { line = refl; end_is = refl; label = refl; part = inl refl },
+)
 
 -- ---- the entries of all spans of several lines
 

@@ -52,10 +52,14 @@ entry_at-is info first ls k text number start next =
     ap (λ t. record { text = t; number = info.line_index; start = info.start_byte; next = info.end_byte }) text ∙ same_entry (text_at ls k) info.line_index info.start_byte info.end_byte (first + k) (start_of ls k) (start_of ls (k + 1)) number start next
 
 -- one more entry of the lines from number i on: that of line k
-pub entries-more : (first : ℕ) (ls : List Line) (infos more : List LineInfo) (info : LineInfo) (i k : ℕ) → i ≤ k → more ≡ infos ++ info ∷ [] → entry_of info ≡ entry_at first ls k → map entry_of infos ≡ map (entry_at first ls) (range_with_len i (k - i)) → map entry_of more ≡ map (entry_at first ls) (range_with_len i (k + 1 - i))
+pub entries-more : (first : ℕ) (ls : List Line) (infos more : List LineInfo) (info : LineInfo) (i k : ℕ) → i ≤ k → more ≡ infos ++ info ∷ []
+    → entry_of info ≡ entry_at first ls k → map entry_of infos ≡ map (entry_at first ls) (range_with_len i (k - i))
+    → map entry_of more ≡ map (entry_at first ls) (range_with_len i (k + 1 - i))
 entries-more first ls infos more info i k low more_is entry before =
     let size : (k - i) + 1 ≡ k + 1 - i = omega arith in
-    ap (map entry_of) more_is ∙ map_push entry_of infos info ∙ ap (λ es. es ++ entry_of info ∷ []) before ∙ ap (λ e. map (entry_at first ls) (range_with_len i (k - i)) ++ e ∷ []) entry ∙ sym (map-range_with_len_more (entry_at first ls) i (k - i) k (omega arith)) ∙ ap (λ n. map (entry_at first ls) (range_with_len i n)) size
+    ap (map entry_of) more_is ∙ map_push entry_of infos info ∙ ap (λ es. es ++ entry_of info ∷ []) before
+    ∙ ap (λ e. map (entry_at first ls) (range_with_len i (k - i)) ++ e ∷ []) entry
+    ∙ sym (map-range_with_len_more (entry_at first ls) i (k - i) k (omega arith)) ∙ ap (λ n. map (entry_at first ls) (range_with_len i n)) size
 
 -- the place where a binary search parts the starts at a byte or before it from the others
 abbrev pub IsParted : List ℕ → ℕ → ℕ → Type 0
@@ -98,7 +102,9 @@ module _ (source starts : List ℕ) (table : starts ≡ starts_from 0 (source_li
       sym (line_of-is ls byte k holds)
 
 -- the line of a number
-pub line_at-some : (s : Source) (number index : ℕ) (text : List ℕ) → s.first ≤ number → index ≡ number - s.first → index < length (source_lines s.text) → text ≡ text_at (source_lines s.text) index → (Some text ≡ line_at s number) × StandsAt s.text text (start_of (source_lines s.text) (number - s.first))
+pub line_at-some : (s : Source) (number index : ℕ) (text : List ℕ) → s.first ≤ number → index ≡ number - s.first
+    → index < length (source_lines s.text) → text ≡ text_at (source_lines s.text) index
+    → (Some text ≡ line_at s number) × StandsAt s.text text (start_of (source_lines s.text) (number - s.first))
 line_at-some s number index text ge index_is within is =
     let ls : List Line = source_lines s.text in
     let inside : number - s.first < length ls = omega arith in

@@ -100,7 +100,9 @@ edited_from-trimmed source at (e ∷ es) apart =
     let t : Edit = trimmed_edit source e in
     let h : IsShrunk source e t = trimmed_edit-shrunk source e apart.1 in
     let rest : List ℕ = edited_from source e.end es in
-    let later : edited_from source t.end (map (trimmed_edit source) es) ≡ slice_range source t.end e.end ++ rest = edited_from-earlier source t.end e.end (map (trimmed_edit source) es) h.end (trimmed-apart source e.end es apart.2) ∙ ap (λ l. slice_range source t.end e.end ++ l) (edited_from-trimmed source e.end es apart.2) in
+    let later : edited_from source t.end (map (trimmed_edit source) es) ≡ slice_range source t.end e.end ++ rest =
+    edited_from-earlier source t.end e.end (map (trimmed_edit source) es) h.end (trimmed-apart source e.end es apart.2)
+    ∙ ap (λ l. slice_range source t.end e.end ++ l) (edited_from-trimmed source e.end es apart.2) in
     let x : List ℕ = slice_range source at e.start in
     let y : List ℕ = slice_range source e.start t.start in
     let z : List ℕ = slice_range source t.end e.end in

@@ -75,7 +75,15 @@ pub record Shortens (xs ws : List ℕ) : Type 0 where
 
 Shortens-cons : (b : ℕ) (bs ws : List ℕ) → Shortens bs ws → Shortens (b ∷ bs) (unless_lone_line_feed b ws)
 Shortens-cons b bs [] h =
-    ⊎_elim (λ t. subst (Shortens (b ∷ bs)) (sym (cond-true (is_lf b) [] (b ∷ []) t)) (record { tail = b ∷ bs; whole = refl; stops = inr (bs, ap (λ c. c ∷ bs) (eqb-true b 10 t)); feeds = All-cons (λ c. c ≡ 10) b bs (eqb-true b 10 t) (All-same (λ c. c ≡ 10) bs h.tail h.whole h.feeds); unclosed = inl refl }))
+    ⊎_elim (λ t. subst (Shortens (b ∷ bs)) (sym (cond-true (is_lf b) [] (b ∷ []) t))
+    (record {
+      tail = b ∷ bs;
+      whole = refl;
+      stops = inr (bs, ap (λ c. c ∷ bs) (eqb-true b 10 t));
+      feeds =
+          All-cons (λ c. c ≡ 10) b bs (eqb-true b 10 t) (All-same (λ c. c ≡ 10) bs h.tail h.whole h.feeds);
+      unclosed = inl refl;
+    }))
     (λ f. subst (Shortens (b ∷ bs)) (sym (cond-false (is_lf b) [] (b ∷ []) f)) (record { tail = h.tail; whole = ap (λ l. b ∷ l) h.whole; stops = h.stops; feeds = h.feeds; unclosed = inr (eqb-false b 10 f) })) (cases_Bool (is_lf b))
 Shortens-cons b bs (c ∷ cs) h = record {
   tail = h.tail;
@@ -169,7 +177,10 @@ HasNoCr-right xs ys none =
 edited_from-no_cr : (source : List ℕ) (at : ℕ) (es : List Edit) → HasNoCr source → All (λ e. HasNoCr e.text) es → HasNoCr (edited_from source at es)
 edited_from-no_cr source at [] none texts = All-drop (λ c. c ≢ 13) at source none
 edited_from-no_cr source at (e ∷ es) none texts =
-    All-append (λ c. c ≢ 13) (slice_range source at e.start) (e.text ++ edited_from source e.end es) (All-take (λ c. c ≢ 13) (e.start - at) (drop at source) (All-drop (λ c. c ≢ 13) at source none)) (All-append (λ c. c ≢ 13) e.text (edited_from source e.end es) (All-head (λ e. HasNoCr e.text) e es texts) (edited_from-no_cr source e.end es none (All-tail (λ e. HasNoCr e.text) e es texts)))
+    All-append (λ c. c ≢ 13) (slice_range source at e.start) (e.text ++ edited_from source e.end es)
+    (All-take (λ c. c ≢ 13) (e.start - at) (drop at source) (All-drop (λ c. c ≢ 13) at source none))
+    (All-append (λ c. c ≢ 13) e.text (edited_from source e.end es) (All-head (λ e. HasNoCr e.text) e es texts)
+    (edited_from-no_cr source e.end es none (All-tail (λ e. HasNoCr e.text) e es texts)))
 
 All-in_order : (es : List Edit) → All (λ e. HasNoCr e.text) es → All (λ e. HasNoCr e.text) (in_order es)
 All-in_order [] all = all
@@ -210,5 +221,10 @@ shown-lines fold source es none texts_none h =
     let (more, cut) = texts-front ws z stops short.unclosed in
     let front : IsLinesFront h.front (shown_line fold source es) = subst (λ f. IsLinesFront f (shown_line fold source es)) (sym h.before) (shown-front fold source es) in
     let back : texts_of (lines_of (h.part ++ h.rest)) ≡ texts_of (lines_of ws) ++ more = texts-lines_of (h.part ++ h.rest) clean_back ∙ ap texts joint ∙ cut ∙ ap (λ ts. ts ++ more) (sym (texts-lines_of ws clean_ws)) in
-    let all : texts_of (lines_of d) ≡ texts_of (lines_of h.front) ++ (texts_of (lines_of ws) ++ more) = ap (λ t. texts_of (lines_of t)) h.whole ∙ ap texts_of (lines_of-append h.front (h.part ++ h.rest) front.closed) ∙ map-append (λ l. l.0) (lines_of h.front) (lines_of (h.part ++ h.rest)) ∙ ap (λ ts. texts_of (lines_of h.front) ++ ts) back in
-    AreFrom-source d (shown_line fold source es) (texts_of (lines_of ws)) (subst (AreFrom (shown_line fold source es) (texts_of (lines_of ws))) (sym all) (AreFrom-append (texts_of (lines_of h.front)) (texts_of (lines_of ws)) more (shown_line fold source es) (length-map (lines_of h.front) (λ l. l.0) ∙ front.count)))
+    let all : texts_of (lines_of d) ≡ texts_of (lines_of h.front) ++ (texts_of (lines_of ws) ++ more) =
+    ap (λ t. texts_of (lines_of t)) h.whole ∙ ap texts_of (lines_of-append h.front (h.part ++ h.rest) front.closed)
+    ∙ map-append (λ l. l.0) (lines_of h.front) (lines_of (h.part ++ h.rest)) ∙ ap (λ ts. texts_of (lines_of h.front) ++ ts) back in
+    AreFrom-source d (shown_line fold source es) (texts_of (lines_of ws))
+    (subst (AreFrom (shown_line fold source es) (texts_of (lines_of ws))) (sym all)
+    (AreFrom-append (texts_of (lines_of h.front)) (texts_of (lines_of ws)) more (shown_line fold source es)
+    (length-map (lines_of h.front) (λ l. l.0) ∙ front.count)))

@@ -33,7 +33,9 @@ overlap-after d e a b h = numbers d.start d.end e.start e.end a b h
     numbers : (p q r s : ℕ) → p ≤ q → r ≤ s → q ≤ r → cond (ltb r p || (eqb r p && ltb s q)) (ltb p s) (ltb r q) ≡ false
     numbers p q r s a b h = grind (arith, nat_tests)
 
-far : (es : List Edit) → ((k : ℕ) → k + 1 < length es → (get_or es k no_edit).end ≤ (get_or es (k + 1) no_edit).start) → ((k : ℕ) → k < length es → (get_or es k no_edit).start ≤ (get_or es k no_edit).end) → (m d : ℕ) → m + d + 1 < length es → (get_or es m no_edit).end ≤ (get_or es (m + d + 1) no_edit).start
+far : (es : List Edit) → ((k : ℕ) → k + 1 < length es → (get_or es k no_edit).end ≤ (get_or es (k + 1) no_edit).start)
+    → ((k : ℕ) → k < length es → (get_or es k no_edit).start ≤ (get_or es k no_edit).end) → (m d : ℕ) → m + d + 1 < length es
+    → (get_or es m no_edit).end ≤ (get_or es (m + d + 1) no_edit).start
 far es steps ordered m zero within =
     let e : m + 0 + 1 ≡ m + 1 = omega arith in
     subst (λ n. (get_or es m no_edit).end ≤ (get_or es n no_edit).start) (sym e) (steps m (omega arith))

@@ -79,7 +79,9 @@ feeds-shown true source es =
 -- ---- the lines of the texts
 
 -- the texts of the edits after a front of the patched source
-pub ranges-stands : (source d front : List ℕ) (at now count : ℕ) (ts : List Edit) → HasNoCr source → AreBeforeFinalLf source ts → AreApart at ts → d ≡ front ++ edited_from source at ts → now ≡ length front → count ≡ feeds front → map (lines_of_stand d) (stands_from source at now ts) ≡ written_ranges source count at ts
+pub ranges-stands : (source d front : List ℕ) (at now count : ℕ) (ts : List Edit) → HasNoCr source → AreBeforeFinalLf source ts → AreApart at ts
+    → d ≡ front ++ edited_from source at ts → now ≡ length front → count ≡ feeds front
+    → map (lines_of_stand d) (stands_from source at now ts) ≡ written_ranges source count at ts
 ranges-stands source d front at now count [] none before apart whole size counted = refl
 ranges-stands source d front at now count (t ∷ ts) none before apart whole size counted =
     let between : List ℕ = slice_range source at t.start in
@@ -106,10 +108,15 @@ ranges-shift source base n at (t ∷ ts) =
     let c : ℕ = feeds (copied source at t.start) in
     let e1 : base + (n + c) ≡ base + n + c = omega arith in
     let e2 : base + (n + c + feeds t.text) ≡ base + n + c + feeds t.text = omega arith in
-    ap (λ k. record { first = k; last = base + (n + c + feeds t.text) } ∷ ranges_from base (written_ranges source (n + c + feeds t.text) t.end ts)) e1 ∙ ap (λ k. record { first = base + n + c; last = k } ∷ ranges_from base (written_ranges source (n + c + feeds t.text) t.end ts)) e2 ∙ ap (λ rs. record { first = base + n + c; last = base + n + c + feeds t.text } ∷ rs) (ranges-shift source base (n + c + feeds t.text) t.end ts ∙ ap (λ k. written_ranges source k t.end ts) e2)
+    ap (λ k. record { first = k; last = base + (n + c + feeds t.text) } ∷ ranges_from base (written_ranges source (n + c + feeds t.text) t.end ts)) e1
+    ∙ ap (λ k. record { first = base + n + c; last = k } ∷ ranges_from base (written_ranges source (n + c + feeds t.text) t.end ts)) e2
+    ∙ ap (λ rs. record { first = base + n + c; last = base + n + c + feeds t.text } ∷ rs)
+    (ranges-shift source base (n + c + feeds t.text) t.end ts ∙ ap (λ k. written_ranges source k t.end ts) e2)
 
 -- the ranges that are counted while the text is written are those of the texts in the patched source
-pub written-ranges : (fold : Bool) (source : List ℕ) (es : List Edit) → HasNoCr source → AreBeforeFinalLf source (trimmed_edits source es) → AreApart 0 (in_order es) → ranges_from (shown_line fold source es) (written_ranges source 0 (shown_start fold source (first_start (in_order es))) (trimmed_edits source es)) ≡ line_ranges source es
+pub written-ranges : (fold : Bool) (source : List ℕ) (es : List Edit) → HasNoCr source → AreBeforeFinalLf source (trimmed_edits source es)
+    → AreApart 0 (in_order es) → ranges_from (shown_line fold source es)
+    (written_ranges source 0 (shown_start fold source (first_start (in_order es))) (trimmed_edits source es)) ≡ line_ranges source es
 written-ranges fold source es none before apart =
     let s : ℕ = shown_start fold source (first_start (in_order es)) in
     let ts : List Edit = trimmed_edits source es in
@@ -118,9 +125,14 @@ written-ranges fold source es none before apart =
     let size : length f ≡ s = front-size fold source (first_start (in_order es)) in
     let whole : patched source es ≡ f ++ edited_from source s ts = sym (edited_from-trimmed source 0 (in_order es) apart) ∙ edited_from-earlier source 0 s ts (omega arith) after in
     let e : shown_line fold source es + 0 ≡ shown_line fold source es = omega arith in
-    ranges-shift source (shown_line fold source es) 0 s ts ∙ ap (λ n. written_ranges source n s ts) e ∙ sym (ranges-stands source (patched source es) f s s (shown_line fold source es) ts none before after whole (sym size) (sym (feeds-shown fold source es))) ∙ ap (map (lines_of_stand (patched source es))) (sym (stands-at ts after size))
+    ranges-shift source (shown_line fold source es) 0 s ts ∙ ap (λ n. written_ranges source n s ts) e
+    ∙ sym (ranges-stands source (patched source es) f s s (shown_line fold source es) ts none before after whole (sym size)
+    (sym (feeds-shown fold source es))) ∙ ap (map (lines_of_stand (patched source es))) (sym (stands-at ts after size))
   where
-    stands-at : (ts : List Edit) → AreApart (shown_start fold source (first_start (in_order es))) ts → length (slice_range source 0 (shown_start fold source (first_start (in_order es)))) ≡ shown_start fold source (first_start (in_order es)) → stands source ts ≡ stands_from source (shown_start fold source (first_start (in_order es))) (shown_start fold source (first_start (in_order es))) ts
+    stands-at : (ts : List Edit) → AreApart (shown_start fold source (first_start (in_order es))) ts
+        → length (slice_range source 0 (shown_start fold source (first_start (in_order es)))) ≡ shown_start fold source (first_start (in_order es))
+        → stands source ts ≡ stands_from source (shown_start fold source (first_start (in_order es)))
+        (shown_start fold source (first_start (in_order es))) ts
     stands-at [] apart size = refl
     stands-at (t ∷ ts) apart size =
         let s : ℕ = shown_start fold source (first_start (in_order es)) in

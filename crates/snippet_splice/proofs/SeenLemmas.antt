@@ -28,11 +28,16 @@ pub record AreTrimmed (source : List ℕ) (patches : List Patch) (trimmed : List
   pub spans : All (λ t. IsSpan source t.span.start t.span.end) trimmed
   pub originals : All (λ t. IsSpan source t.original_span.start t.original_span.end) trimmed
 
-pub AreTrimmed-more : (source : List ℕ) (patches : List Patch) (trimmed : List TrimmedPatch) (i : ℕ) (d : Patch) (t : TrimmedPatch) → i < length patches → AreTrimmed source (take i patches) trimmed → seen t ≡ seen_edit source (edit_of (get_or patches i d)) → IsSpan source t.span.start t.span.end → IsSpan source t.original_span.start t.original_span.end → AreTrimmed source (take (i + 1) patches) (trimmed ++ t ∷ [])
+pub AreTrimmed-more : (source : List ℕ) (patches : List Patch) (trimmed : List TrimmedPatch) (i : ℕ) (d : Patch) (t : TrimmedPatch)
+    → i < length patches → AreTrimmed source (take i patches) trimmed → seen t ≡ seen_edit source (edit_of (get_or patches i d))
+    → IsSpan source t.span.start t.span.end → IsSpan source t.original_span.start t.original_span.end
+    → AreTrimmed source (take (i + 1) patches) (trimmed ++ t ∷ [])
 AreTrimmed-more source patches trimmed i d t within h one span original =
     let p : Patch = get_or patches i d in
     let left : map seen (trimmed ++ t ∷ []) ≡ map seen trimmed ++ seen t ∷ [] = map_push seen trimmed t in
-    let right : map (seen_edit source) (map edit_of (take (i + 1) patches)) ≡ map (seen_edit source) (map edit_of (take i patches)) ++ seen_edit source (edit_of p) ∷ [] = ap (map (seen_edit source)) (map_more edit_of patches i d within) ∙ map_push (seen_edit source) (map edit_of (take i patches)) (edit_of p) in
+    let right : map (seen_edit source) (map edit_of (take (i + 1) patches)) ≡ map (seen_edit source) (map edit_of (take i patches))
+    ++ seen_edit source (edit_of p) ∷ [] = ap (map (seen_edit source)) (map_more edit_of patches i d within)
+    ∙ map_push (seen_edit source) (map edit_of (take i patches)) (edit_of p) in
     record {
       are = left ∙ ap (λ l. l ++ seen t ∷ []) h.are ∙ ap (λ s. map (seen_edit source) (map edit_of (take i patches)) ++ s ∷ []) one ∙ sym right;
       spans = All-push (λ t. IsSpan source t.span.start t.span.end) trimmed t h.spans span;

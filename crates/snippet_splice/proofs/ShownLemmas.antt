@@ -73,7 +73,10 @@ shown-apart fold source es apart =
     AreApart-earlier (shown_start fold source first) first (trimmed_edits source es) (shown_start-le fold source first) (trimmed-apart source first (in_order es) (apart-first (in_order es) apart))
 
 -- what is written is the text that is shown
-pub shown-value : (fold : Bool) (source : List ℕ) (es ts : List Edit) (first start end : ℕ) (closed : Bool) (text rest : List ℕ) → ts ≡ trimmed_edits source es → first ≡ first_start (in_order es) → start ≡ shown_start fold source first → text ≡ written source start ts → end ≡ end_from start ts → closed ≡ closes_line ts → rest ≡ shown_rest fold closed (drop (min end (length source)) source) → without_final_line_feeds (text ++ rest) ≡ shown_text fold source es
+pub shown-value : (fold : Bool) (source : List ℕ) (es ts : List Edit) (first start end : ℕ) (closed : Bool) (text rest : List ℕ)
+    → ts ≡ trimmed_edits source es → first ≡ first_start (in_order es) → start ≡ shown_start fold source first → text ≡ written source start ts
+    → end ≡ end_from start ts → closed ≡ closes_line ts → rest ≡ shown_rest fold closed (drop (min end (length source)) source)
+    → without_final_line_feeds (text ++ rest) ≡ shown_text fold source es
 unfolding shown_text
 shown-value fold source es ts first start end closed text rest of_ts of_first of_start of_text of_end of_closed of_rest =
     let ts0 : List Edit = trimmed_edits source es in

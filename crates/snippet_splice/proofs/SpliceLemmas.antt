@@ -59,7 +59,9 @@ edited_from-written source at (t ∷ ts) none before apart =
     let here : slice_range source at t.start ≡ copied source at t.start = sym (copied-same source at t.start none apart.0 (All-head (λ t. IsBeforeFinalLf source t.start) t ts before)) in
     let rest : edited_from source t.end ts ≡ written source t.end ts ++ drop (end_from t.end ts) source = edited_from-written source t.end ts none (All-tail (λ t. IsBeforeFinalLf source t.start) t ts before) apart.2 in
     let after : List ℕ = drop (end_from t.end ts) source in
-    ap (λ l. l ++ (t.text ++ edited_from source t.end ts)) here ∙ ap (λ l. copied source at t.start ++ (t.text ++ l)) rest ∙ ap (λ l. copied source at t.start ++ l) (sym (append_assoc t.text (written source t.end ts) after)) ∙ sym (append_assoc (copied source at t.start) (t.text ++ written source t.end ts) after)
+    ap (λ l. l ++ (t.text ++ edited_from source t.end ts)) here ∙ ap (λ l. copied source at t.start ++ (t.text ++ l)) rest
+    ∙ ap (λ l. copied source at t.start ++ l) (sym (append_assoc t.text (written source t.end ts) after))
+    ∙ sym (append_assoc (copied source at t.start) (t.text ++ written source t.end ts) after)
 
 -- ---- where the last text ends
 
@@ -106,7 +108,9 @@ first-line-of : (xs : List ℕ) → HasNoCr xs → text_at (lines_of xs) 0 ≡ b
 first-line-of [] none = refl
 first-line-of (b ∷ bs) none =
     ⊎_elim (λ t. ap (λ (ls : List Line). text_at ls 0) (cond-true {A = List Line} (eqb b 10) (([], Lf) ∷ lines_of bs) (with_first_byte b (lines_of bs)) t) ∙ sym (prefix-none b bs t))
-    (λ f. ap (λ (ls : List Line). text_at ls 0) (cond-false {A = List Line} (eqb b 10) (([], Lf) ∷ lines_of bs) (with_first_byte b (lines_of bs)) f) ∙ first-text b (lines_of bs) (none 0 0 (omega arith)) ∙ ap (λ l. b ∷ l) (first-line-of bs (All-tail (λ c. c ≢ 13) b bs none)) ∙ sym (prefix-first b bs f)) (cases_Bool (eqb b 10))
+    (λ f. ap (λ (ls : List Line). text_at ls 0) (cond-false {A = List Line} (eqb b 10) (([], Lf) ∷ lines_of bs) (with_first_byte b (lines_of bs)) f)
+    ∙ first-text b (lines_of bs) (none 0 0 (omega arith)) ∙ ap (λ l. b ∷ l) (first-line-of bs (All-tail (λ c. c ≢ 13) b bs none))
+    ∙ sym (prefix-first b bs f)) (cases_Bool (eqb b 10))
 
 pub first-line : (xs : List ℕ) → HasNoCr xs → text_at (source_lines xs) 0 ≡ before_first is_lf xs
 first-line [] none = refl
@@ -136,7 +140,9 @@ start-within : (fold : Bool) (source : List ℕ) (first : ℕ) → shown_start f
 start-within fold source first =
     cond_both fold (start_of (source_lines source) (line_of (source_lines source) first)) 0 (λ n. n ≤ length source) (λ _. omega (arith, text_at-end source (line_of (source_lines source) first) (line_of-within source first))) (λ _. omega arith)
 
-pub shown-whole : (fold : Bool) (source : List ℕ) (es : List Edit) → HasNoCr source → AreBeforeFinalLf source (trimmed_edits source es) → AreApart 0 (in_order es) → let s = shown_start fold source (first_start (in_order es)) in let ts = trimmed_edits source es in patched source es ≡ slice_range source 0 s ++ (written source s ts ++ drop (end_from s ts) source)
+pub shown-whole : (fold : Bool) (source : List ℕ) (es : List Edit) → HasNoCr source → AreBeforeFinalLf source (trimmed_edits source es)
+    → AreApart 0 (in_order es) → let s = shown_start fold source (first_start (in_order es)) in let ts = trimmed_edits source es in
+    patched source es ≡ slice_range source 0 s ++ (written source s ts ++ drop (end_from s ts) source)
 shown-whole fold source es none before apart =
     let s : ℕ = shown_start fold source (first_start (in_order es)) in
     let ts : List Edit = trimmed_edits source es in
@@ -248,7 +254,11 @@ shown-part true source es none before apart some =
     })
     (λ t. let l : List ℕ = before_first is_lf r in
     let clean : HasNoCr r = All-drop (λ c. c ≢ 13) (end_from s ts) source none in
-    let end : spliced_end source ts ≡ s + length w + length l = cond-false (closes_line ts) (last_end 0 (stands source ts)) (last_end 0 (stands source ts) + length (before_first is_lf (drop (last_end 0 (stands source ts)) (edited_from source 0 ts)))) t ∙ ap (λ n. n + length (before_first is_lf (drop (last_end 0 (stands source ts)) (edited_from source 0 ts)))) to ∙ ap (λ x. s + length w + length (before_first is_lf x)) left in
+    let end : spliced_end source ts ≡ s + length w + length l =
+    cond-false (closes_line ts) (last_end 0 (stands source ts))
+    (last_end 0 (stands source ts) + length (before_first is_lf (drop (last_end 0 (stands source ts)) (edited_from source 0 ts)))) t
+    ∙ ap (λ n. n + length (before_first is_lf (drop (last_end 0 (stands source ts)) (edited_from source 0 ts)))) to
+    ∙ ap (λ x. s + length w + length (before_first is_lf x)) left in
     let front_of : take (length l) r ≡ l = ap (λ n. take n r) (length-take (position_or_len is_lf r) r) ∙ take_min (position_or_len is_lf r) r in
     record {
       front = f;
@@ -265,7 +275,10 @@ shown-part true source es none before apart some =
     })
     (cases_Bool (closes_line ts))
   where
-    last-of : (ts : List Edit) → ts ≢ [] → AreBeforeFinalLf source ts → AreApart (shown_start true source (first_start (in_order es))) ts → length (slice_range source 0 (shown_start true source (first_start (in_order es)))) ≡ shown_start true source (first_start (in_order es)) → last_end 0 (stands source ts) ≡ shown_start true source (first_start (in_order es)) + length (written source (shown_start true source (first_start (in_order es))) ts)
+    last-of : (ts : List Edit) → ts ≢ [] → AreBeforeFinalLf source ts → AreApart (shown_start true source (first_start (in_order es))) ts
+        → length (slice_range source 0 (shown_start true source (first_start (in_order es)))) ≡ shown_start true source (first_start (in_order es))
+        → last_end 0 (stands source ts) ≡ shown_start true source (first_start (in_order es))
+        + length (written source (shown_start true source (first_start (in_order es))) ts)
     last-of [] some before apart size = absurd (some refl)
     last-of (t ∷ ts) some before apart size =
         last-end source (shown_start true source (first_start (in_order es))) t ts none before apart size

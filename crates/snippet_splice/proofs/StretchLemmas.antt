@@ -179,7 +179,10 @@ pieces_some (b ∷ bs) =
     ]
 
 -- what the first of several takes, and the others
-pub taken_cut : (k line before start end : ℕ) (piece after : List ℕ) → taken_on k line before start end (piece ∷ pieces_of after) ≡ (if line == k then record { start = start; end = capped (before + length (chars (without_cr piece))) } ∷ [] else []) ++ taken_on k (capped (line + 1)) 0 0 end (pieces_of after)
+pub taken_cut : (k line before start end : ℕ) (piece after : List ℕ)
+    → taken_on k line before start end (piece ∷ pieces_of after)
+    ≡ (if line == k then record { start = start; end = capped (before + length (chars (without_cr piece))) } ∷ [] else [])
+    ++ taken_on k (capped (line + 1)) 0 0 end (pieces_of after)
 taken_cut k line before start end piece after =
     let later = pieces_some after in
     let one : List SubstitutionHighlight = if line == k then record { start = start; end = capped (before + length (chars (without_cr piece))) } ∷ [] else [] in

@@ -137,7 +137,9 @@ fewer-feeds f x closed short =
     omega (arith, ap feeds (sym (take-append-drop x f)), feeds-append (take x f) rest, ap feeds split, feeds-append (take (length rest - 1) rest) (10 ∷ []), one)
 
 -- a cut of a text, of which the middle is shown without the LF that end it
-pub touched-in : (d f part rest ws : List ℕ) (k j : ℕ) (s : Stand) → d ≡ f ++ (part ++ rest) → Shortens part ws → (0 < length f → last_byte f ≡ 10) → feeds f ≡ k → Stops rest ⊎ EndsBefore (length f + length part) s → IsWithin (length f) (length f + length part) s → IsTouchedBy d j s → text_at (source_lines d) j ≢ [] → (k ≤ j) × (j < k + length (lines_of ws))
+pub touched-in : (d f part rest ws : List ℕ) (k j : ℕ) (s : Stand) → d ≡ f ++ (part ++ rest) → Shortens part ws → (0 < length f → last_byte f ≡ 10)
+    → feeds f ≡ k → Stops rest ⊎ EndsBefore (length f + length part) s → IsWithin (length f) (length f + length part) s → IsTouchedBy d j s
+    → text_at (source_lines d) j ≢ [] → (k ≤ j) × (j < k + length (lines_of ws))
 touched-in d f part rest ws k j s whole short closed counted stops within touched some =
     let ls : List Line = source_lines d in
     let x : ℕ = start_of ls j in
@@ -163,7 +165,10 @@ touched-in d f part rest ws k j s whole short closed counted stops within touche
     (λ past_part. ⊎_elim (λ before. absurd (omega (arith, before, line.from, past_part, within.to)))
     (λ (same, at). let at_end : x ≡ length f + length part = omega (arith, at, line.from, past_part, within.to) in
     ⊎_elim
-    (λ stop. empty_line (λ inside. let e : get_or d x 0 ≡ get_or rest 0 0 = ap (λ l. get_or l x 0) (whole ∙ sym (append_assoc f part rest)) ∙ get_or-append_right (f ++ part) rest (length f + length part) x 0 (length-append f part) (omega (arith, at_end)) ∙ (let z : x - (length f + length part) ≡ 0 = omega (arith, at_end) in ap (λ n. get_or rest n 0) z) in
+    (λ stop. empty_line (λ inside. let e : get_or d x 0 ≡ get_or rest 0 0 =
+    ap (λ l. get_or l x 0) (whole ∙ sym (append_assoc f part rest))
+    ∙ get_or-append_right (f ++ part) rest (length f + length part) x 0 (length-append f part) (omega (arith, at_end))
+    ∙ (let z : x - (length f + length part) ≡ 0 = omega (arith, at_end) in ap (λ n. get_or rest n 0) z) in
     ⊎_elim (λ nil. absurd (omega (arith, inside, at_end, ap length whole, length-append f (part ++ rest), length-append part rest, ap length nil))) (λ (y, lf). e ∙ ap (λ l. get_or l 0 0) lf) stop))
     (λ ends. absurd (omega (arith, ends same, at, line.from, past_part))) stops)
     touched.to)
@@ -179,7 +184,10 @@ touched-in d f part rest ws k j s whole short closed counted stops within touche
         absurd (omega (arith, feeds-take x (f ++ (c ∷ cs)), feeds-append f (c ∷ cs), count-open (c ∷ cs) unclosed (omega arith), many, past, counted))
 
 -- each touched line that isn't empty is shown
-pub shown-touched : (fold : Bool) (source : List ℕ) (es : List Edit) → HasNoCr source → AreBeforeFinalLf source (trimmed_edits source es) → AreApart 0 (in_order es) → (h : IsShownPart fold source es) → (j : ℕ) → IsTouched source es j → text_at (source_lines (patched source es)) j ≢ [] → (shown_line fold source es ≤ j) × (j < shown_line fold source es + length (lines_of (without_final_line_feeds h.part)))
+pub shown-touched : (fold : Bool) (source : List ℕ) (es : List Edit) → HasNoCr source → AreBeforeFinalLf source (trimmed_edits source es)
+    → AreApart 0 (in_order es) → (h : IsShownPart fold source es) → (j : ℕ) → IsTouched source es j
+    → text_at (source_lines (patched source es)) j ≢ []
+    → (shown_line fold source es ≤ j) × (j < shown_line fold source es + length (lines_of (without_final_line_feeds h.part)))
 shown-touched fold source es none before apart h j touched some =
     let first : ℕ = shown_start fold source (first_start (in_order es)) in
     let ts : List Edit = trimmed_edits source es in
@@ -190,7 +198,11 @@ shown-touched fold source es none before apart h j touched some =
     (⊎_elim (λ stop. inl stop) (λ more. inr (λ e. omega (arith, facts.1 more e, h.ends, h.size))) h.closes)
     (record { from = omega (arith, facts.0.from, h.size); to = omega (arith, facts.0.to, h.ends, h.size) }) touched.by some
   where
-    placed : (ts : List Edit) → AreApart (shown_start fold source (first_start (in_order es))) ts → AreBeforeFinalLf source ts → (s : Stand) → Contains (stands source ts) s → IsWithin (shown_start fold source (first_start (in_order es))) (shown_start fold source (first_start (in_order es)) + length (written source (shown_start fold source (first_start (in_order es))) ts)) s × (0 < length (last_text ts) → EndsBefore (shown_start fold source (first_start (in_order es)) + length (written source (shown_start fold source (first_start (in_order es))) ts)) s)
+    placed : (ts : List Edit) → AreApart (shown_start fold source (first_start (in_order es))) ts → AreBeforeFinalLf source ts → (s : Stand)
+        → Contains (stands source ts) s → IsWithin (shown_start fold source (first_start (in_order es)))
+        (shown_start fold source (first_start (in_order es)) + length (written source (shown_start fold source (first_start (in_order es))) ts)) s
+        × (0 < length (last_text ts) → EndsBefore
+        (shown_start fold source (first_start (in_order es)) + length (written source (shown_start fold source (first_start (in_order es))) ts)) s)
     placed [] after before s among = absurd (omega (arith, among.1))
     placed (t ∷ ts) after before s among =
         let first : ℕ = shown_start fold source (first_start (in_order es)) in

@@ -108,7 +108,10 @@ border-test : (o : List ℕ) (a : ℕ) → Decides (is_character_border o a) (Is
 border-test o a = (
   λ t. let p = and_parts (leb a (length o)) (ltb (get_or o a 0) 128 || leb 192 (get_or o a 0)) t in
       (leb-true a (length o) p.0, λ inside high. ⊎_elim (λ low. absurd (omega (arith, ltb-true (get_or o a 0) 128 low))) (λ lead. leb-true 192 (get_or o a 0) lead) (or_cases (ltb (get_or o a 0) 128) (leb 192 (get_or o a 0)) p.1)),
-  λ h. and_from (leb a (length o)) (ltb (get_or o a 0) 128 || leb 192 (get_or o a 0)) (le-leb a (length o) h.0) (⊎_elim (λ low. or_left (ltb (get_or o a 0) 128) (leb 192 (get_or o a 0)) (lt-ltb (get_or o a 0) 128 low)) (λ high. ⊎_elim (λ inside. or_right (ltb (get_or o a 0) 128) (leb 192 (get_or o a 0)) (le-leb 192 (get_or o a 0) (h.1 inside high))) (λ past. absurd (omega (arith, get_or_past o a 0 past))) (cases_lt a (length o))) (cases_lt (get_or o a 0) 128)),
+  λ h. and_from (leb a (length o)) (ltb (get_or o a 0) 128 || leb 192 (get_or o a 0)) (le-leb a (length o) h.0)
+      (⊎_elim (λ low. or_left (ltb (get_or o a 0) 128) (leb 192 (get_or o a 0)) (lt-ltb (get_or o a 0) 128 low))
+      (λ high. ⊎_elim (λ inside. or_right (ltb (get_or o a 0) 128) (leb 192 (get_or o a 0)) (le-leb 192 (get_or o a 0) (h.1 inside high)))
+      (λ past. absurd (omega (arith, get_or_past o a 0 past))) (cases_lt a (length o))) (cases_lt (get_or o a 0) 128)),
 )
 
 test-true : (o r : List ℕ) (a : ℕ) → is_sandwiched o r a ≡ true → IsSandwiched o r a (slice_range r a (length r - (length o - a))) (length o - a)
@@ -130,7 +133,9 @@ test-true o r a t =
 
 test-from : (o r : List ℕ) (a : ℕ) (m : List ℕ) (b : ℕ) → IsSandwiched o r a m b → is_sandwiched o r a ≡ true
 test-from o r a m b h =
-    and_from _ _ (and_from _ _ (and_from _ _ ((border-test o a).1 h.border) (le-leb (length o) (length r) (omega (arith, lengths o r a m b h)))) ((bytes_eq-Decides (take a r) (take a o)).1 (same_front o r a m b h))) ((bytes_eq-Decides (drop (length r - (length o - a)) r) (drop a o)).1 (same_end o r a m b h))
+    and_from _ _ (and_from _ _ (and_from _ _ ((border-test o a).1 h.border) (le-leb (length o) (length r) (omega (arith, lengths o r a m b h))))
+    ((bytes_eq-Decides (take a r) (take a o)).1 (same_front o r a m b h)))
+    ((bytes_eq-Decides (drop (length r - (length o - a)) r) (drop a o)).1 (same_end o r a m b h))
 
 -- ---- the greatest number that passes
 

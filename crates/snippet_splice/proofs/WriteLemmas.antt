@@ -87,7 +87,11 @@ pub record Writes (source : List ℕ) (from : ℕ) (es : List Edit) (out : List 
   pub last : end_from end left ≡ end_from from es
   pub border : IsSpanBorder source end
 
-pub Writes-more : (source : List ℕ) (from : ℕ) (es : List Edit) (out : List ℕ) (ranges : List LineRange) (feeds end : ℕ) (e : Edit) (left : List Edit) (out2 out3 : List ℕ) (between : ℕ) → Writes source from es out ranges feeds end (e ∷ left) → out2 ≡ out ++ copied source end e.start → between ≡ count_by is_lf (copied source end e.start) → out3 ≡ out2 ++ e.text → IsSpanBorder source e.end → Writes source from es out3 (ranges ++ record { first = feeds + between; last = feeds + between + count_by is_lf e.text } ∷ []) (feeds + between + count_by is_lf e.text) e.end left
+pub Writes-more : (source : List ℕ) (from : ℕ) (es : List Edit) (out : List ℕ) (ranges : List LineRange) (feeds end : ℕ) (e : Edit) (left : List Edit)
+    (out2 out3 : List ℕ) (between : ℕ) → Writes source from es out ranges feeds end (e ∷ left) → out2 ≡ out ++ copied source end e.start
+    → between ≡ count_by is_lf (copied source end e.start) → out3 ≡ out2 ++ e.text → IsSpanBorder source e.end
+    → Writes source from es out3 (ranges ++ record { first = feeds + between; last = feeds + between + count_by is_lf e.text } ∷ [])
+    (feeds + between + count_by is_lf e.text) e.end left
 Writes-more source from es out ranges feeds end e left out2 out3 between h one n two border =
     let c : List ℕ = copied source end e.start in
     let rest : List ℕ = written source e.end left in

@@ -23,7 +23,16 @@ choice b x y p q = cond_both b x y IsNarrow (λ _. p) (λ _. q)
 
 single-narrow : (cjk : Bool) (c : ℕ) → IsNarrow (single cjk c)
 single-narrow cjk c =
-    choice (eqb c 0x05DC) _ _ (omega arith) (choice (eqb c 0xFB3C) _ _ (omega arith) (choice (eqb c 0x17D8) _ _ (omega arith) (choice (eqb c 0x1A10) _ _ (omega arith) (choice (eqb c 0x10C03) _ _ (omega arith) (choice (eqb c 0x16D67) _ _ (omega arith) (choice (eqb c 0x16D68) _ _ (omega arith) (choice (eqb c 0xFE0F) _ _ (omega arith) (choice (is_quote_selector cjk c) _ _ (omega arith) (choice (not cjk && eqb c 0xFE0E) _ _ (omega arith) (choice (cjk && eqb c 0x0338) _ _ (omega arith) (omega arith)))))))))))
+    choice (eqb c 0x05DC) _ _ (omega arith)
+    (choice (eqb c 0xFB3C) _ _ (omega arith)
+    (choice (eqb c 0x17D8) _ _ (omega arith)
+    (choice (eqb c 0x1A10) _ _ (omega arith)
+    (choice (eqb c 0x10C03) _ _ (omega arith)
+    (choice (eqb c 0x16D67) _ _ (omega arith)
+    (choice (eqb c 0x16D68) _ _ (omega arith)
+    (choice (eqb c 0xFE0F) _ _ (omega arith)
+    (choice (is_quote_selector cjk c) _ _ (omega arith)
+    (choice (not cjk && eqb c 0xFE0E) _ _ (omega arith) (choice (cjk && eqb c 0x0338) _ _ (omega arith) (omega arith)))))))))))
 
 of_kind-narrow : (cjk : Bool) (c : ℕ) (k : Kind) → IsNarrow (of_kind cjk c k)
 of_kind-narrow cjk c kinds.Zero = omega arith
@@ -57,7 +66,11 @@ pub char_width-bound : (c : ℕ) → char_width c ≤ 4
 unfolding char_width
 char_width-bound c =
     let P = λ (n : ℕ). n ≤ 4 in
-    cond_both (eqb c 0x9) 4 _ P (λ _. omega arith) (λ _. cond_both (eqb c 0x200D) 0 _ P (λ _. omega arith) (λ _. cond_both (has_control_picture c || eqb c 0x7F || is_bidirectional_control c) 1 _ P (λ _. omega arith) (λ _. cond_both (is_replacement c) 1 (unwrap_or (unicode.char_width false c) 1) P (λ _. omega arith) (λ _. omega (arith, unicode-narrow false c)))))
+    cond_both (eqb c 0x9) 4 _ P (λ _. omega arith)
+    (λ _. cond_both (eqb c 0x200D) 0 _ P (λ _. omega arith)
+    (λ _. cond_both (has_control_picture c || eqb c 0x7F || is_bidirectional_control c) 1 _ P (λ _. omega arith)
+    (λ _. cond_both (is_replacement c) 1 (unwrap_or (unicode.char_width false c) 1) P (λ _. omega arith)
+    (λ _. omega (arith, unicode-narrow false c)))))
 
 -- ---- a text
 

@@ -62,7 +62,11 @@ appended-appended rows row (x ∷ xs) [] = ap (appended rows row) (sym (append-n
 appended-appended rows row (x ∷ xs) (y ∷ ys) =
     let front : List Cell = row_at rows row ++ x ∷ xs in
     let once : appended rows row (x ∷ xs) ≡ written [] rows row (front ∷ []) = appended-is rows row (x ∷ xs) (omega arith) in
-    appended-is (appended rows row (x ∷ xs)) row (y ∷ ys) (omega arith) ∙ ap (λ rs. written [] rs row ((row_at rs row ++ y ∷ ys) ∷ [])) once ∙ ap (λ (r : List Cell). written [] (written [] rows row (front ∷ [])) row ((r ++ y ∷ ys) ∷ [])) (row_at-placed rows row front) ∙ placed-twice rows row front (front ++ y ∷ ys) ∙ ap (λ (r : List Cell). written [] rows row (r ∷ [])) (append_assoc (row_at rows row) (x ∷ xs) (y ∷ ys)) ∙ sym (appended-is rows row (x ∷ xs ++ y ∷ ys) (omega arith))
+    appended-is (appended rows row (x ∷ xs)) row (y ∷ ys) (omega arith) ∙ ap (λ rs. written [] rs row ((row_at rs row ++ y ∷ ys) ∷ [])) once
+    ∙ ap (λ (r : List Cell). written [] (written [] rows row (front ∷ [])) row ((r ++ y ∷ ys) ∷ [])) (row_at-placed rows row front)
+    ∙ placed-twice rows row front (front ++ y ∷ ys)
+    ∙ ap (λ (r : List Cell). written [] rows row (r ∷ [])) (append_assoc (row_at rows row) (x ∷ xs) (y ∷ ys))
+    ∙ sym (appended-is rows row (x ∷ xs ++ y ∷ ys) (omega arith))
 
 -- a change of a list from one element on to its end
 changed_to_end : {X : Type 0} (f : X → X) (start end : ℕ) (xs : List X) → start ≤ end → length xs ≤ end → changed_within f start end xs ≡ take start xs ++ map f (drop start xs)
@@ -106,7 +110,11 @@ linked_row rows row end (cell ∷ cells) url within =
     let all : List Cell = xs ++ cell ∷ cells in
     let change = changed_within (linked url) (length xs) end in
     let placed : List (List Cell) = written [] rows row (all ∷ []) in
-    ap (λ rs. cells_linked rs row (length xs) end url) (appended-is rows row (cell ∷ cells) (omega arith)) ∙ changed_within_one change row placed [] (omega (arith, length-written [] rows row (all ∷ []))) ∙ ap (λ (r : List Cell). set placed row (change r)) (row_at-placed rows row all) ∙ set_placed rows row all (change all) ∙ ap (λ (r : List Cell). written [] rows row (r ∷ [])) (changed_after (linked url) end xs (cell ∷ cells) within) ∙ sym (appended-is rows row (map (linked url) (cell ∷ cells)) (omega arith))
+    ap (λ rs. cells_linked rs row (length xs) end url) (appended-is rows row (cell ∷ cells) (omega arith))
+    ∙ changed_within_one change row placed [] (omega (arith, length-written [] rows row (all ∷ [])))
+    ∙ ap (λ (r : List Cell). set placed row (change r)) (row_at-placed rows row all) ∙ set_placed rows row all (change all)
+    ∙ ap (λ (r : List Cell). written [] rows row (r ∷ [])) (changed_after (linked url) end xs (cell ∷ cells) within)
+    ∙ sym (appended-is rows row (map (linked url) (cell ∷ cells)) (omega arith))
 
 pub linked_from-appended : (rows : List (List Cell)) (row from : ℕ) (address : Option (List ℕ)) (cells : List Cell) → length (row_at rows row) ≡ from → from + length cells < 2 ^ 64 → linked_from address row from (appended rows row cells) ≡ appended rows row (linked_to address cells)
 linked_from-appended rows row from None cells size within = refl

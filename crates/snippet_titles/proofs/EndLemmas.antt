@@ -80,7 +80,12 @@ appended-further base done row (cell ∷ cells) at =
     let size : length there ≡ length base + length (trimmed done) = length-append base (trimmed done) in
     let missing : row - length there ≡ length done - length (trimmed done) = omega (arith, size, at) in
     let new : List (List Cell) = (cell ∷ cells) ∷ [] in
-    appended-is there row (cell ∷ cells) (omega arith) ∙ ap (λ (r : List Cell). written [] there row ((r ++ cell ∷ cells) ∷ [])) (get_or_past there row [] (omega (arith, size, at, all.1))) ∙ written_past [] there new row (omega (arith, size, at, all.1)) ∙ ap (λ n. there ++ replicate n [] ++ new) missing ∙ ap (λ rs. rs ++ new) (append_assoc base (trimmed done) (replicate (length done - length (trimmed done)) [])) ∙ ap (λ rs. base ++ rs ++ new) all.0 ∙ append_assoc base done new ∙ ap (λ rs. base ++ rs) (sym (trimmed-full done (cell ∷ cells) (omega arith)))
+    appended-is there row (cell ∷ cells) (omega arith)
+    ∙ ap (λ (r : List Cell). written [] there row ((r ++ cell ∷ cells) ∷ [])) (get_or_past there row [] (omega (arith, size, at, all.1)))
+    ∙ written_past [] there new row (omega (arith, size, at, all.1)) ∙ ap (λ n. there ++ replicate n [] ++ new) missing
+    ∙ ap (λ rs. rs ++ new) (append_assoc base (trimmed done) (replicate (length done - length (trimmed done)) []))
+    ∙ ap (λ rs. base ++ rs ++ new) all.0 ∙ append_assoc base done new
+    ∙ ap (λ rs. base ++ rs) (sym (trimmed-full done (cell ∷ cells) (omega arith)))
 
 -- cells below all rows
 pub appended_below : (rows : List (List Cell)) (row : ℕ) (cells : List Cell) → row ≡ length rows → appended rows row cells ≡ rows ++ trimmed (cells ∷ [])

@@ -26,7 +26,9 @@ extended_cells rows row cells size =
     ap (λ (all : List (List Cell)). cells_written all row (length (row_at rows row)) cells) (last_split rows row size) ∙ ap (λ r. cells_written (take row rows ++ row_at rows row ∷ []) r (length (row_at rows row)) cells) (sym front) ∙ appended_last (take row rows) (row_at rows row) cells
 
 -- a text appended to the last row stands after its cells; one that is empty changes nothing
-pub extended : (old new : List (List Cell)) (row : ℕ) (role : ElementStyle) (text : List ℕ) → length old ≡ row + 1 → (0 < length text → new ≡ cells_written old row (length (row_at old row)) (text_cells role (chars text))) → (text ≡ [] → new ≡ old) → new ≡ take row old ++ (row_at old row ++ text_cells role (chars text)) ∷ []
+pub extended : (old new : List (List Cell)) (row : ℕ) (role : ElementStyle) (text : List ℕ) → length old ≡ row + 1
+    → (0 < length text → new ≡ cells_written old row (length (row_at old row)) (text_cells role (chars text))) → (text ≡ [] → new ≡ old)
+    → new ≡ take row old ++ (row_at old row ++ text_cells role (chars text)) ∷ []
 unfolding chars
 extended old new row role [] size full empty = empty refl ∙ last_split old row size ∙ ap (λ (r : List Cell). take row old ++ r ∷ []) (sym (append-nil (row_at old row)))
 extended old new row role (b ∷ bs) size full empty = full (omega arith) ∙ extended_cells old row (text_cells role (chars (b ∷ bs))) size

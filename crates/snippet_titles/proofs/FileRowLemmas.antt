@@ -57,18 +57,27 @@ file_glyph-short Secondary Ascii = omega arith
 file_glyph-short Secondary Unicode = omega arith
 
 -- the row that leads to a file
-pub file_row-begun : (old new : List (List Cell)) (row : ℕ) (text : List ℕ) (layout : OriginLayout) (start : FileStart) → row ≡ length old → chars text ≡ file_glyph start layout.decor → (0 < length text → new ≡ cells_written old row layout.gutter (text_cells LineNumber (chars text))) → new ≡ old ++ file_row layout start ∷ []
+pub file_row-begun : (old new : List (List Cell)) (row : ℕ) (text : List ℕ) (layout : OriginLayout) (start : FileStart) → row ≡ length old
+    → chars text ≡ file_glyph start layout.decor → (0 < length text → new ≡ cells_written old row layout.gutter (text_cells LineNumber (chars text)))
+    → new ≡ old ++ file_row layout start ∷ []
 unfolding file_row
 file_row-begun old new row text layout start below is writes =
     begun_by_text old new row layout.gutter text (file_glyph start layout.decor) below is (file_glyph-some start layout.decor) writes
 
 -- the closing row
-pub closing_row-begun : (old new : List (List Cell)) (row gutter : ℕ) (text : List ℕ) (decor : DecorStyle) → row ≡ length old → chars text ≡ closing_of decor → (0 < length text → new ≡ cells_written old row (gutter + 1) (text_cells LineNumber (chars text))) → new ≡ old ++ closing_row decor gutter ∷ []
+pub closing_row-begun : (old new : List (List Cell)) (row gutter : ℕ) (text : List ℕ) (decor : DecorStyle) → row ≡ length old
+    → chars text ≡ closing_of decor → (0 < length text → new ≡ cells_written old row (gutter + 1) (text_cells LineNumber (chars text)))
+    → new ≡ old ++ closing_row decor gutter ∷ []
 closing_row-begun old new row gutter text decor below is writes =
     begun_by_text old new row (gutter + 1) text (closing_of decor) below is (closing-some decor) writes
 
 -- the row of a path: the row that leads to it, with the text after that
-pub origin_row-begun : (old now new : List (List Cell)) (row : ℕ) (text path : List ℕ) (layout : OriginLayout) (start : FileStart) (place : OriginLocation) → row ≡ length old → now ≡ old ++ file_row layout start ∷ [] → chars text ≡ origin_text layout.anonymized path place → (0 < length text → new ≡ cells_written now row (length (row_at now row)) (text_cells LineAndColumn (chars text))) → (text ≡ [] → new ≡ now) → new ≡ old ++ origin_row layout start path place ∷ []
+pub origin_row-begun : (old now new : List (List Cell)) (row : ℕ) (text path : List ℕ) (layout : OriginLayout) (start : FileStart)
+    (place : OriginLocation) → row ≡ length old → now ≡ old ++ file_row layout start ∷ [] → chars text ≡ origin_text layout.anonymized path place
+    → (0 < length text → new ≡ cells_written now row (length (row_at now row)) (text_cells LineAndColumn (chars text))) → (text ≡ [] → new ≡ now)
+    → new ≡ old ++ origin_row layout start path place ∷ []
 unfolding origin_row
 origin_row-begun old now new row text path layout start place below begun is full empty =
-    extended_from old now new row (file_row layout start) (text_cells LineAndColumn (chars text)) below begun (extended now new row LineAndColumn text (length-begun old now row (file_row layout start) below begun) full empty) ∙ ap (λ cs. old ++ (file_row layout start ++ text_cells LineAndColumn cs) ∷ []) is
+    extended_from old now new row (file_row layout start) (text_cells LineAndColumn (chars text))
+    below begun (extended now new row LineAndColumn text (length-begun old now row (file_row layout start) below begun) full empty)
+    ∙ ap (λ cs. old ++ (file_row layout start ++ text_cells LineAndColumn cs) ∷ []) is

@@ -116,7 +116,10 @@ message_rows-unnumbered hyperlink place heading =
     let first : IsLed place.gutter ((spaces ++ sign) ++ label) = led-more place.gutter (spaces ++ sign) label (led-more place.gutter spaces sign (spaces-led place.gutter)) in
     let further : IsLed place.gutter (spaces ++ bar) = led-more place.gutter spaces bar (spaces-led place.gutter) in
     let P : List Cell → Type 0 = HasNoNumber place.gutter in
-    All-trimmed P (lines_below ((spaces ++ sign) ++ label) (spaces ++ bar) roles.text (heading_lines heading)) (lines-each P ((spaces ++ sign) ++ label) (spaces ++ bar) roles.text (λ line. (led-more place.gutter ((spaces ++ sign) ++ label) (text_cells roles.text line) first).1) (λ line. (led-more place.gutter (spaces ++ bar) (text_cells roles.text line) further).1) (heading_lines heading))
+    All-trimmed P (lines_below ((spaces ++ sign) ++ label) (spaces ++ bar) roles.text (heading_lines heading))
+    (lines-each P ((spaces ++ sign) ++ label) (spaces ++ bar)
+    roles.text (λ line. (led-more place.gutter ((spaces ++ sign) ++ label) (text_cells roles.text line) first).1)
+    (λ line. (led-more place.gutter (spaces ++ bar) (text_cells roles.text line) further).1) (heading_lines heading))
 
 -- a label without an id links to nothing
 label-unlinked : (hyperlink : Bool) (roles : HeadingRoles) (heading : Heading) → heading.id ≡ None → All IsUnlinked (label_cells hyperlink roles heading)
@@ -139,7 +142,11 @@ heading_rows-unlinked hyperlink style heading none =
     let label : List Cell = label_cells hyperlink roles heading in
     let further : List Cell = indent_cells style (label_width heading) in
     let first : All IsUnlinked (sign ++ label) = All-append IsUnlinked sign label (sign_unlinked style) (label-unlinked hyperlink roles heading none) in
-    All-trimmed (All IsUnlinked) (lines_below (sign ++ label) further roles.text (heading_lines heading)) (lines-each (All IsUnlinked) (sign ++ label) further roles.text (λ line. All-append IsUnlinked (sign ++ label) (text_cells roles.text line) first (drawn_unlinked roles.text line)) (λ line. All-append IsUnlinked further (text_cells roles.text line) (indent_unlinked style (label_width heading)) (drawn_unlinked roles.text line)) (heading_lines heading))
+    All-trimmed (All IsUnlinked) (lines_below (sign ++ label) further roles.text (heading_lines heading))
+    (lines-each (All IsUnlinked) (sign ++ label)
+    further roles.text (λ line. All-append IsUnlinked (sign ++ label) (text_cells roles.text line) first (drawn_unlinked roles.text line))
+    (λ line. All-append IsUnlinked further (text_cells roles.text line) (indent_unlinked style (label_width heading))
+    (drawn_unlinked roles.text line)) (heading_lines heading))
 
 pub message_rows-unlinked : (hyperlink : Bool) (place : MessageContext) (heading : Heading) → heading.id ≡ None → All (All (λ (cell : Cell). cell.link ≡ None)) (heading_rows hyperlink (Message place) heading)
 message_rows-unlinked hyperlink place heading none = heading_rows-unlinked hyperlink (Message place) heading none

@@ -36,14 +36,26 @@ roles_known style heading level trusted roles leveled trusts are =
     are ∙ ap (λ (l : Level). roles_of style l.kind trusted) leveled ∙ ap (roles_of style heading.level.kind) trusts
 
 -- what is drawn of a text that spells these characters, below a label of this width
-pub text_drawn : (old new : List (List Cell)) (row width wide : ℕ) (style : TitleStyle) (role : ElementStyle) (text shown : List ℕ) → width ≡ wide → IsUtf8 text → chars text ≡ shown → new ≡ take row old ++ trimmed (lines_below (row_at old row) (indent_cells style width) role (map chars (lines_at text))) → new ≡ take row old ++ trimmed (lines_below (row_at old row) (indent_cells style wide) role (lines_at shown))
+pub text_drawn : (old new : List (List Cell)) (row width wide : ℕ) (style : TitleStyle) (role : ElementStyle) (text shown : List ℕ) → width ≡ wide
+    → IsUtf8 text → chars text ≡ shown → new ≡ take row old ++ trimmed
+    (lines_below (row_at old row) (indent_cells style width) role (map chars (lines_at text)))
+    → new ≡ take row old ++ trimmed (lines_below (row_at old row) (indent_cells style wide) role (lines_at shown))
 text_drawn old new row width wide style role text shown measured utf8 spelled is =
     let cut : map chars (lines_at text) ≡ lines_at shown = lines_at-chars text utf8 ∙ ap lines_at spelled in
     is ∙ ap (λ n. take row old ++ trimmed (lines_below (row_at old row) (indent_cells style n) role (map chars (lines_at text)))) measured ∙ ap (λ (ls : List (List ℕ)). take row old ++ trimmed (lines_below (row_at old row) (indent_cells style wide) role ls)) cut
 
 -- the lines after a label make the rows
-pub heading_drawn : (old one two new : List (List Cell)) (row : ℕ) (hyperlink : Bool) (style : TitleStyle) (heading : Heading) (level : Level) (trusted : Bool) (roles : HeadingRoles) → row ≡ length old → level ≡ heading.level → trusted ≡ heading.allows_styling → roles ≡ roles_of style level.kind trusted → one ≡ appended old row (sign_cells style) → two ≡ appended one row (label_cells hyperlink roles heading) → new ≡ take row two ++ trimmed (lines_below (row_at two row) (indent_cells style (label_width heading)) roles.text (heading_lines heading)) → new ≡ old ++ heading_rows hyperlink style heading
+pub heading_drawn : (old one two new : List (List Cell)) (row : ℕ) (hyperlink : Bool) (style : TitleStyle) (heading : Heading) (level : Level)
+    (trusted : Bool) (roles : HeadingRoles) → row ≡ length old → level ≡ heading.level → trusted ≡ heading.allows_styling
+    → roles ≡ roles_of style level.kind trusted → one ≡ appended old row (sign_cells style)
+    → two ≡ appended one row (label_cells hyperlink roles heading)
+    → new ≡ take row two ++ trimmed (lines_below (row_at two row) (indent_cells style (label_width heading)) roles.text (heading_lines heading))
+    → new ≡ old ++ heading_rows hyperlink style heading
 unfolding heading_rows
 heading_drawn old one two new row hyperlink style heading level trusted roles at leveled trusts roles_are first second third =
     let begun = label_begun old one two row (sign_cells style) (label_cells hyperlink roles heading) at first second in
-    third ∙ ap (λ rs. rs ++ trimmed (lines_below (row_at two row) (indent_cells style (label_width heading)) roles.text (heading_lines heading))) begun.0 ∙ ap (λ (r : List Cell). old ++ trimmed (lines_below r (indent_cells style (label_width heading)) roles.text (heading_lines heading))) begun.1 ∙ ap (λ (rs : HeadingRoles). old ++ trimmed (lines_below (sign_cells style ++ label_cells hyperlink rs heading) (indent_cells style (label_width heading)) rs.text (heading_lines heading))) (roles_known style heading level trusted roles leveled trusts roles_are)
+    third ∙ ap (λ rs. rs ++ trimmed (lines_below (row_at two row) (indent_cells style (label_width heading)) roles.text (heading_lines heading)))
+    begun.0 ∙ ap (λ (r : List Cell). old ++ trimmed (lines_below r (indent_cells style (label_width heading)) roles.text (heading_lines heading)))
+    begun.1 ∙ ap (λ (rs : HeadingRoles). old ++ trimmed
+    (lines_below (sign_cells style ++ label_cells hyperlink rs heading) (indent_cells style (label_width heading))
+    rs.text (heading_lines heading))) (roles_known style heading level trusted roles leveled trusts roles_are)

@@ -24,10 +24,30 @@ use Rattle.snippet_titles.proofs.AppendLemmas.{row_at-appended}
 use Rattle.snippet_titles.proofs.RowLemmas.{appended-three}
 
 -- a level's name, an id and a colon, drawn one after the other, are the label
-pub label_drawn : (old one two new : List (List Cell)) (row : ℕ) (hyperlink : Bool) (roles : HeadingRoles) (heading : Heading) (level : Level) (hidden : Bool) (name colon : List ℕ) (id set : Option Id) → level ≡ heading.level → hidden ≡ is_hidden level.name → name ≡ norm (chars (name_of level)) → id ≡ heading.id → colon ≡ colon_of hidden set → set ≡ heading.id → one ≡ appended old row (text_cells roles.label name) → two ≡ appended one row (id_cells hyperlink hidden roles.label id) → new ≡ appended two row (text_cells roles.colon colon) → new ≡ appended old row (label_cells hyperlink roles heading)
+pub label_drawn : (old one two new : List (List Cell)) (row : ℕ) (hyperlink : Bool) (roles : HeadingRoles) (heading : Heading) (level : Level)
+    (hidden : Bool) (name colon : List ℕ) (id set : Option Id) → level ≡ heading.level → hidden ≡ is_hidden level.name
+    → name ≡ norm (chars (name_of level)) → id ≡ heading.id → colon ≡ colon_of hidden set → set ≡ heading.id
+    → one ≡ appended old row (text_cells roles.label name) → two ≡ appended one row (id_cells hyperlink hidden roles.label id)
+    → new ≡ appended two row (text_cells roles.colon colon) → new ≡ appended old row (label_cells hyperlink roles heading)
 unfolding label_cells
 label_drawn old one two new row hyperlink roles heading level hidden name colon id set leveled hides named own colons is_set first second third =
-    appended-three old one two new row _ _ _ first second third ∙ ap (λ (cs : List ℕ). appended old row (text_cells roles.label cs ++ id_cells hyperlink hidden roles.label id ++ text_cells roles.colon colon)) named ∙ ap (λ (cs : List ℕ). appended old row (text_cells roles.label (norm (chars (name_of level))) ++ id_cells hyperlink hidden roles.label id ++ text_cells roles.colon cs)) colons ∙ ap (λ (i : Option Id). appended old row (text_cells roles.label (norm (chars (name_of level))) ++ id_cells hyperlink hidden roles.label i ++ text_cells roles.colon (colon_of hidden set))) own ∙ ap (λ (i : Option Id). appended old row (text_cells roles.label (norm (chars (name_of level))) ++ id_cells hyperlink hidden roles.label heading.id ++ text_cells roles.colon (colon_of hidden i))) is_set ∙ ap (λ (h : Bool). appended old row (text_cells roles.label (norm (chars (name_of level))) ++ id_cells hyperlink h roles.label heading.id ++ text_cells roles.colon (colon_of h heading.id))) hides ∙ ap (λ (l : Level). appended old row (text_cells roles.label (norm (chars (name_of l))) ++ id_cells hyperlink (is_hidden l.name) roles.label heading.id ++ text_cells roles.colon (colon_of (is_hidden l.name) heading.id))) leveled
+    appended-three old one two new row _ _ _ first second third
+    ∙ ap (λ (cs : List ℕ). appended old row
+    (text_cells roles.label cs ++ id_cells hyperlink hidden roles.label id ++ text_cells roles.colon colon)) named
+    ∙ ap (λ (cs : List ℕ). appended old row
+    (text_cells roles.label (norm (chars (name_of level))) ++ id_cells hyperlink hidden roles.label id ++ text_cells roles.colon cs)) colons
+    ∙ ap (λ (i : Option Id). appended old row
+    (text_cells roles.label (norm (chars (name_of level)))
+    ++ id_cells hyperlink hidden roles.label i ++ text_cells roles.colon (colon_of hidden set))) own
+    ∙ ap (λ (i : Option Id). appended old row
+    (text_cells roles.label (norm (chars (name_of level)))
+    ++ id_cells hyperlink hidden roles.label heading.id ++ text_cells roles.colon (colon_of hidden i))) is_set
+    ∙ ap (λ (h : Bool). appended old row
+    (text_cells roles.label (norm (chars (name_of level)))
+    ++ id_cells hyperlink h roles.label heading.id ++ text_cells roles.colon (colon_of h heading.id))) hides
+    ∙ ap (λ (l : Level). appended old row
+    (text_cells roles.label (norm (chars (name_of l))) ++ id_cells hyperlink (is_hidden l.name)
+    roles.label heading.id ++ text_cells roles.colon (colon_of (is_hidden l.name) heading.id))) leveled
 
 -- a name that fits is short
 pub name_few : (level known : Level) (shown : List ℕ) → level ≡ known → LevelFits known → shown ≡ norm (chars (name_of level)) → length shown < 2 ^ 58
@@ -44,7 +64,10 @@ name_start old one row start count role name size is counted =
 width_of-three : (a b c : List ℕ) → width_of (a ++ b ++ c) ≡ width_of a + width_of b + width_of c
 width_of-three a b c = sum_by-append char_width (a ++ b) c ∙ ap (λ n. n + width_of c) (sum_by-append char_width a b)
 
-pub label_width-parts : (known level : Level) (hidden : Bool) (owned id set : Option Id) (name shown colon : ℕ) (colons : List ℕ) → level ≡ known → hidden ≡ is_hidden known.name → id ≡ owned → set ≡ owned → name ≡ width_of (chars (name_of level)) → shown ≡ width_of (id_text hidden id) → colons ≡ colon_of hidden set → colon ≡ width_of colons → name + shown + colon ≡ width_of (norm (chars (name_of known)) ++ id_text (is_hidden known.name) owned ++ colon_of (is_hidden known.name) owned)
+pub label_width-parts : (known level : Level) (hidden : Bool) (owned id set : Option Id) (name shown colon : ℕ) (colons : List ℕ) → level ≡ known
+    → hidden ≡ is_hidden known.name → id ≡ owned → set ≡ owned → name ≡ width_of (chars (name_of level)) → shown ≡ width_of (id_text hidden id)
+    → colons ≡ colon_of hidden set → colon ≡ width_of colons
+    → name + shown + colon ≡ width_of (norm (chars (name_of known)) ++ id_text (is_hidden known.name) owned ++ colon_of (is_hidden known.name) owned)
 label_width-parts known level hidden owned id set name shown colon colons leveled hides own is_set named identified spelled measured =
     let h : Bool = is_hidden known.name in
     let one : name ≡ width_of (norm (chars (name_of known))) = named ∙ ap (λ (l : Level). width_of (chars (name_of l))) leveled ∙ sym (width_of-norm (chars (name_of known))) in

@@ -26,7 +26,9 @@ lines_at-first text first rest whole none =
     ap lines_at whole ∙ slice_split_at (λ b. b == 10) first 10 rest (All-from_get_or (λ b. (b == 10) ≡ false) first 0 (λ i within. let other : get_or first i 0 ≢ 10 = none i within in grind (arith, nat_tests))) refl
 
 -- a text of one line, after the cells of the last row
-pub one_line : (old new : List (List Cell)) (row : ℕ) (further : List Cell) (role : ElementStyle) (text : List ℕ) → IsAtEnd row old → lines_at text ≡ text ∷ [] → new ≡ appended old row (text_cells role (chars text)) → new ≡ take row old ++ trimmed (lines_below (row_at old row) further role (map chars (lines_at text)))
+pub one_line : (old new : List (List Cell)) (row : ℕ) (further : List Cell) (role : ElementStyle) (text : List ℕ) → IsAtEnd row old
+    → lines_at text ≡ text ∷ [] → new ≡ appended old row (text_cells role (chars text))
+    → new ≡ take row old ++ trimmed (lines_below (row_at old row) further role (map chars (lines_at text)))
 one_line old new row further role text end one is =
     let more = IsAtEnd-more old new row (text_cells role (chars text)) end is in
     more.2.last ∙ ap (λ rs. rs ++ trimmed (row_at new row ∷ [])) more.0 ∙ ap (λ (r : List Cell). take row old ++ trimmed (r ∷ [])) more.1 ∙ ap (λ (ls : List (List ℕ)). take row old ++ trimmed (lines_below (row_at old row) further role (map chars ls))) (sym one)
@@ -45,17 +47,25 @@ number_is lines k index line within is =
     omega (arith, same)
 
 -- a row more
-pub further_drawn : (old grid new : List (List Cell)) (row index : ℕ) (further : List Cell) (role : ElementStyle) (numbered : List (ℕ × Bor (List ℕ))) (line : Bor (List ℕ)) → IsAtEnd row old → index ≡ length numbered → grid ≡ take row old ++ trimmed (row_at old row ∷ further_rows further role numbered) → new ≡ appended grid (row + 1 + index) (further ++ text_cells role (chars line.now)) → new ≡ take row old ++ trimmed (row_at old row ∷ further_rows further role (numbered ++ (index, line) ∷ []))
+pub further_drawn : (old grid new : List (List Cell)) (row index : ℕ) (further : List Cell) (role : ElementStyle) (numbered : List (ℕ × Bor (List ℕ)))
+    (line : Bor (List ℕ)) → IsAtEnd row old → index ≡ length numbered
+    → grid ≡ take row old ++ trimmed (row_at old row ∷ further_rows further role numbered)
+    → new ≡ appended grid (row + 1 + index) (further ++ text_cells role (chars line.now))
+    → new ≡ take row old ++ trimmed (row_at old row ∷ further_rows further role (numbered ++ (index, line) ∷ []))
 further_drawn old grid new row index further role numbered line end at is drawn_is =
     let base : List (List Cell) = take row old in
     let first : List Cell = row_at old row in
     let more : List Cell = further ++ text_cells role (chars line.now) in
     let count : length (further_rows further role numbered) ≡ length numbered = length-map (map line_of numbered) (λ l. further ++ text_cells role l) ∙ length-map numbered line_of in
-    let both : further_rows further role (numbered ++ (index, line) ∷ []) ≡ further_rows further role numbered ++ more ∷ [] = ap (map (λ l. further ++ text_cells role l)) (map-append line_of numbered ((index, line) ∷ [])) ∙ map-append (λ l. further ++ text_cells role l) (map line_of numbered) (chars line.now ∷ []) in
+    let both : further_rows further role (numbered ++ (index, line) ∷ []) ≡ further_rows further role numbered ++ more ∷ [] =
+    ap (map (λ l. further ++ text_cells role l)) (map-append line_of numbered ((index, line) ∷ []))
+    ∙ map-append (λ l. further ++ text_cells role l) (map line_of numbered) (chars line.now ∷ []) in
     drawn_is ∙ ap (λ rs. appended rs (row + 1 + index) more) is ∙ appended-further base (first ∷ further_rows further role numbered) (row + 1 + index) more (omega (arith, length-take row old, end.within, count, at)) ∙ ap (λ rs. base ++ trimmed (first ∷ rs)) (sym both)
 
 -- the row below those that are drawn isn't there yet
-pub none_below : (old grid : List (List Cell)) (row index : ℕ) (further : List Cell) (role : ElementStyle) (numbered : List (ℕ × Bor (List ℕ))) → IsAtEnd row old → index ≡ length numbered → grid ≡ take row old ++ trimmed (row_at old row ∷ further_rows further role numbered) → row_at grid (row + 1 + index) ≡ []
+pub none_below : (old grid : List (List Cell)) (row index : ℕ) (further : List Cell) (role : ElementStyle) (numbered : List (ℕ × Bor (List ℕ)))
+    → IsAtEnd row old → index ≡ length numbered → grid ≡ take row old ++ trimmed (row_at old row ∷ further_rows further role numbered)
+    → row_at grid (row + 1 + index) ≡ []
 none_below old grid row index further role numbered end at is =
     let base : List (List Cell) = take row old in
     let all : List (List Cell) = row_at old row ∷ further_rows further role numbered in
@@ -72,8 +82,17 @@ chars-seen [] = refl
 chars-seen (line ∷ lines) = ap (λ ls. line_of line ∷ ls) (chars-seen lines)
 
 -- several lines
-pub several_lines : (old begun new : List (List Cell)) (row : ℕ) (further : List Cell) (role : ElementStyle) (text first rest : List ℕ) (numbered : List (ℕ × Bor (List ℕ))) → IsAtEnd row old → lines_at text ≡ first ∷ lines_at rest → begun ≡ appended old row (text_cells role (chars first)) → new ≡ take row begun ++ trimmed (row_at begun row ∷ further_rows further role numbered) → map (λ (p : ℕ × Bor (List ℕ)). (p.0, p.1.now)) numbered ≡ enumerate_from 0 (lines_at rest) → new ≡ take row old ++ trimmed (lines_below (row_at old row) further role (map chars (lines_at text)))
+pub several_lines : (old begun new : List (List Cell)) (row : ℕ) (further : List Cell) (role : ElementStyle) (text first rest : List ℕ)
+    (numbered : List (ℕ × Bor (List ℕ))) → IsAtEnd row old → lines_at text ≡ first ∷ lines_at rest
+    → begun ≡ appended old row (text_cells role (chars first))
+    → new ≡ take row begun ++ trimmed (row_at begun row ∷ further_rows further role numbered)
+    → map (λ (p : ℕ × Bor (List ℕ)). (p.0, p.1.now)) numbered ≡ enumerate_from 0 (lines_at rest)
+    → new ≡ take row old ++ trimmed (lines_below (row_at old row) further role (map chars (lines_at text)))
 several_lines old begun new row further role text first rest numbered end several is drawn_is all =
     let more = IsAtEnd-more old begun row (text_cells role (chars first)) end is in
     let lines : map line_of numbered ≡ map chars (lines_at rest) = chars-seen numbered ∙ ap (map (λ (p : ℕ × List ℕ). chars p.1)) all ∙ chars-numbered 0 (lines_at rest) in
-    drawn_is ∙ ap (λ rs. rs ++ trimmed (row_at begun row ∷ further_rows further role numbered)) more.0 ∙ ap (λ (r : List Cell). take row old ++ trimmed (r ∷ further_rows further role numbered)) more.1 ∙ ap (λ (ls : List (List ℕ)). take row old ++ trimmed ((row_at old row ++ text_cells role (chars first)) ∷ map (λ l. further ++ text_cells role l) ls)) lines ∙ ap (λ (ls : List (List ℕ)). take row old ++ trimmed (lines_below (row_at old row) further role (map chars ls))) (sym several)
+    drawn_is ∙ ap (λ rs. rs ++ trimmed (row_at begun row ∷ further_rows further role numbered)) more.0
+    ∙ ap (λ (r : List Cell). take row old ++ trimmed (r ∷ further_rows further role numbered)) more.1
+    ∙ ap (λ (ls : List (List ℕ)). take row old ++ trimmed
+    ((row_at old row ++ text_cells role (chars first)) ∷ map (λ l. further ++ text_cells role l) ls)) lines
+    ∙ ap (λ (ls : List (List ℕ)). take row old ++ trimmed (lines_below (row_at old row) further role (map chars ls))) (sym several)

@@ -106,7 +106,9 @@ label-links hyperlink roles heading =
     let hidden : Bool = is_hidden heading.level.name in
     let name : List ℕ = norm (chars (name_of heading.level)) in
     let id : List Cell = id_cells hyperlink hidden roles.label heading.id in
-    links-after None (text_cells roles.label name ++ id) (text_cells roles.colon (colon_of hidden heading.id)) (drawn_unlinked roles.colon (colon_of hidden heading.id)) ∙ links-before (text_cells roles.label name) id (drawn_unlinked roles.label name) ∙ id-links hyperlink hidden roles.label heading.id
+    links-after None (text_cells roles.label name ++ id) (text_cells roles.colon (colon_of hidden heading.id))
+    (drawn_unlinked roles.colon (colon_of hidden heading.id)) ∙ links-before (text_cells roles.label name) id (drawn_unlinked roles.label name)
+    ∙ id-links hyperlink hidden roles.label heading.id
 
 -- rows of cells that link to nothing link to nothing
 unlinked_row : (cells : List Cell) (r : ElementStyle) (line : List ℕ) → All IsUnlinked cells → links_after None (cells ++ text_cells r line) ≡ []
@@ -143,7 +145,10 @@ heading_rows-links hyperlink style heading =
     let first : List Cell = sign_cells style ++ label in
     let further : List Cell = indent_cells style (label_width heading) in
     let lines : List (List ℕ) = heading_lines heading in
-    trimmed-links (lines_below first further roles.text lines) ∙ lines-links first further roles.text lines (omega (arith, length-slice_split (λ c. c == 10) (shown_text heading))) (indent_unlinked style (label_width heading)) ∙ links-before (sign_cells style) label (sign_unlinked style) ∙ label-links hyperlink roles heading
+    trimmed-links (lines_below first further roles.text lines)
+    ∙ lines-links first further roles.text lines (omega (arith, length-slice_split (λ c. c == 10) (shown_text heading)))
+    (indent_unlinked style (label_width heading)) ∙ links-before (sign_cells style) label (sign_unlinked style)
+    ∙ label-links hyperlink roles heading
 
 -- and those of a title
 pub title_rows-links : (hyperlink : Bool) (title : the_title.Title) → links_of (title_rows hyperlink title) ≡ id_links hyperlink title.id

@@ -62,7 +62,11 @@ module _ (xs ys zs : List Cell) where
 regrouped : (s n o l k c e : List Cell) → (s ++ ((n ++ ((o ++ l) ++ k)) ++ c)) ++ e ≡ (s ++ (n ++ o)) ++ (l ++ ((k ++ c) ++ e))
 regrouped s n o l k c e =
     let p : List Cell = n ++ o in
-    ap (λ (xs : List Cell). (s ++ (xs ++ c)) ++ e) (sym (append_assoc n (o ++ l) k) ∙ ap (λ (xs : List Cell). xs ++ k) (sym (append_assoc n o l)) ∙ append_assoc p l k) ∙ ap (λ (xs : List Cell). (s ++ xs) ++ e) (append_assoc p (l ++ k) c) ∙ ap (λ (xs : List Cell). xs ++ e) (sym (append_assoc s p ((l ++ k) ++ c))) ∙ append_assoc (s ++ p) ((l ++ k) ++ c) e ∙ ap (λ (xs : List Cell). (s ++ p) ++ (xs ++ e)) (append_assoc l k c) ∙ ap (λ (xs : List Cell). (s ++ p) ++ xs) (append_assoc l (k ++ c) e)
+    ap (λ (xs : List Cell). (s ++ (xs ++ c)) ++ e)
+    (sym (append_assoc n (o ++ l) k) ∙ ap (λ (xs : List Cell). xs ++ k) (sym (append_assoc n o l)) ∙ append_assoc p l k)
+    ∙ ap (λ (xs : List Cell). (s ++ xs) ++ e) (append_assoc p (l ++ k) c)
+    ∙ ap (λ (xs : List Cell). xs ++ e) (sym (append_assoc s p ((l ++ k) ++ c))) ∙ append_assoc (s ++ p) ((l ++ k) ++ c) e
+    ∙ ap (λ (xs : List Cell). (s ++ p) ++ (xs ++ e)) (append_assoc l k c) ∙ ap (λ (xs : List Cell). (s ++ p) ++ xs) (append_assoc l (k ++ c) e)
 
 module _ (hyperlink : Bool) (style : TitleStyle) (roles : HeadingRoles) (heading : Heading) (line : List ℕ) where
   abbrev hidden : Bool
@@ -103,7 +107,9 @@ module _ (hyperlink : Bool) (style : TitleStyle) (roles : HeadingRoles) (heading
     in_parts : row ≡ before ++ (shown ++ after)
     unfolding label_cells
     in_parts =
-        ap (λ (i : Option Id). (sign_cells style ++ (name ++ id_cells hyperlink hidden roles.label i ++ colon)) ++ rest) own ∙ ap (λ t. (sign_cells style ++ (name ++ bracketed_cells hidden roles.label (address_of hyperlink id) t ++ colon)) ++ rest) given ∙ regrouped (sign_cells style) name opening shown closing colon rest
+        ap (λ (i : Option Id). (sign_cells style ++ (name ++ id_cells hyperlink hidden roles.label i ++ colon)) ++ rest) own
+        ∙ ap (λ t. (sign_cells style ++ (name ++ bracketed_cells hidden roles.label (address_of hyperlink id) t ++ colon)) ++ rest) given
+        ∙ regrouped (sign_cells style) name opening shown closing colon rest
 
     length-before : length before ≡ id_start style heading
     length-before =
@@ -123,7 +129,10 @@ module _ (hyperlink : Bool) (style : TitleStyle) (roles : HeadingRoles) (heading
 
     text_linked : (c : ℕ) → c < length (norm (chars text)) → (get_or row (id_start style heading + c) SPACE).link ≡ address_of hyperlink id
     text_linked c within =
-        ap (λ (r : List Cell). (get_or r (id_start style heading + c) SPACE).link) in_parts ∙ ap (λ n. (get_or (before ++ (shown ++ after)) (n + c) SPACE).link) (sym length-before) ∙ ap (λ (cell : Cell). cell.link) (second_part before shown after c (omega (arith, within, length-shown))) ∙ linked_at (address_of hyperlink id) roles.label (norm (chars text)) c within
+        ap (λ (r : List Cell). (get_or r (id_start style heading + c) SPACE).link) in_parts
+        ∙ ap (λ n. (get_or (before ++ (shown ++ after)) (n + c) SPACE).link) (sym length-before)
+        ∙ ap (λ (cell : Cell). cell.link) (second_part before shown after c (omega (arith, within, length-shown)))
+        ∙ linked_at (address_of hyperlink id) roles.label (norm (chars text)) c within
 
     others_unlinked : (c : ℕ) → (id_start style heading ≤ c → c < id_start style heading + length (norm (chars text)) → ⊥) → (get_or row c SPACE).link ≡ None
     others_unlinked c outside =
@@ -133,7 +142,12 @@ module _ (hyperlink : Bool) (style : TitleStyle) (roles : HeadingRoles) (heading
   bare_unlinked : id_cells hyperlink hidden roles.label heading.id ≡ [] → (c : ℕ) → (get_or row c SPACE).link ≡ None
   unfolding label_cells
   bare_unlinked none c =
-      ap (λ (id : List Cell). (get_or ((sign_cells style ++ (name ++ id ++ colon)) ++ rest) c SPACE).link) none ∙ unlinked_at ((sign_cells style ++ (name ++ [] ++ colon)) ++ rest) (All-append IsUnlinked (sign_cells style ++ (name ++ [] ++ colon)) rest (All-append IsUnlinked (sign_cells style) (name ++ [] ++ colon) (sign_unlinked style) (All-append IsUnlinked (name ++ []) colon (All-append IsUnlinked name [] (drawn_unlinked roles.label name_chars) (All-nil IsUnlinked)) (drawn_unlinked roles.colon (colon_of hidden heading.id)))) (drawn_unlinked roles.text line)) c
+      ap (λ (id : List Cell). (get_or ((sign_cells style ++ (name ++ id ++ colon)) ++ rest) c SPACE).link) none
+      ∙ unlinked_at ((sign_cells style ++ (name ++ [] ++ colon)) ++ rest)
+      (All-append IsUnlinked (sign_cells style ++ (name ++ [] ++ colon))
+      rest (All-append IsUnlinked (sign_cells style) (name ++ [] ++ colon) (sign_unlinked style)
+      (All-append IsUnlinked (name ++ []) colon (All-append IsUnlinked name [] (drawn_unlinked roles.label name_chars) (All-nil IsUnlinked))
+      (drawn_unlinked roles.colon (colon_of hidden heading.id)))) (drawn_unlinked roles.text line)) c
 
   -- which cells of the first row link, and to which address
   abbrev LinksIn : Option Id → Type 0
@@ -161,7 +175,9 @@ first_places hyperlink style roles heading line = links_in hyperlink style roles
 further_at : (further : List Cell) (r : ElementStyle) (lines : List (List ℕ)) (k c : ℕ) → All IsUnlinked further → (cell_at (map (λ l. further ++ text_cells r l) lines) k c).link ≡ None
 further_at further r lines k c none =
     elim (cases_lt k (length lines)) [
-      | inl within ↦ ap (λ (row : List Cell). (get_or row c SPACE).link) (get_or-map (λ l. further ++ text_cells r l) lines k [] [] within) ∙ unlinked_at (further ++ text_cells r (get_or lines k [])) (All-append IsUnlinked further (text_cells r (get_or lines k [])) none (drawn_unlinked r (get_or lines k []))) c
+      | inl within ↦ ap (λ (row : List Cell). (get_or row c SPACE).link) (get_or-map (λ l. further ++ text_cells r l) lines k [] [] within)
+          ∙ unlinked_at (further ++ text_cells r (get_or lines k []))
+          (All-append IsUnlinked further (text_cells r (get_or lines k [])) none (drawn_unlinked r (get_or lines k []))) c
       | inr past ↦ ap (λ (row : List Cell). (get_or row c SPACE).link) (get_or_past (map (λ l. further ++ text_cells r l) lines) k [] (omega (arith, past, length-map lines (λ l. further ++ text_cells r l))))
     ]
 
@@ -220,4 +236,6 @@ heading_rows-places hyperlink style heading =
     let first : List Cell = sign_cells style ++ label_cells hyperlink roles heading in
     let further : List Cell = indent_cells style (label_width heading) in
     let lines : List (List ℕ) = heading_lines heading in
-    λ i c. ap (λ (row : List Cell). (get_or row c SPACE).link) (row_at-trimmed (lines_below first further roles.text lines) i) ∙ lines_places hyperlink style roles heading further lines (omega (arith, length-slice_split (λ ch. ch == 10) (shown_text heading))) (indent_unlinked style (label_width heading)) i c
+    λ i c. ap (λ (row : List Cell). (get_or row c SPACE).link) (row_at-trimmed (lines_below first further roles.text lines) i)
+    ∙ lines_places hyperlink style roles heading further lines (omega (arith, length-slice_split (λ ch. ch == 10) (shown_text heading)))
+    (indent_unlinked style (label_width heading)) i c

@@ -46,7 +46,9 @@ after_gutter old new row at cells none some is =
 -- and spaces after them
 pub bar_drawn : (old mid new : List (List Cell)) (row at count : ℕ) (cell : Cell) → row_at old row ≡ [] → mid ≡ cells_written old row at (cell ∷ []) → new ≡ appended mid row (replicate count SPACE) → new ≡ appended old row (replicate at SPACE ++ cell ∷ replicate count SPACE)
 bar_drawn old mid new row at count cell none written more =
-    more ∙ ap (λ rs. appended rs row (replicate count SPACE)) (after_gutter old mid row at (cell ∷ []) none (omega arith) written) ∙ appended-appended old row (replicate at SPACE ++ cell ∷ []) (replicate count SPACE) ∙ ap (appended old row) (append_assoc (replicate at SPACE) (cell ∷ []) (replicate count SPACE))
+    more ∙ ap (λ rs. appended rs row (replicate count SPACE)) (after_gutter old mid row at (cell ∷ []) none (omega arith) written)
+    ∙ appended-appended old row (replicate at SPACE ++ cell ∷ []) (replicate count SPACE)
+    ∙ ap (appended old row) (append_assoc (replicate at SPACE) (cell ∷ []) (replicate count SPACE))
 
 -- cells in two and in three parts
 pub appended-two : (old one new : List (List Cell)) (row : ℕ) (xs ys : List Cell) → one ≡ appended old row xs → new ≡ appended one row ys → new ≡ appended old row (xs ++ ys)
@@ -58,13 +60,34 @@ appended-three old one two new row xs ys zs first second third =
     appended-two old two new row (xs ++ ys) zs (appended-two old one two row xs ys first second) third
 
 -- an id: a bracket, the text, which is linked, and a bracket
-pub id_drawn : (old one two three new : List (List Cell)) (row start from : ℕ) (hyperlink hidden : Bool) (role : ElementStyle) (id : Id) (text opening shown closing : List ℕ) (address : Option (List ℕ)) → option_map cow_str_bytes id.id ≡ Some text → length text < 2 ^ 56 → start < 2 ^ 60 → length (row_at old row) ≡ start → from ≡ start + length (opening_of hidden) → length (opening_of hidden) ≤ 1 → opening ≡ opening_of hidden → shown ≡ norm (chars text) → closing ≡ closing_of hidden → address ≡ address_of hyperlink id
+pub id_drawn : (old one two three new : List (List Cell)) (row start from : ℕ) (hyperlink hidden : Bool) (role : ElementStyle) (id : Id)
+    (text opening shown closing : List ℕ) (address : Option (List ℕ)) → option_map cow_str_bytes id.id ≡ Some text → length text < 2 ^ 56
+    → start < 2 ^ 60 → length (row_at old row) ≡ start → from ≡ start + length (opening_of hidden) → length (opening_of hidden) ≤ 1
+    → opening ≡ opening_of hidden → shown ≡ norm (chars text) → closing ≡ closing_of hidden → address ≡ address_of hyperlink id
     → one ≡ appended old row (text_cells role opening) → two ≡ appended one row (text_cells role shown) → three ≡ linked_from address row from two → new ≡ appended three row (text_cells role closing) → new ≡ appended old row (id_cells hyperlink hidden role (Some id))
 id_drawn old one two three new row start from hyperlink hidden role id text opening shown closing address given fits short size at narrow opens is closes to first second linked last =
-    let front : length (row_at one row) ≡ from = ap (λ rs. length (row_at rs row)) first ∙ ap (λ (r : List Cell). length r) (row_at-appended old row (text_cells role opening)) ∙ omega (arith, size, at, length-append (row_at old row) (text_cells role opening), length-text_cells role opening, ap (λ (cs : List ℕ). length cs) opens) in
+    let front : length (row_at one row) ≡ from =
+    ap (λ rs. length (row_at rs row)) first ∙ ap (λ (r : List Cell). length r) (row_at-appended old row (text_cells role opening))
+    ∙ omega (
+      arith,
+      size,
+      at,
+      length-append (row_at old row) (text_cells role opening),
+      length-text_cells role opening,
+      ap (λ (cs : List ℕ).
+          length cs) opens,
+    ) in
     let few : length (text_cells role shown) < 2 ^ 58 + 1 = omega (arith, length-text_cells role shown, ap (λ (cs : List ℕ). length cs) is, length-norm (chars text), length-chars_le text, fits) in
     let third : three ≡ appended one row (linked_to address (text_cells role shown)) = linked ∙ ap (linked_from address row from) second ∙ linked_from-appended one row from address (text_cells role shown) front (omega (arith, few, at, short, narrow)) in
-    appended-three old one three new row (text_cells role opening) (linked_to address (text_cells role shown)) (text_cells role closing) first third last ∙ ap (λ (cs : List ℕ). appended old row (text_cells role cs ++ linked_to address (text_cells role shown) ++ text_cells role closing)) opens ∙ ap (λ (cs : List ℕ). appended old row (text_cells role (opening_of hidden) ++ linked_to address (text_cells role cs) ++ text_cells role closing)) is ∙ ap (λ (cs : List ℕ). appended old row (text_cells role (opening_of hidden) ++ linked_to address (text_cells role (norm (chars text))) ++ text_cells role cs)) closes ∙ ap (λ a. appended old row (bracketed_cells hidden role a (Some text))) to ∙ ap (λ t. appended old row (bracketed_cells hidden role (address_of hyperlink id) t)) (sym given)
+    appended-three old one three new row (text_cells role opening) (linked_to address (text_cells role shown)) (text_cells role closing)
+    first third last ∙ ap (λ (cs : List ℕ). appended old row
+    (text_cells role cs ++ linked_to address (text_cells role shown) ++ text_cells role closing)) opens
+    ∙ ap (λ (cs : List ℕ). appended old row
+    (text_cells role (opening_of hidden) ++ linked_to address (text_cells role cs) ++ text_cells role closing)) is
+    ∙ ap (λ (cs : List ℕ). appended old row
+    (text_cells role (opening_of hidden) ++ linked_to address (text_cells role (norm (chars text))) ++ text_cells role cs)) closes
+    ∙ ap (λ a. appended old row (bracketed_cells hidden role a (Some text))) to
+    ∙ ap (λ t. appended old row (bracketed_cells hidden role (address_of hyperlink id) t)) (sym given)
 
 -- a message's sign isn't empty
 pub some_sign : (decor : DecorStyle) (followed : Bool) (sign : List ℕ) → sign ≡ note_sign_of decor followed → 0 < length (text_cells LineNumber sign)

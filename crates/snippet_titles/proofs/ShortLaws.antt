@@ -61,7 +61,10 @@ short-links hyperlink before after heading =
     let further : List Cell = indent_cells Short (label_width heading) in
     let lines : List (List ℕ) = heading_lines heading in
     let rows : List (List Cell) = lines_below first further roles.text lines in
-    trimmed-links (with_end (text_cells NoStyle after) rows) ∙ with_end-links (text_cells NoStyle after) rows (drawn_unlinked NoStyle after) ∙ lines-links first further roles.text lines (omega (arith, length-slice_split (λ c. c == 10) (shown_text heading))) (indent_unlinked Short (label_width heading)) ∙ links-before (text_cells LineAndColumn before) label (drawn_unlinked LineAndColumn before) ∙ label-links hyperlink roles heading
+    trimmed-links (with_end (text_cells NoStyle after) rows) ∙ with_end-links (text_cells NoStyle after) rows (drawn_unlinked NoStyle after)
+    ∙ lines-links first further roles.text lines (omega (arith, length-slice_split (λ c. c == 10) (shown_text heading)))
+    (indent_unlinked Short (label_width heading)) ∙ links-before (text_cells LineAndColumn before) label (drawn_unlinked LineAndColumn before)
+    ∙ label-links hyperlink roles heading
 
 -- what holds of each character that isn't listed, and of those of the title's text, holds of those of each row, where no
 -- character of the texts before and after is listed

@@ -38,10 +38,17 @@ appended-first base (r ∷ rows) row [] at =
 appended-first base (r ∷ rows) row (cell ∷ cells) at =
     let there : List (List Cell) = base ++ trimmed (r ∷ rows) in
     let here : row_at there row ≡ r = ap (λ n. row_at there n) at ∙ get_or-append_seam base (trimmed (r ∷ rows)) ∙ row_at-trimmed (r ∷ rows) 0 in
-    appended-is there row (cell ∷ cells) (omega arith) ∙ ap (λ (first : List Cell). written [] there row ((first ++ cell ∷ cells) ∷ [])) here ∙ ap (λ n. written [] there n ((r ++ cell ∷ cells) ∷ [])) at ∙ first_written base r (trimmed rows) (r ++ cell ∷ cells) ∙ ap (λ (rs : List (List Cell)). base ++ rs) (sym (on_top-full r cell cells (trimmed rows)))
+    appended-is there row (cell ∷ cells) (omega arith) ∙ ap (λ (first : List Cell). written [] there row ((first ++ cell ∷ cells) ∷ [])) here
+    ∙ ap (λ n. written [] there n ((r ++ cell ∷ cells) ∷ [])) at ∙ first_written base r (trimmed rows) (r ++ cell ∷ cells)
+    ∙ ap (λ (rs : List (List Cell)). base ++ rs) (sym (on_top-full r cell cells (trimmed rows)))
 
 -- a text, a label and a heading's text after it, and a text after the first row
-pub short_drawn : (old one two three new : List (List Cell)) (row : ℕ) (hyperlink : Bool) (before after : List ℕ) (heading : Heading) (level : Level) (trusted : Bool) (roles : HeadingRoles) → row ≡ length old → level ≡ heading.level → trusted ≡ heading.allows_styling → roles ≡ roles_of Short level.kind trusted → one ≡ appended old row (text_cells LineAndColumn before) → two ≡ appended one row (label_cells hyperlink roles heading) → three ≡ take row two ++ trimmed (lines_below (row_at two row) (indent_cells Short (label_width heading)) roles.text (heading_lines heading)) → new ≡ appended three row (text_cells NoStyle after) → new ≡ old ++ short_rows hyperlink before after heading
+pub short_drawn : (old one two three new : List (List Cell)) (row : ℕ) (hyperlink : Bool) (before after : List ℕ) (heading : Heading) (level : Level)
+    (trusted : Bool) (roles : HeadingRoles) → row ≡ length old → level ≡ heading.level → trusted ≡ heading.allows_styling
+    → roles ≡ roles_of Short level.kind trusted → one ≡ appended old row (text_cells LineAndColumn before)
+    → two ≡ appended one row (label_cells hyperlink roles heading)
+    → three ≡ take row two ++ trimmed (lines_below (row_at two row) (indent_cells Short (label_width heading)) roles.text (heading_lines heading))
+    → new ≡ appended three row (text_cells NoStyle after) → new ≡ old ++ short_rows hyperlink before after heading
 unfolding short_rows
 short_drawn old one two three new row hyperlink before after heading level trusted roles at leveled trusts roles_are first second third fourth =
     let begun = label_begun old one two row (text_cells LineAndColumn before) (label_cells hyperlink roles heading) at first second in
@@ -50,4 +57,8 @@ short_drawn old one two three new row hyperlink before after heading level trust
     let lines : List (List ℕ) = heading_lines heading in
     let front : List Cell = text_cells LineAndColumn before ++ label_cells hyperlink roles heading in
     let drawn_are : three ≡ old ++ trimmed (lines_below front further roles.text lines) = third ∙ ap (λ rs. rs ++ trimmed (lines_below (row_at two row) further roles.text lines)) begun.0 ∙ ap (λ (r : List Cell). old ++ trimmed (lines_below r further roles.text lines)) begun.1 in
-    fourth ∙ ap (λ rs. appended rs row (text_cells NoStyle after)) drawn_are ∙ appended-first old (lines_below front further roles.text lines) row (text_cells NoStyle after) at ∙ ap (λ (rs : HeadingRoles). old ++ trimmed (with_end (text_cells NoStyle after) (lines_below (text_cells LineAndColumn before ++ label_cells hyperlink rs heading) further rs.text lines))) known
+    fourth ∙ ap (λ rs. appended rs row (text_cells NoStyle after)) drawn_are
+    ∙ appended-first old (lines_below front further roles.text lines) row (text_cells NoStyle after) at
+    ∙ ap (λ (rs : HeadingRoles). old ++ trimmed
+    (with_end (text_cells NoStyle after)
+    (lines_below (text_cells LineAndColumn before ++ label_cells hyperlink rs heading) further rs.text lines))) known

@@ -45,7 +45,10 @@ row_text-three xs ys zs a b c first second third =
 row_text-bracketed : (hidden : Bool) (r : ElementStyle) (address text : Option (List ℕ)) → row_text (bracketed_cells hidden r address text) ≡ bracketed_text hidden text
 row_text-bracketed hidden r address None = refl
 row_text-bracketed hidden r address (Some text) =
-    row_text-three (text_cells r (opening_of hidden)) (linked_to address (text_cells r (norm (chars text)))) (text_cells r (closing_of hidden)) _ _ _ (row_text-text_cells r (opening_of hidden)) (row_text-linked address (text_cells r (norm (chars text))) ∙ row_text-text_cells r (norm (chars text))) (row_text-text_cells r (closing_of hidden))
+    row_text-three (text_cells r (opening_of hidden)) (linked_to address (text_cells r (norm (chars text)))) (text_cells r (closing_of hidden))
+    _ _ _ (row_text-text_cells r (opening_of hidden))
+    (row_text-linked address (text_cells r (norm (chars text))) ∙ row_text-text_cells r (norm (chars text)))
+    (row_text-text_cells r (closing_of hidden))
 
 pub row_text-id : (hyperlink hidden : Bool) (r : ElementStyle) (id : Option Id) → row_text (id_cells hyperlink hidden r id) ≡ id_text hidden id
 row_text-id hyperlink hidden r None = refl
@@ -56,7 +59,9 @@ pub row_text-label : (hyperlink : Bool) (roles : HeadingRoles) (heading : Headin
 unfolding label_cells
 row_text-label hyperlink roles heading =
     let hidden : Bool = is_hidden heading.level.name in
-    row_text-three (text_cells roles.label (norm (chars (name_of heading.level)))) (id_cells hyperlink hidden roles.label heading.id) (text_cells roles.colon (colon_of hidden heading.id)) _ _ _ (row_text-text_cells roles.label (norm (chars (name_of heading.level)))) (row_text-id hyperlink hidden roles.label heading.id) (row_text-text_cells roles.colon (colon_of hidden heading.id))
+    row_text-three (text_cells roles.label (norm (chars (name_of heading.level)))) (id_cells hyperlink hidden roles.label heading.id)
+    (text_cells roles.colon (colon_of hidden heading.id)) _ _ _ (row_text-text_cells roles.label (norm (chars (name_of heading.level))))
+    (row_text-id hyperlink hidden roles.label heading.id) (row_text-text_cells roles.colon (colon_of hidden heading.id))
 
 -- the texts of the rows of lines
 pub row_text-after : (cells : List Cell) (text : List ℕ) (r : ElementStyle) (line : List ℕ) → row_text cells ≡ text → row_text (cells ++ text_cells r line) ≡ text ++ line

@@ -37,7 +37,9 @@ IsPlain s marks k = (parts_on s marks k ≡ []) × (list_any (λ a. not (is_mark
 
 text-there : (s : Source) (number k : ℕ) → number ≡ s.first + k → k < length (source_lines s.text) → line_at s number ≡ Some (text_at (source_lines s.text) k)
 text-there s number k is within =
-    let there : (leb s.first number && ltb (number - s.first) (length (source_lines s.text))) ≡ true = and_from (leb s.first number) (ltb (number - s.first) (length (source_lines s.text))) (le-leb s.first number (omega arith)) (lt-ltb (number - s.first) (length (source_lines s.text)) (omega arith)) in
+    let there : (leb s.first number && ltb (number - s.first) (length (source_lines s.text))) ≡ true =
+    and_from (leb s.first number) (ltb (number - s.first) (length (source_lines s.text))) (le-leb s.first number (omega arith))
+    (lt-ltb (number - s.first) (length (source_lines s.text)) (omega arith)) in
     let at : number - s.first ≡ k = omega arith in
     cond-true (leb s.first number && ltb (number - s.first) (length (source_lines s.text))) (Some (text_at (source_lines s.text) (number - s.first))) None there ∙ ap (λ i. Some (text_at (source_lines s.text) i)) at
 
@@ -50,9 +52,14 @@ single-line s marks j k next within plain =
 
 no-line : (s : Source) (j k : ℕ) → (k ≡ j + 2 → ⊥) → lines_between s (Some (s.first + j)) (s.first + k) ≡ []
 no-line s j k apart =
-    ap option_to_list (cond-false (eqb (s.first + k) (s.first + j + 2)) (option_map (λ text. (let l : KeptLine = record { number = s.first + j + 1; text = text; parts = []; keep = false } in l)) (line_at s (s.first + j + 1))) None (ne_eqb (s.first + k) (s.first + j + 2) (λ same. apart (omega arith))))
+    ap option_to_list (cond-false (eqb (s.first + k)
+    (s.first + j + 2)) (option_map (λ text. (let l : KeptLine = record { number = s.first + j + 1; text = text; parts = []; keep = false } in l))
+    (line_at s (s.first + j + 1))) None (ne_eqb (s.first + k) (s.first + j + 2) (λ same. apart (omega arith))))
 
-rest-is : (s : Source) (marks : List Annotation) (p : ℕ → Bool) (plain : (k : ℕ) → p k ≡ false → IsPlain s marks k) (j a n : ℕ) → j < a → ((i : ℕ) → j < i → i < a → p i ≡ false) → a + n ≤ length (source_lines s.text) → filled s (Some (s.first + j)) (map (kept_line s marks) (filter p (range_with_len a n))) ≡ map (kept_line s marks) (rest_between j (filter p (range_with_len a n)))
+rest-is : (s : Source) (marks : List Annotation) (p : ℕ → Bool) (plain : (k : ℕ) → p k ≡ false → IsPlain s marks k) (j a n : ℕ) → j < a
+    → ((i : ℕ) → j < i → i < a → p i ≡ false) → a + n ≤ length (source_lines s.text)
+    → filled s (Some (s.first + j)) (map (kept_line s marks) (filter p (range_with_len a n))) ≡ map (kept_line s marks)
+    (rest_between j (filter p (range_with_len a n)))
 rest-is s marks p plain j a zero before none within = refl
 rest-is s marks p plain j a (suc n) before none within =
     let f = λ (k : ℕ). kept_line s marks k in
@@ -62,7 +69,10 @@ rest-is s marks p plain j a (suc n) before none within =
       | inl here ↦
           let rest : filled s (Some (s.first + a)) (map f ks) ≡ map f (rest_between a ks) = rest-is s marks p plain a (a + 1) n (omega arith) (λ i from to. absurd (omega arith)) (omega arith) in
           let goal : Goal (a ∷ ks) = elim (cases_eq a (j + 2)) [
-            | inl next ↦ ap (λ ls. ls ++ f a ∷ filled s (Some (s.first + a)) (map f ks)) (single-line s marks j a next (omega arith) (plain (j + 1) (none (j + 1) (omega arith) (omega arith)))) ∙ ap (λ ls. f (j + 1) ∷ f a ∷ ls) rest ∙ ap (map f) (sym (cond-true (eqb a (j + 2)) ((j + 1) ∷ a ∷ rest_between a ks) (a ∷ rest_between a ks) (eq-eqb a (j + 2) next)))
+            | inl next ↦ ap (λ ls. ls ++ f a ∷ filled s (Some (s.first + a)) (map f ks))
+                (single-line s marks j a next (omega arith) (plain (j + 1) (none (j + 1) (omega arith) (omega arith))))
+                ∙ ap (λ ls. f (j + 1) ∷ f a ∷ ls) rest ∙ ap (map f)
+                (sym (cond-true (eqb a (j + 2)) ((j + 1) ∷ a ∷ rest_between a ks) (a ∷ rest_between a ks) (eq-eqb a (j + 2) next)))
             | inr apart ↦ ap (λ ls. ls ++ f a ∷ filled s (Some (s.first + a)) (map f ks)) (no-line s j a apart) ∙ ap (λ ls. f a ∷ ls) rest ∙ ap (map f) (sym (cond-false (eqb a (j + 2)) ((j + 1) ∷ a ∷ rest_between a ks) (a ∷ rest_between a ks) (ne_eqb a (j + 2) apart)))
           ] in
           subst Goal (sym (cond-true (p a) (a ∷ ks) ks here)) goal
@@ -78,7 +88,9 @@ rest-is s marks p plain j a (suc n) before none within =
         below : (m n : ℕ) → m < n + 1 → (m ≡ n → ⊥) → m < n
         below m n le apart = omega arith
 
-all-is : (s : Source) (marks : List Annotation) (p : ℕ → Bool) (plain : (k : ℕ) → p k ≡ false → IsPlain s marks k) (a n : ℕ) → a + n ≤ length (source_lines s.text) → filled s None (map (kept_line s marks) (filter p (range_with_len a n))) ≡ map (kept_line s marks) (with_between (filter p (range_with_len a n)))
+all-is : (s : Source) (marks : List Annotation) (p : ℕ → Bool) (plain : (k : ℕ) → p k ≡ false → IsPlain s marks k) (a n : ℕ)
+    → a + n ≤ length (source_lines s.text) → filled s None (map (kept_line s marks) (filter p (range_with_len a n))) ≡ map (kept_line s marks)
+    (with_between (filter p (range_with_len a n)))
 all-is s marks p plain a zero within = refl
 all-is s marks p plain a (suc n) within =
     let f = λ (k : ℕ). kept_line s marks k in
@@ -94,7 +106,9 @@ all-is s marks p plain a (suc n) within =
 -- the lines that are kept with each single line between two are those that are shown
 pub filled-shown : (fold : Bool) (s : Source) (marks : List Annotation) → All (λ a. IsSpan s.text a.span.start a.span.end) marks → filled s None (annotated_lines fold s marks) ≡ map (kept_line s marks) (shown_lines fold s.text marks)
 filled-shown fold s marks spans =
-    all-is s marks (λ k. not fold || list_any (keeps s.text k) marks) (λ k gone. let none : list_any (keeps s.text k) marks ≡ false = (or_parts (not fold) (list_any (keeps s.text k) marks) gone).1 in (none-unkept s marks k spans none, unseen-unkept s marks k none)) 0 (length (source_lines s.text)) (omega arith)
+    all-is s marks (λ k. not fold || list_any (keeps s.text k) marks)
+    (λ k gone. let none : list_any (keeps s.text k) marks ≡ false = (or_parts (not fold) (list_any (keeps s.text k) marks) gone).1 in
+    (none-unkept s marks k spans none, unseen-unkept s marks k none)) 0 (length (source_lines s.text)) (omega arith)
 
 -- ---- worked
 

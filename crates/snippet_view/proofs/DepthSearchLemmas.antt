@@ -111,7 +111,9 @@ search-same p (suc k) deepest (q ∷ ps) own near again =
       | inl same ↦ cond-true (same_place p q) (raw_depth_among (places_of (q ∷ ps)) q) (search_from (max (raw_depth_among (places_of (q ∷ ps)) q) deepest) p (take k ps) (raw_depths ps)) same ∙ ap (raw_depth_among (places_of (q ∷ ps))) (sym (same-true p q same))
       | inr other ↦
           let after : list_any (same_place p) ps ≡ true = there (same_place p q) (list_any (same_place p) ps) again other in
-          cond-false (same_place p q) (raw_depth_among (places_of (q ∷ ps)) q) (search_from (max (raw_depth_among (places_of (q ∷ ps)) q) deepest) p (take k ps) (raw_depths ps)) other ∙ search-same p k (max (raw_depth_among (places_of (q ∷ ps)) q) deepest) ps own near.1 after ∙ sym (among-after q p ps after)
+          cond-false (same_place p q) (raw_depth_among (places_of (q ∷ ps)) q)
+          (search_from (max (raw_depth_among (places_of (q ∷ ps)) q) deepest) p (take k ps) (raw_depths ps)) other
+          ∙ search-same p k (max (raw_depth_among (places_of (q ∷ ps)) q) deepest) ps own near.1 after ∙ sym (among-after q p ps after)
     ]
   where
     there : (a b : Bool) → (a || b) ≡ true → a ≡ false → b ≡ true
@@ -145,7 +147,9 @@ search-is p k ps own near =
     ]
 
 -- places in the order of their first lines, none before that of p, are near up to those that start after p's last
-pub near_up_to : (p : LongExtent) (k : ℕ) (ps : List LongExtent) → k ≤ length ps → ((j : ℕ) (d : LongExtent) → j < k → (get_or ps j d).first ≤ p.last) → ((j : ℕ) (d : LongExtent) → k ≤ j → j < length ps → p.last < (get_or ps j d).first) → All (λ q. p.first ≤ q.first) ps → All (λ q. q.first ≤ q.last) ps → IsNearUpTo p k ps
+pub near_up_to : (p : LongExtent) (k : ℕ) (ps : List LongExtent) → k ≤ length ps → ((j : ℕ) (d : LongExtent) → j < k → (get_or ps j d).first ≤ p.last)
+    → ((j : ℕ) (d : LongExtent) → k ≤ j → j < length ps → p.last < (get_or ps j d).first) → All (λ q. p.first ≤ q.first) ps
+    → All (λ q. q.first ≤ q.last) ps → IsNearUpTo p k ps
 unfolding IsNearUpTo
 near_up_to p zero [] within near far after lines = refl
 near_up_to p zero (q ∷ ps) within near far after lines =
@@ -161,19 +165,30 @@ near_up_to p (suc k) [] within near far after lines = absurd (omega arith)
 near_up_to p (suc k) (q ∷ ps) within near far after lines =
     let a : q.first ≤ p.last = near 0 q (omega arith) in
     let b : p.first ≤ q.first = after 0 q (omega arith) in
-    let c : q.first ≤ q.last = lines 0 q (omega arith) in
-    (and_from (leb p.first q.last) (leb q.first p.last) (le-leb p.first q.last (omega arith)) (le-leb q.first p.last a), near_up_to p k ps (omega arith) (λ j d below. near (suc j) d (omega arith)) (λ j d from to. far (suc j) d (omega arith) (omega arith)) (λ j d in'. after (suc j) d (omega arith)) (λ j d in'. lines (suc j) d (omega arith)))
+    let c : q.first ≤ q.last = lines 0 q (omega arith) in (
+      and_from (leb p.first q.last) (leb q.first p.last) (le-leb p.first q.last (omega arith)) (le-leb q.first p.last a),
+      near_up_to p k ps (omega arith) (λ j d below. near (suc j) d (omega arith)) (λ j d from to. far (suc j) d (omega arith) (omega arith))
+          (λ j d in'. after (suc j) d (omega arith)) (λ j d in'. lines (suc j) d (omega arith)),
+    )
 
 -- one step of the search
-pub search-more : (deepest : ℕ) (p : LongExtent) (qs : List LongExtent) (ns : List ℕ) (i : ℕ) (d : LongExtent) (n : ℕ) → i < length qs → i < length ns → n ≡ get_or ns i n → same_place p (get_or qs i d) ≡ false → search_from deepest p (drop i qs) (drop i ns) ≡ search_from (max n deepest) p (drop (i + 1) qs) (drop (i + 1) ns)
+pub search-more : (deepest : ℕ) (p : LongExtent) (qs : List LongExtent) (ns : List ℕ) (i : ℕ) (d : LongExtent) (n : ℕ) → i < length qs → i < length ns
+    → n ≡ get_or ns i n → same_place p (get_or qs i d) ≡ false
+    → search_from deepest p (drop i qs) (drop i ns) ≡ search_from (max n deepest) p (drop (i + 1) qs) (drop (i + 1) ns)
 unfolding search_from
 search-more deepest p qs ns i d n in-qs in-ns is other =
-    ap (λ x. search_from deepest p x (drop i ns)) (drop_more qs i d in-qs) ∙ ap (λ x. search_from deepest p (get_or qs i d ∷ drop (i + 1) qs) x) (drop_more ns i n in-ns) ∙ cond-false (same_place p (get_or qs i d)) (get_or ns i n) (search_from (max (get_or ns i n) deepest) p (drop (i + 1) qs) (drop (i + 1) ns)) other ∙ ap (λ m. search_from (max m deepest) p (drop (i + 1) qs) (drop (i + 1) ns)) (sym is)
+    ap (λ x. search_from deepest p x (drop i ns)) (drop_more qs i d in-qs)
+    ∙ ap (λ x. search_from deepest p (get_or qs i d ∷ drop (i + 1) qs) x) (drop_more ns i n in-ns)
+    ∙ cond-false (same_place p (get_or qs i d)) (get_or ns i n) (search_from (max (get_or ns i n) deepest) p (drop (i + 1) qs) (drop (i + 1) ns))
+    other ∙ ap (λ m. search_from (max m deepest) p (drop (i + 1) qs) (drop (i + 1) ns)) (sym is)
 
 pub search-found : (deepest : ℕ) (p : LongExtent) (qs : List LongExtent) (ns : List ℕ) (i : ℕ) (d : LongExtent) (n : ℕ) → i < length qs → i < length ns → n ≡ get_or ns i n → same_place p (get_or qs i d) ≡ true → search_from deepest p (drop i qs) (drop i ns) ≡ n
 unfolding search_from
 search-found deepest p qs ns i d n in-qs in-ns is same =
-    ap (λ x. search_from deepest p x (drop i ns)) (drop_more qs i d in-qs) ∙ ap (λ x. search_from deepest p (get_or qs i d ∷ drop (i + 1) qs) x) (drop_more ns i n in-ns) ∙ cond-true (same_place p (get_or qs i d)) (get_or ns i n) (search_from (max (get_or ns i n) deepest) p (drop (i + 1) qs) (drop (i + 1) ns)) same ∙ sym is
+    ap (λ x. search_from deepest p x (drop i ns)) (drop_more qs i d in-qs)
+    ∙ ap (λ x. search_from deepest p (get_or qs i d ∷ drop (i + 1) qs) x) (drop_more ns i n in-ns)
+    ∙ cond-true (same_place p (get_or qs i d)) (get_or ns i n) (search_from (max (get_or ns i n) deepest) p (drop (i + 1) qs) (drop (i + 1) ns))
+    same ∙ sym is
 
 pub search-done : (deepest : ℕ) (p : LongExtent) (ns : List ℕ) → search_from deepest p [] ns ≡ deepest + 1
 unfolding search_from
@@ -184,19 +199,28 @@ search-done deepest p ns = refl
 abbrev pub no_place : LongExtent
 no_place = record { from = 0; to = 0; first = 0; last = 0 }
 
-pub found_at : (p : LongExtent) (later : List LongExtent) (raws : List ℕ) (near i deepest : ℕ) → raws ≡ raw_depths later → near ≤ length later → i < near → p.first ≤ p.last → IsNearUpTo p near later → search_from deepest p (drop i (take near later)) (drop i raws) ≡ search_from 0 p (take near later) raws → same_place p (get_or later i no_place) ≡ true → get_or raws i 0 ≡ raw_depth_among (places_of (p ∷ later)) p
+pub found_at : (p : LongExtent) (later : List LongExtent) (raws : List ℕ) (near i deepest : ℕ) → raws ≡ raw_depths later → near ≤ length later
+    → i < near → p.first ≤ p.last → IsNearUpTo p near later
+    → search_from deepest p (drop i (take near later)) (drop i raws) ≡ search_from 0 p (take near later) raws
+    → same_place p (get_or later i no_place) ≡ true → get_or raws i 0 ≡ raw_depth_among (places_of (p ∷ later)) p
 found_at p later raws near i deepest is within below own up_to before same =
     let e : length raws ≡ length later = ap length is ∙ length-raw_depths later in
     sym (search-found deepest p (take near later) raws i no_place (get_or raws i 0) (omega (arith, length-take-le near later within)) (omega arith) (get_or_default raws i 0 (get_or raws i 0) (omega arith)) (ap (same_place p) (get_or-take near later i no_place below) ∙ same))
     ∙ before ∙ ap (search_from 0 p (take near later)) is ∙ search-is p near later own up_to
 
-pub passed_at : (p : LongExtent) (later : List LongExtent) (raws : List ℕ) (near i deepest : ℕ) → raws ≡ raw_depths later → near ≤ length later → i < near → search_from deepest p (drop i (take near later)) (drop i raws) ≡ search_from 0 p (take near later) raws → same_place p (get_or later i no_place) ≡ false → search_from (max (get_or raws i 0) deepest) p (drop (i + 1) (take near later)) (drop (i + 1) raws) ≡ search_from 0 p (take near later) raws
+pub passed_at : (p : LongExtent) (later : List LongExtent) (raws : List ℕ) (near i deepest : ℕ) → raws ≡ raw_depths later → near ≤ length later
+    → i < near → search_from deepest p (drop i (take near later)) (drop i raws) ≡ search_from 0 p (take near later) raws
+    → same_place p (get_or later i no_place) ≡ false
+    → search_from (max (get_or raws i 0) deepest) p (drop (i + 1) (take near later)) (drop (i + 1) raws) ≡ search_from 0 p (take near later) raws
 passed_at p later raws near i deepest is within below before other =
     let e : length raws ≡ length later = ap length is ∙ length-raw_depths later in
     sym (search-more deepest p (take near later) raws i no_place (get_or raws i 0) (omega (arith, length-take-le near later within)) (omega arith) (get_or_default raws i 0 (get_or raws i 0) (omega arith)) (ap (same_place p) (get_or-take near later i no_place below) ∙ other))
     ∙ before
 
-pub found_none : (p : LongExtent) (later : List LongExtent) (raws : List ℕ) (near i deepest : ℕ) → raws ≡ raw_depths later → near ≤ length later → near ≤ i → p.first ≤ p.last → IsNearUpTo p near later → search_from deepest p (drop i (take near later)) (drop i raws) ≡ search_from 0 p (take near later) raws → deepest + 1 ≡ raw_depth_among (places_of (p ∷ later)) p
+pub found_none : (p : LongExtent) (later : List LongExtent) (raws : List ℕ) (near i deepest : ℕ) → raws ≡ raw_depths later → near ≤ length later
+    → near ≤ i → p.first ≤ p.last → IsNearUpTo p near later
+    → search_from deepest p (drop i (take near later)) (drop i raws) ≡ search_from 0 p (take near later) raws
+    → deepest + 1 ≡ raw_depth_among (places_of (p ∷ later)) p
 found_none p later raws near i deepest is within all own up_to before =
     sym (ap (λ qs. search_from deepest p qs (drop i raws)) (drop_all i (take near later) (omega (arith, length-take-le near later within))) ∙ search-done deepest p (drop i raws))
     ∙ before ∙ ap (search_from 0 p (take near later)) is ∙ search-is p near later own up_to
@@ -211,7 +235,9 @@ after_in ps i m ordered within is k d below =
     let len : length (take (length ps - m) (drop m ps)) ≡ length ps - m = ap length e ∙ length-drop m ps in
     omega (arith, ap (λ (q : LongExtent). q.first) f, ap (λ (q : LongExtent). q.first) g, ordered i (m + k) d (omega arith) (omega arith))
 
-pub filled : (ps : List LongExtent) (raws : List ℕ) (j m r : ℕ) → j < length ps → length raws ≡ length ps → m ≡ j + 1 → drop m raws ≡ raw_depths (drop m ps) → r ≡ raw_depth_among (places_of (get_or ps j no_place ∷ take (length ps - m) (drop m ps))) (get_or ps j no_place) → drop j (set raws j r) ≡ raw_depths (drop j ps)
+pub filled : (ps : List LongExtent) (raws : List ℕ) (j m r : ℕ) → j < length ps → length raws ≡ length ps → m ≡ j + 1
+    → drop m raws ≡ raw_depths (drop m ps) → r ≡ raw_depth_among (places_of (get_or ps j no_place ∷ take (length ps - m) (drop m ps)))
+    (get_or ps j no_place) → drop j (set raws j r) ≡ raw_depths (drop j ps)
 filled ps raws j m r within same is before value =
     drop-set raws j r (omega arith)
     ∙ ap (λ n. r ∷ drop n raws) (sym is)

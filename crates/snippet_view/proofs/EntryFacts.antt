@@ -40,7 +40,10 @@ each-line Q s marks ks [] same all = All-nil Q
 each-line Q s marks [] (info ∷ infos) same all = cc
 each-line Q s marks (k ∷ ks) (info ∷ infos) same all =
     let P = λ (k : ℕ). (info : AnnotatedLineInfo) → seen_kept info ≡ kept_line s marks k → Q info in
-    All-cons Q info infos (All-head P k ks all info (head-same (seen_kept info) (kept_line s marks k) (map seen_kept infos) (map (kept_line s marks) ks) same)) (each-line Q s marks ks infos (tail-same (seen_kept info) (kept_line s marks k) (map seen_kept infos) (map (kept_line s marks) ks) same) (All-tail P k ks all))
+    All-cons Q info infos (All-head P k ks all info
+    (head-same (seen_kept info) (kept_line s marks k) (map seen_kept infos) (map (kept_line s marks) ks) same))
+    (each-line Q s marks ks infos (tail-same (seen_kept info) (kept_line s marks k) (map seen_kept infos) (map (kept_line s marks) ks) same)
+    (All-tail P k ks all))
   where
     head-same : (x y : KeptLine) (xs ys : List KeptLine) → x ∷ xs ≡ y ∷ ys → x ≡ y
     head-same x y xs ys same = cc
@@ -101,7 +104,9 @@ pub texts-fit : (s : Source) (marks : List Annotation) (ks : List ℕ) (infos : 
 texts-fit s marks ks infos same fits =
     each-line (λ info. length info.line.now < 2 ^ 56) s marks ks infos same (λ i d within info seen. omega (arith, ap (λ (l : KeptLine). length l.text) seen, length-text_at-source s.text (get_or ks i d)))
 
-pub numbers-within : (s : Source) (marks : List Annotation) (ks : List ℕ) (infos : List AnnotatedLineInfo) → map seen_kept infos ≡ map (kept_line s marks) ks → All (λ k. k < length (source_lines s.text)) ks → All (λ info. (s.first ≤ info.line_index) × (info.line_index < s.first + length (source_lines s.text))) infos
+pub numbers-within : (s : Source) (marks : List Annotation) (ks : List ℕ) (infos : List AnnotatedLineInfo)
+    → map seen_kept infos ≡ map (kept_line s marks) ks → All (λ k. k < length (source_lines s.text)) ks
+    → All (λ info. (s.first ≤ info.line_index) × (info.line_index < s.first + length (source_lines s.text))) infos
 numbers-within s marks ks infos same all =
     each-line (λ info. (s.first ≤ info.line_index) × (info.line_index < s.first + length (source_lines s.text))) s marks ks infos same (λ i d within info seen. let at : info.line_index ≡ s.first + get_or ks i d = ap (λ (l : KeptLine). l.number) seen in
     let below : get_or ks i d < length (source_lines s.text) = all i d within in (omega arith, omega arith))
@@ -175,7 +180,10 @@ all-member p xs x all among =
 pub singles-on : (s : Source) (marks : List Annotation) (k : ℕ) → filter (λ (p : PartEntry). eqb p.entry.start.line (s.first + k)) (map (single_part s) (filter (is_short s.text) marks)) ≡ map (single_part s) (filter (is_marked_on s.text k) marks)
 singles-on s marks k =
     filter-map (λ (p : PartEntry). eqb p.entry.start.line (s.first + k)) (single_part s) (filter (is_short s.text) marks)
-    ∙ ap (map (single_part s)) (filter-filter (λ (a : Annotation). eqb (entry_of s a).start.line (s.first + k)) (is_short s.text) marks ∙ filter_agree (λ (a : Annotation). is_short s.text a && eqb (entry_of s a).start.line (s.first + k)) (is_marked_on s.text k) (λ a. ap (λ b. is_short s.text a && b) (eqb-shift s.first (first_line s.text a) k (entry_of s a).start.line (entry_of-line s a))) marks)
+    ∙ ap (map (single_part s))
+    (filter-filter (λ (a : Annotation). eqb (entry_of s a).start.line (s.first + k)) (is_short s.text) marks ∙ filter_agree (λ (a : Annotation).
+    is_short s.text a && eqb (entry_of s a).start.line (s.first + k)) (is_marked_on s.text k)
+    (λ a. ap (λ b. is_short s.text a && b) (eqb-shift s.first (first_line s.text a) k (entry_of s a).start.line (entry_of-line s a))) marks)
 
 pub longs-off : (s : Source) (marks : List Annotation) (k : ℕ) → All (λ a. IsSpan s.text a.span.start a.span.end) marks → is_untouched s.text marks k ≡ true → filter (λ (p : PartEntry). eqb p.entry.start.line (s.first + k)) (long_parts s (long_places s marks) [] (long_spans s marks)) ≡ []
 longs-off s marks k spans untouched =
@@ -189,7 +197,11 @@ longs-off s marks k spans untouched =
         let parts = and_parts (is_marking a.kind) (not (is_single_line s.text a)) long in
         let there : touches s.text a k ≡ true = and_from (leb (first_line s.text a) k) (leb k (last_line s.text a)) (le-leb (first_line s.text a) k from) (le-leb k (last_line s.text a) to) in
         let touched : (is_marking a.kind && touches s.text a k && not (is_single_line s.text a)) ≡ true = and_from (is_marking a.kind && touches s.text a k) (not (is_single_line s.text a)) (and_from (is_marking a.kind) (touches s.text a k) parts.0 there) parts.1 in
-        both_ways (is_marking a.kind && touches s.text a k && not (is_single_line s.text a)) (not-true (is_marking a.kind && touches s.text a k && not (is_single_line s.text a)) (all-member (λ (a : Annotation). not (is_marking a.kind && touches s.text a k && not (is_single_line s.text a))) marks a untouched among)) touched
+        both_ways (is_marking a.kind && touches s.text a k && not (is_single_line s.text a))
+        (not-true (is_marking a.kind && touches s.text a k && not
+        (is_single_line s.text a))
+        (all-member (λ (a : Annotation). not (is_marking a.kind && touches s.text a k && not (is_single_line s.text a))) marks a untouched among))
+        touched
 
     off : (a : Annotation) → Contains marks a → is_long s.text a ≡ true → (n m : ℕ) → n ≡ s.first + m → first_line s.text a ≤ m → m ≤ last_line s.text a → eqb n (s.first + k) ≡ false
     off a among long n m is from to = ne_eqb n (s.first + k) (λ here. away a among long (omega arith) (omega arith))
@@ -217,7 +229,9 @@ untouched-parts s marks k spans untouched =
     ∙ append-nil (filter (λ (p : PartEntry). eqb p.entry.start.line (s.first + k)) (map (single_part s) (filter (is_short s.text) marks)))
     ∙ singles-on s marks k
 
-pub untouched-entries : (s : Source) (marks : List Annotation) (k : ℕ) (info : AnnotatedLineInfo) → All (λ a. IsSpan s.text a.span.start a.span.end) marks → is_untouched s.text marks k ≡ true → seen_kept info ≡ kept_line s marks k → map seen_part info.annotations.items ≡ map (single_part s) (filter (is_marked_on s.text k) marks)
+pub untouched-entries : (s : Source) (marks : List Annotation) (k : ℕ) (info : AnnotatedLineInfo)
+    → All (λ a. IsSpan s.text a.span.start a.span.end) marks → is_untouched s.text marks k ≡ true → seen_kept info ≡ kept_line s marks k
+    → map seen_part info.annotations.items ≡ map (single_part s) (filter (is_marked_on s.text k) marks)
 untouched-entries s marks k info spans untouched seen = entries-on s marks k info seen ∙ untouched-parts s marks k spans untouched
 
 -- ---- wide spans
@@ -234,7 +248,9 @@ count-filter : {X : Type 0} (q p : X → Bool) (xs : List X) → count_by q (fil
 count-filter q p [] = refl
 count-filter q p (x ∷ xs) =
     elim (cases_Bool (p x)) [
-      | inl t ↦ ap (count_by q) (cond-true (p x) (x ∷ filter p xs) (filter p xs) t) ∙ sum_by-cons (λ y. cond (q y) 1 0) x (filter p xs) ∙ ap (λ n. cond (q x) 1 0 + n) (count-filter q p xs) ∙ sym (sum_by-cons (λ y. cond (p y && q y) 1 0) x xs ∙ ap (λ b. cond (b && q x) 1 0 + count_by (λ y. p y && q y) xs) t)
+      | inl t ↦ ap (count_by q) (cond-true (p x) (x ∷ filter p xs) (filter p xs) t) ∙ sum_by-cons (λ y. cond (q y) 1 0) x (filter p xs)
+          ∙ ap (λ n. cond (q x) 1 0 + n) (count-filter q p xs)
+          ∙ sym (sum_by-cons (λ y. cond (p y && q y) 1 0) x xs ∙ ap (λ b. cond (b && q x) 1 0 + count_by (λ y. p y && q y) xs) t)
       | inr f ↦ ap (count_by q) (cond-false (p x) (x ∷ filter p xs) (filter p xs) f) ∙ count-filter q p xs ∙ sym (sum_by-cons (λ y. cond (p y && q y) 1 0) x xs ∙ ap (λ b. cond (b && q x) 1 0 + count_by (λ y. p y && q y) xs) f ∙ none-more (count_by (λ y. p y && q y) xs))
     ]
 
@@ -286,7 +302,9 @@ wide-long room placeholder_width s marks =
     narrow n = and_right (ltb (2 * room) (n - (n - 1))) (ltb (10 + placeholder_width) (n - (n - 1))) (le-ltb (10 + placeholder_width) (n - (n - 1)) (omega arith))
 
 -- the wide entries of a line are as many as the wide spans that are marked there
-pub wide-count : (room placeholder_width : ℕ) (s : Source) (marks : List Annotation) (k : ℕ) (info : AnnotatedLineInfo) → seen_kept info ≡ kept_line s marks k → count_by (is_wide_entry room placeholder_width) info.annotations.items ≡ count_by (λ a. is_marked_on s.text k a && is_wide room placeholder_width s.text a) marks
+pub wide-count : (room placeholder_width : ℕ) (s : Source) (marks : List Annotation) (k : ℕ) (info : AnnotatedLineInfo)
+    → seen_kept info ≡ kept_line s marks k → count_by (is_wide_entry room placeholder_width)
+    info.annotations.items ≡ count_by (λ a. is_marked_on s.text k a && is_wide room placeholder_width s.text a) marks
 unfolding is_wide_part
 wide-count room placeholder_width s marks k info seen =
     let wide = λ (p : PartEntry). is_wide_part room placeholder_width p in

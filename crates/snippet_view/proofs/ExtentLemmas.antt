@@ -61,11 +61,16 @@ bar_added es e x bar reaches =
     }
 
 -- another entry is taken in
-pub entry_added : (es : List LineAnnotation) (e : LineAnnotation) (x y : Extent) (once : Option ℕ) → is_bar e.annotation_type ≡ false → ReachesEntries es x → once ≡ Some (option_map_or (λ n. min n e.start.display) x.first e.start.display) → y.first ≡ Some (option_map_or (λ n. min n e.end.display) once e.end.display) → y.last ≡ max (max x.last e.start.display) e.end.display → y.label_end ≡ max x.label_end (end_with e.end.display (option_copied e.label)) → ReachesEntries (es ++ e ∷ []) y
+pub entry_added : (es : List LineAnnotation) (e : LineAnnotation) (x y : Extent) (once : Option ℕ) → is_bar e.annotation_type ≡ false
+    → ReachesEntries es x → once ≡ Some (option_map_or (λ n. min n e.start.display) x.first e.start.display)
+    → y.first ≡ Some (option_map_or (λ n. min n e.end.display) once e.end.display) → y.last ≡ max (max x.last e.start.display) e.end.display
+    → y.label_end ≡ max x.label_end (end_with e.end.display (option_copied e.label)) → ReachesEntries (es ++ e ∷ []) y
 entry_added es e x y once not_bar reaches first twice last end =
     let columns = columns_of-push es e not_bar in
     record {
-      first = twice ∙ ap (λ (o : Option ℕ). Some (option_map_or (λ n. min n e.end.display) o e.end.display)) (first ∙ ap (λ (o : Option ℕ). Some (option_map_or (λ n. min n e.start.display) o e.start.display)) reaches.first) ∙ sym (least-push_two (columns_of es) e.start.display e.end.display) ∙ ap least (sym columns);
+      first = twice ∙ ap (λ (o : Option ℕ). Some (option_map_or (λ n. min n e.end.display) o e.end.display))
+          (first ∙ ap (λ (o : Option ℕ). Some (option_map_or (λ n. min n e.start.display) o e.start.display)) reaches.first)
+          ∙ sym (least-push_two (columns_of es) e.start.display e.end.display) ∙ ap least (sym columns);
       last = last ∙ ap (λ n. max (max n e.start.display) e.end.display) reaches.last ∙ sym (greatest-push_two (columns_of es) e.start.display e.end.display) ∙ ap greatest (sym columns);
       label_end = end ∙ ap (λ n. max n (end_with e.end.display (option_copied e.label))) reaches.label_end ∙ sym (greatest-push (ends_of es) (end_with e.end.display (option_copied e.label))) ∙ ap greatest (sym (ends_of-push es e not_bar));
     }
@@ -88,13 +93,18 @@ whitespaces_of-push ts t = filter_map-append leading_whitespace ts (t ∷ []) �
     known (Some n) = refl
 
 -- one more line is taken in
-pub line_added : (infos : List AnnotatedLineInfo) (info : AnnotatedLineInfo) (x y : Extent) → ReachesLines infos x → ReachesEntries (entries_of infos ++ info.annotations.items) y → y.whitespace ≡ option_map_or (λ n. Some (option_map_or (λ m. min m n) x.whitespace n)) (leading_whitespace (chars info.line.now)) x.whitespace → y.widest ≡ max x.widest (width_of (chars info.line.now)) → ReachesLines (infos ++ info ∷ []) y
+pub line_added : (infos : List AnnotatedLineInfo) (info : AnnotatedLineInfo) (x y : Extent) → ReachesLines infos x
+    → ReachesEntries (entries_of infos ++ info.annotations.items) y
+    → y.whitespace ≡ option_map_or (λ n. Some (option_map_or (λ m. min m n) x.whitespace n)) (leading_whitespace (chars info.line.now)) x.whitespace
+    → y.widest ≡ max x.widest (width_of (chars info.line.now)) → ReachesLines (infos ++ info ∷ []) y
 line_added infos info x y reaches entries whitespace widest =
     let text = chars info.line.now in
     let texts : texts_of (infos ++ info ∷ []) ≡ texts_of infos ++ text ∷ [] = map_push (λ (i : AnnotatedLineInfo). chars i.line.now) infos info in
     record {
       entries = subst (λ es. ReachesEntries es y) (sym (entries_of-push infos info)) entries;
-      whitespace = whitespace ∙ ap (λ (o : Option ℕ). option_map_or (λ n. Some (option_map_or (λ m. min m n) o n)) (leading_whitespace text) o) reaches.whitespace ∙ sym (least-push_known (whitespaces_of (texts_of infos)) (leading_whitespace text)) ∙ ap least (sym (whitespaces_of-push (texts_of infos) text)) ∙ ap (λ ts. least (whitespaces_of ts)) (sym texts);
+      whitespace = whitespace ∙ ap (λ (o : Option ℕ). option_map_or (λ n. Some (option_map_or (λ m. min m n) o n)) (leading_whitespace text) o)
+          reaches.whitespace ∙ sym (least-push_known (whitespaces_of (texts_of infos)) (leading_whitespace text))
+          ∙ ap least (sym (whitespaces_of-push (texts_of infos) text)) ∙ ap (λ ts. least (whitespaces_of ts)) (sym texts);
       widest = widest ∙ ap (λ n. max n (width_of text)) reaches.widest ∙ sym (greatest-push (widths_of (texts_of infos)) (width_of text)) ∙ ap greatest (sym (map_push width_of (texts_of infos) text)) ∙ ap (λ ts. greatest (widths_of ts)) (sym texts);
     }
 

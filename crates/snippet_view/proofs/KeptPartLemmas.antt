@@ -111,7 +111,10 @@ made-kept s marks spans = made-all (StandsOnKept s marks) s marks short long
     long : (a : Annotation) → Contains marks a → is_long s.text a ≡ true → (kind : AnnotationKind) → HoldsOfSpan (StandsOnKept s marks) s (depth_of s marks a) (record (long_entry s a) { kind = kind })
     long a among is kind = record {
       start = λ k at. any-member (keeps s.text k) marks a among (keeps-first s.text a k (is-span a among) (omega (arith, first a)));
-      bars = All-weaker (IsBarLine s.text ((long_entry s a).start.line - s.first) ((long_entry s a).end.line - s.first)) (λ k. (n : ℕ) → s.first + k ≡ s.first + n → list_any (keeps s.text n) marks ≡ true) (λ k is n at. bar a among k n is at) (bar_lines s.text ((long_entry s a).start.line - s.first) ((long_entry s a).end.line - s.first)) (bar-lines s.text ((long_entry s a).start.line - s.first) ((long_entry s a).end.line - s.first));
+      bars = All-weaker (IsBarLine s.text ((long_entry s a).start.line - s.first) ((long_entry s a).end.line - s.first))
+          (λ k. (n : ℕ) → s.first + k ≡ s.first + n → list_any (keeps s.text n) marks ≡ true) (λ k is n at. bar a among k n is at)
+          (bar_lines s.text ((long_entry s a).start.line - s.first) ((long_entry s a).end.line - s.first))
+          (bar-lines s.text ((long_entry s a).start.line - s.first) ((long_entry s a).end.line - s.first));
       end = λ k at. at-last a among k at;
       again = λ k at. at-last a among k at;
     }
@@ -119,7 +122,10 @@ made-kept s marks spans = made-all (StandsOnKept s marks) s marks short long
 -- no entry stands on a line that no span keeps
 pub none-unkept : (s : Source) (marks : List Annotation) (k : ℕ) → All (λ a. IsSpan s.text a.span.start a.span.end) marks → list_any (keeps s.text k) marks ≡ false → parts_on s marks k ≡ []
 none-unkept s marks k spans none =
-    filter-none (λ (p : PartEntry). eqb p.entry.start.line (s.first + k)) (made_parts s marks) (All-weaker (StandsOnKept s marks) (λ p. eqb p.entry.start.line (s.first + k) ≡ false) (λ p kept. ne_eqb p.entry.start.line (s.first + k) (λ at. both_ways (list_any (keeps s.text k) marks) none (kept k at))) (made_parts s marks) (made-kept s marks spans))
+    filter-none (λ (p : PartEntry). eqb p.entry.start.line (s.first + k)) (made_parts s marks)
+    (All-weaker (StandsOnKept s marks) (λ p. eqb p.entry.start.line (s.first + k) ≡ false)
+    (λ p kept. ne_eqb p.entry.start.line (s.first + k) (λ at. both_ways (list_any (keeps s.text k) marks) none (kept k at))) (made_parts s marks)
+    (made-kept s marks spans))
 
 -- and no span keeps it without marking it
 pub unseen-unkept : (s : Source) (marks : List Annotation) (k : ℕ) → list_any (keeps s.text k) marks ≡ false → list_any (λ a. not (is_marking a.kind) && touches s.text a k) marks ≡ false

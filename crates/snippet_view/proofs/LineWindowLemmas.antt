@@ -187,6 +187,8 @@ pub start_is_few : (start : Option ℕ) (columns : ℕ) → columns < 2 ^ 58 + 1
 start_is_few None columns narrow few = few
 start_is_few (Some s) columns narrow few = omega (arith, narrow, few)
 
-pub cells_few : (start : Option ℕ) (columns left : ℕ) (placeholder inner shown : List ℕ) (n count : ℕ) → columns < 2 ^ 58 + 1 → IfSome start (λ s. s < columns + 4) → shown ≡ uncovered_part left placeholder inner → length inner < 2 ^ 60 → n ≡ unwrap_or start 0 → count ≡ length shown → n + count < 2 ^ 61
+pub cells_few : (start : Option ℕ) (columns left : ℕ) (placeholder inner shown : List ℕ) (n count : ℕ) → columns < 2 ^ 58 + 1
+    → IfSome start (λ s. s < columns + 4) → shown ≡ uncovered_part left placeholder inner → length inner < 2 ^ 60 → n ≡ unwrap_or start 0
+    → count ≡ length shown → n + count < 2 ^ 61
 cells_few start columns left placeholder inner shown n count narrow few is short n_is count_is =
     omega (arith, start_few start columns narrow few, ap length is, uncovered_short left placeholder inner)

@@ -156,7 +156,9 @@ unfolding locations_of
 start_at-single s spans = map-map (λ (p : PartEntry). p.entry.start.char + 1) (single_part s) spans
 
 -- the place on a line is that of the least column at which such a span starts there
-place-on : (choice : List PartEntry → List PartEntry) (test : Annotation → Bool) (s : Source) (marks : List Annotation) (k : ℕ) → Chooses choice test s marks → least_place choice (kept_line s marks k) ≡ option_map (λ column. record { line = s.first + k; column = Some column }) (least (map (start_at s) (starting test s marks k)))
+place-on : (choice : List PartEntry → List PartEntry) (test : Annotation → Bool) (s : Source) (marks : List Annotation) (k : ℕ)
+    → Chooses choice test s marks → least_place choice (kept_line s marks k)
+    ≡ option_map (λ column. record { line = s.first + k; column = Some column }) (least (map (start_at s) (starting test s marks k)))
 place-on choice test s marks k chooses =
     ap (λ ns. option_map (λ column. record { line = s.first + k; column = Some column }) (least ns)) (ap start_columns (chooses.parts k) ∙ start_at-single s (starting test s marks k))
 
@@ -184,7 +186,9 @@ has-place choice test s marks k a chooses there =
     ap is_some (place-on choice test s marks k chooses) ∙ ap (λ o. is_some (option_map (at-column s k) o)) lowest.1.is
 
 -- and the place of a line is that of a span of least column
-place-is : (choice : List PartEntry → List PartEntry) (test : Annotation → Bool) (s : Source) (marks : List Annotation) (k : ℕ) (place : Location) → Chooses choice test s marks → least_place choice (kept_line s marks k) ≡ Some place → (a : Annotation) × IsLeast (start_at s) (starting test s marks k) a × (place ≡ at-column s k (start_at s a))
+place-is : (choice : List PartEntry → List PartEntry) (test : Annotation → Bool) (s : Source) (marks : List Annotation) (k : ℕ) (place : Location)
+    → Chooses choice test s marks → least_place choice (kept_line s marks k) ≡ Some place
+    → (a : Annotation) × IsLeast (start_at s) (starting test s marks k) a × (place ≡ at-column s k (start_at s a))
 unfolding at-column
 place-is choice test s marks k place chooses has =
     by (starting test s marks k) refl (sym has ∙ place-on choice test s marks k chooses)
@@ -197,7 +201,9 @@ place-is choice test s marks k place chooses has =
         let same : Some place ≡ Some (at-column s k (start_at s lowest.0)) = known ∙ ap (option_map (at-column s k)) lowest.1.is in (lowest.0, lowest.1, cc)
 
 -- the first line on which such a span starts is named, at the least column of one there
-named-by : (choice : List PartEntry → List PartEntry) (test : Annotation → Bool) (fold : Bool) (s : Source) (marks : List Annotation) (a : Annotation) → All (λ a. IsSpan s.text a.span.start a.span.end) marks → Chooses choice test s marks → Contains marks a → test a ≡ true → (place : Location) × (first_place (least_place choice) (annotated_lines fold s marks) ≡ Some place) × IsPlaceBy test s marks place
+named-by : (choice : List PartEntry → List PartEntry) (test : Annotation → Bool) (fold : Bool) (s : Source) (marks : List Annotation) (a : Annotation)
+    → All (λ a. IsSpan s.text a.span.start a.span.end) marks → Chooses choice test s marks → Contains marks a → test a ≡ true
+    → (place : Location) × (first_place (least_place choice) (annotated_lines fold s marks) ≡ Some place) × IsPlaceBy test s marks place
 unfolding at-column starting
 named-by choice test fold s marks a spans chooses among passes =
     let ks : List ℕ = kept_lines fold s.text marks in
@@ -235,7 +241,9 @@ NoneLong s marks = All (λ a. is_long s.text a ≡ false) marks
 untouched : (s : Source) (marks : List Annotation) (k : ℕ) → NoneLong s marks → is_untouched s.text marks k ≡ true
 untouched s [] k none = refl
 untouched s (a ∷ marks) k none =
-    and_from (not (is_marking a.kind && touches s.text a k && not (is_single_line s.text a))) (is_untouched s.text marks k) (apart (is_marking a.kind) (touches s.text a k) (is_single_line s.text a) (All-head (λ a. is_long s.text a ≡ false) a marks none)) (untouched s marks k (All-tail (λ a. is_long s.text a ≡ false) a marks none))
+    and_from (not (is_marking a.kind && touches s.text a k && not (is_single_line s.text a))) (is_untouched s.text marks k)
+    (apart (is_marking a.kind) (touches s.text a k) (is_single_line s.text a) (All-head (λ a. is_long s.text a ≡ false) a marks none))
+    (untouched s marks k (All-tail (λ a. is_long s.text a ≡ false) a marks none))
   where
     apart : (marked there single : Bool) → (marked && not single) ≡ false → not (marked && there && not single) ≡ true
     apart true true true none = refl
@@ -278,7 +286,11 @@ chooses-primary s marks spans none = record { parts = on }
     on k =
         ap primary_parts (parts-marked s marks k spans none)
         ∙ filter-map (λ (p : PartEntry). is_primary p.entry.kind) (single_part s) (starting (λ a. is_marking a.kind) s marks k)
-        ∙ ap (map (single_part s)) (filter-filter (λ (a : Annotation). is_primary a.kind) (λ (a : Annotation). is_marking a.kind && eqb (first_line s.text a) k) marks ∙ filter-agree (λ (a : Annotation). is_marking a.kind && eqb (first_line s.text a) k && is_primary a.kind) (λ (a : Annotation). is_primary a.kind && eqb (first_line s.text a) k) marks (λ i d within. by (get_or marks i d).kind (eqb (first_line s.text (get_or marks i d)) k)))
+        ∙ ap (map (single_part s))
+        (filter-filter (λ (a : Annotation). is_primary a.kind) (λ (a : Annotation). is_marking a.kind && eqb (first_line s.text a)
+        k) marks ∙ filter-agree (λ (a : Annotation). is_marking a.kind && eqb (first_line s.text a) k && is_primary a.kind)
+        (λ (a : Annotation). is_primary a.kind && eqb (first_line s.text a) k)
+        marks (λ i d within. by (get_or marks i d).kind (eqb (first_line s.text (get_or marks i d)) k)))
 
 -- ---- the kind that names
 
@@ -326,10 +338,17 @@ named-context s marks place none by = record {
 no-primary : (s : Source) (marks : List Annotation) (fold : Bool) → All (λ a. IsSpan s.text a.span.start a.span.end) marks → NoneLong s marks → list_any (λ a. is_primary a.kind) marks ≡ false → first_place (least_place primary_parts) (annotated_lines fold s marks) ≡ None
 unfolding starting
 no-primary s marks fold spans none other =
-    first-none (least_place primary_parts) (kept_line s marks) (kept_lines fold s.text marks) (λ k. place-on primary_parts (λ a. is_primary a.kind) s marks k (chooses-primary s marks spans none) ∙ ap (λ spans. option_map (λ column. record { line = s.first + k; column = Some column }) (least (map (start_at s) spans))) (filter-none (λ (a : Annotation). is_primary a.kind && eqb (first_line s.text a) k) marks (λ i d within. and_left (is_primary (get_or marks i d).kind) (eqb (first_line s.text (get_or marks i d)) k) (none-member (λ a. is_primary a.kind) marks (get_or marks i d) (Contains-get_or marks i d within) other))))
+    first-none (least_place primary_parts) (kept_line s marks) (kept_lines fold s.text marks)
+    (λ k. place-on primary_parts (λ a. is_primary a.kind) s marks k (chooses-primary s marks spans none)
+    ∙ ap (λ spans. option_map (λ column. record { line = s.first + k; column = Some column }) (least (map (start_at s) spans)))
+    (filter-none (λ (a : Annotation). is_primary a.kind && eqb (first_line s.text a)
+    k) marks (λ i d within. and_left (is_primary (get_or marks i d).kind) (eqb (first_line s.text (get_or marks i d)) k)
+    (none-member (λ a. is_primary a.kind) marks (get_or marks i d) (Contains-get_or marks i d within) other))))
 
 -- what the head of a primary snippet names, where a span is marked and none of several lines is
-pub place-named : (fold : Bool) (s : Source) (marks : List Annotation) (lines : List KeptLine) → All (λ a. IsSpan s.text a.span.start a.span.end) marks → lines ≡ annotated_lines fold s marks → list_any (λ a. is_marking a.kind) marks ≡ true → All (λ a. is_long s.text a ≡ false) marks → IsSomeAnd (primary_place lines) (IsLocation s marks)
+pub place-named : (fold : Bool) (s : Source) (marks : List Annotation) (lines : List KeptLine)
+    → All (λ a. IsSpan s.text a.span.start a.span.end) marks → lines ≡ annotated_lines fold s marks → list_any (λ a. is_marking a.kind) marks ≡ true
+    → All (λ a. is_long s.text a ≡ false) marks → IsSomeAnd (primary_place lines) (IsLocation s marks)
 place-named fold s marks lines spans are some none =
     subst (λ lines. IsSomeAnd (primary_place lines) (IsLocation s marks)) (sym are) (elim (cases_Bool (list_any (λ a. is_primary a.kind) marks)) [
       | inl primary ↦

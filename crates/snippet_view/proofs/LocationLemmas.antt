@@ -40,7 +40,9 @@ first-left place_on other_on infos i first all past before =
     alone (Some place) = refl
 
 -- where the line has a place it is the one asked for
-pub place-found : (place_on : KeptLine → Option Location) (infos : List AnnotatedLineInfo) (i : ℕ) (x : AnnotatedLineInfo) (place : Location) (others all : Option Location) → i < length infos → x ≡ get_or infos i x → place_on (seen_kept x) ≡ Some place → option_or (place_from place_on infos i) others ≡ all → Some place ≡ all
+pub place-found : (place_on : KeptLine → Option Location) (infos : List AnnotatedLineInfo) (i : ℕ) (x : AnnotatedLineInfo) (place : Location)
+    (others all : Option Location) → i < length infos → x ≡ get_or infos i x → place_on (seen_kept x) ≡ Some place
+    → option_or (place_from place_on infos i) others ≡ all → Some place ≡ all
 place-found place_on infos i x place others all within is found before =
     sym (ap (λ o. option_or o others) (turn place_on infos i x within is ∙ ap (λ o. option_or o (place_from place_on infos (i + 1))) found)) ∙ before
 
@@ -55,7 +57,10 @@ column-pushed parts more p is =
 parts-more : (es : List LineAnnotation) (i : ℕ) (d : LineAnnotation) → i < length es → map seen_part (take (i + 1) es) ≡ map seen_part (take i es) ++ seen_part (get_or es i d) ∷ []
 parts-more es i d within = map_more seen_part es i d within
 
-pub column-more : (es : List LineAnnotation) (i : ℕ) (d : LineAnnotation) (before : Option ℕ) → i < length es → before ≡ least (start_columns (map seen_part (take i es))) → Some (option_map_or (λ n. min n ((get_or es i d).start.char + 1)) before ((get_or es i d).start.char + 1)) ≡ least (start_columns (map seen_part (take (i + 1) es)))
+pub column-more : (es : List LineAnnotation) (i : ℕ) (d : LineAnnotation) (before : Option ℕ) → i < length es
+    → before ≡ least (start_columns (map seen_part (take i es)))
+    → Some (option_map_or (λ n. min n ((get_or es i d).start.char + 1)) before ((get_or es i d).start.char + 1))
+    ≡ least (start_columns (map seen_part (take (i + 1) es)))
 column-more es i d before within known =
     let e : LineAnnotation = get_or es i d in
     ap (λ o. Some (option_map_or (λ n. min n (e.start.char + 1)) o (e.start.char + 1))) known ∙ sym (column-pushed (map seen_part (take i es)) (map seen_part (take (i + 1) es)) (seen_part e) (parts-more es i d within))
@@ -65,13 +70,18 @@ primary-more : (es : List LineAnnotation) (i : ℕ) (d : LineAnnotation) → i <
 primary-more es i d within =
     ap primary_parts (parts-more es i d within) ∙ filter-append (λ (p : PartEntry). is_primary p.entry.kind) (map seen_part (take i es)) (seen_part (get_or es i d) ∷ [])
 
-pub primary_column-more : (es : List LineAnnotation) (i : ℕ) (d : LineAnnotation) (before : Option ℕ) → i < length es → is_primary (get_or es i d).kind ≡ true → before ≡ least (start_columns (primary_parts (map seen_part (take i es)))) → Some (option_map_or (λ n. min n ((get_or es i d).start.char + 1)) before ((get_or es i d).start.char + 1)) ≡ least (start_columns (primary_parts (map seen_part (take (i + 1) es))))
+pub primary_column-more : (es : List LineAnnotation) (i : ℕ) (d : LineAnnotation) (before : Option ℕ) → i < length es
+    → is_primary (get_or es i d).kind ≡ true → before ≡ least (start_columns (primary_parts (map seen_part (take i es))))
+    → Some (option_map_or (λ n. min n ((get_or es i d).start.char + 1)) before ((get_or es i d).start.char + 1))
+    ≡ least (start_columns (primary_parts (map seen_part (take (i + 1) es))))
 primary_column-more es i d before within primary known =
     let e : LineAnnotation = get_or es i d in
     ap (λ o. Some (option_map_or (λ n. min n (e.start.char + 1)) o (e.start.char + 1))) known
     ∙ sym (column-pushed (primary_parts (map seen_part (take i es))) (primary_parts (map seen_part (take (i + 1) es))) (seen_part e) (primary-more es i d within ∙ ap (λ ps. primary_parts (map seen_part (take i es)) ++ ps) (cond-true (is_primary e.kind) (seen_part e ∷ []) [] primary)))
 
-pub primary_column-same : (es : List LineAnnotation) (i : ℕ) (d : LineAnnotation) (before : Option ℕ) → i < length es → is_primary (get_or es i d).kind ≡ false → before ≡ least (start_columns (primary_parts (map seen_part (take i es)))) → before ≡ least (start_columns (primary_parts (map seen_part (take (i + 1) es))))
+pub primary_column-same : (es : List LineAnnotation) (i : ℕ) (d : LineAnnotation) (before : Option ℕ) → i < length es
+    → is_primary (get_or es i d).kind ≡ false → before ≡ least (start_columns (primary_parts (map seen_part (take i es))))
+    → before ≡ least (start_columns (primary_parts (map seen_part (take (i + 1) es))))
 primary_column-same es i d before within other known =
     let e : LineAnnotation = get_or es i d in
     known
@@ -83,14 +93,19 @@ filter-more : {X : Type 0} (test : X → Bool) (xs : List X) (i : ℕ) (x : X) �
 filter-more test xs i x within is = ap (filter test) (take_more xs i x within) ∙ filter-append test (take i xs) (get_or xs i x ∷ []) ∙ ap (λ y. filter test (take i xs) ++ filter test (y ∷ [])) (sym is)
 
 -- the least byte of the spans up to the i-th that pass a test, with the next: with its start where it passes
-pub start-more : (test : Annotation → Bool) (marks : List Annotation) (i : ℕ) (a : Annotation) (before : Option ℕ) → i < length marks → a ≡ get_or marks i a → test a ≡ true → before ≡ least (map (λ (b : Annotation). b.span.start) (filter test (take i marks))) → Some (option_map_or (λ n. min n a.span.start) before a.span.start) ≡ least (map (λ (b : Annotation). b.span.start) (filter test (take (i + 1) marks)))
+pub start-more : (test : Annotation → Bool) (marks : List Annotation) (i : ℕ) (a : Annotation) (before : Option ℕ) → i < length marks
+    → a ≡ get_or marks i a → test a ≡ true → before ≡ least (map (λ (b : Annotation). b.span.start) (filter test (take i marks)))
+    → Some (option_map_or (λ n. min n a.span.start) before a.span.start)
+    ≡ least (map (λ (b : Annotation). b.span.start) (filter test (take (i + 1) marks)))
 start-more test marks i a before within is passes known =
     let start = λ (b : Annotation). b.span.start in
     let so_far = filter test (take i marks) in
     ap (λ o. Some (option_map_or (λ n. min n a.span.start) o a.span.start)) known
     ∙ sym (ap (λ xs. least (map start xs)) (filter-more test marks i a within is ∙ ap (λ xs. so_far ++ xs) (cond-true (test a) (a ∷ []) [] passes)) ∙ ap least (map_push start so_far a) ∙ least-push (map start so_far) a.span.start)
 
-pub start-same : (test : Annotation → Bool) (marks : List Annotation) (i : ℕ) (a : Annotation) (before : Option ℕ) → i < length marks → a ≡ get_or marks i a → test a ≡ false → before ≡ least (map (λ (b : Annotation). b.span.start) (filter test (take i marks))) → before ≡ least (map (λ (b : Annotation). b.span.start) (filter test (take (i + 1) marks)))
+pub start-same : (test : Annotation → Bool) (marks : List Annotation) (i : ℕ) (a : Annotation) (before : Option ℕ) → i < length marks
+    → a ≡ get_or marks i a → test a ≡ false → before ≡ least (map (λ (b : Annotation). b.span.start) (filter test (take i marks)))
+    → before ≡ least (map (λ (b : Annotation). b.span.start) (filter test (take (i + 1) marks)))
 start-same test marks i a before within is fails known =
     let so_far = filter test (take i marks) in
     known ∙ sym (ap (λ xs. least (map (λ (b : Annotation). b.span.start) xs)) (filter-more test marks i a within is ∙ ap (λ xs. so_far ++ xs) (cond-false (test a) (a ∷ []) [] fails) ∙ append-nil so_far))

@@ -63,7 +63,10 @@ more-primary es e place has = record { span = has.span; among = among_left es (e
 promoted-primary : (before : List Entry) (e : Entry) (place : LongExtent) → HasPrimary before place → long_place e ≡ place → is_promoted before e ≡ true
 promoted-primary before e place has at =
     let same : same_place (long_place e) (long_place has.span) ≡ true = ap (same_place (long_place e)) (has.same ∙ sym at) ∙ same-refl (long_place e) in
-    or_right (is_primary e.kind) (list_any (λ (d : Entry). is_primary d.kind && same_place (long_place e) (long_place d)) before) (any_among (λ (d : Entry). is_primary d.kind && same_place (long_place e) (long_place d)) before has.span has.among (and_from (is_primary has.span.kind) (same_place (long_place e) (long_place has.span)) has.primary same))
+    or_right (is_primary e.kind) (list_any (λ (d : Entry). is_primary d.kind && same_place (long_place e) (long_place d)) before)
+    (any_among (λ (d : Entry). is_primary d.kind && same_place (long_place e)
+    (long_place d)) before has.span has.among
+    (and_from (is_primary has.span.kind) (same_place (long_place e) (long_place has.span)) has.primary same))
 
 promoted-kind : (t : AnnotationKind → Bool) → IsChoice t → (before : List Entry) (e : Entry) (place : LongExtent) → (t e.kind ≡ true) ⊎ HasPrimary before place → long_place e ≡ place → t (promoted before e).kind ≡ true
 promoted-kind t choice before e place why at =
@@ -104,7 +107,10 @@ later-started t first parts e later place rest =
     }
 
 -- the last span of its place has an entry where it starts
-last-started : (t : AnnotationKind → Bool) → IsChoice t → (s : Source) (depth : ℕ) (before : List Entry) (e : Entry) (later : List Entry) (others : List PartEntry) (place : LongExtent) → stands_among e later ≡ false → (t e.kind ≡ true) ⊎ HasPrimary before place → long_place e ≡ place → IsStarted t (span_parts s depth (stands_among e later) (promoted before e) ++ others) (e ∷ later) place
+last-started : (t : AnnotationKind → Bool) → IsChoice t
+    → (s : Source) (depth : ℕ) (before : List Entry) (e : Entry) (later : List Entry) (others : List PartEntry) (place : LongExtent)
+    → stands_among e later ≡ false → (t e.kind ≡ true) ⊎ HasPrimary before place → long_place e ≡ place
+    → IsStarted t (span_parts s depth (stands_among e later) (promoted before e) ++ others) (e ∷ later) place
 last-started t choice s depth before e later others place last why at =
     let drawn : Entry = promoted before e in
     record {
@@ -119,7 +125,9 @@ last-started t choice s depth before e later others place last why at =
       };
     }
 
-pub started : (t : AnnotationKind → Bool) → IsChoice t → (s : Source) (places : List LongExtent) (before later : List Entry) (place : LongExtent) (e : Entry) → Among later e → long_place e ≡ place → (t e.kind ≡ true) ⊎ HasPrimary before place → IsStarted t (long_parts s places before later) later place
+pub started : (t : AnnotationKind → Bool) → IsChoice t
+    → (s : Source) (places : List LongExtent) (before later : List Entry) (place : LongExtent) (e : Entry) → Among later e → long_place e ≡ place
+    → (t e.kind ≡ true) ⊎ HasPrimary before place → IsStarted t (long_parts s places before later) later place
 started t choice s places before [] place e here at why = absurd here
 started t choice s places before (f ∷ later) place e (inr among) at why =
     later-started t (span_parts s (depth_among places (long_place f)) (stands_among f later) (promoted before f)) (long_parts s places (before ++ f ∷ []) later) f later place (started t choice s places (before ++ f ∷ []) later place e among at (elim why [
@@ -130,7 +138,10 @@ started t choice s places before (f ∷ later) place e (inl same) at why =
     elim (cases_Bool (stands_among f later)) [
       | inl again ↦
           let g = any_cases (λ (d : Entry). same_place (long_place f) (long_place d)) later again in
-          later-started t (span_parts s (depth_among places (long_place f)) (stands_among f later) (promoted before f)) (long_parts s places (before ++ f ∷ []) later) f later place (started t choice s places (before ++ f ∷ []) later place g.0 g.1 (sym (same-true (long_place f) (long_place g.0) g.2) ∙ here) (next g.0))
+          later-started t (span_parts s (depth_among places (long_place f)) (stands_among f later) (promoted before f))
+          (long_parts s places (before ++ f ∷ []) later)
+          f later place (started t choice s places (before ++ f ∷ [])
+          later place g.0 g.1 (sym (same-true (long_place f) (long_place g.0) g.2) ∙ here) (next g.0))
       | inr last ↦ last-started t choice s (depth_among places (long_place f)) before f later (long_parts s places (before ++ f ∷ []) later) place last own here
     ]
   where
@@ -179,11 +190,18 @@ drawn-as t choice s before e later seen here passes =
       ]
     ]
 
-span-reached : (t : AnnotationKind → Bool) → IsChoice t → (s : Source) (depth : ℕ) (before : List Entry) (e : Entry) (later : List Entry) → ((d : Entry) → Among before d → IsSeen s d) → IsSeen s e → HoldsOfSpan (λ p. t p.entry.kind ≡ true → IsReached t before (e ∷ later) p) s depth (promoted before e)
+span-reached : (t : AnnotationKind → Bool) → IsChoice t → (s : Source) (depth : ℕ) (before : List Entry) (e : Entry) (later : List Entry)
+    → ((d : Entry) → Among before d → IsSeen s d) → IsSeen s e
+    → HoldsOfSpan (λ p. t p.entry.kind ≡ true → IsReached t before (e ∷ later) p) s depth (promoted before e)
 span-reached t choice s depth before e later seen here =
     record {
       start = λ passes. reach passes (start_part (promoted before e) depth) (λ from. by-same from.span.start (promoted before e).start (from.start ∙ sym (promoted-start before e)));
-      bars = All-weaker (IsBarLine s.text ((promoted before e).start.line - s.first) ((promoted before e).end.line - s.first)) (λ k. t (promoted before e).kind ≡ true → IsReached t before (e ∷ later) (bar_part (promoted before e) depth (s.first + k))) (λ k bar passes. reach passes (bar_part (promoted before e) depth (s.first + k)) (λ from. by-above from.span.start (bar_part (promoted before e) depth (s.first + k)).entry.start (omega (arith, bar.from, line from)))) (bar_lines s.text ((promoted before e).start.line - s.first) ((promoted before e).end.line - s.first)) (bar-lines s.text ((promoted before e).start.line - s.first) ((promoted before e).end.line - s.first));
+      bars = All-weaker (IsBarLine s.text ((promoted before e).start.line - s.first) ((promoted before e).end.line - s.first))
+          (λ k. t (promoted before e).kind ≡ true → IsReached t before (e ∷ later) (bar_part (promoted before e) depth (s.first + k)))
+          (λ k bar passes. reach passes (bar_part (promoted before e) depth (s.first + k))
+          (λ from. by-above from.span.start (bar_part (promoted before e) depth (s.first + k)).entry.start (omega (arith, bar.from, line from))))
+          (bar_lines s.text ((promoted before e).start.line - s.first) ((promoted before e).end.line - s.first))
+          (bar-lines s.text ((promoted before e).start.line - s.first) ((promoted before e).end.line - s.first));
       end = λ passes. reach passes (end_part (promoted before e) (MultilineEnd depth)) (λ from. by-above from.span.start (end_part (promoted before e) (MultilineEnd depth)).entry.start (omega (arith, line from, below)));
       again = λ passes. reach passes (end_part (promoted before e) Singleline) (λ from. by-above from.span.start (end_part (promoted before e) Singleline).entry.start (omega (arith, line from, below)));
     }
@@ -199,7 +217,9 @@ span-reached t choice s depth before e later seen here =
         let from = drawn-as t choice s before e later seen here passes in
         record { span = from.span; among = from.among; passes = from.passes; by = by from }
 
-pub reached : (t : AnnotationKind → Bool) → IsChoice t → (s : Source) (places : List LongExtent) (before later : List Entry) → ((d : Entry) → Among before d → IsSeen s d) → ((d : Entry) → Among later d → IsSeen s d) → All (λ p. t p.entry.kind ≡ true → IsReached t before later p) (long_parts s places before later)
+pub reached : (t : AnnotationKind → Bool) → IsChoice t → (s : Source) (places : List LongExtent) (before later : List Entry)
+    → ((d : Entry) → Among before d → IsSeen s d) → ((d : Entry) → Among later d → IsSeen s d)
+    → All (λ p. t p.entry.kind ≡ true → IsReached t before later p) (long_parts s places before later)
 reached t choice s places before [] seen to-come = All-nil (λ p. t p.entry.kind ≡ true → IsReached t before [] p)
 reached t choice s places before (e ∷ later) seen to-come =
     let P = λ (p : PartEntry). t p.entry.kind ≡ true → IsReached t before (e ∷ later) p in

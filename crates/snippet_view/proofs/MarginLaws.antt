@@ -57,8 +57,16 @@ measured_entries g (e ∷ es) =
     let here : List ℕ = g e.start e.end (option_copied e.label) in
     let read : LineAnnotation → List ℕ = λ x. g x.start x.end (option_copied x.label) in
     elim (cases_Bool (not (is_bar e.annotation_type))) [
-      | inl some ↦ ap (flat_map read) (cond-true (not (is_bar e.annotation_type)) (e ∷ with_columns es) (with_columns es) some) ∙ ap (λ ns. here ++ ns) (measured_entries g es) ∙ sym (ap (flat_map (measured g)) (cond-true (not (is_bar e.annotation_type)) (seen_part e ∷ filter has_columns (map seen_part es)) (filter has_columns (map seen_part es)) some))
-      | inr none ↦ ap (flat_map read) (cond-false (not (is_bar e.annotation_type)) (e ∷ with_columns es) (with_columns es) none) ∙ measured_entries g es ∙ sym (ap (flat_map (measured g)) (cond-false (not (is_bar e.annotation_type)) (seen_part e ∷ filter has_columns (map seen_part es)) (filter has_columns (map seen_part es)) none))
+      | inl some ↦ ap (flat_map read) (cond-true (not (is_bar e.annotation_type)) (e ∷ with_columns es) (with_columns es) some)
+          ∙ ap (λ ns. here ++ ns) (measured_entries g es)
+          ∙ sym (ap (flat_map (measured g))
+          (cond-true (not (is_bar e.annotation_type)) (seen_part e ∷ filter has_columns (map seen_part es)) (filter has_columns (map seen_part es))
+          some))
+      | inr none ↦ ap (flat_map read) (cond-false (not (is_bar e.annotation_type)) (e ∷ with_columns es) (with_columns es) none)
+          ∙ measured_entries g es ∙ sym
+          (ap (flat_map (measured g))
+          (cond-false (not (is_bar e.annotation_type)) (seen_part e ∷ filter has_columns (map seen_part es)) (filter has_columns (map seen_part es))
+          none))
     ]
 
 single_list : {X : Type 0} (f : X → ℕ) (xs : List X) → map f xs ≡ flat_map (λ x. f x ∷ []) xs
@@ -297,7 +305,9 @@ short_back g fold s marks a c ordered here short inside =
     let made : Among (made_parts s marks) p = among_left (map (single_part s) (filter (is_short s.text) marks)) (long_parts s (long_places s marks) [] (long_spans s marks)) p (among_map (single_part s) (filter (is_short s.text) marks) a (among_filter (is_short s.text) marks a here short)) in
     part_measured g fold s marks (first_line s.text a) c (measured g p) (first_kept fold s.text marks a ordered here) (p, made, refl, entry_of-line s a, refl) inside
 
-start_back : (g : Measure) (fold : Bool) (s : Source) (marks : List Annotation) (a : Annotation) (c : ℕ) → All (λ (b : Annotation). IsSpan s.text b.span.start b.span.end) marks → Among marks a → is_long s.text a ≡ true → Among (measured g (start_part (long_entry s a) 0)) c → Among (measured_parts g (kept_parts fold s marks)) c
+start_back : (g : Measure) (fold : Bool) (s : Source) (marks : List Annotation) (a : Annotation) (c : ℕ)
+    → All (λ (b : Annotation). IsSpan s.text b.span.start b.span.end) marks → Among marks a → is_long s.text a ≡ true
+    → Among (measured g (start_part (long_entry s a) 0)) c → Among (measured_parts g (kept_parts fold s marks)) c
 start_back g fold s marks a c spans here long inside =
     let there = start_there g s (long_places s marks) [] (long_spans s marks) (long_entry s a) (long_there s marks a here long) in
     let found = long_among s marks there.0 there.1 in
@@ -308,12 +318,18 @@ start_back g fold s marks a c spans here long inside =
     let line : there.0.start.line ≡ s.first + first_line s.text b = ap (λ (x : Entry). x.start.line) (sym found.3) ∙ start-line s b.span.start b.span.end in
     let part = there.3 in
     let read : Loc → List ℕ = λ l. g l (record { line = l.line; char = l.char + 1; display = l.display + 1; byte = l.byte }) None in
-    part_measured g fold s marks (first_line s.text b) c (measured g (start_part (long_entry s a) 0)) (first_kept fold s.text marks b span.ordered found.1) (made_long g s marks (s.first + first_line s.text b) (measured g (start_part (long_entry s a) 0)) (part.0, part.1, part.2, part.3 ∙ line, part.4 ∙ ap read start)) inside
+    part_measured g fold s marks (first_line s.text b) c (measured g (start_part (long_entry s a) 0))
+    (first_kept fold s.text marks b span.ordered found.1)
+    (made_long g s marks (s.first + first_line s.text b) (measured g (start_part (long_entry s a) 0))
+    (part.0, part.1, part.2, part.3 ∙ line, part.4 ∙ ap read start)) inside
 
 end_back : (g : Measure) (fold : Bool) (s : Source) (marks : List Annotation) (a : Annotation) (c : ℕ) → a.span.start ≤ a.span.end → Among marks a → is_long s.text a ≡ true → Among (measured g (end_part (long_entry s a) Singleline)) c → Among (measured_parts g (kept_parts fold s marks)) c
 end_back g fold s marks a c ordered here long inside =
     let part = end_there g s (long_places s marks) [] (long_spans s marks) (long_entry s a) (long_there s marks a here long) in
-    part_measured g fold s marks (last_line s.text a) c (measured g (end_part (long_entry s a) Singleline)) (last_kept fold s.text marks a ordered here) (made_long g s marks (s.first + last_line s.text a) (measured g (end_part (long_entry s a) Singleline)) (part.0, part.1, part.2, part.3 ∙ end-line s a.span.start a.span.end, part.4)) inside
+    part_measured g fold s marks (last_line s.text a) c (measured g (end_part (long_entry s a) Singleline))
+    (last_kept fold s.text marks a ordered here)
+    (made_long g s marks (s.first + last_line s.text a) (measured g (end_part (long_entry s a) Singleline))
+    (part.0, part.1, part.2, part.3 ∙ end-line s a.span.start a.span.end, part.4)) inside
 
 parts_back : (g : Measure) (fold : Bool) (s : Source) (marks : List Annotation) (c : ℕ) → All (λ (b : Annotation). IsSpan s.text b.span.start b.span.end) marks → Among (flat_map (measured_span g s) marks) c → Among (measured_parts g (kept_parts fold s marks)) c
 parts_back g fold s marks c spans here =
@@ -340,7 +356,9 @@ parts_back g fold s marks c spans here =
 -- ---- the laws
 
 -- the bounds of the lines that are kept are those of the spans
-pub margin_of_kept : (room : ℕ) (fold : Bool) (s : Source) (marks : List Annotation) (infos : List AnnotatedLineInfo) → map seen_kept infos ≡ annotated_lines fold s marks → All (λ (a : Annotation). IsSpan s.text a.span.start a.span.end) marks → bounds_of_lines room infos ≡ margin_of room fold s marks
+pub margin_of_kept : (room : ℕ) (fold : Bool) (s : Source) (marks : List Annotation) (infos : List AnnotatedLineInfo)
+    → map seen_kept infos ≡ annotated_lines fold s marks → All (λ (a : Annotation). IsSpan s.text a.span.start a.span.end) marks
+    → bounds_of_lines room infos ≡ margin_of room fold s marks
 margin_of_kept room fold s marks infos kept spans =
     let es = entries_of infos in
     let texts = map (chars_at s.text) (kept_lines fold s.text marks) in
@@ -348,10 +366,19 @@ margin_of_kept room fold s marks infos kept spans =
     let same_parts : map seen_part es ≡ kept_parts fold s marks = seen_entries infos ∙ ap (flat_map (λ (l : KeptLine). l.parts)) kept in
     let all_columns : columns_of es ≡ measured_parts columns (kept_parts fold s marks) = measured_entries columns es ∙ ap (measured_parts columns) same_parts in
     let all_ends : ends_of es ≡ measured_parts ends (kept_parts fold s marks) = single_list (λ (e : LineAnnotation). end_with e.end.display (option_copied e.label)) (with_columns es) ∙ measured_entries ends es ∙ ap (measured_parts ends) same_parts in
-    let low : unwrap_or (least (columns_of es)) 0 ≡ unwrap_or (least (flat_map (span_columns s) marks)) 0 = ap (λ ns. unwrap_or (least ns) 0) all_columns ∙ least_same (measured_parts columns (kept_parts fold s marks)) (flat_map (span_columns s) marks) (parts_there columns fold s marks) (λ c. parts_back columns fold s marks c spans) in
+    let low : unwrap_or (least (columns_of es)) 0 ≡ unwrap_or (least (flat_map (span_columns s) marks)) 0 =
+    ap (λ ns. unwrap_or (least ns) 0) all_columns
+    ∙ least_same (measured_parts columns (kept_parts fold s marks)) (flat_map (span_columns s) marks) (parts_there columns fold s marks)
+    (λ c. parts_back columns fold s marks c spans) in
     let high : greatest (columns_of es) ≡ greatest (flat_map (span_columns s) marks) = ap greatest all_columns ∙ greatest_same (measured_parts columns (kept_parts fold s marks)) (flat_map (span_columns s) marks) (parts_there columns fold s marks) (λ c. parts_back columns fold s marks c spans) in
     let after : greatest (ends_of es) ≡ greatest (flat_map (span_ends s) marks) = ap greatest all_ends ∙ greatest_same (measured_parts ends (kept_parts fold s marks)) (flat_map (span_ends s) marks) (parts_there ends fold s marks) (λ c. parts_back ends fold s marks c spans) in
-    ap (λ ts. bounds_for room (whitespaces_of ts) (columns_of es) (ends_of es) (widths_of ts)) same_texts ∙ ap (λ n. margin_bounds (unwrap_or (least (whitespaces_of texts)) 0) n (greatest (columns_of es)) (greatest (ends_of es)) room (greatest (widths_of texts))) low ∙ ap (λ n. margin_bounds (unwrap_or (least (whitespaces_of texts)) 0) (unwrap_or (least (flat_map (span_columns s) marks)) 0) n (greatest (ends_of es)) room (greatest (widths_of texts))) high ∙ ap (λ n. margin_bounds (unwrap_or (least (whitespaces_of texts)) 0) (unwrap_or (least (flat_map (span_columns s) marks)) 0) (greatest (flat_map (span_columns s) marks)) n room (greatest (widths_of texts))) after
+    ap (λ ts. bounds_for room (whitespaces_of ts) (columns_of es) (ends_of es) (widths_of ts)) same_texts
+    ∙ ap (λ n. margin_bounds (unwrap_or (least (whitespaces_of texts)) 0) n (greatest (columns_of es)) (greatest (ends_of es))
+    room (greatest (widths_of texts))) low ∙ ap
+    (λ n. margin_bounds (unwrap_or (least (whitespaces_of texts)) 0) (unwrap_or (least (flat_map (span_columns s) marks)) 0)
+    n (greatest (ends_of es)) room (greatest (widths_of texts))) high
+    ∙ ap (λ n. margin_bounds (unwrap_or (least (whitespaces_of texts)) 0) (unwrap_or (least (flat_map (span_columns s) marks)) 0)
+    (greatest (flat_map (span_columns s) marks)) n room (greatest (widths_of texts))) after
 
 -- ---- where nothing is cut on the left
 

@@ -166,7 +166,9 @@ all-seen s marks spans e among =
     subst (IsSeen s) of.is (long-seen s of.span (spans of.span of.among) of.long)
 
 -- where a marked span starts an entry of its kind stands
-marked-started : (t : AnnotationKind → Bool) → IsChoice t → (s : Source) (marks : List Annotation) → ((a : Annotation) → Among marks a → IsSpan s.text a.span.start a.span.end) → (a : Annotation) → Among marks a → is_marking a.kind ≡ true → t a.kind ≡ true → StandsAt t (made_parts s marks) (start_location s a.span.start)
+marked-started : (t : AnnotationKind → Bool) → IsChoice t → (s : Source) (marks : List Annotation)
+    → ((a : Annotation) → Among marks a → IsSpan s.text a.span.start a.span.end) → (a : Annotation) → Among marks a → is_marking a.kind ≡ true
+    → t a.kind ≡ true → StandsAt t (made_parts s marks) (start_location s a.span.start)
 marked-started t choice s marks spans a among marked passes =
     elim (cases_Bool (is_single_line s.text a)) [
       | inl single ↦ record {
@@ -215,7 +217,9 @@ part-after t choice s marks spans p among passes =
             passes = ap (λ (q : PartEntry). t q.entry.kind) a.2 ∙ passes;
             by = by-same (start_location s a.0.span.start) p.entry.start (sym (start-of-span s a.0) ∙ ap (λ (q : PartEntry). q.entry.start) a.2);
           }
-      | inr several ↦ long (all_among (λ p. t p.entry.kind ≡ true → IsReached t [] (long_spans s marks) p) (long_parts s (long_places s marks) [] (long_spans s marks)) p (reached t choice s (long_places s marks) [] (long_spans s marks) (λ d none. absurd none) (all-seen s marks spans)) several passes)
+      | inr several ↦ long (all_among (λ p. t p.entry.kind ≡ true → IsReached t [] (long_spans s marks) p)
+          (long_parts s (long_places s marks) [] (long_spans s marks))
+          p (reached t choice s (long_places s marks) [] (long_spans s marks) (λ d none. absurd none) (all-seen s marks spans)) several passes)
     ]
   where
     from : (e : Entry) → Among (long_spans s marks) e → t e.kind ≡ true → IsBy e.start p.entry.start → IsAfterStart t s marks p
@@ -261,7 +265,9 @@ none-above t choice s marks spans a least j above =
     omega (arith, above, on.1, after.by.0, (least.first after.span after.among after.marked after.passes).0, start_location-line s a.span.start))
 
 -- on it the least column is that of the span
-least-there : (t : AnnotationKind → Bool) → IsChoice t → (s : Source) (marks : List Annotation) → ((a : Annotation) → Among marks a → IsSpan s.text a.span.start a.span.end) → (a : Annotation) → IsFirstStart t s marks a → least (start_columns (chosen t (parts_on s marks (first_line s.text a)))) ≡ Some ((start_location s a.span.start).char + 1)
+least-there : (t : AnnotationKind → Bool) → IsChoice t → (s : Source) (marks : List Annotation)
+    → ((a : Annotation) → Among marks a → IsSpan s.text a.span.start a.span.end) → (a : Annotation) → IsFirstStart t s marks a
+    → least (start_columns (chosen t (parts_on s marks (first_line s.text a)))) ≡ Some ((start_location s a.span.start).char + 1)
 least-there t choice s marks spans a least-start =
     least-is (start_columns (chosen t (parts_on s marks k))) ((start_location s a.span.start).char + 1) there low
   where
@@ -275,7 +281,10 @@ least-there t choice s marks spans a least-start =
     there =
         let one = marked-started t choice s marks spans a least-start.among least-start.marked least-start.passes in
         let on : eqb one.part.entry.start.line (s.first + first_line s.text a) ≡ true = eq-eqb one.part.entry.start.line (s.first + first_line s.text a) (ap (λ (l : Loc). l.line) one.at_is ∙ start_location-line s a.span.start) in
-        let part : Among (chosen t (parts_on s marks (first_line s.text a))) one.part = among_filter (λ (q : PartEntry). t q.entry.kind) (parts_on s marks (first_line s.text a)) one.part (among_filter (λ (q : PartEntry). eqb q.entry.start.line (s.first + first_line s.text a)) (made_parts s marks) one.part one.among on) one.passes in
+        let part : Among (chosen t (parts_on s marks (first_line s.text a))) one.part =
+        among_filter (λ (q : PartEntry). t q.entry.kind) (parts_on s marks (first_line s.text a))
+        one.part (among_filter (λ (q : PartEntry). eqb q.entry.start.line (s.first + first_line s.text a)) (made_parts s
+        marks) one.part one.among on) one.passes in
         subst (Among (start_columns (chosen t (parts_on s marks (first_line s.text a))))) (ap (λ (l : Loc). l.char + 1) one.at_is) (among_map (λ (q : PartEntry). q.entry.start.char + 1) (chosen t (parts_on s marks (first_line s.text a))) one.part part)
 
     low : (m : ℕ) → Among (start_columns (chosen t (parts_on s marks (first_line s.text a)))) m → (start_location s a.span.start).char + 1 ≤ m
@@ -290,14 +299,19 @@ least-there t choice s marks spans a least-start =
         omega (arith, p.2, after.by.1 beside, before.1 level)
 
 -- the first line with an entry of the choice is that of the span, and the least column there its column
-first-start : (t : AnnotationKind → Bool) → IsChoice t → (fold : Bool) (s : Source) (marks : List Annotation) → ((a : Annotation) → Among marks a → IsSpan s.text a.span.start a.span.end) → (a : Annotation) → IsFirstStart t s marks a → first_place (least_place (chosen t)) (annotated_lines fold s marks) ≡ Some (place_at s a.span.start)
+first-start : (t : AnnotationKind → Bool) → IsChoice t → (fold : Bool) (s : Source) (marks : List Annotation)
+    → ((a : Annotation) → Among marks a → IsSpan s.text a.span.start a.span.end) → (a : Annotation) → IsFirstStart t s marks a
+    → first_place (least_place (chosen t)) (annotated_lines fold s marks) ≡ Some (place_at s a.span.start)
 first-start t choice fold s marks spans a first =
     first-is (least_place (chosen t)) (kept_line s marks) (kept_lines fold s.text marks) (first_line s.text a) (place_at s a.span.start) (kept-ascends fold s.text marks) (first-kept fold s.text marks a (among-contains marks a first.among) (spans a first.among))
     (ap (option_map (λ column. record { line = s.first + first_line s.text a; column = Some column })) (least-there t choice s marks spans a first) ∙ ap (λ n. Some (record { line = n; column = Some ((start_location s a.span.start).char + 1) })) (sym (start_location-line s a.span.start)))
     (λ j above. ap (λ ps. option_map (λ column. record { line = s.first + j; column = Some column }) (least (start_columns ps))) (none-above t choice s marks spans a first j above))
 
 -- where no span of the choice is marked, no line has a place
-no-start : (t : AnnotationKind → Bool) → IsChoice t → (fold : Bool) (s : Source) (marks : List Annotation) → ((a : Annotation) → Among marks a → IsSpan s.text a.span.start a.span.end) → ((a : Annotation) → Among marks a → is_marking a.kind ≡ true → t a.kind ≡ true → ⊥) → first_place (least_place (chosen t)) (annotated_lines fold s marks) ≡ None
+no-start : (t : AnnotationKind → Bool) → IsChoice t → (fold : Bool) (s : Source) (marks : List Annotation)
+    → ((a : Annotation) → Among marks a → IsSpan s.text a.span.start a.span.end)
+    → ((a : Annotation) → Among marks a → is_marking a.kind ≡ true → t a.kind ≡ true → ⊥)
+    → first_place (least_place (chosen t)) (annotated_lines fold s marks) ≡ None
 no-start t choice fold s marks spans none =
     first-none (least_place (chosen t)) (kept_line s marks) (kept_lines fold s.text marks) (λ k. ap (λ ps. option_map (λ column. record { line = s.first + k; column = Some column }) (least (start_columns ps))) (none-among (chosen t (parts_on s marks k)) (λ p among.
     let on = on-line t s marks k p among in
@@ -313,7 +327,11 @@ record IsTestOf (test : Annotation → Bool) (t : AnnotationKind → Bool) : Typ
   pub all : (a : Annotation) → is_marking a.kind ≡ true → t a.kind ≡ true → test a ≡ true
 
 -- so the place is that of the least byte at which one of them starts
-start-named : (test : Annotation → Bool) (t : AnnotationKind → Bool) → IsTestOf test t → IsChoice t → (fold : Bool) (s : Source) (marks : List Annotation) → IsUtf8 s.text → ((a : Annotation) → Among marks a → IsSpan s.text a.span.start a.span.end) → first_place (least_place (chosen t)) (annotated_lines fold s marks) ≡ option_map (place_at s) (least (map (λ (a : Annotation). a.span.start) (filter test marks)))
+start-named : (test : Annotation → Bool) (t : AnnotationKind → Bool) → IsTestOf test t → IsChoice t
+    → (fold : Bool) (s : Source) (marks : List Annotation) → IsUtf8 s.text
+    → ((a : Annotation) → Among marks a → IsSpan s.text a.span.start a.span.end)
+    → first_place (least_place (chosen t)) (annotated_lines fold s marks) ≡ option_map (place_at s)
+    (least (map (λ (a : Annotation). a.span.start) (filter test marks)))
 start-named test t is choice fold s marks utf8 spans = by (filter test marks) refl
   where
     start : Annotation → ℕ

@@ -125,14 +125,19 @@ near_reaching left skipped before part after is starts reaches =
     let same : left - width_of before ≡ left - skipped = omega (arith, is) in
     omega (arith, reaching_after left before (part ++ after) (λ some. omega (arith, is, starts some)), ap (λ k. reaching k (part ++ after)) same, within)
 
-pub near_dropped : (left skipped : ℕ) (before part after : List ℕ) → skipped ≡ width_of before → (0 < length before → skipped < left) → (0 < length after → left - skipped ≤ width_of part) → width_of (take (reaching left (before ++ (part ++ after))) (before ++ (part ++ after))) ≡ skipped + width_of (take (reaching (left - skipped) part) part)
+pub near_dropped : (left skipped : ℕ) (before part after : List ℕ) → skipped ≡ width_of before → (0 < length before → skipped < left)
+    → (0 < length after → left - skipped ≤ width_of part)
+    → width_of (take (reaching left (before ++ (part ++ after))) (before ++ (part ++ after)))
+    ≡ skipped + width_of (take (reaching (left - skipped) part) part)
 near_dropped left skipped before part after is starts reaches =
     let all = before ++ (part ++ after) in
     let n = reaching (left - skipped) part in
     let front : take (reaching left all) all ≡ before ++ take n part = ap (λ k. take k all) (near_reaching left skipped before part after is starts reaches) ∙ take-append-add before (part ++ after) n ∙ ap (λ cs. before ++ cs) (take-append-le n part after (reaching_length (left - skipped) part)) in
     omega (arith, ap width_of front, sum_by-append char_width before (take n part), is)
 
-pub near_rest : (left skipped : ℕ) (before part after : List ℕ) → skipped ≡ width_of before → (0 < length before → skipped < left) → (0 < length after → left - skipped ≤ width_of part) → drop (reaching left (before ++ (part ++ after))) (before ++ (part ++ after)) ≡ drop (reaching (left - skipped) part) part ++ after
+pub near_rest : (left skipped : ℕ) (before part after : List ℕ) → skipped ≡ width_of before → (0 < length before → skipped < left)
+    → (0 < length after → left - skipped ≤ width_of part)
+    → drop (reaching left (before ++ (part ++ after))) (before ++ (part ++ after)) ≡ drop (reaching (left - skipped) part) part ++ after
 near_rest left skipped before part after is starts reaches =
     let all = before ++ (part ++ after) in
     let n = reaching (left - skipped) part in
@@ -144,7 +149,10 @@ near_inner columns reached part after rest is enough =
     let near = drop reached part in
     let wide : width_of part ≡ width_of (take reached part) + width_of near = ap width_of (sym (take-append-drop reached part)) ∙ sum_by-append char_width (take reached part) near in
     let found : take (fitting columns (near ++ after)) (near ++ after) ≡ take (fitting columns near) near =
-    by_after (λ b. take (fitting columns (near ++ b)) (near ++ b) ≡ take (fitting columns near) near) after (ap (λ cs. take (fitting columns cs) cs) (append-nil near)) (λ some. ap (λ k. take k (near ++ after)) (fitting_within columns near after (omega (arith, wide, enough some))) ∙ take-append-le (fitting columns near) near after (fitting_length columns near)) in
+    by_after (λ b. take (fitting columns (near ++ b)) (near ++ b) ≡ take (fitting columns near) near)
+    after (ap (λ cs. take (fitting columns cs) cs) (append-nil near))
+    (λ some. ap (λ k. take k (near ++ after)) (fitting_within columns near after (omega (arith, wide, enough some)))
+    ∙ take-append-le (fitting columns near) near after (fitting_length columns near)) in
     ap (λ cs. take (fitting columns cs) cs) is ∙ found
 
 -- the columns of the characters after some
@@ -154,7 +162,9 @@ width_left n skipped width cs rest is is_skipped is_rest =
     omega (arith, is, is_skipped, ap width_of is_rest, both)
 
 -- the part that is made so
-pub near_holds : (room left right skipped columns : ℕ) (cs rest part : List ℕ) → skipped ≡ width_of (take (falling_short (window_left left cs) cs) cs) → rest ≡ drop (falling_short (window_left left cs) cs) cs → columns ≡ (window_left left cs - skipped) + window_columns room left right cs + 4 → part ≡ take (reaching columns rest) rest → HoldsWindow room left right cs skipped part
+pub near_holds : (room left right skipped columns : ℕ) (cs rest part : List ℕ) → skipped ≡ width_of (take (falling_short (window_left left cs) cs) cs)
+    → rest ≡ drop (falling_short (window_left left cs) cs) cs → columns ≡ (window_left left cs - skipped) + window_columns room left right cs + 4
+    → part ≡ take (reaching columns rest) rest → HoldsWindow room left right cs skipped part
 near_holds room left right skipped columns cs rest part is_skipped is_rest is_columns is_part =
     let n = falling_short (window_left left cs) cs in
     let m = reaching columns rest in
@@ -181,7 +191,9 @@ window_dropped room left right skipped l line part holds is =
     let found = ap (λ xs. width_of (take (reaching from xs) xs)) holds.text_is ∙ near_dropped from skipped holds.before part holds.after holds.skipped_is holds.starts (λ some. omega (arith, holds.reaches some)) in
     ap (λ k. skipped + width_of (take (reaching (k - skipped) part) part)) is ∙ sym found
 
-pub window_inner : (room left right skipped l n : ℕ) (line part rest inner : List ℕ) → HoldsWindow room left right line skipped part → l ≡ window_left left line → n ≡ window_columns room left right line → width_of (take (reaching (l - skipped) part) part) < (l - skipped) + 4 → rest ≡ drop (reaching (l - skipped) part) part → inner ≡ take (fitting n rest) rest → inner ≡ inner_part room left right line
+pub window_inner : (room left right skipped l n : ℕ) (line part rest inner : List ℕ) → HoldsWindow room left right line skipped part
+    → l ≡ window_left left line → n ≡ window_columns room left right line → width_of (take (reaching (l - skipped) part) part) < (l - skipped) + 4
+    → rest ≡ drop (reaching (l - skipped) part) part → inner ≡ take (fitting n rest) rest → inner ≡ inner_part room left right line
 window_inner room left right skipped l n line part rest inner holds is_left is_columns near is_rest is_inner =
     let from = window_left left line in
     let columns = window_columns room left right line in
@@ -193,7 +205,10 @@ window_inner room left right skipped l n line part rest inner holds is_left is_c
     is_inner ∙ ap (λ k. take (fitting k rest) rest) is_columns ∙ ap (λ xs. take (fitting columns xs) xs) here ∙ sym found
 
 -- the cell of the placeholder on the right
-pub end_some : (room left right end : ℕ) (start : Option ℕ) (placeholder line inner shown : List ℕ) → inner ≡ inner_part room left right line → window_right room left right line < width_of line → start ≡ covered_columns left placeholder inner → shown ≡ uncovered_part left placeholder inner → end ≡ (unwrap_or start 0 + length shown) - reaching_last (width_of placeholder) inner → Some end ≡ covered_end room left right placeholder line
+pub end_some : (room left right end : ℕ) (start : Option ℕ) (placeholder line inner shown : List ℕ) → inner ≡ inner_part room left right line
+    → window_right room left right line < width_of line → start ≡ covered_columns left placeholder inner
+    → shown ≡ uncovered_part left placeholder inner → end ≡ (unwrap_or start 0 + length shown) - reaching_last (width_of placeholder) inner
+    → Some end ≡ covered_end room left right placeholder line
 end_some room left right end start placeholder line inner shown is_inner cut is_start is_shown is_end =
     let at : List ℕ → ℕ = λ i. (unwrap_or (covered_columns left placeholder i) 0 + length (uncovered_part left placeholder i)) - reaching_last (width_of placeholder) i in
     let cut_off : nat_lt (window_right room left right line) (width_of line) ≡ true = grind (arith, nat_tests, cut) in

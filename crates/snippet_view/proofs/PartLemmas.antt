@@ -58,7 +58,10 @@ bar-lines source first last =
     let test = λ (k : ℕ). list_any (λ j. not (is_trivial_line source j)) (range_with_len k (beginning - k)) in
     let closing : Bool = ltb beginning (last - 1) && not (is_trivial_line source (last - 1)) in
     All-append (IsBarLine source first last) (filter test (range_with_len (first + 1) (beginning - first))) (cond closing ((last - 1) ∷ []) [])
-    (All-filtered test (IsBarLine source first last) (range_with_len (first + 1) (beginning - first)) (All-weaker (λ k. (first + 1 ≤ k) × (k < first + 1 + (beginning - first))) (λ k. test k ≡ true → IsBarLine source first last k) (λ k within passes. record { from = omega (arith, within.0); to = omega (arith, within.1); shown = inl passes }) (range_with_len (first + 1) (beginning - first)) (All-range (first + 1) (beginning - first))))
+    (All-filtered test (IsBarLine source first last) (range_with_len (first + 1) (beginning - first))
+    (All-weaker (λ k. (first + 1 ≤ k) × (k < first + 1 + (beginning - first))) (λ k. test k ≡ true → IsBarLine source first last k)
+    (λ k within passes. record { from = omega (arith, within.0); to = omega (arith, within.1); shown = inl passes })
+    (range_with_len (first + 1) (beginning - first)) (All-range (first + 1) (beginning - first))))
     (cond_both closing ((last - 1) ∷ []) [] (All (IsBarLine source first last)) (λ there. All-cons (IsBarLine source first last) (last - 1) [] (last-bar there) (All-nil (IsBarLine source first last))) (λ _. All-nil (IsBarLine source first last)))
   where
     last-bar : (ltb (min (first + 4) last) (last - 1) && not (is_trivial_line source (last - 1))) ≡ true → IsBarLine source first last (last - 1)
@@ -80,7 +83,10 @@ pub span-all : (P : PartEntry → Type 0) (s : Source) (depth : ℕ) (again : Bo
 span-all P s depth true e holds = All-cons P (end_part e Singleline) [] holds.again (All-nil P)
 span-all P s depth false e holds =
     let bars : List PartEntry = map (λ k. bar_part e depth (s.first + k)) (bar_lines s.text (e.start.line - s.first) (e.end.line - s.first)) in
-    All-cons P (start_part e depth) (bars ++ end_part e (MultilineEnd depth) ∷ []) holds.start (All-append P bars (end_part e (MultilineEnd depth) ∷ []) (All-map P (λ k. bar_part e depth (s.first + k)) (bar_lines s.text (e.start.line - s.first) (e.end.line - s.first)) holds.bars) (All-cons P (end_part e (MultilineEnd depth)) [] holds.end (All-nil P)))
+    All-cons P (start_part e depth) (bars ++ end_part e (MultilineEnd depth) ∷ [])
+    holds.start (All-append P bars (end_part e (MultilineEnd depth) ∷ [])
+    (All-map P (λ k. bar_part e depth (s.first + k)) (bar_lines s.text (e.start.line - s.first) (e.end.line - s.first)) holds.bars)
+    (All-cons P (end_part e (MultilineEnd depth)) [] holds.end (All-nil P)))
 
 -- a span as it is drawn has another kind at most
 drawn-all : (P : PartEntry → Type 0) (s : Source) (depth : ℕ) (before : List Entry) (e : Entry) → ((kind : AnnotationKind) → HoldsOfSpan P s depth (record e { kind = kind })) → HoldsOfSpan P s depth (promoted before e)
@@ -91,19 +97,34 @@ long-all : (P : PartEntry → Type 0) (s : Source) (places : List LongExtent) (b
 long-all P s places before [] all = All-nil P
 long-all P s places before (e ∷ later) all =
     let Q = λ (e : Entry). (kind : AnnotationKind) → HoldsOfSpan P s (depth_among places (long_place e)) (record e { kind = kind }) in
-    All-append P (span_parts s (depth_among places (long_place e)) (list_any (λ d. same_place (long_place e) (long_place d)) later) (promoted before e)) (long_parts s places (before ++ e ∷ []) later) (span-all P s (depth_among places (long_place e)) (list_any (λ d. same_place (long_place e) (long_place d)) later) (promoted before e) (drawn-all P s (depth_among places (long_place e)) before e (All-head Q e later all))) (long-all P s places (before ++ e ∷ []) later (All-tail Q e later all))
+    All-append P (span_parts s (depth_among places (long_place e)) (list_any (λ d. same_place (long_place e) (long_place d)) later)
+    (promoted before e)) (long_parts s places (before ++ e ∷ []) later)
+    (span-all P s (depth_among places (long_place e)) (list_any (λ d. same_place (long_place e) (long_place d)) later) (promoted before e)
+    (drawn-all P s (depth_among places (long_place e)) before e (All-head Q e later all)))
+    (long-all P s places (before ++ e ∷ []) later (All-tail Q e later all))
 
 -- what holds of the entries of each span of several lines holds of those of all of them
-pub longs-all : (P : PartEntry → Type 0) (s : Source) (marks : List Annotation) → ((a : Annotation) → Contains marks a → is_long s.text a ≡ true → (kind : AnnotationKind) → HoldsOfSpan P s (depth_of s marks a) (record (long_entry s a) { kind = kind })) → All P (long_parts s (long_places s marks) [] (long_spans s marks))
+pub longs-all : (P : PartEntry → Type 0) (s : Source) (marks : List Annotation)
+    → ((a : Annotation) → Contains marks a → is_long s.text a ≡ true → (kind : AnnotationKind) → HoldsOfSpan P s (depth_of s marks a) (record
+    (long_entry s a) { kind = kind })) → All P (long_parts s (long_places s marks) [] (long_spans s marks))
 longs-all P s marks long =
     let Q = λ (e : Entry). (kind : AnnotationKind) → HoldsOfSpan P s (depth_among (long_places s marks) (long_place e)) (record e { kind = kind }) in
-    let given : All Q (map (long_entry s) (filter (is_long s.text) marks)) = All-map Q (long_entry s) (filter (is_long s.text) marks) (All-filtered (is_long s.text) (λ a. Q (long_entry s a)) marks (All-weaker (Contains marks) (λ a. is_long s.text a ≡ true → Q (long_entry s a)) long marks (All-contains_itself marks))) in
+    let given : All Q (map (long_entry s) (filter (is_long s.text) marks)) =
+    All-map Q (long_entry s) (filter (is_long s.text) marks)
+    (All-filtered (is_long s.text) (λ a. Q (long_entry s a))
+    marks (All-weaker (Contains marks) (λ a. is_long s.text a ≡ true → Q (long_entry s a)) long marks (All-contains_itself marks))) in
     long-all P s (long_places s marks) [] (long_spans s marks) (All-order stands_before Q (map (long_entry s) (filter (is_long s.text) marks)) given)
 
 -- what holds of the entries of each span holds of all entries
-pub made-all : (P : PartEntry → Type 0) (s : Source) (marks : List Annotation) → ((a : Annotation) → Contains marks a → is_short s.text a ≡ true → P (single_part s a)) → ((a : Annotation) → Contains marks a → is_long s.text a ≡ true → (kind : AnnotationKind) → HoldsOfSpan P s (depth_of s marks a) (record (long_entry s a) { kind = kind })) → All P (made_parts s marks)
+pub made-all : (P : PartEntry → Type 0) (s : Source) (marks : List Annotation)
+    → ((a : Annotation) → Contains marks a → is_short s.text a ≡ true → P (single_part s a))
+    → ((a : Annotation) → Contains marks a → is_long s.text a ≡ true → (kind : AnnotationKind) → HoldsOfSpan P s (depth_of s marks a) (record
+    (long_entry s a) { kind = kind })) → All P (made_parts s marks)
 made-all P s marks short long =
-    let singles : All P (map (single_part s) (filter (is_short s.text) marks)) = All-map P (single_part s) (filter (is_short s.text) marks) (All-filtered (is_short s.text) (λ a. P (single_part s a)) marks (All-weaker (Contains marks) (λ a. is_short s.text a ≡ true → P (single_part s a)) short marks (All-contains_itself marks))) in
+    let singles : All P (map (single_part s) (filter (is_short s.text) marks)) =
+    All-map P (single_part s) (filter (is_short s.text) marks)
+    (All-filtered (is_short s.text) (λ a. P (single_part s a))
+    marks (All-weaker (Contains marks) (λ a. is_short s.text a ≡ true → P (single_part s a)) short marks (All-contains_itself marks))) in
     All-append P (map (single_part s) (filter (is_short s.text) marks)) (long_parts s (long_places s marks) [] (long_spans s marks)) singles (longs-all P s marks long)
 
 -- a test of elements that were made from others, by those

@@ -19,7 +19,9 @@ same-true p q same =
 
 pub same-refl : (p : LongExtent) → same_place p p ≡ true
 same-refl p =
-    and_from (eqb p.from p.from) (eqb p.to p.to && (eqb p.first p.first && eqb p.last p.last)) (eq-eqb p.from p.from refl) (and_from (eqb p.to p.to) (eqb p.first p.first && eqb p.last p.last) (eq-eqb p.to p.to refl) (and_from (eqb p.first p.first) (eqb p.last p.last) (eq-eqb p.first p.first refl) (eq-eqb p.last p.last refl)))
+    and_from (eqb p.from p.from) (eqb p.to p.to && (eqb p.first p.first && eqb p.last p.last)) (eq-eqb p.from p.from refl)
+    (and_from (eqb p.to p.to) (eqb p.first p.first && eqb p.last p.last) (eq-eqb p.to p.to refl)
+    (and_from (eqb p.first p.first) (eqb p.last p.last) (eq-eqb p.first p.first refl) (eq-eqb p.last p.last refl)))
 
 -- a place whose span stands again isn't taken here, and another one is
 pub places-again : (p : LongExtent) (ps : List LongExtent) → list_any (same_place p) ps ≡ true → places_of (p ∷ ps) ≡ places_of ps

@@ -132,7 +132,9 @@ kept-shown fold source marks k among = contains-between k (kept_lines fold sourc
 -- a line that a span keeps is kept
 pub span-kept : (fold : Bool) (source : List ℕ) (marks : List Annotation) (a : Annotation) (k : ℕ) → Contains marks a → k < length (source_lines source) → keeps source k a ≡ true → Contains (kept_lines fold source marks) k
 span-kept fold source marks a k among within kept =
-    contains-filter (λ k. not fold || list_any (keeps source k) marks) k (range_with_len 0 (length (source_lines source))) (or_right (not fold) (list_any (keeps source k) marks) (any-member (keeps source k) marks a among kept)) (contains-range 0 (length (source_lines source)) k (omega arith) (omega arith))
+    contains-filter (λ k. not fold || list_any (keeps source k) marks) k (range_with_len 0 (length (source_lines source)))
+    (or_right (not fold) (list_any (keeps source k) marks) (any-member (keeps source k) marks a among kept))
+    (contains-range 0 (length (source_lines source)) k (omega arith) (omega arith))
 
 -- the first and the last line of each span are kept
 pub first-kept : (fold : Bool) (source : List ℕ) (marks : List Annotation) (a : Annotation) → Contains marks a → IsSpan source a.span.start a.span.end → Contains (kept_lines fold source marks) (first_line source a)

@@ -30,7 +30,10 @@ filter-map p f (x ∷ xs) =
 
 -- ---- entries of a line in a sorted list
 
-pub on-line : {X : Type 0} (line : X → ℕ) (xs : List X) (n from to m : ℕ) → to ≡ from + m → ((j : ℕ) (d : X) → j < from → j < length xs → line (get_or xs j d) < n) → ((j : ℕ) (d : X) → from ≤ j → j < length xs → n ≤ line (get_or xs j d)) → ((j : ℕ) (d : X) → j < to → j < length xs → line (get_or xs j d) ≤ n) → ((j : ℕ) (d : X) → to ≤ j → j < length xs → n < line (get_or xs j d)) → take m (drop from xs) ≡ filter (λ e. eqb (line e) n) xs
+pub on-line : {X : Type 0} (line : X → ℕ) (xs : List X) (n from to m : ℕ) → to ≡ from + m
+    → ((j : ℕ) (d : X) → j < from → j < length xs → line (get_or xs j d) < n)
+    → ((j : ℕ) (d : X) → from ≤ j → j < length xs → n ≤ line (get_or xs j d)) → ((j : ℕ) (d : X) → j < to → j < length xs → line (get_or xs j d) ≤ n)
+    → ((j : ℕ) (d : X) → to ≤ j → j < length xs → n < line (get_or xs j d)) → take m (drop from xs) ≡ filter (λ e. eqb (line e) n) xs
 on-line line [] n zero to zero is below from' upto after = refl
 on-line line [] n zero to (suc m) is below from' upto after = refl
 on-line line [] n (suc from) to zero is below from' upto after = refl
@@ -57,7 +60,10 @@ pub stable-on-line : (made sorted : List LineAnnotation) (n : ℕ) → IsStableB
 unfolding at-line
 stable-on-line made sorted n stable =
     filter-map (λ (p : PartEntry). eqb p.entry.start.line n) seen_part sorted
-    ∙ ap (map seen_part) (sym (filter_agree (ties (λ (x : LineAnnotation) (y : LineAnnotation). is_lt (nat_cmp x.start.line y.start.line)) (at-line n)) (λ (e : LineAnnotation). eqb e.start.line n) (λ e. ties-line n e.start.line) sorted) ∙ stable (at-line n) ∙ filter_agree (ties (λ (x : LineAnnotation) (y : LineAnnotation). is_lt (nat_cmp x.start.line y.start.line)) (at-line n)) (λ (e : LineAnnotation). eqb e.start.line n) (λ e. ties-line n e.start.line) made)
+    ∙ ap (map seen_part) (sym (filter_agree (ties (λ (x : LineAnnotation) (y : LineAnnotation). is_lt (nat_cmp x.start.line y.start.line)) (at-line
+    n)) (λ (e : LineAnnotation). eqb e.start.line n) (λ e. ties-line n e.start.line) sorted) ∙ stable (at-line n)
+    ∙ filter_agree (ties (λ (x : LineAnnotation) (y : LineAnnotation). is_lt (nat_cmp x.start.line y.start.line)) (at-line n))
+    (λ (e : LineAnnotation). eqb e.start.line n) (λ e. ties-line n e.start.line) made)
     ∙ sym (filter-map (λ (p : PartEntry). eqb p.entry.start.line n) seen_part made)
 
 -- ---- lines so far
@@ -65,7 +71,9 @@ stable-on-line made sorted n stable =
 range-more : (i : ℕ) → range_with_len 0 (i + 1) ≡ range_with_len 0 i ++ i ∷ []
 range-more i = sym (map-id (range_with_len 0 (i + 1))) ∙ map-range_with_len_more (λ (k : ℕ). k) 0 i i (omega arith) ∙ ap (λ ks. ks ++ i ∷ []) (map-id (range_with_len 0 i))
 
-pub lines-shown : (p : ℕ → Bool) (f : ℕ → KeptLine) (i : ℕ) (now new : List AnnotatedLineInfo) (info : AnnotatedLineInfo) → p i ≡ true → new ≡ now ++ info ∷ [] → seen_kept info ≡ f i → map seen_kept now ≡ map f (filter p (range_with_len 0 i)) → map seen_kept new ≡ map f (filter p (range_with_len 0 (i + 1)))
+pub lines-shown : (p : ℕ → Bool) (f : ℕ → KeptLine) (i : ℕ) (now new : List AnnotatedLineInfo) (info : AnnotatedLineInfo) → p i ≡ true
+    → new ≡ now ++ info ∷ [] → seen_kept info ≡ f i → map seen_kept now ≡ map f (filter p (range_with_len 0 i))
+    → map seen_kept new ≡ map f (filter p (range_with_len 0 (i + 1)))
 lines-shown p f i now new info there pushed is before =
     ap (map seen_kept) pushed ∙ map_push seen_kept now info ∙ ap (λ ls. ls ++ seen_kept info ∷ []) before ∙ ap (λ l. map f (filter p (range_with_len 0 i)) ++ l ∷ []) is
     ∙ sym (ap (λ ks. map f (filter p ks)) (range-more i) ∙ ap (map f) (filter-append p (range_with_len 0 i) (i ∷ []) ∙ ap (λ b. filter p (range_with_len 0 i) ++ cond b (i ∷ []) []) there) ∙ map-append f (filter p (range_with_len 0 i)) (i ∷ []))
@@ -75,7 +83,9 @@ lines-left p f i now none before =
     before ∙ sym (ap (λ ks. map f (filter p ks)) (range-more i) ∙ ap (map f) (filter-append p (range_with_len 0 i) (i ∷ []) ∙ ap (λ b. filter p (range_with_len 0 i) ++ cond b (i ∷ []) []) none ∙ append-nil (filter p (range_with_len 0 i))))
 
 -- two lines that are seen alike
-pub same-kept : (number number' : ℕ) (text text' : List ℕ) (parts parts' : List PartEntry) (keep keep' : Bool) → number ≡ number' → text ≡ text' → parts ≡ parts' → keep ≡ keep' → ◌≡◌ {A = KeptLine} (record { number = number; text = text; parts = parts; keep = keep }) (record { number = number'; text = text'; parts = parts'; keep = keep' })
+pub same-kept : (number number' : ℕ) (text text' : List ℕ) (parts parts' : List PartEntry) (keep keep' : Bool) → number ≡ number' → text ≡ text'
+    → parts ≡ parts' → keep ≡ keep' → ◌≡◌ {A = KeptLine} (record { number = number; text = text; parts = parts; keep = keep })
+    (record { number = number'; text = text'; parts = parts'; keep = keep' })
 same-kept number number' text text' parts parts' keep keep' a b c d = cc
 
 pub from-to : {X : Type 0} (line : X → ℕ) (none : X) (xs : List X) (n from to : ℕ) → from ≤ length xs → ((j : ℕ) (d : X) → j < from → j < length xs → line (get_or xs j d) < n) → ((j : ℕ) (d : X) → to ≤ j → j < length xs → n < line (get_or xs j d)) → from ≤ to
@@ -124,9 +134,13 @@ place-among s marks a among long =
     any-map (same_place (long_place (long_entry s a))) long_place (long_spans s marks)
     ∙ any-order stands_before (λ e. same_place (long_place (long_entry s a)) (long_place e)) (map (long_entry s) (filter (is_long s.text) marks))
     ∙ any-map (λ e. same_place (long_place (long_entry s a)) (long_place e)) (long_entry s) (filter (is_long s.text) marks)
-    ∙ any-filter (λ b. same_place (long_place (long_entry s a)) (long_place (long_entry s b))) (is_long s.text) marks among.0 a among.1 (ap (is_long s.text) among.2 ∙ long) (ap (λ b. same_place (long_place (long_entry s a)) (long_place (long_entry s b))) among.2 ∙ same-refl (long_place (long_entry s a)))
+    ∙ any-filter (λ b. same_place (long_place (long_entry s a)) (long_place (long_entry s b))) (is_long s.text)
+    marks among.0 a among.1 (ap (is_long s.text) among.2 ∙ long)
+    (ap (λ b. same_place (long_place (long_entry s a)) (long_place (long_entry s b))) among.2 ∙ same-refl (long_place (long_entry s a)))
 
 -- spans of several lines that share a line and have one depth have one place
-pub annotations-distinct : (s : Source) (marks : List Annotation) (a b : Annotation) → Contains marks a → Contains marks b → is_long s.text a ≡ true → is_long s.text b ≡ true → share_line (long_place (long_entry s a)) (long_place (long_entry s b)) ≡ true → depth_of s marks a ≡ depth_of s marks b → long_place (long_entry s a) ≡ long_place (long_entry s b)
+pub annotations-distinct : (s : Source) (marks : List Annotation) (a b : Annotation) → Contains marks a → Contains marks b → is_long s.text a ≡ true
+    → is_long s.text b ≡ true → share_line (long_place (long_entry s a)) (long_place (long_entry s b)) ≡ true
+    → depth_of s marks a ≡ depth_of s marks b → long_place (long_entry s a) ≡ long_place (long_entry s b)
 annotations-distinct s marks a b among-a among-b long-a long-b share same =
     distinct-places (long_places s marks) (long_place (long_entry s a)) (long_place (long_entry s b)) (place-among s marks a among-a long-a) (place-among s marks b among-b long-b) share same

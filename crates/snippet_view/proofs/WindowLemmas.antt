@@ -16,9 +16,15 @@ twice a b None = refl
 twice a b (Some n) = ap Some (sym (add_assoc a b n))
 
 -- one more character of whitespace
-pub leading-more : (cs : List ℕ) (n c columns more : ℕ) → (n < length cs) × (c ≡ get_or cs n c) → is_whitespace c ≡ true → more ≡ columns + whitespace_width c → option_map (λ k. columns + k) (leading_whitespace (drop n cs)) ≡ leading_whitespace cs → option_map (λ k. more + k) (leading_whitespace (drop (n + 1) cs)) ≡ leading_whitespace cs
+pub leading-more : (cs : List ℕ) (n c columns more : ℕ) → (n < length cs) × (c ≡ get_or cs n c) → is_whitespace c ≡ true
+    → more ≡ columns + whitespace_width c → option_map (λ k. columns + k) (leading_whitespace (drop n cs)) ≡ leading_whitespace cs
+    → option_map (λ k. more + k) (leading_whitespace (drop (n + 1) cs)) ≡ leading_whitespace cs
 leading-more cs n c columns more at blank is before =
-    ap (λ m. option_map (λ k. m + k) (leading_whitespace (drop (n + 1) cs))) is ∙ sym (twice columns (whitespace_width c) (leading_whitespace (drop (n + 1) cs))) ∙ ap (λ (o : Option ℕ). option_map (λ k. columns + k) o) (sym (leading-drop cs n c at ∙ ap (λ b. cond b (option_map (λ k. whitespace_width c + k) (leading_whitespace (drop (n + 1) cs))) (Some 0)) blank)) ∙ before
+    ap (λ m. option_map (λ k. m + k) (leading_whitespace (drop (n + 1) cs))) is
+    ∙ sym (twice columns (whitespace_width c) (leading_whitespace (drop (n + 1) cs)))
+    ∙ ap (λ (o : Option ℕ). option_map (λ k. columns + k) o)
+    (sym (leading-drop cs n c at ∙ ap (λ b. cond b (option_map (λ k. whitespace_width c + k) (leading_whitespace (drop (n + 1) cs))) (Some 0))
+    blank)) ∙ before
 
 -- a character that isn't whitespace ends it
 pub leading-found : (cs : List ℕ) (n c columns : ℕ) → (n < length cs) × (c ≡ get_or cs n c) → is_whitespace c ≡ false → option_map (λ k. columns + k) (leading_whitespace (drop n cs)) ≡ leading_whitespace cs → Some columns ≡ leading_whitespace cs

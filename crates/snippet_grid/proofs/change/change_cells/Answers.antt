@@ -29,7 +29,10 @@ pub part_at-requires-clause-runs : goal.part_at-requires-clause-runs
 part_at-requires-clause-runs c =
     let is = sym c.as_slice-old.ensures.value in
     let text = string_bytes c.args.text.now in
-    IsRow-stretch text c.args.row c.as_slice-old.result.now c.row_bounds-from.result.0 c.row_bounds-from.result.1 c.row_bounds-from.ensures.bounds.0 c.row_bounds-from.ensures.bounds.1 (subst (λ (l : List Run). All (λ x. IsRun text x) l) is c.requires.grid.are_runs) (subst (λ (l : List Run). AreOrdered l) is c.requires.grid.ordered) (subst (λ (l : List Run). AreApart l) is c.requires.grid.apart) c.row_bounds-from.ensures.inside
+    IsRow-stretch text c.args.row c.as_slice-old.result.now c.row_bounds-from.result.0 c.row_bounds-from.result.1 c.row_bounds-from.ensures.bounds.0
+    c.row_bounds-from.ensures.bounds.1 (subst (λ (l : List Run). All (λ x. IsRun text x) l) is c.requires.grid.are_runs)
+    (subst (λ (l : List Run). AreOrdered l) is c.requires.grid.ordered) (subst (λ (l : List Run). AreApart l) is c.requires.grid.apart)
+    c.row_bounds-from.ensures.inside
 
 pub returns-in_err-part-clause-grid : goal.returns-in_err-part-clause-grid
 returns-in_err-part-clause-grid c =
@@ -66,10 +69,20 @@ returns-then-part-last c =
     let whole : c.args.start + c.in_ok-part.part.count ≡ last = omega (arith, c.if-part-last.true, c.if-last-start.false) in
     let reach : c.changed.result.cell + c.changed.result.count ≤ get_or w c.changed.result.row 0 = omega (arith, c.changed.ensures.is.cell, c.changed.ensures.is.count, part.cell_is, part.within, c.min-last.ensures, c.width_of.ensures.value, ap (λ r. get_or w r 0) same_row) in
     let fits : IsPut mid new runs now c.changed.result → FitIn w now = λ put. put.inside w c.requires.grid.inside reach in
-    let span = λ (put : IsPut mid new runs now c.changed.result). subst (λ n. ShowsSpan old new runs now row c.args.start n (λ k. f (shown old runs row k))) whole (put_span old mid new runs now c.in_ok-part.part c.changed.result row c.args.start last c.args.change grows c.requires.grid.are_runs part c.changed.ensures.is put) in
+    let span = λ (put : IsPut mid new runs now c.changed.result). subst
+    (λ n. ShowsSpan old new runs now row c.args.start n (λ k. f (shown old runs row k)))
+    whole (put_span old mid new runs now c.in_ok-part.part c.changed.result row c.args.start last c.args.change grows c.requires.grid.are_runs
+    part c.changed.ensures.is put) in
     record {
-      ok = on_ok_weaker c.put_run.result (λ put. grid_span f old new runs now w row c.args.start c.args.end last (c.min-last.ensures ∙ ap (min c.args.end) c.width_of.ensures.value) c.requires.grid.inside (fits put) (span put) (λ r k other. put_stays old mid new runs now c.changed.result r k grows c.requires.grid.are_runs put (λ same. other (same ∙ same_row)))) c.put_run.ensures.ok;
-      grid = on_either c.put_run.result (on_ok_weaker c.put_run.result (λ put. record { are_runs = put.are_runs; ordered = put.ordered; apart = put.apart; inside = fits put }) c.put_run.ensures.ok) (on_err_weaker c.put_run.result (λ same. IsGrid-grown old new runs now w w all same refl c.requires.grid) c.put_run.ensures.err);
+      ok = on_ok_weaker c.put_run.result
+          (λ put. grid_span f old new runs now w row c.args.start c.args.end last (c.min-last.ensures ∙ ap (min c.args.end) c.width_of.ensures.value)
+          c.requires.grid.inside (fits put) (span put)
+          (λ r k other. put_stays old mid new runs now c.changed.result r k grows c.requires.grid.are_runs put (λ same. other (same ∙ same_row))))
+          c.put_run.ensures.ok;
+      grid = on_either c.put_run.result
+          (on_ok_weaker c.put_run.result (λ put. record { are_runs = put.are_runs; ordered = put.ordered; apart = put.apart; inside = fits put })
+          c.put_run.ensures.ok) (on_err_weaker c.put_run.result (λ same. IsGrid-grown old new runs now w w all same refl c.requires.grid)
+          c.put_run.ensures.err);
       runs_added = on_either c.put_run.result (on_ok_weaker c.put_run.result (λ put. omega (arith, put.few, c.if-last-start.false, c.min-last.ensures)) c.put_run.ensures.ok) (on_err_weaker c.put_run.result (λ same. omega (arith, ap length same)) c.put_run.ensures.err);
       err = on_err_weaker c.put_run.result (λ same. grid_grown old new runs now w w all same refl c.requires.grid) c.put_run.ensures.err;
     }
@@ -80,7 +93,11 @@ change_copied-requires c =
 
 pub returns-clause-ok : goal.returns-clause-ok
 returns-clause-ok c =
-    on_ok_weaker c.change_copied.result (λ is. is ∙ ap (λ (rows : List (List Cell)). cells_changed (changed_by c.args.change) rows c.args.row c.args.start c.args.end) (grid_grown (string_bytes c.args.text.now) (string_bytes c.part_at.new.text) c.args.runs.now.items c.args.runs.now.items c.args.widths.now c.args.widths.now c.in_ok-part.ensures.text refl refl c.requires.grid)) c.change_copied.ensures.ok
+    on_ok_weaker c.change_copied.result
+    (λ is. is ∙ ap (λ (rows : List (List Cell)). cells_changed (changed_by c.args.change) rows c.args.row c.args.start c.args.end)
+    (grid_grown (string_bytes c.args.text.now) (string_bytes c.part_at.new.text)
+    c.args.runs.now.items c.args.runs.now.items c.args.widths.now c.args.widths.now c.in_ok-part.ensures.text refl refl c.requires.grid))
+    c.change_copied.ensures.ok
 
 pub returns-clause-err : goal.returns-clause-err
 returns-clause-err c =

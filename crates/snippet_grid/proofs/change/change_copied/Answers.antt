@@ -30,7 +30,8 @@ change_row-requires-clause-runs c =
     let is = c.as_slice-old.ensures.value in
     let text = string_bytes c.args.text.now in
     let copied = c.in_ok-extend_from_slice.ensures.items ∙ ap (λ (l : List Run). l ++ stretch c.as_slice-old.result.now c.row_bounds-from.result.0 c.row_bounds-from.result.1) c.clear.ensures.items in
-    subst (λ (l : List Run). IsRow text c.args.row l) (sym copied) (IsRow-stretch text c.args.row c.as_slice-old.result.now c.row_bounds-from.result.0 c.row_bounds-from.result.1 c.row_bounds-from.ensures.bounds.0 c.row_bounds-from.ensures.bounds.1 (subst (λ (l : List Run). All (λ x. IsRun text x) l) (sym is) c.requires.grid.are_runs) (subst (λ (l : List Run). AreOrdered l) (sym is) c.requires.grid.ordered) (subst (λ (l : List Run). AreApart l) (sym is) c.requires.grid.apart) c.row_bounds-from.ensures.inside)
+    subst (λ (l : List Run). IsRow text c.args.row l) (sym copied)
+    (IsRow-stretch text c.args.row c.as_slice-old.result.now c.row_bounds-from.result.0 c.row_bounds-from.result.1 c.row_bounds-from.ensures.bounds.0 c.row_bounds-from.ensures.bounds.1 (subst (λ (l : List Run). All (λ x. IsRun text x) l) (sym is) c.requires.grid.are_runs) (subst (λ (l : List Run). AreOrdered l) (sym is) c.requires.grid.ordered) (subst (λ (l : List Run). AreApart l) (sym is) c.requires.grid.apart) c.row_bounds-from.ensures.inside)
 
 pub returns-in_err-change_row-clause-grid : goal.returns-in_err-change_row-clause-grid
 returns-in_err-change_row-clause-grid c =
@@ -61,12 +62,27 @@ returns c =
     let there = subst (λ (l : List Run). ShowsSpan old new l fresh row c.args.start c.min-last.result (λ k. f (shown old l row k))) copied c.in_ok-change_row.ensures.ok in
     let shows = subst (λ (l : List Run). ShowsSpan old new (stretch l from to) fresh row c.args.start c.min-last.result (λ k. f (shown old (stretch l from to) row k))) is there in
     let ends = λ (all : EndsBy width (stretch runs from to)). c.in_ok-change_row.ensures.ends width (subst (λ (l : List Run). EndsBy width l) (sym copied) (subst (λ (l : List Run). EndsBy width (stretch l from to)) (sym is) all)) high in
-    let put : now ≡ take from runs ++ fresh ++ drop to runs → IsExchanged old new runs now fresh row from to = λ done. record { at = at; grows = grows; are_runs = c.requires.grid.are_runs; ordered = c.requires.grid.ordered; apart = c.requires.grid.apart; is_row = c.in_ok-change_row.ensures.row; is = done } in
+    let put : now ≡ take from runs ++ fresh ++ drop to runs → IsExchanged old new runs now fresh row from to =
+    λ done. record {
+      at = at;
+      grows = grows;
+      are_runs = c.requires.grid.are_runs;
+      ordered = c.requires.grid.ordered;
+      apart =
+          c.requires.grid.apart;
+      is_row = c.in_ok-change_row.ensures.row;
+      is = done;
+    } in
     let fits : now ≡ take from runs ++ fresh ++ drop to runs → FitIn w now = λ done. FitIn-put old new runs now fresh w row from to (put done) c.requires.grid.inside ends in
     let long : length fresh ≤ length (stretch runs from to) + 2 * (c.args.end - c.args.start) = omega (arith, c.in_ok-change_row.ensures.count, ap length copied, ap (λ (l : List Run). length (stretch l from to)) is, c.min-last.ensures) in
     record {
       ok = on_ok_weaker c.exchange.result (λ done. grid_changed f old new runs now fresh w row c.args.start c.args.end c.min-last.result from to (put done) (c.min-last.ensures ∙ ap (min c.args.end) c.width_of.ensures.value) c.requires.grid.inside (fits done) shows) c.exchange.ensures.ok;
-      grid = on_either c.exchange.result (on_ok_weaker c.exchange.result (λ done. IsGrid-put old new runs now fresh w w row from to (put done) (fits done)) c.exchange.ensures.ok) (on_err_weaker c.exchange.result (λ same. IsGrid-grown old new runs now w w grows same refl c.requires.grid) c.exchange.ensures.err);
-      runs_added = on_either c.exchange.result (on_ok_weaker c.exchange.result (λ done. omega (arith, put_length runs now fresh row from to at done, long, length-stretch runs row from to at)) c.exchange.ensures.ok) (on_err_weaker c.exchange.result (λ same. omega (arith, ap length same)) c.exchange.ensures.err);
+      grid = on_either c.exchange.result
+          (on_ok_weaker c.exchange.result (λ done. IsGrid-put old new runs now fresh w w row from to (put done) (fits done)) c.exchange.ensures.ok)
+          (on_err_weaker c.exchange.result (λ same. IsGrid-grown old new runs now w w grows same refl c.requires.grid) c.exchange.ensures.err);
+      runs_added = on_either c.exchange.result
+          (on_ok_weaker c.exchange.result
+          (λ done. omega (arith, put_length runs now fresh row from to at done, long, length-stretch runs row from to at)) c.exchange.ensures.ok)
+          (on_err_weaker c.exchange.result (λ same. omega (arith, ap length same)) c.exchange.ensures.err);
       err = on_err_weaker c.exchange.result (λ same. grid_grown old new runs now w w grows same refl c.requires.grid) c.exchange.ensures.err;
     }

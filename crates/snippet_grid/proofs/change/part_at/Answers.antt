@@ -40,4 +40,7 @@ returns-clause-ok c =
       | else-next-gt0 w ↦ absurd (omega (arith, some, w.if-next-gt0.false))
     ] in
     let after : (d : Run) → n < length c.args.runs.now → c.gap_end.result ≤ (get_or c.args.runs.now n d).cell = λ d more. omega (arith, c.gap_end.ensures.next d more) in
-    IfOk-weaker c.push_gap.result _ _ (λ gap is. part_free (string_bytes c.args.text.now) (string_bytes c.push_gap.new.text) c.args.runs.now gap c.args.row c.args.from c.args.to c.gap_end.result n c.requires.runs c.begun_by-next.ensures.within before after c.gap_end.ensures.within is) c.push_gap.ensures.ok
+    IfOk-weaker c.push_gap.result _ _
+    (λ gap is. part_free (string_bytes c.args.text.now) (string_bytes c.push_gap.new.text)
+    c.args.runs.now gap c.args.row c.args.from c.args.to c.gap_end.result n c.requires.runs c.begun_by-next.ensures.within before after
+    c.gap_end.ensures.within is) c.push_gap.ensures.ok

@@ -25,7 +25,12 @@ returns-in-Some-back-clause-pieces c =
       | in_default w ↦ rw (w.pieces-is) (subst (λ (l : List Run). IsFront text c.args.touched.now c.args.run.now l) (sym c.requires.none) (subst (λ (t : List ℕ). IsFront t c.args.touched.now c.args.run.now []) c.as_str.ensures.value w.in_default.ensures.front))
     ] in
     let back = subst (λ (t : List ℕ). IsBack t c.args.touched.now c.args.run.now (c.in-Some-back.right ∷ [])) c.as_str-2.ensures.value c.in-Some-back.ensures.back in
-    on_ok_three c.add_run-in-Some-back.result (λ shows are adds. ArePieces-three text (string_bytes c.add_run.new.text) (string_bytes c.add_run-in-Some-back.new.text) c.args.touched.now c.match-front.pieces.items c.add_run.new.runs.items c.add_run-in-Some-back.new.runs.items c.args.run.now c.in-Some-back.right c.requires.touched c.requires.run front back c.in_ok-add_run.ensures.ok c.in_ok-add_run.ensures.are_runs c.in_ok-add_run.ensures.adds c.in_ok-add_run.ensures.text shows are adds) c.add_run-in-Some-back.ensures.ok c.add_run-in-Some-back.ensures.are_runs c.add_run-in-Some-back.ensures.adds
+    on_ok_three c.add_run-in-Some-back.result
+    (λ shows are adds. ArePieces-three text (string_bytes c.add_run.new.text) (string_bytes c.add_run-in-Some-back.new.text)
+    c.args.touched.now c.match-front.pieces.items c.add_run.new.runs.items c.add_run-in-Some-back.new.runs.items c.args.run.now
+    c.in-Some-back.right c.requires.touched c.requires.run front back c.in_ok-add_run.ensures.ok c.in_ok-add_run.ensures.are_runs
+    c.in_ok-add_run.ensures.adds c.in_ok-add_run.ensures.text shows are adds)
+    c.add_run-in-Some-back.ensures.ok c.add_run-in-Some-back.ensures.are_runs c.add_run-in-Some-back.ensures.adds
 
 pub returns-in-None-clause-pieces : goal.returns-in-None-clause-pieces
 returns-in-None-clause-pieces c =

@@ -10,4 +10,9 @@ returns-then-to-from c =
 
 pub returns : goal.returns
 returns c =
-    record { back = IsBack-some c.args.text.now c.args.touched.now c.args.run.now (get_or c.args.touched.now (length c.args.touched.now - 1) none) c.clipped.result (length c.args.touched.now - 1) _ _ c.requires.touched (omega arith) (get_or_default c.args.touched.now (length c.args.touched.now - 1) none (get_or c.args.touched.now (length c.args.touched.now - 1) none) (omega arith)) refl refl c.if-to-from.false c.clipped.ensures.part }
+    record {
+      back = IsBack-some c.args.text.now c.args.touched.now c.args.run.now (get_or c.args.touched.now (length c.args.touched.now - 1) none)
+          c.clipped.result (length c.args.touched.now - 1) _ _ c.requires.touched (omega arith)
+          (get_or_default c.args.touched.now (length c.args.touched.now - 1) none (get_or c.args.touched.now (length c.args.touched.now - 1) none)
+          (omega arith)) refl refl c.if-to-from.false c.clipped.ensures.part;
+    }

@@ -10,4 +10,8 @@ returns-then-run-first c =
 
 pub returns : goal.returns
 returns c =
-    record { front = IsFront-some c.args.text.now c.args.touched.now c.args.run.now (get_or c.args.touched.now 0 none) c.clipped.result c.requires.touched (omega arith) (get_or_default c.args.touched.now 0 none (get_or c.args.touched.now 0 none) (omega arith)) c.if-run-first.false c.clipped.ensures.part }
+    record {
+      front = IsFront-some c.args.text.now c.args.touched.now c.args.run.now (get_or c.args.touched.now 0 none)
+          c.clipped.result c.requires.touched (omega arith) (get_or_default c.args.touched.now 0 none (get_or c.args.touched.now 0 none) (omega arith))
+          c.if-run-first.false c.clipped.ensures.part;
+    }

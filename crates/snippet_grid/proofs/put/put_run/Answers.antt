@@ -14,7 +14,10 @@ use Rattle.snippet_grid.proofs.put.put_run.Goals as goal
 pub returns-then-are_before-clause-ok : goal.returns-then-are_before-clause-ok
 returns-then-are_before-clause-ok c =
     let before = subst (λ (l : List Run). All (λ x. Precedes x c.args.run.now) l) c.as_slice-old.ensures.value (c.are_before.ensures.yes c.if-are_before.true) in
-    on_ok_three c.add_run.result (λ shows are adds. IsPut-added (string_bytes c.args.text.now) (string_bytes c.add_run.new.text) c.args.runs.now.items c.add_run.new.runs.items c.args.run.now shows are c.requires.ordered c.requires.apart before adds) c.add_run.ensures.ok c.add_run.ensures.are_runs c.add_run.ensures.adds
+    on_ok_three c.add_run.result
+    (λ shows are adds. IsPut-added (string_bytes c.args.text.now) (string_bytes c.add_run.new.text)
+    c.args.runs.now.items c.add_run.new.runs.items c.args.run.now shows are c.requires.ordered c.requires.apart before adds)
+    c.add_run.ensures.ok c.add_run.ensures.are_runs c.add_run.ensures.adds
 
 pub returns-then-continues-clause-ok : goal.returns-then-continues-clause-ok
 returns-then-continues-clause-ok c =
@@ -32,7 +35,10 @@ returns-then-continues-clause-ok c =
     let above : (k : ℕ) (d : Run) → k < start → IsClear (get_or items k d) run = subst (λ (l : List Run). (k : ℕ) (d : Run) → k < start → IsClear (get_or l k d) run) is c.first_touched-start.ensures.before in
     let touch : (k : ℕ) (d : Run) → start ≤ k → k < end → Touches (get_or items k d) run = subst (λ (l : List Run). (k : ℕ) (d : Run) → start ≤ k → k < end → Touches (get_or l k d) run) is c.first_touched-start.ensures.touch in
     let below : (k : ℕ) (d : Run) → end ≤ k → k < length items → IsClear run (get_or items k d) = subst (λ (l : List Run). (k : ℕ) (d : Run) → end ≤ k → k < length l → IsClear run (get_or l k d)) is c.begun_by-end.ensures.later in
-    on_ok_weaker c.join.result (λ joined. IsPut-one old new items run first c.join.new.first start end (omega (arith, c.if-end-start-eq1.true)) high c.index_mut.ensures.value above touch below c.requires.runs c.requires.ordered c.requires.apart c.join.ensures.text c.requires.run goes joined) c.join.ensures.ok
+    on_ok_weaker c.join.result
+    (λ joined. IsPut-one old new items run first c.join.new.first start end (omega (arith, c.if-end-start-eq1.true))
+    high c.index_mut.ensures.value above touch below c.requires.runs c.requires.ordered c.requires.apart c.join.ensures.text c.requires.run goes
+    joined) c.join.ensures.ok
 
 pub returns-then-continues-clause-err : goal.returns-then-continues-clause-err
 returns-then-continues-clause-err c =
@@ -45,7 +51,9 @@ add_pieces-requires-clause-touched c =
     let text = string_bytes c.args.text.now in
     let is = sym c.as_slice-old.ensures.value in
     let old = c.as_slice-old.result.now in
-    touched_stretch text old c.args.run.now c.first_touched-start.result c.begun_by-end.result c.first_touched-start.ensures.ordered c.begun_by-end.ensures.within (subst (λ (l : List Run). All (λ x. IsRun text x) l) is c.requires.runs) (subst AreOrdered is c.requires.ordered) (subst AreApart is c.requires.apart) c.first_touched-start.ensures.touch
+    touched_stretch text old c.args.run.now c.first_touched-start.result c.begun_by-end.result c.first_touched-start.ensures.ordered
+    c.begun_by-end.ensures.within (subst (λ (l : List Run). All (λ x. IsRun text x) l) is c.requires.runs)
+    (subst AreOrdered is c.requires.ordered) (subst AreApart is c.requires.apart) c.first_touched-start.ensures.touch
 
 pub returns-clause-ok : goal.returns-clause-ok
 returns-clause-ok c =

@@ -39,7 +39,10 @@ pub replaced_row-requires-clause-runs : goal.replaced_row-requires-clause-runs
 replaced_row-requires-clause-runs c =
     let is = c.as_slice-old.ensures.value in
     let text = string_bytes c.args.text.now in
-    IsRow-stretch text c.args.row c.as_slice-old.result.now c.row_bounds-from.result.0 c.row_bounds-from.result.1 c.row_bounds-from.ensures.bounds.0 c.row_bounds-from.ensures.bounds.1 (subst (λ (l : List Run). All (λ x. IsRun text x) l) (sym is) c.requires.grid.are_runs) (subst (λ (l : List Run). AreOrdered l) (sym is) c.requires.grid.ordered) (subst (λ (l : List Run). AreApart l) (sym is) c.requires.grid.apart) c.row_bounds-from.ensures.inside
+    IsRow-stretch text c.args.row c.as_slice-old.result.now c.row_bounds-from.result.0 c.row_bounds-from.result.1 c.row_bounds-from.ensures.bounds.0
+    c.row_bounds-from.ensures.bounds.1 (subst (λ (l : List Run). All (λ x. IsRun text x) l) (sym is) c.requires.grid.are_runs)
+    (subst (λ (l : List Run). AreOrdered l) (sym is) c.requires.grid.ordered)
+    (subst (λ (l : List Run). AreApart l) (sym is) c.requires.grid.apart) c.row_bounds-from.ensures.inside
 
 pub returns-in_err-replaced_row-clause-grid : goal.returns-in_err-replaced_row-clause-grid
 returns-in_err-replaced_row-clause-grid c =
@@ -55,7 +58,10 @@ returns-in_err-exchange-clause-grid c =
 
 pub returns-in_err-exchange-clause-err : goal.returns-in_err-exchange-clause-err
 returns-in_err-exchange-clause-err c =
-    on_err_from c.from_residual-in_err-exchange.result (grid_grown (string_bytes c.args.text.now) (string_bytes c.replaced_row.new.text) c.args.runs.now.items c.exchange.new.runs.items c.args.widths.now.items c.args.widths.now.items c.in_ok-replaced_row.ensures.text c.in_err-exchange.ensures.err refl c.requires.grid)
+    on_err_from c.from_residual-in_err-exchange.result
+    (grid_grown (string_bytes c.args.text.now) (string_bytes c.replaced_row.new.text)
+    c.args.runs.now.items c.exchange.new.runs.items c.args.widths.now.items c.args.widths.now.items c.in_ok-replaced_row.ensures.text
+    c.in_err-exchange.ensures.err refl c.requires.grid)
 
 pub returns : goal.returns
 returns c =

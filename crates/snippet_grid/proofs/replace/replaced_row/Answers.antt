@@ -16,7 +16,10 @@ use Rattle.snippet_grid.proofs.replace.replaced_row.Goals as goal
 
 pub copy_cells-requires-2-clause-runs : goal.copy_cells-requires-2-clause-runs
 copy_cells-requires-2-clause-runs c =
-    IsRow-grown (string_bytes c.args.text.now) (string_bytes c.add_word.new.text) c.args.row c.args.runs.now (BeginsWith-trans (string_bytes c.args.text.now) (string_bytes c.copy_cells.new.text) (string_bytes c.add_word.new.text) c.in_ok-copy_cells.ensures.text c.in_ok-add_word.ensures.text) c.requires.runs
+    IsRow-grown (string_bytes c.args.text.now) (string_bytes c.add_word.new.text)
+    c.args.row c.args.runs.now
+    (BeginsWith-trans (string_bytes c.args.text.now) (string_bytes c.copy_cells.new.text) (string_bytes c.add_word.new.text)
+    c.in_ok-copy_cells.ensures.text c.in_ok-add_word.ensures.text) c.requires.runs
 
 pub returns-clause-ok : goal.returns-clause-ok
 returns-clause-ok c =
@@ -24,7 +27,13 @@ returns-clause-ok c =
     let long = sym c.char_count.ensures.value in
     let word = subst (λ n. ShowsSpan (string_bytes c.copy_cells.new.text) (string_bytes c.add_word.new.text) c.copy_cells.new.out.items c.add_word.new.out.items c.args.row c.args.start (c.args.start + n) (λ k. slice_index_or cells (k - c.args.start) SPACE)) long c.in_ok-add_word.ensures.ok in
     let ends = subst (λ n. EndsBy (c.args.start + n) c.add_word.new.out.items) long c.in_ok-add_word.ensures.ends in
-    on_ok_weaker c.copy_cells-2.result (λ copies. row_replaced (string_bytes c.args.text.now) (string_bytes c.copy_cells.new.text) (string_bytes c.add_word.new.text) (string_bytes c.copy_cells-2.new.text) c.args.runs.now c.clear.new.self.items c.copy_cells.new.out.items c.add_word.new.out.items c.copy_cells-2.new.out.items c.args.row c.args.start c.args.end (c.args.start + c.char_count.result) _ cells c.requires.some (omega (arith, c.char_count.ensures.value, length-text_cells c.args.role (chars c.args.word.now))) (omega arith) c.requires.runs c.in_ok-copy_cells.ensures.text c.in_ok-add_word.ensures.text c.in_ok-copy_cells.ensures.ok word ends copies) c.copy_cells-2.ensures.ok
+    on_ok_weaker c.copy_cells-2.result
+    (λ copies. row_replaced (string_bytes c.args.text.now) (string_bytes c.copy_cells.new.text) (string_bytes c.add_word.new.text)
+    (string_bytes c.copy_cells-2.new.text) c.args.runs.now c.clear.new.self.items c.copy_cells.new.out.items c.add_word.new.out.items
+    c.copy_cells-2.new.out.items c.args.row c.args.start c.args.end (c.args.start + c.char_count.result)
+    _ cells c.requires.some (omega (arith, c.char_count.ensures.value, length-text_cells c.args.role (chars c.args.word.now))) (omega arith)
+    c.requires.runs c.in_ok-copy_cells.ensures.text c.in_ok-add_word.ensures.text c.in_ok-copy_cells.ensures.ok word ends copies)
+    c.copy_cells-2.ensures.ok
 
 pub returns-clause-ends : goal.returns-clause-ends
 returns-clause-ends c =
@@ -32,7 +41,17 @@ returns-clause-ends c =
 
 pub returns-clause-count : goal.returns-clause-count
 returns-clause-count c =
-    on_ok_weaker c.copy_cells-2.result (λ count. omega (arith, c.in_ok-copy_cells.ensures.count, c.in_ok-add_word.ensures.count, count, touched_outer (string_bytes c.args.text.now) c.args.row c.args.start c.args.end 18446744073709551615 c.args.runs.now c.requires.some c.requires.runs, ap length c.clear.ensures.items)) c.copy_cells-2.ensures.count
+    on_ok_weaker c.copy_cells-2.result
+    (λ count. omega (
+      arith,
+      c.in_ok-copy_cells.ensures.count,
+      c.in_ok-add_word.ensures.count,
+      count,
+      touched_outer (string_bytes c.args.text.now)
+          c.args.row c.args.start c.args.end 18446744073709551615 c.args.runs.now c.requires.some c.requires.runs,
+      ap length c.clear.ensures.items,
+    ))
+    c.copy_cells-2.ensures.count
 
 -- the row is begun with no runs
 pub copy_cells-requires-clause-out : goal.copy_cells-requires-clause-out

@@ -19,11 +19,18 @@ goes_there c =
 
 pub returns-then-continues-clause-ok : goal.returns-then-continues-clause-ok
 returns-then-continues-clause-ok c =
-    on_ok_weaker c.join.result (λ joined. ShowsMore-joined (string_bytes c.args.text.now) (string_bytes c.join.new.text) c.args.runs.now.items _ c.index_mut.result.now c.args.run.now c.join.new.first (omega arith) c.index_mut.ensures.value c.join.ensures.text c.requires.runs c.requires.run (goes_there c) joined) c.join.ensures.ok
+    on_ok_weaker c.join.result
+    (λ joined. ShowsMore-joined (string_bytes c.args.text.now) (string_bytes c.join.new.text)
+    c.args.runs.now.items _ c.index_mut.result.now c.args.run.now c.join.new.first (omega arith)
+    c.index_mut.ensures.value c.join.ensures.text c.requires.runs c.requires.run (goes_there c) joined) c.join.ensures.ok
 
 pub returns-then-continues-clause-are_runs : goal.returns-then-continues-clause-are_runs
 returns-then-continues-clause-are_runs c =
-    on_ok_weaker c.join.result (λ joined. All-set (λ x. IsRun (string_bytes c.join.new.text) x) c.args.runs.now.items _ c.join.new.first joined.is_run (All-IsRun-grown (string_bytes c.args.text.now) (string_bytes c.join.new.text) c.args.runs.now.items c.join.ensures.text c.requires.runs)) c.join.ensures.ok
+    on_ok_weaker c.join.result
+    (λ joined. All-set (λ x. IsRun (string_bytes c.join.new.text) x)
+    c.args.runs.now.items _ c.join.new.first joined.is_run
+    (All-IsRun-grown (string_bytes c.args.text.now) (string_bytes c.join.new.text) c.args.runs.now.items c.join.ensures.text c.requires.runs))
+    c.join.ensures.ok
 
 pub returns-clause-ok : goal.returns-clause-ok
 returns-clause-ok c =

@@ -18,4 +18,7 @@ copied-requires c =
 
 pub returns-clause-ok : goal.returns-clause-ok
 returns-clause-ok c =
-    IsJoined-after (string_bytes c.args.text.now) (string_bytes c.at_end.new.text) (string_bytes c.copied.new.text) c.args.first.now c.args.second.now c.in_ok-front.front c.in_ok-after.after _ (IsUtf8-string_bytes c.copied.new.text) c.requires.second c.requires.continues c.in_ok-front.ensures.text c.in_ok-after.ensures.text c.in_ok-front.ensures.ok c.in_ok-after.ensures.ok c.in_ok-after.ensures.start refl refl refl refl refl refl refl
+    IsJoined-after (string_bytes c.args.text.now) (string_bytes c.at_end.new.text) (string_bytes c.copied.new.text)
+    c.args.first.now c.args.second.now c.in_ok-front.front c.in_ok-after.after _ (IsUtf8-string_bytes c.copied.new.text)
+    c.requires.second c.requires.continues c.in_ok-front.ensures.text c.in_ok-after.ensures.text c.in_ok-front.ensures.ok c.in_ok-after.ensures.ok
+    c.in_ok-after.ensures.start refl refl refl refl refl refl refl

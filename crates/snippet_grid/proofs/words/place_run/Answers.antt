@@ -11,7 +11,10 @@ returns-in_err-put_run-clause-grid c =
 
 pub returns-in_err-put_run-clause-err : goal.returns-in_err-put_run-clause-err
 returns-in_err-put_run-clause-err c =
-    on_err_from c.from_residual-in_err-put_run.result (grid_grown (string_bytes c.args.text.now) (string_bytes c.put_run.new.text) c.args.runs.now.items c.put_run.new.runs.items c.args.widths.now.items c.make_room.new.widths.items c.in_err-put_run.ensures.text c.in_err-put_run.ensures.err c.in_ok-make_room.ensures.items c.requires.grid)
+    on_err_from c.from_residual-in_err-put_run.result
+    (grid_grown (string_bytes c.args.text.now) (string_bytes c.put_run.new.text)
+    c.args.runs.now.items c.put_run.new.runs.items c.args.widths.now.items c.make_room.new.widths.items c.in_err-put_run.ensures.text
+    c.in_err-put_run.ensures.err c.in_ok-make_room.ensures.items c.requires.grid)
 
 pub returns-clause-ok : goal.returns-clause-ok
 returns-clause-ok c =
@@ -24,4 +27,7 @@ returns-clause-ok c =
     let wide : IsWidened widths c.widen.new.widths.items run.row (run.cell + length (chars word)) = IsWidened-to c.make_room.new.widths.items widths c.widen.new.widths.items run.row _ _ c.in_ok-make_room.ensures.items end c.in_ok-widen.ensures.wide in
     let wide_run : FitIn c.widen.new.widths.items c.args.runs.now.items = FitIn-widened widths c.widen.new.widths.items run.row _ c.args.runs.now.items wide c.requires.grid.inside in
     let within : run.cell + run.count ≤ slice_index_or c.widen.new.widths.items run.row 0 = omega (arith, end, wide.here) in
-    grid_written text text (string_bytes c.put_run.new.text) c.args.runs.now.items c.put_run.new.runs.items widths c.widen.new.widths.items run run.row run.cell run.role word (BeginsWith-same text) c.requires.grid.are_runs c.requires.grid.inside (c.in_ok-put_run.ensures.ok.inside c.widen.new.widths.items wide_run within) is c.in_ok-put_run.ensures.ok.shows wide
+    grid_written text text (string_bytes c.put_run.new.text)
+    c.args.runs.now.items c.put_run.new.runs.items widths c.widen.new.widths.items run run.row run.cell run.role word (BeginsWith-same text)
+    c.requires.grid.are_runs c.requires.grid.inside (c.in_ok-put_run.ensures.ok.inside c.widen.new.widths.items wide_run within)
+    is c.in_ok-put_run.ensures.ok.shows wide

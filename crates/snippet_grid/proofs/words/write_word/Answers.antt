@@ -15,7 +15,10 @@ returns-in_err-run-clause-grid c =
 pub returns-in_err-run-clause-err : goal.returns-in_err-run-clause-err
 returns-in_err-run-clause-err c =
     let grows : BeginsWith (string_bytes c.args.text.now) (string_bytes c.push_word.new.text) = subst (λ (t : List ℕ). BeginsWith t (string_bytes c.push_word.new.text)) c.make_first_room.ensures.text c.in_err-run.ensures.text in
-    on_err_from c.from_residual-in_err-run.result (grid_grown (string_bytes c.args.text.now) (string_bytes c.push_word.new.text) c.args.runs.now.items c.make_first_room.new.runs.items c.args.widths.now.items c.make_first_room.new.widths.items grows c.make_first_room.ensures.runs c.make_first_room.ensures.widths c.requires.grid)
+    on_err_from c.from_residual-in_err-run.result
+    (grid_grown (string_bytes c.args.text.now) (string_bytes c.push_word.new.text)
+    c.args.runs.now.items c.make_first_room.new.runs.items c.args.widths.now.items c.make_first_room.new.widths.items grows
+    c.make_first_room.ensures.runs c.make_first_room.ensures.widths c.requires.grid)
 
 pub place_run-requires-clause-grid : goal.place_run-requires-clause-grid
 place_run-requires-clause-grid c =
@@ -25,7 +28,10 @@ place_run-requires-clause-grid c =
 pub returns-clause-err : goal.returns-clause-err
 returns-clause-err c =
     let grows : BeginsWith (string_bytes c.args.text.now) (string_bytes c.push_word.new.text) = subst (λ (t : List ℕ). BeginsWith t (string_bytes c.push_word.new.text)) c.make_first_room.ensures.text c.in_ok-run.ensures.text in
-    on_err_weaker c.place_run.result (λ same. same ∙ grid_grown (string_bytes c.args.text.now) (string_bytes c.push_word.new.text) c.args.runs.now.items c.make_first_room.new.runs.items c.args.widths.now.items c.make_first_room.new.widths.items grows c.make_first_room.ensures.runs c.make_first_room.ensures.widths c.requires.grid) c.place_run.ensures.err
+    on_err_weaker c.place_run.result
+    (λ same. same ∙ grid_grown (string_bytes c.args.text.now) (string_bytes c.push_word.new.text)
+    c.args.runs.now.items c.make_first_room.new.runs.items c.args.widths.now.items c.make_first_room.new.widths.items grows
+    c.make_first_room.ensures.runs c.make_first_room.ensures.widths c.requires.grid) c.place_run.ensures.err
 
 pub returns-clause-ok : goal.returns-clause-ok
 returns-clause-ok c =
@@ -34,7 +40,15 @@ returns-clause-ok c =
     let is = c.in_ok-run.ensures.ok in
     let seen = run_chars (string_bytes c.push_word.new.text) run in
     let was = grid_shown (string_bytes c.args.text.now) c.args.runs.now.items c.args.widths.now.items in
-    on_ok_weaker c.place_run.result (λ written. written ∙ ap (λ (rows : List (List Cell)). cells_written rows run.row run.cell (text_cells run.role seen)) (grid_grown (string_bytes c.args.text.now) (string_bytes c.push_word.new.text) c.args.runs.now.items c.make_first_room.new.runs.items c.args.widths.now.items c.make_first_room.new.widths.items grows c.make_first_room.ensures.runs c.make_first_room.ensures.widths c.requires.grid) ∙ ap (λ r. cells_written was r run.cell (text_cells run.role seen)) is.row_is ∙ ap (λ at. cells_written was c.args.row at (text_cells run.role seen)) is.cell_is ∙ ap (λ role. cells_written was c.args.row c.args.at (text_cells role seen)) is.role_is ∙ ap (λ (cs : List ℕ). cells_written was c.args.row c.args.at (text_cells c.args.role cs)) is.chars_are) c.place_run.ensures.ok
+    on_ok_weaker c.place_run.result
+    (λ written. written ∙ ap (λ (rows : List (List Cell)). cells_written rows run.row run.cell (text_cells run.role seen))
+    (grid_grown (string_bytes c.args.text.now) (string_bytes c.push_word.new.text)
+    c.args.runs.now.items c.make_first_room.new.runs.items c.args.widths.now.items c.make_first_room.new.widths.items grows
+    c.make_first_room.ensures.runs c.make_first_room.ensures.widths c.requires.grid)
+    ∙ ap (λ r. cells_written was r run.cell (text_cells run.role seen)) is.row_is
+    ∙ ap (λ at. cells_written was c.args.row at (text_cells run.role seen)) is.cell_is
+    ∙ ap (λ role. cells_written was c.args.row c.args.at (text_cells role seen)) is.role_is
+    ∙ ap (λ (cs : List ℕ). cells_written was c.args.row c.args.at (text_cells c.args.role cs)) is.chars_are) c.place_run.ensures.ok
 
 pub place_run-requires-clause-run : goal.place_run-requires-clause-run
 place_run-requires-clause-run c = c.in_ok-run.ensures.ok.is_run

@@ -16,8 +16,11 @@ depths-requires-clause-lines c =
 
 pub push_long_entries-requires-clause-depths : goal.push_long_entries-requires-clause-depths
 push_long_entries-requires-clause-depths c =
-    depths-of c.deref-2.result.now c.deref-3.result.now c.deref-4.result.now (c.deref-2.ensures.value ∙ c.in_ok-places.ensures.value ∙ ap (map (λ (l : LongSpan). long_place (seen_long l))) (c.deref.ensures.value ∙ sym c.deref-3.ensures.value)) (c.deref-4.ensures.value ∙ c.in_ok-greatest.ensures.value)
+    depths-of c.deref-2.result.now c.deref-3.result.now c.deref-4.result.now
+    (c.deref-2.ensures.value ∙ c.in_ok-places.ensures.value ∙ ap (map (λ (l : LongSpan). long_place (seen_long l))) (c.deref.ensures.value
+    ∙ sym c.deref-3.ensures.value)) (c.deref-4.ensures.value ∙ c.in_ok-greatest.ensures.value)
 
 pub returns-clause-deepest : goal.returns-clause-deepest
 returns-clause-deepest c =
-    c.in_ok-greatest.ensures.greatest ∙ ap greatest_depth (places-are c.deref-2.result.now c.in_ok-spans.spans.items (c.deref-2.ensures.value ∙ c.in_ok-places.ensures.value ∙ ap (map (λ (l : LongSpan). long_place (seen_long l))) c.deref.ensures.value) ∙ ap (map long_place) c.in_ok-spans.ensures.value)
+    c.in_ok-greatest.ensures.greatest ∙ ap greatest_depth
+    (places-are c.deref-2.result.now c.in_ok-spans.spans.items (c.deref-2.ensures.value ∙ c.in_ok-places.ensures.value ∙ ap (map (λ (l : LongSpan). long_place (seen_long l))) c.deref.ensures.value) ∙ ap (map long_place) c.in_ok-spans.ensures.value)

@@ -10,4 +10,6 @@ pub returns-clause-sorted : goal.returns-clause-sorted
 returns-clause-sorted c = IsNonDecreasingBy-from_sort_by_key (λ (e : LineAnnotation). e.start.line) _ c.in_ok-sort_by_key.ensures.sorted (λ a r q k. search rules)
 
 pub returns-clause-value : goal.returns-clause-value
-returns-clause-value c k = stable-on-line c.in_ok-greatest.entries.items c.sort_by_key.new.self.items (c.args.source.now.first + k) (c.sort_by_key.ensures.stable (λ (e : LineAnnotation). e.start.line) (answers_always _ _ _ (λ f a r g h. search rules))) ∙ ap (filter (λ (p : PartEntry). eqb p.entry.start.line (c.args.source.now.first + k))) c.in_ok-greatest.ensures.value
+returns-clause-value c k = stable-on-line c.in_ok-greatest.entries.items c.sort_by_key.new.self.items (c.args.source.now.first + k)
+    (c.sort_by_key.ensures.stable (λ (e : LineAnnotation). e.start.line) (answers_always _ _ _ (λ f a r g h. search rules)))
+    ∙ ap (filter (λ (p : PartEntry). eqb p.entry.start.line (c.args.source.now.first + k))) c.in_ok-greatest.ensures.value

@@ -12,7 +12,11 @@ nothing_left (x ∷ xs) h = absurd (omega arith)
 
 pub loop-info-init : goal.loop-info-init
 loop-info-init c =
-    record { lines = ap (λ xs. map seen_kept xs ++ filled c.args.source.now None (map seen_kept (into_iter_items c.into_iter-info-iterator.result))) c.new-shown.ensures.items ∙ ap (λ xs. filled c.args.source.now None (map seen_kept xs)) c.into_iter-info-iterator.ensures.into_iter_gives.0; left = omega (arith, c.into_iter-info-iterator.ensures.into_iter_gives.1, ap length c.into_iter-info-iterator.ensures.into_iter_gives.0) }
+    record {
+      lines = ap (λ xs. map seen_kept xs ++ filled c.args.source.now None (map seen_kept (into_iter_items c.into_iter-info-iterator.result)))
+          c.new-shown.ensures.items ∙ ap (λ xs. filled c.args.source.now None (map seen_kept xs)) c.into_iter-info-iterator.ensures.into_iter_gives.0;
+      left = omega (arith, c.into_iter-info-iterator.ensures.into_iter_gives.1, ap length c.into_iter-info-iterator.ensures.into_iter_gives.0);
+    }
 
 pub loop-info-preserved : goal.loop-info-preserved
 loop-info-preserved c =

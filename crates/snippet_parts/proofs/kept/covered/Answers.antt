@@ -7,5 +7,9 @@ use Rattle.snippet_parts.proofs.kept.covered.Goals as goal
 
 pub loop-line-preserved : goal.loop-line-preserved
 loop-line-preserved c =
-    let end : c.max-end.result ≡ furthest (take (c.loop-line.line + 1) c.args.reach.now) = omega (arith, c.max-end.ensures, c.loop-line.invariant.0, furthest-more c.args.reach.now c.loop-line.line 0 (omega arith)) in
-    (end, c.in_ok-push.ensures.items ∙ ap (λ bs. bs ++ ltb c.loop-line.line c.max-end.result ∷ []) c.loop-line.invariant.1 ∙ ap (λ n. map (is_covered c.args.reach.now) (range_with_len 0 c.loop-line.line) ++ ltb c.loop-line.line n ∷ []) end ∙ sym (map-range_with_len_more (is_covered c.args.reach.now) 0 c.loop-line.line c.loop-line.line (omega arith)))
+    let end : c.max-end.result ≡ furthest (take (c.loop-line.line + 1) c.args.reach.now) = omega (arith, c.max-end.ensures, c.loop-line.invariant.0, furthest-more c.args.reach.now c.loop-line.line 0 (omega arith)) in (
+      end,
+      c.in_ok-push.ensures.items ∙ ap (λ bs. bs ++ ltb c.loop-line.line c.max-end.result ∷ []) c.loop-line.invariant.1
+          ∙ ap (λ n. map (is_covered c.args.reach.now) (range_with_len 0 c.loop-line.line) ++ ltb c.loop-line.line n ∷ []) end
+          ∙ sym (map-range_with_len_more (is_covered c.args.reach.now) 0 c.loop-line.line c.loop-line.line (omega arith)),
+    )

@@ -27,5 +27,12 @@ returns-clause-value c k =
     let shown : Bool = list_any (λ j. not (is_trivial_line source j)) (range_with_len k (m - k)) in
     let last_bar : Bool = eqb (k + 1) l && ltb m k && not (is_trivial_line source k) in
     let marked : is_marking a.kind ≡ true = sym c.is_marking.ensures.value ∙ c.if-not-is_marking.false in
-    let main : ((leb f k && leb k c.bars_end.result) || (leb (l - c.from-closing.result) k && leb k l)) ≡ (leb f k && leb k l && (eqb k f || eqb k l || not (is_marking a.kind) || (ltb f k && (shown || last_bar)))) = keeps-ends f l c.bars_end.result (l - c.from-closing.result) k (is_marking a.kind) shown last_bar (omega arith) c.bars_end.ensures.from (omega (arith, c.bars_end.ensures.to)) marked (c.bars_end.ensures.bars k) (last_bar-is l k m (is_trivial_line source) c.from-closing.result c.has_closing_bar.result (omega arith) c.has_closing_bar.ensures.value (λ e. c.from-closing.ensures ∙ ap bool_byte e) (λ e. c.from-closing.ensures ∙ ap bool_byte e)) (last_bar-apart l k m (is_trivial_line source)) (omega arith) (omega (arith, one-at-most c.has_closing_bar.result c.from-closing.result c.from-closing.ensures)) in
+    let main : ((leb f k && leb k c.bars_end.result) || (leb (l - c.from-closing.result) k && leb k l))
+    ≡ (leb f k && leb k l && (eqb k f || eqb k l || not (is_marking a.kind) || (ltb f k && (shown || last_bar)))) =
+    keeps-ends f l c.bars_end.result (l - c.from-closing.result) k (is_marking a.kind) shown last_bar (omega arith)
+    c.bars_end.ensures.from (omega (arith, c.bars_end.ensures.to)) marked (c.bars_end.ensures.bars k)
+    (last_bar-is l k m (is_trivial_line source) c.from-closing.result c.has_closing_bar.result (omega arith)
+    c.has_closing_bar.ensures.value (λ e. c.from-closing.ensures ∙ ap bool_byte e) (λ e. c.from-closing.ensures ∙ ap bool_byte e))
+    (last_bar-apart l k m (is_trivial_line source)) (omega arith)
+    (omega (arith, one-at-most c.has_closing_bar.result c.from-closing.result c.from-closing.ensures)) in
     main ∙ ap (λ n. keeps_by source a k n l) c.touched-all.ensures.first ∙ ap (λ n. keeps_by source a k (first_line source a) n) c.touched-all.ensures.last

@@ -10,4 +10,10 @@ loop-annotation-init c =
     (omega (arith, c.in_ok-reach.ensures.len, c.line_count.ensures.value, c.in_ok-reach.reach.ok.0), λ k. covered-none c.in_ok-reach.reach.items c.line_count.result k (c.in_ok-reach.ensures.items_if_clones_equal (λ y same. same)))
 
 pub returns : goal.returns
-returns c = record { value = IfOk-weaker c.covered.result _ _ (λ lines is. is ∙ covered-all (is_seen c.args.source.now.text) c.args.annotations.now c.loop-annotation.annotation-index (length (source_lines c.args.source.now.text)) c.loop-annotation.reach.items c.deref.result.now c.loop-annotation-test.false c.loop-annotation.invariant.0 c.deref.ensures.value c.loop-annotation.invariant.1) c.covered.ensures.value }
+returns c = record {
+  value = IfOk-weaker c.covered.result _ _
+      (λ lines is. is ∙ covered-all (is_seen c.args.source.now.text)
+      c.args.annotations.now c.loop-annotation.annotation-index (length (source_lines c.args.source.now.text))
+      c.loop-annotation.reach.items c.deref.result.now c.loop-annotation-test.false c.loop-annotation.invariant.0 c.deref.ensures.value
+      c.loop-annotation.invariant.1) c.covered.ensures.value;
+}

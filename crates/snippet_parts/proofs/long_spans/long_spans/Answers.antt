@@ -7,7 +7,11 @@ use Rattle.snippet_parts.proofs.long_spans.long_spans.Goals as goal
 
 pub returns-clause-value : goal.returns-clause-value
 returns-clause-value c =
-    long_spans-is c.args.source.now c.in_ok-spans.spans.items c.sort_by.new.self.items c.args.annotations.now (sorted-only long_before long_before-order c.in_ok-spans.spans.items c.sort_by.new.self.items (c.in_ok-sort_by.ensures.sorted long_before long_before-order (answers_always _ _ _ (λ f a r g h. search (rules, before-tells)))) (c.sort_by.ensures.stable long_before long_before-order (answers_always _ _ _ (λ f a r g h. search (rules, before-tells))))) c.in_ok-spans.ensures.value
+    long_spans-is c.args.source.now c.in_ok-spans.spans.items c.sort_by.new.self.items c.args.annotations.now
+    (sorted-only long_before long_before-order c.in_ok-spans.spans.items c.sort_by.new.self.items
+    (c.in_ok-sort_by.ensures.sorted long_before long_before-order (answers_always _ _ _ (λ f a r g h. search (rules, before-tells))))
+    (c.sort_by.ensures.stable long_before long_before-order (answers_always _ _ _ (λ f a r g h. search (rules, before-tells)))))
+    c.in_ok-spans.ensures.value
 
 pub returns-clause-fit : goal.returns-clause-fit
 returns-clause-fit c = All-permutation (HasFit c.args.source.now) c.in_ok-spans.spans.items c.sort_by.new.self.items c.sort_by.ensures.permutation c.in_ok-spans.ensures.fit

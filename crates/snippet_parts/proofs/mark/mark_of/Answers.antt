@@ -16,8 +16,18 @@ loop-annotation-preserved c = (
       let before : Best c.loop-annotation.best = c.loop-annotation.invariant.0 k here in
       best-turn source c.args.annotations.now c.loop-annotation.annotation-index k p a c.match-mark_at.best c.loop-annotation-test.true c.annotation-item.is
       (elim c.match-mark_at.branch [
-        | in-Some+in-Some-best w ↦ rw w.best-is (best-kept source marks k p a w.in-Some-best.before (λ _. omega (arith, w.is_narrower.ensures.wider w.if-not-is_narrower.true, w.in-Some.ensures.width)) (λ _ primary. omega (arith, w.is_narrower.ensures.not_primary w.if-not-is_narrower.true (w.in-Some.ensures.kind ∙ primary), w.in-Some.ensures.width)) (subst Best w.in-Some-best.is before))
-        | in-Some+in_default-best-2 w ↦ rw w.best-is (best-narrower source marks k p a w.in-Some.mark w.in-Some-best.before (w.in-Some.ensures.marked k here) w.in-Some.ensures.width w.in-Some.ensures.kind (w.is_narrower.ensures.narrower w.if-not-is_narrower.false) (w.is_narrower.ensures.primary w.if-not-is_narrower.false) (subst Best w.in-Some-best.is before))
+        | in-Some+in-Some-best w ↦ rw w.best-is
+            (best-kept source marks k p a w.in-Some-best.before
+            (λ _. omega (arith, w.is_narrower.ensures.wider w.if-not-is_narrower.true, w.in-Some.ensures.width))
+            (λ _ primary. omega (
+              arith,
+              w.is_narrower.ensures.not_primary w.if-not-is_narrower.true (w.in-Some.ensures.kind ∙ primary),
+              w.in-Some.ensures.width,
+            )) (subst Best w.in-Some-best.is before))
+        | in-Some+in_default-best-2 w ↦ rw w.best-is
+            (best-narrower source marks k p a w.in-Some.mark w.in-Some-best.before (w.in-Some.ensures.marked k here)
+            w.in-Some.ensures.width w.in-Some.ensures.kind (w.is_narrower.ensures.narrower w.if-not-is_narrower.false)
+            (w.is_narrower.ensures.primary w.if-not-is_narrower.false) (subst Best w.in-Some-best.is before))
         | in-Some+in_default-best w ↦ rw w.best-is (best-first source marks k p a w.in-Some.mark (w.in-Some.ensures.marked k here) w.in-Some.ensures.width w.in-Some.ensures.kind (subst Best w.in_default-best.is before))
         | in_default w ↦ rw w.best-is (best-unmarked source marks k p a c.loop-annotation.best (w.in_default.ensures.none k here) before)
       ]),

@@ -11,7 +11,9 @@ returns-then-not-is_marking-clause-none c = λ k here. unmarked-from c.args.sour
 ])
 
 pub returns-clause-marked : goal.returns-clause-marked
-returns-clause-marked c = λ k here. marked-from c.args.source.now c.args.annotation.now c.span_to_locations.result c.args.line k c.span_to_locations.ensures.value here (record { marking = sym c.is_marking.ensures.value ∙ c.if-not-is_marking.false; first = c.if-start-line.false; last = c.if-end-line.false })
+returns-clause-marked c = λ k here. marked-from c.args.source.now c.args.annotation.now c.span_to_locations.result c.args.line k
+    c.span_to_locations.ensures.value here
+    (record { marking = sym c.is_marking.ensures.value ∙ c.if-not-is_marking.false; first = c.if-start-line.false; last = c.if-end-line.false })
 
 pub returns-clause-number : goal.returns-clause-number
 returns-clause-number c = omega (arith, c.if-start-line.false, first-from c.args.source.now c.args.annotation.now c.span_to_locations.result c.span_to_locations.ensures.value)
@@ -20,4 +22,10 @@ pub returns-clause-start : goal.returns-clause-start
 returns-clause-start c = start_column-from c.args.source.now c.args.annotation.now c.span_to_locations.result c.span_to_locations.ensures.value
 
 pub returns-clause-end : goal.returns-clause-end
-returns-clause-end c = omega (arith, c.max.ensures, start_column-from c.args.source.now c.args.annotation.now c.span_to_locations.result c.span_to_locations.ensures.value, end_column-from c.args.source.now c.args.annotation.now c.span_to_locations.result c.args.line c.span_to_locations.ensures.value c.if-start-line.false c.if-end-line.false)
+returns-clause-end c = omega (
+  arith,
+  c.max.ensures,
+  start_column-from c.args.source.now c.args.annotation.now c.span_to_locations.result c.span_to_locations.ensures.value,
+  end_column-from c.args.source.now c.args.annotation.now c.span_to_locations.result c.args.line c.span_to_locations.ensures.value
+      c.if-start-line.false c.if-end-line.false,
+)

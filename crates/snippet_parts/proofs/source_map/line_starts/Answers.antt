@@ -33,7 +33,9 @@ pub loop-line_feed-preserved-in-Continue-branch-2 : goal.loop-line_feed-preserve
 loop-line_feed-preserved-in-Continue-branch-2 c = (
   tt,
   tt,
-  starts_after-some (length c.args.source.now) c.in-Some.line_feed c.next.new.self c.loop-line_feed.starts.items c.push.new.self.items c.loop-line_feed.line_feed-iterator (all_starts c.args.source.now) c.in-Some.ensures.steps c.if-next-source.true c.in_ok-push.ensures.items c.loop-line_feed.invariant.2,
+  starts_after-some (length c.args.source.now)
+      c.in-Some.line_feed c.next.new.self c.loop-line_feed.starts.items c.push.new.self.items c.loop-line_feed.line_feed-iterator
+      (all_starts c.args.source.now) c.in-Some.ensures.steps c.if-next-source.true c.in_ok-push.ensures.items c.loop-line_feed.invariant.2,
   (inside (length c.args.source.now) c.loop-line_feed.line_feed-iterator c.next.new.self c.in-Some.line_feed c.in-Some.ensures.steps c.loop-line_feed.invariant.3).1,
 )
 

@@ -16,7 +16,9 @@ loop-front-preserved-in_ok-push c =
     let added : string_bytes c.push.new.self ≡ string_bytes c.push_str.new.self ++ 13 ∷ [] = c.in_ok-push.ensures.bytes ∙ ap (λ l. string_bytes c.push_str.new.self ++ l) (encode_ascii 13 (lit< tt)) in
     let pushed : string_bytes c.push_str.new.self ≡ string_bytes c.loop-front.out ++ c.in-Some.front.now = c.in_ok-push_str.ensures.bytes in (
       utf8-after c.loop-front.rest.now c.in-Some.front.now c.in-Some.after.now 13 c.loop-front.invariant.0 (lit< tt) parts.0,
-      ap (λ l. l ++ with_line_feeds c.in-Some.after.now) (added ∙ ap (λ l. l ++ 13 ∷ []) pushed) ∙ with_line_feeds-step (string_bytes c.loop-front.out) c.loop-front.rest.now c.in-Some.front.now c.in-Some.after.now (13 ∷ []) parts.0 parts.1 (sym (cond-false (eqb (get_or c.in-Some.after.now 0 0) 10) [] (13 ∷ []) no_lf)) ∙ c.loop-front.invariant.1,
+      ap (λ l. l ++ with_line_feeds c.in-Some.after.now) (added ∙ ap (λ l. l ++ 13 ∷ []) pushed)
+          ∙ with_line_feeds-step (string_bytes c.loop-front.out) c.loop-front.rest.now c.in-Some.front.now c.in-Some.after.now (13 ∷ [])
+          parts.0 parts.1 (sym (cond-false (eqb (get_or c.in-Some.after.now 0 0) 10) [] (13 ∷ []) no_lf)) ∙ c.loop-front.invariant.1,
     )
 
 pub loop-front-preserved : goal.loop-front-preserved
@@ -26,7 +28,9 @@ loop-front-preserved c =
     let lf : eqb (get_or c.in-Some.after.now 0 0) 10 ≡ true = eq-eqb _ 10 (starts.0 c.if-not-starts_with.false) in
     let pushed : string_bytes c.push_str.new.self ≡ string_bytes c.loop-front.out ++ c.in-Some.front.now = c.in_ok-push_str.ensures.bytes in (
       utf8-after c.loop-front.rest.now c.in-Some.front.now c.in-Some.after.now 13 c.loop-front.invariant.0 (lit< tt) parts.0,
-      ap (λ l. l ++ with_line_feeds c.in-Some.after.now) (pushed ∙ sym (append-nil _)) ∙ with_line_feeds-step (string_bytes c.loop-front.out) c.loop-front.rest.now c.in-Some.front.now c.in-Some.after.now [] parts.0 parts.1 (sym (cond-true (eqb (get_or c.in-Some.after.now 0 0) 10) [] (13 ∷ []) lf)) ∙ c.loop-front.invariant.1,
+      ap (λ l. l ++ with_line_feeds c.in-Some.after.now) (pushed ∙ sym (append-nil _))
+          ∙ with_line_feeds-step (string_bytes c.loop-front.out) c.loop-front.rest.now c.in-Some.front.now c.in-Some.after.now []
+          parts.0 parts.1 (sym (cond-true (eqb (get_or c.in-Some.after.now 0 0) 10) [] (13 ∷ []) lf)) ∙ c.loop-front.invariant.1,
     )
 
 pub returns : goal.returns

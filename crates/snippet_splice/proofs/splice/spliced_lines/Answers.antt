@@ -62,11 +62,22 @@ returns-clause-splice c =
     let first : c.in-Some.first.now.original_span.start ≡ first_start (in_order es) = first-given c.in_ok-patches.patches.items (in_order es) c.in-Some.first.now c.in_ok-patches.ensures.originals (sym (c.in-Some.ensures.value ∙ ap (λ l. slice_get l 0) c.deref.ensures.value)) in
     let same : map trimmed_edit_of c.deref-3.result.now ≡ map trimmed_edit_of c.deref-2.result.now = ap (map trimmed_edit_of) (c.deref-3.ensures.value ∙ sym c.deref-2.ensures.value) in
     let closed : c.closes_line.result ≡ closes_line (map trimmed_edit_of c.deref-2.result.now) = c.closes_line.ensures.value ∙ ap closes_line same in
-    let rest : c.shown_rest-rest.result.now ≡ shown_rest c.args.fold c.closes_line.result (drop (min c.in_ok-written.written.end (length source)) source) = c.shown_rest-rest.ensures.value ∙ ap (shown_rest c.args.fold c.closes_line.result) (c.range_from-after.ensures.value ∙ ap (λ n. drop n source) c.min.ensures) in
-    let value : string_bytes c.in_ok-complete.complete ≡ shown_text c.args.fold source es = c.in_ok-complete.ensures.value ∙ shown-value c.args.fold source es (map trimmed_edit_of c.deref-2.result.now) c.in-Some.first.now.original_span.start c.shown_start-start.result c.in_ok-written.written.end c.closes_line.result (string_bytes c.in_ok-written.written.text) c.shown_rest-rest.result.now edits first c.shown_start-start.ensures.value c.in_ok-written.ensures.text c.in_ok-written.ensures.end closed rest in
+    let rest : c.shown_rest-rest.result.now ≡ shown_rest c.args.fold c.closes_line.result
+    (drop (min c.in_ok-written.written.end (length source)) source) =
+    c.shown_rest-rest.ensures.value ∙ ap (shown_rest c.args.fold c.closes_line.result)
+    (c.range_from-after.ensures.value ∙ ap (λ n. drop n source) c.min.ensures) in
+    let value : string_bytes c.in_ok-complete.complete ≡ shown_text c.args.fold source es =
+    c.in_ok-complete.ensures.value ∙ shown-value c.args.fold source es (map trimmed_edit_of c.deref-2.result.now)
+    c.in-Some.first.now.original_span.start c.shown_start-start.result c.in_ok-written.written.end c.closes_line.result
+    (string_bytes c.in_ok-written.written.text)
+    c.shown_rest-rest.result.now edits first c.shown_start-start.ensures.value c.in_ok-written.ensures.text c.in_ok-written.ensures.end closed
+    rest in
     let whole : string_bytes c.in_ok-complete.complete ≡ without_final_line_feeds (string_bytes c.in_ok-written.written.text ++ c.shown_rest-rest.result.now) = c.in_ok-complete.ensures.value in
     let begin : c.shown_start-start.result ≡ shown_start c.args.fold source (first_start (in_order es)) = c.shown_start-start.ensures.value ∙ ap (shown_start c.args.fold source) first in
-    let written : c.in_ok-written.written.ranges.items ≡ written_ranges source 0 (shown_start c.args.fold source (first_start (in_order es))) (trimmed_edits source es) = c.in_ok-written.ensures.ranges ∙ ap (λ n. written_ranges source 0 n (map trimmed_edit_of c.deref-2.result.now)) begin ∙ ap (written_ranges source 0 (shown_start c.args.fold source (first_start (in_order es)))) edits in
+    let written : c.in_ok-written.written.ranges.items ≡ written_ranges source 0 (shown_start c.args.fold source (first_start (in_order es)))
+    (trimmed_edits source es) = c.in_ok-written.ensures.ranges
+    ∙ ap (λ n. written_ranges source 0 n (map trimmed_edit_of c.deref-2.result.now)) begin
+    ∙ ap (written_ranges source 0 (shown_start c.args.fold source (first_start (in_order es)))) edits in
     let ts : List Edit = map trimmed_edit_of c.deref-4.result.now in
     let trimmed : ts ≡ trimmed_edits source es = ap (map trimmed_edit_of) c.deref-4.ensures.value ∙ c.in_ok-patches.ensures.edits in
     let places : map extent_of c.deref-6.result.now ≡ extents_from source c.shown_start-start.result c.shown_start-start.result ts = ap (map extent_of) c.deref-6.ensures.value ∙ c.in_ok-places.ensures.value in

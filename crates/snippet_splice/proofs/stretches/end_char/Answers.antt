@@ -35,6 +35,8 @@ returns-else-line_feed_count-eq0 c =
           let later : ℕ = start_character source from e.end in
           let steps : ℕ = if nat_lt (in_text source e.end) e.end then 1 else 0 in
           let some : eqb n 0 ≡ false = false_from_ne_true _ (λ t. let none : n ≡ 0 = eqb-true n 0 t in absurd (omega (arith, counted, none, c.if-line_feed_count-eq0.false))) in
-          let there : cond (eqb e.start e.end) (start_character source from e.start) (cond (eqb n 0) here later) ≡ later = cond-false (eqb e.start e.end) (start_character source from e.start) (cond (eqb n 0) here later) (false_from_ne_true _ (λ t. other (eqb-true _ _ t))) ∙ cond-false (eqb n 0) here later some in
+          let there : cond (eqb e.start e.end) (start_character source from e.start) (cond (eqb n 0) here later) ≡ later =
+          cond-false (eqb e.start e.end) (start_character source from e.start) (cond (eqb n 0) here later)
+          (false_from_ne_true _ (λ t. other (eqb-true _ _ t))) ∙ cond-false (eqb n 0) here later some in
           c.saturating_add.ensures ∙ ap (λ m. capped (m + c.steps_after_text.result)) counts ∙ ap (λ m. capped (here + m)) c.steps_after_text.ensures.value ∙ sym there;
     }

@@ -53,5 +53,8 @@ loop-patch-preserved c =
       utf8 = utf8_more source c.text_between-inside.result.now from e.start e.end low apart.1 inside utf8 c.text_between-inside.utf8;
       counted = counted;
       apart = apart.2;
-      whole = places_more x (extents_from source from e.end es) c.loop-patch.places.items c.push.new.self.items _ all c.in_ok-push.ensures.items (extent_is x c.line_feed_count.result c.chars_after-text_start.result c.saturating_add-start.result c.end_char.result c.text_between-inside.result.now feeds before starts ends inside) whole;
+      whole = places_more x (extents_from source from e.end es)
+          c.loop-patch.places.items c.push.new.self.items _ all c.in_ok-push.ensures.items
+          (extent_is x c.line_feed_count.result c.chars_after-text_start.result c.saturating_add-start.result c.end_char.result
+          c.text_between-inside.result.now feeds before starts ends inside) whole;
     }

@@ -13,7 +13,10 @@ draw_text-requires-clause-last g c =
 
 pub returns : goal.returns
 returns g c =
-    let rows = on_ok_weaker c.draw_text.result (λ is. heading_drawn _ _ _ _ _ c.args.hyperlink c.args.style _ _ _ c.roles_of-roles.result c.num_lines-row.ensures.count c.level.ensures c.allows_styling.ensures c.roles_of-roles.ensures.value c.in_ok-draw_sign.ensures.extended c.in_ok-draw_label.ensures.extended is) c.draw_text.ensures.rows in
+    let rows = on_ok_weaker c.draw_text.result
+    (λ is. heading_drawn _ _ _ _ _ c.args.hyperlink c.args.style _ _ _ c.roles_of-roles.result c.num_lines-row.ensures.count c.level.ensures
+    c.allows_styling.ensures c.roles_of-roles.ensures.value c.in_ok-draw_sign.ensures.extended c.in_ok-draw_label.ensures.extended is)
+    c.draw_text.ensures.rows in
     record {
       rows = rows;
       texts = on_ok_weaker c.draw_text.result (added_texts _ _ c.args.hyperlink c.args.style _) rows;

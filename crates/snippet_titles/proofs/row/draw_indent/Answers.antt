@@ -8,5 +8,9 @@ pub returns-in_ok-add_spaces-in-Message : goal.returns-in_ok-add_spaces-in-Messa
 returns-in_ok-add_spaces-in-Message c =
     let gutter = c.in-Message.place.gutter + 1 in
     record {
-      extended = rw c.in-Message.is (bar_drawn _ _ _ _ gutter (c.args.width + 1) _ c.requires.empty c.in_ok-putc-in-Message.ensures.ok c.in_ok-add_spaces-in-Message.ensures.extended ∙ ap (λ (cell : Cell). appended c.args.buffer.now c.args.row (replicate gutter SPACE ++ cell ∷ replicate (c.args.width + 1) SPACE)) c.bar-glyph.ensures.value);
+      extended = rw c.in-Message.is
+          (bar_drawn _ _ _ _ gutter (c.args.width +
+          1) _ c.requires.empty c.in_ok-putc-in-Message.ensures.ok c.in_ok-add_spaces-in-Message.ensures.extended
+          ∙ ap (λ (cell : Cell). appended c.args.buffer.now c.args.row (replicate gutter SPACE ++ cell ∷ replicate (c.args.width + 1) SPACE))
+          c.bar-glyph.ensures.value);
     }

@@ -9,5 +9,8 @@ pub returns-in_ok-puts : goal.returns-in_ok-puts
 returns-in_ok-puts c =
     let place = c.in-Message.place in
     record {
-      extended = rw c.in-Message.is (after_gutter _ _ _ (place.gutter + 1) _ c.requires.empty (some_sign place.decor place.followed _ c.sign.ensures.value) (c.in_ok-puts.ensures.ok c.sign.ensures.some) ∙ ap (λ cs. appended c.args.buffer.now c.args.row (replicate (place.gutter + 1) SPACE ++ text_cells LineNumber cs)) c.sign.ensures.value);
+      extended = rw c.in-Message.is
+          (after_gutter _ _ _ (place.gutter + 1) _ c.requires.empty (some_sign place.decor place.followed _ c.sign.ensures.value)
+          (c.in_ok-puts.ensures.ok c.sign.ensures.some)
+          ∙ ap (λ cs. appended c.args.buffer.now c.args.row (replicate (place.gutter + 1) SPACE ++ text_cells LineNumber cs)) c.sign.ensures.value);
     }

@@ -17,5 +17,8 @@ draw_text-requires-clause-last g c =
 pub returns : goal.returns
 returns g c =
     record {
-      rows = on_ok_weaker c.extend_row-2.result (λ is. short_drawn _ _ _ _ _ _ c.args.hyperlink (chars c.args.before.now) (chars c.args.after.now) _ _ _ c.roles_of-roles.result c.num_lines-row.ensures.count c.level.ensures c.allows_styling.ensures c.roles_of-roles.ensures.value c.in_ok-extend_row.ensures.extended c.in_ok-draw_label.ensures.extended c.in_ok-draw_text.ensures.rows is) c.extend_row-2.ensures.extended;
+      rows = on_ok_weaker c.extend_row-2.result
+          (λ is. short_drawn _ _ _ _ _ _ c.args.hyperlink (chars c.args.before.now) (chars c.args.after.now)
+          _ _ _ c.roles_of-roles.result c.num_lines-row.ensures.count c.level.ensures c.allows_styling.ensures c.roles_of-roles.ensures.value
+          c.in_ok-extend_row.ensures.extended c.in_ok-draw_label.ensures.extended c.in_ok-draw_text.ensures.rows is) c.extend_row-2.ensures.extended;
     }

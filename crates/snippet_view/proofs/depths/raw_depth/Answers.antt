@@ -16,8 +16,12 @@ bounds-raws-i-in-loop-i c = omega (arith, ap length c.requires.raws ∙ length-r
 
 pub loop-i-preserved : goal.loop-i-preserved
 loop-i-preserved c =
-    let bound : get_or c.args.raws.now c.loop-i.i 0 ≤ length c.args.later.now = omega (arith, ap (λ ns. get_or ns c.loop-i.i 0) c.requires.raws, raw_depths-bound c.args.later.now c.loop-i.i 0 (omega arith)) in
-    (rw c.max-deepest.ensures (passed_at c.args.place c.args.later.now c.args.raws.now c.starting_by-near.result c.loop-i.i c.loop-i.deepest c.requires.raws c.starting_by-near.ensures.within c.loop-i-test.true c.loop-i.invariant.0 (sym c.eq.ensures ∙ c.if-eq.false)), omega (arith, c.max-deepest.ensures, c.loop-i.invariant.1))
+    let bound : get_or c.args.raws.now c.loop-i.i 0 ≤ length c.args.later.now = omega (arith, ap (λ ns. get_or ns c.loop-i.i 0) c.requires.raws, raw_depths-bound c.args.later.now c.loop-i.i 0 (omega arith)) in (
+      rw c.max-deepest.ensures
+          (passed_at c.args.place c.args.later.now c.args.raws.now c.starting_by-near.result c.loop-i.i c.loop-i.deepest c.requires.raws
+          c.starting_by-near.ensures.within c.loop-i-test.true c.loop-i.invariant.0 (sym c.eq.ensures ∙ c.if-eq.false)),
+      omega (arith, c.max-deepest.ensures, c.loop-i.invariant.1),
+    )
 
 pub overflow_add-result : goal.overflow_add-result
 overflow_add-result c = omega (arith, c.loop-i.invariant.1)

@@ -9,5 +9,9 @@ raw_depth-requires-clause-after c = after_in c.args.places.now (c.loop-i.i - 1) 
 
 pub loop-i-preserved : goal.loop-i-preserved
 loop-i-preserved c =
-    let same : c.loop-i.i ≡ c.loop-i.i - 1 + 1 = omega arith in
-    (filled c.args.places.now c.loop-i.raws.items (c.loop-i.i - 1) (c.loop-i.i - 1 + 1) c.raw_depth.result (omega arith) c.loop-i.invariant.1 (omega arith) (subst (λ n. drop n c.loop-i.raws.items ≡ raw_depths (drop n c.args.places.now)) same c.loop-i.invariant.0) c.raw_depth.ensures.value, length-set c.loop-i.raws.items (c.loop-i.i - 1) c.raw_depth.result ∙ c.loop-i.invariant.1)
+    let same : c.loop-i.i ≡ c.loop-i.i - 1 + 1 = omega arith in (
+      filled c.args.places.now c.loop-i.raws.items (c.loop-i.i - 1) (c.loop-i.i - 1 + 1) c.raw_depth.result (omega arith)
+          c.loop-i.invariant.1 (omega arith) (subst (λ n. drop n c.loop-i.raws.items ≡ raw_depths (drop n c.args.places.now)) same c.loop-i.invariant.0)
+          c.raw_depth.ensures.value,
+      length-set c.loop-i.raws.items (c.loop-i.i - 1) c.raw_depth.result ∙ c.loop-i.invariant.1,
+    )

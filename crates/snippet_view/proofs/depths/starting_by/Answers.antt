@@ -6,7 +6,9 @@ use Rattle.snippet_view.proofs.depths.starting_by.Goals as goal
 
 pub returns : goal.returns
 returns c =
-    let parted = IsPartitionPoint-from_clause (λ (q : LongExtent). leb q.first c.args.line) c.args.places.now c.partition_point.result c.partition_point.ensures.partitioned (IsPartitionedBy-leb (λ (q : LongExtent). q.first) c.args.places.now c.args.line c.requires.ordered) (λ a r q k. search rules) in
+    let parted = IsPartitionPoint-from_clause (λ (q : LongExtent). leb q.first c.args.line)
+    c.args.places.now c.partition_point.result c.partition_point.ensures.partitioned
+    (IsPartitionedBy-leb (λ (q : LongExtent). q.first) c.args.places.now c.args.line c.requires.ordered) (λ a r q k. search rules) in
     record {
       within = c.partition_point.ensures.bound;
       by = λ j d from below. leb-true (get_or c.args.places.now j d).first c.args.line (parted.0 j d from below);

@@ -28,7 +28,9 @@ overflow_add-at c =
 pub loop-c-preserved : goal.loop-c-preserved
 loop-c-preserved c =
     let at = YieldsList-turn (YieldsList-from_chars c.args.text.now c.utf8.text cc) c.loop-c.yielded _ c.loop-c.yielded_by _ _ c.in-Some.c c.in-Some.is c.next.ensures.steps in (
-      reaches_next c.args.columns (chars c.args.text.now) (length c.loop-c.yielded) _ c.loop-c.at c.loop-c.width c.in-Some.c c.len_utf8-at.result c.char_width-width.result at (length_push c.loop-c.yielded c.in-Some.c) c.if-width-columns.false c.len_utf8-at.ensures.len c.char_width-width.ensures.value c.loop-c.invariant.0,
+      reaches_next c.args.columns (chars c.args.text.now) (length c.loop-c.yielded)
+          _ c.loop-c.at c.loop-c.width c.in-Some.c c.len_utf8-at.result c.char_width-width.result at (length_push c.loop-c.yielded c.in-Some.c)
+          c.if-width-columns.false c.len_utf8-at.ensures.len c.char_width-width.ensures.value c.loop-c.invariant.0,
       omega (arith, c.if-width-columns.false, c.char_width-width.ensures.bound),
     )
 

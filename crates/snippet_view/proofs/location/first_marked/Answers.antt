@@ -8,6 +8,11 @@ use Rattle.snippet_view.proofs.location.first_marked.Goals.{then-is_marked, else
 pub loop-annotation-preserved : goal.loop-annotation-preserved
 loop-annotation-preserved c =
     elim c.if-is_marked.branch [
-      | then-is_marked w ↦ w.least-is ∙ w.lesser-least.ensures.value ∙ start-more (λ (a : Annotation). is_marking a.kind) c.args.annotations.now c.loop-annotation.annotation-index c.annotation-item.result c.loop-annotation.least c.loop-annotation-test.true c.annotation-item.is (sym c.is_marked.ensures.value ∙ w.if-is_marked.true) c.loop-annotation.invariant
-      | else-is_marked w ↦ w.least-is ∙ start-same (λ (a : Annotation). is_marking a.kind) c.args.annotations.now c.loop-annotation.annotation-index c.annotation-item.result c.loop-annotation.least c.loop-annotation-test.true c.annotation-item.is (sym c.is_marked.ensures.value ∙ w.if-is_marked.false) c.loop-annotation.invariant
+      | then-is_marked w ↦ w.least-is ∙ w.lesser-least.ensures.value
+          ∙ start-more (λ (a : Annotation). is_marking a.kind)
+          c.args.annotations.now c.loop-annotation.annotation-index c.annotation-item.result c.loop-annotation.least c.loop-annotation-test.true
+          c.annotation-item.is (sym c.is_marked.ensures.value ∙ w.if-is_marked.true) c.loop-annotation.invariant
+      | else-is_marked w ↦ w.least-is ∙ start-same (λ (a : Annotation). is_marking a.kind)
+          c.args.annotations.now c.loop-annotation.annotation-index c.annotation-item.result c.loop-annotation.least c.loop-annotation-test.true
+          c.annotation-item.is (sym c.is_marked.ensures.value ∙ w.if-is_marked.false) c.loop-annotation.invariant
     ]

@@ -22,6 +22,9 @@ pub loop-annotation-preserved : goal.loop-annotation-preserved
 loop-annotation-preserved c =
     let is = tested _ c.eq.result c.eq.ensures in
     elim c.if-eq.branch [
-      | then-eq w ↦ w.least-is ∙ w.lesser-least.ensures.value ∙ start-more (λ (a : Annotation). is_primary a.kind) c.args.annotations.now c.loop-annotation.annotation-index c.annotation-item.result c.loop-annotation.least c.loop-annotation-test.true c.annotation-item.is (is ∙ w.if-eq.true) c.loop-annotation.invariant
+      | then-eq w ↦ w.least-is ∙ w.lesser-least.ensures.value
+          ∙ start-more (λ (a : Annotation). is_primary a.kind)
+          c.args.annotations.now c.loop-annotation.annotation-index c.annotation-item.result c.loop-annotation.least c.loop-annotation-test.true
+          c.annotation-item.is (is ∙ w.if-eq.true) c.loop-annotation.invariant
       | else-eq w ↦ w.least-is ∙ start-same (λ (a : Annotation). is_primary a.kind) c.args.annotations.now c.loop-annotation.annotation-index c.annotation-item.result c.loop-annotation.least c.loop-annotation-test.true c.annotation-item.is (is ∙ w.if-eq.false) c.loop-annotation.invariant
     ]

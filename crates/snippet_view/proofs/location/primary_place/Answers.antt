@@ -14,7 +14,11 @@ returns-in-Some-clause-value c =
     let x = c.info-item.result in
     let i : ℕ = c.loop-info.info-index in
     let infos = c.args.lines.now in
-    let found : least_place primary_parts (seen_kept x) ≡ Some (record { line = x.line_index; column = Some c.in-Some.column }) = ap (λ (es : List LineAnnotation). option_map (λ (column : ℕ). record { line = x.line_index; column = Some column }) (least (start_columns (primary_parts (map seen_part es))))) (sym c.deref.ensures.value) ∙ ap (option_map (λ (column : ℕ). record { line = x.line_index; column = Some column })) (sym c.least_primary_column.ensures.value ∙ c.in-Some.is) in
+    let found : least_place primary_parts (seen_kept x) ≡ Some (record { line = x.line_index; column = Some c.in-Some.column }) =
+    ap (λ (es : List LineAnnotation). option_map (λ (column : ℕ). record { line = x.line_index; column = Some column })
+    (least (start_columns (primary_parts (map seen_part es))))) (sym c.deref.ensures.value)
+    ∙ ap (option_map (λ (column : ℕ). record { line = x.line_index; column = Some column }))
+    (sym c.least_primary_column.ensures.value ∙ c.in-Some.is) in
     place-found (least_place primary_parts) infos i x _ (option_or c.loop-info.first (place_from (least_place all_parts) infos i)) (primary_place (map seen_kept infos)) c.loop-info-test.true c.info-item.is found c.loop-info.invariant
 
 pub returns-in-Some-clause-named : goal.returns-in-Some-clause-named

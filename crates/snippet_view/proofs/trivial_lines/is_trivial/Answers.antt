@@ -26,4 +26,9 @@ loop-c-preserved c =
     read-more (chars c.args.line.now) (length c.loop-c.yielded) _ c.in-Some.c c.loop-c.seen c.step-seen.result at (length_push c.loop-c.yielded c.in-Some.c) c.step-seen.ensures.value c.loop-c.invariant
 
 pub returns : goal.returns
-returns c = record { value = c.is_trivial_whole.ensures.value ∙ read-all (chars c.args.line.now) (length c.loop-c.yielded) c.loop-c.seen (sym (YieldsList-end (YieldsList-from_chars c.args.line.now c.utf8.line cc) c.loop-c.yielded _ c.loop-c.yielded_by _ _ c.in-None.is c.next.ensures.steps).1) c.loop-c.invariant }
+returns c = record {
+  value = c.is_trivial_whole.ensures.value
+      ∙ read-all (chars c.args.line.now) (length c.loop-c.yielded)
+      c.loop-c.seen (sym (YieldsList-end (YieldsList-from_chars c.args.line.now c.utf8.line cc)
+      c.loop-c.yielded _ c.loop-c.yielded_by _ _ c.in-None.is c.next.ensures.steps).1) c.loop-c.invariant;
+}

@@ -14,4 +14,7 @@ write_word-requires-clause-some c = chars_some c.args.text.now c.utf8.text (firs
 pub returns-clause-reads : goal.returns-clause-reads
 returns-clause-reads c =
     let cells = text_cells c.args.role (chars c.args.text.now) in
-    on_ok_weaker c.write_word.result (λ is _. WritesCells-from_equal c.args.self.now (grid_shown (string_bytes c.write_word.new.text) c.write_word.new.runs.items c.write_word.new.widths.items) c.args.row c.args.cell cells (is ∙ ap (λ rows. cells_written rows c.args.row c.args.cell cells) c.self.view_is)) c.write_word.ensures.ok
+    on_ok_weaker c.write_word.result
+    (λ is _. WritesCells-from_equal c.args.self.now
+    (grid_shown (string_bytes c.write_word.new.text) c.write_word.new.runs.items c.write_word.new.widths.items)
+    c.args.row c.args.cell cells (is ∙ ap (λ rows. cells_written rows c.args.row c.args.cell cells) c.self.view_is)) c.write_word.ensures.ok

@@ -12,7 +12,11 @@ use Rattle.snippet_grid.proofs.grid.StyledBuffer.replace.Goals as goal
 pub returns-clause-reads : goal.returns-clause-reads
 returns-clause-reads c =
     let cells = text_cells LineNumber (chars c.args.text.now) in
-    on_ok_weaker c.replace_cells.result (λ is. ReplacesCells-from_equal c.args.self.now (grid_shown (string_bytes c.replace_cells.new.text) c.replace_cells.new.runs.items c.replace_cells.new.widths.items) c.args.row c.args.start c.args.end cells (is ∙ ap (λ rows. cells_replaced rows c.args.row c.args.start c.args.end cells) c.self.view_is)) c.replace_cells.ensures.ok
+    on_ok_weaker c.replace_cells.result
+    (λ is. ReplacesCells-from_equal c.args.self.now
+    (grid_shown (string_bytes c.replace_cells.new.text) c.replace_cells.new.runs.items c.replace_cells.new.widths.items)
+    c.args.row c.args.start c.args.end cells (is ∙ ap (λ rows. cells_replaced rows c.args.row c.args.start c.args.end cells) c.self.view_is))
+    c.replace_cells.ensures.ok
 
 pub returns-clause-past_succeeds : goal.returns-clause-past_succeeds
 returns-clause-past_succeeds c =
