@@ -1,5 +1,5 @@
 -- The rows of an annotated snippet show it.
-use Rattle.std.proofs.Common.{◌≡◌, ℕ, ◌+◌, ◌≤◌, ◌&&◌, Bool, true, false, cond, Option, None, Some, List, [], ◌∷◌, ◌++◌, drop, length, refl, sym, ap, subst, ◌∙◌}
+use Rattle.std.proofs.Common.{◌≡◌, ℕ, ◌+◌, ◌≤◌, ◌==◌, ◌&&◌, Bool, true, false, cond, Option, None, Some, List, [], ◌∷◌, ◌++◌, drop, length, refl, sym, ap, subst, ◌∙◌, arith}
 use Rattle.std.specs.List.{All, Contains, list_any}
 use Rattle.std.specs.Option.{IsSomeAnd}
 use Rattle.std.specs.Cow.{cow_str_bytes}
@@ -32,7 +32,7 @@ use Rattle.annotate_snippets.specs.declared.renderer.frame.Frame.{Frame}
 use Rattle.annotate_snippets.specs.declared.renderer.element_context.ElementContext.{ElementContext}
 use Rattle.annotate_snippets.specs.Around.{closes_after, closes_with, is_before_message, is_first_group, path_bytes}
 use Rattle.annotate_snippets.specs.Drawn.{AreCauseRows, HasRoomFor, IsCauseDrawn, layout_in}
-use Rattle.annotate_snippets.specs.Gutter.{line_numbers, numbered_source}
+use Rattle.annotate_snippets.specs.Gutter.{code_after, depth_of_element, line_numbers, numbered_source}
 use Rattle.annotate_snippets.specs.Page.{IsAscending, NamedRow, cells_of, others}
 use Rattle.annotate_snippets.specs.Prepared.{IsDrawable}
 use Rattle.annotate_snippets.specs.Rows.{cause_head, closing_rows, origin_layout, place_found, place_named, rows_after_cause, separator_rows}
@@ -98,6 +98,14 @@ module _ (r : Renderer) (frame : Frame) (around : ElementContext) (s : Snippet A
         text = ap (λ row. row_text (drop (frame.gutter + 4) row)) first ∙ origin_row-text (origin_layout r frame) (primary_start around.first) path (place_named around.primary lines) ∙ ap (origin_text r.anonymized_origin_line_numbers path) named;
       }
 
+-- code stands right of the gutter, the separator and a space
+code_right : (gutter depth : ℕ) → gutter + 3 ≤ code_after gutter depth
+code_right gutter depth = either (depth == 0)
+  where
+    either : (none : Bool) → gutter + 3 ≤ cond none (gutter + 3) (gutter + 3 + depth + 1)
+    either true = omega arith
+    either false = omega arith
+
 -- the rows of a snippet, with their names, show it
 pub cause_shown : (r : Renderer) (frame : Frame) (around : ElementContext) (s : Snippet Annotation) (rows : List (List Cell)) → IsDrawable s → HasRoomFor r frame (Cause s) → IsCauseDrawn r frame around s rows → ElementShown r frame around (Cause s) rows
 cause_shown r frame around s rows drawable room drawn =
@@ -105,7 +113,8 @@ cause_shown r frame around s rows drawable room drawn =
     let are : AreCauseRows r frame (closes_with around) s drawn.lines = drawn.are in
     let ks : List ℕ = shown_lines s.fold (cow_str_bytes s.source) s.markers.items in
     let fit : All (λ (info : AnnotatedLineInfo). length (shown_number (line_numbers r s.line_numbering) frame.gutter info.line_index) ≤ frame.gutter + 1) are.infos = numbers_fit r frame s are.infos room drawable are.lines in
-    let named = named_lines r frame s drawable.spans are.margin are.room are.bounds are.ordered (closes_with around) [] ks are.infos drawn.lines (shown_within src s.markers.items drawable.spans s.fold) are.lines fit are.shown in
+    let place : frame.gutter + 3 ≤ frame.code = omega (arith, room.bars, code_right frame.gutter (depth_of_element (Cause s))) in
+    let named = named_lines r frame s drawable.spans are.margin are.room are.bounds are.ordered place (closes_with around) [] ks are.infos drawn.lines (shown_within src s.markers.items drawable.spans s.fold) are.lines fit are.shown in
     let head : List (List Cell) = cause_head r frame around s in
     let tail : List (List Cell) = rows_after_cause r frame around in
     let part : List NamedRow = others head ++ (named.part ++ others tail) in
@@ -125,6 +134,7 @@ cause_shown r frame around s rows drawable room drawn =
         ordered = subst IsAscending (sym named.lines) (shown_ascending src s.markers.items drawable.spans s.fold);
         named = named.are;
         drawn = named.drawn;
+        begins = named.begins;
       };
       free = free_named part (subst (All IsFree) (sym (cells ∙ drawn.rows_are)) all_free);
     }

@@ -1,11 +1,11 @@
 -- The rows of a line are what the spans of the snippet make of it.
-use Rattle.std.proofs.Common.{◌≡◌, ℕ, ◌+◌, Bool, Option, List, [], ◌∷◌, ◌++◌, map, chars, refl, sym, ap, subst, ◌∙◌}
+use Rattle.std.proofs.Common.{◌≡◌, ℕ, ◌+◌, ◌<◌, Bool, Option, List, [], ◌∷◌, ◌++◌, Contains, map, length, chars, refl, sym, ap, subst, ◌∙◌}
 use Rattle.std.specs.List.{filter_map}
 use Rattle.std.proofs.lemmas.List.Elements.{filter_map-append}
 use Rattle.snippet_model.specs.AnnotationKind.{is_primary}
 use Rattle.snippet_model.specs.declared.snippet.Annotation.{Annotation}
 use Rattle.snippet_model.specs.declared.snippet.Snippet.{Snippet}
-use Rattle.snippet_style.specs.Cell.{Cell}
+use Rattle.snippet_style.specs.Cell.{Cell, unlinked_cell}
 use Rattle.snippet_text.specs.Normalized.{norm}
 use Rattle.snippet_view.specs.Annotated.{KeptLine, PartEntry, kept_line, seen_kept, seen_part}
 use Rattle.snippet_view.specs.Margin.{bounds_of}
@@ -14,10 +14,13 @@ use Rattle.snippet_view.specs.declared.entries.LineAnnotation.{LineAnnotation}
 use Rattle.snippet_view.specs.declared.margin.Margin.{Margin}
 use Rattle.snippet_lines.specs.Number.{shown_number}
 use Rattle.snippet_lines.specs.declared.number.LineNumbers.{LineNumbers}
-use Rattle.snippet_strokes.specs.Bars.{Bar, bar_at, bar_of, ends_of_bars}
+use Rattle.snippet_grid.specs.Grid.{cell_at}
+use Rattle.snippet_style.specs.Glyphs.{glyph_of, underline_role}
+use Rattle.snippet_strokes.specs.Bars.{Bar, HasOwnDepth, bar_at, bar_of, bars_apart, ends_of_bars}
 use Rattle.snippet_strokes.specs.LineRows.{AreLineRows}
 use Rattle.snippet_strokes.specs.Rows.{IsSourceRow, window_cells}
 use Rattle.snippet_strokes.specs.Snippet as strokes
+use Rattle.snippet_strokes.proofs.BarLaws.{bar_past}
 use Rattle.annotate_snippets.specs.declared.renderer.Renderer.{Renderer}
 use Rattle.annotate_snippets.specs.declared.renderer.frame.Frame.{Frame}
 use Rattle.annotate_snippets.specs.Drawn.{layout_in}
@@ -67,3 +70,16 @@ module _ (r : Renderer) (frame : Frame) (s : Snippet Annotation) (margin : Margi
         highlights = shows.highlights;
         drawn = subst Drawn shows.rows_are shows.drawn;
       }
+
+module _ (r : Renderer) (frame : Frame) (closes : Bool) (s : Snippet Annotation) (open_bars : List Bar) (k : ℕ) where
+  -- the bars that go on past line k
+  abbrev past : List Bar
+  past = bars_apart open_bars (bars_on s k)
+
+  -- one of them whose depth no other has stands beside each row of the line, in the cell of its depth
+  pub bar_shown : (rows : List (List Cell)) → IsLineDrawn r frame closes s open_bars k rows → (bar : Bar) → Contains past bar → HasOwnDepth bar past → (i : ℕ) → i < length rows → cell_at rows i (frame.gutter + 2 + bar.depth) ≡ unlinked_cell (underline_role bar.primary) (glyph_of r.decor_style bar.primary 124 124 0x2503 0x2502)
+  bar_shown rows line bar among alone i within =
+      let ends : ends_of_bars line.entries ≡ bars_on s k = bars_seen s k line.entries line.are in
+      let own : Contains (bars_apart open_bars (ends_of_bars line.entries)) bar = subst (λ bs. Contains (bars_apart open_bars bs) bar) (sym ends) among in
+      let only : HasOwnDepth bar (bars_apart open_bars (ends_of_bars line.entries)) = subst (λ bs. HasOwnDepth bar (bars_apart open_bars bs)) (sym ends) alone in
+      bar_past (layout_in r frame) line.margin.term_width closes line.text line.dropped open_bars line.entries line.highlighted rows line.drawn bar own only i within

@@ -3,6 +3,7 @@ use Rattle.std.proofs.Common.{◌≡◌, ℕ, ◌+◌, ◌-◌, ◌<◌, ◌≤�
 use Rattle.std.specs.List.{All, filter}
 use Rattle.std.specs.Prelude.{nat_le, nat_lt}
 use Rattle.std.proofs.lemmas.Bool.{and_parts}
+use Rattle.std.proofs.lemmas.Bool.Decides.{nat_tests}
 use Rattle.std.proofs.lemmas.List.{length-map, map-append}
 use Rattle.std.proofs.lemmas.List.Elements.{All-cons, All-filter, All-head, All-map, All-nil, All-tail, filter-append, filter_passes}
 use Rattle.std.proofs.lemmas.List.Sums.{sum_by-cons}
@@ -170,6 +171,33 @@ module _ (dropped : ℕ) (frame : Frame) (layout : Layout) (code : layout.code �
           let g : PlacedLabel → ℕ = λ x. cond (is_cell_of r c x) 1 0 in
           omega (arith, rest, sum_by-cons g l ls)
 
+  -- nor in fewer, since no other entry has a label
+  cells_all : (r c : ℕ) (es : List LineAnnotation) (ls : List PlacedLabel) → map (λ (l : PlacedLabel). l.entry) ls ≡ map (shifted dropped) es → All IsLabelledAtEnd (map (shifted dropped) es) → count_by (is_cell_of r c) ls ≤ count_by (is_in_label r c) (shown_labels es ls)
+  unfolding shown_labels
+  cells_all r c [] [] entries ends = omega arith
+  cells_all r c [] (l ∷ ls) entries ends = cc entries
+  cells_all r c (e ∷ es) [] entries ends = cc entries
+  cells_all r c (e ∷ es) (l ∷ ls) entries ends =
+      let entry = head_same l.entry (shifted dropped e) (map (λ (x : PlacedLabel). x.entry) ls) (map (shifted dropped) es) entries in
+      let further = tail_same l.entry (shifted dropped e) (map (λ (x : PlacedLabel). x.entry) ls) (map (shifted dropped) es) entries in
+      let one : is_in_label r c (shown_at e l) ≡ is_cell_of r c l = ap (λ (n : ℕ). l.row == r && (nat_le l.cell c && nat_lt c (l.cell + n))) (sym (ap length (text_is e l entry))) in
+      let none : (is_start_part e.annotation_type || is_bar e.annotation_type) ≡ true → is_cell_of r c l ≡ false = λ before. no_cell r c l.row l.cell (length (label_text l.entry)) (ap length (ap label_text entry ∙ All-head IsLabelledAtEnd (shifted dropped e) (map (shifted dropped) es) ends before)) in
+      both (is_start_part e.annotation_type || is_bar e.annotation_type) one none (cells_all r c es ls further (All-tail IsLabelledAtEnd (shifted dropped e) (map (shifted dropped) es) ends))
+    where
+      no_cell : (r c row cell n : ℕ) → n ≡ 0 → (row == r && (nat_le cell c && nat_lt c (cell + n))) ≡ false
+      no_cell r c row cell n is = grind (arith, nat_tests, is)
+
+      both : (b : Bool) → is_in_label r c (shown_at e l) ≡ is_cell_of r c l → (b ≡ true → is_cell_of r c l ≡ false) → count_by (is_cell_of r c) ls ≤ count_by (is_in_label r c) (shown_labels es ls) → count_by (is_cell_of r c) (l ∷ ls) ≤ count_by (is_in_label r c) (cond (not b) (shown_at e l ∷ shown_labels es ls) (shown_labels es ls))
+      both false one none rest =
+          let f : ShownLabel → ℕ = λ x. cond (is_in_label r c x) 1 0 in
+          let g : PlacedLabel → ℕ = λ x. cond (is_cell_of r c x) 1 0 in
+          let same : f (shown_at e l) ≡ g l = ap (λ b. cond b 1 0) one in
+          omega (arith, rest, same, sum_by-cons f (shown_at e l) (shown_labels es ls), sum_by-cons g l ls)
+      both true one none rest =
+          let g : PlacedLabel → ℕ = λ x. cond (is_cell_of r c x) 1 0 in
+          let here : g l ≡ 0 = ap (λ b. cond b 1 0) (none refl) in
+          omega (arith, rest, here, sum_by-cons g l ls)
+
 -- ---- which spans these are
 
 -- of the entries of a span of several lines the last one alone is where it ends
@@ -222,7 +250,7 @@ single_labels s k (a ∷ marked) own =
 -- ---- the labels of a line
 
 -- the labels of the spans that end on line k stand below it, whatever other entries the line has
-pub labels_shown : (sn : Snippet Annotation) (k dropped : ℕ) (frame : Frame) (layout : Layout) (es : List LineAnnotation) (rows : List (List Cell)) → layout.code ≡ frame.code → map seen_part es ≡ parts_on (numbered_source sn) sn.markers.items k → All (λ e. is_bar e.annotation_type ≡ false → dropped ≤ e.start.display) es → LabelsStand layout (map (shifted dropped) es) rows → ShowsLabels frame sn k dropped rows
+pub labels_shown : (sn : Snippet Annotation) (k dropped : ℕ) (frame : Frame) (layout : Layout) (es : List LineAnnotation) (rows : List (List Cell)) → layout.code ≡ frame.code → map seen_part es ≡ parts_on (numbered_source sn) sn.markers.items k → All (λ e. is_bar e.annotation_type ≡ false → dropped ≤ e.start.display) es → LabelsStand layout (map (shifted dropped) es) rows → ShowsLabels layout.decor frame sn k dropped rows
 labels_shown sn k dropped frame layout es rows code same clear stand =
     let s : Source = numbered_source sn in
     let marks : List Annotation = sn.markers.items in
@@ -237,4 +265,6 @@ labels_shown sn k dropped frame layout es rows code same clear stand =
       spans = labels_are es stand.labels long ∙ ap (λ ps. map label_of_part (filter ends_here ps)) parts ∙ ap (map label_of_part) (filter-append ends_here singles longs) ∙ map-append label_of_part (filter ends_here singles) (filter ends_here longs) ∙ ap (λ xs. xs ++ map label_of_part (filter ends_here longs)) (single_labels s k marked (filter_passes (is_marked_on s.text k) marks)) ∙ ap (λ xs. map (label_of_span s.text) marked ++ xs) (long_ends s k (long_places s marks) [] (long_spans s marks));
       stand = all_shown dropped frame layout code rows es stand.labels stand.are clear stand.stand;
       apart = λ r c. omega (arith, cells_few dropped frame layout code rows r c es stand.labels stand.are, stand.apart r c);
+      others = λ r c right none.
+          stand.others r c (omega (arith, right, code)) (omega (arith, none, cells_all dropped frame layout code rows r c es stand.labels stand.are (labelled_at_end s marks k dropped es same)));
     }

@@ -15,6 +15,7 @@ pub mod GroupShown
 pub mod GutterLemmas
 pub mod HeadingShown
 pub mod LabelLemmas
+pub mod LeftLaws
 pub mod LineLemmas
 pub mod ListLemmas
 pub mod MarkLemmas

@@ -1,22 +1,20 @@
 -- The rows of a line show it: its source row, the row of its marks, and the others below.
-use Rattle.std.proofs.Common.{◌≡◌, ℕ, zero, suc, ◌+◌, ◌-◌, ◌<◌, ◌≤◌, ◌==◌, ◌&&◌, nat_le, not, replicate, Bool, true, false, cond, List, [], ◌∷◌, ◌++◌, map, length, take, drop, chars, count_by, get_or, refl, sym, ap, subst, ◌∙◌, arith, inl, inr}
+use Rattle.std.proofs.Common.{◌≡◌, ℕ, ◌+◌, ◌-◌, ◌<◌, ◌≤◌, ◌==◌, ◌&&◌, nat_le, not, Bool, true, false, cond, List, [], ◌∷◌, map, length, drop, chars, count_by, get_or, refl, sym, ap, subst, ◌∙◌, arith, inl, inr}
 use Rattle.std.specs.List.{All, filter, list_all, list_any}
 use Rattle.std.specs.Cow.{cow_str_bytes}
-use Rattle.std.specs.Char.{is_ascii_alphanumeric}
-use Rattle.std.proofs.lemmas.Bool.{and_parts, and_from, cases_lt, cases_eq, eqb-true, eq-eqb, lt-ltb}
+use Rattle.std.proofs.lemmas.Bool.{and_parts, and_from, cases_lt, eq-eqb, lt-ltb}
 use Rattle.std.proofs.lemmas.Bool.Decides.{nat_tests}
-use Rattle.std.proofs.lemmas.List.{take-map, drop-map, take-take, get_or-take, get_or-append_right, get_or-map, length-map, length-replicate}
-use Rattle.std.proofs.lemmas.List.Elements.{All-get_or, All-contains, All-head, All-map, All-tail, Contains-get_or}
+use Rattle.std.proofs.lemmas.List.{drop-map, get_or-take, length-map}
+use Rattle.std.proofs.lemmas.List.Elements.{All-contains, All-head, All-map, All-tail, Contains-get_or}
 use Rattle.std.proofs.lemmas.List.Sums.{AllPass-from_list_all, list_all-from_AllPass, sum_by-cons}
 use Rattle.snippet_model.specs.declared.snippet.Annotation.{Annotation}
 use Rattle.snippet_model.specs.declared.snippet.Snippet.{Snippet}
 use Rattle.snippet_grid.specs.Grid.{row_at}
-use Rattle.snippet_style.specs.Cell.{Cell, SPACE, text_cells, unlinked_cell}
+use Rattle.snippet_style.specs.Cell.{Cell, SPACE}
 use Rattle.snippet_grid.specs.Print.{row_text}
-use Rattle.snippet_style.specs.Glyphs.{separator_of, closing_of, placeholder_of, bar_glyphs}
+use Rattle.snippet_style.specs.Glyphs.{placeholder_of}
 use Rattle.snippet_style.specs.declared.glyphs.DecorStyle.{DecorStyle}
-use Rattle.snippet_style.specs.declared.glyphs.DecorStyle.TheVariants.{Ascii, Unicode}
-use Rattle.snippet_style.specs.declared.role.ElementStyle.TheVariants.{LineNumber, Quotation}
+use Rattle.snippet_style.specs.declared.role.ElementStyle.TheVariants.{Quotation}
 use Rattle.snippet_text.specs.Normalized.{norm}
 use Rattle.snippet_text.specs.Width.{width_of}
 use Rattle.snippet_text.proofs.NormLemmas.{width_of-norm}
@@ -33,10 +31,9 @@ use Rattle.snippet_view.specs.Marked.{seen_entry, entry_of}
 use Rattle.snippet_view.specs.Measures.{is_bar, is_single_part, is_wide_entry}
 use Rattle.snippet_lines.specs.Span.{IsSpan}
 use Rattle.snippet_view.specs.Window.{AreReplaced, chars_at, dropped_part, stands_whole, window}
-use Rattle.snippet_strokes.specs.Entries.{IsEntryMark, IsMarkCell, IsBarCell, are_plain, has_column, has_mark_role, is_single, label_role, label_text, shifted, wide_entries}
+use Rattle.snippet_strokes.specs.Entries.{IsEntryMark, IsMarkCell, are_plain, has_column, has_mark_role, is_single, label_role, label_text, shifted, wide_entries}
 use Rattle.snippet_lines.specs.Number.{shown_number}
-use Rattle.snippet_model.specs.Rows.{HasNoNumber}
-use Rattle.snippet_strokes.specs.Rows.{bare_row, IsSourceRow, IsStrokeRow, ShowsMarks}
+use Rattle.snippet_strokes.specs.Rows.{IsStrokeRow, ShowsMarks, window_cells}
 use Rattle.snippet_strokes.specs.Snippet as strokes
 use Rattle.snippet_strokes.specs.Bars.{Bar}
 use Rattle.snippet_strokes.specs.declared.layout.Layout.{Layout}
@@ -46,87 +43,17 @@ use Rattle.annotate_snippets.specs.declared.renderer.Renderer.{Renderer}
 use Rattle.annotate_snippets.specs.declared.renderer.frame.Frame.{Frame}
 use Rattle.annotate_snippets.specs.Drawn.{layout_in}
 use Rattle.annotate_snippets.specs.Gutter.{line_numbers, number_text, numbered_source}
-use Rattle.annotate_snippets.specs.Shown.{HasStroke, IsRowBelow, ShowsLabels, ShowsMarksOf, ShowsSourceLine, bounds_in, room_of, shown_label, wide_spans}
+use Rattle.annotate_snippets.specs.Shown.{IsRowBelow, ShowsLabels, ShowsMarksOf, ShowsSourceLine, bounds_in, cells_left, room_of, shown_label, wide_spans}
 use Rattle.annotate_snippets.proofs.LabelLemmas.{labelled_at_end, labels_shown, head_same, tail_same}
-use Rattle.annotate_snippets.proofs.ListLemmas.{from_any}
+use Rattle.annotate_snippets.proofs.LeftLaws.{left_of_source, space_of_source}
 use Rattle.annotate_snippets.proofs.MarkLemmas.{span_of_entry, IsEntryOf, mark_of_entries, unmarked_by_entries, entries_after, unlabelled_entries, lone_entry, some_entry, shifted_mark, shifted_unmarked, shifted_after}
 use Rattle.annotate_snippets.proofs.PartsFacts.{stands_left, untouched, wide_on_line}
 use Rattle.annotate_snippets.proofs.WindowLemmas.{dropped-none}
 
--- between a line's number and its code stand the separator and spaces
-beside_number : (layout : Layout) (shown : List ℕ) (cells row : List Cell) (c : ℕ) → IsSourceRow layout shown cells row → length shown ≤ c → c < layout.code → is_ascii_alphanumeric (get_or row c SPACE).ch ≡ false
-beside_number layout shown cells row c is right left =
-    elim (cases_eq c (layout.gutter + 1)) [
-      | inl at ↦ ap (λ (cell : Cell). is_ascii_alphanumeric cell.ch) (ap (λ n. get_or row n SPACE) at ∙ is.separator) ∙ no_letter layout.decor
-      | inr other ↦ ap (λ (cell : Cell). is_ascii_alphanumeric cell.ch) (is.blank c right other left)
-    ]
-  where
-    no_letter : (decor : DecorStyle) → is_ascii_alphanumeric (separator_of decor) ≡ false
-    no_letter Ascii = refl
-    no_letter Unicode = refl
-
--- no cell of what the gutter shows, of the separator, and of the spaces beside it is in the role of marks
-drawn_unmarked : (shown : List ℕ) (c : ℕ) → has_mark_role (get_or (text_cells LineNumber shown) c SPACE) ≡ false
-drawn_unmarked [] c = refl
-drawn_unmarked (ch ∷ shown) zero = refl
-drawn_unmarked (ch ∷ shown) (suc c) = drawn_unmarked shown c
-
-unmarked_left : (layout : Layout) (shown : List ℕ) (cells row : List Cell) (c : ℕ) → IsSourceRow layout shown cells row → c < layout.code → has_mark_role (get_or row c SPACE) ≡ false
-unmarked_left layout shown cells row c is left =
-    elim (cases_lt c (length shown)) [
-      | inl number ↦ ap has_mark_role (sym (get_or-take (length shown) row c SPACE number) ∙ ap (λ cs. get_or cs c SPACE) is.shows.number) ∙ drawn_unmarked shown c
-      | inr right ↦ elim (cases_eq c (layout.gutter + 1)) [
-        | inl at ↦ ap has_mark_role (ap (λ n. get_or row n SPACE) at ∙ is.separator)
-        | inr other ↦ ap has_mark_role (is.blank c right other left)
-      ]
-    ]
-
--- the character of a cell, read from the row's text
-char_at : (row : List Cell) (c : ℕ) → (get_or row c SPACE).ch ≡ get_or (row_text row) c 32
-char_at [] c = refl
-char_at (x ∷ row) zero = refl
-char_at (x ∷ row) (suc c) = char_at row c
-
--- the characters that a row begins with after some spaces
-led_by : (n : ℕ) (cs : List ℕ) (c : ℕ) → c < length cs → (get_or (replicate n SPACE ++ text_cells LineNumber cs) (n + c) SPACE).ch ≡ get_or cs c 32
-led_by n cs c within =
-    ap (λ (cell : Cell). cell.ch) (get_or-append_right (replicate n SPACE) (text_cells LineNumber cs) n (n + c) SPACE (length-replicate n SPACE) (omega arith) ∙ ap (λ i. get_or (text_cells LineNumber cs) i SPACE) (let back : n + c - n ≡ c = omega arith in back)) ∙ ap (λ (cell : Cell). cell.ch) (get_or-map (λ ch. unlinked_cell LineNumber ch) cs c 32 SPACE within)
-
--- a row that is as a bare one left of the bars has its stroke
-bare_stroke : (decor : DecorStyle) (gutter : ℕ) (closed : Bool) (row : List Cell) → ((c : ℕ) → c < gutter + 3 → get_or row c SPACE ≡ get_or (bare_row decor gutter closed) c SPACE) → HasStroke gutter (cond closed (closing_of decor) (separator_of decor ∷ [])) row
-bare_stroke decor gutter false row same =
-    λ c within. ap (λ (cell : Cell). cell.ch) (same (gutter + 1 + c) (omega (arith, within))) ∙ led_by (gutter + 1) (separator_of decor ∷ []) c within
-bare_stroke decor gutter true row same =
-    λ c within. ap (λ (cell : Cell). cell.ch) (same (gutter + 1 + c) (omega (arith, within, closing_short decor))) ∙ led_by (gutter + 1) (closing_of decor) c within
-  where
-    closing_short : (decor : DecorStyle) → length (closing_of decor) ≤ 2
-    closing_short Ascii = omega arith
-    closing_short Unicode = omega arith
-
--- no part of a bar is a letter or a digit
-no_letters : (gs : List ℕ) (ch : ℕ) → list_all (λ g. not (is_ascii_alphanumeric g)) gs ≡ true → list_any (λ g. ch == g) gs ≡ true → is_ascii_alphanumeric ch ≡ false
-no_letters gs ch none among =
-    let found = from_any (λ g. ch == g) gs among in
-    let same : ch ≡ found.0 = eqb-true ch found.0 found.2 in
-    let other : not (is_ascii_alphanumeric found.0) ≡ true = All-contains (λ g. not (is_ascii_alphanumeric g) ≡ true) gs found.0 (AllPass-from_list_all (λ g. not (is_ascii_alphanumeric g)) gs none) found.1 in
-    ap is_ascii_alphanumeric same ∙ negated (is_ascii_alphanumeric found.0) other
-  where
-    negated : (b : Bool) → not b ≡ true → b ≡ false
-    negated true is = cc
-    negated false is = refl
-
-bar_letter : (decor : DecorStyle) (ch : ℕ) → list_any (λ g. ch == g) (bar_glyphs decor) ≡ true → is_ascii_alphanumeric ch ≡ false
-bar_letter Ascii ch among = no_letters (bar_glyphs Ascii) ch refl among
-bar_letter Unicode ch among = no_letters (bar_glyphs Unicode) ch refl among
-
 -- a row that is as a bare one left of the bars is a row below a line
-pub row_below : (decor : DecorStyle) (frame : Frame) (closes plain : Bool) (es : List LineAnnotation) (rows : List (List Cell)) (i : ℕ) → i < length rows → All (HasNoNumber frame.gutter) rows → IsStrokeRow (record { gutter = frame.gutter; code = frame.code; decor = decor }) plain es (closes && i + 1 == length rows) (row_at rows i) → IsRowBelow decor frame (closes && i + 1 == length rows) (row_at rows i)
-row_below decor frame closes plain es rows i within unnumbered is =
-    record {
-      unnumbered = All-get_or (HasNoNumber frame.gutter) rows i [] within unnumbered;
-      stroke = bare_stroke decor frame.gutter (closes && i + 1 == length rows) (row_at rows i) is.left;
-      bars = is.bar_cells;
-    }
+pub row_below : (decor : DecorStyle) (frame : Frame) (closes plain : Bool) (es : List LineAnnotation) (rows : List (List Cell)) (i : ℕ) → IsStrokeRow (record { gutter = frame.gutter; code = frame.code; decor = decor }) plain es (closes && i + 1 == length rows) (row_at rows i) → IsRowBelow decor frame (closes && i + 1 == length rows) (row_at rows i)
+row_below decor frame closes plain es rows i is =
+    record { left = is.left; bars = is.bar_cells }
 
 -- a wide entry stays one, however many columns are dropped left of it
 wide_shifted : (dropped room width : ℕ) (e : LineAnnotation) → (is_bar e.annotation_type ≡ false → dropped ≤ e.start.display) → is_wide_entry room width (shifted dropped e) ≡ is_wide_entry room width e
@@ -240,19 +167,7 @@ module _ (r : Renderer) (frame : Frame) (s : Snippet Annotation) (spans : All (�
     wide_is : wide_entries margin.term_width r.decor_style (map (shifted shows.dropped) es) ≡ wide_spans (room_of r frame) placeholder_width s k
     wide_is = wide-shifted shows.dropped margin.term_width placeholder_width es shows.clear ∙ ap (λ n. count_by (is_wide_entry n placeholder_width) es) room ∙ wide_on_line (numbered_source s) s.markers.items spans k info (room_of r frame) placeholder_width seen
 
-    -- what the row has left of the bars is as drawn
-    front_text : row_text (take (frame.gutter + 2) shows.source) ≡ row_text (take (frame.gutter + 2) shows.plain)
-    front_text = ap row_text shows.beside.front ∙ sym (take-map (λ (cell : Cell). cell.ch) (frame.gutter + 2) shows.highlighted) ∙ ap (take (frame.gutter + 2)) same ∙ take-map (λ (cell : Cell). cell.ch) (frame.gutter + 2) shows.plain
-      where
-        same : row_text shows.highlighted ≡ row_text shows.plain
-        same = highlighted_text frame.code shows.dropped _ shows.plain shows.highlighted shows.highlights
-
-    -- a cell left of the bars is as drawn
-    front_cell : (c : ℕ) → c < frame.gutter + 2 → (get_or shows.source c SPACE).ch ≡ (get_or shows.plain c SPACE).ch
-    front_cell c left =
-        sym (ap (λ (cell : Cell). cell.ch) (get_or-take (frame.gutter + 2) shows.source c SPACE left)) ∙ char_at (take (frame.gutter + 2) shows.source) c ∙ ap (λ cs. get_or cs c 32) front_text ∙ sym (char_at (take (frame.gutter + 2) shows.plain) c) ∙ ap (λ (cell : Cell). cell.ch) (get_or-take (frame.gutter + 2) shows.plain c SPACE left)
-
-    -- so is its role, whatever is highlighted
+    -- left of the bars the row is as drawn, whatever is highlighted
     left_cell : (c : ℕ) → c < frame.gutter + 3 → c < frame.code → get_or shows.source c SPACE ≡ get_or shows.plain c SPACE
     left_cell c beside left =
         kept ∙ highlighted_left frame.code shows.dropped _ shows.plain shows.highlighted shows.highlights c left
@@ -265,10 +180,6 @@ module _ (r : Renderer) (frame : Frame) (s : Snippet Annotation) (spans : All (�
                   let at : c ≡ frame.gutter + 2 = omega (arith, after, beside) in
                   ap (λ n. get_or shows.source n SPACE) at ∙ shows.beside.gap ∙ ap (λ n. get_or shows.highlighted n SPACE) (sym at)
             ]
-
-    gap_cell : (get_or shows.source (frame.gutter + 2) SPACE).ch ≡ (get_or shows.plain (frame.gutter + 2) SPACE).ch
-    gap_cell =
-        ap (λ (cell : Cell). cell.ch) shows.beside.gap ∙ char_at shows.highlighted (frame.gutter + 2) ∙ ap (λ cs. get_or cs (frame.gutter + 2) 32) (highlighted_text frame.code shows.dropped _ shows.plain shows.highlighted shows.highlights) ∙ sym (char_at shows.plain (frame.gutter + 2))
 
     -- the text of the line before it is cut where spans are wide
     window_text : row_text (drop frame.code shows.highlighted) ≡ window (placeholder_of r.decor_style) (room_of r frame) (bounds_in r frame s).left (bounds_in r frame s).right text
@@ -294,18 +205,16 @@ module _ (r : Renderer) (frame : Frame) (s : Snippet Annotation) (spans : All (�
         (dropped_here ∙ ap (λ n. width_of (dropped_part n text)) left ∙ dropped-none text, ap row_text uncut ∙ sym (drop-map (λ (cell : Cell). cell.ch) frame.code shows.highlighted) ∙ ap (drop frame.code) (highlighted_text frame.code shows.dropped _ shows.plain shows.highlighted shows.highlights) ∙ drop-map (λ (cell : Cell). cell.ch) frame.code shows.plain ∙ all)
 
     -- the source row shows its line
-    pub source_line : ShowsSourceLine r frame s k shows.dropped shows.source
-    source_line =
-        let is = shows.shows in
-        let near : length shown ≤ frame.gutter + 2 = omega (arith, fits) in
-        let number_row : row_text (take (length shown) shows.source) ≡ shown = ap row_text (sym (take-take (length shown) (frame.gutter + 2) shows.source near)) ∙ sym (take-map (λ (cell : Cell). cell.ch) (length shown) (take (frame.gutter + 2) shows.source)) ∙ ap (take (length shown)) front_text ∙ take-map (λ (cell : Cell). cell.ch) (length shown) (take (frame.gutter + 2) shows.plain) ∙ ap row_text (take-take (length shown) (frame.gutter + 2) shows.plain near) ∙ ap row_text is.shows.number ∙ row_text-text_cells LineNumber shown in
+    pub source_line : frame.gutter + 3 ≤ frame.code → ShowsSourceLine r frame s k shows.dropped shows.source
+    source_line place =
+        let layout : Layout = layout_in r frame in
+        let cells : List Cell = window_cells r.decor_style margin (norm (chars info.line.now)) in
+        let same : (c : ℕ) → c < frame.gutter + 3 → get_or shows.source c SPACE ≡ get_or shows.plain c SPACE = λ c beside. left_cell c beside (omega (arith, beside, place)) in
         record {
           within = within;
-          number = subst (λ cs. row_text (take (length cs) shows.source) ≡ cs) same_number number_row;
-          separator = front_cell (frame.gutter + 1) (omega arith) ∙ ap (λ (cell : Cell). cell.ch) is.separator;
-          beside = λ c right left. beside_is c (omega (arith, ap length same_number, right)) left;
+          left = left_of_source layout shown cells shows.plain shows.source fits place shows.shows same ∙ ap (cells_left r.decor_style frame.gutter) same_number;
+          space = space_of_source layout shown cells shows.plain shows.source fits place shows.shows same;
           bars = shows.beside.bar_cells;
-          unmarked = λ c beside left. ap has_mark_role (left_cell c beside left) ∙ unmarked_left (layout_in r frame) _ _ shows.plain c is left;
           window = record {
             ordered = omega (arith, ordered, ap (λ (b : Bounds). b.left) bounds, ap (λ (b : Bounds). b.right) bounds);
             dropped_is = dropped_here;
@@ -313,21 +222,9 @@ module _ (r : Renderer) (frame : Frame) (s : Snippet Annotation) (spans : All (�
           };
           whole = whole_text;
         }
-      where
-        beside_is : (c : ℕ) → length shown ≤ c → c < frame.code → is_ascii_alphanumeric (get_or shows.source c SPACE).ch ≡ false
-        beside_is c right left =
-            elim (cases_lt c (frame.gutter + 2)) [
-              | inl front ↦ ap is_ascii_alphanumeric (front_cell c front) ∙ beside_number (layout_in r frame) _ _ shows.plain c shows.shows right left
-              | inr after ↦ elim (cases_eq c (frame.gutter + 2)) [
-                | inl at ↦ ap (λ n. is_ascii_alphanumeric (get_or shows.source n SPACE).ch) at ∙ ap is_ascii_alphanumeric gap_cell ∙ beside_number (layout_in r frame) _ _ shows.plain (frame.gutter + 2) shows.shows (omega (arith, right, at)) (omega (arith, left, at))
-                | inr other ↦
-                    let bar_cell : IsBarCell r.decor_style (get_or shows.source c SPACE) = shows.beside.bar_cells c (omega (arith, after, other)) left in
-                    bar_letter r.decor_style (get_or shows.source c SPACE).ch bar_cell.glyph
-              ]
-            ]
 
     -- no label of the spans that end on the line is lost, where none of its spans is cut
-    pub labels_of_line : wide_spans (room_of r frame) placeholder_width s k ≡ 0 → ShowsLabels frame s k shows.dropped shows.below
+    pub labels_of_line : wide_spans (room_of r frame) placeholder_width s k ≡ 0 → ShowsLabels r.decor_style frame s k shows.dropped shows.below
     labels_of_line uncut =
         let parts : map seen_part es ≡ parts_on (numbered_source s) s.markers.items k = ap (λ (l : KeptLine). l.parts) seen in
         let stand = shows.strokes.labels (wide_is ∙ uncut) (labelled_at_end (numbered_source s) s.markers.items k shows.dropped es parts) in

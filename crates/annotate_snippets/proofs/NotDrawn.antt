@@ -1,20 +1,36 @@
--- Rows that are none of a line: each contradicts what is said of all rows of a line.
-use Rattle.std.proofs.Common.{◌≡◌, ℕ, ◌+◌, ◌<◌, Bool, List, [], ◌∷◌, length, sym, ap, subst, ◌∙◌, arith}
-use Rattle.std.proofs.lemmas.List.{length-map}
+-- Rows that are none of a line, and cells that are none of a row: each contradicts what is said of all rows of a snippet's lines.
+use Rattle.std.proofs.Common.{◌≡◌, ℕ, ◌+◌, ◌<◌, Bool, true, false, cond, None, List, [], ◌∷◌, ◌++◌, codes, length, refl, sym, ap, subst, ◌∙◌, arith}
+use Rattle.std.specs.Str.{chars}
+use Rattle.std.proofs.lemmas.List.{append_cancel_left, append_cancel_right, length-map}
 use Rattle.snippet_grid.specs.Grid.{cell_at}
+use Rattle.snippet_model.specs.Rows.{HasNoNumber}
 use Rattle.snippet_model.specs.declared.snippet.Annotation.{Annotation}
+use Rattle.snippet_model.specs.declared.snippet.AnnotationKind.TheVariants.{Primary}
 use Rattle.snippet_model.specs.declared.snippet.Snippet.{Snippet}
-use Rattle.snippet_style.specs.Cell.{Cell}
+use Rattle.snippet_style.specs.Cell.{Cell, SPACE, text_cells}
 use Rattle.snippet_style.specs.Glyphs.{underline_role}
+use Rattle.snippet_style.specs.declared.glyphs.DecorStyle.TheVariants.{Ascii}
+use Rattle.snippet_style.specs.declared.role.ElementStyle.TheVariants.{LineNumber, Quotation}
+use Rattle.snippet_lines.specs.Lines.{start_of}
+use Rattle.snippet_lines.specs.Place.{line_of, place_of}
 use Rattle.snippet_view.specs.Annotated.{seen_part}
+use Rattle.snippet_view.specs.Kept.{shown_lines}
 use Rattle.snippet_strokes.specs.Bars.{Bar}
-use Rattle.snippet_strokes.specs.LineRows.{AreLineRows}
 use Rattle.snippet_strokes.proofs.LineRowLaws.{bar_beside, lone_rows}
+use Rattle.snippet_strokes.proofs.RowLemmas.{bare_row_left}
 use Rattle.annotate_snippets.specs.declared.renderer.Renderer.{Renderer}
 use Rattle.annotate_snippets.specs.declared.renderer.frame.Frame.{Frame}
+use Rattle.annotate_snippets.specs.declared.renderer.element_context.ElementContext.{ElementContext}
+use Rattle.annotate_snippets.specs.Around.{closes_with}
 use Rattle.annotate_snippets.specs.Drawn.{layout_in}
-use Rattle.annotate_snippets.specs.LineRows.{IsLineDrawn, bars_on, entries_on}
+use Rattle.annotate_snippets.specs.LineRows.{AreRowsDrawn, IsLineDrawn, IsRowDrawn, bars_on, entries_on}
+use Rattle.annotate_snippets.specs.Page.{Elision, NamedRow, OfferedLine, Other, RemovedLine, RowName, SourceRow, line_named, names_in, names_of_lines, others, rows_below, shows_lines}
+use Rattle.annotate_snippets.specs.Rows.{cause_head, rows_after_cause}
+use Rattle.annotate_snippets.specs.Settings.{plain_settings}
+use Rattle.annotate_snippets.specs.Shown.{AreRowsOf, IsRowBelow, IsRowOf, ShowsSnippet, ShowsSourceLine}
 use Rattle.annotate_snippets.proofs.DrawnLines.{bars_seen}
+use Rattle.annotate_snippets.proofs.NotShown.{frame, span_of}
+use Rattle.annotate_snippets.proofs.NotWhole.{IsLineA, unnamed}
 
 -- two rows below a line on which one entry stands:
 --
@@ -34,3 +50,69 @@ pub bar_of_other_kind : (r : Renderer) (frame : Frame) (closes : Bool) (s : Snip
 bar_of_other_kind r frame closes s bar k rows line none i within other =
     let ends = bars_seen s k line.entries line.are ∙ none in
     other (ap (λ (cell : Cell). cell.role) (bar_beside (layout_in r frame) line.margin.term_width closes line.text line.dropped line.highlighted rows bar line.entries line.drawn ends i within))
+
+-- ---- rows that no line has
+
+-- `a` has one line that is shown, and no row in place of lines
+one_line : (fold : Bool) → names_of_lines (shown_lines fold (codes "a") (span_of Primary 0 1 ∷ [])) ≡ SourceRow 0 ∷ []
+unfolding place_of line_of start_of chars
+one_line true = refl
+one_line false = refl
+
+-- rows between those that a snippet begins with and those below its lines
+abbrev page_of : Snippet Annotation → ElementContext → List NamedRow → List NamedRow
+page_of s around rows =
+    others (cause_head plain_settings frame around s) ++ (rows ++ others (rows_after_cause plain_settings frame around))
+
+-- a row above the first line of a snippet that isn't its, here below the separator row that the snippet begins with, whatever it
+-- is named:
+--
+--       |
+--       |
+--     1 | a
+--       | ^
+pub row_above_the_first_line : (s : Snippet Annotation) → IsLineA s → (around : ElementContext) (row : NamedRow) (more : List NamedRow) → HasNoNumber 1 row.cells → ShowsSnippet plain_settings frame around s (page_of s around (row ∷ more)) → ⊥
+row_above_the_first_line s is around row more none shown =
+    let closes : Bool = closes_with around in
+    let tail : List NamedRow = others (rows_after_cause plain_settings frame around) in
+    let same : shown.after ≡ row ∷ more = append_cancel_right shown.after (row ∷ more) tail (sym (append_cancel_left (others (cause_head plain_settings frame around s)) ((row ∷ more) ++ tail) (shown.after ++ tail) shown.rows_are)) in
+    let named : IsRowOf plain_settings frame closes s row.name row.cells more = (subst (AreRowsOf plain_settings frame closes s) same shown.named).0 in
+    let names : names_in (row ∷ more) ≡ SourceRow 0 ∷ [] = ap names_in (sym same) ∙ shown.elided ∙ ap (λ source. names_of_lines (shown_lines s.fold source s.markers.items)) is.is.source_is ∙ ap (λ marks. names_of_lines (shown_lines s.fold (codes "a") marks)) is.is.marks_are ∙ one_line s.fold in
+    by_name row.name (unnamed closes s is row.name row.cells more none named) (subst (λ rows. rows_below rows ≡ []) same shown.begins) names
+  where
+    -- it is no row of a line, a row in place of lines would be one too many, and any other belongs to a line above it
+    by_name : (name : RowName) → line_named name ≡ None → rows_below (record { name = name; cells = row.cells } ∷ more) ≡ [] → names_in (record { name = name; cells = row.cells } ∷ more) ≡ SourceRow 0 ∷ [] → ⊥
+    by_name (SourceRow k) no_line begins names = cc
+    by_name Elision no_line begins names = cc
+    by_name (OfferedLine j) no_line begins names = cc
+    by_name (RemovedLine i) no_line begins names = cc
+    by_name Other no_line begins names = cc
+
+-- a row below one in place of lines that are left out, that shows no line either:
+--
+--     ...
+--       |
+--     9 | b
+pub row_below_an_elision : (r : Renderer) (frame : Frame) (closes : Bool) (s : Snippet Annotation) (open_bars : List Bar) (above row : NamedRow) (more : List NamedRow) → above.name ≡ Elision → shows_lines row.name ≡ false → AreRowsDrawn r frame closes s open_bars (above ∷ row ∷ more) → ⊥
+row_below_an_elision r frame closes s open_bars above row more elided other drawn =
+    let own : IsRowDrawn r frame closes s open_bars Elision above.cells (row ∷ more) = subst (λ name. IsRowDrawn r frame closes s open_bars name above.cells (row ∷ more)) elided drawn.0 in
+    let one : row.cells ∷ rows_below more ≡ [] = sym (ap (λ b. cond b [] (row.cells ∷ rows_below more)) other) ∙ own.1 in
+    absurd (omega (arith, ap length one))
+
+-- ---- cells that no row has left of the code
+
+-- a colon in place of the space after the separator of a line:
+--
+--     1 |:ab
+pub punctuation_left_of_the_code : (s : Snippet Annotation) (k dropped : ℕ) → ShowsSourceLine plain_settings frame s k dropped (text_cells LineNumber (codes "1") ++ SPACE ∷ text_cells LineNumber (codes "|:") ++ text_cells Quotation (codes "ab")) → ⊥
+punctuation_left_of_the_code s k dropped shown =
+    let letter : ◌≡◌ {A = ℕ} 58 32 = ap (λ (cell : Cell). cell.ch) shown.space in
+    absurd (omega (arith, letter))
+
+-- a full stop in the gutter of a row below a line, be it the last or not:
+--
+--     . | ^^
+pub punctuation_in_the_gutter : (closes : Bool) (cells : List Cell) → IsRowBelow Ascii frame closes (text_cells LineNumber (codes ".") ++ SPACE ∷ text_cells LineNumber (codes "|") ++ cells) → ⊥
+punctuation_in_the_gutter closes cells shown =
+    let letter : ◌≡◌ {A = ℕ} 46 32 = ap (λ (cell : Cell). cell.ch) (shown.left 0 (omega arith) ∙ bare_row_left Ascii 1 closes 0 (omega arith)) in
+    absurd (omega (arith, letter))

@@ -1,5 +1,5 @@
--- Rows in which a label is lost: each contradicts what is shown of labels.
-use Rattle.std.proofs.Common.{◌≡◌, ℕ, ◌+◌, ◌<◌, ◌≤◌, ◌==◌, ◌&&◌, cond, Bool, true, false, List, [], ◌∷◌, map, length, count_by, refl, sym, ap, subst, ◌∙◌, arith}
+-- Rows in which a label is lost, or a word stands that is none: each contradicts what is shown of labels.
+use Rattle.std.proofs.Common.{◌≡◌, ℕ, ◌+◌, ◌<◌, ◌≤◌, ◌==◌, ◌&&◌, cond, Bool, true, false, List, [], ◌∷◌, map, length, count_by, refl, sym, ap, subst, ◌∙◌, arith, inl, inr}
 use Rattle.std.specs.List.{All, Contains}
 use Rattle.std.specs.Prelude.{nat_le, nat_lt}
 use Rattle.std.proofs.lemmas.Bool.{false≢true}
@@ -8,14 +8,15 @@ use Rattle.std.proofs.lemmas.List.Elements.{All-contains, All-head, All-tail}
 use Rattle.std.proofs.lemmas.List.Sums.{sum_by-cons}
 use Rattle.snippet_grid.specs.Grid.{cell_at}
 use Rattle.snippet_style.specs.Cell.{Cell}
+use Rattle.snippet_style.specs.declared.glyphs.DecorStyle.{DecorStyle}
 use Rattle.snippet_style.specs.declared.role.ElementStyle.{ElementStyle}
-use Rattle.snippet_style.specs.declared.role.ElementStyle.TheVariants.{LabelPrimary, LabelSecondary}
+use Rattle.snippet_style.specs.declared.role.ElementStyle.TheVariants.{LabelPrimary, LabelSecondary, UnderlinePrimary, UnderlineSecondary}
 use Rattle.snippet_model.specs.declared.snippet.Annotation.{Annotation}
 use Rattle.snippet_model.specs.declared.snippet.AnnotationKind.{AnnotationKind}
 use Rattle.snippet_model.specs.declared.snippet.AnnotationKind.TheVariants.{Primary, Context, Visible}
 use Rattle.snippet_model.specs.declared.snippet.Snippet.{Snippet}
 use Rattle.snippet_strokes.proofs.MarkLemmas.{from_map}
-use Rattle.snippet_strokes.specs.Entries.{label_role}
+use Rattle.snippet_strokes.specs.Entries.{is_mark_role, label_role}
 use Rattle.annotate_snippets.specs.declared.renderer.frame.Frame.{Frame}
 use Rattle.annotate_snippets.specs.Shown.{ShowsLabel, ShowsLabels, ShownLabel, SpanLabel, is_in_label, labels_ending_on}
 
@@ -40,8 +41,8 @@ begins frame dropped rows l some shows =
 --
 --     1 | ab cd
 --       | ^^ --
-pub label_left_out : (frame : Frame) (s : Snippet Annotation) (k dropped : ℕ) (rows : List (List Cell)) → ShowsLabels frame s k dropped rows → (a : SpanLabel) → Contains (labels_ending_on s k) a → 0 < length a.text → ((r c : ℕ) → is_label_role (cell_at rows r c).role ≡ false) → ⊥
-label_left_out frame s k dropped rows shows a among some none =
+pub label_left_out : (decor : DecorStyle) (frame : Frame) (s : Snippet Annotation) (k dropped : ℕ) (rows : List (List Cell)) → ShowsLabels decor frame s k dropped rows → (a : SpanLabel) → Contains (labels_ending_on s k) a → 0 < length a.text → ((r c : ℕ) → is_label_role (cell_at rows r c).role ≡ false) → ⊥
+label_left_out decor frame s k dropped rows shows a among some none =
     let P : ShownLabel → Type 0 = λ l. 0 < length l.label.text → ShowsLabel frame dropped rows l in
     let found = from_map (λ (l : ShownLabel). l.label) shows.labels a (subst (λ spans. Contains spans a) (sym shows.spans) among) in
     let l : ShownLabel = found.0 in
@@ -57,8 +58,8 @@ Stands frame dropped rows l = 0 < length l.label.text → ShowsLabel frame dropp
 --
 --     1 | ab cd
 --       | ^^ -- x
-pub label_over_another : (frame : Frame) (s : Snippet Annotation) (k dropped : ℕ) (rows : List (List Cell)) → ShowsLabels frame s k dropped rows → (a b : SpanLabel) → labels_ending_on s k ≡ a ∷ b ∷ [] → 0 < length a.text → 0 < length b.text → (row cell : ℕ) → ((r c : ℕ) → is_label_role (cell_at rows r c).role ≡ true → (r ≡ row) × (c ≡ cell)) → ⊥
-label_over_another frame s k dropped rows shows a b spans some_a some_b row cell alone =
+pub label_over_another : (decor : DecorStyle) (frame : Frame) (s : Snippet Annotation) (k dropped : ℕ) (rows : List (List Cell)) → ShowsLabels decor frame s k dropped rows → (a b : SpanLabel) → labels_ending_on s k ≡ a ∷ b ∷ [] → 0 < length a.text → 0 < length b.text → (row cell : ℕ) → ((r c : ℕ) → is_label_role (cell_at rows r c).role ≡ true → (r ≡ row) × (c ≡ cell)) → ⊥
+label_over_another decor frame s k dropped rows shows a b spans some_a some_b row cell alone =
     over shows.labels (shows.spans ∙ spans) shows.stand (shows.apart row cell)
   where
     -- each of the two holds that cell
@@ -88,3 +89,37 @@ label_over_another frame s k dropped rows shows a b spans some_a some_b row cell
         let P : ShownLabel → Type 0 = Stands frame dropped rows in
         two (is_in_label row cell l) (is_in_label row cell m) (holds l own (All-head P l (m ∷ []) stand)) (holds m its (All-head P m [] (All-tail P l (m ∷ []) stand))) (omega (arith, few, sum_by-cons f l (m ∷ []), sum_by-cons f m []))
     over (l ∷ m ∷ n ∷ labels) are stand few = cc are
+
+-- no span that ends on line k has a label that shows anything
+abbrev pub HasNoLabel : Snippet Annotation → ℕ → Type 0
+HasNoLabel s k = All (λ (l : SpanLabel). l.text ≡ []) (labels_ending_on s k)
+
+-- a word below a line of whose spans none has a label that shows anything, here in the role of labels:
+--
+--     1 | ab
+--       | ^^ x
+pub stray_word_below_a_line : (decor : DecorStyle) (frame : Frame) (s : Snippet Annotation) (k dropped : ℕ) (rows : List (List Cell)) → ShowsLabels decor frame s k dropped rows → HasNoLabel s k → (r c : ℕ) → frame.code ≤ c → is_label_role (cell_at rows r c).role ≡ true → ⊥
+stray_word_below_a_line decor frame s k dropped rows shows none r c right label =
+    elim (shows.others r c right (no_cells shows.labels (subst (All (λ (l : SpanLabel). l.text ≡ [])) (sym shows.spans) none))) [
+      | inl space ↦ false≢true (sym (ap (λ (cell : Cell). is_label_role cell.role) space) ∙ label)
+      | inr stroke ↦ other_role (cell_at rows r c).role label stroke.1
+    ]
+  where
+    other_role : (role : ElementStyle) → is_label_role role ≡ true → is_mark_role role ≡ true → ⊥
+    other_role UnderlinePrimary is_label is_mark = cc is_label
+    other_role UnderlineSecondary is_label is_mark = cc is_label
+    other_role LabelPrimary is_label is_mark = cc is_mark
+    other_role LabelSecondary is_label is_mark = cc is_mark
+    other_role other is_label is_mark = cc
+
+    no_cell : (row cell n : ℕ) → n ≡ 0 → (row == r && (nat_le cell c && nat_lt c (cell + n))) ≡ false
+    no_cell row cell n is = grind (arith, nat_tests, is)
+
+    no_cells : (labels : List ShownLabel) → All (λ (l : SpanLabel). l.text ≡ []) (map (λ (l : ShownLabel). l.label) labels) → count_by (is_in_label r c) labels ≡ 0
+    no_cells [] empty = refl
+    no_cells (l ∷ labels) empty =
+        let E : SpanLabel → Type 0 = λ x. x.text ≡ [] in
+        let f : ShownLabel → ℕ = λ x. cond (is_in_label r c x) 1 0 in
+        let rest : List SpanLabel = map (λ (x : ShownLabel). x.label) labels in
+        let here : f l ≡ 0 = ap (λ b. cond b 1 0) (no_cell l.row l.cell (length l.label.text) (ap length (All-head E l.label rest empty))) in
+        omega (arith, sum_by-cons f l labels, here, no_cells labels (All-tail E l.label rest empty))

@@ -1,5 +1,5 @@
 -- What is not shown: rows that are wrong, each on a small report, contradict the definitions of what rows show.
-use Rattle.std.proofs.Common.{Option, Some, None, ◌≡◌, ℕ, zero, suc, ◌<◌, ◌≤◌, ◌==◌, ◌⊎◌, Bool, true, false, List, [], ◌∷◌, ◌++◌, codes, encode_utf8_all, length, drop, replicate, refl, sym, ap, subst, ◌∙◌, arith, inl, inr}
+use Rattle.std.proofs.Common.{Option, Some, None, ◌≡◌, ℕ, zero, suc, ◌+◌, ◌<◌, ◌≤◌, ◌==◌, ◌&&◌, ◌⊎◌, Bool, true, false, List, [], ◌∷◌, ◌++◌, codes, encode_utf8_all, length, drop, replicate, refl, sym, ap, subst, ◌∙◌, arith, inl, inr}
 use Rattle.std.specs.Char.{is_ascii_alphanumeric}
 use Rattle.std.specs.Cow.{cow_str_bytes}
 use Rattle.std.specs.List.{All, Contains, filter, slice_index_or}
@@ -36,6 +36,8 @@ use Rattle.annotate_snippets.specs.declared.renderer.frame.Frame.{Frame}
 use Rattle.annotate_snippets.specs.declared.renderer.element_context.ElementContext.{ElementContext}
 use Rattle.snippet_style.specs.Glyphs.{placeholder_of}
 use Rattle.annotate_snippets.specs.Shown.{cell_of, room_of, normalized_chars, shown_label, ShowsSourceLine, ShowsMarksOf, ShowsLineAndMarks, IsRowBelow, IsRowOf, AreRowsOf, ShowsSnippet}
+use Rattle.annotate_snippets.specs.Gutter.{number_text}
+use Rattle.annotate_snippets.proofs.LeftLaws.{separator_of_left, unnumbered_below, unnumbered_elided}
 use Rattle.annotate_snippets.proofs.ListLemmas.{Contains-head, Contains-tail, Contains-cons_cases, Contains-nil}
 
 -- ---- small reports, and their rows
@@ -214,10 +216,10 @@ named_first closes s is (SourceRow k) cells rows same shows =
 named_first closes s is (OfferedLine j) cells rows same shows = absurd shows
 named_first closes s is (RemovedLine i) cells rows same shows = absurd shows
 named_first closes s is Elision cells rows same shows =
-    let digit : true ≡ false = subst (λ row. is_ascii_alphanumeric (slice_index_or row 0 SPACE).ch ≡ false) same (shows.unnumbered 0 (omega arith)) in
+    let digit : true ≡ false = subst (λ row. is_ascii_alphanumeric (slice_index_or row 0 SPACE).ch ≡ false) same (unnumbered_elided Ascii frame cells shows 0 (omega arith)) in
     cc
 named_first closes s is Other cells rows same shows =
-    let digit : true ≡ false = subst (λ row. is_ascii_alphanumeric (slice_index_or row 0 SPACE).ch ≡ false) same (shows.unnumbered 0 (omega arith)) in
+    let digit : true ≡ false = subst (λ row. is_ascii_alphanumeric (slice_index_or row 0 SPACE).ch ≡ false) same (unnumbered_below Ascii frame (closes && length rows == 0) cells shows 0 (omega arith)) in
     cc
 
 -- ---- the laws
@@ -235,7 +237,8 @@ elided_row s is dropped shown =
 -- a separator in the role of marks, as a highlight that begins left of the code would leave it
 coloured_separator : (s : Snippet Annotation) (k dropped : ℕ) → ShowsSourceLine plain_settings frame s k dropped (text_cells LineNumber (codes "1") ++ SPACE ∷ text_cells UnderlinePrimary (codes "|") ++ SPACE ∷ text_cells Quotation (codes "ab")) → ⊥
 coloured_separator s k dropped shown =
-    let marked : true ≡ false = shown.unmarked 2 (omega arith) (omega arith) in
+    let shown_there : List ℕ = number_text plain_settings s.line_numbering 1 (s.line_start + k) in
+    let marked : true ≡ false = ap has_mark_role (separator_of_left Ascii 1 shown_there (text_cells LineNumber (codes "1") ++ SPACE ∷ text_cells UnderlinePrimary (codes "|") ++ SPACE ∷ text_cells Quotation (codes "ab")) shown.left) in
     cc
 
 -- a second copy of a line, here of `a`, whatever it is named: two rows that are named by one line don't ascend, whatever
@@ -245,7 +248,7 @@ coloured_separator s k dropped shown =
 --     1 | a
 second_copy : (k : ℕ) (row copy : NamedRow) (before between after : List NamedRow) (closes : Bool) → row.name ≡ SourceRow k → copy.name ≡ SourceRow k → (IsAscending (lines_named (before ++ (row ∷ (between ++ (copy ∷ after))))) → ⊥) × (IsRowBelow Ascii frame closes (source_row (codes "a")) → ⊥)
 second_copy k row copy before between after closes row_is copy_is =
-    (λ ascending. two_of_one k (lines_named before) (lines_named between) (lines_named after) (simp (filter_map-append, row_is, copy_is) at ascending), λ below. let digit : true ≡ false = below.unnumbered 0 (omega arith) in cc)
+    (λ ascending. two_of_one k (lines_named before) (lines_named between) (lines_named after) (simp (filter_map-append, row_is, copy_is) at ascending), λ below. let digit : true ≡ false = unnumbered_below Ascii frame closes (source_row (codes "a")) below 0 (omega arith) in cc)
 
 -- so no rows in which it stands twice show the snippet, wherever that stands: neither after those that it begins with nor
 -- before those below its lines
@@ -410,10 +413,10 @@ named_second closes s is (SourceRow (suc k)) cells rows same shows =
 named_second closes s is (OfferedLine j) cells rows same shows = absurd shows
 named_second closes s is (RemovedLine i) cells rows same shows = absurd shows
 named_second closes s is Elision cells rows same shows =
-    let digit : true ≡ false = subst (λ row. is_ascii_alphanumeric (slice_index_or row 0 SPACE).ch ≡ false) same (shows.unnumbered 0 (omega arith)) in
+    let digit : true ≡ false = subst (λ row. is_ascii_alphanumeric (slice_index_or row 0 SPACE).ch ≡ false) same (unnumbered_elided Ascii frame cells shows 0 (omega arith)) in
     cc
 named_second closes s is Other cells rows same shows =
-    let digit : true ≡ false = subst (λ row. is_ascii_alphanumeric (slice_index_or row 0 SPACE).ch ≡ false) same (shows.unnumbered 0 (omega arith)) in
+    let digit : true ≡ false = subst (λ row. is_ascii_alphanumeric (slice_index_or row 0 SPACE).ch ≡ false) same (unnumbered_below Ascii frame (closes && length rows == 0) cells shows 0 (omega arith)) in
     cc
 
 -- a list of one number holds no other

@@ -49,6 +49,7 @@ use Rattle.annotate_snippets.specs.declared.renderer.element_context.GroupPositi
 use Rattle.annotate_snippets.specs.declared.renderer.element_context.Next.{Next}
 use Rattle.annotate_snippets.specs.declared.renderer.element_context.Next.TheVariants as next
 use Rattle.annotate_snippets.specs.declared.renderer.element_context.ElementContext.{ElementContext}
+use Rattle.annotate_snippets.proofs.LeftLaws.{number_of_left}
 use Rattle.annotate_snippets.proofs.ListLemmas.{Contains-head, Contains-tail, Contains-cons_cases, Contains-nil}
 use Rattle.annotate_snippets.proofs.NotShown.{IsSnippetOf, frame, row_below, span_of}
 
@@ -65,10 +66,10 @@ note_unnumbered (suc zero) within = refl
 note_unnumbered (suc (suc c)) within = absurd (omega (arith, within))
 
 -- a snippet of the line `a`, which has number 1
-record IsLineA (s : Snippet Annotation) : Type 0 where
-  is : IsSnippetOf s (codes "a") (span_of Primary 0 1 ∷ [])
-  numbered : s.line_numbering ≡ true
-  first : s.line_start ≡ 1
+pub record IsLineA (s : Snippet Annotation) : Type 0 where
+  pub is : IsSnippetOf s (codes "a") (span_of Primary 0 1 ∷ [])
+  pub numbered : s.line_numbering ≡ true
+  pub first : s.line_start ≡ 1
 
 -- a row without a number isn't its line's
 digit_left_out : (row : List Cell) → HasNoNumber 1 row → row_text (take 1 row) ≡ codes "1" → ⊥
@@ -79,14 +80,14 @@ digit_left_out (c ∷ cs) none text =
     cc
 
 -- so it isn't named as the row of a line
-unnamed : (closes : Bool) (s : Snippet Annotation) → IsLineA s → (name : RowName) (cells : List Cell) (rows : List NamedRow) → HasNoNumber 1 cells → IsRowOf plain_settings frame closes s name cells rows → line_named name ≡ None
+pub unnamed : (closes : Bool) (s : Snippet Annotation) → IsLineA s → (name : RowName) (cells : List Cell) (rows : List NamedRow) → HasNoNumber 1 cells → IsRowOf plain_settings frame closes s name cells rows → line_named name ≡ None
 unfolding digits
 unnamed closes s is (SourceRow k) cells rows none shows =
     let within : k < 1 = subst (λ source. k < length (source_lines source)) is.is.source_is shows.line.within in
     let first : k ≡ 0 = omega arith in
     let IsNumber : Bool → ℕ → Type 0 = λ numbered number. row_text (take (length (number_text plain_settings numbered 1 number)) cells) ≡ number_text plain_settings numbered 1 number in
     let one : s.line_start + k ≡ 1 = omega (arith, first, is.first) in
-    let text : row_text (take 1 cells) ≡ codes "1" = subst (IsNumber true) one (subst (λ numbered. IsNumber numbered (s.line_start + k)) is.numbered shows.line.number) in
+    let text : row_text (take 1 cells) ≡ codes "1" = subst (IsNumber true) one (subst (λ numbered. IsNumber numbered (s.line_start + k)) is.numbered (number_of_left Ascii 1 (number_text plain_settings s.line_numbering 1 (s.line_start + k)) cells shows.line.left)) in
     absurd (digit_left_out cells none text)
 unnamed closes s is Elision cells rows none shows = refl
 unnamed closes s is (OfferedLine j) cells rows none shows = refl

@@ -1,20 +1,15 @@
 -- The rows of an annotated snippet's lines, with their names.
-use Rattle.std.proofs.Common.{◌≡◌, ℕ, zero, suc, ◌+◌, ◌<◌, ◌≤◌, ◌==◌, ◌&&◌, ltb, Bool, true, false, cond, List, [], ◌∷◌, ◌++◌, map, length, get_or, replicate, refl, sym, ap, subst, ◌∙◌, arith, inl, inr}
+use Rattle.std.proofs.Common.{◌≡◌, ℕ, suc, ◌+◌, ◌<◌, ◌≤◌, ◌==◌, ◌&&◌, ltb, Bool, true, false, cond, List, [], ◌∷◌, ◌++◌, map, length, refl, sym, ap, subst, ◌∙◌, arith, inl, inr}
 use Rattle.std.specs.List.{All}
 use Rattle.std.specs.Cow.{cow_str_bytes}
-use Rattle.std.specs.Char.{is_ascii_alphanumeric}
 use Rattle.std.proofs.lemmas.Bool.{le-ltb, lt-ltb}
 use Rattle.std.proofs.lemmas.Bool.Decides.{nat_tests}
-use Rattle.std.proofs.lemmas.List.{append_assoc, get_or-replicate, get_or_append_left, length-append, length-map, length-replicate, map-append}
+use Rattle.std.proofs.lemmas.List.{append_assoc, length-append, length-map, map-append}
 use Rattle.std.proofs.lemmas.List.Elements.{All-head, All-tail}
 use Rattle.snippet_model.specs.declared.snippet.Annotation.{Annotation}
 use Rattle.snippet_model.specs.declared.snippet.Snippet.{Snippet}
 use Rattle.snippet_grid.specs.Grid.{row_at}
-use Rattle.snippet_style.specs.Cell.{Cell, SPACE, text_cells}
-use Rattle.snippet_style.specs.Glyphs.{elision_of}
-use Rattle.snippet_style.specs.declared.role.ElementStyle.TheVariants.{LineNumber}
-use Rattle.snippet_style.specs.declared.glyphs.DecorStyle.{DecorStyle}
-use Rattle.snippet_style.specs.declared.glyphs.DecorStyle.TheVariants.{Ascii, Unicode}
+use Rattle.snippet_style.specs.Cell.{Cell}
 use Rattle.snippet_view.specs.declared.entries.AnnotatedLineInfo.{AnnotatedLineInfo}
 use Rattle.snippet_view.specs.declared.margin.Margin.{Margin}
 use Rattle.snippet_view.specs.Annotated.{KeptLine, kept_line, seen_kept}
@@ -23,7 +18,6 @@ use Rattle.snippet_view.specs.Margin.{bounds_of}
 use Rattle.snippet_lines.specs.Span.{IsSpan}
 use Rattle.snippet_lines.specs.Number.{shown_number}
 use Rattle.snippet_strokes.specs.Bars.{Bar, open_below, open_past}
-use Rattle.snippet_strokes.specs.Rows.{bare_elision_row}
 use Rattle.snippet_strokes.specs.Snippet as strokes
 use Rattle.annotate_snippets.specs.declared.renderer.Renderer.{Renderer}
 use Rattle.annotate_snippets.specs.declared.renderer.frame.Frame.{Frame}
@@ -66,16 +60,7 @@ names_in-others (row ∷ rows) more = names_in-others rows more
 some_more : (m n : ℕ) → (suc m == 0) ≡ (suc n == 0)
 some_more m n = grind (arith, nat_tests)
 
--- no letter or digit stands in the gutter of a row in place of lines that are left out
-elision_unnumbered : (decor : DecorStyle) (gutter c : ℕ) → c ≤ gutter → is_ascii_alphanumeric (get_or (bare_elision_row decor gutter) c SPACE).ch ≡ false
-elision_unnumbered Ascii gutter zero left = refl
-elision_unnumbered Ascii gutter (suc zero) left = refl
-elision_unnumbered Ascii gutter (suc (suc zero)) left = refl
-elision_unnumbered Ascii gutter (suc (suc (suc c))) left = refl
-elision_unnumbered Unicode gutter c left =
-    ap (λ (cell : Cell). is_ascii_alphanumeric cell.ch) (get_or_append_left (replicate (gutter + 1) SPACE) (text_cells LineNumber (elision_of Unicode)) SPACE c (omega (arith, left, length-replicate (gutter + 1) SPACE)) ∙ get_or-replicate (gutter + 1) c SPACE SPACE (omega (arith, left)))
-
-module _ (r : Renderer) (frame : Frame) (s : Snippet Annotation) (spans : All (λ a. IsSpan (cow_str_bytes s.source) a.span.start a.span.end) s.markers.items) (margin : Margin) (room : margin.term_width ≡ room_of r frame) (bounds : bounds_of margin ≡ bounds_in r frame s) (ordered : (bounds_of margin).left ≤ (bounds_of margin).right) (closes : Bool) where
+module _ (r : Renderer) (frame : Frame) (s : Snippet Annotation) (spans : All (λ a. IsSpan (cow_str_bytes s.source) a.span.start a.span.end) s.markers.items) (margin : Margin) (room : margin.term_width ≡ room_of r frame) (bounds : bounds_of margin ≡ bounds_in r frame s) (ordered : (bounds_of margin).left ≤ (bounds_of margin).right) (place : frame.gutter + 3 ≤ frame.code) (closes : Bool) where
   abbrev own_lines : ℕ
   own_lines = length (source_lines (cow_str_bytes s.source))
 
@@ -90,9 +75,9 @@ module _ (r : Renderer) (frame : Frame) (s : Snippet Annotation) (spans : All (�
   line_and_marks last open_bars k info rows more within seen fits shows ends =
       record {
         dropped = shows.dropped;
-        line = source_line r frame s spans margin room bounds ordered last open_bars k info rows within seen fits shows;
+        line = source_line r frame s spans margin room bounds ordered last open_bars k info rows within seen fits shows place;
         marks = λ qualifies. subst (λ row. ShowsMarksOf r.decor_style frame s k shows.dropped row) (sym (below-first shows.below more (marks_there r frame s spans margin room bounds ordered last open_bars k info rows within seen fits shows qualifies))) (marks_of_line r frame s spans margin room bounds ordered last open_bars k info rows within seen fits shows qualifies);
-        labels = λ uncut. subst (λ lower. ShowsLabels frame s k shows.dropped lower) (sym (below-own shows.below more ends)) (labels_of_line r frame s spans margin room bounds ordered last open_bars k info rows within seen fits shows uncut);
+        labels = λ uncut. subst (λ lower. ShowsLabels r.decor_style frame s k shows.dropped lower) (sym (below-own shows.below more ends)) (labels_of_line r frame s spans margin room bounds ordered last open_bars k info rows within seen fits shows uncut);
       }
 
   -- rows below a line, with the last of which the window closes where no row stands after
@@ -135,10 +120,10 @@ module _ (r : Renderer) (frame : Frame) (s : Snippet Annotation) (spans : All (�
     pub are : (more : List NamedRow) → AreRowsOf r frame closes s more → AreRowsOf r frame closes s (gap ++ more)
     pub ends : (more : List NamedRow) → (length more == 0) ≡ (length ks == 0) → (length (gap ++ more) == 0) ≡ (length ks == 0)
     pub begins : (more : List NamedRow) → rows_below more ≡ [] → rows_below (gap ++ more) ≡ []
-    pub drawn : (more : List NamedRow) → AreRowsDrawn r frame closes s open_bars more → AreRowsDrawn r frame closes s open_bars (gap ++ more)
+    pub drawn : (more : List NamedRow) → rows_below more ≡ [] → AreRowsDrawn r frame closes s open_bars more → AreRowsDrawn r frame closes s open_bars (gap ++ more)
 
   gap_named : (open_bars : List Bar) (j : ℕ) (ks : List ℕ) (info : AnnotatedLineInfo) (infos : List AnnotatedLineInfo) (rows : List (List Cell)) → seen_kept info ≡ line_of_snippet j → map seen_kept infos ≡ map line_of_snippet ks → strokes.IsGap (layout_in r frame) open_bars info.line_index infos rows → IsGapNamed open_bars j ks rows
-  gap_named open_bars j [] info [] rows here lines gap = record { gap = []; cells = sym gap; lines = λ more. refl; names = λ more none. ap (λ names. SourceRow j ∷ names) none; are = λ more are. are; ends = λ more same. same; begins = λ more none. none; drawn = λ more drawn. drawn }
+  gap_named open_bars j [] info [] rows here lines gap = record { gap = []; cells = sym gap; lines = λ more. refl; names = λ more none. ap (λ names. SourceRow j ∷ names) none; are = λ more are. are; ends = λ more same. same; begins = λ more none. none; drawn = λ more none drawn. drawn }
   gap_named open_bars j [] info (next ∷ infos) rows here lines gap = cc
   gap_named open_bars j (k ∷ ks) info [] rows here lines gap = cc
   gap_named open_bars j (k ∷ ks) info (next ∷ infos) rows here lines gap =
@@ -154,10 +139,10 @@ module _ (r : Renderer) (frame : Frame) (s : Snippet Annotation) (spans : All (�
               cells = sym left_out.2;
               lines = λ more. refl;
               names = λ more named. ap (λ names. SourceRow j ∷ Elision ∷ names) named ∙ sym (ap (λ b. cond b (SourceRow j ∷ Elision ∷ names_of_lines (k ∷ ks)) (SourceRow j ∷ names_of_lines (k ∷ ks))) far);
-              are = λ more are. (record { unnumbered = λ c left. ap (λ (cell : Cell). is_ascii_alphanumeric cell.ch) (left_out.3.left c (omega arith)) ∙ elision_unnumbered r.decor_style frame.gutter c left; is = left_out.3 }, are);
+              are = λ more are. (record { is = left_out.3 }, are);
               ends = λ more same. some_more (length more) (length ks);
               begins = λ more none. refl;
-              drawn = λ more drawn. (left_out.4, drawn);
+              drawn = λ more none drawn. ((left_out.4, none), drawn);
             }
         | inr next_to ↦
             let near : ltb (j + 1) k ≡ false = le-ltb (j + 1) k (omega (arith, own, its, next_to.0)) in
@@ -169,7 +154,7 @@ module _ (r : Renderer) (frame : Frame) (s : Snippet Annotation) (spans : All (�
               are = λ more are. are;
               ends = λ more same. same;
               begins = λ more none. none;
-              drawn = λ more drawn. drawn;
+              drawn = λ more none drawn. drawn;
             }
       ]
 
@@ -216,11 +201,11 @@ module _ (r : Renderer) (frame : Frame) (s : Snippet Annotation) (spans : All (�
         cells = ap (λ rs. shows.source ∷ rs) (cells_of-append (others shows.below) after ∙ ap (λ rs. rs ++ cells_of after) (cells_of-others shows.below) ∙ ap (λ rs. shows.below ++ rs) (cells_of-append between.gap rest.part ∙ ap (λ rs. rs ++ cells_of rest.part) between.cells ∙ ap (λ rs. shown.1 ++ rs) rest.cells)) ∙ ap (λ rs. rs ++ (shown.1 ++ shown.2)) (sym shows.rows_are) ∙ sym (append_assoc shown.0 shown.1 shown.2) ∙ sym shown.3;
         lines = ap (λ js. k ∷ js) (lines_named-others shows.below after ∙ between.lines rest.part ∙ rest.lines);
         names = ap (λ names. SourceRow k ∷ names) (names_in-others shows.below after) ∙ between.names rest.part rest.names;
-        are = (line_and_marks (closes && last) open_bars k info shown.0 after (All-head (λ j. j < own_lines) k ks within) here (All-head NumberFits info infos fit) shows (between.begins rest.part rest.begins), others_are last shows.below after ends (λ i inside. row_below r.decor_style frame (closes && last) _ _ shows.below i inside shows.unnumbered (shows.strokes.are i inside)) (between.are rest.part rest.are));
+        are = (line_and_marks (closes && last) open_bars k info shown.0 after (All-head (λ j. j < own_lines) k ks within) here (All-head NumberFits info infos fit) shows (between.begins rest.part rest.begins), others_are last shows.below after ends (λ i inside. row_below r.decor_style frame (closes && last) _ _ shows.below i (shows.strokes.are i inside)) (between.are rest.part rest.are));
         ends = some_more (length (others shows.below ++ after)) (length ks);
         begins = refl;
         drawn = (
           subst (λ below. IsLineDrawn r frame (closes && length below == length (others shows.below ++ after)) s open_bars k (shows.source ∷ below)) (sym (below-own shows.below after (between.begins rest.part rest.begins))) (subst (λ b. IsLineDrawn r frame b s open_bars k (shows.source ∷ shows.below)) (sym (last_is shows.below after last ends)) (line_drawn r frame s margin room bounds (closes && last) open_bars k info shown.0 here shows)),
-          subst (λ bs. AreRowsDrawn r frame closes s bs (others shows.below ++ after)) (open_seen open_bars k info here) (others_drawn open_now shows.below after (between.drawn rest.part rest.drawn)),
+          subst (λ bs. AreRowsDrawn r frame closes s bs (others shows.below ++ after)) (open_seen open_bars k info here) (others_drawn open_now shows.below after (between.drawn rest.part rest.begins rest.drawn)),
         );
       }

@@ -18,7 +18,6 @@ use Rattle.annotate_snippets.proofs.ListLemmas.{Contains-filter, Contains-map}
 use Rattle.std.proofs.lemmas.List.{length-map}
 use Rattle.std.proofs.lemmas.List.Sums.{count_by-le-length, length-filter}
 use Rattle.snippet_model.specs.Fits.{AnnotationFits}
-use Rattle.snippet_view.specs.declared.depths.LongExtent.{LongExtent}
 use Rattle.snippet_view.specs.declared.entries.LineAnnotation.{LineAnnotation}
 use Rattle.snippet_view.specs.declared.entries.LineAnnotationType.{LineAnnotationType}
 use Rattle.snippet_view.specs.declared.entries.LineAnnotationType.TheVariants.{Singleline, MultilineStart, MultilineEnd, MultilineLine}
@@ -27,7 +26,7 @@ use Rattle.snippet_view.specs.Entries.{Ascends, HasDepthWithin, HasRoom}
 use Rattle.snippet_view.proofs.EntryFacts.{depths-fit, each-line, labels-fit, places-fit, texts-fit, untouched-parts, wide-count}
 use Rattle.snippet_view.proofs.MarginLaws.{margin_of_kept, margin_whole}
 use Rattle.snippet_view.proofs.ShownFacts.{first-shown, last-shown, shown-ascends, shown-within}
-use Rattle.snippet_view.specs.Depths.{greatest_raw_depth, places_of, raw_depth, same_place, share_line}
+use Rattle.snippet_view.specs.Depths.{places_of}
 use Rattle.snippet_view.specs.Annotated.{KeptLine, PartEntry, seen_part, annotated_lines, deepest, is_long, kept_line, long_entry, long_place, long_places, long_spans, parts_on, seen_kept, single_part, stands_before}
 use Rattle.snippet_lines.specs.Order.{ordered_by, put_in}
 use Rattle.snippet_view.specs.Kept.{shown_lines}

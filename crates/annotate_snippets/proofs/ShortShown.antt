@@ -3,10 +3,9 @@ use Rattle.std.proofs.Common.{◌≡◌, ◌∙◌, ℕ, ◌<◌, ◌==◌, Bool
 use Rattle.std.specs.Char.{is_whitespace}
 use Rattle.std.specs.Cow.{cow_str_bytes}
 use Rattle.std.specs.List.{AllZip, Contains, cons_option, filter_map, flat_map, join_with_byte, list_all, list_any, slice_get, slice_index_or}
-use Rattle.std.specs.Option.{option_map, option_to_list}
+use Rattle.std.specs.Option.{option_map}
 use Rattle.std.specs.declared.alloc.Global.{Global}
 use Rattle.std.specs.declared.borrow.CowStr.{CowStr}
-use Rattle.std.proofs.lemmas.Bool.Decides.{nat_tests}
 use Rattle.std.proofs.lemmas.List.{append-nil, append_assoc}
 use Rattle.std.proofs.lemmas.List.Elements.{All-append, All-cons, All-filter, All-get_or, All-head, All-nil, All-tail, All-weaker, Contains-append_left}
 use Rattle.std.proofs.lemmas.List.Splits.{length-slice_split}
@@ -15,7 +14,6 @@ use Rattle.snippet_model.specs.Heading.{Heading, heading_of_title}
 use Rattle.snippet_model.specs.Trusted.{trusted_of_element, trusted_texts}
 use Rattle.snippet_model.specs.declared.snippet.Annotation.{Annotation}
 use Rattle.snippet_model.specs.declared.snippet.Group.{Group}
-use Rattle.snippet_model.specs.declared.snippet.Id.{Id}
 use Rattle.snippet_model.specs.declared.snippet.Snippet.{Snippet}
 use Rattle.snippet_model.specs.declared.snippet.Title.{Title}
 use Rattle.snippet_view.specs.Annotated.{KeptLine, annotated_lines, is_long}
@@ -31,18 +29,16 @@ use Rattle.snippet_style.specs.declared.role.LevelInner.{LevelInner}
 use Rattle.snippet_style.specs.declared.stylesheet.Stylesheet.{Stylesheet}
 use Rattle.snippet_grid.proofs.WovenLemmas.{IsWoven-from_prints, plain_woven}
 use Rattle.snippet_text.specs.Normalized.{is_listed, norm}
-use Rattle.snippet_text.proofs.NormLemmas.{list_any-norm}
 use Rattle.snippet_titles.proofs.ShortLaws.{short-free, short-links, short-texts}
 use Rattle.snippet_titles.specs.Heading.{shown_text, heading_lines, indent_cells, label_text, label_width}
 use Rattle.snippet_titles.specs.Origin.{origin_text, place_text}
 use Rattle.snippet_titles.specs.Short.{with_end}
 use Rattle.snippet_titles.specs.Shown.{IsFreeButText, texts_below}
-use Rattle.snippet_titles.specs.Title.{id_links, text_links}
+use Rattle.snippet_titles.specs.Title.{id_links}
 use Rattle.snippet_titles.specs.declared.style.TitleStyle.TheVariants as style
 use Rattle.snippet_titles.specs.declared.origin.OriginLocation.{OriginLocation}
-use Rattle.snippet_titles.proofs.DigitLemmas.{IsDigit}
 use Rattle.snippet_titles.proofs.OriginText.{place_text-each}
-use Rattle.snippet_titles.proofs.OriginFree.{each-fails, digit-unlisted}
+use Rattle.snippet_titles.proofs.OriginFree.{digit-unlisted}
 use Rattle.annotate_snippets.specs.Around.{path_bytes}
 use Rattle.annotate_snippets.specs.Drawn.{IsShortPage}
 use Rattle.annotate_snippets.specs.Forms.{BeginsWithPlace, ShortShown, ShowsShort, short_links}

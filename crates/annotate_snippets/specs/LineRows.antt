@@ -60,12 +60,14 @@ pub record IsLineDrawn (r : Renderer) (frame : Frame) (closes : Bool) (s : Snipp
   pub highlights : IsHighlighted frame.code dropped (filter (λ e. not (is_end_part e.annotation_type)) entries) plain highlighted
   pub drawn : AreLineRows (layout_in r frame) margin.term_width closes text dropped open_bars entries highlighted rows
 
--- a row of a snippet's lines, with the rows after it, where these bars are open above it: the rows of a line, or the one in place of
--- lines that are left out, with the bars that run past these. A row below a line is one of that line's
+-- a row of a snippet's lines, with the rows after it, where these bars are open above it: the rows of a line; or the one in place of
+-- lines that are left out, with the bars that run past these, and no row that belongs to it below. A row below a line is one of that
+-- line's
 abbrev pub IsRowDrawn : Renderer → Frame → Bool → Snippet Annotation → List Bar → RowName → List Cell → List NamedRow → Type 0
 IsRowDrawn r frame closes s open_bars (SourceRow k) row rows =
     IsLineDrawn r frame (closes && length (rows_below rows) == length rows) s open_bars k (row ∷ rows_below rows)
-IsRowDrawn r frame closes s open_bars Elision row rows = row ≡ gap_row (layout_in r frame) open_bars
+IsRowDrawn r frame closes s open_bars Elision row rows =
+    (row ≡ gap_row (layout_in r frame) open_bars) × (rows_below rows ≡ [])
 IsRowDrawn r frame closes s open_bars (OfferedLine j) row rows = Unit {0}
 IsRowDrawn r frame closes s open_bars (RemovedLine i) row rows = Unit {0}
 IsRowDrawn r frame closes s open_bars Other row rows = Unit {0}

@@ -1,12 +1,13 @@
 -- What the page of a report shows.
 use Rattle.snippet_style.specs.Stylesheet.{is_plain_sheet}
-use Rattle.std.specs.Prelude.{◌≡◌, ◌⊎◌, ℕ, ◌+◌, ◌-◌, ◌<◌, ◌≤◌, ◌==◌, ◌&&◌, nat_le, nat_lt, max, Bool, true, false, List, [], ◌∷◌, ◌++◌, All, Contains, Option, Some, None, filter, length, map, take, drop, chars, if◌then◌else◌, encode_utf8_all}
+use Rattle.std.specs.Prelude.{◌≡◌, ◌⊎◌, ℕ, ◌+◌, ◌-◌, ◌<◌, ◌≤◌, ◌==◌, ◌&&◌, nat_le, nat_lt, max, Bool, true, false, List, [], ◌∷◌, ◌++◌, All, Contains, Option, Some, None, filter, length, map, take, drop, replicate, chars, if◌then◌else◌, encode_utf8_all}
 use Rattle.std.specs.List.{AllZip, flat_map, count_by, list_any, slice_get, slice_index_or}
 use Rattle.std.specs.Option.{option_map, option_to_list}
 use Rattle.std.specs.Char.{is_ascii_alphanumeric}
 use Rattle.std.specs.Cow.{cow_str_bytes}
 use Rattle.snippet_grid.specs.Grid.{cell_at, row_at}
-use Rattle.snippet_style.specs.Cell.{Cell, SPACE, unlinked_cell}
+use Rattle.snippet_style.specs.Cell.{Cell, SPACE, text_cells, unlinked_cell}
+use Rattle.snippet_style.specs.declared.role.ElementStyle.TheVariants.{LineNumber}
 use Rattle.snippet_grid.specs.Print.{row_text}
 use Rattle.snippet_style.specs.declared.glyphs.DecorStyle.{DecorStyle}
 use Rattle.snippet_style.specs.declared.role.LevelInner.{LevelInner}
@@ -40,10 +41,11 @@ use Rattle.snippet_view.specs.Mark.{is_marked_on, is_marking, is_wide, qualifies
 use Rattle.snippet_view.specs.Location.{IsLocation}
 use Rattle.snippet_view.specs.declared.location.Location.{Location}
 use Rattle.snippet_view.specs.Window.{chars_at, stands_whole, IsWindowOf}
-use Rattle.snippet_model.specs.Rows.{HasNoNumber, IsFree}
-use Rattle.snippet_style.specs.Glyphs.{separator_of, closing_of, placeholder_of}
+use Rattle.snippet_model.specs.Rows.{IsFree}
+use Rattle.snippet_style.specs.Glyphs.{separator_of, placeholder_of}
 use Rattle.snippet_strokes.specs.Entries.{IsMarkCell, IsBarCell, has_mark_role, label_role}
-use Rattle.snippet_strokes.specs.Rows.{IsElisionRow}
+use Rattle.snippet_strokes.specs.Labels.{IsStrokeCell}
+use Rattle.snippet_strokes.specs.Rows.{IsElisionRow, bare_row}
 use Rattle.snippet_titles.specs.Heading.{heading_rows}
 use Rattle.snippet_titles.specs.Origin.{origin_text, padding_row}
 use Rattle.snippet_titles.specs.Shown.{IsFreeButText, LinksId, heading_texts}
@@ -125,17 +127,20 @@ abbrev pub HasBarsAlone : DecorStyle → Frame → List Cell → Type 0
 HasBarsAlone decor frame row =
     (c : ℕ) → frame.gutter + 3 ≤ c → c < frame.code → IsBarCell decor (slice_index_or row c SPACE)
 
--- the row shows line k: its number in the gutter, the separator after it and no letter or digit between them and the code,
--- where nothing but bars stands, left of which no cell is in the role of marks; and from the code's cell to its end the window
+-- what stands left of the bars beside a line: what the gutter shows there, spaces up to the separator, and the separator
+abbrev pub cells_left : DecorStyle → ℕ → List ℕ → List Cell
+cells_left decor gutter shown =
+    text_cells LineNumber shown ++ (replicate (gutter + 1 - length shown) SPACE ++ text_cells LineNumber (separator_of decor ∷ []))
+
+-- the row shows line k: left of the code its number, the separator after it, a space and bars, and nothing else, each in its role; so
+-- the number is what is read, and no cell there is in the role of marks but a bar's. From the code's cell to its end stands the window
 -- of the line's normalised text between the snippet's bounds, left of which so many columns are dropped; where the line stands
 -- whole, all of it
 pub record ShowsSourceLine (r : Renderer) (frame : Frame) (s : Snippet Annotation) (k dropped : ℕ) (row : List Cell) : Type 0 where
   pub within : k < length (source_lines (cow_str_bytes s.source))
-  pub number : let shown = number_text r s.line_numbering frame.gutter (s.line_start + k) in row_text (take (length shown) row) ≡ shown
-  pub separator : (slice_index_or row (frame.gutter + 1) SPACE).ch ≡ separator_of r.decor_style
-  pub beside : (c : ℕ) → length (number_text r s.line_numbering frame.gutter (s.line_start + k)) ≤ c → c < frame.code → is_ascii_alphanumeric (slice_index_or row c SPACE).ch ≡ false
+  pub left : take (frame.gutter + 2) row ≡ cells_left r.decor_style frame.gutter (number_text r s.line_numbering frame.gutter (s.line_start + k))
+  pub space : slice_index_or row (frame.gutter + 2) SPACE ≡ SPACE
   pub bars : HasBarsAlone r.decor_style frame row
-  pub unmarked : (c : ℕ) → c < frame.gutter + 3 → c < frame.code → has_mark_role (slice_index_or row c SPACE) ≡ false
   pub window : IsWindowOf (placeholder_of r.decor_style) (room_of r frame) (wide_spans (room_of r frame) (length (placeholder_of r.decor_style)) s k) (bounds_in r frame s).left (bounds_in r frame s).right (norm (chars_at (cow_str_bytes s.source) k)) dropped (row_text (drop frame.code row))
   pub whole : stands_whole (room_of r frame) (length (placeholder_of r.decor_style)) s.fold (cow_str_bytes s.source) s.markers.items k ≡ true → (dropped ≡ 0) × (row_text (drop frame.code row) ≡ norm (chars_at (cow_str_bytes s.source) k))
 
@@ -196,13 +201,15 @@ pub record ShowsLabel (frame : Frame) (dropped : ℕ) (rows : List (List Cell)) 
   pub whole : (n : ℕ) → n < length l.label.text → cell_at rows l.row (l.cell + n) ≡ unlinked_cell (label_role l.label.kind) (slice_index_or l.label.text n 0)
   pub place : ((l.row ≡ 0) × (l.cell ≡ frame.code + max (l.label.to - dropped) 1 + 1)) ⊎ ((0 < l.row) × (l.cell ≡ cell_of frame dropped l.label.from))
 
--- no label of line k is lost: of the spans that end on it, each that has a label to show has it in the rows below the line, whole; and
--- no cell belongs to two labels, so that two of the same words stand twice
-pub record ShowsLabels (frame : Frame) (s : Snippet Annotation) (k dropped : ℕ) (rows : List (List Cell)) : Type 0 where
+-- no label of line k is lost: of the spans that end on it, each that has a label to show has it in the rows below the line, whole;
+-- no cell belongs to two labels, so that two of the same words stand twice; and each cell of these rows that belongs to none, from the
+-- code's on, is a space or the glyph of a stroke, so that no other word stands there
+pub record ShowsLabels (decor : DecorStyle) (frame : Frame) (s : Snippet Annotation) (k dropped : ℕ) (rows : List (List Cell)) : Type 0 where
   pub labels : List ShownLabel
   pub spans : map (λ (l : ShownLabel). l.label) labels ≡ labels_ending_on s k
   pub stand : All (λ l. 0 < length l.label.text → ShowsLabel frame dropped rows l) labels
   pub apart : (r c : ℕ) → count_by (is_in_label r c) labels ≤ 1
+  pub others : (r c : ℕ) → frame.code ≤ c → count_by (is_in_label r c) labels ≡ 0 → IsStrokeCell decor (cell_at rows r c)
 
 -- a source row of line k, with the row right below it, and all rows that belong to it: it shows the line, and where the line
 -- qualifies for the promise on marks the row below has its marks. Where no span is cut for being wide, no label is lost
@@ -210,24 +217,17 @@ pub record ShowsLineAndMarks (r : Renderer) (frame : Frame) (s : Snippet Annotat
   pub dropped : ℕ
   pub line : ShowsSourceLine r frame s k dropped row
   pub marks : qualifies_for_marks (room_of r frame) (length (placeholder_of r.decor_style)) (cow_str_bytes s.source) s.markers.items k ≡ true → ShowsMarksOf r.decor_style frame s k dropped below
-  pub labels : wide_spans (room_of r frame) (length (placeholder_of r.decor_style)) s k ≡ 0 → ShowsLabels frame s k dropped rows
+  pub labels : wide_spans (room_of r frame) (length (placeholder_of r.decor_style)) s k ≡ 0 → ShowsLabels r.decor_style frame s k dropped rows
 
--- a row has these characters after the gutter, from the cell on at which separators stand
-abbrev pub HasStroke : ℕ → List ℕ → List Cell → Type 0
-HasStroke gutter text row =
-    (c : ℕ) → c < length text → (slice_index_or row (gutter + 1 + c) SPACE).ch ≡ slice_index_or text c 32
-
--- a row below that of a line: no letter or digit in the gutter, so that it can't be taken for the row of a line, and after it
--- the separator, or where the group's window closes with the row the closing glyph; between that and the code nothing but bars
+-- a row below that of a line: up to the bars it has just the cells of a separator row, or where the group's window closes with it
+-- those of a closing row, so that it can't be taken for the row of a line; and between these and the code nothing but bars
 pub record IsRowBelow (decor : DecorStyle) (frame : Frame) (closes : Bool) (row : List Cell) : Type 0 where
-  pub unnumbered : HasNoNumber frame.gutter row
-  pub stroke : HasStroke frame.gutter (if closes then closing_of decor else separator_of decor ∷ []) row
+  pub left : (c : ℕ) → c < frame.gutter + 3 → slice_index_or row c SPACE ≡ slice_index_or (bare_row decor frame.gutter closes) c SPACE
   pub bars : HasBarsAlone decor frame row
 
--- a row in place of lines that are left out: no letter or digit in the gutter, what stands for such lines, bars that run past
--- them, and nothing more
+-- a row in place of lines that are left out: up to the bars it has just the cells of what stands for such lines, so that it can't
+-- be taken for the row of a line; bars that run past them, and nothing more
 pub record IsElided (decor : DecorStyle) (frame : Frame) (row : List Cell) : Type 0 where
-  pub unnumbered : HasNoNumber frame.gutter row
   pub is : IsElisionRow (record { gutter = frame.gutter; code = frame.code; decor = decor }) row
 
 -- a row of an annotated snippet's lines, with the rows below it, is what its name says; the group's window may close with the
@@ -257,7 +257,8 @@ pub record NamesLocation (r : Renderer) (frame : Frame) (s : Snippet Annotation)
 -- left out, and each row is what its name says; and below them what sets off a message, or closes the group. So each line on which
 -- a span begins or ends has one source row, and source rows of greater lines stand lower. Where the snippet is of the group's
 -- primary file and has a path and spans that are marked, none of several lines, the first row names the first of their places.
--- All rows of a line are what its entries, and the bars that are open above it, make of the row that holds the line alone
+-- All rows of a line are what its entries, and the bars that are open above it, make of the row that holds the line alone; and no other
+-- row stands there, neither above the first line nor below a row in place of lines
 pub record ShowsSnippet (r : Renderer) (frame : Frame) (around : ElementContext) (s : Snippet Annotation) (rows : List NamedRow) : Type 0 where
   pub after : List NamedRow
   pub rows_are : rows ≡ others (cause_head r frame around s) ++ (after ++ others (rows_after_cause r frame around))
@@ -268,6 +269,7 @@ pub record ShowsSnippet (r : Renderer) (frame : Frame) (around : ElementContext)
   pub ordered : IsAscending (lines_named after)
   pub named : AreRowsOf r frame (closes_with around) s after
   pub drawn : AreRowsDrawn r frame (closes_with around) s [] after
+  pub begins : rows_below after ≡ []
 
 -- the row offers line j of the patched source: its number in the gutter, a separator, `+` or the glyph of a changed line after
 -- it and no other letter or digit between them and the line; and three cells after the gutter, to the row's end, the
