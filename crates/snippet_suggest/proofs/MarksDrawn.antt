@@ -1,5 +1,5 @@
 -- Marks as values: what the patches before one move, and the cells that the marks take.
-use Rattle.std.proofs.Common.{◌≡◌, ℕ, zero, suc, ◌+◌, ◌-◌, ◌^◌, ◌<◌, ◌≤◌, leb, Bool, true, false, All, List, [], ◌∷◌, ◌++◌, length, max, min, map, replicate, take, drop, get_or, refl, sym, ap, ◌∙◌, arith, inl, inr, subst, sum_by, filter}
+use Rattle.std.proofs.Common.{◌≡◌, ℕ, suc, ◌+◌, ◌-◌, ◌^◌, ◌<◌, ◌≤◌, leb, All, List, [], ◌∷◌, ◌++◌, length, max, min, replicate, take, get_or, refl, sym, ap, ◌∙◌, arith, inl, inr, sum_by}
 use Rattle.std.proofs.lemmas.Bool.{cases_Bool}
 use Rattle.std.proofs.lemmas.Bool.Decides.{nat_tests}
 use Rattle.std.proofs.lemmas.List.{length-replicate, map-append, places, same_lists}

@@ -1,13 +1,12 @@
 -- Rows that are drawn one below the other, as values.
-use Rattle.std.proofs.Common.{◌≡◌, ◌≢◌, ℕ, ◌+◌, ◌-◌, ◌<◌, ◌≤◌, Bool, true, false, List, [], ◌∷◌, ◌++◌, length, max, map, replicate, take, drop, get_or, refl, sym, ap, ◌∙◌, ◌||◌, arith, subst, chars, append_assoc}
+use Rattle.std.proofs.Common.{◌≡◌, ℕ, ◌+◌, ◌-◌, ◌<◌, ◌≤◌, Bool, true, false, List, [], ◌∷◌, ◌++◌, length, map, take, drop, get_or, refl, sym, ap, ◌∙◌, ◌||◌, arith, chars, append_assoc}
 use mir.Val.{bool_byte}
 use Rattle.std.specs.Str.{bytes_eq}
 use Rattle.std.proofs.lemmas.Bool.{cond-false, cond-true}
-use Rattle.std.proofs.lemmas.List.{append-nil, drop_all, drop_more, length-append, length-map, length-take, map-append, take_all}
+use Rattle.std.proofs.lemmas.List.{append-nil, drop_all, drop_more, length-map, length-take, map-append, take_all}
 use Rattle.std.proofs.lemmas.List.{get_or-map as mapped}
 use Rattle.std.proofs.Math.ListN.{get_or-map}
 use Rattle.snippet_style.specs.Cell.{Cell}
-use Rattle.snippet_style.specs.declared.role.ElementStyle.{ElementStyle}
 use Rattle.snippet_style.specs.declared.role.ElementStyle.TheVariants.{NoStyle, Removal}
 use Rattle.snippet_grid.specs.Grid.{row_at}
 use Rattle.snippet_parts.specs.declared.source_map.LineInfo.{LineInfo}

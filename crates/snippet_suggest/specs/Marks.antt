@@ -1,5 +1,5 @@
 -- The marks below the one line of a suggestion, as values.
-use Rattle.std.specs.Prelude.{ℕ, ◌+◌, ◌-◌, ◌^◌, min, nat_le, Bool, List, [], ◌∷◌, ◌++◌, chars, filter, length, map, replicate, sum_by, if◌then◌else◌}
+use Rattle.std.specs.Prelude.{ℕ, ◌+◌, ◌-◌, ◌^◌, min, nat_le, List, [], ◌∷◌, ◌++◌, chars, filter, length, map, replicate, sum_by, if◌then◌else◌}
 use Rattle.std.specs.Str.{trim, trim_start}
 use Rattle.snippet_style.specs.Cell.{Cell}
 use Rattle.snippet_style.specs.declared.glyphs.DecorStyle.{DecorStyle}

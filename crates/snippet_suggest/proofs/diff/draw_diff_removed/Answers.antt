@@ -1,4 +1,4 @@
-use Rattle.std.proofs.Common.{◌≡◌, ◌∙◌, ◌++◌, ◌∷◌, ℕ, [], List, ap, arith, false, refl, sym, take}
+use Rattle.std.proofs.Common.{◌∙◌, ◌++◌, ℕ, [], List, ap, arith, false, refl, sym}
 use Rattle.std.proofs.lemmas.List.{append-nil, take_all}
 use Rattle.snippet_parts.specs.declared.source_map.LineInfo.{LineInfo}
 use Rattle.snippet_splice.specs.Stretches.{line_stretches}

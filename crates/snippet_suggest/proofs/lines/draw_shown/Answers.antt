@@ -1,5 +1,5 @@
-use Rattle.std.proofs.Common.{◌∙◌, ◌++◌, ap, map, sym, take, append_assoc}
-use Rattle.std.proofs.lemmas.List.{append-nil, take_all}
+use Rattle.std.proofs.Common.{map, sym}
+use Rattle.std.proofs.lemmas.List.{append-nil}
 use Rattle.snippet_splice.specs.Stretches.{line_stretches}
 use Rattle.snippet_suggest.specs.Cells.{shown_cells}
 use Rattle.snippet_suggest.proofs.DrawnLemmas.{shown_next, shown_none}

@@ -1,4 +1,4 @@
-use Rattle.std.proofs.Common.{◌≡◌, ◌-◌, ◌+◌, ◌^◌, min, arith}
+use Rattle.std.proofs.Common.{◌-◌, ◌+◌, arith}
 use Rattle.snippet_style.specs.declared.role.ElementStyle.TheVariants.{Addition}
 use Rattle.snippet_suggest.proofs.MarkLemmas.{marks_more}
 use Rattle.snippet_suggest.proofs.MarksDrawn.{marks_begun, marks_done, marks_next}

@@ -1,4 +1,4 @@
-use Rattle.std.proofs.Common.{◌≡◌, ℕ, List, ◌++◌, arith, get_or, length, map, sym}
+use Rattle.std.proofs.Common.{◌++◌, arith}
 use Rattle.snippet_suggest.proofs.RemovedRows.{removes_begun, removes_done, removes_more}
 use Rattle.snippet_grid.specs.Grid.{row_at}
 use Rattle.snippet_suggest.specs.Order.{numbered_at}
