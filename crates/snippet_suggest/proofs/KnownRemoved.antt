@@ -82,7 +82,7 @@ take_range a n zero fits = refl
 take_range a zero (suc k) fits = absurd (omega (arith, fits))
 take_range a (suc n) (suc k) fits = ap (λ ks. a ∷ ks) (take_range (a + 1) n k (omega (arith, fits)))
 
-unless_range : (stays : Bool) (a n : ℕ) → unless_stays stays (range_with_len a n) ≡ range_with_len a (if stays then n - 1 else n)
+pub unless_range : (stays : Bool) (a n : ℕ) → unless_stays stays (range_with_len a n) ≡ range_with_len a (if stays then n - 1 else n)
 unless_range true a n =
     ap (λ (k : ℕ). take (k - 1) (range_with_len a n)) (length-range_with_len a n) ∙ take_range a n (n - 1) (omega arith)
 unless_range false a n = refl
@@ -94,14 +94,14 @@ removes_replaced p is line diff one =
     let s = p.snippet.now in
     ap (λ (ls : List (List ℕ)). removed_of ls (shown_kind s) (emptied_lines s) (replaced_lines s)) one ∙ ap (λ k. removed_of (line ∷ []) k (emptied_lines s) (replaced_lines s)) (sym is.kind ∙ diff)
 
-replaced_touched : (p : PreparedSuggestion) → IsPrepared p → (line : List ℕ) → given_lines p.snippet.now ≡ line ∷ [] → true ≡ is_touched p.snippet.now.fold p.splice.ranges.items 0 → replaced_lines p.snippet.now ≡ unless_stays (bytes_eq line (last_reached p.snippet.now)) (lines_touched (cow_str_bytes p.snippet.now.source) (first_start (trimmed_of p.snippet.now)) (end_from 0 (trimmed_of p.snippet.now)))
+pub replaced_touched : (p : PreparedSuggestion) → IsPrepared p → (line : List ℕ) → given_lines p.snippet.now ≡ line ∷ [] → true ≡ is_touched p.snippet.now.fold p.splice.ranges.items 0 → replaced_lines p.snippet.now ≡ unless_stays (bytes_eq line (last_reached p.snippet.now)) (lines_touched (cow_str_bytes p.snippet.now.source) (first_start (trimmed_of p.snippet.now)) (end_from 0 (trimmed_of p.snippet.now)))
 replaced_touched p is line one touches =
     let s = p.snippet.now in
     let ks : List ℕ = lines_touched (cow_str_bytes s.source) (first_start (trimmed_of s)) (end_from 0 (trimmed_of s)) in
     ap (λ t. if t then unless_stays (bytes_eq (slice_index_or (given_lines s) 0 []) (last_reached s)) ks else []) (ap (λ rs. is_touched s.fold rs 0) (sym is.ranges) ∙ sym touches) ∙ ap (λ (ls : List (List ℕ)). unless_stays (bytes_eq (slice_index_or ls 0 []) (last_reached s)) ks) one
 
 -- those from the first trimmed patch's start to the last one's end
-known_replaced : (p : PreparedSuggestion) → IsPrepared p → (line : List ℕ) (infos : List LineInfo) (start end : ℕ) → given_lines p.snippet.now ≡ line ∷ [] → true ≡ is_touched p.snippet.now.fold p.splice.ranges.items 0 → start ≡ first_start (map trimmed_edit_of p.splice.patches.items) → end ≡ end_from 0 (map trimmed_edit_of p.splice.patches.items) → map entry_of infos ≡ touched_entries p.map start end → last_removed infos ≡ last_reached p.snippet.now → unless_stays (bytes_eq line (last_removed infos)) (texts_at infos) ≡ texts_of_source p.snippet.now (replaced_lines p.snippet.now)
+pub known_replaced : (p : PreparedSuggestion) → IsPrepared p → (line : List ℕ) (infos : List LineInfo) (start end : ℕ) → given_lines p.snippet.now ≡ line ∷ [] → true ≡ is_touched p.snippet.now.fold p.splice.ranges.items 0 → start ≡ first_start (map trimmed_edit_of p.splice.patches.items) → end ≡ end_from 0 (map trimmed_edit_of p.splice.patches.items) → map entry_of infos ≡ touched_entries p.map start end → last_removed infos ≡ last_reached p.snippet.now → unless_stays (bytes_eq line (last_removed infos)) (texts_at infos) ≡ texts_of_source p.snippet.now (replaced_lines p.snippet.now)
 known_replaced p is line infos start end one touches starts ends are reached =
     let s = p.snippet.now in
     let source : List ℕ = cow_str_bytes s.source in

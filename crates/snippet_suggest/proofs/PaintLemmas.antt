@@ -37,7 +37,7 @@ set_last [] row new = refl
 set_last (x ∷ above) row new = ap (λ t. x ∷ t) (set_last above row new)
 
 -- the last row of some
-changed_last : (f : List Cell → List Cell) (above : List (List Cell)) (row : List Cell) → changed_within f (length above) (length above + 1) (above ++ row ∷ []) ≡ above ++ f row ∷ []
+pub changed_last : (f : List Cell → List Cell) (above : List (List Cell)) (row : List Cell) → changed_within f (length above) (length above + 1) (above ++ row ∷ []) ≡ above ++ f row ∷ []
 changed_last f above row =
     let rows = above ++ row ∷ [] in
     let r = length above in

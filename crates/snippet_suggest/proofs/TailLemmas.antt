@@ -111,7 +111,7 @@ glyph_added layout shares glyph above tail old new row text begins is writes her
     }
 
 -- writing so many rows below all
-skipped_written : (rows : List (List Cell)) (skipped at : ℕ) (cells : List Cell) → cells_written rows (length rows + skipped) at cells ≡ rows ++ (replicate skipped [] ++ written SPACE [] at cells ∷ [])
+pub skipped_written : (rows : List (List Cell)) (skipped at : ℕ) (cells : List Cell) → cells_written rows (length rows + skipped) at cells ≡ rows ++ (replicate skipped [] ++ written SPACE [] at cells ∷ [])
 skipped_written rows skipped at cells =
     ap (λ (row : List Cell). written [] rows (length rows + skipped) (written SPACE row at cells ∷ [])) (get_or_past rows (length rows + skipped) [] (omega arith)) ∙ filled (written SPACE [] at cells)
   where

@@ -2,6 +2,8 @@
 use Rattle.std.specs.Prelude.{ℕ, Bool, true, false, List, codes}
 use Rattle.snippet_style.specs.declared.glyphs.DecorStyle.{DecorStyle}
 use Rattle.snippet_style.specs.declared.glyphs.DecorStyle.TheVariants.{Ascii, Unicode}
+use Rattle.snippet_style.specs.declared.role.ElementStyle.{ElementStyle}
+use Rattle.snippet_style.specs.declared.role.ElementStyle.TheVariants.{Addition, LineNumber}
 use Rattle.snippet_suggest.specs.declared.glyphs.SuggestionGlyph.{SuggestionGlyph}
 use Rattle.snippet_suggest.specs.declared.glyphs.SuggestionGlyph.TheVariants.{Opening, Next, Leading, Closing, Kept, Alone, Changed, Added}
 
@@ -45,6 +47,17 @@ is_begin Kept = false
 is_begin Alone = false
 is_begin Changed = false
 is_begin Added = false
+
+-- the role of each glyph
+abbrev pub role_of : SuggestionGlyph → ElementStyle
+role_of Opening = LineNumber
+role_of Next = LineNumber
+role_of Leading = LineNumber
+role_of Closing = LineNumber
+role_of Kept = LineNumber
+role_of Alone = LineNumber
+role_of Changed = Addition
+role_of Added = Addition
 
 -- the mark below what is put in place of something else
 abbrev pub changed_mark_of : DecorStyle → ℕ

@@ -1,5 +1,5 @@
 -- What is known of a suggestion before any row is drawn.
-use Rattle.std.specs.Prelude.{◌≡◌, ◌≢◌, ◌+◌, ◌≤◌, ◌<◌, ◌^◌, [], All, length, map}
+use Rattle.std.specs.Prelude.{◌≡◌, ◌≢◌, ℕ, ◌+◌, ◌≤◌, ◌<◌, ◌^◌, [], All, length, map}
 use Rattle.std.specs.String.{string_bytes}
 use Rattle.std.specs.Cow.{cow_str_bytes}
 use Rattle.snippet_model.specs.declared.snippet.Snippet.{Snippet}
@@ -8,6 +8,7 @@ use Rattle.snippet_lines.specs.Lines.{source_lines}
 use Rattle.snippet_lines.specs.Span.{IsSpan}
 use Rattle.snippet_splice.specs.Edits.{bounds_of, in_order, original_bounds_of, trimmed_edit_of}
 use Rattle.snippet_splice.specs.Overlap.{AreDisjoint}
+use Rattle.snippet_splice.specs.Stretches.{line_stretches, new_stretches, replaced_stretches}
 use Rattle.snippet_suggest.specs.declared.prepared.PreparedSuggestion.{PreparedSuggestion}
 use Rattle.snippet_suggest.specs.Given.{counted_line, edits_of, first_given, given_lines, given_ranges, given_text, shown_kind, source_of, trimmed_of}
 
@@ -29,5 +30,7 @@ pub record IsPrepared (p : PreparedSuggestion) : Type 0 where
   pub edits : map trimmed_edit_of p.splice.patches.items ≡ trimmed_of p.snippet.now
   pub originals : map original_bounds_of p.splice.patches.items ≡ map bounds_of (in_order (edits_of p.snippet.now))
   pub ranges : p.splice.ranges.items ≡ given_ranges p.snippet.now
+  pub new : (k : ℕ) → line_stretches p.splice.highlights.items k ≡ new_stretches p.snippet.now.fold (cow_str_bytes p.snippet.now.source) (edits_of p.snippet.now) k
+  pub replaced : (k : ℕ) → line_stretches p.splice.replaced_highlights.items k ≡ replaced_stretches p.snippet.now.fold (cow_str_bytes p.snippet.now.source) (edits_of p.snippet.now) k
   pub kind : p.kind ≡ shown_kind p.snippet.now
   pub counted : p.counted ≡ counted_line p.snippet.now

@@ -1,5 +1,8 @@
 //! A suggestion that is shown as the lines that are removed, and the one line that stands in their place.
-ghost use Rattle.std.specs.Prelude.{◌≡◌, ℕ, ◌<◌, ◌^◌, ◌++◌, ◌∷◌, [], List, true, false, OnOk, length};
+ghost use Rattle.std.specs.Prelude.{◌≡◌, ℕ, ◌<◌, ◌^◌, ◌-◌, ◌++◌, ◌∷◌, [], List, true, false, OnOk, chars, length};
+ghost use Rattle.snippet_style.specs.declared.role.ElementStyle.TheVariants.{Addition};
+ghost use Rattle.snippet_splice.specs.Stretches.{line_stretches};
+ghost use Rattle.snippet_suggest.specs.Cells.{diff_cells, offered_cells, taken_cells, with_stretches};
 ghost use Rattle.std.specs.Str.{bytes_eq};
 ghost use Rattle.snippet_style.specs.Cell.{Cell};
 ghost use Rattle.snippet_suggest.specs.declared.kind.DisplaySuggestion.TheVariants.{Diff};
@@ -49,6 +52,8 @@ pub(crate) fn draw_diff(
         → Shows layout first (line.now ∷ []) begin last → NumberFits layout first (Line 0)
         → OnOk result (AddsRows layout first (line.now ∷ []) (begin ∷ changed_rows true
         (is_left_out Diff (line.now ∷ []) (last_removed removed.now)) (removed_from i (counted_from first 0 left))) above buffer.new) }
+    ensures cells { (above : List (List Cell)) (last : List Cell) → buffer.old ≡ above ++ last ∷ []
+        → OnOk result (buffer.new ≡ above ++ diff_cells layout first removed.now (line_stretches replaced.now) line.now added.now last) }
 {
     let stays = is_last(removed, line);
     let count = removed.len().saturating_sub(usize::from(stays));
@@ -77,6 +82,9 @@ fn draw_diff_line(
         → OnOk result (IsRepainted above last buffer.new) }
     ensures added { left_out ≡ false → NumberFits layout first (Line 0)
         → OnOk result (AddsRows layout first (line.now ∷ []) (Offers 0 ∷ []) buffer.old buffer.new) }
+    ensures left_cells { (above : List (List Cell)) (last : List Cell) → left_out ≡ true → buffer.old ≡ above ++ last ∷ []
+        → OnOk result (buffer.new ≡ above ++ with_stretches Addition layout.gutter (chars line.now) added.now last ∷ []) }
+    ensures cells { left_out ≡ false → OnOk result (buffer.new ≡ buffer.old ++ offered_cells layout Diff 1 first line.now added.now ∷ []) }
 {
     if !left_out {
         draw_line(alloc, buffer, layout, SuggestionGlyph::Added, first, line)?;
@@ -94,6 +102,8 @@ fn paint_last(
 ) -> Result<(), AllocError>
     ensures repaints { (above : List (List Cell)) (last : List Cell) → buffer.old ≡ above ++ last ∷ []
         → OnOk result (IsRepainted above last buffer.new) }
+    ensures cells { (above : List (List Cell)) (last : List Cell) → buffer.old ≡ above ++ last ∷ []
+        → OnOk result (buffer.new ≡ above ++ with_stretches role layout.gutter (chars line.now) stretches.now last ∷ []) }
 {
     let row = buffer.num_lines().saturating_sub(1);
     paint_stretches(buffer, layout, row, line, stretches, role)
@@ -122,7 +132,9 @@ fn diff_stretches<'a>(
     replaced: &'a [Vec<SubstitutionHighlight>],
     first: usize,
     info: LineInfo<'_>,
-) -> &'a [SubstitutionHighlight] {
+) -> &'a [SubstitutionHighlight]
+    ensures value { result.now ≡ line_stretches replaced.now (info.entry.line_index - first) }
+{
     stretches_of(replaced, info.line_index.saturating_sub(first))
 }
 
@@ -137,6 +149,7 @@ fn draw_diff_removed(
 ) -> Result<(), AllocError>
     requires narrow { layout.gutter < 2 ^ 32 }
     ensures added { OnOk result (AddsRemoved layout (counted_from first 0 (texts_at removed.now)) buffer.old buffer.new) }
+    ensures cells { OnOk result (buffer.new ≡ buffer.old ++ taken_cells layout first (line_stretches replaced.now) 0 removed.now) }
 {
     for i in 0..removed.len() {
         let info = removed[i];

@@ -1,7 +1,10 @@
 //! The rows that a suggestion begins and ends with.
-ghost use Rattle.std.specs.Prelude.{◌≡◌, ℕ, ◌<◌, ◌^◌, ◌+◌, ◌++◌, Bool, true, false, List, IfOk, OnOk, length};
+ghost use Rattle.std.specs.Prelude.{◌≡◌, ℕ, ◌<◌, ◌^◌, ◌≤◌, ◌+◌, ◌++◌, ◌∷◌, [], Bool, true, false, List, IfOk, OnOk, length, replicate};
 ghost use Rattle.snippet_suggest.specs.Glyphs.{glyph_of, is_begin, is_sign};
-ghost use Rattle.snippet_suggest.specs.Rows.{AddsEnd, AddsRow, IsStart, IsStrokeRow, IsTail, begin_glyph, beside_gutter, end_glyph};
+ghost use Rattle.snippet_suggest.specs.Rows.{AddsEnd, AddsRow, IsStart, IsStrokeRow, IsTail, begin_glyph, beside_gutter, end_glyph, rows_shared};
+ghost use Rattle.snippet_suggest.specs.Cells.{begin_cells, end_cells, put};
+ghost use Rattle.snippet_style.specs.declared.role.ElementStyle.TheVariants.{LineNumber};
+ghost use Rattle.snippet_grid.specs.Grid.{row_at};
 ghost use Rattle.snippet_style.specs.declared.glyphs.DecorStyle.{DecorStyle};
 ghost use Rattle.snippet_style.specs.Cell.{Cell};
 
@@ -32,6 +35,8 @@ pub(crate) fn draw_head(
     ensures added { (above tail : List (List Cell)) → buffer.old ≡ above ++ tail → IsStart layout start tail
         → OnOk result (AddsRow (IsStrokeRow layout.decor layout.gutter
         (beside_gutter layout.gutter (begin_glyph layout.decor start))) above buffer.new) }
+    ensures cells { (above tail : List (List Cell)) → buffer.old ≡ above ++ tail → length tail ≡ rows_shared start
+        → OnOk result (buffer.new ≡ above ++ begin_cells layout start (row_at tail 0) ∷ []) }
 {
     let rows = buffer.num_lines();
     match start {
@@ -58,6 +63,10 @@ fn draw_glyph(
         (beside_gutter layout.gutter (glyph_of layout.decor glyph))) above buffer.new) }
     ensures end { is_sign glyph ≡ false → (skipped : ℕ) → row ≡ length buffer.old + skipped
         → OnOk result (AddsEnd layout (glyph_of layout.decor glyph) skipped buffer.old buffer.new) }
+    ensures over { (above tail : List (List Cell)) → row ≡ length above → buffer.old ≡ above ++ tail → length tail ≤ 1
+        → OnOk result (buffer.new ≡ above ++ put LineNumber (glyph_of layout.decor glyph) (layout.gutter + 1) (row_at tail 0) ∷ []) }
+    ensures below { (skipped : ℕ) → row ≡ length buffer.old + skipped → OnOk result (buffer.new
+        ≡ (buffer.old ++ replicate skipped []) ++ put LineNumber (glyph_of layout.decor glyph) (layout.gutter + 1) [] ∷ []) }
 {
     buffer.puts(
         row,
@@ -87,6 +96,7 @@ pub(crate) fn draw_end(
     requires narrow { layout.gutter < 2 ^ 32 }
     requires few { skipped < 2 }
     ensures added { OnOk result (AddsEnd layout (end_glyph layout.decor follows) skipped buffer.old buffer.new) }
+    ensures cells { OnOk result (buffer.new ≡ (buffer.old ++ replicate skipped []) ++ end_cells layout follows ∷ []) }
     ensures row { IfOk result (λ row. (row ≡ length buffer.old + skipped) × (row + 1 < 2 ^ 64)) }
 {
     let row = buffer.num_lines() + skipped;

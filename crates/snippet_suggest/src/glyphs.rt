@@ -1,7 +1,7 @@
 //! The glyphs of suggestions.
 ghost use Rattle.std.specs.Prelude.{◌≡◌, ◌<◌, length, chars};
 ghost use Rattle.snippet_style.specs.declared.glyphs.DecorStyle.TheVariants.{Ascii, Unicode};
-ghost use Rattle.snippet_suggest.specs.Glyphs.{changed_mark_of, glyph_of};
+ghost use Rattle.snippet_suggest.specs.Glyphs.{changed_mark_of, glyph_of, role_of};
 
 use snippet_style::{DecorStyle, ElementStyle};
 
@@ -71,7 +71,9 @@ impl SuggestionGlyph {
     }
 
     /// The glyph's role.
-    pub(crate) fn role(self) -> ElementStyle {
+    pub(crate) fn role(self) -> ElementStyle
+        ensures value { result ≡ role_of self }
+    {
         match self {
             SuggestionGlyph::Added | SuggestionGlyph::Changed => ElementStyle::Addition,
             _ => ElementStyle::LineNumber,

@@ -1,9 +1,11 @@
 //! The rows of the lines of a spliced text.
-ghost use Rattle.std.specs.Prelude.{◌≡◌, ℕ, ◌<◌, ◌≤◌, ◌^◌, ◌+◌, true, [], All, IfOk, OnOk, chars, length, map};
+ghost use Rattle.std.specs.Prelude.{◌≡◌, ℕ, ◌<◌, ◌≤◌, ◌^◌, ◌+◌, ◌++◌, ◌∷◌, true, [], All, IfOk, OnOk, chars, length, map};
 ghost use Rattle.std.specs.List.{slice_index_or};
 ghost use Rattle.snippet_text.specs.Normalized.{norm};
 ghost use Rattle.snippet_lines.specs.Lines.{lines_of};
 ghost use Rattle.snippet_splice.specs.Spliced.{texts_of};
+ghost use Rattle.snippet_splice.specs.Stretches.{line_stretches};
+ghost use Rattle.snippet_suggest.specs.Cells.{shown_cells, sign_alone, sign_of, sign_touched};
 ghost use Rattle.snippet_suggest.specs.Glyphs.{is_sign};
 ghost use Rattle.snippet_suggest.specs.declared.shown.ShownLine.TheVariants.{Line};
 ghost use Rattle.snippet_suggest.specs.Shown.{is_touched, shown_lines};
@@ -63,6 +65,9 @@ pub(crate) fn draw_lines(
     ensures added { let shown = shown_lines (is_touched fold ranges.now) (length lines.now) in
         ((k : ℕ) → k < length lines.now → NumberFits layout first (Line k))
         → OnOk result (AddsShown layout first (map (λ l. l.now) lines.now) shown buffer.old buffer.new) }
+    ensures cells { OnOk result (buffer.new ≡ buffer.old ++ map
+        (shown_cells layout kind first (map (λ l. l.now) lines.now) (line_stretches stretches.now))
+        (shown_lines (is_touched fold ranges.now) (length lines.now))) }
 {
     let shown = shown_lines(alloc, lines.len(), ranges, fold)?;
     draw_shown(alloc, buffer, layout, kind, first, lines, stretches, &shown)?;
@@ -83,6 +88,8 @@ fn draw_shown(
     requires narrow { layout.gutter < 2 ^ 32 }
     ensures added { All (NumberFits layout first) shown.now
         → OnOk result (AddsShown layout first (map (λ l. l.now) lines.now) shown.now buffer.old buffer.new) }
+    ensures cells { OnOk result (buffer.new ≡ buffer.old ++ map
+        (shown_cells layout kind first (map (λ l. l.now) lines.now) (line_stretches stretches.now)) shown.now) }
 {
     for line in shown {
         draw_shown_line(alloc, buffer, layout, kind, first, lines, stretches, *line)?;
@@ -104,6 +111,8 @@ fn draw_shown_line(
     requires narrow { layout.gutter < 2 ^ 32 }
     ensures added { NumberFits layout first line
         → OnOk result (AddsRow (IsShownRow layout first (map (λ l. l.now) lines.now) line) buffer.old buffer.new) }
+    ensures cells { OnOk result (buffer.new ≡ buffer.old
+        ++ shown_cells layout kind first (map (λ l. l.now) lines.now) (line_stretches stretches.now) line ∷ []) }
 {
     match line {
         ShownLine::Line(k) => {
@@ -128,6 +137,8 @@ fn draw_text_line(
     ensures added { length (shown_number layout.numbers layout.gutter (number_after first k)) ≤ layout.gutter + 1
         → OnOk result (AddsRow (IsLineRow layout.decor layout.gutter (shown_number layout.numbers layout.gutter (number_after first k))
         (norm (chars (slice_index_or (map (λ l. l.now) lines.now) k [])))) buffer.old buffer.new) }
+    ensures cells { OnOk result (buffer.new ≡ buffer.old
+        ++ shown_cells layout kind first (map (λ l. l.now) lines.now) (line_stretches stretches.now) (Line k) ∷ []) }
 {
     let line = line_at(lines, k);
     let stretches = stretches_of(stretches, k);
@@ -156,6 +167,7 @@ pub(crate) fn number_after(first: usize, lines: usize) -> usize
 }
 
 /// The glyph beside a line of a text of `count` lines, which has these stretches.
+#[tactic(auto, unfolding(crate::specs::Cells::sign_of))]
 fn glyph_of(
     kind: DisplaySuggestion,
     count: usize,
@@ -163,12 +175,10 @@ fn glyph_of(
     stretches: &[SubstitutionHighlight],
 ) -> SuggestionGlyph
     ensures sign { is_sign result ≡ true }
+    ensures value { result ≡ sign_of kind count line.now stretches.now }
 {
     if count <= 1 {
-        return match kind {
-            DisplaySuggestion::Add => SuggestionGlyph::Added,
-            _ => SuggestionGlyph::Alone,
-        };
+        return alone_glyph(kind);
     }
     match stretches {
         [] => SuggestionGlyph::Kept,
@@ -177,9 +187,21 @@ fn glyph_of(
     }
 }
 
+/// The glyph beside the one line of a suggestion.
+fn alone_glyph(kind: DisplaySuggestion) -> SuggestionGlyph
+    ensures sign { is_sign result ≡ true }
+    ensures value { result ≡ sign_alone kind }
+{
+    match kind {
+        DisplaySuggestion::Add | DisplaySuggestion::Diff => SuggestionGlyph::Added,
+        DisplaySuggestion::Plain | DisplaySuggestion::Underline => SuggestionGlyph::Alone,
+    }
+}
+
 /// The glyph beside a line that has this stretch alone.
 fn only_glyph(line: &str, stretch: SubstitutionHighlight) -> SuggestionGlyph
     ensures sign { is_sign result ≡ true }
+    ensures value { result ≡ sign_touched line.now stretch }
 {
     if stretch.start == 0 && stretch.end == line.len() {
         SuggestionGlyph::Added

@@ -1,5 +1,10 @@
 //! The marks below what a suggestion puts in.
-ghost use Rattle.std.specs.Prelude.{◌≡◌, ℕ, ◌<◌, ◌^◌, ◌+◌, ◌++◌, ◌∷◌, [], List, All, OnOk, length};
+ghost use Rattle.std.specs.Prelude.{◌≡◌, ℕ, ◌<◌, ◌^◌, ◌+◌, ◌-◌, ◌++◌, ◌∷◌, [], List, All, OnOk, length};
+ghost use Rattle.snippet_splice.specs.Edits.{trimmed_edit_of};
+ghost use Rattle.snippet_splice.specs.Stretches.{capped};
+ghost use Rattle.snippet_suggest.specs.Marks.{columns_of, edits_at, left_of, mark_end, mark_of, mark_start, text_width, with_mark, with_marks};
+ghost use Rattle.snippet_suggest.specs.Moves.{AreMoves, shift_of};
+ghost use Rattle.snippet_suggest.specs.declared.marks.PatchColumns.{PatchColumns};
 ghost use Rattle.snippet_style.specs.Cell.{Cell};
 ghost use Rattle.snippet_suggest.specs.Rows.{AddsRow, IsMarkOrSpace, IsStrokeRow};
 ghost use Rattle.snippet_lines.specs.Span.{IsSpan};
@@ -37,12 +42,16 @@ struct Shift {
 
 impl Shift {
     /// Columns stay.
-    fn none() -> Shift {
+    fn none() -> Shift
+        ensures value { result ≡ record { right = 0; left = 0 } }
+    {
         Shift { right: 0, left: 0 }
     }
 
     /// The same with what one more patch makes the line longer or shorter.
-    fn with(self, columns: PatchColumns) -> Shift {
+    fn with(self, columns: PatchColumns) -> Shift
+        ensures value { (earlier : List PatchColumns) → self ≡ shift_of earlier → result ≡ shift_of (earlier ++ columns ∷ []) }
+    {
         Shift {
             right: self
                 .right
@@ -53,7 +62,9 @@ impl Shift {
     }
 
     /// Where a column stands then.
-    fn moved(self, column: usize) -> usize {
+    fn moved(self, column: usize) -> usize
+        ensures value { result ≡ capped (column + self.right) - self.left }
+    {
         column.saturating_add(self.right).saturating_sub(self.left)
     }
 }
@@ -71,7 +82,9 @@ struct Moves {
 
 impl Moves {
     /// No patches.
-    fn none(alloc: Global) -> Moves {
+    fn none(alloc: Global) -> Moves
+        ensures of { AreMoves [] result }
+    {
         Moves {
             patches: Vec::new(alloc),
             all: Shift::none(),
@@ -80,7 +93,9 @@ impl Moves {
     }
 
     /// Adds a patch.
-    fn push(&mut self, columns: PatchColumns) -> Result<(), AllocError> {
+    fn push(&mut self, columns: PatchColumns) -> Result<(), AllocError>
+        ensures of { OnOk result ((earlier : List PatchColumns) → AreMoves earlier self.old → AreMoves (earlier ++ columns ∷ []) self.new) }
+    {
         self.patches.push(columns)?;
         self.all = self.all.with(columns);
         self.end = self.end.max(columns.end);
@@ -89,7 +104,9 @@ impl Moves {
 
     /// How those that end at a column or left of it move what starts there. Patches of one line all do, and are not looked at one
     /// by one.
-    fn before(&self, start: usize) -> Shift {
+    fn before(&self, start: usize) -> Shift
+        ensures value { (earlier : List PatchColumns) → AreMoves earlier self.now → result ≡ shift_of (left_of start earlier) }
+    {
         if self.end <= start {
             return self.all;
         }
@@ -128,6 +145,8 @@ pub(crate) fn draw_marks(
     // Into the last row, which shows no line.
     ensures marked { (above : List (List Cell)) (last : List Cell) (left : List ℕ) → row ≡ length above → buffer.old ≡ above ++ last ∷ []
         → IsStrokeRow layout.decor layout.gutter left last → OnOk result (AddsRow (IsStrokeRow layout.decor layout.gutter left) above buffer.new) }
+    ensures cells { (above : List (List Cell)) (last : List Cell) → row ≡ length above → buffer.old ≡ above ++ last ∷ []
+        → OnOk result (buffer.new ≡ above ++ with_marks layout map.now [] (edits_at patches.now) last ∷ []) }
 {
     let mut moves = Moves::none(alloc);
     for patch in patches {
@@ -143,6 +162,8 @@ pub(crate) fn draw_marks(
 /// The mark below what a patch puts in.
 fn patch_mark(layout: SuggestionLayout, map: &SourceMap<'_>, patch: &TrimmedPatch<'_>) -> char
     ensures mark { IsMarkOrSpace layout.decor result }
+    ensures value { IsSpan map.now.text patch.now.span.start patch.now.span.end
+        → result ≡ mark_of layout.decor map.now.text (trimmed_edit_of patch.now) }
 {
     if is_addition(map.source(), patch) {
         '+'
@@ -165,6 +186,8 @@ fn draw_mark(
     ensures marked { (above : List (List Cell)) (last : List Cell) (left : List ℕ) → row ≡ length above → buffer.old ≡ above ++ last ∷ []
         → IsStrokeRow layout.decor layout.gutter left last → IsMarkOrSpace layout.decor mark
         → OnOk result (AddsRow (IsStrokeRow layout.decor layout.gutter left) above buffer.new) }
+    ensures cells { (above : List (List Cell)) (last : List Cell) → row ≡ length above → buffer.old ≡ above ++ last ∷ []
+        → OnOk result (buffer.new ≡ above ++ with_mark layout mark start end last ∷ []) }
 {
     for column in start..end.min(MAX_COLUMN) {
         let cell = layout.gutter + 3 + column;
@@ -176,6 +199,7 @@ fn draw_mark(
 /// The columns of a patch of a source.
 fn patch_columns(map: &SourceMap<'_>, patch: &TrimmedPatch<'_>) -> PatchColumns
     requires span { IsSpan map.now.text patch.now.span.start patch.now.span.end }
+    ensures value { result ≡ columns_of map.now (trimmed_edit_of patch.now) }
 {
     let (start, end) = map.span_to_locations(patch.span.start..patch.span.end);
     PatchColumns {
@@ -186,7 +210,10 @@ fn patch_columns(map: &SourceMap<'_>, patch: &TrimmedPatch<'_>) -> PatchColumns
 }
 
 /// The columns below a replacement, so far moved, without its outer whitespace, or below all of it if it is blank.
-fn marked_columns(shift: Shift, columns: PatchColumns, replacement: &str) -> (usize, usize) {
+fn marked_columns(shift: Shift, columns: PatchColumns, replacement: &str) -> (usize, usize)
+    ensures value { (earlier : List PatchColumns) → shift ≡ shift_of (left_of columns.start earlier)
+        → result ≡ (mark_start earlier columns replacement.now, mark_end earlier columns replacement.now) }
+{
     let (lead, width) = if is_blank(replacement) {
         (0, columns.width)
     } else {
@@ -200,7 +227,9 @@ fn marked_columns(shift: Shift, columns: PatchColumns, replacement: &str) -> (us
 }
 
 /// The columns of a text.
-fn text_width(text: &str) -> usize {
+fn text_width(text: &str) -> usize
+    ensures value { result ≡ text_width text.now }
+{
     let mut width = 0usize;
     for c in text.chars() {
         width = width.saturating_add(char_width(c));

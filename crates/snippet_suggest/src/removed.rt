@@ -1,5 +1,7 @@
 //! The rows of lines that are removed.
-ghost use Rattle.std.specs.Prelude.{◌≡◌, ◌<◌, ◌^◌, ◌+◌, ◌++◌, Bool, List, OnOk, length};
+ghost use Rattle.std.specs.Prelude.{◌≡◌, ◌<◌, ◌^◌, ◌≤◌, ◌+◌, ◌++◌, Bool, List, OnOk, length};
+ghost use Rattle.snippet_grid.specs.Grid.{row_at};
+ghost use Rattle.snippet_suggest.specs.Cells.{emptied_cells};
 ghost use Rattle.snippet_style.specs.Cell.{Cell};
 ghost use Rattle.snippet_suggest.specs.Order.{numbered_at};
 ghost use Rattle.snippet_suggest.specs.Rows.{AddsRemoved, IsTail};
@@ -34,6 +36,8 @@ pub(crate) fn draw_removed_lines(
     // Below some rows, the first of them perhaps over a row that shows no line.
     ensures added { (above tail : List (List Cell)) (shares : Bool) → row ≡ length above → buffer.old ≡ above ++ tail
         → IsTail layout.decor layout.gutter shares tail → OnOk result (AddsRemoved layout (numbered_at lines.now) above buffer.new) }
+    ensures cells { (above tail : List (List Cell)) → row ≡ length above → buffer.old ≡ above ++ tail → length tail ≤ 1
+        → OnOk result (buffer.new ≡ above ++ emptied_cells layout (numbered_at lines.now) (row_at tail 0)) }
 {
     let mut row = row;
     for info in lines {

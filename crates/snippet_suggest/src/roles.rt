@@ -1,5 +1,8 @@
 //! The roles of what is new in a line, and of what is removed.
-ghost use Rattle.std.specs.Prelude.{◌≡◌, ◌++◌, ◌∷◌, [], List, OnOk, length};
+ghost use Rattle.std.specs.Prelude.{◌≡◌, ◌==◌, ◌+◌, ◌*◌, ℕ, ◌++◌, ◌∷◌, [], List, OnOk, chars, count_by, length, take};
+ghost use Rattle.snippet_splice.specs.Stretches.{capped, line_stretches};
+ghost use Rattle.snippet_suggest.specs.Cells.{with_stretches};
+ghost use Rattle.snippet_suggest.specs.Cursor.{IsCursor};
 ghost use Rattle.snippet_style.specs.Cell.{Cell};
 ghost use Rattle.snippet_suggest.specs.Rows.{IsRepainted};
 
@@ -21,6 +24,8 @@ pub(crate) fn paint_stretches(
 ) -> Result<(), AllocError>
     ensures repaints { OnOk result ((above : List (List Cell)) (last : List Cell) → row ≡ length above
         → buffer.old ≡ above ++ last ∷ [] → IsRepainted above last buffer.new) }
+    ensures cells { OnOk result ((above : List (List Cell)) (last : List Cell) → row ≡ length above → buffer.old ≡ above ++ last ∷ []
+        → buffer.new ≡ above ++ with_stretches role layout.gutter (chars line.now) stretches.now last ∷ []) }
 {
     let mut tabs = TabCursor::new(line);
     for stretch in stretches {
@@ -34,7 +39,9 @@ pub(crate) fn paint_stretches(
 }
 
 /// The cell of a character with this many tabs before it, each of which takes four cells.
-fn stretch_cell(layout: SuggestionLayout, character: usize, tabs: usize) -> usize {
+fn stretch_cell(layout: SuggestionLayout, character: usize, tabs: usize) -> usize
+    ensures value { (n : ℕ) → tabs ≡ capped n → result ≡ capped (layout.gutter + 3 + character + 3 * n) }
+{
     layout
         .gutter
         .saturating_add(3)
@@ -53,7 +60,11 @@ struct TabCursor<'a> {
 
 impl<'a> TabCursor<'a> {
     /// A cursor at the start of a line.
-    fn new(line: &'a str) -> TabCursor<'a> {
+    fn new(line: &'a str) -> TabCursor<'a>
+        ensures line { result.line.now ≡ line.now }
+        ensures at { IsCursor result }
+        ensures begins { result.passed ≡ 0 }
+    {
         TabCursor {
             line,
             rest: line.chars(),
@@ -63,7 +74,12 @@ impl<'a> TabCursor<'a> {
     }
 
     /// The number of tabs before a character.
-    fn before(&mut self, character: usize) -> usize {
+    fn before(&mut self, character: usize) -> usize
+        requires at { IsCursor self.old }
+        ensures line { self.new.line.now ≡ self.old.line.now }
+        ensures at { IsCursor self.new }
+        ensures value { result ≡ capped (count_by (λ c. c == 9) (take character (chars self.old.line.now))) }
+    {
         if character < self.passed {
             *self = TabCursor::new(self.line);
         }
@@ -82,7 +98,9 @@ impl<'a> TabCursor<'a> {
 pub(crate) fn stretches_of(
     stretches: &[Vec<SubstitutionHighlight>],
     line: usize,
-) -> &[SubstitutionHighlight] {
+) -> &[SubstitutionHighlight]
+    ensures value { result.now ≡ line_stretches stretches.now line }
+{
     match stretches.get(line) {
         Some(stretches) => stretches,
         None => &[],

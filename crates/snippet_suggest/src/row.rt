@@ -1,8 +1,10 @@
 //! The row of one line.
-ghost use Rattle.std.specs.Prelude.{◌≡◌, ◌<◌, ◌≤◌, ◌^◌, ◌+◌, ◌++◌, true, Bool, List, IfOk, OnOk, chars, length};
+ghost use Rattle.std.specs.Prelude.{◌≡◌, ◌<◌, ◌≤◌, ◌^◌, ◌+◌, ◌++◌, ◌∷◌, [], true, Bool, List, IfOk, OnOk, chars, length};
 ghost use Rattle.snippet_text.specs.Normalized.{norm};
 ghost use Rattle.snippet_lines.specs.Number.{shown_number};
 ghost use Rattle.snippet_style.specs.Cell.{Cell};
+ghost use Rattle.snippet_grid.specs.Grid.{row_at};
+ghost use Rattle.snippet_suggest.specs.Cells.{gap_cells, line_cells, removed_cells};
 ghost use Rattle.snippet_suggest.specs.Glyphs.{is_sign};
 ghost use Rattle.snippet_suggest.specs.Rows.{AddsRow, IsLineRow, IsRowOfRemoved, IsStrokeRow, IsTail, gap_left};
 
@@ -35,6 +37,7 @@ pub(crate) fn draw_line(
     requires sign { is_sign glyph ≡ true }
     ensures added { let shown = shown_number layout.numbers layout.gutter number in length shown ≤ layout.gutter + 1
         → OnOk result (AddsRow (IsLineRow layout.decor layout.gutter shown (norm (chars line.now))) buffer.old buffer.new) }
+    ensures cells { OnOk result (buffer.new ≡ buffer.old ++ line_cells layout glyph number line.now ∷ []) }
     ensures row { IfOk result (λ row. row ≡ length buffer.old) }
 {
     let row = buffer.num_lines();
@@ -70,6 +73,8 @@ pub(crate) fn draw_removed_line(
     // In a row of its own, or over one that shows no line.
     ensures added { (above tail : List (List Cell)) (shares : Bool) → row ≡ length above → buffer.old ≡ above ++ tail
         → IsTail layout.decor layout.gutter shares tail → OnOk result (AddsRow (IsRowOfRemoved layout (number, line.now)) above buffer.new) }
+    ensures cells { (above tail : List (List Cell)) → row ≡ length above → buffer.old ≡ above ++ tail → length tail ≤ 1
+        → OnOk result (buffer.new ≡ above ++ removed_cells layout role number line.now (row_at tail 0) ∷ []) }
 {
     let number = number_text(alloc, layout.numbers, layout.gutter, number)?;
     buffer.puts(row, 0, number.as_str(), ElementStyle::LineNumber)?;
@@ -94,6 +99,7 @@ pub(crate) fn draw_gap(
 ) -> Result<(), AllocError>
     requires narrow { layout.gutter < 2 ^ 32 }
     ensures added { OnOk result (AddsRow (IsStrokeRow layout.decor layout.gutter (gap_left layout.decor layout.gutter)) buffer.old buffer.new) }
+    ensures cells { OnOk result (buffer.new ≡ buffer.old ++ gap_cells layout ∷ []) }
 {
     let row = buffer.num_lines();
     let placeholder = layout.decor.placeholder();

@@ -1,4 +1,7 @@
 //! The rows of a suggestion.
+ghost use Rattle.snippet_grid.specs.Grid.{row_at};
+ghost use Rattle.snippet_suggest.specs.Cells.{begin_cells};
+ghost use Rattle.snippet_suggest.specs.Suggested.{body_cells, suggestion_cells};
 ghost use Rattle.std.specs.Prelude.{◌≡◌, ◌<◌, ◌^◌, ◌+◌, ◌-◌, ◌++◌, ◌∷◌, [], List, IfOk, OnOk, All, length, map, replicate, if◌then◌else◌};
 ghost use Rattle.snippet_style.specs.Cell.{Cell};
 ghost use Rattle.snippet_lines.specs.Span.{IsSpan};
@@ -58,6 +61,9 @@ pub fn draw_suggestion(
     ensures added { HasGutter layout suggestion.now.snippet.now
         → (above tail : List (List Cell)) → buffer.old ≡ above ++ tail → IsStart layout start tail
         → OnOk result (AddsSuggestion layout start follows suggestion.now.snippet.now above buffer.new) }
+    // These rows are a value, cell by cell.
+    ensures cells { (above tail : List (List Cell)) → buffer.old ≡ above ++ tail → length tail ≡ rows_shared start
+        → OnOk result (buffer.new ≡ above ++ suggestion_cells layout start follows suggestion.now.snippet.now (row_at tail 0)) }
 {
     let lines = text_lines(alloc, suggestion.splice.complete.as_str())?;
     let skipped = draw_body(alloc, buffer, layout, suggestion, &lines, start)?;
@@ -87,6 +93,9 @@ fn draw_body(
         → (above tail : List (List Cell)) → buffer.old ≡ above ++ tail → IsStart layout start tail
         → IfOk result (λ skipped. AddsRows layout (s.line_start + first_given s) (given_lines s) (rows_of_suggestion start s)
         above (buffer.new ++ replicate skipped [])) }
+    ensures cells { let s = suggestion.now.snippet.now in
+        (above tail : List (List Cell)) → buffer.old ≡ above ++ tail → length tail ≡ rows_shared start
+        → IfOk result (λ skipped. buffer.new ++ replicate skipped [] ≡ above ++ body_cells layout start s (row_at tail 0)) }
 {
     let Some(line) = lines.first() else {
         draw_emptied(alloc, buffer, layout, suggestion, start)?;
@@ -135,6 +144,9 @@ fn draw_changed(
         → Shows layout first (given_lines s) (Begins start) last
         → IfOk result (λ skipped. AddsRows layout first (given_lines s) (rows_of_suggestion start s)
         above (buffer.new ++ replicate skipped [])) }
+    ensures cells { let s = suggestion.now.snippet.now in
+        (above : List (List Cell)) (under : List Cell) (start : SuggestionStart) → buffer.old ≡ above ++ begin_cells layout start under ∷ []
+        → IfOk result (λ skipped. buffer.new ++ replicate skipped [] ≡ above ++ body_cells layout start s under) }
 {
     let splice = &suggestion.splice;
     let map = &suggestion.map;
@@ -165,6 +177,9 @@ fn draw_emptied(
     ensures added { let s = suggestion.now.snippet.now in (above tail : List (List Cell)) → buffer.old ≡ above ++ tail
         → IsStart layout start tail
         → OnOk result (AddsRows layout (s.line_start + first_given s) (given_lines s) (rows_of_suggestion start s) above buffer.new) }
+    ensures cells { let s = suggestion.now.snippet.now in
+        (above tail : List (List Cell)) → buffer.old ≡ above ++ tail → length tail ≡ rows_shared start
+        → OnOk result (buffer.new ≡ above ++ body_cells layout start s (row_at tail 0)) }
 {
     let map = &suggestion.map;
     let patches = &suggestion.splice.patches;

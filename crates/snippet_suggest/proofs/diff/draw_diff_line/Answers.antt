@@ -1,4 +1,6 @@
-use Rattle.std.proofs.Common.{◌∙◌}
+use Rattle.std.proofs.Common.{◌∙◌, ◌++◌, ◌∷◌, [], List, ap}
+use Rattle.snippet_style.specs.Cell.{Cell}
+use Rattle.snippet_suggest.proofs.PutLemmas.{diff_offered}
 use Rattle.std.proofs.lemmas.Result.{on_ok_weaker}
 use Rattle.snippet_suggest.proofs.ComposeLemmas.{first_fits, line_lines}
 use Rattle.snippet_suggest.proofs.diff.draw_diff_line.Goals as goal
@@ -11,5 +13,21 @@ returns-clause-added c = λ drawn fits.
       | then-not-left_out+in_ok-draw_line w ↦
           let adds = w.in_ok-draw_line.ensures.added (first_fits a.layout a.first c.ranges.first.fits fits) in
           on_ok_weaker _ (λ painted. line_lines a.layout a.first a.line.now a.buffer.now w.draw_line.new.buffer c.paint_last.new.buffer c.ranges.first.fits adds painted) (c.paint_last.ensures.repaints a.buffer.now adds.row (w.buffer-is ∙ adds.added))
+      | else-not-left_out w ↦ absurd (cc)
+    ]
+
+pub returns-clause-left_cells : goal.returns-clause-left_cells
+returns-clause-left_cells c = λ above last left is.
+    elim c.if-not-left_out.branch [
+      | then-not-left_out+in_ok-draw_line w ↦ absurd (cc)
+      | else-not-left_out w ↦ c.paint_last.ensures.cells above last (w.buffer-is ∙ is)
+    ]
+
+pub returns-clause-cells : goal.returns-clause-cells
+returns-clause-cells c = λ shown.
+    let a = c.args in
+    elim c.if-not-left_out.branch [
+      | then-not-left_out+in_ok-draw_line w ↦
+          on_ok_weaker c.paint_last.result (λ painted. painted ∙ ap (λ (row : List Cell). a.buffer.now ++ row ∷ []) (diff_offered a.layout a.first a.line.now a.added.now)) (c.paint_last.ensures.cells a.buffer.now _ (w.buffer-is ∙ w.in_ok-draw_line.ensures.cells))
       | else-not-left_out w ↦ absurd (cc)
     ]

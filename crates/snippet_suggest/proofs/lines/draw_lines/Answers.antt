@@ -1,5 +1,7 @@
-use Rattle.std.proofs.Common.{◌∙◌, sym, subst, map, length, All, List}
+use Rattle.std.proofs.Common.{◌∙◌, ◌++◌, ap, sym, subst, map, length, All, List}
 use Rattle.snippet_suggest.specs.declared.shown.ShownLine.{ShownLine}
+use Rattle.snippet_splice.specs.Stretches.{line_stretches}
+use Rattle.snippet_suggest.specs.Cells.{shown_cells}
 use Rattle.snippet_suggest.specs.Rows.{AddsShown, NumberFits}
 use Rattle.snippet_suggest.specs.Shown.{is_touched}
 use Rattle.snippet_suggest.proofs.RisingLemmas.{rooms_shown}
@@ -11,4 +13,5 @@ returns c =
     let is = c.deref.ensures.value ∙ c.in_ok-shown.ensures.value in
     record {
       added = λ rooms. subst (λ (s : List ShownLine). AddsShown a.layout a.first (map (λ l. l.now) a.lines.now) s a.buffer.now c.draw_shown.new.buffer) is (c.in_ok-draw_shown.ensures.added (subst (All (NumberFits a.layout a.first)) (sym is) (rooms_shown a.layout a.first (length a.lines.now) (is_touched a.fold a.ranges.now) rooms)));
+      cells = c.in_ok-draw_shown.ensures.cells ∙ ap (λ (s : List ShownLine). a.buffer.now ++ map (shown_cells a.layout a.kind a.first (map (λ l. l.now) a.lines.now) (line_stretches a.stretches.now)) s) is;
     }

@@ -1,8 +1,31 @@
-use Rattle.std.proofs.Common.{arith}
+use Rattle.std.proofs.Common.{◌-◌, ◌+◌, arith}
 use Rattle.snippet_style.specs.declared.role.ElementStyle.TheVariants.{Addition}
 use Rattle.snippet_suggest.proofs.MarkLemmas.{marks_more}
+use Rattle.snippet_suggest.proofs.MarksDrawn.{marks_begun, marks_done, marks_next}
 use Rattle.snippet_suggest.proofs.marks.draw_mark.Goals as goal
 
+pub loop-column-init : goal.loop-column-init
+loop-column-init c =
+    record {
+      marked = λ above last left here is stroke mark. record { row = last; added = is; is = stroke };
+      within = omega arith;
+      cells = λ above last here is. marks_begun c.args.mark (c.args.layout.gutter + 3 + c.args.start) (c.args.start - c.args.start) above last c.args.buffer.now (omega arith) is;
+    }
+
 pub loop-column-preserved : goal.loop-column-preserved
-loop-column-preserved c = λ above last left here is bare mark.
-    marks_more c.args.layout.decor c.args.layout.gutter _ Addition c.args.mark left above c.loop-column.buffer c.putc.new.self c.args.row here (omega arith) mark (c.loop-column.invariant above last left here is bare mark) c.in_ok-putc.ensures.ok
+loop-column-preserved c =
+    let inv = c.loop-column.invariant in
+    let column = c.loop-column.column in
+    let start = c.args.start in
+    record {
+      marked = λ above last left here is bare mark. marks_more c.args.layout.decor c.args.layout.gutter _ Addition c.args.mark left above c.loop-column.buffer c.putc.new.self c.args.row here (omega arith) mark (inv.marked above last left here is bare mark) c.in_ok-putc.ensures.ok;
+      within = omega arith;
+      cells = λ above last here is. marks_next c.args.mark (c.args.layout.gutter + 3 + start) (c.args.layout.gutter + 3 + column) (column - start) (column + 1 - start) c.args.row above last c.loop-column.buffer c.putc.new.self here (omega arith) (omega arith) (inv.cells above last here is) c.in_ok-putc.ensures.ok;
+    }
+
+pub returns : goal.returns
+returns c =
+    record {
+      marked = c.loop-column.invariant.marked;
+      cells = λ above last here is. marks_done c.args.layout c.args.mark c.args.start c.args.end (c.loop-column.column - c.args.start) above last c.loop-column.buffer (omega (arith, c.loop-column.invariant.within, c.loop-column-test.false, c.loop-column.auto.column, c.min-column-end.ensures)) (c.loop-column.invariant.cells above last here is);
+    }

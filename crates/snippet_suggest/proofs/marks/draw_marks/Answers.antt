@@ -1,6 +1,51 @@
+use Rattle.std.proofs.Common.{◌≡◌, ◌∙◌, ◌+◌, ◌<◌, ℕ, [], ◌∷◌, ◌++◌, List, ap, drop, get_or, length, map, refl, subst, sym, take}
+use Rattle.std.proofs.lemmas.List.{drop_all, drop_more, map-append}
+use Rattle.snippet_splice.specs.declared.patches.TrimmedPatch.{TrimmedPatch}
+use Rattle.snippet_splice.specs.Edits.{Edit, trimmed_edit_of}
+use Rattle.snippet_suggest.specs.declared.marks.PatchColumns.{PatchColumns}
+use Rattle.snippet_suggest.specs.Marks.{columns_of, mark_end, mark_start, with_marks}
+use Rattle.snippet_suggest.specs.Moves.{AreMoves}
+use Rattle.snippet_suggest.proofs.DrawnLemmas.{next_of}
+use Rattle.snippet_suggest.proofs.MarksDrawn.{marked_done, marked_next}
 use Rattle.snippet_suggest.proofs.marks.draw_marks.Goals as goal
 
+pub loop-patch-init : goal.loop-patch-init
+loop-patch-init c =
+    record {
+      marked = λ above last left here is stroke. record { row = last; added = is; is = stroke };
+      of = c.none-moves.ensures.of;
+      cells = λ above last here is. record { row = last; is = is; whole = refl };
+    }
+
 pub loop-patch-preserved : goal.loop-patch-preserved
-loop-patch-preserved c = λ above last left here is stroke.
-    let so_far = c.loop-patch.invariant above last left here is stroke in
-    c.in_ok-draw_mark.ensures.marked above so_far.row left here so_far.added so_far.is c.patch_mark-mark.ensures.mark
+loop-patch-preserved c =
+    let a = c.args in
+    let m = a.map.now in
+    let inv = c.loop-patch.invariant in
+    let i : ℕ = c.loop-patch.patch-index in
+    let ps : List TrimmedPatch = a.patches.now in
+    let within : i < length ps = c.loop-patch-test.true in
+    let d : TrimmedPatch = record { original_span = record { start = 0; end = 0 }; span = record { start = 0; end = 0 }; replacement = record { ref_ptr = (0, 0); now = [] } } in
+    let f : TrimmedPatch → PatchColumns = λ p. columns_of m (trimmed_edit_of p) in
+    let e : Edit = trimmed_edit_of (get_or ps i d) in
+    let earlier : List PatchColumns = map f (take i ps) in
+    let columns = c.patch_columns-columns.ensures.value in
+    let more : map f (take (i + 1) ps) ≡ earlier ++ columns_of m e ∷ [] = ap (map f) (next_of ps i d within) ∙ map-append f (take i ps) (get_or ps i d ∷ []) in
+    let shift = c.before-in-loop-patch.ensures.value earlier inv.of in
+    let bounds = c.marked_columns-start.ensures.value earlier shift in
+    record {
+      marked = λ above last left here is stroke.
+          let so_far = inv.marked above last left here is stroke in
+          c.in_ok-draw_mark.ensures.marked above so_far.row left here so_far.added so_far.is c.patch_mark-mark.ensures.mark;
+      of = subst (λ (cs : List PatchColumns). AreMoves cs c.push.new.self) (sym (more ∙ ap (λ (x : PatchColumns). earlier ++ x ∷ []) (sym columns))) (c.in_ok-push.ensures.of earlier inv.of);
+      cells = λ above last here is.
+          let so_far = inv.cells above last here is in
+          marked_next a.layout m earlier (map f (take (i + 1) ps)) e (map trimmed_edit_of (drop i ps)) (map trimmed_edit_of (drop (i + 1) ps)) (with_marks a.layout m [] (map trimmed_edit_of ps) last) above c.loop-patch.buffer c.draw_mark.new.buffer c.patch_mark-mark.result c.marked_columns-start.result.0 c.marked_columns-start.result.1 so_far (ap (map trimmed_edit_of) (drop_more ps i d within)) more (c.patch_mark-mark.ensures.value (c.requires.spans i d within)) (ap (λ (b : ℕ × ℕ). b.0) bounds ∙ ap (λ (x : PatchColumns). mark_start earlier x e.text) columns) (ap (λ (b : ℕ × ℕ). b.1) bounds ∙ ap (λ (x : PatchColumns). mark_end earlier x e.text) columns) (c.in_ok-draw_mark.ensures.cells above so_far.row here so_far.is);
+    }
+
+pub returns : goal.returns
+returns c =
+    record {
+      marked = c.loop-patch.invariant.marked;
+      cells = λ above last here is. marked_done c.args.layout c.args.map.now _ _ _ above c.loop-patch.buffer (ap (map trimmed_edit_of) (drop_all c.loop-patch.patch-index c.args.patches.now c.loop-patch-test.false)) (c.loop-patch.invariant.cells above last here is);
+    }

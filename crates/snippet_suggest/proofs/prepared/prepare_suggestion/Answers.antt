@@ -10,6 +10,7 @@ use Rattle.snippet_splice.specs.Copied.{written_ranges}
 use Rattle.snippet_splice.specs.Edits.{Edit, bounds_of, edit_of, in_order, original_bounds_of, trimmed_edit_of, trimmed_edits}
 use Rattle.snippet_splice.specs.Splice.{IsSplice}
 use Rattle.snippet_splice.specs.Shown.{first_start, shown_start, shown_text}
+use Rattle.snippet_splice.specs.Stretches.{new_stretches, replaced_stretches}
 use Rattle.snippet_suggest.specs.Given.{edits_of, given_ranges, given_text, shown_kind, source_of, trimmed_of}
 use Rattle.snippet_suggest.specs.Kind.{kind_of}
 use Rattle.snippet_suggest.proofs.PreparedLemmas.{counted-is, some-left}
@@ -49,6 +50,8 @@ returns-clause-prepared c =
       edits = edits;
       originals = originals;
       ranges = ranges;
+      new = λ k. splice.stretches k ∙ ap (λ (t : List ℕ). new_stretches s.fold t (map edit_of c.deref.result.now) k) of ∙ ap (λ (ms : List Patch). new_stretches s.fold source (map edit_of ms) k) given;
+      replaced = λ k. splice.replaced k ∙ ap (λ (t : List ℕ). replaced_stretches s.fold t (map edit_of c.deref.result.now) k) of ∙ ap (λ (ms : List Patch). replaced_stretches s.fold source (map edit_of ms) k) given;
       kind = kind;
       counted = counted-is s c.in_ok-map.map ps (string_bytes c.in-Some.splice.complete) c.new-kind.result c.counted_line-counted.result c.requires.suggestible lines text edits originals kind c.counted_line-counted.ensures.value;
     }

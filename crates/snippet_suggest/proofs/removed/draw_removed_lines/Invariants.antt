@@ -1,7 +1,10 @@
-use Rattle.std.proofs.Common.{◌≡◌, ◌<◌, ◌^◌, ◌++◌, Bool, List, length}
+use Rattle.std.proofs.Common.{◌≡◌, ◌<◌, ◌^◌, ◌≤◌, ◌++◌, Bool, List, length}
 use Rattle.snippet_style.specs.Cell.{Cell}
 use Rattle.snippet_suggest.specs.Rows.{IsTail}
+use Rattle.snippet_grid.specs.Grid.{row_at}
+use Rattle.snippet_suggest.specs.Order.{numbered_at}
 use Rattle.snippet_suggest.proofs.RemovedRows.{RemovesAt}
+use Rattle.snippet_suggest.proofs.RowsDrawn.{Emptied}
 use Rattle.snippet_suggest.proofs.removed.draw_removed_lines.Given as goal
 
 -- a row has a number below that of the greatest, and the next row is drawn below those so far
@@ -9,4 +12,5 @@ abbrev pub invariant-loop-info : goal.invariant-loop-info
 invariant-loop-info l = record {
   small : l.row < 2 ^ 60;
   drawn : (above tail : List (List Cell)) (shares : Bool) → l.initial.row ≡ length above → l.initial.buffer ≡ above ++ tail → IsTail l.layout.decor l.layout.gutter shares tail → RemovesAt l.layout above l.lines l.row l.info-index l.buffer;
+  cells : (above tail : List (List Cell)) → l.initial.row ≡ length above → l.initial.buffer ≡ above ++ tail → length tail ≤ 1 → Emptied l.layout above (row_at tail 0) (numbered_at l.lines) l.row l.info-index l.buffer;
 }

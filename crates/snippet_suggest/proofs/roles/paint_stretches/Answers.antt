@@ -1,18 +1,58 @@
-use Rattle.std.proofs.Common.{List, sym, subst}
+use Rattle.std.proofs.Common.{◌≡◌, ◌∙◌, ◌==◌, ◌++◌, ◌∷◌, ℕ, [], List, ap, chars, count_by, get_or, subst, sym, take}
+use Rattle.std.proofs.lemmas.List.{take_all}
 use Rattle.snippet_style.specs.Cell.{Cell}
+use Rattle.snippet_splice.specs.declared.stretches.SubstitutionHighlight.{SubstitutionHighlight}
+use Rattle.snippet_splice.specs.Stretches.{capped}
+use Rattle.snippet_suggest.specs.declared.roles.TabCursor.{TabCursor}
+use Rattle.snippet_suggest.specs.Cells.{stretch_cell, with_stretches}
+use Rattle.snippet_suggest.specs.Cursor.{IsCursor}
 use Rattle.snippet_suggest.specs.Rows.{IsRepainted}
 use Rattle.snippet_suggest.proofs.PaintLemmas.{repaint_none, repaint_more}
+use Rattle.snippet_suggest.proofs.StretchRows.{painted_begun, painted_next, passed_next}
 use Rattle.snippet_suggest.proofs.roles.paint_stretches.Goals as goal
 use Rattle.snippet_suggest.proofs.roles.paint_stretches.Goals.{then-stretch+in_ok-set_style_range, else-stretch}
 
 pub loop-stretch-init : goal.loop-stretch-init
-loop-stretch-init c = λ above last here is. repaint_none above last c.args.buffer.now is
+loop-stretch-init c =
+    record {
+      at = c.new-tabs.ensures.at;
+      line = c.new-tabs.ensures.line;
+      painted = λ above last here is. repaint_none above last c.args.buffer.now is;
+      cells = λ above last here is. painted_begun c.args.role c.args.layout.gutter (chars c.args.line.now) c.args.stretches.now above last c.args.buffer.now is;
+    }
 
 pub loop-stretch-preserved : goal.loop-stretch-preserved
-loop-stretch-preserved c = λ above last here is.
-    let before = c.loop-stretch.invariant above last here is in
+loop-stretch-preserved c =
+    let a = c.args in
+    let inv = c.loop-stretch.invariant in
+    let i : ℕ = c.loop-stretch.stretch-index in
+    let ss : List SubstitutionHighlight = a.stretches.now in
+    let d : SubstitutionHighlight = record { start = 0; end = 0 } in
+    let s : SubstitutionHighlight = get_or ss i d in
+    let cs : List ℕ = chars a.line.now in
+    let g : ℕ = a.layout.gutter in
+    let Tabs : ℕ → List ℕ → ℕ = λ k line. count_by (λ ch. ch == 9) (take k (chars line)) in
     elim c.if-stretch.branch [
       | then-stretch+in_ok-set_style_range w ↦
-          subst (λ (rows : List (List Cell)). IsRepainted above last rows) (sym w.buffer-is) (repaint_more above last c.loop-stretch.buffer w.set_style_range.new.self c.args.row w.stretch_cell-start.result w.stretch_cell-end.result c.args.role here before w.in_ok-set_style_range.ensures.ok)
-      | else-stretch w ↦ subst (λ (rows : List (List Cell)). IsRepainted above last rows) (sym w.buffer-is) before
+          let line : w.before-then-stretch.new.self.line.now ≡ a.line.now = w.before-then-stretch.ensures.line ∙ inv.line in
+          let starts : w.stretch_cell-start.result ≡ stretch_cell g cs s.start = w.stretch_cell-start.ensures.value (Tabs s.start a.line.now) (w.before-then-stretch.ensures.value ∙ ap (λ t. capped (Tabs s.start t)) inv.line) in
+          let ends : w.stretch_cell-end.result ≡ stretch_cell g cs s.end = w.stretch_cell-end.ensures.value (Tabs s.end a.line.now) (w.before-then-stretch-2.ensures.value ∙ ap (λ t. capped (Tabs s.end t)) line) in
+          record {
+            at = subst IsCursor (sym w.tabs-is) w.before-then-stretch-2.ensures.at;
+            line = ap (λ (t : TabCursor). t.line.now) w.tabs-is ∙ w.before-then-stretch-2.ensures.line ∙ line;
+            painted = λ above last here is. subst (λ (rows : List (List Cell)). IsRepainted above last rows) (sym w.buffer-is) (repaint_more above last c.loop-stretch.buffer w.set_style_range.new.self a.row w.stretch_cell-start.result w.stretch_cell-end.result a.role here (inv.painted above last here is) w.in_ok-set_style_range.ensures.ok);
+            cells = λ above last here is. w.buffer-is ∙ painted_next a.role g cs ss i d above last c.loop-stretch.buffer w.set_style_range.new.self a.row w.stretch_cell-start.result w.stretch_cell-end.result c.loop-stretch-test.true here (inv.cells above last here is) starts ends w.in_ok-set_style_range.ensures.ok;
+          }
+      | else-stretch w ↦
+          record {
+            at = subst IsCursor (sym w.tabs-is) inv.at;
+            line = ap (λ (t : TabCursor). t.line.now) w.tabs-is ∙ inv.line;
+            painted = λ above last here is. subst (λ (rows : List (List Cell)). IsRepainted above last rows) (sym w.buffer-is) (inv.painted above last here is);
+            cells = λ above last here is. w.buffer-is ∙ passed_next a.role g cs ss i d above last c.loop-stretch.buffer c.loop-stretch-test.true (inv.cells above last here is) w.if-stretch.false;
+          }
     ]
+
+pub returns-clause-cells : goal.returns-clause-cells
+returns-clause-cells c = λ above last here is.
+    let a = c.args in
+    c.loop-stretch.invariant.cells above last here is ∙ ap (λ (ss : List SubstitutionHighlight). above ++ with_stretches a.role a.layout.gutter (chars a.line.now) ss last ∷ []) (take_all c.loop-stretch.stretch-index a.stretches.now c.loop-stretch-test.false)

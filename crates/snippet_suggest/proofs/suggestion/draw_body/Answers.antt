@@ -1,6 +1,14 @@
 use denote.Enum.Bare.{same_true, true_same}
-use Rattle.std.proofs.Common.{◌≡◌, ◌≢◌, ℕ, ◌+◌, ◌<◌, ◌∷◌, ◌++◌, ◌∙◌, [], All, List, ap, arith, if◌then◌else◌, length, map, replicate, rules, subst, sym}
-use Rattle.std.proofs.lemmas.List.{length-map}
+use Rattle.std.proofs.Common.{◌≡◌, ◌≢◌, ℕ, ◌+◌, ◌<◌, ◌∷◌, ◌++◌, ◌∙◌, [], All, List, ap, append_assoc, arith, if◌then◌else◌, length, map, replicate, rules, subst, sym}
+use Rattle.std.proofs.lemmas.List.{append-nil, length-map}
+use Rattle.snippet_grid.specs.Grid.{row_at}
+use Rattle.snippet_style.specs.Cell.{Cell}
+use Rattle.snippet_splice.specs.declared.stretches.SubstitutionHighlight.{SubstitutionHighlight}
+use Rattle.snippet_splice.specs.Stretches.{line_stretches}
+use Rattle.snippet_suggest.specs.declared.kind.DisplaySuggestion.{DisplaySuggestion}
+use Rattle.snippet_suggest.specs.Cells.{begin_cells, shown_cells}
+use Rattle.snippet_suggest.specs.Suggested.{new_on}
+use Rattle.snippet_suggest.proofs.SuggestedRows.{body_shown, shown_same}
 use Rattle.std.proofs.lemmas.Result.{IfOk-weaker}
 use Rattle.snippet_lines.specs.Lines.{source_lines}
 use Rattle.snippet_lines.specs.Place.{line_of}
@@ -10,7 +18,7 @@ use Rattle.snippet_suggest.specs.contracts.kind.DisplaySuggestion.{the_type}
 use Rattle.snippet_suggest.specs.declared.kind.DisplaySuggestion.TheVariants.{Diff}
 use Rattle.snippet_suggest.specs.declared.shown.ShownLine.TheVariants.{Line}
 use Rattle.snippet_splice.specs.declared.splice.LineRange.{LineRange}
-use Rattle.snippet_suggest.specs.Given.{first_given, first_original, given_lines, given_ranges}
+use Rattle.snippet_suggest.specs.Given.{first_given, first_original, given_lines, given_ranges, shown_kind}
 use Rattle.snippet_suggest.specs.Order.{Begins, SuggestionRow, row_of_shown, rows_of_suggestion}
 use Rattle.snippet_suggest.specs.Rows.{AddsRows, NumberFits}
 use Rattle.snippet_suggest.specs.Shown.{is_touched, shown_lines}
@@ -91,3 +99,37 @@ returns-clause-added c = λ room above tail is shared.
     let line = lines_some (λ l. l.now) a.lines.now lines c.in-Some.line.now (sym c.in-Some.ensures.value) c.requires.lines in
     let rows = rows_others a.start s _ line.0 line.1 (λ diff. other (c.requires.prepared.kind ∙ diff)) in
     none_empty l at lines (rows_of_suggestion a.start s) above new (subst (λ rs. AddsRows l at lines rs above new) (sym rows) (rows_append l at lines (Begins a.start ∷ []) (Shown (given_ranges s) (length lines)) above mid new head below))
+
+pub returns-in_default-clause-cells : goal.returns-in_default-clause-cells
+returns-in_default-clause-cells c = λ above tail is count.
+    append-nil c.draw_emptied.new.buffer ∙ c.in_ok-draw_emptied.ensures.cells above tail is count
+
+pub returns-then-eq-clause-cells : goal.returns-then-eq-clause-cells
+returns-then-eq-clause-cells c = λ above tail is count.
+    c.draw_changed.ensures.cells above (row_at tail 0) c.args.start (c.in_ok-draw_head.ensures.cells above tail is count)
+
+pub returns-clause-cells : goal.returns-clause-cells
+returns-clause-cells c = λ above tail is count.
+    let a = c.args in
+    let p = a.suggestion.now in
+    let s = p.snippet.now in
+    let l = a.layout in
+    let at : ℕ = s.line_start + first_given s in
+    let lines = given_lines s in
+    let new = c.draw_lines.new.buffer in
+    let n : ℕ = c.first_number-first.result in
+    let first : n ≡ at = c.first_number-first.ensures.value ∙ ap (λ ps. p.map.first + (if p.snippet.now.fold then line_of (source_lines p.map.text) (first_original ps) else 0)) c.deref.ensures.value ∙ known_first p c.requires.prepared in
+    let size : length a.lines.now ≡ length lines = sym (length-map a.lines.now (λ l. l.now)) ∙ ap length c.requires.lines in
+    let other : p.kind ≢ Diff = λ same. cc (c.if-eq.false, c.eq.ensures, true_same the_type p.kind Diff same) in
+    let ranges : c.deref-2.result.now ≡ given_ranges s = c.deref-2.ensures.value ∙ c.requires.prepared.ranges in
+    let shown = shown_lines (is_touched s.fold (given_ranges s)) (length lines) in
+    let begin : List Cell = begin_cells l a.start (row_at tail 0) in
+    let stretches : ℕ → List SubstitutionHighlight = line_stretches c.deref-3.result.now in
+    let same : (k : ℕ) → stretches k ≡ new_on s k = λ k. ap (λ vs. line_stretches vs k) c.deref-3.ensures.value ∙ c.requires.prepared.new k in
+    let Rows : DisplaySuggestion → ℕ → List (List ℕ) → List LineRange → ℕ → List (List Cell) = λ kind m ls rs k. map (shown_cells l kind m ls stretches) (shown_lines (is_touched s.fold rs) k) in
+    let drawn : Rows p.kind n (map (λ l. l.now) a.lines.now) c.deref-2.result.now (length a.lines.now) ≡ Rows (shown_kind s) at lines (given_ranges s) (length lines) = ap (λ kind. Rows kind n (map (λ l. l.now) a.lines.now) c.deref-2.result.now (length a.lines.now)) c.requires.prepared.kind ∙ ap (λ m. Rows (shown_kind s) m (map (λ l. l.now) a.lines.now) c.deref-2.result.now (length a.lines.now)) first ∙ ap (λ ls. Rows (shown_kind s) at ls c.deref-2.result.now (length a.lines.now)) c.requires.lines ∙ ap (λ rs. Rows (shown_kind s) at lines rs (length a.lines.now)) ranges ∙ ap (Rows (shown_kind s) at lines (given_ranges s)) size in
+    let below : Rows (shown_kind s) at lines (given_ranges s) (length lines) ≡ map (shown_cells l (shown_kind s) at lines (new_on s)) shown = shown_same l (shown_kind s) at lines stretches (new_on s) shown same in
+    let line = lines_some (λ l. l.now) a.lines.now lines c.in-Some.line.now (sym c.in-Some.ensures.value) c.requires.lines in
+    let kind : shown_kind s ≢ Diff = λ diff. other (c.requires.prepared.kind ∙ diff) in
+    let rows = rows_others a.start s _ line.0 line.1 kind in
+    append-nil new ∙ c.in_ok-draw_lines.ensures.cells ∙ ap (λ rs. rs ++ Rows p.kind n (map (λ l. l.now) a.lines.now) c.deref-2.result.now (length a.lines.now)) (c.in_ok-draw_head.ensures.cells above tail is count) ∙ append_assoc above (begin ∷ []) _ ∙ ap (λ rs. above ++ (begin ∷ rs)) (drawn ∙ below) ∙ ap (λ rs. above ++ rs) (body_shown l a.start s (row_at tail 0) _ line.0 shown line.1 kind rows)

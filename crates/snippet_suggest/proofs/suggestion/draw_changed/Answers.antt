@@ -1,4 +1,4 @@
-use Rattle.std.proofs.Common.{◌≡◌, ℕ, Bool, ◌<◌, ◌∷◌, ◌++◌, ◌∙◌, [], All, List, false, true, ap, length, map, refl, replicate, subst, sym}
+use Rattle.std.proofs.Common.{◌≡◌, ℕ, Bool, append_assoc, ◌<◌, ◌∷◌, ◌++◌, ◌∙◌, [], All, List, false, true, ap, length, map, refl, replicate, subst, sym}
 use Rattle.std.specs.Cow.{cow_str_bytes}
 use Rattle.std.specs.Str.{bytes_eq}
 use Rattle.snippet_lines.specs.Lines.{source_lines}
@@ -10,7 +10,14 @@ use Rattle.snippet_splice.specs.declared.patches.TrimmedPatch.{TrimmedPatch}
 use Rattle.snippet_splice.specs.Copied.{end_from}
 use Rattle.snippet_splice.specs.Edits.{AreApart, trimmed_edit_of}
 use Rattle.snippet_suggest.specs.declared.kind.DisplaySuggestion.TheVariants.{Diff}
-use Rattle.snippet_suggest.specs.Given.{given_lines, given_ranges, is_left_out, last_reached, last_removed, removed_lines, texts_at, trimmed_of, unless_stays}
+use Rattle.snippet_style.specs.Cell.{Cell}
+use Rattle.std.proofs.lemmas.List.{append-nil}
+use Rattle.snippet_splice.specs.Stretches.{line_stretches}
+use Rattle.snippet_suggest.specs.Cells.{begin_cells, diff_cells}
+use Rattle.snippet_suggest.specs.Suggested.{new_on, replaced_on}
+use Rattle.snippet_suggest.proofs.KnownDiff.{IsDiff, known_diff, known_diff_rows}
+use Rattle.snippet_suggest.proofs.SuggestedRows.{body_diff, body_untouched}
+use Rattle.snippet_suggest.specs.Given.{shown_kind, given_lines, given_ranges, is_left_out, last_reached, last_removed, removed_lines, texts_at, trimmed_of, unless_stays}
 use Rattle.snippet_suggest.specs.Order.{Begins, SuggestionRow, changed_rows, counted_from, removed_from, removed_row, rows_of_suggestion}
 use Rattle.snippet_suggest.specs.Rows.{AddsRows}
 use Rattle.snippet_suggest.specs.Shown.{is_touched}
@@ -68,3 +75,44 @@ returns-clause-added c = λ fits above last start is shows.
     let Adds : List (List ℕ) → List SuggestionRow → Type 0 = λ ls rs. AddsRows a.layout a.first ls rs above new in
     let here : Adds (given_lines s) (Begins start ∷ changed_rows true leaves (Removed left)) = subst (λ ls. Adds ls (Begins start ∷ changed_rows true leaves (Removed left))) (sym c.requires.line) drawn in
     none_empty a.layout a.first (given_lines s) (rows_of_suggestion start s) above new (subst (Adds (given_lines s)) (ap (λ rs. Begins start ∷ changed_rows true leaves rs) removed ∙ sym rows) here)
+
+pub returns-then-not-is_touched-clause-cells : goal.returns-then-not-is_touched-clause-cells
+returns-then-not-is_touched-clause-cells c = λ above under start is.
+    let a = c.args in
+    let p = a.suggestion.now in
+    let s = p.snippet.now in
+    let begin : List Cell = begin_cells a.layout start under in
+    let diff : shown_kind s ≡ Diff = sym c.requires.prepared.kind ∙ c.requires.diff in
+    let touches : is_touched s.fold (given_ranges s) 0 ≡ false = ap (λ rs. is_touched s.fold rs 0) (sym c.requires.prepared.ranges ∙ sym c.deref.ensures.value) ∙ sym c.is_touched.ensures.value ∙ c.if-not-is_touched.true in
+    let rows = rows_diff start s a.line.now [] false (is_left_out Diff (a.line.now ∷ []) (last_reached s)) c.requires.line diff touches refl in
+    ap (λ (rs : List (List Cell)). rs ++ [] ∷ []) is ∙ append_assoc above (begin ∷ []) ([] ∷ []) ∙ ap (λ (rs : List (List Cell)). above ++ rs) (body_untouched a.layout start s under a.line.now c.requires.line diff touches rows)
+
+pub returns-clause-cells : goal.returns-clause-cells
+returns-clause-cells c = λ above under start is.
+    let a = c.args in
+    let p = a.suggestion.now in
+    let s = p.snippet.now in
+    let span = c.trimmed_span.result in
+    let infos = c.in_ok-removed.removed.items in
+    let patches = c.deref-2.ensures.value in
+    let some : 0 < length c.deref-2.result.now = subst (λ (ps : List TrimmedPatch). 0 < length ps) (sym patches) (known_some p c.requires.prepared) in
+    let apart : AreApart 0 (map trimmed_edit_of c.deref-2.result.now) = subst (AreApart 0) (sym (ap (map trimmed_edit_of) patches ∙ c.requires.prepared.edits)) (known_apart p c.requires.prepared) in
+    let diff : IsDiff p a.line.now infos span.start span.end a.first = record {
+      prepared = c.requires.prepared;
+      diff = c.requires.diff;
+      one = c.requires.line;
+      touches = sym c.if-not-is_touched.false ∙ c.is_touched.ensures.value ∙ ap (λ ranges. is_touched s.fold ranges 0) c.deref.ensures.value;
+      starts = c.trimmed_span.ensures.start some apart ∙ ap (λ ps. first_start (map trimmed_edit_of ps)) patches;
+      ends = c.trimmed_span.ensures.end some apart ∙ ap (λ ps. end_from 0 (map trimmed_edit_of ps)) patches;
+      ordered = c.trimmed_span.ensures.span.ordered;
+      are = c.in_ok-removed.ensures.lines;
+      numbered = c.requires.first;
+      small = c.ranges.first.fits;
+    } in
+    let begin : List Cell = begin_cells a.layout start under in
+    let replaced = line_stretches c.deref-5.result.now in
+    let added = c.stretches_of-added.result.now in
+    let same : (j : ℕ) → replaced j ≡ replaced_on s j = λ j. ap (λ vs. line_stretches vs j) c.deref-5.ensures.value ∙ c.requires.prepared.replaced j in
+    let new : added ≡ new_on s 0 = c.stretches_of-added.ensures.value ∙ ap (λ vs. line_stretches vs 0) c.deref-3.ensures.value ∙ c.requires.prepared.new 0 in
+    let Drawn : ℕ → List LineInfo → List (List Cell) = λ n is. above ++ diff_cells a.layout n is replaced a.line.now added begin in
+    append-nil c.draw_diff.new.buffer ∙ c.in_ok-draw_diff.ensures.cells above begin is ∙ ap (Drawn a.first) c.deref-4.ensures.value ∙ ap (λ n. Drawn n infos) c.requires.first ∙ ap (λ (rs : List (List Cell)). above ++ rs) (body_diff a.layout s a.line.now _ _ _ infos replaced (known_diff p a.line.now infos span.start span.end a.first diff) same start under added new (known_diff_rows p a.line.now infos span.start span.end a.first diff start))

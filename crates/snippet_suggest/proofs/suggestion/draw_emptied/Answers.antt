@@ -1,6 +1,10 @@
 use denote.Enum.Bare.{same_true, true_same}
-use Rattle.std.proofs.Common.{◌≡◌, ◌≢◌, ℕ, ◌+◌, ◌<◌, ◌∷◌, ◌∙◌, All, [], false, List, ap, if◌then◌else◌, length, map, refl, rules, subst, sym}
-use Rattle.std.proofs.lemmas.List.{append-nil}
+use Rattle.std.proofs.Common.{◌≡◌, ◌≢◌, ℕ, ◌+◌, ◌<◌, ◌≤◌, ◌∷◌, ◌++◌, ◌∙◌, All, [], false, List, ap, append_assoc, arith, if◌then◌else◌, length, map, refl, rules, subst, sym}
+use Rattle.std.proofs.lemmas.List.{append-nil, length-append}
+use Rattle.snippet_grid.specs.Grid.{row_at}
+use Rattle.snippet_style.specs.Cell.{Cell}
+use Rattle.snippet_suggest.specs.Cells.{begin_cells, emptied_cells}
+use Rattle.snippet_suggest.proofs.SuggestedRows.{body_emptied, body_emptied_diff, shared_few}
 use Rattle.std.proofs.lemmas.Result.{on_ok_weaker}
 use Rattle.snippet_lines.specs.Lines.{source_lines}
 use Rattle.snippet_lines.specs.Place.{line_of}
@@ -58,6 +62,24 @@ returns-then-eq c =
           let head = row_alone a.layout first (given_lines s) (Begins a.start) above mid (c.in_ok-draw_head.ensures.added above tail is shared) in
           let below = c.draw_removed_lines.ensures.added mid [] false c.num_lines-row.ensures.count (sym (append-nil mid)) refl in
           on_ok_weaker c.draw_removed_lines.result (λ adds. subst Adds (ap (λ rs. Begins a.start ∷ rs) removed ∙ sym rows) (rows_append a.layout first (given_lines s) (Begins a.start ∷ []) (removed_from i (numbered_at c.deref-then-eq.result.now)) above mid new head (removed_rows a.layout first (given_lines s) i (numbered_at c.deref-then-eq.result.now) mid new adds))) below;
+      cells = λ above tail is count.
+          let a = c.args in
+          let p = a.suggestion.now in
+          let s = p.snippet.now in
+          let mid = c.draw_head.new.buffer in
+          let span = c.given_span.result in
+          let i : ℕ = line_of (source_lines p.map.text) span.start in
+          let infos = c.in_ok-removed.removed.items in
+          let lines : List (ℕ × List ℕ) = numbered_at c.deref-then-eq.result.now in
+          let diff : p.kind ≡ Diff = same_true the_type (search rules) p.kind Diff (sym c.if-eq.ensures) in
+          let some : 0 < length c.deref.result.now = subst (λ (ps : List TrimmedPatch). 0 < length ps) (sym c.deref.ensures.value) (known_some p c.requires.prepared) in
+          let starts = c.given_span.ensures.start ∙ ap (λ ps. if s.fold then first_original ps else 0) c.deref.ensures.value in
+          let ends = c.given_span.ensures.end some ∙ ap (λ ps. if s.fold then first_original_end ps else length p.map.text) c.deref.ensures.value in
+          let removed : removed_from i lines ≡ map (removed_row s) (removed_lines s) = ap (λ is. removed_from i (numbered_at is)) c.deref-then-eq.ensures.value ∙ known_emptied_rows p c.requires.prepared infos span.start span.end c.requires.none starts ends c.in_ok-removed.ensures.lines in
+          let rows = rows_none_diff a.start s c.requires.none (sym c.requires.prepared.kind ∙ diff) ∙ ap (λ rs. Begins a.start ∷ rs) (sym removed) in
+          let begun = c.in_ok-draw_head.ensures.cells above tail is count in
+          let begin : List Cell = begin_cells a.layout a.start (row_at tail 0) in
+          on_ok_weaker c.draw_removed_lines.result (λ drawn. drawn ∙ ap (λ rs. rs ++ emptied_cells a.layout lines []) begun ∙ append_assoc above (begin ∷ []) (emptied_cells a.layout lines []) ∙ ap (λ rs. above ++ rs) (body_emptied_diff a.layout a.start s (row_at tail 0) i lines c.requires.none rows)) (c.draw_removed_lines.ensures.cells mid [] c.num_lines-row.ensures.count (sym (append-nil mid)) (omega arith));
     }
 
 pub returns : goal.returns
@@ -81,4 +103,21 @@ returns c =
           let Adds : List SuggestionRow → Type 0 = λ rs. AddsRows a.layout first (given_lines s) rs above new in
           let row = tail_row a.layout (begins_in_last a.start) above tail a.buffer.now c.first_row-row.result is (start_tail a.layout a.start tail shared) c.first_row-row.ensures.value in
           on_ok_weaker c.draw_removed_lines-2.result (λ adds. subst Adds (removed ∙ sym rows) (removed_rows a.layout first (given_lines s) i (numbered_at c.deref-2.result.now) above new adds)) (c.draw_removed_lines-2.ensures.added above tail (begins_in_last a.start) row is (start_tail a.layout a.start tail shared));
+      cells = λ above tail is count.
+          let a = c.args in
+          let p = a.suggestion.now in
+          let s = p.snippet.now in
+          let span = c.given_span.result in
+          let i : ℕ = line_of (source_lines p.map.text) span.start in
+          let infos = c.in_ok-removed.removed.items in
+          let lines : List (ℕ × List ℕ) = numbered_at c.deref-2.result.now in
+          let other : p.kind ≢ Diff = λ same. cc (c.if-eq.false, c.eq.ensures, true_same the_type p.kind Diff same) in
+          let some : 0 < length c.deref.result.now = subst (λ (ps : List TrimmedPatch). 0 < length ps) (sym c.deref.ensures.value) (known_some p c.requires.prepared) in
+          let starts = c.given_span.ensures.start ∙ ap (λ ps. if s.fold then first_original ps else 0) c.deref.ensures.value in
+          let ends = c.given_span.ensures.end some ∙ ap (λ ps. if s.fold then first_original_end ps else length p.map.text) c.deref.ensures.value in
+          let removed : removed_from i lines ≡ map (removed_row s) (removed_lines s) = ap (λ is. removed_from i (numbered_at is)) c.deref-2.ensures.value ∙ known_emptied_rows p c.requires.prepared infos span.start span.end c.requires.none starts ends c.in_ok-removed.ensures.lines in
+          let rows = rows_none a.start s c.requires.none (λ diff. other (c.requires.prepared.kind ∙ diff)) ∙ sym removed in
+          let row : c.first_row-row.result ≡ length above = omega (arith, c.first_row-row.ensures.value, ap length is, count, length-append above tail) in
+          let few : length tail ≤ 1 = shared_few a.start (length tail) count in
+          on_ok_weaker c.draw_removed_lines-2.result (λ drawn. drawn ∙ ap (λ rs. above ++ rs) (body_emptied a.layout a.start s (row_at tail 0) i lines c.requires.none rows)) (c.draw_removed_lines-2.ensures.cells above tail row is few);
     }

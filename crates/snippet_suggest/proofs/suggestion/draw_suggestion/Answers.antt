@@ -1,4 +1,15 @@
-use Rattle.std.proofs.Common.{ℕ, ◌++◌, [], All, List, replicate, subst, sym}
+use denote.Enum.Bare.{same_true, true_same}
+use Rattle.std.proofs.Common.{◌≡◌, ◌≢◌, ◌∙◌, ℕ, ◌++◌, ◌∷◌, [], All, List, ap, map, replicate, rules, subst, sym}
+use Rattle.snippet_splice.specs.Edits.{trimmed_edit_of}
+use Rattle.snippet_suggest.specs.contracts.kind.DisplaySuggestion.{the_type}
+use Rattle.snippet_suggest.specs.declared.kind.DisplaySuggestion.TheVariants.{Underline}
+use Rattle.snippet_suggest.specs.Given.{shown_kind, trimmed_of}
+use Rattle.snippet_suggest.specs.Marks.{with_marks}
+use Rattle.snippet_grid.specs.Grid.{row_at}
+use Rattle.snippet_suggest.specs.Cells.{end_cells}
+use Rattle.snippet_suggest.specs.Order.{Ends}
+use Rattle.snippet_suggest.specs.Suggested.{cells_of}
+use Rattle.snippet_suggest.proofs.SuggestedRows.{ends_marked, ends_plain, suggestion_is}
 use Rattle.snippet_lines.specs.Span.{IsSpan}
 use Rattle.snippet_style.specs.Cell.{Cell}
 use Rattle.snippet_splice.specs.declared.patches.TrimmedPatch.{TrimmedPatch}
@@ -32,4 +43,26 @@ returns c =
             | else-eq w ↦ subst Ended (sym w.buffer-is) ended
           ] in
           suggestion_added l a.start a.follows s skipped above mid c.if-eq.buffer (c.in_ok-skipped.ensures.added room above tail is shared) last;
+      cells = λ above tail is count.
+          let a = c.args in
+          let l = a.layout in
+          let p = a.suggestion.now in
+          let s = p.snippet.now in
+          let skipped = c.in_ok-skipped.skipped in
+          let mid = c.draw_body.new.buffer in
+          let before : List (List Cell) = mid ++ replicate skipped [] in
+          let row : List Cell = end_cells l a.follows in
+          let ended : c.draw_end.new.buffer ≡ before ++ row ∷ [] = c.in_ok-row.ensures.cells in
+          let Ended : List Cell → Type 0 = λ r. c.if-eq.buffer ≡ before ++ r ∷ [] in
+          let last : Ended (cells_of l s [] (Ends a.follows)) = elim c.if-eq.branch [
+            | then-eq+in_ok-draw_marks w ↦
+                let kind : p.kind ≡ Underline = same_true the_type (search rules) p.kind Underline (sym w.if-eq.ensures) in
+                let marks : shown_kind s ≡ Underline = sym c.requires.prepared.kind ∙ kind in
+                let edits : map trimmed_edit_of w.deref-then-eq.result.now ≡ trimmed_of s = ap (map trimmed_edit_of) w.deref-then-eq.ensures.value ∙ c.requires.prepared.edits in
+                w.buffer-is ∙ w.in_ok-draw_marks.ensures.cells before row (end_number skipped c.in_ok-row.row mid c.in_ok-row.ensures.row.0) ended ∙ ap (λ es. before ++ with_marks l p.map [] es row ∷ []) edits ∙ ap (λ m. before ++ with_marks l m [] (trimmed_of s) row ∷ []) c.requires.prepared.lines ∙ ap (λ (r : List Cell). before ++ r ∷ []) (ends_marked l s a.follows marks)
+            | else-eq w ↦
+                let other : shown_kind s ≢ Underline = λ same. cc (w.if-eq.false, c.eq.ensures, true_same the_type p.kind Underline (c.requires.prepared.kind ∙ same)) in
+                w.buffer-is ∙ ended ∙ ap (λ (r : List Cell). before ++ r ∷ []) (ends_plain l s a.follows other)
+          ] in
+          suggestion_is l a.start a.follows s (row_at tail 0) above before c.if-eq.buffer (c.in_ok-skipped.ensures.cells above tail is count) last;
     }

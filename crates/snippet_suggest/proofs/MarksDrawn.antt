@@ -1,0 +1,162 @@
+-- Marks as values: what the patches before one move, and the cells that the marks take.
+use Rattle.std.proofs.Common.{◌≡◌, ℕ, suc, ◌+◌, ◌-◌, ◌^◌, ◌<◌, ◌≤◌, leb, All, List, [], ◌∷◌, ◌++◌, length, max, min, replicate, take, get_or, refl, sym, ap, ◌∙◌, arith, inl, inr, sum_by}
+use Rattle.std.proofs.lemmas.Bool.{cases_Bool}
+use Rattle.std.proofs.lemmas.Bool.Decides.{nat_tests}
+use Rattle.std.proofs.lemmas.List.{length-replicate, map-append, places, same_lists}
+use Rattle.std.proofs.lemmas.List.Elements.{All-push}
+use Rattle.std.proofs.lemmas.List.Sums.{sum_by-append}
+use Rattle.snippet_style.specs.declared.role.ElementStyle.{ElementStyle}
+use Rattle.snippet_style.specs.declared.role.ElementStyle.TheVariants.{Addition}
+use Rattle.snippet_style.specs.Cell.{Cell, SPACE, text_cells, unlinked_cell, written}
+use Rattle.snippet_style.proofs.CellLemmas.{length-text_cells}
+use Rattle.snippet_grid.specs.Grid.{cells_written}
+use Rattle.snippet_grid.proofs.GridLemmas.{cells_written_last}
+use Rattle.snippet_lines.specs.Lines.{Source}
+use Rattle.snippet_splice.specs.Edits.{Edit}
+use Rattle.snippet_splice.specs.Stretches.{capped}
+use Rattle.snippet_suggest.specs.declared.layout.SuggestionLayout.{SuggestionLayout}
+use Rattle.snippet_suggest.specs.declared.marks.Moves.{Moves}
+use Rattle.snippet_suggest.specs.declared.marks.PatchColumns.{PatchColumns}
+use Rattle.snippet_suggest.specs.declared.marks.Shift.{Shift}
+use Rattle.snippet_suggest.specs.Cells.{put}
+use Rattle.snippet_suggest.proofs.DrawnLemmas.{next_of}
+use Rattle.snippet_suggest.specs.Marks.{columns_of, left_of, mark_end, mark_of, mark_start, to_left, to_right, with_mark, with_marks}
+use Rattle.snippet_suggest.specs.Moves.{AreMoves, shift_of}
+
+-- ---- what patches move
+
+right_more : (cs : List PatchColumns) (c : PatchColumns) → to_right (cs ++ c ∷ []) ≡ capped (capped (to_right cs + c.width) + c.start)
+right_more cs c =
+    let f : PatchColumns → ℕ = λ d. d.width + d.start in
+    let all : sum_by f (cs ++ c ∷ []) ≡ sum_by f cs + (0 + (c.width + c.start)) = sum_by-append f cs (c ∷ []) in
+    omega (arith, all)
+
+left_more : (cs : List PatchColumns) (c : PatchColumns) → to_left (cs ++ c ∷ []) ≡ capped (to_left cs + c.end)
+left_more cs c =
+    let f : PatchColumns → ℕ = λ d. d.end in
+    let all : sum_by f (cs ++ c ∷ []) ≡ sum_by f cs + (0 + c.end) = sum_by-append f cs (c ∷ []) in
+    omega (arith, all)
+
+pub shift_more : (cs : List PatchColumns) (c : PatchColumns) (s : Shift) (right left : ℕ) → s ≡ shift_of cs → right ≡ capped (capped (s.right + c.width) + c.start) → left ≡ capped (s.left + c.end) → record { right = right; left = left } ≡ shift_of (cs ++ c ∷ [])
+shift_more cs c s right left is rights lefts =
+    let r : right ≡ to_right (cs ++ c ∷ []) = rights ∙ ap (λ (t : Shift). capped (capped (t.right + c.width) + c.start)) is ∙ sym (right_more cs c) in
+    let l : left ≡ to_left (cs ++ c ∷ []) = lefts ∙ ap (λ (t : Shift). capped (t.left + c.end)) is ∙ sym (left_more cs c) in
+    let of : ℕ → ℕ → Shift = λ m n. record { right = m; left = n } in
+    ap (λ n. of n left) r ∙ ap (of (to_right (cs ++ c ∷ []))) l
+
+pub moves_more : (cs : List PatchColumns) (c : PatchColumns) (old new : Moves) → AreMoves cs old → new.patches.items ≡ old.patches.items ++ c ∷ [] → (old.all ≡ shift_of cs → new.all ≡ shift_of (cs ++ c ∷ [])) → new.end ≡ max old.end c.end → AreMoves (cs ++ c ∷ []) new
+moves_more cs c old new are pushed shifts ends =
+    let P : PatchColumns → Type 0 = λ d. d.end ≤ new.end in
+    record {
+      patches = pushed ∙ ap (λ ds. ds ++ c ∷ []) are.patches;
+      all = shifts are.all;
+      ends = All-push P cs c (λ k d within. let low = are.ends k d within in omega (arith, low, ends)) (omega (arith, ends));
+    }
+
+-- those that end at a column or left of it, one more
+pub left_yes : (start : ℕ) (cs : List PatchColumns) (c : PatchColumns) → c.end ≤ start → left_of start (cs ++ c ∷ []) ≡ left_of start cs ++ c ∷ []
+left_yes start [] c low = grind (arith, nat_tests)
+left_yes start (d ∷ cs) c low =
+    let rest = left_yes start cs c low in
+    elim (cases_Bool (leb d.end start)) [
+      | inl held ↦ grind (arith, nat_tests)
+      | inr other ↦ grind (arith, nat_tests)
+    ]
+
+pub left_no : (start : ℕ) (cs : List PatchColumns) (c : PatchColumns) → start < c.end → left_of start (cs ++ c ∷ []) ≡ left_of start cs
+left_no start [] c high = grind (arith, nat_tests)
+left_no start (d ∷ cs) c high =
+    let rest = left_no start cs c high in
+    elim (cases_Bool (leb d.end start)) [
+      | inl held ↦ grind (arith, nat_tests)
+      | inr other ↦ grind (arith, nat_tests)
+    ]
+
+pub left_next : (start : ℕ) (cs : List PatchColumns) (i : ℕ) (d : PatchColumns) → i < length cs → (get_or cs i d).end ≤ start → left_of start (take (i + 1) cs) ≡ left_of start (take i cs) ++ get_or cs i d ∷ []
+left_next start cs i d within low =
+    ap (left_of start) (next_of cs i d within) ∙ left_yes start (take i cs) (get_or cs i d) low
+
+pub left_passed : (start : ℕ) (cs : List PatchColumns) (i : ℕ) (d : PatchColumns) → i < length cs → start < (get_or cs i d).end → left_of start (take (i + 1) cs) ≡ left_of start (take i cs)
+left_passed start cs i d within high =
+    ap (left_of start) (next_of cs i d within) ∙ left_no start (take i cs) (get_or cs i d) high
+
+-- all, where none ends after it
+pub left_all : (start : ℕ) (cs : List PatchColumns) → All (λ c. c.end ≤ start) cs → left_of start cs ≡ cs
+left_all start [] all = refl
+left_all start (c ∷ cs) all =
+    let low : c.end ≤ start = all 0 c (omega arith) in
+    let rest = left_all start cs (λ k d within. all (suc k) d (omega (arith, within))) in
+    grind (arith, nat_tests)
+
+-- ---- cells
+
+written_twice : (row : List Cell) (at : ℕ) (xs : List Cell) (y : Cell) → written SPACE (written SPACE row at xs) (at + length xs) (y ∷ []) ≡ written SPACE row at (xs ++ y ∷ [])
+written_twice row at xs y =
+    same_lists _ _ (unfold written in grind (arith, places)) (λ k d h. unfold written in grind (arith, places))
+
+put_push : (role : ElementStyle) (cs : List ℕ) (c at : ℕ) (row : List Cell) → written SPACE (put role cs at row) (at + length cs) (text_cells role (c ∷ [])) ≡ put role (cs ++ c ∷ []) at row
+unfolding put
+put_push role [] c at row =
+    let here : at + 0 ≡ at = omega arith in
+    ap (λ n. written SPACE row n (text_cells role (c ∷ []))) here
+put_push role (d ∷ cs) c at row =
+    let xs : List Cell = text_cells role (d ∷ cs) in
+    let long : length (d ∷ cs) ≡ length xs = sym (length-text_cells role (d ∷ cs)) in
+    let whole : xs ++ text_cells role (c ∷ []) ≡ text_cells role (d ∷ cs ++ c ∷ []) = sym (map-append (λ ch. unlinked_cell role ch) (d ∷ cs) (c ∷ [])) in
+    ap (λ n. written SPACE (written SPACE row at xs) (at + n) (text_cells role (c ∷ []))) long ∙ written_twice row at xs (unlinked_cell role c) ∙ ap (written SPACE row at) whole
+
+replicate_push : (n c : ℕ) → replicate n c ++ c ∷ [] ≡ replicate (n + 1) c
+replicate_push n c = same_lists _ _ (grind (arith, places)) (λ k d h. grind (arith, places))
+
+put_none : (role : ElementStyle) (at : ℕ) (row : List Cell) → put role [] at row ≡ row
+unfolding put
+put_none role at row = refl
+
+-- so many marks are there
+pub marks_begun : (mark at n : ℕ) (above : List (List Cell)) (last : List Cell) (now : List (List Cell)) → n ≡ 0 → now ≡ above ++ last ∷ [] → now ≡ above ++ put Addition (replicate n mark) at last ∷ []
+marks_begun mark at n above last now none is =
+    is ∙ ap (λ (row : List Cell). above ++ row ∷ []) (sym (ap (λ k. put Addition (replicate k mark) at last) none ∙ put_none Addition at last))
+
+pub marks_next : (mark at cell n m r : ℕ) (above : List (List Cell)) (last : List Cell) (now new : List (List Cell)) → r ≡ length above → cell ≡ at + n → m ≡ n + 1 → now ≡ above ++ put Addition (replicate n mark) at last ∷ [] → new ≡ cells_written now r cell (text_cells Addition (mark ∷ [])) → new ≡ above ++ put Addition (replicate m mark) at last ∷ []
+marks_next mark at cell n m r above last now new here cell_is m_is is writes =
+    let row : List Cell = put Addition (replicate n mark) at last in
+    let one : List Cell = text_cells Addition (mark ∷ []) in
+    let there : cell ≡ at + length (replicate n mark) = omega (arith, cell_is, length-replicate n mark) in
+    writes ∙ ap (λ (rows : List (List Cell)). cells_written rows r cell one) is ∙ ap (λ k. cells_written (above ++ row ∷ []) k cell one) here ∙ cells_written_last above row cell one ∙ ap (λ k. above ++ written SPACE row k one ∷ []) there ∙ ap (λ (now : List Cell). above ++ now ∷ []) (put_push Addition (replicate n mark) mark at last ∙ ap (λ cs. put Addition cs at last) (replicate_push n mark ∙ ap (λ k. replicate k mark) (sym m_is)))
+
+pub marks_done : (layout : SuggestionLayout) (mark start end n : ℕ) (above : List (List Cell)) (last : List Cell) (now : List (List Cell)) → n ≡ min end (2 ^ 60) - start → now ≡ above ++ put Addition (replicate n mark) (layout.gutter + 3 + start) last ∷ [] → now ≡ above ++ with_mark layout mark start end last ∷ []
+unfolding with_mark
+marks_done layout mark start end n above last now n_is is =
+    is ∙ ap (λ k. above ++ put Addition (replicate k mark) (layout.gutter + 3 + start) last ∷ []) n_is
+
+-- ---- the marks of some edits
+
+-- so many are drawn: what the last row holds, and what those that are left make of it
+pub record Marked (layout : SuggestionLayout) (s : Source) (earlier : List PatchColumns) (left : List Edit) (all : List Cell) (above now : List (List Cell)) : Type 0 where
+  pub row : List Cell
+  pub is : now ≡ above ++ row ∷ []
+  pub whole : with_marks layout s earlier left row ≡ all
+
+marks-cons : (layout : SuggestionLayout) (s : Source) (earlier : List PatchColumns) (e : Edit) (es : List Edit) (row : List Cell) → let c = columns_of s e in with_marks layout s earlier (e ∷ es) row ≡ with_marks layout s (earlier ++ c ∷ []) es (with_mark layout (mark_of layout.decor s.text e) (mark_start earlier c e.text) (mark_end earlier c e.text) row)
+unfolding with_marks
+marks-cons layout s earlier e es row = refl
+
+marks-nil : (layout : SuggestionLayout) (s : Source) (earlier : List PatchColumns) (row : List Cell) → with_marks layout s earlier [] row ≡ row
+unfolding with_marks
+marks-nil layout s earlier row = refl
+
+pub marked_next : (layout : SuggestionLayout) (s : Source) (earlier later : List PatchColumns) (e : Edit) (left es : List Edit) (all : List Cell) (above now new : List (List Cell)) (mark start end : ℕ) (so_far : Marked layout s earlier left all above now) → left ≡ e ∷ es → later ≡ earlier ++ columns_of s e ∷ [] → mark ≡ mark_of layout.decor s.text e → start ≡ mark_start earlier (columns_of s e) e.text → end ≡ mark_end earlier (columns_of s e) e.text → new ≡ above ++ with_mark layout mark start end so_far.row ∷ [] → Marked layout s later es all above new
+marked_next layout s earlier later e left es all above now new mark start end so_far first more mark_is start_is end_is adds =
+    let row : List Cell = so_far.row in
+    let c : PatchColumns = columns_of s e in
+    let Drawn : ℕ → ℕ → ℕ → List Cell = λ m i j. with_mark layout m i j row in
+    let row_is : Drawn mark start end ≡ Drawn (mark_of layout.decor s.text e) (mark_start earlier c e.text) (mark_end earlier c e.text) = ap (λ m. Drawn m start end) mark_is ∙ ap (λ i. Drawn (mark_of layout.decor s.text e) i end) start_is ∙ ap (Drawn (mark_of layout.decor s.text e) (mark_start earlier c e.text)) end_is in
+    record {
+      row = Drawn mark start end;
+      is = adds;
+      whole = ap (λ cs. with_marks layout s cs es (Drawn mark start end)) more ∙ ap (with_marks layout s (earlier ++ c ∷ []) es) row_is ∙ sym (marks-cons layout s earlier e es row) ∙ ap (λ ds. with_marks layout s earlier ds row) (sym first) ∙ so_far.whole;
+    }
+
+pub marked_done : (layout : SuggestionLayout) (s : Source) (earlier : List PatchColumns) (left : List Edit) (all : List Cell) (above now : List (List Cell)) → left ≡ [] → Marked layout s earlier left all above now → now ≡ above ++ all ∷ []
+marked_done layout s earlier left all above now none drawn =
+    drawn.is ∙ ap (λ (row : List Cell). above ++ row ∷ []) (sym (marks-nil layout s earlier drawn.row) ∙ ap (λ ds. with_marks layout s earlier ds drawn.row) (sym none) ∙ drawn.whole)

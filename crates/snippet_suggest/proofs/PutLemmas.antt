@@ -1,0 +1,184 @@
+-- Rows as values: what the texts that are put into them make of them.
+use Rattle.std.proofs.Common.{◌≡◌, ◌≢◌, ℕ, ◌+◌, ◌-◌, ◌<◌, ◌≤◌, Bool, List, [], ◌∷◌, ◌++◌, length, replicate, refl, sym, ap, ◌∙◌, arith, chars, codes, append_assoc}
+use Rattle.std.proofs.lemmas.List.{append-nil}
+use Rattle.std.proofs.lemmas.Str.{chars-nil, encodes-chars}
+use Rattle.std.specs.Str.{IsUtf8}
+use lib.Utf8.{encodes}
+use Rattle.snippet_style.specs.declared.glyphs.DecorStyle.{DecorStyle}
+use Rattle.snippet_style.specs.declared.glyphs.DecorStyle.TheVariants.{Ascii, Unicode}
+use Rattle.snippet_style.specs.declared.role.ElementStyle.{ElementStyle}
+use Rattle.snippet_style.specs.declared.role.ElementStyle.TheVariants.{Addition, LineNumber, NoStyle, Removal}
+use Rattle.snippet_style.specs.Cell.{Cell, SPACE, text_cells, written}
+use Rattle.snippet_style.specs.Glyphs.{placeholder_of}
+use Rattle.snippet_grid.specs.Grid.{cells_written, row_at}
+use Rattle.snippet_grid.proofs.GridLemmas.{cells_written_below, cells_written_last}
+use Rattle.snippet_text.specs.Normalized.{norm}
+use Rattle.snippet_text.specs.Width.{width_of}
+use Rattle.snippet_lines.specs.Number.{shown_number}
+use Rattle.snippet_suggest.specs.declared.glyphs.SuggestionGlyph.{SuggestionGlyph}
+use Rattle.snippet_suggest.specs.declared.glyphs.SuggestionGlyph.TheVariants as sign
+use Rattle.snippet_suggest.specs.declared.layout.SuggestionLayout.{SuggestionLayout}
+use Rattle.snippet_splice.specs.declared.stretches.SubstitutionHighlight.{SubstitutionHighlight}
+use Rattle.snippet_suggest.specs.declared.kind.DisplaySuggestion.{DisplaySuggestion}
+use Rattle.snippet_suggest.specs.declared.kind.DisplaySuggestion.TheVariants.{Diff}
+use Rattle.snippet_suggest.specs.declared.layout.SuggestionStart.TheVariants.{Next, Opening, Path}
+use Rattle.snippet_suggest.specs.Cells.{begin_cells, end_cells, gap_cells, line_cells, offered_cells, put, removed_cells, sign_of, with_stretches}
+use Rattle.snippet_suggest.specs.Rows.{end_glyph}
+use Rattle.snippet_suggest.proofs.TailLemmas.{skipped_written}
+use Rattle.snippet_suggest.specs.Glyphs.{glyph_of, role_of}
+
+-- a text that isn't empty has characters
+chars_some : (b : ℕ) (bs : List ℕ) → IsUtf8 (b ∷ bs) → chars (b ∷ bs) ≢ []
+chars_some b bs text = λ none. let same : encodes (chars (b ∷ bs)) ≡ b ∷ bs = encodes-chars (b ∷ bs) text in
+    let empty : encodes (chars (b ∷ bs)) ≡ [] = ap encodes none in cc
+
+put_none : (role : ElementStyle) (at : ℕ) (row : List Cell) → put role [] at row ≡ row
+unfolding put
+put_none role at row = refl
+
+pub put_some : (role : ElementStyle) (cs : List ℕ) (at : ℕ) (row : List Cell) → cs ≢ [] → put role cs at row ≡ written SPACE row at (text_cells role cs)
+unfolding put
+put_some role [] at row some = absurd (some refl)
+put_some role (c ∷ cs) at row some = refl
+
+-- what a grid has where the rows below some are one row, or none
+pub over : (above tail : List (List Cell)) (at : ℕ) (cells : List Cell) → length tail ≤ 1 → cells_written (above ++ tail) (length above) at cells ≡ above ++ written SPACE (row_at tail 0) at cells ∷ []
+over above [] at cells few = ap (λ (rows : List (List Cell)). cells_written rows (length above) at cells) (append-nil above) ∙ cells_written_below above at cells
+over above (row ∷ []) at cells few = cells_written_last above row at cells
+over above (row ∷ next ∷ tail) at cells few = absurd (omega arith)
+
+-- a text that isn't empty was put there
+pub put_begun : (role : ElementStyle) (cs : List ℕ) (at r : ℕ) (above tail old new : List (List Cell)) → cs ≢ [] → r ≡ length above → old ≡ above ++ tail → length tail ≤ 1 → new ≡ cells_written old r at (text_cells role cs) → new ≡ above ++ put role cs at (row_at tail 0) ∷ []
+put_begun role cs at r above tail old new some here is few writes =
+    let cells = text_cells role cs in
+    writes ∙ ap (λ n. cells_written old n at cells) here ∙ ap (λ (rows : List (List Cell)). cells_written rows (length above) at cells) is ∙ over above tail at cells few ∙ ap (λ (row : List Cell). above ++ row ∷ []) (sym (put_some role cs at (row_at tail 0) some))
+
+-- a text that may be empty was put into the last row
+pub put_more : (role : ElementStyle) (bytes : List ℕ) (at r : ℕ) (above : List (List Cell)) (row : List Cell) (old new : List (List Cell)) → IsUtf8 bytes → r ≡ length above → old ≡ above ++ row ∷ [] → (0 < length bytes → new ≡ cells_written old r at (text_cells role (chars bytes))) → (bytes ≡ [] → new ≡ old) → new ≡ above ++ put role (chars bytes) at row ∷ []
+put_more role [] at r above row old new text here is writes stays =
+    stays refl ∙ is ∙ ap (λ (now : List Cell). above ++ now ∷ []) (sym (ap (λ (cs : List ℕ). put role cs at row) chars-nil ∙ put_none role at row))
+put_more role (b ∷ bs) at r above row old new text here is writes stays =
+    put_begun role (chars (b ∷ bs)) at r above (row ∷ []) old new (chars_some b bs text) here is (omega arith) (writes (omega arith))
+
+-- the same in the row that is there or not: what stands there after it
+pub record IsOver (above : List (List Cell)) (row : List Cell) (rows : List (List Cell)) : Type 0 where
+  pub tail : List (List Cell)
+  pub few : length tail ≤ 1
+  pub row_is : row_at tail 0 ≡ row
+  pub is : rows ≡ above ++ tail
+
+pub put_over : (role : ElementStyle) (bytes : List ℕ) (at r : ℕ) (above tail old new : List (List Cell)) → IsUtf8 bytes → r ≡ length above → old ≡ above ++ tail → length tail ≤ 1 → (0 < length bytes → new ≡ cells_written old r at (text_cells role (chars bytes))) → (bytes ≡ [] → new ≡ old) → IsOver above (put role (chars bytes) at (row_at tail 0)) new
+put_over role [] at r above tail old new text here is few writes stays =
+    record {
+      tail = tail;
+      few = few;
+      row_is = sym (ap (λ (cs : List ℕ). put role cs at (row_at tail 0)) chars-nil ∙ put_none role at (row_at tail 0));
+      is = stays refl ∙ is;
+    }
+put_over role (b ∷ bs) at r above tail old new text here is few writes stays =
+    record {
+      tail = put role (chars (b ∷ bs)) at (row_at tail 0) ∷ [];
+      few = omega arith;
+      row_is = refl;
+      is = put_begun role (chars (b ∷ bs)) at r above tail old new (chars_some b bs text) here is few (writes (omega arith));
+    }
+
+-- each glyph has characters
+pub glyph_some : (decor : DecorStyle) (glyph : SuggestionGlyph) → glyph_of decor glyph ≢ []
+glyph_some Ascii sign.Opening = λ none. cc
+glyph_some Ascii sign.Next = λ none. cc
+glyph_some Ascii sign.Leading = λ none. cc
+glyph_some Ascii sign.Closing = λ none. cc
+glyph_some Ascii sign.Kept = λ none. cc
+glyph_some Ascii sign.Alone = λ none. cc
+glyph_some Ascii sign.Changed = λ none. cc
+glyph_some Ascii sign.Added = λ none. cc
+glyph_some Unicode sign.Opening = λ none. cc
+glyph_some Unicode sign.Next = λ none. cc
+glyph_some Unicode sign.Leading = λ none. cc
+glyph_some Unicode sign.Closing = λ none. cc
+glyph_some Unicode sign.Kept = λ none. cc
+glyph_some Unicode sign.Alone = λ none. cc
+glyph_some Unicode sign.Changed = λ none. cc
+glyph_some Unicode sign.Added = λ none. cc
+
+placeholder_some : (decor : DecorStyle) → placeholder_of decor ≢ []
+placeholder_some Ascii = λ none. cc
+placeholder_some Unicode = λ none. cc
+
+-- the row of a line was drawn
+pub line_drawn : (layout : SuggestionLayout) (glyph : SuggestionGlyph) (number : ℕ) (line : List ℕ) (role : ElementStyle) (signed digits text : List ℕ) (r : ℕ) (old one two new : List (List Cell)) → r ≡ length old → role ≡ role_of glyph → chars signed ≡ glyph_of layout.decor glyph → chars digits ≡ shown_number layout.numbers layout.gutter number → chars text ≡ norm (chars line) → IsUtf8 digits → IsUtf8 text → one ≡ cells_written old r (layout.gutter + 1) (text_cells role (chars signed)) → (0 < length digits → two ≡ cells_written one r 0 (text_cells LineNumber (chars digits))) → (digits ≡ [] → two ≡ one) → (0 < length text → new ≡ cells_written two r (layout.gutter + 3) (text_cells NoStyle (chars text))) → (text ≡ [] → new ≡ two) → new ≡ old ++ line_cells layout glyph number line ∷ []
+unfolding line_cells
+line_drawn layout glyph number line role signed digits text r old one two new here role_is sign_is digits_are text_is utf8_digits utf8_text signs numbers no_number texts no_text =
+    let g = layout.gutter in
+    let sign_row = put (role_of glyph) (glyph_of layout.decor glyph) (g + 1) [] in
+    let first : one ≡ old ++ sign_row ∷ [] = put_begun (role_of glyph) (glyph_of layout.decor glyph) (g + 1) r old [] old one (glyph_some layout.decor glyph) here (sym (append-nil old)) (omega arith) (signs ∙ ap (λ (k : ElementStyle). cells_written old r (g + 1) (text_cells k (chars signed))) role_is ∙ ap (λ (cs : List ℕ). cells_written old r (g + 1) (text_cells (role_of glyph) cs)) sign_is) in
+    let second = put_more LineNumber digits 0 r old sign_row one two utf8_digits here first numbers no_number in
+    let third = put_more NoStyle text (g + 3) r old (put LineNumber (chars digits) 0 sign_row) two new utf8_text here second texts no_text in
+    third ∙ ap (λ (cs : List ℕ). old ++ put NoStyle cs (g + 3) (put LineNumber (chars digits) 0 sign_row) ∷ []) text_is ∙ ap (λ (cs : List ℕ). old ++ put NoStyle (norm (chars line)) (g + 3) (put LineNumber cs 0 sign_row) ∷ []) digits_are
+
+-- the row of a line that is removed was drawn, over one that is there or not
+pub removed_drawn : (layout : SuggestionLayout) (role : ElementStyle) (number : ℕ) (line : List ℕ) (minus digits text : List ℕ) (r : ℕ) (above tail old one two new : List (List Cell)) → r ≡ length above → old ≡ above ++ tail → length tail ≤ 1 → chars minus ≡ codes "- " → chars digits ≡ shown_number layout.numbers layout.gutter number → chars text ≡ norm (chars line) → IsUtf8 digits → IsUtf8 text → (0 < length digits → one ≡ cells_written old r 0 (text_cells LineNumber (chars digits))) → (digits ≡ [] → one ≡ old) → two ≡ cells_written one r (layout.gutter + 1) (text_cells Removal (chars minus)) → (0 < length text → new ≡ cells_written two r (layout.gutter + 3) (text_cells role (chars text))) → (text ≡ [] → new ≡ two) → new ≡ above ++ removed_cells layout role number line (row_at tail 0) ∷ []
+unfolding removed_cells
+removed_drawn layout role number line minus digits text r above tail old one two new here is few minus_is digits_are text_is utf8_digits utf8_text numbers no_number signs texts no_text =
+    let g = layout.gutter in
+    let under = row_at tail 0 in
+    let first = put_over LineNumber digits 0 r above tail old one utf8_digits here is few numbers no_number in
+    let numbered = put LineNumber (chars digits) 0 under in
+    let second : two ≡ above ++ put Removal (codes "- ") (g + 1) numbered ∷ [] = put_begun Removal (codes "- ") (g + 1) r above first.tail one two (λ none. cc) here first.is first.few (signs ∙ ap (λ (cs : List ℕ). cells_written one r (g + 1) (text_cells Removal cs)) minus_is) ∙ ap (λ (row : List Cell). above ++ put Removal (codes "- ") (g + 1) row ∷ []) first.row_is in
+    let third = put_more role text (g + 3) r above (put Removal (codes "- ") (g + 1) numbered) two new utf8_text here second texts no_text in
+    third ∙ ap (λ (cs : List ℕ). above ++ put role cs (g + 3) (put Removal (codes "- ") (g + 1) numbered) ∷ []) text_is ∙ ap (λ (cs : List ℕ). above ++ put role (norm (chars line)) (g + 3) (put Removal (codes "- ") (g + 1) (put LineNumber cs 0 under)) ∷ []) digits_are
+
+-- the row in place of lines that are left out was drawn
+pub gap_drawn : (layout : SuggestionLayout) (text : List ℕ) (r at : ℕ) (old new : List (List Cell)) → r ≡ length old → at ≡ layout.gutter - width_of (placeholder_of layout.decor) → chars text ≡ placeholder_of layout.decor → (0 < length text → new ≡ cells_written old r at (text_cells LineNumber (chars text))) → new ≡ old ++ gap_cells layout ∷ []
+unfolding gap_cells
+gap_drawn layout [] r at old new here right is writes = absurd (placeholder_some layout.decor (sym is ∙ chars-nil))
+gap_drawn layout (b ∷ bs) r at old new here right is writes =
+    let cs = placeholder_of layout.decor in
+    put_begun LineNumber cs at r old [] old new (placeholder_some layout.decor) here (sym (append-nil old)) (omega arith) (writes (omega arith) ∙ ap (λ (t : List ℕ). cells_written old r at (text_cells LineNumber t)) is) ∙ ap (λ (n : ℕ). old ++ put LineNumber cs n [] ∷ []) right
+
+-- the row of a line that is offered
+pub offered_is : (layout : SuggestionLayout) (kind : DisplaySuggestion) (glyph : SuggestionGlyph) (count counted number numbered : ℕ) (line text : List ℕ) (ss new : List SubstitutionHighlight) → glyph ≡ sign_of kind count line ss → count ≡ counted → number ≡ numbered → line ≡ text → ss ≡ new → with_stretches Addition layout.gutter (chars line) ss (line_cells layout glyph number line) ≡ offered_cells layout kind counted numbered text new
+unfolding offered_cells
+offered_is layout kind glyph count counted number numbered line text ss new sign counts numbers lines stretches =
+    let Row : List ℕ → List SubstitutionHighlight → SuggestionGlyph → ℕ → List Cell = λ t es g n. with_stretches Addition layout.gutter (chars t) es (line_cells layout g n t) in
+    let signed : glyph ≡ sign_of kind counted text new = sign ∙ ap (λ n. sign_of kind n line ss) counts ∙ ap (λ t. sign_of kind counted t ss) lines ∙ ap (sign_of kind counted text) stretches in
+    ap (λ t. Row t ss glyph number) lines ∙ ap (λ es. Row text es glyph number) stretches ∙ ap (λ g. Row text new g number) signed ∙ ap (Row text new (sign_of kind counted text new)) numbers
+
+-- a glyph that was drawn below all rows and so many empty ones
+pub glyph_below : (role : ElementStyle) (decor : DecorStyle) (glyph : SuggestionGlyph) (cs : List ℕ) (at r skipped : ℕ) (old new : List (List Cell)) → cs ≡ glyph_of decor glyph → r ≡ length old + skipped → new ≡ cells_written old r at (text_cells role cs) → new ≡ (old ++ replicate skipped []) ++ put role (glyph_of decor glyph) at [] ∷ []
+glyph_below role decor glyph cs at r skipped old new is here writes =
+    let cells = text_cells role (glyph_of decor glyph) in
+    writes ∙ ap (λ (t : List ℕ). cells_written old r at (text_cells role t)) is ∙ ap (λ n. cells_written old n at cells) here ∙ skipped_written old skipped at cells ∙ sym (append_assoc old (replicate skipped []) (written SPACE [] at cells ∷ [])) ∙ ap (λ (row : List Cell). (old ++ replicate skipped []) ++ row ∷ []) (sym (put_some role (glyph_of decor glyph) at [] (glyph_some decor glyph)))
+
+pub glyph_over : (role : ElementStyle) (decor : DecorStyle) (glyph : SuggestionGlyph) (cs : List ℕ) (at r : ℕ) (above tail old new : List (List Cell)) → cs ≡ glyph_of decor glyph → r ≡ length above → old ≡ above ++ tail → length tail ≤ 1 → new ≡ cells_written old r at (text_cells role cs) → new ≡ above ++ put role (glyph_of decor glyph) at (row_at tail 0) ∷ []
+glyph_over role decor glyph cs at r above tail old new is here old_is few writes =
+    put_begun role (glyph_of decor glyph) at r above tail old new (glyph_some decor glyph) here old_is few (writes ∙ ap (λ (t : List ℕ). cells_written old r at (text_cells role t)) is)
+
+-- what a suggestion begins and ends with
+pub begin_opening : (layout : SuggestionLayout) (under : List Cell) → put LineNumber (glyph_of layout.decor sign.Opening) (layout.gutter + 1) under ≡ begin_cells layout Opening under
+unfolding begin_cells
+begin_opening layout under = refl
+
+pub begin_next : (layout : SuggestionLayout) (under : List Cell) → put LineNumber (glyph_of layout.decor sign.Next) (layout.gutter + 1) under ≡ begin_cells layout Next under
+unfolding begin_cells
+begin_next layout under = refl
+
+pub begin_path : (layout : SuggestionLayout) (above tail old : List (List Cell)) → old ≡ above ++ tail → length tail ≡ 1 → old ≡ above ++ begin_cells layout Path (row_at tail 0) ∷ []
+unfolding begin_cells
+begin_path layout above [] old is one = absurd (omega (arith, one))
+begin_path layout above (row ∷ []) old is one = is
+begin_path layout above (row ∷ next ∷ rows) old is one = absurd (omega (arith, one))
+
+pub end_is : (layout : SuggestionLayout) (follows : Bool) → put LineNumber (end_glyph layout.decor follows) (layout.gutter + 1) [] ≡ end_cells layout follows
+unfolding end_cells
+end_is layout follows = refl
+
+-- the line in place of removed ones
+diff_sign : (line : List ℕ) (ss : List SubstitutionHighlight) → sign.Added ≡ sign_of Diff 1 line ss
+unfolding sign_of
+diff_sign line ss = refl
+
+pub diff_offered : (layout : SuggestionLayout) (number : ℕ) (line : List ℕ) (ss : List SubstitutionHighlight) → with_stretches Addition layout.gutter (chars line) ss (line_cells layout sign.Added number line) ≡ offered_cells layout Diff 1 number line ss
+diff_offered layout number line ss =
+    offered_is layout Diff sign.Added 1 1 number number line line ss ss (diff_sign line ss) refl refl refl refl

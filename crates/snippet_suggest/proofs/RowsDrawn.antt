@@ -1,0 +1,187 @@
+-- Rows that are drawn one below the other, as values.
+use Rattle.std.proofs.Common.{◌≡◌, ℕ, ◌+◌, ◌-◌, ◌<◌, ◌≤◌, Bool, true, false, List, [], ◌∷◌, ◌++◌, length, map, take, drop, get_or, refl, sym, ap, ◌∙◌, ◌||◌, arith, chars, append_assoc}
+use mir.Val.{bool_byte}
+use Rattle.std.specs.Str.{bytes_eq}
+use Rattle.std.proofs.lemmas.Bool.{cond-false, cond-true}
+use Rattle.std.proofs.lemmas.List.{append-nil, drop_all, drop_more, length-map, length-take, map-append, take_all}
+use Rattle.std.proofs.lemmas.List.{get_or-map as mapped}
+use Rattle.std.proofs.Math.ListN.{get_or-map}
+use Rattle.snippet_style.specs.Cell.{Cell}
+use Rattle.snippet_style.specs.declared.role.ElementStyle.TheVariants.{NoStyle, Removal}
+use Rattle.snippet_grid.specs.Grid.{row_at}
+use Rattle.snippet_parts.specs.declared.source_map.LineInfo.{LineInfo}
+use Rattle.snippet_suggest.specs.declared.layout.SuggestionLayout.{SuggestionLayout}
+use Rattle.snippet_suggest.specs.Cells.{diff_cells, emptied_cells, gone_of, left_out_cells, offered_cells, on_last, removed_cells, taken_cells, with_stretches}
+use Rattle.snippet_splice.specs.declared.stretches.SubstitutionHighlight.{SubstitutionHighlight}
+use Rattle.snippet_suggest.specs.declared.kind.DisplaySuggestion.TheVariants.{Diff}
+use Rattle.snippet_suggest.specs.Given.{is_left_out, last_removed, unless_stays}
+use Rattle.snippet_suggest.specs.Kind.{is_blank}
+use Rattle.snippet_suggest.specs.Order.{number_after, numbered_at}
+use Rattle.snippet_suggest.proofs.DrawnLemmas.{next_of}
+use Rattle.snippet_suggest.proofs.StretchRows.{with_none}
+
+-- one row more for each of some items
+pub drawn_next : {A : Type 0} (f : A → List Cell) (xs : List A) (i : ℕ) (d : A) (old now new : List (List Cell)) → i < length xs → now ≡ old ++ map f (take i xs) → new ≡ now ++ f (get_or xs i d) ∷ [] → new ≡ old ++ map f (take (i + 1) xs)
+drawn_next {A} f xs i d old now new within is adds =
+    let one : List (List Cell) = f (get_or xs i d) ∷ [] in
+    let more : map f (take (i + 1) xs) ≡ map f (take i xs) ++ one = ap (map f) (next_of xs i d within) ∙ map-append f (take i xs) (get_or xs i d ∷ []) in
+    adds ∙ ap (λ rows. rows ++ one) is ∙ append_assoc old (map f (take i xs)) one ∙ ap (λ rows. old ++ rows) (sym more)
+
+-- ---- lines that are removed with nothing in their place
+
+-- so many of them are drawn: what stands, and what the next stands over
+pub record Emptied (layout : SuggestionLayout) (above : List (List Cell)) (under : List Cell) (lines : List (ℕ × List ℕ)) (at count : ℕ) (now : List (List Cell)) : Type 0 where
+  pub rows : List (List Cell)
+  pub tail : List (List Cell)
+  pub few : length tail ≤ 1
+  pub here : at ≡ length (above ++ rows)
+  pub stands : now ≡ (above ++ rows) ++ tail
+  pub whole : rows ++ emptied_cells layout (drop count lines) (row_at tail 0) ≡ emptied_cells layout lines under
+  pub after : 0 < count → tail ≡ []
+
+pub emptied_begun : (layout : SuggestionLayout) (above tail : List (List Cell)) (lines : List (ℕ × List ℕ)) (at : ℕ) (now : List (List Cell)) → at ≡ length above → now ≡ above ++ tail → length tail ≤ 1 → Emptied layout above (row_at tail 0) lines at 0 now
+emptied_begun layout above tail lines at now here is few =
+    record {
+      rows = [];
+      tail = tail;
+      few = few;
+      here = here ∙ ap length (sym (append-nil above));
+      stands = is ∙ ap (λ rows. rows ++ tail) (sym (append-nil above));
+      whole = refl;
+      after = λ none. absurd (omega arith);
+    }
+
+emptied-cons : (layout : SuggestionLayout) (line : ℕ × List ℕ) (lines : List (ℕ × List ℕ)) (under : List Cell) → emptied_cells layout (line ∷ lines) under ≡ removed_cells layout Removal line.0 line.1 under ∷ emptied_cells layout lines []
+unfolding emptied_cells
+emptied-cons layout line lines under = refl
+
+emptied-nil : (layout : SuggestionLayout) (under : List Cell) → emptied_cells layout [] under ≡ []
+unfolding emptied_cells
+emptied-nil layout under = refl
+
+pub emptied_more : (layout : SuggestionLayout) (above : List (List Cell)) (under : List Cell) (lines : List (ℕ × List ℕ)) (d : ℕ × List ℕ) (at count next : ℕ) (now new : List (List Cell)) (drawn : Emptied layout above under lines at count now) → count < length lines → new ≡ (above ++ drawn.rows) ++ removed_cells layout Removal (get_or lines count d).0 (get_or lines count d).1 (row_at drawn.tail 0) ∷ [] → next ≡ length new → Emptied layout above under lines next (count + 1) new
+emptied_more layout above under lines d at count next now new drawn within adds below =
+    let line : ℕ × List ℕ = get_or lines count d in
+    let row : List Cell = removed_cells layout Removal line.0 line.1 (row_at drawn.tail 0) in
+    let rows : List (List Cell) = drawn.rows ++ row ∷ [] in
+    let is : new ≡ above ++ rows = adds ∙ append_assoc above drawn.rows (row ∷ []) in
+    let later : List (List Cell) = emptied_cells layout (drop (count + 1) lines) [] in
+    let cut : emptied_cells layout (drop count lines) (row_at drawn.tail 0) ≡ row ∷ later = ap (λ ls. emptied_cells layout ls (row_at drawn.tail 0)) (drop_more lines count d within) ∙ emptied-cons layout line (drop (count + 1) lines) (row_at drawn.tail 0) in
+    record {
+      rows = rows;
+      tail = [];
+      few = omega arith;
+      here = below ∙ ap length is;
+      stands = is ∙ sym (append-nil (above ++ rows));
+      whole = append_assoc drawn.rows (row ∷ []) later ∙ ap (λ rs. drawn.rows ++ rs) (sym cut) ∙ drawn.whole;
+      after = λ some. refl;
+    }
+
+-- the next of some lines of the source
+pub emptied_next : (layout : SuggestionLayout) (above : List (List Cell)) (under : List Cell) (infos : List LineInfo) (d : LineInfo) (at count next : ℕ) (now new : List (List Cell)) (drawn : Emptied layout above under (numbered_at infos) at count now) → count < length infos → new ≡ (above ++ drawn.rows) ++ removed_cells layout Removal (get_or infos count d).line_index (get_or infos count d).line.now (row_at drawn.tail 0) ∷ [] → next ≡ length new → Emptied layout above under (numbered_at infos) next (count + 1) new
+emptied_next layout above under infos d at count next now new drawn within adds below =
+    let f : LineInfo → ℕ × List ℕ = λ info. (info.line_index, info.line.now) in
+    let line : get_or (numbered_at infos) count (f d) ≡ f (get_or infos count d) = get_or-map f infos count d in
+    let here : count < length (numbered_at infos) = omega (arith, within, length-map infos f) in
+    emptied_more layout above under (numbered_at infos) (f d) at count next now new drawn here (adds ∙ ap (λ (l : ℕ × List ℕ). (above ++ drawn.rows) ++ removed_cells layout Removal l.0 l.1 (row_at drawn.tail 0) ∷ []) (sym line)) below
+
+pub numbered_all : (infos : List LineInfo) (count : ℕ) → length infos ≤ count → length (numbered_at infos) ≤ count
+numbered_all infos count all =
+    let f : LineInfo → ℕ × List ℕ = λ info. (info.line_index, info.line.now) in
+    omega (arith, all, length-map infos f)
+
+pub emptied_done : (layout : SuggestionLayout) (above : List (List Cell)) (under : List Cell) (lines : List (ℕ × List ℕ)) (at count : ℕ) (now : List (List Cell)) → 0 < count → length lines ≤ count → Emptied layout above under lines at count now → now ≡ above ++ emptied_cells layout lines under
+emptied_done layout above under lines at count now some all drawn =
+    let none : emptied_cells layout (drop count lines) (row_at drawn.tail 0) ≡ [] = ap (λ ls. emptied_cells layout ls (row_at drawn.tail 0)) (drop_all count lines all) ∙ emptied-nil layout (row_at drawn.tail 0) in
+    let rows : drawn.rows ≡ emptied_cells layout lines under = sym (append-nil drawn.rows) ∙ ap (λ rs. drawn.rows ++ rs) (sym none) ∙ drawn.whole in
+    drawn.stands ∙ ap (λ tail. (above ++ drawn.rows) ++ tail) (drawn.after some) ∙ append-nil (above ++ drawn.rows) ∙ ap (λ rs. above ++ rs) rows
+
+-- ---- a diff
+
+taken-append : (layout : SuggestionLayout) (first : ℕ) (replaced : ℕ → List SubstitutionHighlight) (k : ℕ) (infos : List LineInfo) (info : LineInfo) → taken_cells layout first replaced k (infos ++ info ∷ []) ≡ taken_cells layout first replaced k infos ++ with_stretches Removal layout.gutter (chars info.line.now) (replaced (info.line_index - first)) (removed_cells layout NoStyle (number_after first (k + length infos)) info.line.now []) ∷ []
+unfolding taken_cells
+taken-append layout first replaced k [] info =
+    let here : k ≡ k + 0 = omega arith in
+    ap (λ n. with_stretches Removal layout.gutter (chars info.line.now) (replaced (info.line_index - first)) (removed_cells layout NoStyle (number_after first n) info.line.now []) ∷ []) here
+taken-append layout first replaced k (one ∷ infos) info =
+    let here : k + 1 + length infos ≡ k + length (one ∷ infos) = omega arith in
+    let Row : ℕ → List Cell = λ n. with_stretches Removal layout.gutter (chars info.line.now) (replaced (info.line_index - first)) (removed_cells layout NoStyle (number_after first n) info.line.now []) in
+    let top : List Cell = with_stretches Removal layout.gutter (chars one.line.now) (replaced (one.line_index - first)) (removed_cells layout NoStyle (number_after first k) one.line.now []) in
+    ap (λ rows. top ∷ rows) (taken-append layout first replaced (k + 1) infos info) ∙ ap (λ n. top ∷ (taken_cells layout first replaced (k + 1) infos ++ Row n ∷ [])) here
+
+pub taken_none : (layout : SuggestionLayout) (first : ℕ) (replaced : ℕ → List SubstitutionHighlight) (infos : List LineInfo) (old : List (List Cell)) → old ≡ old ++ taken_cells layout first replaced 0 (take 0 infos)
+unfolding taken_cells
+taken_none layout first replaced infos old = sym (append-nil old)
+
+-- the next of them
+pub taken_next : (layout : SuggestionLayout) (first : ℕ) (replaced : ℕ → List SubstitutionHighlight) (infos : List LineInfo) (i number : ℕ) (d : LineInfo) (ss : List SubstitutionHighlight) (old now new : List (List Cell)) → i < length infos → number ≡ number_after first i → ss ≡ replaced ((get_or infos i d).line_index - first) → now ≡ old ++ taken_cells layout first replaced 0 (take i infos) → new ≡ now ++ with_stretches Removal layout.gutter (chars (get_or infos i d).line.now) ss (removed_cells layout NoStyle number (get_or infos i d).line.now []) ∷ [] → new ≡ old ++ taken_cells layout first replaced 0 (take (i + 1) infos)
+taken_next layout first replaced infos i number d ss old now new within number_is ss_is is adds =
+    let info : LineInfo = get_or infos i d in
+    let front : List (List Cell) = taken_cells layout first replaced 0 (take i infos) in
+    let Row : ℕ → List SubstitutionHighlight → List Cell = λ n es. with_stretches Removal layout.gutter (chars info.line.now) es (removed_cells layout NoStyle n info.line.now []) in
+    let count : i ≡ 0 + length (take i infos) = omega (arith, length-take i infos, within) in
+    let row : Row number ss ≡ Row (number_after first (0 + length (take i infos))) (replaced (info.line_index - first)) = ap (λ n. Row n ss) (number_is ∙ ap (number_after first) count) ∙ ap (Row (number_after first (0 + length (take i infos)))) ss_is in
+    let more : taken_cells layout first replaced 0 (take (i + 1) infos) ≡ front ++ Row (number_after first (0 + length (take i infos))) (replaced (info.line_index - first)) ∷ [] = ap (taken_cells layout first replaced 0) (next_of infos i d within) ∙ taken-append layout first replaced 0 (take i infos) info in
+    adds ∙ ap (λ rows. rows ++ Row number ss ∷ []) is ∙ append_assoc old front (Row number ss ∷ []) ∙ ap (λ r. old ++ (front ++ r ∷ [])) row ∙ ap (λ rows. old ++ rows) (sym more)
+
+-- the last of some rows
+pub record LastOf (rows : List (List Cell)) : Type 0 where
+  pub front : List (List Cell)
+  pub end : List Cell
+  pub is : rows ≡ front ++ end ∷ []
+  pub changed : (f : List Cell → List Cell) → on_last f rows ≡ front ++ f end ∷ []
+
+pub last_of : (row : List Cell) (rows : List (List Cell)) → LastOf (row ∷ rows)
+unfolding on_last
+last_of row [] = record { front = []; end = row; is = refl; changed = λ f. refl }
+last_of row (next ∷ rows) =
+    let later = last_of next rows in
+    record {
+      front = row ∷ later.front;
+      end = later.end;
+      is = ap (λ rs. row ∷ rs) later.is;
+      changed = λ f. ap (λ rs. row ∷ rs) (later.changed f);
+    }
+
+-- the rows of a diff whose line isn't shown, and of one whose line is
+pub diff_left : (layout : SuggestionLayout) (first : ℕ) (infos : List LineInfo) (replaced : ℕ → List SubstitutionHighlight) (line : List ℕ) (added : List SubstitutionHighlight) (last : List Cell) (stays : Bool) → stays ≡ bytes_eq line (last_removed infos) → is_left_out Diff (line ∷ []) (last_removed infos) ≡ true → on_last (left_out_cells layout.gutter line (gone_of stays first replaced infos) added) (last ∷ taken_cells layout first replaced 0 (unless_stays stays infos)) ≡ diff_cells layout first infos replaced line added last
+unfolding diff_cells
+diff_left layout first infos replaced line added last stays is left =
+    let Rows : Bool → List (List Cell) = λ b. on_last (left_out_cells layout.gutter line (gone_of b first replaced infos) added) (last ∷ taken_cells layout first replaced 0 (unless_stays b infos)) in
+    let real : Bool = bytes_eq line (last_removed infos) in
+    let rows : List (List Cell) = last ∷ taken_cells layout first replaced 0 (unless_stays real infos) in
+    ap Rows is ∙ sym (cond-true (is_left_out Diff (line ∷ []) (last_removed infos)) (Rows real) (rows ++ offered_cells layout Diff 1 first line added ∷ []) left)
+
+pub diff_shown : (layout : SuggestionLayout) (first : ℕ) (infos : List LineInfo) (replaced : ℕ → List SubstitutionHighlight) (line : List ℕ) (added : List SubstitutionHighlight) (last : List Cell) (stays : Bool) → stays ≡ bytes_eq line (last_removed infos) → is_left_out Diff (line ∷ []) (last_removed infos) ≡ false → (last ∷ taken_cells layout first replaced 0 (unless_stays stays infos)) ++ offered_cells layout Diff 1 first line added ∷ [] ≡ diff_cells layout first infos replaced line added last
+unfolding diff_cells
+diff_shown layout first infos replaced line added last stays is shown =
+    let Rows : Bool → List (List Cell) = λ b. last ∷ taken_cells layout first replaced 0 (unless_stays b infos) in
+    let real : Bool = bytes_eq line (last_removed infos) in
+    ap (λ b. Rows b ++ offered_cells layout Diff 1 first line added ∷ []) is ∙ sym (cond-false (is_left_out Diff (line ∷ []) (last_removed infos)) (on_last (left_out_cells layout.gutter line (gone_of real first replaced infos) added) (Rows real)) (Rows real ++ offered_cells layout Diff 1 first line added ∷ []) shown)
+
+-- a line that is the last that is reached isn't shown
+pub stays_left : (line last : List ℕ) → bytes_eq line last ≡ true → is_left_out Diff (line ∷ []) last ≡ true
+stays_left line last same = ap (λ b. is_blank line || b) same ∙ or-true (is_blank line)
+  where
+    or-true : (b : Bool) → (b || true) ≡ true
+    or-true true = refl
+    or-true false = refl
+
+-- the lines that are drawn, where the last may stay
+pub left_infos : (infos : List LineInfo) (count : ℕ) (stays : Bool) → count ≡ length infos - bool_byte stays → take count infos ≡ unless_stays stays infos
+left_infos infos count true is = ap (λ n. take n infos) is
+left_infos infos count false is = take_all count infos (omega (arith, is))
+
+-- where the last line goes too, no stretch is given to another row
+pub none_gone : (gutter : ℕ) (line : List ℕ) (stays : Bool) (first : ℕ) (replaced : ℕ → List SubstitutionHighlight) (infos : List LineInfo) (row : List Cell) → stays ≡ false → with_stretches Removal gutter (chars line) (gone_of stays first replaced infos) row ≡ row
+none_gone gutter line stays first replaced infos row goes =
+    ap (λ b. with_stretches Removal gutter (chars line) (gone_of b first replaced infos) row) goes ∙ with_none Removal gutter (chars line) row
+
+-- and those of the line that stays are
+pub some_gone : (gutter : ℕ) (line : List ℕ) (stays : Bool) (first : ℕ) (replaced : ℕ → List SubstitutionHighlight) (infos : List LineInfo) (row : List Cell) (count : ℕ) (d : LineInfo) (ss : List SubstitutionHighlight) → stays ≡ true → count ≡ length infos - bool_byte stays → count < length infos → ss ≡ replaced ((get_or infos count d).line_index - first) → with_stretches Removal gutter (chars line) ss row ≡ with_stretches Removal gutter (chars line) (gone_of stays first replaced infos) row
+some_gone gutter line stays first replaced infos row count d ss keeps counts within is =
+    let index : LineInfo → ℕ = λ info. info.line_index in
+    let last : length infos - 1 ≡ count = sym (counts ∙ ap (λ b. length infos - bool_byte b) keeps) in
+    let same : get_or (map index infos) (length infos - 1) 0 ≡ (get_or infos count d).line_index = ap (λ n. get_or (map index infos) n 0) last ∙ mapped index infos count d 0 within in
+    let gone : gone_of stays first replaced infos ≡ ss = ap (λ b. gone_of b first replaced infos) keeps ∙ ap (λ n. replaced (n - first)) same ∙ sym is in
+    ap (λ es. with_stretches Removal gutter (chars line) es row) (sym gone)

@@ -1,0 +1,127 @@
+-- The stretches of a line that take a role, one after another, and the walk that counts the tabs before them.
+use Rattle.std.proofs.Common.{◌≡◌, ℕ, ◌+◌, ◌-◌, ◌^◌, ◌<◌, ◌≤◌, eqb, Bool, true, List, [], ◌∷◌, ◌++◌, length, min, take, drop, get_or, refl, sym, ap, ◌∙◌, arith, inl, inr, subst, chars, count_by}
+use Rattle.std.proofs.lemmas.Bool.{cases_Bool}
+use Rattle.std.proofs.lemmas.List.{length-drop, places, same_lists, take_all}
+use Rattle.std.proofs.lemmas.List.Sums.{count_by_more_no, count_by_more_yes}
+use Rattle.std.proofs.lemmas.Str.{IsUtf8-past_char, chars-nil, chars_past_char}
+use Rattle.std.specs.Str.{IsUtf8}
+use Rattle.std.specs.Str.Iter.{chars_rest}
+use Rattle.std.specs.Char.{encode_utf8}
+use mir.Val.{bool_byte}
+use Rattle.snippet_style.specs.declared.role.ElementStyle.{ElementStyle}
+use Rattle.snippet_style.specs.Cell.{Cell}
+use Rattle.snippet_grid.specs.Grid.{cells_restyled, changed_within, restyled}
+use Rattle.snippet_splice.specs.declared.stretches.SubstitutionHighlight.{SubstitutionHighlight}
+use Rattle.snippet_splice.specs.Stretches.{capped}
+use Rattle.snippet_suggest.specs.declared.roles.TabCursor.{TabCursor}
+use Rattle.snippet_suggest.specs.Cells.{stretch_cell, with_stretches}
+use Rattle.snippet_suggest.specs.Cursor.{IsCursor}
+use Rattle.snippet_suggest.proofs.DrawnLemmas.{next_of}
+use Rattle.snippet_suggest.proofs.PaintLemmas.{changed_last}
+
+-- ---- the walk
+
+-- it begins before the line
+pub cursor_begins : (t : TabCursor) → IsUtf8 t.line.now → chars_rest t.rest ≡ t.line.now → t.passed ≡ 0 → t.tabs ≡ 0 → IsCursor t
+cursor_begins t text rest none zeros =
+    record {
+      text = text;
+      left_text = subst IsUtf8 (sym rest) text;
+      within = omega (arith, none);
+      left = ap chars rest ∙ sym (ap (λ n. drop n (chars t.line.now)) none);
+      counted = zeros ∙ sym (ap (λ n. capped (count_by (λ c. eqb c 9) (take n (chars t.line.now)))) none);
+    }
+
+-- the character that it comes to
+first_left : (cs left : List ℕ) (n c : ℕ) → c ∷ left ≡ drop n cs → (n < length cs) × (get_or cs n 0 ≡ c) × (left ≡ drop (n + 1) cs)
+first_left cs left n c is =
+    let long : length (c ∷ left) ≡ length cs - n = ap length is ∙ length-drop n cs in
+    let within : n < length cs = omega (arith, long) in
+    let here : n + 0 ≡ n = omega arith in
+    let next : drop n cs ≡ get_or cs n 0 ∷ drop (n + 1) cs = same_lists _ _ (grind (arith, places)) (λ k d h. grind (arith, places)) in
+    let both : c ∷ left ≡ get_or cs n 0 ∷ drop (n + 1) cs = is ∙ next in
+    (within, cc, cc)
+
+-- one tab more, or none
+one_more : (cs : List ℕ) (n c tabs more now : ℕ) → n < length cs → get_or cs n 0 ≡ c → tabs ≡ capped (count_by (λ d. eqb d 9) (take n cs)) → more ≡ bool_byte (eqb c 9) → now ≡ min (tabs + more) (2 ^ 64 - 1) → now ≡ capped (count_by (λ d. eqb d 9) (take (n + 1) cs))
+one_more cs n c tabs more now within at counted adds sums =
+    let p : ℕ → Bool = λ d. eqb d 9 in
+    elim (cases_Bool (eqb c 9)) [
+      | inl tab ↦
+          let one : more ≡ 1 = adds ∙ ap bool_byte tab in
+          let all : count_by p (take (n + 1) cs) ≡ count_by p (take n cs) + 1 = count_by_more_yes p cs n 0 within (ap p at ∙ tab) in
+          sums ∙ omega (arith, counted, one, all)
+      | inr other ↦
+          let none : more ≡ 0 = adds ∙ ap bool_byte other in
+          let all : count_by p (take (n + 1) cs) ≡ count_by p (take n cs) = count_by_more_no p cs n 0 within (ap p at ∙ other) in
+          sums ∙ omega (arith, counted, none, all)
+    ]
+
+pub cursor_next : (t now : TabCursor) (c more : ℕ) → IsCursor t → now.line.now ≡ t.line.now → chars_rest t.rest ≡ encode_utf8 c ++ chars_rest now.rest → now.passed ≡ t.passed + 1 → more ≡ bool_byte (eqb c 9) → now.tabs ≡ min (t.tabs + more) (2 ^ 64 - 1) → IsCursor now
+cursor_next t now c more at line rest passed adds sums =
+    let cs : List ℕ = chars t.line.now in
+    let stands : chars (chars_rest t.rest) ≡ c ∷ chars (chars_rest now.rest) = chars_past_char (chars_rest t.rest) (chars_rest now.rest) c at.left_text rest in
+    let is = first_left cs (chars (chars_rest now.rest)) t.passed c (sym stands ∙ at.left) in
+    let same : chars now.line.now ≡ cs = ap chars line in
+    record {
+      text = subst IsUtf8 (sym line) at.text;
+      left_text = IsUtf8-past_char (chars_rest t.rest) (chars_rest now.rest) c at.left_text rest;
+      within = omega (arith, is.0, passed, ap length same);
+      left = is.2 ∙ ap (λ n. drop n cs) (sym passed) ∙ ap (λ t. drop now.passed t) (sym same);
+      counted = one_more cs t.passed c t.tabs more now.tabs is.0 is.1 at.counted adds sums ∙ ap (λ n. capped (count_by (λ c. eqb c 9) (take n cs))) (sym passed) ∙ ap (λ t. capped (count_by (λ c. eqb c 9) (take now.passed t))) (sym same);
+    }
+
+-- what it counted before a character that it has come to, or at the line's end
+pub cursor_there : (t : TabCursor) (k : ℕ) → IsCursor t → t.passed ≡ k → t.tabs ≡ capped (count_by (λ c. eqb c 9) (take k (chars t.line.now)))
+cursor_there t k at there =
+    at.counted ∙ ap (λ n. capped (count_by (λ c. eqb c 9) (take n (chars t.line.now)))) there
+
+pub cursor_ended : (t : TabCursor) (k : ℕ) → IsCursor t → t.passed ≤ k → length (chars_rest t.rest) ≡ 0 → t.tabs ≡ capped (count_by (λ c. eqb c 9) (take k (chars t.line.now)))
+cursor_ended t k at few ended =
+    let cs : List ℕ = chars t.line.now in
+    let none : chars_rest t.rest ≡ [] = empty (chars_rest t.rest) ended in
+    let left : drop t.passed cs ≡ [] = sym at.left ∙ ap chars none ∙ chars-nil in
+    let long : length cs - t.passed ≡ 0 = sym (length-drop t.passed cs) ∙ ap length left in
+    let all : take t.passed cs ≡ take k cs = take_all t.passed cs (omega (arith, long)) ∙ sym (take_all k cs (omega (arith, long, few))) in
+    at.counted ∙ ap (λ ds. capped (count_by (λ c. eqb c 9) ds)) all
+  where
+    empty : (xs : List ℕ) → length xs ≡ 0 → xs ≡ []
+    empty [] is = refl
+    empty (x ∷ xs) is = absurd (omega (arith, is))
+
+-- ---- the stretches
+
+pub with_none : (role : ElementStyle) (gutter : ℕ) (cs : List ℕ) (row : List Cell) → with_stretches role gutter cs [] row ≡ row
+unfolding with_stretches
+with_none role gutter cs row = refl
+
+with_append : (role : ElementStyle) (gutter : ℕ) (cs : List ℕ) (ss : List SubstitutionHighlight) (s : SubstitutionHighlight) (row : List Cell) → with_stretches role gutter cs (ss ++ s ∷ []) row ≡ changed_within (restyled role true) (stretch_cell gutter cs s.start) (stretch_cell gutter cs s.end) (with_stretches role gutter cs ss row)
+unfolding with_stretches
+with_append role gutter cs [] s row = refl
+with_append role gutter cs (t ∷ ss) s row =
+    with_append role gutter cs ss s (changed_within (restyled role true) (stretch_cell gutter cs t.start) (stretch_cell gutter cs t.end) row)
+
+-- one that is empty changes nothing
+empty_stretch : (f : Cell → Cell) (at : ℕ) (row : List Cell) → changed_within f at at row ≡ row
+unfolding changed_within
+empty_stretch f at row = same_lists _ _ (grind (arith, places)) (λ k d h. grind (arith, places))
+
+-- so far, and one more
+pub painted_begun : (role : ElementStyle) (gutter : ℕ) (cs : List ℕ) (ss : List SubstitutionHighlight) (above : List (List Cell)) (last : List Cell) (now : List (List Cell)) → now ≡ above ++ last ∷ [] → now ≡ above ++ with_stretches role gutter cs (take 0 ss) last ∷ []
+painted_begun role gutter cs ss above last now is =
+    is ∙ ap (λ (row : List Cell). above ++ row ∷ []) (sym (with_none role gutter cs last))
+
+pub painted_next : (role : ElementStyle) (gutter : ℕ) (cs : List ℕ) (ss : List SubstitutionHighlight) (i : ℕ) (d : SubstitutionHighlight) (above : List (List Cell)) (last : List Cell) (now new : List (List Cell)) (row start end : ℕ) → i < length ss → row ≡ length above → now ≡ above ++ with_stretches role gutter cs (take i ss) last ∷ [] → start ≡ stretch_cell gutter cs (get_or ss i d).start → end ≡ stretch_cell gutter cs (get_or ss i d).end → new ≡ cells_restyled now row start end role true → new ≡ above ++ with_stretches role gutter cs (take (i + 1) ss) last ∷ []
+painted_next role gutter cs ss i d above last now new row start end within here is starts ends paints =
+    let so_far : List Cell = with_stretches role gutter cs (take i ss) last in
+    let f : ℕ → ℕ → List Cell → List Cell = λ from to. changed_within (restyled role true) from to in
+    let s : SubstitutionHighlight = get_or ss i d in
+    paints ∙ ap (λ (rows : List (List Cell)). changed_within (f start end) row (row + 1) rows) is ∙ ap (λ r. changed_within (f start end) r (r + 1) (above ++ so_far ∷ [])) here ∙ changed_last (f start end) above so_far ∙ ap (λ n. above ++ f n end so_far ∷ []) starts ∙ ap (λ n. above ++ f (stretch_cell gutter cs s.start) n so_far ∷ []) ends ∙ ap (λ (r : List Cell). above ++ r ∷ []) (sym (with_append role gutter cs (take i ss) s last)) ∙ ap (λ (t : List SubstitutionHighlight). above ++ with_stretches role gutter cs t last ∷ []) (sym (next_of ss i d within))
+
+pub passed_next : (role : ElementStyle) (gutter : ℕ) (cs : List ℕ) (ss : List SubstitutionHighlight) (i : ℕ) (d : SubstitutionHighlight) (above : List (List Cell)) (last : List Cell) (now : List (List Cell)) → i < length ss → now ≡ above ++ with_stretches role gutter cs (take i ss) last ∷ [] → (get_or ss i d).start ≡ (get_or ss i d).end → now ≡ above ++ with_stretches role gutter cs (take (i + 1) ss) last ∷ []
+passed_next role gutter cs ss i d above last now within is empty =
+    let so_far : List Cell = with_stretches role gutter cs (take i ss) last in
+    let s : SubstitutionHighlight = get_or ss i d in
+    let f : ℕ → ℕ → List Cell → List Cell = λ from to. changed_within (restyled role true) from to in
+    let stays : f (stretch_cell gutter cs s.start) (stretch_cell gutter cs s.end) so_far ≡ so_far = ap (λ k. f (stretch_cell gutter cs s.start) (stretch_cell gutter cs k) so_far) (sym empty) ∙ empty_stretch (restyled role true) (stretch_cell gutter cs s.start) so_far in
+    is ∙ ap (λ (r : List Cell). above ++ r ∷ []) (sym stays ∙ sym (with_append role gutter cs (take i ss) s last)) ∙ ap (λ (t : List SubstitutionHighlight). above ++ with_stretches role gutter cs t last ∷ []) (sym (next_of ss i d within))

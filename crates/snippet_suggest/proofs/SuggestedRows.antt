@@ -1,0 +1,286 @@
+-- What is drawn of a suggestion is its value.
+use Rattle.std.proofs.Common.{◌≡◌, ◌≢◌, ℕ, zero, suc, ◌+◌, ◌-◌, ◌^◌, ◌<◌, ◌≤◌, Bool, true, false, List, [], ◌∷◌, ◌++◌, length, map, get_or, refl, sym, ap, ◌∙◌, ◌&&◌, arith, append_assoc, chars, take, inl, inr, if◌then◌else◌}
+use Rattle.std.proofs.Math.ListN.{get_or-map}
+use Rattle.std.proofs.lemmas.List.{append-nil, length-map, map-append, take-map}
+use Rattle.std.proofs.lemmas.List.FromFn.{get_or-map-range_with_len, length-range_with_len}
+use Rattle.std.specs.Cow.{cow_str_bytes}
+use Rattle.std.proofs.lemmas.Bool.{cases_Bool, cond-false, cond-true}
+use Rattle.std.specs.List.{range_with_len}
+use Rattle.std.specs.Str.{bytes_eq}
+use Rattle.snippet_model.specs.declared.snippet.Snippet.{Snippet}
+use Rattle.snippet_model.specs.declared.snippet.Patch.{Patch}
+use Rattle.snippet_parts.specs.declared.source_map.LineInfo.{LineInfo}
+use Rattle.snippet_style.specs.Cell.{Cell}
+use Rattle.snippet_style.specs.declared.role.ElementStyle.TheVariants.{NoStyle, Removal}
+use Rattle.snippet_splice.specs.Edits.{Edit}
+use Rattle.snippet_splice.specs.Spliced.{last_line_reached}
+use Rattle.snippet_splice.specs.declared.stretches.SubstitutionHighlight.{SubstitutionHighlight}
+use Rattle.snippet_suggest.specs.declared.kind.DisplaySuggestion.{DisplaySuggestion}
+use Rattle.snippet_suggest.specs.declared.kind.DisplaySuggestion.TheVariants.{Add, Diff, Plain, Underline}
+use Rattle.snippet_suggest.specs.declared.layout.SuggestionLayout.{SuggestionLayout}
+use Rattle.snippet_suggest.specs.declared.layout.SuggestionStart.{SuggestionStart}
+use Rattle.snippet_suggest.specs.declared.layout.SuggestionStart.TheVariants.{Next, Opening, Path}
+use Rattle.snippet_suggest.specs.declared.shown.ShownLine.{ShownLine}
+use Rattle.snippet_suggest.specs.declared.shown.ShownLine.TheVariants.{Gap, Line}
+use Rattle.snippet_suggest.specs.Cells.{begin_cells, diff_cells, emptied_cells, end_cells, gone_of, left_out_cells, offered_cells, on_last, removed_cells, shown_cells, taken_cells, with_stretches}
+use Rattle.snippet_suggest.specs.Given.{edits_of, first_given, given_lines, given_ranges, is_left_out, last_reached, last_removed, shown_kind, source_of, trimmed_of, unless_stays}
+use Rattle.snippet_suggest.specs.Order.{Begins, Empty, Ends, Offers, Removes, SuggestionRow, changed_rows, counted_from, is_diff, number_after, numbered_at, removed_from, row_of_shown, rows_of_suggestion}
+use Rattle.snippet_suggest.specs.Rows.{rows_shared}
+use Rattle.snippet_suggest.specs.Shown.{is_touched}
+use Rattle.snippet_suggest.specs.Suggested.{body_cells, cells_of, cells_over, marked_edits, new_on, removed_in, replaced_on, suggestion_cells, with_left_out}
+use Rattle.snippet_suggest.specs.Marks.{with_marks}
+use Rattle.snippet_suggest.proofs.KnownRemoved.{unless_range}
+use Rattle.snippet_suggest.proofs.RowsDrawn.{diff_left, diff_shown}
+
+-- ---- rows one by one
+
+pub begins_is : (layout : SuggestionLayout) (s : Snippet Patch) (under : List Cell) (start : SuggestionStart) → cells_of layout s under (Begins start) ≡ begin_cells layout start under
+unfolding cells_of
+begins_is layout s under start = refl
+
+pub empty_is : (layout : SuggestionLayout) (s : Snippet Patch) (under : List Cell) → cells_of layout s under Empty ≡ []
+unfolding cells_of
+empty_is layout s under = refl
+
+-- lines that are shown, which have the same stretches
+pub shown_same : (layout : SuggestionLayout) (kind : DisplaySuggestion) (first : ℕ) (lines : List (List ℕ)) (f g : ℕ → List SubstitutionHighlight) (shown : List ShownLine) → ((k : ℕ) → f k ≡ g k) → map (shown_cells layout kind first lines f) shown ≡ map (shown_cells layout kind first lines g) shown
+shown_same layout kind first lines f g [] same = refl
+shown_same layout kind first lines f g (Line k ∷ shown) same =
+    let Row : List SubstitutionHighlight → List Cell = λ ss. shown_cells layout kind first lines (λ n. ss) (Line k) in
+    ap (λ ss. Row ss ∷ map (shown_cells layout kind first lines f) shown) (same k) ∙ ap (λ rows. Row (g k) ∷ rows) (shown_same layout kind first lines f g shown same)
+shown_same layout kind first lines f g (Gap ∷ shown) same =
+    ap (λ rows. shown_cells layout kind first lines g Gap ∷ rows) (shown_same layout kind first lines f g shown same)
+
+pub shown_is : (layout : SuggestionLayout) (s : Snippet Patch) (shown : List ShownLine) → map (cells_of layout s []) (map row_of_shown shown) ≡ map (shown_cells layout (shown_kind s) (s.line_start + first_given s) (given_lines s) (new_on s)) shown
+unfolding cells_of
+shown_is layout s [] = refl
+shown_is layout s (Line k ∷ shown) =
+    ap (λ rows. shown_cells layout (shown_kind s) (s.line_start + first_given s) (given_lines s) (new_on s) (Line k) ∷ rows) (shown_is layout s shown)
+shown_is layout s (Gap ∷ shown) =
+    ap (λ rows. shown_cells layout (shown_kind s) (s.line_start + first_given s) (given_lines s) (new_on s) Gap ∷ rows) (shown_is layout s shown)
+
+-- ---- where no line is given
+
+removed_none : (layout : SuggestionLayout) (s : Snippet Patch) (under : List Cell) (i number : ℕ) (text : List ℕ) → given_lines s ≡ [] → cells_of layout s under (Removes i number text) ≡ removed_cells layout Removal number text under
+unfolding cells_of
+removed_none layout s under i number text none =
+    ap (λ (ls : List (List ℕ)). removed_in layout ls (replaced_on s (i - first_given s)) number text under) none
+
+emptied_later : (layout : SuggestionLayout) (s : Snippet Patch) (i : ℕ) (lines : List (ℕ × List ℕ)) → given_lines s ≡ [] → map (cells_of layout s []) (removed_from i lines) ≡ emptied_cells layout lines []
+unfolding emptied_cells
+emptied_later layout s i [] none = refl
+emptied_later layout s i (line ∷ lines) none =
+    ap (λ row. row ∷ map (cells_of layout s []) (removed_from (i + 1) lines)) (removed_none layout s [] i line.0 line.1 none) ∙ ap (λ rows. removed_cells layout Removal line.0 line.1 [] ∷ rows) (emptied_later layout s (i + 1) lines none)
+
+emptied_over : (layout : SuggestionLayout) (s : Snippet Patch) (under : List Cell) (i : ℕ) (lines : List (ℕ × List ℕ)) → given_lines s ≡ [] → cells_over (cells_of layout s) under (removed_from i lines) ≡ emptied_cells layout lines under
+unfolding emptied_cells
+emptied_over layout s under i [] none = refl
+emptied_over layout s under i (line ∷ lines) none =
+    ap (λ row. row ∷ map (cells_of layout s []) (removed_from (i + 1) lines)) (removed_none layout s under i line.0 line.1 none) ∙ ap (λ rows. removed_cells layout Removal line.0 line.1 under ∷ rows) (emptied_later layout s (i + 1) lines none)
+
+body_none : (layout : SuggestionLayout) (start : SuggestionStart) (s : Snippet Patch) (under : List Cell) (rows : List SuggestionRow) → given_lines s ≡ [] → rows_of_suggestion start s ≡ rows → body_cells layout start s under ≡ cells_over (cells_of layout s) under rows
+unfolding body_cells
+body_none layout start s under rows none is =
+    ap (λ (ls : List (List ℕ)). with_left_out layout s ls (cells_over (cells_of layout s) under (rows_of_suggestion start s))) none ∙ ap (cells_over (cells_of layout s) under) is
+
+pub body_emptied : (layout : SuggestionLayout) (start : SuggestionStart) (s : Snippet Patch) (under : List Cell) (i : ℕ) (lines : List (ℕ × List ℕ)) → given_lines s ≡ [] → rows_of_suggestion start s ≡ removed_from i lines → emptied_cells layout lines under ≡ body_cells layout start s under
+body_emptied layout start s under i lines none is =
+    sym (body_none layout start s under (removed_from i lines) none is ∙ emptied_over layout s under i lines none)
+
+pub body_emptied_diff : (layout : SuggestionLayout) (start : SuggestionStart) (s : Snippet Patch) (under : List Cell) (i : ℕ) (lines : List (ℕ × List ℕ)) → given_lines s ≡ [] → rows_of_suggestion start s ≡ Begins start ∷ removed_from i lines → begin_cells layout start under ∷ emptied_cells layout lines [] ≡ body_cells layout start s under
+body_emptied_diff layout start s under i lines none is =
+    sym (body_none layout start s under (Begins start ∷ removed_from i lines) none is ∙ ap (λ row. row ∷ map (cells_of layout s []) (removed_from i lines)) (begins_is layout s under start) ∙ ap (λ rows. begin_cells layout start under ∷ rows) (emptied_later layout s i lines none))
+
+-- ---- where lines are given, and aren't shown as a diff
+
+not_diff : (kind : DisplaySuggestion) → kind ≢ Diff → is_diff kind ≡ false
+not_diff Underline other = refl
+not_diff Diff other = absurd (other refl)
+not_diff Plain other = refl
+not_diff Add other = refl
+
+-- the rows where no line gives its roles to another row
+body_plain : (layout : SuggestionLayout) (start : SuggestionStart) (s : Snippet Patch) (under : List Cell) (line : List ℕ) (lines : List (List ℕ)) (rows : List SuggestionRow) → given_lines s ≡ line ∷ lines → (is_diff (shown_kind s) && is_touched s.fold (given_ranges s) 0 && is_left_out (shown_kind s) (line ∷ lines) (last_reached s)) ≡ false → rows_of_suggestion start s ≡ rows → body_cells layout start s under ≡ cells_over (cells_of layout s) under rows
+unfolding body_cells
+body_plain layout start s under line lines rows some stays is =
+    let all : List (List Cell) = cells_over (cells_of layout s) under (rows_of_suggestion start s) in
+    ap (λ (ls : List (List ℕ)). with_left_out layout s ls all) some ∙ cond-false (is_diff (shown_kind s) && is_touched s.fold (given_ranges s) 0 && is_left_out (shown_kind s) (line ∷ lines) (last_reached s)) _ all stays ∙ ap (cells_over (cells_of layout s) under) is
+
+pub body_shown : (layout : SuggestionLayout) (start : SuggestionStart) (s : Snippet Patch) (under : List Cell) (line : List ℕ) (lines : List (List ℕ)) (shown : List ShownLine) → given_lines s ≡ line ∷ lines → shown_kind s ≢ Diff → rows_of_suggestion start s ≡ Begins start ∷ map row_of_shown shown → begin_cells layout start under ∷ map (shown_cells layout (shown_kind s) (s.line_start + first_given s) (given_lines s) (new_on s)) shown ≡ body_cells layout start s under
+body_shown layout start s under line lines shown some other is =
+    let t : Bool = is_touched s.fold (given_ranges s) 0 in
+    let l : Bool = is_left_out (shown_kind s) (line ∷ lines) (last_reached s) in
+    let stays : (is_diff (shown_kind s) && t && l) ≡ false = ap (λ (b : Bool). b && t && l) (not_diff (shown_kind s) other) in
+    sym (body_plain layout start s under line lines (Begins start ∷ map row_of_shown shown) some stays is ∙ ap (λ row. row ∷ map (cells_of layout s []) (map row_of_shown shown)) (begins_is layout s under start) ∙ ap (λ rows. begin_cells layout start under ∷ rows) (shown_is layout s shown))
+
+-- ---- a diff
+
+-- one that no patch touches
+pub body_untouched : (layout : SuggestionLayout) (start : SuggestionStart) (s : Snippet Patch) (under : List Cell) (line : List ℕ) → given_lines s ≡ line ∷ [] → shown_kind s ≡ Diff → is_touched s.fold (given_ranges s) 0 ≡ false → rows_of_suggestion start s ≡ Begins start ∷ Empty ∷ [] → begin_cells layout start under ∷ [] ∷ [] ≡ body_cells layout start s under
+body_untouched layout start s under line one diff untouched is =
+    let l : Bool = is_left_out (shown_kind s) (line ∷ []) (last_reached s) in
+    let stays : (is_diff (shown_kind s) && is_touched s.fold (given_ranges s) 0 && l) ≡ false = ap (λ (b : Bool). b && is_touched s.fold (given_ranges s) 0 && l) (ap is_diff diff) ∙ ap (λ (b : Bool). b && l) untouched in
+    sym (body_plain layout start s under line [] (Begins start ∷ Empty ∷ []) one stays is ∙ ap (λ row. row ∷ cells_of layout s [] Empty ∷ []) (begins_is layout s under start) ∙ ap (λ (row : List Cell). begin_cells layout start under ∷ row ∷ []) (empty_is layout s []))
+
+-- the lines that are removed above one in their place
+removed_some : (layout : SuggestionLayout) (s : Snippet Patch) (under : List Cell) (line : List ℕ) (i number : ℕ) (text : List ℕ) → given_lines s ≡ line ∷ [] → cells_of layout s under (Removes i number text) ≡ with_stretches Removal layout.gutter (chars text) (replaced_on s (i - first_given s)) (removed_cells layout NoStyle number text under)
+unfolding cells_of
+removed_some layout s under line i number text one =
+    ap (λ (ls : List (List ℕ)). removed_in layout ls (replaced_on s (i - first_given s)) number text under) one
+
+pub taken_rows : (layout : SuggestionLayout) (s : Snippet Patch) (line : List ℕ) (replaced : ℕ → List SubstitutionHighlight) (infos : List LineInfo) (f : ℕ → List ℕ) (a m k : ℕ) → given_lines s ≡ line ∷ [] → ((j : ℕ) → replaced j ≡ replaced_on s j) → numbered_at infos ≡ map {B = ℕ × List ℕ} (λ j. (s.line_start + j, f j)) (range_with_len a m) → taken_cells layout (s.line_start + first_given s) replaced k infos ≡ map (cells_of layout s []) (removed_from a (counted_from (s.line_start + first_given s) k (map f (range_with_len a m))))
+unfolding taken_cells
+taken_rows layout s line replaced [] f a zero k one same are = refl
+taken_rows layout s line replaced [] f a (suc m) k one same are = absurd (cc)
+taken_rows layout s line replaced (info ∷ infos) f a zero k one same are = absurd (cc)
+taken_rows layout s line replaced (info ∷ infos) f a (suc m) k one same are =
+    let first : ℕ = s.line_start + first_given s in
+    let rest : numbered_at infos ≡ map {B = ℕ × List ℕ} (λ j. (s.line_start + j, f j)) (range_with_len (a + 1) m) = cc in
+    let pair : ◌≡◌ {A = ℕ × List ℕ} (info.line_index, info.line.now) (s.line_start + a, f a) = cc in
+    let own : info.line_index ≡ s.line_start + a = ap (λ (p : ℕ × List ℕ). p.0) pair in
+    let text : info.line.now ≡ f a = ap (λ (p : ℕ × List ℕ). p.1) pair in
+    let index : info.line_index - first ≡ a - first_given s = omega (arith, own) in
+    let Row : List ℕ → List SubstitutionHighlight → List Cell = λ t ss. with_stretches Removal layout.gutter (chars t) ss (removed_cells layout NoStyle (number_after first k) t []) in
+    let row : Row info.line.now (replaced (info.line_index - first)) ≡ Row (f a) (replaced_on s (a - first_given s)) = ap (λ t. Row t (replaced (info.line_index - first))) text ∙ ap (Row (f a)) (ap replaced index ∙ same (a - first_given s)) in
+    let is = removed_some layout s [] line a (number_after first k) (f a) one in
+    ap (λ r. r ∷ taken_cells layout first replaced (k + 1) infos) (row ∙ sym is) ∙ ap (λ rows. cells_of layout s [] (Removes a (number_after first k) (f a)) ∷ rows) (taken_rows layout s line replaced infos f (a + 1) m (k + 1) one same rest)
+
+-- a suggestion shares at most one row
+pub shared_few : (start : SuggestionStart) (n : ℕ) → n ≡ rows_shared start → n ≤ 1
+shared_few Opening n is = omega (arith, is)
+shared_few Next n is = omega (arith, is)
+shared_few Path n is = omega (arith, is)
+
+-- ---- a diff that a patch touches
+
+-- some items without the last if that stays, one for each
+unless-map : {A B : Type 0} (stays : Bool) (g : A → B) (xs : List A) → map g (unless_stays stays xs) ≡ unless_stays stays (map g xs)
+unless-map {A} {B} true g xs = sym (take-map g (length xs - 1) xs) ∙ ap (λ (n : ℕ). take (n - 1) (map g xs)) (sym (length-map xs g))
+unless-map {A} {B} false g xs = refl
+
+-- the number of the last of some lines
+own_numbers : (infos : List LineInfo) → map (λ (info : LineInfo). info.line_index) infos ≡ map (λ (l : ℕ × List ℕ). l.0) (numbered_at infos)
+own_numbers [] = refl
+own_numbers (info ∷ infos) = ap (λ ks. info.line_index ∷ ks) (own_numbers infos)
+
+own_index : (infos : List LineInfo) → get_or (map (λ (info : LineInfo). info.line_index) infos) (length infos - 1) 0 ≡ get_or (map (λ (l : ℕ × List ℕ). l.0) (numbered_at infos)) (length (numbered_at infos) - 1) 0
+own_index infos =
+    let g : LineInfo → ℕ × List ℕ = λ info. (info.line_index, info.line.now) in
+    let ks : List ℕ = map (λ (l : ℕ × List ℕ). l.0) (numbered_at infos) in
+    ap (λ (ns : List ℕ). get_or ns (length infos - 1) 0) (own_numbers infos) ∙ ap (λ (n : ℕ). get_or ks (n - 1) 0) (sym (length-map infos g))
+
+last_index : (base : ℕ) (f : ℕ → List ℕ) (a n : ℕ) → 0 < n → let ls : List (ℕ × List ℕ) = map {B = ℕ × List ℕ} (λ j. (base + j, f j)) (range_with_len a n) in get_or (map (λ (l : ℕ × List ℕ). l.0) ls) (length ls - 1) 0 ≡ base + (a + (n - 1))
+last_index base f a n some =
+    let g : ℕ → ℕ × List ℕ = λ j. (base + j, f j) in
+    let first : ℕ × List ℕ → ℕ = λ l. l.0 in
+    let ls : List (ℕ × List ℕ) = map g (range_with_len a n) in
+    let d : ℕ × List ℕ = (0, []) in
+    let k : length ls ≡ n = length-map (range_with_len a n) g ∙ length-range_with_len a n in
+    ap (λ (m : ℕ). get_or (map first ls) (m - 1) 0) k ∙ get_or-map first ls (n - 1) d ∙ ap first (get_or-map-range_with_len g a n (n - 1) (a + (n - 1)) d (omega (arith, some)) refl)
+
+-- what is known of the lines that a diff removes: they stand one after another in the source, from one of its lines on
+pub record AreReplaced (s : Snippet Patch) (line : List ℕ) (f : ℕ → List ℕ) (a n : ℕ) (infos : List LineInfo) : Type 0 where
+  pub one : given_lines s ≡ line ∷ []
+  pub diff : shown_kind s ≡ Diff
+  pub touched : is_touched s.fold (given_ranges s) 0 ≡ true
+  pub small : s.line_start + first_given s < 2 ^ 64
+  pub are : numbered_at infos ≡ map {B = ℕ × List ℕ} (λ j. (s.line_start + j, f j)) (range_with_len a n)
+  pub some : 0 < n
+  pub last : last_removed infos ≡ last_reached s
+  pub reached : a + (n - 1) ≡ last_line_reached (cow_str_bytes s.source) (edits_of s)
+
+-- how many of them are shown
+abbrev pub shown_count : Snippet Patch → List ℕ → ℕ → ℕ
+shown_count s line n = if bytes_eq line (last_reached s) then n - 1 else n
+
+module _ (layout : SuggestionLayout) (s : Snippet Patch) (line : List ℕ) (f : ℕ → List ℕ) (a n : ℕ) (infos : List LineInfo) (replaced : ℕ → List SubstitutionHighlight) (known : AreReplaced s line f a n infos) (same : (j : ℕ) → replaced j ≡ replaced_on s j) where
+  abbrev first : ℕ
+  first = s.line_start + first_given s
+
+  abbrev stays : Bool
+  stays = bytes_eq line (last_reached s)
+
+  abbrev left : Bool
+  left = is_left_out Diff (line ∷ []) (last_reached s)
+
+  abbrev gone : List SubstitutionHighlight
+  gone = if stays then replaced_on s (last_line_reached (cow_str_bytes s.source) (edits_of s) - first_given s) else []
+
+  abbrev removed : List SuggestionRow
+  removed = removed_from a (counted_from first 0 (map f (range_with_len a (shown_count s line n))))
+
+  -- the rows of the lines that are removed
+  taken_are : taken_cells layout first replaced 0 (unless_stays stays infos) ≡ map (cells_of layout s []) removed
+  taken_are =
+      let g : ℕ → ℕ × List ℕ = λ j. (s.line_start + j, f j) in
+      let numbered : numbered_at (unless_stays stays infos) ≡ map g (range_with_len a (shown_count s line n)) = unless-map stays (λ (info : LineInfo). (info.line_index, info.line.now)) infos ∙ ap (unless_stays stays) known.are ∙ sym (unless-map stays g (range_with_len a n)) ∙ ap (map g) (unless_range stays a n) in
+      taken_rows layout s line replaced (unless_stays stays infos) f a (shown_count s line n) 0 known.one same numbered
+
+  -- the stretches of the last of them
+  gone_are : gone_of stays first replaced infos ≡ gone
+  gone_are =
+      let index : List (ℕ × List ℕ) → ℕ = λ ls. get_or (map (λ (l : ℕ × List ℕ). l.0) ls) (length ls - 1) 0 in
+      let own : get_or (map (λ (info : LineInfo). info.line_index) infos) (length infos - 1) 0 ≡ index (numbered_at infos) = own_index infos in
+      let last : index (numbered_at infos) ≡ s.line_start + (a + (n - 1)) = ap index known.are ∙ last_index s.line_start f a n known.some in
+      let at : get_or (map (λ (info : LineInfo). info.line_index) infos) (length infos - 1) 0 - first ≡ last_line_reached (cow_str_bytes s.source) (edits_of s) - first_given s = omega (arith, own, last, known.reached) in
+      ap (λ (k : ℕ). if stays then replaced k else []) at ∙ ap (λ (ss : List SubstitutionHighlight). if stays then ss else []) (same (last_line_reached (cow_str_bytes s.source) (edits_of s) - first_given s))
+
+  -- the row of the line in their place
+  offered_is : cells_of layout s [] (Offers 0) ≡ offered_cells layout Diff 1 first line (new_on s 0)
+  unfolding cells_of
+  offered_is =
+      let number : number_after first 0 ≡ first = omega (arith, known.small) in
+      ap (λ (ls : List (List ℕ)). offered_cells layout (shown_kind s) (length ls) (number_after first 0) (get_or ls 0 []) (new_on s 0)) known.one ∙ ap (λ k. offered_cells layout k 1 (number_after first 0) line (new_on s 0)) known.diff ∙ ap (λ m. offered_cells layout Diff 1 m line (new_on s 0)) number
+
+  -- where the line isn't shown, and where it is
+  body_left : (start : SuggestionStart) (under : List Cell) → left ≡ true → rows_of_suggestion start s ≡ Begins start ∷ changed_rows true left removed → on_last (left_out_cells layout.gutter line (gone_of stays first replaced infos) (new_on s 0)) (begin_cells layout start under ∷ taken_cells layout first replaced 0 (unless_stays stays infos)) ≡ body_cells layout start s under
+  unfolding body_cells
+  body_left start under leaves rows =
+      let all : List (List Cell) = cells_over (cells_of layout s) under (rows_of_suggestion start s) in
+      let Painted : List SubstitutionHighlight → List (List Cell) → List (List Cell) = λ ss rs. on_last (left_out_cells layout.gutter line ss (new_on s 0)) rs in
+      let test : (is_diff (shown_kind s) && is_touched s.fold (given_ranges s) 0 && is_left_out (shown_kind s) (line ∷ []) (last_reached s)) ≡ true = ap (λ k. is_diff k && is_touched s.fold (given_ranges s) 0 && is_left_out k (line ∷ []) (last_reached s)) known.diff ∙ ap (λ (t : Bool). t && left) known.touched ∙ leaves in
+      let body : with_left_out layout s (given_lines s) all ≡ Painted gone all = ap (λ (ls : List (List ℕ)). with_left_out layout s ls all) known.one ∙ cond-true _ (Painted gone all) all test in
+      let shown : all ≡ begin_cells layout start under ∷ taken_cells layout first replaced 0 (unless_stays stays infos) = ap (cells_over (cells_of layout s) under) (rows ∙ ap (λ l. Begins start ∷ changed_rows true l removed) leaves ∙ ap (λ rs. Begins start ∷ rs) (append-nil removed)) ∙ ap (λ row. row ∷ map (cells_of layout s []) removed) (begins_is layout s under start) ∙ ap (λ rs. begin_cells layout start under ∷ rs) (sym taken_are) in
+      ap (λ ss. Painted ss (begin_cells layout start under ∷ taken_cells layout first replaced 0 (unless_stays stays infos))) gone_are ∙ sym (body ∙ ap (Painted gone) shown)
+
+  body_offered : (start : SuggestionStart) (under : List Cell) → left ≡ false → rows_of_suggestion start s ≡ Begins start ∷ changed_rows true left removed → (begin_cells layout start under ∷ taken_cells layout first replaced 0 (unless_stays stays infos)) ++ offered_cells layout Diff 1 first line (new_on s 0) ∷ [] ≡ body_cells layout start s under
+  body_offered start under shown rows =
+      let row : List Cell = offered_cells layout Diff 1 first line (new_on s 0) in
+      let begin : List Cell = begin_cells layout start under in
+      let test : (is_diff (shown_kind s) && is_touched s.fold (given_ranges s) 0 && is_left_out (shown_kind s) (line ∷ []) (last_reached s)) ≡ false = ap (λ k. is_diff k && is_touched s.fold (given_ranges s) 0 && is_left_out k (line ∷ []) (last_reached s)) known.diff ∙ ap (λ (t : Bool). t && left) known.touched ∙ shown in
+      let body = body_plain layout start s under line [] (Begins start ∷ (removed ++ Offers 0 ∷ [])) known.one test (rows ∙ ap (λ l. Begins start ∷ changed_rows true l removed) shown) in
+      let cells : map (cells_of layout s []) (removed ++ Offers 0 ∷ []) ≡ taken_cells layout first replaced 0 (unless_stays stays infos) ++ row ∷ [] = map-append (cells_of layout s []) removed (Offers 0 ∷ []) ∙ ap (λ rs. rs ++ cells_of layout s [] (Offers 0) ∷ []) (sym taken_are) ∙ ap (λ (r : List Cell). taken_cells layout first replaced 0 (unless_stays stays infos) ++ r ∷ []) offered_is in
+      sym (body ∙ ap (λ r. r ∷ map (cells_of layout s []) (removed ++ Offers 0 ∷ [])) (begins_is layout s under start) ∙ ap (λ rs. begin ∷ rs) cells)
+
+  pub body_diff : (start : SuggestionStart) (under : List Cell) (added : List SubstitutionHighlight) → added ≡ new_on s 0 → rows_of_suggestion start s ≡ Begins start ∷ changed_rows true left removed → diff_cells layout first infos replaced line added (begin_cells layout start under) ≡ body_cells layout start s under
+  body_diff start under added new rows =
+      let stays_is : stays ≡ bytes_eq line (last_removed infos) = ap (bytes_eq line) (sym known.last) in
+      let left_is : is_left_out Diff (line ∷ []) (last_removed infos) ≡ left = ap (is_left_out Diff (line ∷ [])) known.last in
+      ap (λ ss. diff_cells layout first infos replaced line ss (begin_cells layout start under)) new ∙ elim (cases_Bool left) [
+        | inl leaves ↦ sym (diff_left layout first infos replaced line (new_on s 0) (begin_cells layout start under) stays stays_is (left_is ∙ leaves)) ∙ body_left start under leaves rows
+        | inr shown ↦ sym (diff_shown layout first infos replaced line (new_on s 0) (begin_cells layout start under) stays stays_is (left_is ∙ shown)) ∙ body_offered start under shown rows
+      ]
+
+-- ---- the last row
+
+pub ends_marked : (layout : SuggestionLayout) (s : Snippet Patch) (follows : Bool) → shown_kind s ≡ Underline → with_marks layout (source_of s) [] (trimmed_of s) (end_cells layout follows) ≡ cells_of layout s [] (Ends follows)
+unfolding cells_of
+ends_marked layout s follows marks =
+    ap (λ k. with_marks layout (source_of s) [] (marked_edits k (trimmed_of s)) (end_cells layout follows)) (sym marks)
+
+none_marked : (kind : DisplaySuggestion) (es : List Edit) → kind ≢ Underline → marked_edits kind es ≡ []
+none_marked Underline es other = absurd (other refl)
+none_marked Diff es other = refl
+none_marked Plain es other = refl
+none_marked Add es other = refl
+
+pub ends_plain : (layout : SuggestionLayout) (s : Snippet Patch) (follows : Bool) → shown_kind s ≢ Underline → end_cells layout follows ≡ cells_of layout s [] (Ends follows)
+unfolding cells_of with_marks
+ends_plain layout s follows other =
+    ap (λ es. with_marks layout (source_of s) [] es (end_cells layout follows)) (sym (none_marked (shown_kind s) (trimmed_of s) other))
+
+pub suggestion_is : (layout : SuggestionLayout) (start : SuggestionStart) (follows : Bool) (s : Snippet Patch) (under : List Cell) (above before new : List (List Cell)) → before ≡ above ++ body_cells layout start s under → new ≡ before ++ cells_of layout s [] (Ends follows) ∷ [] → new ≡ above ++ suggestion_cells layout start follows s under
+unfolding suggestion_cells
+suggestion_is layout start follows s under above before new body adds =
+    let end : List (List Cell) = cells_of layout s [] (Ends follows) ∷ [] in
+    adds ∙ ap (λ rs. rs ++ end) body ∙ append_assoc above (body_cells layout start s under) end

@@ -1,0 +1,78 @@
+-- The marks below the one line of a suggestion, as values.
+use Rattle.std.specs.Prelude.{ℕ, ◌+◌, ◌-◌, ◌^◌, min, nat_le, List, [], ◌∷◌, ◌++◌, chars, filter, length, map, replicate, sum_by, if◌then◌else◌}
+use Rattle.std.specs.Str.{trim, trim_start}
+use Rattle.snippet_style.specs.Cell.{Cell}
+use Rattle.snippet_style.specs.declared.glyphs.DecorStyle.{DecorStyle}
+use Rattle.snippet_style.specs.declared.role.ElementStyle.TheVariants.{Addition}
+use Rattle.snippet_text.specs.Width.{width_of}
+use Rattle.snippet_lines.specs.Lines.{Source}
+use Rattle.snippet_lines.specs.Place.{locations_of}
+use Rattle.snippet_splice.specs.declared.patches.TrimmedPatch.{TrimmedPatch}
+use Rattle.snippet_splice.specs.Edits.{Edit, trimmed_edit_of}
+use Rattle.snippet_splice.specs.Stretches.{capped}
+use Rattle.snippet_suggest.specs.declared.layout.SuggestionLayout.{SuggestionLayout}
+use Rattle.snippet_suggest.specs.declared.marks.PatchColumns.{PatchColumns}
+use Rattle.snippet_suggest.specs.Cells.{put}
+use Rattle.snippet_suggest.specs.Glyphs.{changed_mark_of}
+use Rattle.snippet_suggest.specs.Kind.{adds_text, is_blank}
+
+-- the columns of a text, and of an edit: where its span starts and ends in its lines of the source, and how many its text has
+abbrev pub text_width : List ℕ → ℕ
+text_width text = capped (width_of (chars text))
+
+abbrev pub columns_of : Source → Edit → PatchColumns
+columns_of s e =
+    let at = locations_of s e.start e.end in
+    record { start = at.0.display; end = at.1.display; width = text_width e.text }
+
+-- those of some edits that end at this column or left of it
+abbrev pub left_of : ℕ → List PatchColumns → List PatchColumns
+left_of start earlier = filter (λ c. nat_le c.end start) earlier
+
+-- how far some edits move what stands after them to the right, and then to the left: together by what they make the line longer or
+-- shorter
+abbrev pub to_right : List PatchColumns → ℕ
+to_right earlier = capped (sum_by (λ c. c.width + c.start) earlier)
+
+abbrev pub to_left : List PatchColumns → ℕ
+to_left earlier = capped (sum_by (λ c. c.end) earlier)
+
+-- where a column stands then, of what starts at column `start`
+abbrev pub moved : ℕ → List PatchColumns → ℕ → ℕ
+moved start earlier column = capped (column + to_right (left_of start earlier)) - to_left (left_of start earlier)
+
+-- how many bytes of whitespace a text begins with, none if it is nothing else; and the columns of the text without the whitespace around
+-- it, or of all of it if it is nothing else
+abbrev pub lead_of : List ℕ → ℕ
+lead_of text = if is_blank text then 0 else length text - length (trim_start text)
+
+abbrev pub inner_width : PatchColumns → List ℕ → ℕ
+inner_width c text = if is_blank text then c.width else text_width (trim text)
+
+-- the columns from which on and before which the marks of an edit stand, below its text in the line as it will be. The whitespace that
+-- the text begins with counts as many columns as it has bytes
+abbrev pub mark_start : List PatchColumns → PatchColumns → List ℕ → ℕ
+mark_start earlier c text = moved c.start earlier (capped (c.start + lead_of text))
+
+abbrev pub mark_end : List PatchColumns → PatchColumns → List ℕ → ℕ
+mark_end earlier c text = moved c.start earlier (capped (capped (c.start + lead_of text) + inner_width c text))
+
+-- the mark of an edit: `+` where it adds text, else that of what is changed
+abbrev pub mark_of : DecorStyle → List ℕ → Edit → ℕ
+mark_of decor source e = if adds_text source e then 43 else changed_mark_of decor
+
+-- a row with a mark in the columns from one to before another, as far as there are columns
+unfoldable pub with_mark : SuggestionLayout → ℕ → ℕ → ℕ → List Cell → List Cell
+with_mark layout mark start end row =
+    put Addition (replicate (min end (2 ^ 60) - start) mark) (layout.gutter + 3 + start) row
+
+-- a row with the marks of some edits of a source, after others with these columns
+unfoldable pub with_marks : SuggestionLayout → Source → List PatchColumns → List Edit → List Cell → List Cell
+with_marks layout s earlier [] row = row
+with_marks layout s earlier (e ∷ es) row =
+    let c = columns_of s e in
+    with_marks layout s (earlier ++ c ∷ []) es (with_mark layout (mark_of layout.decor s.text e) (mark_start earlier c e.text) (mark_end earlier c e.text) row)
+
+-- the edits that some trimmed patches are
+abbrev pub edits_at : List TrimmedPatch → List Edit
+edits_at patches = map trimmed_edit_of patches

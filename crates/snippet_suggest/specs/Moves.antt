@@ -1,0 +1,16 @@
+-- What the patches before one move, as the code keeps it.
+use Rattle.std.specs.Prelude.{◌≡◌, ◌≤◌, All, List}
+use Rattle.snippet_suggest.specs.declared.marks.Moves.{Moves}
+use Rattle.snippet_suggest.specs.declared.marks.PatchColumns.{PatchColumns}
+use Rattle.snippet_suggest.specs.declared.marks.Shift.{Shift}
+use Rattle.snippet_suggest.specs.Marks.{to_left, to_right}
+
+-- what some patches move
+abbrev pub shift_of : List PatchColumns → Shift
+shift_of earlier = record { right = to_right earlier; left = to_left earlier }
+
+-- the columns of these patches are kept, with what they move together, and a column that none of them ends after
+pub record AreMoves (earlier : List PatchColumns) (m : Moves) : Type 0 where
+  pub patches : m.patches.items ≡ earlier
+  pub all : m.all ≡ shift_of earlier
+  pub ends : All (λ c. c.end ≤ m.end) earlier
