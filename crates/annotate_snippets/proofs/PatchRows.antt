@@ -7,8 +7,9 @@ use Rattle.std.specs.Fmt.{decimal}
 use Rattle.std.specs.List.{AllZip, flat_map, list_all, list_any}
 use Rattle.std.specs.Option.{is_some, option_to_list}
 use Rattle.std.proofs.lemmas.Bool.Decides.{nat_tests}
-use Rattle.std.proofs.lemmas.List.{append-nil}
-use Rattle.std.proofs.lemmas.Result.{on_ok_weaker}
+use Rattle.std.proofs.lemmas.List.{append_cancel_left, append-nil}
+use Rattle.snippet_grid.proofs.OutcomeLemmas.{on_ok_two}
+use Rattle.snippet_grid.specs.Grid.{row_at}
 use Rattle.snippet_style.specs.declared.glyphs.DecorStyle.{DecorStyle}
 use Rattle.snippet_style.specs.declared.glyphs.DecorStyle.TheVariants.{Ascii, Unicode}
 use Rattle.snippet_style.specs.declared.role.ElementStyle.TheVariants.{LineNumber}
@@ -26,12 +27,13 @@ use Rattle.snippet_suggest.specs.declared.SuggestionStart.{SuggestionStart}
 use Rattle.snippet_suggest.specs.declared.SuggestionStart.TheVariants.{Opening, Next, Path}
 use Rattle.snippet_suggest.specs.Given.{counted_line, first_given, given_lines}
 use Rattle.snippet_suggest.specs.Order.{Ends, SuggestionRow, rows_of_suggestion}
-use Rattle.snippet_suggest.specs.Rows.{AddsSuggestion, HasGutter, IsStart, IsStrokeRow, IsTail, Shows, begin_glyph, beside_gutter, is_stroke}
+use Rattle.snippet_suggest.specs.Rows.{AddsSuggestion, HasGutter, IsStart, IsStrokeRow, IsTail, Shows, begin_glyph, beside_gutter, is_stroke, rows_shared}
+use Rattle.snippet_suggest.specs.Suggested.{body_cells, cells_of as row_cells, suggestion_cells}
 use Rattle.snippet_suggest.proofs.BareLemmas.{stroke_led}
 use Rattle.snippet_suggest.proofs.DrawnLemmas.{zip_push}
 use Rattle.snippet_style.specs.Separators.{separator_row}
 use Rattle.annotate_snippets.specs.Around.{HasPathFor, begins_in_row_above, is_end, is_next_start, path_bytes}
-use Rattle.annotate_snippets.specs.Drawn.{AddsElement, HasRoomFor, suggestion_layout}
+use Rattle.annotate_snippets.specs.Drawn.{AddsElement, HasRoomFor, IsUnder, suggestion_layout}
 use Rattle.annotate_snippets.specs.Gutter.{line_numbers}
 use Rattle.annotate_snippets.specs.Rows.{path_head, path_row, separator_rows, suggestion_head, suggestion_head_at}
 use Rattle.annotate_snippets.specs.declared.renderer.Renderer.{Renderer}
@@ -71,31 +73,82 @@ path_head_is : (r : Renderer) (frame : Frame) (first : Bool) (s : Snippet Patch)
 path_head_is r frame first s None some = absurd (cc)
 path_head_is r frame first s (Some path) some = refl
 
--- what stands where a suggestion begins: its head, and the row in which it begins, if it shares that
-pub begun_below : (r : Renderer) (frame : Frame) (at : SuggestionStart) (first : Bool) (s : Snippet Patch) (above tail old mid : List (List Cell)) → old ≡ above ++ tail → IsTail r.decor_style frame.gutter (is_next_start at) tail → HasPathFor at s → (at ≡ Path → mid ≡ old ++ path_head r frame first s) → ((at ≡ Path → ⊥) → mid ≡ old) → (end : List (List Cell)) × (mid ≡ (above ++ suggestion_head_at at r frame first s) ++ end) × IsStart (suggestion_layout r frame s) at end
+-- what stands below some rows where a suggestion begins: the row in which it begins, if it shares that
+pub record Begun (r : Renderer) (frame : Frame) (at : SuggestionStart) (layout : SuggestionLayout) (rows mid : List (List Cell)) : Type 0 where
+  pub end : List (List Cell)
+  pub is : mid ≡ rows ++ end
+  pub start : IsStart layout at end
+  pub count : length end ≡ rows_shared at
+  pub found : IsUnder r frame at (row_at end 0)
+
+-- so stand its head, and that row
+pub begun_below : (r : Renderer) (frame : Frame) (at : SuggestionStart) (first : Bool) (s : Snippet Patch) (above tail old mid : List (List Cell)) → old ≡ above ++ tail → IsTail r.decor_style frame.gutter (is_next_start at) tail → HasPathFor at s → (at ≡ Path → mid ≡ old ++ path_head r frame first s) → ((at ≡ Path → ⊥) → mid ≡ old) → Begun r frame at (suggestion_layout r frame s) (above ++ suggestion_head_at at r frame first s) mid
 begun_below r frame Opening first s above tail old mid is tail_is path headed same =
-    (tail, same (λ is. absurd (cc)) ∙ is ∙ ap (λ rows. rows ++ tail) (sym (append-nil above)), tail_is)
+    record {
+      end = tail;
+      is = same (λ is. absurd (cc)) ∙ is ∙ ap (λ rows. rows ++ tail) (sym (append-nil above));
+      start = tail_is;
+      count = ap length tail_is;
+      found = ap (λ rows. row_at rows 0) tail_is;
+    }
 begun_below r frame Next first s above tail old mid is tail_is path headed same =
-    (tail, same (λ is. absurd (cc)) ∙ is ∙ ap (λ rows. rows ++ tail) (sym (append-nil above)), tail_is)
+    record {
+      end = tail;
+      is = same (λ is. absurd (cc)) ∙ is ∙ ap (λ rows. rows ++ tail) (sym (append-nil above));
+      start = tail_is;
+      count = ap length tail_is.2;
+      found = tt;
+    }
 begun_below r frame Path first s above tail old mid is tail_is path headed same =
     let head : List (List Cell) = path_row r frame first s (path_bytes s.path) in
     let old_is : old ≡ above = is ∙ ap (λ rows. above ++ rows) tail_is ∙ append-nil above in
     let head_is : path_head r frame first s ≡ head ++ separator_rows r frame = path_head_is r frame first s (path_bytes s.path) (path refl) in
-    (separator_rows r frame, headed refl ∙ ap (λ rows. rows ++ path_head r frame first s) old_is ∙ ap (λ rows. above ++ rows) head_is ∙ sym (append_assoc above head (separator_rows r frame)), (separator_row r.decor_style frame.gutter, refl, separator_stroke r.decor_style frame.gutter))
+    record {
+      end = separator_rows r frame;
+      is = headed refl ∙ ap (λ rows. rows ++ path_head r frame first s) old_is ∙ ap (λ rows. above ++ rows) head_is ∙ sym (append_assoc above head (separator_rows r frame));
+      start = (separator_row r.decor_style frame.gutter, refl, separator_stroke r.decor_style frame.gutter);
+      count = refl;
+      found = refl;
+    }
 
 -- whether an element follows
 abbrev pub follows : ElementContext → Bool
 follows around = not (is_end around.next)
 
+-- the rows of a suggestion are all but the last, and that one
+whole : (layout : SuggestionLayout) (at : SuggestionStart) (next : Bool) (s : Snippet Patch) (under : List Cell) → suggestion_cells layout at next s under ≡ body_cells layout at s under ++ row_cells layout s [] (Ends next) ∷ []
+unfolding suggestion_cells
+whole layout at next s under = refl
+
+-- rows that end with one, and are these
+snoc_parts : (xs ys : List (List Cell)) (x y : List Cell) → xs ++ x ∷ [] ≡ ys ++ y ∷ [] → (xs ≡ ys) × (x ≡ y)
+snoc_parts [] [] x y same = (refl, cc)
+snoc_parts [] (b ∷ []) x y same = absurd (cc)
+snoc_parts [] (b ∷ d ∷ ys) x y same = absurd (cc)
+snoc_parts (a ∷ []) [] x y same = absurd (cc)
+snoc_parts (a ∷ d ∷ xs) [] x y same = absurd (cc)
+snoc_parts (a ∷ xs) (b ∷ ys) x y same =
+    let first : a ≡ b = cc in
+    let rest : xs ++ x ∷ [] ≡ ys ++ y ∷ [] = cc in
+    let later = snoc_parts xs ys x y rest in
+    (ap (λ r. r ∷ xs) first ∙ ap (λ rs. b ∷ rs) later.0, later.1)
+
 -- the rows of a suggestion below those that it begins with are the element's: its last row is its own, or the next one begins in it
-pub suggestion_added : (r : Renderer) (frame : Frame) (around : ElementContext) (s : Snippet Patch) (above new : List (List Cell)) → AddsSuggestion (suggestion_layout r frame s) around.start (follows around) s (above ++ suggestion_head r frame around s) new → AddsElement r frame around (Suggestion s) above new
-suggestion_added r frame around s above new adds = at around.shared refl
+pub suggestion_added : (r : Renderer) (frame : Frame) (around : ElementContext) (s : Snippet Patch) (under : List Cell) (above new : List (List Cell)) → IsUnder r frame around.start under → AddsSuggestion (suggestion_layout r frame s) around.start (follows around) s (above ++ suggestion_head r frame around s) new → new ≡ (above ++ suggestion_head r frame around s) ++ suggestion_cells (suggestion_layout r frame s) around.start (follows around) s under → AddsElement r frame around (Suggestion s) above new
+suggestion_added r frame around s under above new found adds drawn = at around.shared refl
   where
+    -- the rows are those of its value
+    parts : (adds.rows ≡ body_cells (suggestion_layout r frame s) around.start s under) × (adds.last ≡ row_cells (suggestion_layout r frame s) s [] (Ends (follows around)))
+    parts =
+        snoc_parts adds.rows (body_cells (suggestion_layout r frame s) around.start s under) adds.last (row_cells (suggestion_layout r frame s) s [] (Ends (follows around))) (append_cancel_left (above ++ suggestion_head r frame around s) (adds.rows ++ adds.last ∷ []) _ (sym adds.added ∙ drawn ∙ ap (λ rows. (above ++ suggestion_head r frame around s) ++ rows) (whole (suggestion_layout r frame s) around.start (follows around) s under)))
+
     at : (b : Bool) → around.shared ≡ b → AddsElement r frame around (Suggestion s) above new
     at true shares =
         let IsShown : SuggestionRow → List Cell → Type 0 = Shows (suggestion_layout r frame s) (s.line_start + first_given s) (given_lines s) in
         let ends : Bool → List SuggestionRow = λ b. rows_of_suggestion around.start s ++ (if b then [] else Ends (follows around) ∷ []) in
         let head : List (List Cell) = suggestion_head r frame around s in
+        let body : List (List Cell) = body_cells (suggestion_layout r frame s) around.start s under in
+        let last : List Cell = row_cells (suggestion_layout r frame s) s [] (Ends (follows around)) in
         record {
           rows = head ++ adds.rows;
           tail = adds.last ∷ [];
@@ -104,6 +157,11 @@ suggestion_added r frame around s above new adds = at around.shared refl
             lines = adds.rows;
             rows_are = refl;
             are = subst (λ shown. AllZip IsShown shown adds.rows) (sym (ap ends shares ∙ append-nil (rows_of_suggestion around.start s))) adds.are;
+            cells = record {
+              under = under;
+              found = found;
+              are = parts.0 ∙ sym (append-nil body) ∙ ap (λ (b : Bool). body ++ (if b then [] else last ∷ [])) (sym shares);
+            };
           };
           ends = subst (λ b. IsTail r.decor_style frame.gutter b (adds.last ∷ [])) (sym shares) (adds.last, follows around, refl, adds.last_is);
         }
@@ -112,6 +170,8 @@ suggestion_added r frame around s above new adds = at around.shared refl
         let ends : Bool → List SuggestionRow = λ b. rows_of_suggestion around.start s ++ (if b then [] else Ends (follows around) ∷ []) in
         let head : List (List Cell) = suggestion_head r frame around s in
         let lines : List (List Cell) = adds.rows ++ adds.last ∷ [] in
+        let body : List (List Cell) = body_cells (suggestion_layout r frame s) around.start s under in
+        let last : List Cell = row_cells (suggestion_layout r frame s) s [] (Ends (follows around)) in
         record {
           rows = head ++ lines;
           tail = [];
@@ -120,6 +180,11 @@ suggestion_added r frame around s above new adds = at around.shared refl
             lines = lines;
             rows_are = refl;
             are = subst (λ shown. AllZip IsShown shown lines) (sym (ap ends shares)) (zip_push IsShown (rows_of_suggestion around.start s) adds.rows (Ends (follows around)) adds.last adds.are adds.last_is);
+            cells = record {
+              under = under;
+              found = found;
+              are = ap (λ rows. rows ++ adds.last ∷ []) parts.0 ∙ ap (λ (row : List Cell). body ++ row ∷ []) parts.1 ∙ ap (λ (b : Bool). body ++ (if b then [] else last ∷ [])) (sym shares);
+            };
           };
           ends = subst (λ b. IsTail r.decor_style frame.gutter b []) (sym shares) refl;
         }
@@ -133,10 +198,17 @@ abbrev pub DrawsBelow : Snippet Patch → SuggestionStart → Bool → List (Lis
 DrawsBelow s at next mid new result layout =
     HasGutter layout s → (above tail : List (List Cell)) → mid ≡ above ++ tail → IsStart layout at tail → OnOk result (AddsSuggestion layout at next s above new)
 
+-- the rows that it adds are a value
+abbrev pub DrawsCells : Snippet Patch → SuggestionStart → Bool → List (List Cell) → List (List Cell) → Result (Unit {0}) AllocError → SuggestionLayout → Type 0
+DrawsCells s at next mid new result layout =
+    (above tail : List (List Cell)) → mid ≡ above ++ tail → length tail ≡ rows_shared at → OnOk result (new ≡ above ++ suggestion_cells layout at next s (row_at tail 0))
+
 -- the rows of a suggestion stand below what is there
-pub patches_added : (r : Renderer) (frame : Frame) (around : ElementContext) (s : Snippet Patch) (above tail old mid new : List (List Cell)) (numbers : LineNumbers) (next : Bool) (result : Result (Unit {0}) AllocError) → numbers ≡ line_numbers r s.line_numbering → next ≡ follows around → s.markers.items ≢ [] → HasRoomFor r frame (Suggestion s) → old ≡ above ++ tail → IsTail r.decor_style frame.gutter (begins_in_row_above around) tail → HasPathFor around.start s → (around.start ≡ Path → mid ≡ old ++ path_head r frame around.first s) → ((around.start ≡ Path → ⊥) → mid ≡ old) → DrawsBelow s around.start next mid new result (layout_with r frame numbers) → OnOk result (AddsElement r frame around (Suggestion s) above new)
-patches_added r frame around s above tail old mid new numbers next result numbers_are next_is some room is tail_is path headed same draws =
+pub patches_added : (r : Renderer) (frame : Frame) (around : ElementContext) (s : Snippet Patch) (above tail old mid new : List (List Cell)) (numbers : LineNumbers) (next : Bool) (result : Result (Unit {0}) AllocError) → numbers ≡ line_numbers r s.line_numbering → next ≡ follows around → s.markers.items ≢ [] → HasRoomFor r frame (Suggestion s) → old ≡ above ++ tail → IsTail r.decor_style frame.gutter (begins_in_row_above around) tail → HasPathFor around.start s → (around.start ≡ Path → mid ≡ old ++ path_head r frame around.first s) → ((around.start ≡ Path → ⊥) → mid ≡ old) → DrawsBelow s around.start next mid new result (layout_with r frame numbers) → DrawsCells s around.start next mid new result (layout_with r frame numbers) → OnOk result (AddsElement r frame around (Suggestion s) above new)
+patches_added r frame around s above tail old mid new numbers next result numbers_are next_is some room is tail_is path headed same draws draws_cells =
     let begun = begun_below r frame around.start around.first s above tail old mid is tail_is path headed same in
     let Draws : Bool → SuggestionLayout → Type 0 = λ b layout. DrawsBelow s around.start b mid new result layout in
     let drawn : Draws (follows around) (suggestion_layout r frame s) = subst (λ b. Draws b (suggestion_layout r frame s)) next_is (subst (λ n. Draws next (layout_with r frame n)) numbers_are draws) in
-    on_ok_weaker result (suggestion_added r frame around s above new) (drawn (gutter_room r frame s some room) (above ++ suggestion_head r frame around s) begun.0 begun.1 begun.2)
+    let Cells : Bool → SuggestionLayout → Type 0 = λ b layout. DrawsCells s around.start b mid new result layout in
+    let cells : Cells (follows around) (suggestion_layout r frame s) = subst (λ b. Cells b (suggestion_layout r frame s)) next_is (subst (λ n. Cells next (layout_with r frame n)) numbers_are draws_cells) in
+    on_ok_two result (suggestion_added r frame around s (row_at begun.end 0) above new begun.found) (drawn (gutter_room r frame s some room) (above ++ suggestion_head r frame around s) begun.end begun.is begun.start) (cells (above ++ suggestion_head r frame around s) begun.end begun.is begun.count)

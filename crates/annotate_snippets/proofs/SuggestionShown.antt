@@ -22,7 +22,7 @@ use Rattle.snippet_suggest.proofs.TouchLaws.{touched-offered}
 use Rattle.snippet_titles.specs.Origin.{primary_start}
 use Rattle.snippet_titles.proofs.OriginFree.{origin_row-free}
 use Rattle.annotate_snippets.specs.Around.{is_end, path_bytes, suggestion_rows}
-use Rattle.annotate_snippets.specs.Drawn.{HasRoomFor, IsSuggestionDrawn, suggestion_layout}
+use Rattle.annotate_snippets.specs.Drawn.{AreSuggestionRows, HasRoomFor, IsSuggestionDrawn, suggestion_layout}
 use Rattle.annotate_snippets.specs.Page.{IsAscending, NamedRow, cells_of, lines_offered, others}
 use Rattle.annotate_snippets.specs.Rows.{origin_layout, patch_place, path_row, suggestion_head, suggestion_head_at}
 use Rattle.annotate_snippets.specs.Shown.{HasStrokes, ShowsSuggestion}
@@ -97,6 +97,7 @@ suggestion_shown r frame around s rows suggestible some room drawn =
       ordered = subst IsAscending (sym lines) (rising_ascends (first_given s) end (offered_lines s) (offered-ascends s));
       lines = lines;
       order = names_of-named IsShown s shown drawn.lines drawn.are;
+      cells = subst (AreSuggestionRows r frame around s) (sym (cells_of-named IsShown s shown drawn.lines drawn.are)) drawn.cells;
       strokes = subst (AllZip (HasStrokes r.decor_style frame.gutter) shown) (sym (cells_of-named IsShown s shown drawn.lines drawn.are)) (strokes_shown r frame s shown drawn.lines drawn.are);
       removed = lines_removed-named IsShown s shown drawn.lines drawn.are ∙ all_take around s;
       named = rows_named r frame s suggestible some (first_given s) shown drawn.lines (subst (AreRising (first_given s) end) (sym same) (offered-ascends s)) (all_own around s) drawn.are;

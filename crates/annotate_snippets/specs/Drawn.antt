@@ -1,5 +1,5 @@
 -- What the grids of a report hold: for each group its title and its elements, one below the other.
-use Rattle.std.specs.Prelude.{◌≡◌, ℕ, ◌+◌, ◌-◌, ◌≤◌, Bool, true, false, List, [], ◌∷◌, ◌++◌, Option, Some, length, map}
+use Rattle.std.specs.Prelude.{◌≡◌, ℕ, ◌+◌, ◌-◌, ◌≤◌, Bool, true, false, not, if◌then◌else◌, List, [], ◌∷◌, ◌++◌, Option, Some, length, map}
 use Rattle.std.specs.List.{AllZip, flat_map, slice_get, slice_index_or}
 use Rattle.std.specs.Cow.{cow_str_bytes}
 use Rattle.snippet_style.specs.Cell.{Cell}
@@ -19,7 +19,12 @@ use Rattle.snippet_strokes.specs.declared.layout.Layout.{Layout}
 use Rattle.snippet_strokes.specs.Snippet.{AreLinesShown}
 use Rattle.snippet_suggest.specs.declared.SuggestionLayout.{SuggestionLayout}
 use Rattle.snippet_suggest.specs.Given.{first_given, given_lines}
+use Rattle.snippet_suggest.specs.Order.{Ends}
 use Rattle.snippet_suggest.specs.Rows.{IsTail, Shows}
+use Rattle.snippet_suggest.specs.Suggested.{body_cells, cells_of as row_cells}
+use Rattle.snippet_suggest.specs.declared.SuggestionStart.{SuggestionStart}
+use Rattle.snippet_suggest.specs.declared.SuggestionStart.TheVariants as start
+use Rattle.snippet_style.specs.Separators.{separator_row}
 use Rattle.snippet_titles.specs.Origin.{padding_row}
 use Rattle.annotate_snippets.specs.declared.renderer.Renderer.{Renderer}
 use Rattle.annotate_snippets.specs.declared.renderer.frame.Frame.{Frame}
@@ -79,12 +84,32 @@ abbrev pub suggestion_layout : Renderer → Frame → Snippet Patch → Suggesti
 suggestion_layout r frame s =
     record { gutter = frame.gutter; numbers = line_numbers r s.line_numbering; decor = r.decor_style }
 
+-- what a suggestion finds in the row that it begins with: nothing in a row of its own, below its path a separator row, and in the
+-- last row of the suggestion before what stands there
+abbrev pub IsUnder : Renderer → Frame → SuggestionStart → List Cell → Type 0
+IsUnder r frame start.Opening under = under ≡ []
+IsUnder r frame start.Next under = Unit {0}
+IsUnder r frame start.Path under = under ≡ separator_row r.decor_style frame.gutter
+
+-- the rows of a suggestion's lines, over what it finds there; the last of them is the next one's, where that begins in it
+abbrev pub suggestion_lines : Renderer → Frame → ElementContext → Snippet Patch → List Cell → List (List Cell)
+suggestion_lines r frame around s under =
+    let layout = suggestion_layout r frame s in
+    body_cells layout around.start s under ++ (if around.shared then [] else row_cells layout s [] (Ends (not (is_end around.next))) ∷ [])
+
+-- the rows are those, cell by cell
+pub record AreSuggestionRows (r : Renderer) (frame : Frame) (around : ElementContext) (s : Snippet Patch) (lines : List (List Cell)) : Type 0 where
+  pub under : List Cell
+  pub found : IsUnder r frame around.start under
+  pub are : lines ≡ suggestion_lines r frame around s under
+
 -- the rows of a suggestion: that of its path, where it names that, and those of its lines, each of which shows what the suggestion
 -- has there
 pub record IsSuggestionDrawn (r : Renderer) (frame : Frame) (around : ElementContext) (s : Snippet Patch) (rows : List (List Cell)) : Type 0 where
   pub lines : List (List Cell)
   pub rows_are : rows ≡ suggestion_head r frame around s ++ lines
   pub are : AllZip (Shows (suggestion_layout r frame s) (s.line_start + first_given s) (given_lines s)) (suggestion_rows around s) lines
+  pub cells : AreSuggestionRows r frame around s lines
 
 -- the rows of an element
 abbrev pub IsElementDrawn : Renderer → Frame → ElementContext → Element → List (List Cell) → Type 0

@@ -20,5 +20,5 @@ returns c = record {
         | then-eq+in_ok-draw_path w ↦ λ other. absurd (other (same_true the_type (search rules) _ _ (sym w.if-eq.ensures)))
         | else-eq w ↦ λ other. w.buffer-is
       ])
-      c.draw_suggestion.ensures.added;
+      c.draw_suggestion.ensures.added c.draw_suggestion.ensures.cells;
 }
