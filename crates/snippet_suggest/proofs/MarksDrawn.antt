@@ -2,7 +2,6 @@
 use Rattle.std.proofs.Common.{◌≡◌, ℕ, suc, ◌+◌, ◌-◌, ◌^◌, ◌<◌, ◌≤◌, leb, All, List, [], ◌∷◌, ◌++◌, length, max, min, replicate, take, get_or, refl, sym, ap, ◌∙◌, arith, inl, inr, sum_by}
 use Rattle.std.proofs.lemmas.Bool.{cases_Bool}
 use Rattle.std.proofs.lemmas.Bool.Decides.{nat_tests}
-use Rattle.std.proofs.lemmas.List.{length-replicate, map-append, places, same_lists}
 use Rattle.std.proofs.lemmas.List.Elements.{All-push}
 use Rattle.std.proofs.lemmas.List.Sums.{sum_by-append}
 use Rattle.snippet_style.specs.declared.role.ElementStyle.{ElementStyle}
@@ -19,7 +18,7 @@ use Rattle.snippet_suggest.specs.declared.marks.Moves.{Moves}
 use Rattle.snippet_suggest.specs.declared.marks.PatchColumns.{PatchColumns}
 use Rattle.snippet_suggest.specs.declared.marks.Shift.{Shift}
 use Rattle.snippet_suggest.specs.Cells.{put}
-use Rattle.snippet_suggest.proofs.DrawnLemmas.{next_of}
+use Rattle.std.proofs.lemmas.List.{length-replicate, map-append, places, same_lists, take_more}
 use Rattle.snippet_suggest.specs.Marks.{columns_of, left_of, mark_end, mark_of, mark_start, to_left, to_right, with_mark, with_marks}
 use Rattle.snippet_suggest.specs.Moves.{AreMoves, shift_of}
 
@@ -74,11 +73,11 @@ left_no start (d ∷ cs) c high =
 
 pub left_next : (start : ℕ) (cs : List PatchColumns) (i : ℕ) (d : PatchColumns) → i < length cs → (get_or cs i d).end ≤ start → left_of start (take (i + 1) cs) ≡ left_of start (take i cs) ++ get_or cs i d ∷ []
 left_next start cs i d within low =
-    ap (left_of start) (next_of cs i d within) ∙ left_yes start (take i cs) (get_or cs i d) low
+    ap (left_of start) (take_more cs i d within) ∙ left_yes start (take i cs) (get_or cs i d) low
 
 pub left_passed : (start : ℕ) (cs : List PatchColumns) (i : ℕ) (d : PatchColumns) → i < length cs → start < (get_or cs i d).end → left_of start (take (i + 1) cs) ≡ left_of start (take i cs)
 left_passed start cs i d within high =
-    ap (left_of start) (next_of cs i d within) ∙ left_no start (take i cs) (get_or cs i d) high
+    ap (left_of start) (take_more cs i d within) ∙ left_no start (take i cs) (get_or cs i d) high
 
 -- all, where none ends after it
 pub left_all : (start : ℕ) (cs : List PatchColumns) → All (λ c. c.end ≤ start) cs → left_of start cs ≡ cs

@@ -3,8 +3,6 @@ use Rattle.std.proofs.Common.{◌≡◌, ℕ, ◌+◌, ◌-◌, ◌<◌, ◌≤�
 use mir.Val.{bool_byte}
 use Rattle.std.specs.Str.{bytes_eq}
 use Rattle.std.proofs.lemmas.Bool.{cond-false, cond-true}
-use Rattle.std.proofs.lemmas.List.{append-nil, drop_all, drop_more, length-map, length-take, map-append, take_all}
-use Rattle.std.proofs.lemmas.List.{get_or-map as mapped}
 use Rattle.std.proofs.Math.ListN.{get_or-map}
 use Rattle.snippet_style.specs.Cell.{Cell}
 use Rattle.snippet_style.specs.declared.role.ElementStyle.TheVariants.{NoStyle, Removal}
@@ -17,14 +15,14 @@ use Rattle.snippet_suggest.specs.declared.kind.DisplaySuggestion.TheVariants.{Di
 use Rattle.snippet_suggest.specs.Given.{is_left_out, last_removed, unless_stays}
 use Rattle.snippet_suggest.specs.Kind.{is_blank}
 use Rattle.snippet_suggest.specs.Order.{number_after, numbered_at}
-use Rattle.snippet_suggest.proofs.DrawnLemmas.{next_of}
+use Rattle.std.proofs.lemmas.List.{append-nil, drop_all, drop_more, get_or-map as mapped, length-map, length-take, map-append, take_all, take_more}
 use Rattle.snippet_suggest.proofs.StretchRows.{with_none}
 
 -- one row more for each of some items
 pub drawn_next : {A : Type 0} (f : A → List Cell) (xs : List A) (i : ℕ) (d : A) (old now new : List (List Cell)) → i < length xs → now ≡ old ++ map f (take i xs) → new ≡ now ++ f (get_or xs i d) ∷ [] → new ≡ old ++ map f (take (i + 1) xs)
 drawn_next {A} f xs i d old now new within is adds =
     let one : List (List Cell) = f (get_or xs i d) ∷ [] in
-    let more : map f (take (i + 1) xs) ≡ map f (take i xs) ++ one = ap (map f) (next_of xs i d within) ∙ map-append f (take i xs) (get_or xs i d ∷ []) in
+    let more : map f (take (i + 1) xs) ≡ map f (take i xs) ++ one = ap (map f) (take_more xs i d within) ∙ map-append f (take i xs) (get_or xs i d ∷ []) in
     adds ∙ ap (λ rows. rows ++ one) is ∙ append_assoc old (map f (take i xs)) one ∙ ap (λ rows. old ++ rows) (sym more)
 
 -- ---- lines that are removed with nothing in their place
@@ -121,7 +119,7 @@ taken_next layout first replaced infos i number d ss old now new within number_i
     let Row : ℕ → List SubstitutionHighlight → List Cell = λ n es. with_stretches Removal layout.gutter (chars info.line.now) es (removed_cells layout NoStyle n info.line.now []) in
     let count : i ≡ 0 + length (take i infos) = omega (arith, length-take i infos, within) in
     let row : Row number ss ≡ Row (number_after first (0 + length (take i infos))) (replaced (info.line_index - first)) = ap (λ n. Row n ss) (number_is ∙ ap (number_after first) count) ∙ ap (Row (number_after first (0 + length (take i infos)))) ss_is in
-    let more : taken_cells layout first replaced 0 (take (i + 1) infos) ≡ front ++ Row (number_after first (0 + length (take i infos))) (replaced (info.line_index - first)) ∷ [] = ap (taken_cells layout first replaced 0) (next_of infos i d within) ∙ taken-append layout first replaced 0 (take i infos) info in
+    let more : taken_cells layout first replaced 0 (take (i + 1) infos) ≡ front ++ Row (number_after first (0 + length (take i infos))) (replaced (info.line_index - first)) ∷ [] = ap (taken_cells layout first replaced 0) (take_more infos i d within) ∙ taken-append layout first replaced 0 (take i infos) info in
     adds ∙ ap (λ rows. rows ++ Row number ss ∷ []) is ∙ append_assoc old front (Row number ss ∷ []) ∙ ap (λ r. old ++ (front ++ r ∷ [])) row ∙ ap (λ rows. old ++ rows) (sym more)
 
 -- the last of some rows

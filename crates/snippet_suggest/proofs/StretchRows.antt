@@ -1,7 +1,6 @@
 -- The stretches of a line that take a role, one after another, and the walk that counts the tabs before them.
 use Rattle.std.proofs.Common.{◌≡◌, ℕ, ◌+◌, ◌-◌, ◌^◌, ◌<◌, ◌≤◌, eqb, Bool, true, List, [], ◌∷◌, ◌++◌, length, min, take, drop, get_or, refl, sym, ap, ◌∙◌, arith, inl, inr, subst, chars, count_by}
 use Rattle.std.proofs.lemmas.Bool.{cases_Bool}
-use Rattle.std.proofs.lemmas.List.{length-drop, places, same_lists, take_all}
 use Rattle.std.proofs.lemmas.List.Sums.{count_by_more_no, count_by_more_yes}
 use Rattle.std.proofs.lemmas.Str.{IsUtf8-past_char, chars-nil, chars_past_char}
 use Rattle.std.specs.Str.{IsUtf8}
@@ -16,7 +15,7 @@ use Rattle.snippet_splice.specs.Stretches.{capped}
 use Rattle.snippet_suggest.specs.declared.roles.TabCursor.{TabCursor}
 use Rattle.snippet_suggest.specs.Cells.{stretch_cell, with_stretches}
 use Rattle.snippet_suggest.specs.Cursor.{IsCursor}
-use Rattle.snippet_suggest.proofs.DrawnLemmas.{next_of}
+use Rattle.std.proofs.lemmas.List.{length-drop, places, same_lists, take_all, take_more}
 use Rattle.snippet_suggest.proofs.PaintLemmas.{changed_last}
 
 -- ---- the walk
@@ -116,7 +115,7 @@ painted_next role gutter cs ss i d above last now new row start end within here 
     let so_far : List Cell = with_stretches role gutter cs (take i ss) last in
     let f : ℕ → ℕ → List Cell → List Cell = λ from to. changed_within (restyled role true) from to in
     let s : SubstitutionHighlight = get_or ss i d in
-    paints ∙ ap (λ (rows : List (List Cell)). changed_within (f start end) row (row + 1) rows) is ∙ ap (λ r. changed_within (f start end) r (r + 1) (above ++ so_far ∷ [])) here ∙ changed_last (f start end) above so_far ∙ ap (λ n. above ++ f n end so_far ∷ []) starts ∙ ap (λ n. above ++ f (stretch_cell gutter cs s.start) n so_far ∷ []) ends ∙ ap (λ (r : List Cell). above ++ r ∷ []) (sym (with_append role gutter cs (take i ss) s last)) ∙ ap (λ (t : List SubstitutionHighlight). above ++ with_stretches role gutter cs t last ∷ []) (sym (next_of ss i d within))
+    paints ∙ ap (λ (rows : List (List Cell)). changed_within (f start end) row (row + 1) rows) is ∙ ap (λ r. changed_within (f start end) r (r + 1) (above ++ so_far ∷ [])) here ∙ changed_last (f start end) above so_far ∙ ap (λ n. above ++ f n end so_far ∷ []) starts ∙ ap (λ n. above ++ f (stretch_cell gutter cs s.start) n so_far ∷ []) ends ∙ ap (λ (r : List Cell). above ++ r ∷ []) (sym (with_append role gutter cs (take i ss) s last)) ∙ ap (λ (t : List SubstitutionHighlight). above ++ with_stretches role gutter cs t last ∷ []) (sym (take_more ss i d within))
 
 pub passed_next : (role : ElementStyle) (gutter : ℕ) (cs : List ℕ) (ss : List SubstitutionHighlight) (i : ℕ) (d : SubstitutionHighlight) (above : List (List Cell)) (last : List Cell) (now : List (List Cell)) → i < length ss → now ≡ above ++ with_stretches role gutter cs (take i ss) last ∷ [] → (get_or ss i d).start ≡ (get_or ss i d).end → now ≡ above ++ with_stretches role gutter cs (take (i + 1) ss) last ∷ []
 passed_next role gutter cs ss i d above last now within is empty =
@@ -124,4 +123,4 @@ passed_next role gutter cs ss i d above last now within is empty =
     let s : SubstitutionHighlight = get_or ss i d in
     let f : ℕ → ℕ → List Cell → List Cell = λ from to. changed_within (restyled role true) from to in
     let stays : f (stretch_cell gutter cs s.start) (stretch_cell gutter cs s.end) so_far ≡ so_far = ap (λ k. f (stretch_cell gutter cs s.start) (stretch_cell gutter cs k) so_far) (sym empty) ∙ empty_stretch (restyled role true) (stretch_cell gutter cs s.start) so_far in
-    is ∙ ap (λ (r : List Cell). above ++ r ∷ []) (sym stays ∙ sym (with_append role gutter cs (take i ss) s last)) ∙ ap (λ (t : List SubstitutionHighlight). above ++ with_stretches role gutter cs t last ∷ []) (sym (next_of ss i d within))
+    is ∙ ap (λ (r : List Cell). above ++ r ∷ []) (sym stays ∙ sym (with_append role gutter cs (take i ss) s last)) ∙ ap (λ (t : List SubstitutionHighlight). above ++ with_stretches role gutter cs t last ∷ []) (sym (take_more ss i d within))

@@ -87,7 +87,7 @@ fn draw_cause_head(
 }
 
 /// The place that the head of a snippet names, given its lines that are kept.
-pub fn location(primary: bool, kept: &[AnnotatedLineInfo<'_>]) -> OriginLocation
+fn location(primary: bool, kept: &[AnnotatedLineInfo<'_>]) -> OriginLocation
     requires room { AllEntries HasCharacterRoom kept.now }
     ensures value { result ≡ spec.place_named primary (map seen_kept kept.now) }
 {

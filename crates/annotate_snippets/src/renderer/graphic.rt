@@ -112,7 +112,7 @@ pub fn printed(
         if i > 0 {
             text.push('\n')?;
         }
-        text.push_str(grid.buffer.render(grid.level, sheet)?.as_str())?;
+        grid.buffer.render_into(&mut text, grid.level, sheet)?;
     }
     Ok(text)
 }

@@ -163,7 +163,7 @@ fn prepare_element<'a>(
 }
 
 /// Prepares an annotated snippet.
-pub fn prepare_cause<'a>(
+fn prepare_cause<'a>(
     alloc: Global,
     snippet: &'a Snippet<'a, Annotation<'a>>,
 ) -> Result<PreparedCause<'a>, AllocError>

@@ -4,6 +4,7 @@ use Rattle.std.specs.Str.{chars}
 use Rattle.snippet_strokes.specs.Rows.{shown_cells, begun_cells}
 use Rattle.snippet_strokes.proofs.source_row.write_source_row.Goals as goal
 use Rattle.snippet_model.proofs.RowLemmas.{each_fails}
+use Rattle.snippet_text.specs.Normalized.{is_listed}
 
 pub returns-clause-added : goal.returns-clause-added
 returns-clause-added c =

@@ -1,11 +1,10 @@
 use Rattle.std.proofs.Common.{◌≡◌, ◌∙◌, ◌+◌, ◌<◌, ℕ, [], ◌∷◌, ◌++◌, List, ap, drop, get_or, length, map, refl, subst, sym, take}
-use Rattle.std.proofs.lemmas.List.{drop_all, drop_more, map-append}
 use Rattle.snippet_splice.specs.declared.patches.TrimmedPatch.{TrimmedPatch}
 use Rattle.snippet_splice.specs.Edits.{Edit, trimmed_edit_of}
 use Rattle.snippet_suggest.specs.declared.marks.PatchColumns.{PatchColumns}
 use Rattle.snippet_suggest.specs.Marks.{columns_of, mark_end, mark_start, with_marks}
 use Rattle.snippet_suggest.specs.Moves.{AreMoves}
-use Rattle.snippet_suggest.proofs.DrawnLemmas.{next_of}
+use Rattle.std.proofs.lemmas.List.{drop_all, drop_more, map-append, take_more}
 use Rattle.snippet_suggest.proofs.MarksDrawn.{marked_done, marked_next}
 use Rattle.snippet_suggest.proofs.marks.draw_marks.Goals as goal
 
@@ -30,7 +29,7 @@ loop-patch-preserved c =
     let e : Edit = trimmed_edit_of (get_or ps i d) in
     let earlier : List PatchColumns = map f (take i ps) in
     let columns = c.patch_columns-columns.ensures.value in
-    let more : map f (take (i + 1) ps) ≡ earlier ++ columns_of m e ∷ [] = ap (map f) (next_of ps i d within) ∙ map-append f (take i ps) (get_or ps i d ∷ []) in
+    let more : map f (take (i + 1) ps) ≡ earlier ++ columns_of m e ∷ [] = ap (map f) (take_more ps i d within) ∙ map-append f (take i ps) (get_or ps i d ∷ []) in
     let shift = c.before-in-loop-patch.ensures.value earlier inv.of in
     let bounds = c.marked_columns-start.ensures.value earlier shift in
     record {

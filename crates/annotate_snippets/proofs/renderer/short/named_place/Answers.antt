@@ -1,0 +1,20 @@
+use Rattle.std.proofs.Common.{◌≡◌, ◌∙◌, ◌+◌, Some, ap, sym}
+use Rattle.std.specs.Option.{option_map}
+use Rattle.snippet_lines.specs.declared.place.Loc.{Loc}
+use Rattle.snippet_lines.specs.Place.{start_location}
+use Rattle.snippet_lines.proofs.PlaceLemmas.{locations_of-start}
+use Rattle.snippet_titles.specs.declared.origin.OriginLocation.{OriginLocation}
+use Rattle.snippet_view.specs.Location.{place_at}
+use Rattle.annotate_snippets.specs.Rows.{place_found}
+use Rattle.annotate_snippets.proofs.renderer.short.named_place.Goals as goal
+
+-- a place as an origin names it
+named : Loc → OriginLocation
+named at = record { line = Some at.line; column = Some (at.char + 1) }
+
+pub returns-in-Some : goal.returns-in-Some
+unfolding named
+returns-in-Some c =
+    let s = c.args.source.now in
+    let at : c.span_to_locations.result.0 ≡ start_location s c.in-Some.start = ap (λ l. l.0) c.span_to_locations.ensures.value ∙ locations_of-start s c.in-Some.start c.in-Some.start in
+    record { value = λ fold. ap named at ∙ sym (ap place_found (c.naming_start.ensures.named fold s c.requires.utf8 c.requires.spans ∙ ap (option_map (place_at s)) c.in-Some.is)) }
