@@ -23,6 +23,7 @@ pub mod NotDrawn
 pub mod NotLabelled
 pub mod NotOffered
 pub mod NotShown
+pub mod NotSuggested
 pub mod NotWhole
 pub mod PageLemmas
 pub mod PartsFacts

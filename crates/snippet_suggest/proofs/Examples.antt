@@ -65,7 +65,7 @@ one_word_gives v = record { kind_is = refl; lines_are = refl; offered_are = refl
 --       |
 --     1 | foo(x)
 --       |     +
-abbrev text_put_in : Vec Patch Global → Snippet Patch
+abbrev pub text_put_in : Vec Patch Global → Snippet Patch
 text_put_in v = snippet v true (codes "foo()") (patch 4 4 (codes "x") ∷ []) (omega arith)
 
 text_put_in_gives : (v : Vec Patch Global) → Gives (text_put_in v) Underline (codes "foo(x)" ∷ []) (0 ∷ []) [] 1 (Begins Opening ∷ Offers 0 ∷ [])
@@ -78,7 +78,7 @@ text_put_in_gives v = record { kind_is = refl; lines_are = refl; offered_are = r
 --     1 ~ xa
 --     2 | c
 --       |
-abbrev two_lines : Vec Patch Global → Snippet Patch
+abbrev pub two_lines : Vec Patch Global → Snippet Patch
 two_lines v = snippet v true (codes "a" ++ 10 ∷ codes "bc") (patch 0 0 (codes "x") ∷ patch 2 3 [] ∷ []) (omega arith)
 
 two_lines_gives : (v : Vec Patch Global) → Gives (two_lines v) Plain (codes "xa" ∷ codes "c" ∷ []) (0 ∷ 1 ∷ []) [] 2 (Begins Opening ∷ Offers 0 ∷ Offers 1 ∷ [])
@@ -103,7 +103,7 @@ insertion_first_gives v = record { kind_is = refl; lines_are = refl; offered_are
 --       |
 --     1 - a
 --       |
-abbrev deleted_line : Vec Patch Global → Snippet Patch
+abbrev pub deleted_line : Vec Patch Global → Snippet Patch
 deleted_line v = snippet v true (codes "a") (patch 0 1 [] ∷ []) (omega arith)
 
 deleted_line_gives : (v : Vec Patch Global) → Gives (deleted_line v) Diff [] [] (0 ∷ []) 1 (Begins Opening ∷ Removes 0 1 (codes "a") ∷ [])
@@ -128,7 +128,7 @@ after_final_gives v = record { kind_is = refl; lines_are = refl; offered_are = r
 --       |
 --     1 - a
 --       |
-abbrev first_line_deleted : Vec Patch Global → Snippet Patch
+abbrev pub first_line_deleted : Vec Patch Global → Snippet Patch
 first_line_deleted v = snippet v true (codes "a" ++ 10 ∷ codes "b") (patch 0 2 [] ∷ []) (omega arith)
 
 first_line_deleted_gives : (v : Vec Patch Global) → Gives (first_line_deleted v) Diff (codes "b" ∷ []) [] (0 ∷ []) 2 (Begins Opening ∷ Removes 0 1 (codes "a") ∷ [])
@@ -196,7 +196,7 @@ third_line_gives v = record { kind_is = refl; lines_are = refl; offered_are = re
 --     2 | b
 --     3 + x
 --       |
-abbrev third_unfolded : Vec Patch Global → Snippet Patch
+abbrev pub third_unfolded : Vec Patch Global → Snippet Patch
 third_unfolded v = snippet v false (codes "a" ++ 10 ∷ codes "b" ++ 10 ∷ codes "c") (patch 4 5 (codes "x") ∷ []) (omega arith)
 
 third_unfolded_gives : (v : Vec Patch Global) → Gives (third_unfolded v) Plain (codes "a" ∷ codes "b" ∷ codes "x" ∷ []) (0 ∷ 1 ∷ 2 ∷ []) [] 3 (Begins Opening ∷ Offers 0 ∷ Offers 1 ∷ Offers 2 ∷ [])

@@ -1,5 +1,6 @@
 pub mod AscendLemmas
 pub mod BareLemmas
+pub mod CellExamples
 pub mod ComposeLemmas
 pub mod DrawnLemmas
 pub mod Examples

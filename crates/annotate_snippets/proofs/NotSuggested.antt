@@ -1,0 +1,85 @@
+-- Rows of suggestions with a wrong sign or a mark in a wrong place, on small reports, contradict the definitions of what rows show.
+use Rattle.std.proofs.Common.{◌≡◌, ◌∙◌, ℕ, not, Bool, false, true, refl, List, [], ◌∷◌, ◌++◌, Vec, codes, get_or, replicate, sym, ap, subst, arith, if◌then◌else◌}
+use Rattle.std.specs.declared.alloc.Global.{Global}
+use Rattle.snippet_grid.specs.Grid.{row_at}
+use Rattle.snippet_style.specs.Cell.{Cell, SPACE, text_cells}
+use Rattle.snippet_style.specs.declared.glyphs.DecorStyle.TheVariants.{Ascii}
+use Rattle.snippet_style.specs.declared.role.ElementStyle.TheVariants.{Addition, LineNumber, NoStyle, Removal}
+use Rattle.snippet_style.specs.declared.role.ElementStyle.{ElementStyle}
+use Rattle.snippet_model.specs.declared.snippet.Patch.{Patch}
+use Rattle.snippet_model.specs.declared.snippet.Snippet.{Snippet}
+use Rattle.snippet_suggest.specs.declared.SuggestionLayout.{SuggestionLayout}
+use Rattle.snippet_suggest.specs.declared.SuggestionStart.{SuggestionStart}
+use Rattle.snippet_suggest.specs.declared.SuggestionStart.TheVariants.{Opening}
+use Rattle.snippet_suggest.specs.Order.{Ends}
+use Rattle.snippet_suggest.specs.Suggested.{body_cells, cells_of as row_cells, suggestion_cells}
+use Rattle.snippet_suggest.proofs.CellExamples.{ascii, put_in_cells, stroke, unfolded_cells}
+use Rattle.snippet_suggest.proofs.Examples.{text_put_in, third_unfolded}
+use Rattle.annotate_snippets.specs.Around.{is_end}
+use Rattle.annotate_snippets.specs.Gutter.{line_numbers}
+use Rattle.annotate_snippets.specs.Drawn.{AreSuggestionRows, IsUnder, suggestion_layout}
+use Rattle.annotate_snippets.specs.Page.{NamedRow, cells_of}
+use Rattle.annotate_snippets.specs.Settings.{plain_settings}
+use Rattle.annotate_snippets.specs.Shown.{ShowsSuggestion}
+use Rattle.annotate_snippets.specs.declared.renderer.frame.Frame.{Frame}
+use Rattle.annotate_snippets.specs.declared.renderer.element_context.ElementContext.{ElementContext}
+
+-- a suggestion that stands alone: it begins in a row of its own, and its last row is its own
+record StandsAlone (around : ElementContext) : Type 0 where
+  start : around.start ≡ Opening
+  own : around.shared ≡ false
+
+-- its rows are those of its value, over nothing
+rows_alone : (frame : Frame) (around : ElementContext) (s : Snippet Patch) (lines : List (List Cell)) → suggestion_layout plain_settings frame s ≡ ascii → StandsAlone around → AreSuggestionRows plain_settings frame around s lines → lines ≡ suggestion_cells ascii Opening (not (is_end around.next)) s []
+unfolding suggestion_cells
+rows_alone frame around s lines layout_is alone shown =
+    let next : Bool = not (is_end around.next) in
+    let under : shown.under ≡ [] = subst (λ at. IsUnder plain_settings frame at shown.under) alone.start shown.found in
+    let Rows : SuggestionLayout → SuggestionStart → List Cell → Bool → List (List Cell) = λ layout at row shared. body_cells layout at s row ++ (if shared then [] else row_cells layout s [] (Ends next) ∷ []) in
+    let layout : SuggestionLayout = suggestion_layout plain_settings frame s in
+    shown.are ∙ ap (λ l. Rows l around.start shown.under around.shared) layout_is ∙ ap (λ at. Rows ascii at shown.under around.shared) alone.start ∙ ap (λ row. Rows ascii Opening row around.shared) under ∙ ap (Rows ascii Opening []) alone.own
+
+-- with a gutter of one cell its rows stand as in ASCII
+narrow_layout : (frame : Frame) (s : Snippet Patch) → frame.gutter ≡ 1 → s.line_numbering ≡ true → suggestion_layout plain_settings frame s ≡ ascii
+narrow_layout frame s narrow numbered =
+    ap (λ (g : ℕ). record { gutter = g; numbers = line_numbers plain_settings s.line_numbering; decor = Ascii }) narrow ∙ ap (λ (b : Bool). record { gutter = 1; numbers = line_numbers plain_settings b; decor = Ascii }) numbered
+
+-- ---- a mark beside what it belongs to
+
+-- of `foo()`, with `x` put in before the bracket, no rows show the mark one cell to the right of `x`:
+--
+--     1 | foo(x)
+--       |      +
+marks_one_right : (v : Vec Patch Global) (frame : Frame) (around : ElementContext) (rows : List NamedRow) → frame.gutter ≡ 1 → StandsAlone around → (shown : ShowsSuggestion plain_settings frame around (text_put_in v) rows) → row_at (cells_of shown.after) 2 ≡ stroke ++ replicate 6 SPACE ++ text_cells Addition (codes "+") → ⊥
+marks_one_right v frame around rows narrow alone shown wrong =
+    let s : Snippet Patch = text_put_in v in
+    let all = rows_alone frame around s (cells_of shown.after) (narrow_layout frame s narrow refl) alone shown.cells ∙ put_in_cells v (not (is_end around.next)) in
+    let At : List Cell → ℕ = λ row. (get_or row 8 SPACE).ch in
+    let mark : ◌≡◌ {A = ℕ} 32 43 = sym (ap At wrong) ∙ ap (λ (rs : List (List Cell)). At (row_at rs 2)) all in
+    absurd (omega (arith, mark))
+
+-- ---- a sign beside a line that no edit touches
+
+-- of `a`, `b` and `c`, with `x` in place of `c`, unfolded, no rows show the first line as changed:
+--
+--     1 ~ a
+--     2 | b
+--     3 + x
+kept_shown_as_changed : (v : Vec Patch Global) (frame : Frame) (around : ElementContext) (rows : List NamedRow) → frame.gutter ≡ 1 → StandsAlone around → (shown : ShowsSuggestion plain_settings frame around (third_unfolded v) rows) → row_at (cells_of shown.after) 1 ≡ text_cells LineNumber (codes "1") ++ SPACE ∷ text_cells Addition (codes "~ ") ++ text_cells NoStyle (codes "a") → ⊥
+kept_shown_as_changed v frame around rows narrow alone shown wrong =
+    let s : Snippet Patch = third_unfolded v in
+    let all = rows_alone frame around s (cells_of shown.after) (narrow_layout frame s narrow refl) alone shown.cells ∙ unfolded_cells v (not (is_end around.next)) in
+    let At : List Cell → ℕ = λ row. (get_or row 2 SPACE).ch in
+    let sign : ◌≡◌ {A = ℕ} 126 124 = sym (ap At wrong) ∙ ap (λ (rs : List (List Cell)). At (row_at rs 1)) all in
+    absurd (omega (arith, sign))
+
+-- nor in another role: what is put in place of `c` isn't shown as removed
+--
+--     3 + x
+removal_for_addition : (v : Vec Patch Global) (frame : Frame) (around : ElementContext) (rows : List NamedRow) → frame.gutter ≡ 1 → StandsAlone around → (shown : ShowsSuggestion plain_settings frame around (third_unfolded v) rows) → (get_or (row_at (cells_of shown.after) 3) 4 SPACE).role ≡ Removal → ⊥
+removal_for_addition v frame around rows narrow alone shown wrong =
+    let s : Snippet Patch = third_unfolded v in
+    let all = rows_alone frame around s (cells_of shown.after) (narrow_layout frame s narrow refl) alone shown.cells ∙ unfolded_cells v (not (is_end around.next)) in
+    let Role : List (List Cell) → ElementStyle = λ rs. (get_or (row_at rs 3) 4 SPACE).role in
+    let role : Removal ≡ Addition = sym wrong ∙ ap Role all in
+    cc
