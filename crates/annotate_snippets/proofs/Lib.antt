@@ -7,6 +7,7 @@ pub mod DrawnLines
 pub mod ElementRows
 pub mod ElementShown
 pub mod FaultLemmas
+pub mod FeedLaws
 pub mod FormSteps
 pub mod FormsShown
 pub mod GridRows
