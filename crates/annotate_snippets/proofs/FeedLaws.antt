@@ -83,18 +83,18 @@ stroke_cell Unicode cell (inr stroke) = among (stroke_glyphs Unicode) cell.ch re
 
 -- ---- rows left of the code
 
-after_spaces : (n : ℕ) (cells : List Cell) → HasNoFeed cells → HasNoFeed (replicate n SPACE ++ cells)
+pub after_spaces : (n : ℕ) (cells : List Cell) → HasNoFeed cells → HasNoFeed (replicate n SPACE ++ cells)
 after_spaces n cells all =
     All-append HoldsNoFeed (replicate n SPACE) cells (All-replicate HoldsNoFeed n SPACE refl) all
 
 one : (cell : Cell) → HoldsNoFeed cell → HasNoFeed (cell ∷ [])
 one cell holds = All-cons HoldsNoFeed cell [] holds (All-nil HoldsNoFeed)
 
-bare : (decor : DecorStyle) (gutter : ℕ) (closes : Bool) → HasNoFeed (bare_row decor gutter closes)
-bare Ascii gutter false = after_spaces (gutter + 1) (text_cells LineNumber (separator_of Ascii ∷ [])) (one (unlinked_cell LineNumber 124) refl)
-bare Unicode gutter false = after_spaces (gutter + 1) (text_cells LineNumber (separator_of Unicode ∷ [])) (one (unlinked_cell LineNumber 0x2502) refl)
-bare Ascii gutter true = after_spaces (gutter + 1) (text_cells LineNumber (closing_of Ascii)) (one (unlinked_cell LineNumber 124) refl)
-bare Unicode gutter true =
+pub bare_plain : (decor : DecorStyle) (gutter : ℕ) (closes : Bool) → HasNoFeed (bare_row decor gutter closes)
+bare_plain Ascii gutter false = after_spaces (gutter + 1) (text_cells LineNumber (separator_of Ascii ∷ [])) (one (unlinked_cell LineNumber 124) refl)
+bare_plain Unicode gutter false = after_spaces (gutter + 1) (text_cells LineNumber (separator_of Unicode ∷ [])) (one (unlinked_cell LineNumber 0x2502) refl)
+bare_plain Ascii gutter true = after_spaces (gutter + 1) (text_cells LineNumber (closing_of Ascii)) (one (unlinked_cell LineNumber 124) refl)
+bare_plain Unicode gutter true =
     after_spaces (gutter + 1) (text_cells LineNumber (closing_of Unicode)) (All-cons HoldsNoFeed (unlinked_cell LineNumber 0x2570) (unlinked_cell LineNumber 0x2574 ∷ []) refl (one (unlinked_cell LineNumber 0x2574) refl))
 
 bare_elision : (decor : DecorStyle) (gutter : ℕ) → HasNoFeed (bare_elision_row decor gutter)
@@ -108,7 +108,7 @@ bare_elision Unicode gutter =
 below : (decor : DecorStyle) (frame : Frame) (closes : Bool) (row : List Cell) → IsRowBelow decor frame closes row → ((c : ℕ) → frame.code ≤ c → HoldsNoFeed (get_or row c SPACE)) → HasNoFeed row
 below decor frame closes row is code =
     All-from_get_or HoldsNoFeed row SPACE (λ c within. elim (cases_lt c (frame.gutter + 3)) [
-      | inl left ↦ subst HoldsNoFeed (sym (is.left c left)) (at_any (bare_row decor frame.gutter closes) (bare decor frame.gutter closes) c)
+      | inl left ↦ subst HoldsNoFeed (sym (is.left c left)) (at_any (bare_row decor frame.gutter closes) (bare_plain decor frame.gutter closes) c)
       | inr after ↦ elim (cases_lt c frame.code) [
         | inl before ↦ bar_cell decor (get_or row c SPACE) (is.bars c (omega (arith, after)) before)
         | inr right ↦ code c (omega (arith, right))

@@ -27,6 +27,7 @@ pub mod NotShown
 pub mod NotWhole
 pub mod PageLemmas
 pub mod PartsFacts
+pub mod PathFeedLaws
 pub mod PatchRows
 pub mod PlaceLemmas
 pub mod PlainRows
