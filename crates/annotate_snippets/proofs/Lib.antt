@@ -7,6 +7,7 @@ pub mod DrawnLines
 pub mod ElementRows
 pub mod ElementShown
 pub mod FaultLemmas
+pub mod FeedLaws
 pub mod FormSteps
 pub mod FormsShown
 pub mod GridRows
@@ -27,6 +28,7 @@ pub mod NotSuggested
 pub mod NotWhole
 pub mod PageLemmas
 pub mod PartsFacts
+pub mod PathFeedLaws
 pub mod PatchRows
 pub mod PlaceLemmas
 pub mod PlainRows

@@ -1,0 +1,137 @@
+-- The rows around the lines of a snippet, and those of an origin, hold a line feed only where a path does.
+use Rattle.std.proofs.Common.{◌≡◌, ℕ, ◌+◌, ◌==◌, ◌&&◌, ◌||◌, Bool, true, false, cond, Option, None, Some, List, [], ◌∷◌, ◌++◌, All, chars, refl, sym, ap, subst, ◌∙◌, arith}
+use Rattle.std.specs.Cow.{cow_str_bytes}
+use Rattle.std.specs.List.{flat_map, list_any}
+use Rattle.std.proofs.lemmas.Bool.Decides.{nat_tests}
+use Rattle.std.proofs.lemmas.List.Concat.{flat_map-cons}
+use Rattle.std.proofs.lemmas.List.Elements.{All-append, All-cons, All-head, All-nil, All-tail}
+use Rattle.snippet_style.specs.Cell.{Cell, text_cells}
+use Rattle.snippet_style.specs.declared.glyphs.DecorStyle.{DecorStyle}
+use Rattle.snippet_style.specs.declared.glyphs.DecorStyle.TheVariants.{Ascii, Unicode}
+use Rattle.snippet_style.specs.declared.role.ElementStyle.{ElementStyle}
+use Rattle.snippet_style.specs.declared.role.ElementStyle.TheVariants.{LineAndColumn, LineNumber}
+use Rattle.snippet_style.proofs.CellLemmas.{All-text_cells}
+use Rattle.snippet_text.specs.Normalized.{has_control_picture, is_bidirectional_control, norm, shown}
+use Rattle.snippet_model.specs.declared.snippet.Annotation.{Annotation}
+use Rattle.snippet_model.specs.declared.snippet.Origin as origin
+use Rattle.snippet_model.specs.declared.snippet.Snippet.{Snippet}
+use Rattle.snippet_titles.specs.Origin.{file_glyph, file_row, origin_row, origin_text, place_text, snippet_head}
+use Rattle.snippet_titles.specs.declared.origin.FileStart.{FileStart}
+use Rattle.snippet_titles.specs.declared.origin.FileStart.TheVariants.{Alone, First, Later, Secondary}
+use Rattle.snippet_titles.specs.declared.origin.OriginLayout.{OriginLayout}
+use Rattle.snippet_titles.specs.declared.origin.OriginLocation.{OriginLocation}
+use Rattle.snippet_titles.proofs.DigitLemmas.{IsDigit}
+use Rattle.snippet_titles.proofs.HeadFacts.{opening_head-each}
+use Rattle.snippet_titles.proofs.HeadLemmas.{nameless_head-each, primary_head-each, secondary_head-each}
+use Rattle.snippet_titles.proofs.OriginFree.{each-fails}
+use Rattle.snippet_titles.proofs.OriginText.{place_text-each}
+use Rattle.annotate_snippets.specs.declared.renderer.Renderer.{Renderer}
+use Rattle.annotate_snippets.specs.declared.renderer.element_context.ElementContext.{ElementContext}
+use Rattle.annotate_snippets.specs.declared.renderer.frame.Frame.{Frame}
+use Rattle.annotate_snippets.specs.Around.{closes_after, is_before_message, is_first_group, path_bytes}
+use Rattle.annotate_snippets.specs.Gutter.{numbered_source}
+use Rattle.annotate_snippets.specs.Rows.{cause_head, closing_rows, origin_layout, origin_rows, origin_start, place_given, place_named, rows_after_cause, separator_rows}
+use Rattle.annotate_snippets.proofs.FeedLaws.{HasNoFeed, HoldsNoFeed, IsNoFeed, after_spaces, bare_plain}
+use Rattle.snippet_view.specs.Annotated.{annotated_lines}
+
+-- ---- characters
+
+choice : (b : Bool) (xs ys : List ℕ) → All IsNoFeed xs → All IsNoFeed ys → All IsNoFeed (cond b xs ys)
+choice true xs ys one other = one
+choice false xs ys one other = other
+
+alone : (c : ℕ) → IsNoFeed c → All IsNoFeed (c ∷ [])
+alone c plain = All-cons IsNoFeed c [] plain (All-nil IsNoFeed)
+
+-- what is shown for a character that is no line feed holds none, and so does a normalised text
+shown_plain : (c : ℕ) → IsNoFeed c → All IsNoFeed (shown c)
+shown_plain c plain =
+    let spaces : All IsNoFeed (32 ∷ 32 ∷ 32 ∷ 32 ∷ []) = All-cons IsNoFeed 32 (32 ∷ 32 ∷ 32 ∷ []) refl (All-cons IsNoFeed 32 (32 ∷ 32 ∷ []) refl (All-cons IsNoFeed 32 (32 ∷ []) refl (alone 32 refl))) in
+    let picture : IsNoFeed (0x2400 + c) = grind (arith, nat_tests) in
+    choice (c == 0x9) _ _ spaces
+    (choice (has_control_picture c) _ _ (alone (0x2400 + c) picture)
+    (choice (c == 0x7F) _ _ (alone 0x2421 refl)
+    (choice (c == 0x200D) _ _ (All-nil IsNoFeed)
+    (choice (is_bidirectional_control c) _ _ (alone 0xFFFD refl) (alone c plain)))))
+
+norm_plain : (cs : List ℕ) → All IsNoFeed cs → All IsNoFeed (norm cs)
+unfolding norm
+norm_plain [] plain = All-nil IsNoFeed
+norm_plain (c ∷ cs) plain =
+    subst (All IsNoFeed) (sym (flat_map-cons shown c cs)) (All-append IsNoFeed (shown c) (flat_map shown cs) (shown_plain c (All-head IsNoFeed c cs plain)) (norm_plain cs (All-tail IsNoFeed c cs plain)))
+
+digit_plain : (c : ℕ) → IsDigit c → IsNoFeed c
+digit_plain c is = grind (arith, nat_tests)
+
+glyphs_plain : (start : FileStart) (decor : DecorStyle) → list_any (λ c. c == 10) (file_glyph start decor) ≡ false
+glyphs_plain Alone Ascii = refl
+glyphs_plain Alone Unicode = refl
+glyphs_plain First Ascii = refl
+glyphs_plain First Unicode = refl
+glyphs_plain Later Ascii = refl
+glyphs_plain Later Unicode = refl
+glyphs_plain Secondary Ascii = refl
+glyphs_plain Secondary Unicode = refl
+
+-- ---- rows
+
+cells_plain : (role : ElementStyle) (cs : List ℕ) → All IsNoFeed cs → HasNoFeed (text_cells role cs)
+cells_plain role cs plain = All-text_cells HoldsNoFeed role cs plain
+
+file_plain : (layout : OriginLayout) (start : FileStart) → HasNoFeed (file_row layout start)
+unfolding file_row
+file_plain layout start =
+    let glyph : List ℕ = file_glyph start layout.decor in
+    after_spaces layout.gutter (text_cells LineNumber glyph) (cells_plain LineNumber glyph (each-fails (λ c. c == 10) glyph (glyphs_plain start layout.decor)))
+
+text_plain : (anonymized : Bool) (path : List ℕ) (place : OriginLocation) → All IsNoFeed (chars path) → All IsNoFeed (origin_text anonymized path place)
+unfolding origin_text
+text_plain anonymized path place plain =
+    All-append IsNoFeed (norm (chars path)) (place_text anonymized place) (norm_plain (chars path) plain) (place_text-each IsNoFeed digit_plain refl refl anonymized place)
+
+row_plain : (layout : OriginLayout) (start : FileStart) (path : List ℕ) (place : OriginLocation) → All IsNoFeed (chars path) → HasNoFeed (origin_row layout start path place)
+unfolding origin_row
+row_plain layout start path place plain =
+    let text : List ℕ = origin_text layout.anonymized path place in
+    All-append HoldsNoFeed (file_row layout start) (text_cells LineAndColumn text) (file_plain layout start) (cells_plain LineAndColumn text (text_plain layout.anonymized path place plain))
+
+-- a path holds no line feed, if there is one
+abbrev pub HasPlainPath : Option (List ℕ) → Type 0
+HasPlainPath None = Unit {0}
+HasPlainPath (Some path) = All IsNoFeed (chars path)
+
+head_plain : (layout : OriginLayout) (primary first : Bool) (named : Option (List ℕ)) (place : OriginLocation) → HasPlainPath named → All HasNoFeed (snippet_head layout primary first named place)
+head_plain layout true first None place plain =
+    opening_head-each HasNoFeed layout (bare_plain layout.decor layout.gutter false) (file_plain layout) first
+head_plain layout true first (Some path) place plain =
+    primary_head-each HasNoFeed layout (bare_plain layout.decor layout.gutter false) path place (λ start. row_plain layout start path place plain) first
+head_plain layout false first None place plain =
+    nameless_head-each HasNoFeed layout (bare_plain layout.decor layout.gutter false) (file_plain layout Secondary)
+head_plain layout false first (Some path) place plain =
+    secondary_head-each HasNoFeed layout (bare_plain layout.decor layout.gutter false) path place (λ start. row_plain layout start path place plain)
+
+one : (row : List Cell) → HasNoFeed row → All HasNoFeed (row ∷ [])
+one row plain = All-cons HasNoFeed row [] plain (All-nil HasNoFeed)
+
+closing_plain : (r : Renderer) (frame : Frame) (closes : Bool) → All HasNoFeed (cond closes (closing_rows r frame) [])
+closing_plain r frame true = one _ (bare_plain r.decor_style frame.gutter true)
+closing_plain r frame false = All-nil HasNoFeed
+
+-- so the rows that a snippet begins with hold none where its path holds none, and those below its lines never do
+pub head_one_line : (r : Renderer) (frame : Frame) (around : ElementContext) (s : Snippet Annotation) → HasPlainPath (path_bytes s.path) → All HasNoFeed (cause_head r frame around s)
+head_one_line r frame around s plain =
+    head_plain (origin_layout r frame) around.primary around.first (path_bytes s.path) (place_named around.primary (annotated_lines s.fold (numbered_source s) s.markers.items)) plain
+
+pub after_one_line : (r : Renderer) (frame : Frame) (around : ElementContext) → All HasNoFeed (rows_after_cause r frame around)
+after_one_line r frame around =
+    either (is_first_group around.place && is_before_message around.next)
+  where
+    either : (sets_off : Bool) → All HasNoFeed (cond sets_off (separator_rows r frame) (cond (closes_after around) (closing_rows r frame) []))
+    either true = one _ (bare_plain r.decor_style frame.gutter false)
+    either false = closing_plain r frame (closes_after around)
+
+-- nor do the rows of an origin whose path holds none
+pub origin_one_line : (r : Renderer) (frame : Frame) (around : ElementContext) (o : origin.Origin) → All IsNoFeed (chars (cow_str_bytes o.path)) → All HasNoFeed (origin_rows r frame around o)
+origin_one_line r frame around o plain =
+    let row : List Cell = origin_row (origin_layout r frame) (origin_start around) (cow_str_bytes o.path) (place_given o) in
+    All-cons HasNoFeed row (cond (closes_after around) (closing_rows r frame) []) (row_plain (origin_layout r frame) (origin_start around) (cow_str_bytes o.path) (place_given o) plain) (closing_plain r frame (closes_after around))
