@@ -12,6 +12,10 @@ use Rattle.snippet_view.proofs.PartLemmas.{All-unmapped}
 use Rattle.snippet_suggest.specs.Given.{first_given, given_lines, numbers_given, offered_lines, removed_lines}
 use Rattle.snippet_suggest.specs.Order.{Ends, SuggestionRow, line_taken, lines_taken, number_offered, numbers_offered, rows_of_suggestion}
 use Rattle.snippet_suggest.specs.Prepared.{IsSuggestible}
+use Rattle.snippet_suggest.specs.Suggested.{HasSign, body_cells, cells_of as row_cells}
+use Rattle.snippet_suggest.specs.declared.SuggestionLayout.{SuggestionLayout}
+use Rattle.snippet_suggest.proofs.ComposeLemmas.{zip_append}
+use Rattle.snippet_suggest.proofs.SignLaws.{body_signs}
 use Rattle.snippet_suggest.specs.Rows.{Shows}
 use Rattle.snippet_suggest.specs.Shown.{AreRising}
 use Rattle.snippet_suggest.specs.declared.SuggestionStart.{SuggestionStart}
@@ -75,6 +79,17 @@ module _ (around : ElementContext) (s : Snippet Patch) where
   all_own : All (IsRowOf s) (suggestion_rows around s)
   all_own = All-append (IsRowOf s) rows (ends around.shared) (rows-own around.start s) (ends_own around.shared)
 
+-- the rows of a suggestion have the signs of their lines
+ends_sign : (layout : SuggestionLayout) (s : Snippet Patch) (next shared : Bool) → AllZip (HasSign layout s) (if shared then [] else Ends next ∷ []) (if shared then [] else row_cells layout s [] (Ends next) ∷ [])
+ends_sign layout s next true = tt
+ends_sign layout s next false = (tt, tt)
+
+signs_shown : (r : Renderer) (frame : Frame) (around : ElementContext) (s : Snippet Patch) (lines : List (List Cell)) → AreSuggestionRows r frame around s lines → AllZip (HasSign (suggestion_layout r frame s) s) (suggestion_rows around s) lines
+signs_shown r frame around s lines shown =
+    let layout : SuggestionLayout = suggestion_layout r frame s in
+    let next : Bool = not (is_end around.next) in
+    subst (AllZip (HasSign layout s) (suggestion_rows around s)) (sym shown.are) (zip_append (HasSign layout s) (rows_of_suggestion around.start s) (if around.shared then [] else Ends next ∷ []) (body_cells layout around.start s shown.under) (if around.shared then [] else row_cells layout s [] (Ends next) ∷ []) (body_signs layout around.start s shown.under) (ends_sign layout s next around.shared))
+
 -- the rows of a suggestion show it, once they have names: after the row of its path those of its lines
 pub suggestion_shown : (r : Renderer) (frame : Frame) (around : ElementContext) (s : Snippet Patch) (rows : List (List Cell)) → IsSuggestible s → s.markers.items ≢ [] → HasRoomFor r frame (Suggestion s) → IsSuggestionDrawn r frame around s rows → ElementShown r frame around (Suggestion s) rows
 suggestion_shown r frame around s rows suggestible some room drawn =
@@ -98,6 +113,7 @@ suggestion_shown r frame around s rows suggestible some room drawn =
       lines = lines;
       order = names_of-named IsShown s shown drawn.lines drawn.are;
       cells = subst (AreSuggestionRows r frame around s) (sym (cells_of-named IsShown s shown drawn.lines drawn.are)) drawn.cells;
+      signs = subst (AllZip (HasSign (suggestion_layout r frame s) s) shown) (sym (cells_of-named IsShown s shown drawn.lines drawn.are)) (signs_shown r frame around s drawn.lines drawn.cells);
       strokes = subst (AllZip (HasStrokes r.decor_style frame.gutter) shown) (sym (cells_of-named IsShown s shown drawn.lines drawn.are)) (strokes_shown r frame s shown drawn.lines drawn.are);
       removed = lines_removed-named IsShown s shown drawn.lines drawn.are ∙ all_take around s;
       named = rows_named r frame s suggestible some (first_given s) shown drawn.lines (subst (AreRising (first_given s) end) (sym same) (offered-ascends s)) (all_own around s) drawn.are;

@@ -34,6 +34,7 @@ use Rattle.snippet_suggest.specs.Given.{IsAsItWas, IsOfferable, edits_of, first_
 use Rattle.snippet_suggest.specs.Kind.{is_blank}
 use Rattle.snippet_suggest.specs.Order.{Begins, Empty, Ends, Offers, Removes, Skips, SuggestionRow, removed_number}
 use Rattle.snippet_suggest.specs.Rows.{HasLeft, IsBareRow, IsRemovedRow, IsSign, begin_glyph, beside_gutter, end_glyph, gap_left}
+use Rattle.snippet_suggest.specs.Suggested.{HasSign}
 use Rattle.snippet_view.specs.Margin.{Bounds}
 use Rattle.snippet_view.specs.Measures.{margin_of}
 use Rattle.snippet_view.specs.Marked.{Entry, first_line, last_line}
@@ -58,7 +59,7 @@ use Rattle.annotate_snippets.specs.declared.renderer.element_context.GroupPositi
 use Rattle.annotate_snippets.specs.declared.renderer.element_context.Next.{Next}
 use Rattle.annotate_snippets.specs.declared.renderer.element_context.ElementContext.{ElementContext}
 use Rattle.annotate_snippets.specs.Around.{closes_with, drawn_elements, file_of_group, is_end, next_of, path_bytes, place_at, context_at, suggestion_rows}
-use Rattle.annotate_snippets.specs.Drawn.{AreSuggestionRows}
+use Rattle.annotate_snippets.specs.Drawn.{AreSuggestionRows, suggestion_layout}
 use Rattle.annotate_snippets.specs.Gutter.{frame_of, line_numbers, number_text, numbered_source}
 use Rattle.annotate_snippets.specs.LineRows.{AreRowsDrawn}
 use Rattle.annotate_snippets.specs.Page.{RowName, SourceRow, Elision, OfferedLine, RemovedLine, Other, NamedRow, lines_named, lines_offered, lines_removed, names_in, names_of_lines, cells_below, cells_of, rows_below, others, GroupPage, Page, page_text, PrintsPage, IsAscending, page_links}
@@ -326,6 +327,7 @@ pub record ShowsSuggestion (r : Renderer) (frame : Frame) (around : ElementConte
   pub offered : IsOfferable s → (j : ℕ) → IsTouched (cow_str_bytes s.source) (edits_of s) j → is_blank (text_at (source_lines (patched (cow_str_bytes s.source) (edits_of s))) j) ≡ false → IsAsItWas s ⊎ Contains (lines_offered after) j
   pub order : map (λ row. row.name) after ≡ map (name_of_row s) (suggestion_rows around s)
   pub cells : AreSuggestionRows r frame around s (cells_of after)
+  pub signs : AllZip (HasSign (suggestion_layout r frame s) s) (suggestion_rows around s) (cells_of after)
   pub strokes : AllZip (HasStrokes r.decor_style frame.gutter) (suggestion_rows around s) (cells_of after)
   pub ordered : IsAscending (lines_offered after)
   pub lines : lines_offered after ≡ offered_lines s

@@ -13,7 +13,7 @@ use Rattle.snippet_suggest.specs.Rows.{AddsRow, AddsRows, AddsShown, IsLineRow, 
 use Rattle.snippet_suggest.proofs.RepaintLemmas.{line_repainted}
 
 -- two lists, and one more on each side
-zip_append : {A B : Type 0} (R : A → B → Type 0) (xs vs : List A) (ys ws : List B) → AllZip R xs ys → AllZip R vs ws → AllZip R (xs ++ vs) (ys ++ ws)
+pub zip_append : {A B : Type 0} (R : A → B → Type 0) (xs vs : List A) (ys ws : List B) → AllZip R xs ys → AllZip R vs ws → AllZip R (xs ++ vs) (ys ++ ws)
 zip_append R [] vs [] ws front back = back
 zip_append R [] vs (y ∷ ys) ws front back = elim front [ ]
 zip_append R (x ∷ xs) vs [] ws front back = elim front [ ]

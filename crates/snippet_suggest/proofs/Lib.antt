@@ -29,6 +29,7 @@ pub mod RisingLemmas
 pub mod RowLemmas
 pub mod RowsDrawn
 pub mod ShownLemmas
+pub mod SignLaws
 pub mod SpanLemmas
 pub mod StretchRows
 pub mod SuggestedRows

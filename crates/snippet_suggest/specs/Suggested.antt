@@ -1,10 +1,11 @@
 -- The rows of a suggestion, cell by cell, as a value of its snippet.
-use Rattle.std.specs.Prelude.{ℕ, ◌+◌, ◌-◌, ◌&&◌, Bool, List, [], ◌∷◌, ◌++◌, chars, map, if◌then◌else◌}
+use Rattle.std.specs.Prelude.{◌≡◌, ℕ, ◌+◌, ◌-◌, ◌&&◌, Bool, List, [], ◌∷◌, ◌++◌, chars, length, map, if◌then◌else◌}
+use Rattle.std.specs.List.{slice_index_or}
 use Rattle.std.specs.Cow.{cow_str_bytes}
 use Rattle.std.specs.Str.{bytes_eq}
 use Rattle.snippet_model.specs.declared.snippet.Snippet.{Snippet}
 use Rattle.snippet_model.specs.declared.snippet.Patch.{Patch}
-use Rattle.snippet_style.specs.Cell.{Cell}
+use Rattle.snippet_style.specs.Cell.{Cell, SPACE}
 use Rattle.snippet_style.specs.declared.role.ElementStyle.TheVariants.{NoStyle, Removal}
 use Rattle.snippet_splice.specs.declared.stretches.SubstitutionHighlight.{SubstitutionHighlight}
 use Rattle.snippet_splice.specs.Edits.{Edit}
@@ -15,7 +16,9 @@ use Rattle.snippet_suggest.specs.declared.kind.DisplaySuggestion.TheVariants.{Un
 use Rattle.snippet_suggest.specs.declared.layout.SuggestionLayout.{SuggestionLayout}
 use Rattle.snippet_suggest.specs.declared.layout.SuggestionStart.{SuggestionStart}
 use Rattle.snippet_suggest.specs.declared.shown.ShownLine.TheVariants.{Line}
-use Rattle.snippet_suggest.specs.Cells.{begin_cells, end_cells, gap_cells, left_out_cells, on_last, removed_cells, shown_cells, with_stretches}
+use Rattle.snippet_suggest.specs.Cells.{begin_cells, end_cells, gap_cells, left_out_cells, on_last, removed_cells, shown_cells, sign_of, with_stretches}
+use Rattle.snippet_suggest.specs.Glyphs.{glyph_of}
+use Rattle.snippet_suggest.specs.Rows.{NumberFits}
 use Rattle.snippet_suggest.specs.Given.{edits_of, first_given, given_lines, given_ranges, is_left_out, last_reached, shown_kind, source_of, trimmed_of}
 use Rattle.snippet_suggest.specs.Marks.{with_marks}
 use Rattle.snippet_suggest.specs.Order.{Begins, Empty, Ends, Offers, Removes, Skips, SuggestionRow, is_diff, rows_of_suggestion}
@@ -76,3 +79,15 @@ body_cells layout start s under =
 unfoldable pub suggestion_cells : SuggestionLayout → SuggestionStart → Bool → Snippet Patch → List Cell → List (List Cell)
 suggestion_cells layout start follows s under =
     body_cells layout start s under ++ cells_of layout s [] (Ends follows) ∷ []
+
+-- the row of a line that is offered has its sign one cell after the gutter: the one that the kind, the number of lines and the line's
+-- new stretches ask for; where its number ends before that
+abbrev pub HasSign : SuggestionLayout → Snippet Patch → SuggestionRow → List Cell → Type 0
+HasSign layout s (Begins start) row = Unit {0}
+HasSign layout s (Offers k) row =
+    let glyph = sign_of (shown_kind s) (length (given_lines s)) (slice_index_or (given_lines s) k []) (new_on s k) in
+    NumberFits layout (s.line_start + first_given s) (Line k) → (slice_index_or row (layout.gutter + 1) SPACE).ch ≡ slice_index_or (glyph_of layout.decor glyph) 0 32
+HasSign layout s Skips row = Unit {0}
+HasSign layout s (Removes i number text) row = Unit {0}
+HasSign layout s Empty row = Unit {0}
+HasSign layout s (Ends follows) row = Unit {0}
