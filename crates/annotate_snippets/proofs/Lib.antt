@@ -14,6 +14,7 @@ pub mod GridRows
 pub mod GroupLemmas
 pub mod GroupShown
 pub mod GutterLemmas
+pub mod HeadingFeedLaws
 pub mod HeadingShown
 pub mod LabelLemmas
 pub mod LeftLaws

@@ -1,5 +1,5 @@
 -- The rows around the lines of a snippet, and those of an origin, hold a line feed only where a path does.
-use Rattle.std.proofs.Common.{◌≡◌, ℕ, ◌+◌, ◌==◌, ◌&&◌, ◌||◌, Bool, true, false, cond, Option, None, Some, List, [], ◌∷◌, ◌++◌, All, chars, refl, sym, ap, subst, ◌∙◌, arith}
+use Rattle.std.proofs.Common.{◌≡◌, ℕ, ◌+◌, ◌==◌, ◌&&◌, Bool, true, false, cond, Option, None, Some, List, [], ◌∷◌, All, chars, refl, sym, subst, arith}
 use Rattle.std.specs.Cow.{cow_str_bytes}
 use Rattle.std.specs.List.{flat_map, list_any}
 use Rattle.std.proofs.lemmas.Bool.Decides.{nat_tests}
@@ -36,11 +36,11 @@ use Rattle.snippet_view.specs.Annotated.{annotated_lines}
 
 -- ---- characters
 
-choice : (b : Bool) (xs ys : List ℕ) → All IsNoFeed xs → All IsNoFeed ys → All IsNoFeed (cond b xs ys)
+pub choice : (b : Bool) (xs ys : List ℕ) → All IsNoFeed xs → All IsNoFeed ys → All IsNoFeed (cond b xs ys)
 choice true xs ys one other = one
 choice false xs ys one other = other
 
-alone : (c : ℕ) → IsNoFeed c → All IsNoFeed (c ∷ [])
+pub alone : (c : ℕ) → IsNoFeed c → All IsNoFeed (c ∷ [])
 alone c plain = All-cons IsNoFeed c [] plain (All-nil IsNoFeed)
 
 -- what is shown for a character that is no line feed holds none, and so does a normalised text
@@ -54,7 +54,7 @@ shown_plain c plain =
     (choice (c == 0x200D) _ _ (All-nil IsNoFeed)
     (choice (is_bidirectional_control c) _ _ (alone 0xFFFD refl) (alone c plain)))))
 
-norm_plain : (cs : List ℕ) → All IsNoFeed cs → All IsNoFeed (norm cs)
+pub norm_plain : (cs : List ℕ) → All IsNoFeed cs → All IsNoFeed (norm cs)
 unfolding norm
 norm_plain [] plain = All-nil IsNoFeed
 norm_plain (c ∷ cs) plain =
@@ -75,7 +75,7 @@ glyphs_plain Secondary Unicode = refl
 
 -- ---- rows
 
-cells_plain : (role : ElementStyle) (cs : List ℕ) → All IsNoFeed cs → HasNoFeed (text_cells role cs)
+pub cells_plain : (role : ElementStyle) (cs : List ℕ) → All IsNoFeed cs → HasNoFeed (text_cells role cs)
 cells_plain role cs plain = All-text_cells HoldsNoFeed role cs plain
 
 file_plain : (layout : OriginLayout) (start : FileStart) → HasNoFeed (file_row layout start)
@@ -95,12 +95,12 @@ row_plain layout start path place plain =
     let text : List ℕ = origin_text layout.anonymized path place in
     All-append HoldsNoFeed (file_row layout start) (text_cells LineAndColumn text) (file_plain layout start) (cells_plain LineAndColumn text (text_plain layout.anonymized path place plain))
 
--- a path holds no line feed, if there is one
-abbrev pub HasPlainPath : Option (List ℕ) → Type 0
-HasPlainPath None = Unit {0}
-HasPlainPath (Some path) = All IsNoFeed (chars path)
+-- a text holds no line feed, if there is one
+abbrev pub HasPlainText : Option (List ℕ) → Type 0
+HasPlainText None = Unit {0}
+HasPlainText (Some path) = All IsNoFeed (chars path)
 
-head_plain : (layout : OriginLayout) (primary first : Bool) (named : Option (List ℕ)) (place : OriginLocation) → HasPlainPath named → All HasNoFeed (snippet_head layout primary first named place)
+head_plain : (layout : OriginLayout) (primary first : Bool) (named : Option (List ℕ)) (place : OriginLocation) → HasPlainText named → All HasNoFeed (snippet_head layout primary first named place)
 head_plain layout true first None place plain =
     opening_head-each HasNoFeed layout (bare_plain layout.decor layout.gutter false) (file_plain layout) first
 head_plain layout true first (Some path) place plain =
@@ -113,12 +113,12 @@ head_plain layout false first (Some path) place plain =
 one : (row : List Cell) → HasNoFeed row → All HasNoFeed (row ∷ [])
 one row plain = All-cons HasNoFeed row [] plain (All-nil HasNoFeed)
 
-closing_plain : (r : Renderer) (frame : Frame) (closes : Bool) → All HasNoFeed (cond closes (closing_rows r frame) [])
+pub closing_plain : (r : Renderer) (frame : Frame) (closes : Bool) → All HasNoFeed (cond closes (closing_rows r frame) [])
 closing_plain r frame true = one _ (bare_plain r.decor_style frame.gutter true)
 closing_plain r frame false = All-nil HasNoFeed
 
 -- so the rows that a snippet begins with hold none where its path holds none, and those below its lines never do
-pub head_one_line : (r : Renderer) (frame : Frame) (around : ElementContext) (s : Snippet Annotation) → HasPlainPath (path_bytes s.path) → All HasNoFeed (cause_head r frame around s)
+pub head_one_line : (r : Renderer) (frame : Frame) (around : ElementContext) (s : Snippet Annotation) → HasPlainText (path_bytes s.path) → All HasNoFeed (cause_head r frame around s)
 head_one_line r frame around s plain =
     head_plain (origin_layout r frame) around.primary around.first (path_bytes s.path) (place_named around.primary (annotated_lines s.fold (numbered_source s) s.markers.items)) plain
 
