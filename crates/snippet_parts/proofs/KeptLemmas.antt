@@ -1,8 +1,11 @@
 -- Which lines are kept.
-use Rattle.std.proofs.Common.{◌≡◌, ℕ, zero, suc, ◌+◌, ◌-◌, ◌<◌, ◌≤◌, Bool, true, false, ◌&&◌, ◌||◌, not, eqb, leb, ltb, max, List, [], ◌∷◌, ◌++◌, map, length, take, set, get_or, replicate, inl, inr, ◌⊎◌, refl, sym, ap, ◌∙◌, arith}
-use Rattle.std.specs.List.{list_any, range_with_len}
+use Rattle.std.proofs.Common.{◌≡◌, ℕ, zero, suc, ◌+◌, ◌-◌, ◌<◌, ◌≤◌, Bool, true, false, ◌&&◌, ◌||◌, cond, not, eqb, leb, ltb, max, List, [], ◌∷◌, ◌++◌, map, length, take, set, get_or, replicate, inl, inr, ◌⊎◌, refl, sym, ap, ◌∙◌, arith}
+use Rattle.std.specs.List.{All, filter, list_any, range_with_len}
 use Rattle.std.proofs.lemmas.Bool.{cases_Bool, cases_lt, cases_eq, and_left, or_from, or_parts, le-leb, lt-leb, lt-ltb, le-ltb, eq-eqb, ne_eqb, or_left, or_right}
-use Rattle.std.proofs.lemmas.List.{take_more, take_all, take-set-le}
+use Rattle.std.proofs.lemmas.List.{append-nil, map-id, take_more, take_all, take-set-le}
+use Rattle.std.proofs.lemmas.List.Elements.{All-filter, All-weaker, filter-append, filter_agree}
+use Rattle.std.proofs.lemmas.List.FromFn.{map-range_with_len_more}
+use Rattle.snippet_view.proofs.PartLemmas.{All-range}
 use Rattle.std.proofs.lemmas.List.Folds.{list_any_more}
 use Rattle.snippet_model.specs.declared.snippet.Annotation.{Annotation}
 use Rattle.snippet_parts.specs.declared.kept.Stretch.{Stretch}
@@ -202,3 +205,28 @@ unseen text k [] none = refl
 unseen text k (a ∷ marks) none =
     let parts = or_parts (not (is_marking a.kind)) (list_any (λ (b : Annotation). not (is_marking b.kind)) marks) none in
     or_from (is_seen text k a) (list_any (is_seen text k) marks) (and_left (not (is_marking a.kind)) (touches text a k) parts.0) (unseen text k marks parts.1)
+
+-- ---- the lines that are kept, in order
+
+range-more : (i : ℕ) → range_with_len 0 (i + 1) ≡ range_with_len 0 i ++ i ∷ []
+range-more i = sym (map-id (range_with_len 0 (i + 1))) ∙ map-range_with_len_more (λ (k : ℕ). k) 0 i i (omega arith) ∙ ap (λ ks. ks ++ i ∷ []) (map-id (range_with_len 0 i))
+
+filter-more : (p : ℕ → Bool) (i : ℕ) → filter p (range_with_len 0 (i + 1)) ≡ filter p (range_with_len 0 i) ++ cond (p i) (i ∷ []) []
+filter-more p i = ap (filter p) (range-more i) ∙ filter-append p (range_with_len 0 i) (i ∷ [])
+
+-- one more line that passes a test, and one that doesn't
+pub line-kept : (p : ℕ → Bool) (i : ℕ) (now new : List ℕ) → p i ≡ true → new ≡ now ++ i ∷ [] → now ≡ filter p (range_with_len 0 i) → new ≡ filter p (range_with_len 0 (i + 1))
+line-kept p i now new passes pushed before =
+    pushed ∙ ap (λ ks. ks ++ i ∷ []) before ∙ sym (filter-more p i ∙ ap (λ b. filter p (range_with_len 0 i) ++ cond b (i ∷ []) []) passes)
+
+pub line-left : (p : ℕ → Bool) (i : ℕ) (now : List ℕ) → p i ≡ false → now ≡ filter p (range_with_len 0 i) → now ≡ filter p (range_with_len 0 (i + 1))
+line-left p i now fails before =
+    before ∙ sym (filter-more p i ∙ ap (λ b. filter p (range_with_len 0 i) ++ cond b (i ∷ []) []) fails ∙ append-nil (filter p (range_with_len 0 i)))
+
+-- with all spans
+pub kept-all : (p : ℕ → Annotation → Bool) (marks : List Annotation) (fold : Bool) (i n : ℕ) (reach lent : List ℕ) → length marks ≤ i → length reach ≡ n → lent ≡ reach → ((k : ℕ) → is_covered reach k ≡ list_any (p k) (take i marks)) → filter (λ k. not fold || is_covered lent k) (range_with_len 0 (length lent)) ≡ filter (λ k. not fold || list_any (p k) marks) (range_with_len 0 n)
+kept-all p marks fold i n reach lent all len is so_far =
+    ap (λ xs. filter (λ k. not fold || is_covered xs k) (range_with_len 0 (length xs))) is ∙ ap (λ m. filter (λ k. not fold || is_covered reach k) (range_with_len 0 m)) len ∙ filter_agree (λ k. not fold || is_covered reach k) (λ k. not fold || list_any (p k) marks) (λ k. ap (λ b. not fold || b) (so_far k ∙ ap (list_any (p k)) (take_all i marks all))) (range_with_len 0 n)
+
+pub kept-within : (p : ℕ → Bool) (n : ℕ) → All (λ k. k < n) (filter p (range_with_len 0 n))
+kept-within p n = All-filter p (λ k. k < n) (range_with_len 0 n) (All-weaker (λ k. (0 ≤ k) × (k < 0 + n)) (λ k. k < n) (λ k within. omega (arith, within.1)) (range_with_len 0 n) (All-range 0 n))

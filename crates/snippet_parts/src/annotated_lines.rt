@@ -1,5 +1,5 @@
 //! The lines of a snippet that are kept, each with its entries.
-ghost use Rattle.std.specs.Prelude.{◌≡◌, ℕ, ◌+◌, ◌-◌, ◌<◌, ◌≤◌, ◌==◌, take, drop, ◌||◌, not, false, slice_index_or, All, length, map, filter, IfOk};
+ghost use Rattle.std.specs.Prelude.{◌≡◌, ℕ, ◌+◌, ◌-◌, ◌<◌, ◌≤◌, ◌==◌, take, drop, false, slice_index_or, All, length, map, filter, IfOk};
 ghost use Rattle.std.specs.List.Sorted.{IsNonDecreasingBy};
 ghost use Rattle.snippet_view.specs.Annotated as spec;
 ghost use Rattle.snippet_view.specs.Annotated.{seen_part, seen_kept};
@@ -7,7 +7,7 @@ ghost use Rattle.snippet_lines.specs.Lines.{source_lines, text_at};
 ghost use Rattle.snippet_lines.specs.Span.{IsSpan};
 
 use crate::all_entries::made_entries;
-use crate::kept::{kept, seen};
+use crate::kept::{kept_lines, seen};
 use crate::source_map::SourceMap;
 use snippet_model::snippet::Annotation;
 use snippet_view::{AnnotatedLineInfo, LineAnnotation};
@@ -27,13 +27,12 @@ pub(crate) fn annotated_lines<'a>(
     ensures lines { IfOk result (λ drawn. map seen_kept drawn.1.items ≡ spec.annotated_lines fold source.now annotations.now) }
 {
     let (greatest, entries) = sorted_entries(alloc, source, annotations)?;
-    let kept = kept(alloc, source, annotations)?;
+    let kept = kept_lines(alloc, source, annotations, fold)?;
     let keep = seen(alloc, source, annotations)?;
-    let mut lines = Vec::new(alloc);
-    for index in 0..source.line_count() {
-        if is_shown(fold, &kept, index) {
-            lines.push(annotated_line(alloc, source, index, flag_at(&keep, index), &entries)?)?;
-        }
+    let mut lines = Vec::with_capacity(alloc, kept.len())?;
+    for line in &kept {
+        let index = *line;
+        lines.push(annotated_line(alloc, source, index, flag_at(&keep, index), &entries)?)?;
     }
     Ok((greatest, lines))
 }
@@ -46,14 +45,6 @@ fn flag_at(flags: &[bool], index: usize) -> bool
         Some(flag) => *flag,
         None => false,
     }
-}
-
-/// Whether line `index` is shown, where it is known which lines are kept.
-fn is_shown(fold: bool, kept: &[bool], index: usize) -> bool
-    requires within { index < length kept.now }
-    ensures value { result ≡ (not fold || slice_index_or kept.now index false) }
-{
-    !fold || kept[index]
 }
 
 /// The greatest depth, and all entries in the order of their lines.
@@ -131,9 +122,7 @@ fn copied<'a>(
 ) -> Result<Vec<LineAnnotation<'a>>, AllocError>
     ensures value { IfOk result (λ copied. copied.items ≡ entries.now) }
 {
-    let mut copied = Vec::new(alloc);
-    for entry in entries {
-        copied.push(*entry)?;
-    }
+    let mut copied = Vec::with_capacity(alloc, entries.len())?;
+    copied.extend_from_slice(entries)?;
     Ok(copied)
 }

@@ -1,6 +1,7 @@
 //! Which lines of a snippet are kept. Lines count from 0.
-ghost use Rattle.std.specs.Prelude.{◌≡◌, ℕ, ◌+◌, ◌<◌, ◌≤◌, ◌||◌, false, not, slice_index_or, All, length, map, max, IfOk};
+ghost use Rattle.std.specs.Prelude.{◌≡◌, ℕ, ◌+◌, ◌<◌, ◌≤◌, ◌||◌, nat_lt, false, not, slice_index_or, All, filter, length, map, max, IfOk};
 ghost use Rattle.std.specs.List.{list_any, range_with_len};
+ghost use Rattle.snippet_view.specs.Kept as kept;
 ghost use Rattle.snippet_view.specs.Kept.{keeps};
 ghost use Rattle.snippet_view.specs.Mark as spec;
 ghost use Rattle.snippet_lines.specs.Lines.{source_lines};
@@ -21,23 +22,24 @@ struct Stretch {
     last: usize,
 }
 
-/// Of each line of a source, whether a span keeps it.
+/// The lines of a source that are kept, in order: those that a span keeps, and all where lines aren't folded.
 ///
 /// The one error is that memory ran out.
-pub(crate) fn kept(
+pub(crate) fn kept_lines(
     alloc: Global,
     source: &SourceMap<'_>,
     annotations: &[Annotation<'_>],
-) -> Result<Vec<bool>, AllocError>
+    fold: bool,
+) -> Result<Vec<usize>, AllocError>
     requires spans { All (λ a. IsSpan source.now.text a.span.start a.span.end) annotations.now }
-    ensures value { IfOk result (λ kept. kept.items ≡ map
-        (λ k. list_any (keeps source.now.text k) annotations.now) (range_with_len 0 (length (source_lines source.now.text)))) }
+    ensures value { IfOk result (λ lines. lines.items ≡ kept.kept_lines fold source.now.text annotations.now) }
+    ensures within { IfOk result (λ lines. All (λ k. k < length (source_lines source.now.text)) lines.items) }
 {
     let mut reach = vec![in alloc; 0; source.line_count()]?;
     for annotation in annotations {
         reach_over_kept(&mut reach, source, annotation);
     }
-    covered(alloc, &reach)
+    covered_lines(alloc, &reach, fold)
 }
 
 /// Of each line of a source, whether a span that isn't marked touches it. Where all are marked, no line has a flag.
@@ -155,6 +157,29 @@ fn reach_over(reach: &mut [usize], stretch: Stretch)
     ensures covered { (k : ℕ) → is_covered reach.new k ≡ (is_covered reach.old k || holds stretch k) }
 {
     reach[stretch.first] = reach[stretch.first].max(stretch.last + 1);
+}
+
+/// The lines that are covered, in order, and where lines aren't folded the others too.
+fn covered_lines(alloc: Global, reach: &[usize], fold: bool) -> Result<Vec<usize>, AllocError>
+    ensures value { IfOk result (λ lines. lines.items
+        ≡ filter (λ k. not fold || is_covered reach.now k) (range_with_len 0 (length reach.now))) }
+{
+    let mut lines = Vec::new(alloc);
+    let mut end = 0;
+    for line in 0..reach.len() {
+        end = reach[line].max(end);
+        if is_shown(fold, line, end) {
+            lines.push(line)?;
+        }
+    }
+    Ok(lines)
+}
+
+/// Whether a line is kept: where lines are folded, it stands before the line to which stretches from above reach.
+fn is_shown(fold: bool, line: usize, end: usize) -> bool
+    ensures value { result ≡ (not fold || nat_lt line end) }
+{
+    !fold || line < end
 }
 
 /// Of each line, whether it is covered.

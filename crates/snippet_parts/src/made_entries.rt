@@ -24,7 +24,7 @@ pub(crate) fn single_entries<'a>(
     ensures value { IfOk result (λ entries. map seen_part entries.items
         ≡ map (spec.single_part source.now) (filter (spec.is_short source.now.text) annotations.now)) }
 {
-    let mut entries = Vec::new(alloc);
+    let mut entries = Vec::with_capacity(alloc, annotations.len())?;
     for annotation in annotations {
         if is_short(source, annotation) {
             entries.push(entry(source, annotation))?;

@@ -1,60 +1,31 @@
-use Rattle.std.proofs.Common.{◌≡◌, ◌+◌, ◌<◌, ◌≤◌, ◌||◌, ℕ, false, not, eqb, map, length, get_or, refl, ap, sym, ◌∙◌, arith}
-use Rattle.std.specs.List.{filter, list_any, range_with_len}
-use Rattle.std.proofs.lemmas.List.FromFn.{length-map-range_with_len, get_or-map-range_with_len}
-use Rattle.snippet_view.specs.Annotated.{PartEntry, seen_part, kept_line}
-use Rattle.snippet_view.specs.Kept.{keeps}
+use Rattle.std.proofs.Common.{◌≡◌, ◌+◌, ◌<◌, ◌++◌, ℕ, List, [], ◌∷◌, false, eqb, map, length, take, get_or, refl, ap, sym, ◌∙◌}
+use Rattle.std.specs.List.{filter}
+use Rattle.std.proofs.lemmas.List.{map_more, map_push, take_all}
+use Rattle.std.proofs.lemmas.List.Elements.{All-same}
+use Rattle.snippet_view.specs.declared.entries.AnnotatedLineInfo.{AnnotatedLineInfo}
+use Rattle.snippet_view.specs.Annotated.{KeptLine, PartEntry, seen_kept, seen_part, kept_line}
 use Rattle.snippet_lines.specs.Lines.{source_lines}
-use Rattle.snippet_parts.specs.Stretches.{is_seen}
-use Rattle.snippet_view.proofs.ShownLemmas.{lines-shown, lines-left, same-kept}
+use Rattle.snippet_view.proofs.ShownLemmas.{same-kept}
 use Rattle.snippet_parts.proofs.annotated_lines.annotated_lines.Goals as goal
-use Rattle.snippet_parts.proofs.annotated_lines.annotated_lines.Goals.{then-is_shown+in_ok-annotated_line+in_ok-push, else-is_shown}
 
-pub is_shown-requires : goal.is_shown-requires
-is_shown-requires c =
-    record {
-      within = omega (
-        arith,
-        c.deref.ensures.len,
-        c.in_ok-kept.kept.ok.0,
-        ap length c.deref.ensures.value,
-        ap length c.in_ok-kept.ensures.value,
-        length-map-range_with_len (λ k. list_any (keeps c.args.source.now.text k) c.args.annotations.now)
-            0 (length (source_lines c.args.source.now.text)),
-        c.line_count-index-end.ensures.value,
-      );
-    }
+-- one more line
+more : (f : ℕ → KeptLine) (ks : List ℕ) (i : ℕ) (now new : List AnnotatedLineInfo) (info : AnnotatedLineInfo) → i < length ks → new ≡ now ++ info ∷ [] → seen_kept info ≡ f (get_or ks i 0) → map seen_kept now ≡ map f (take i ks) → map seen_kept new ≡ map f (take (i + 1) ks)
+more f ks i now new info within pushed is before =
+    ap (map seen_kept) pushed ∙ map_push seen_kept now info ∙ ap (λ ls. ls ++ seen_kept info ∷ []) before ∙ ap (λ l. map f (take i ks) ++ l ∷ []) is ∙ sym (map_more f ks i 0 within)
 
-pub loop-index-preserved : goal.loop-index-preserved
-loop-index-preserved c =
-    let marks = c.args.annotations.now in
-    let text = c.args.source.now.text in
-    let p = λ (k : ℕ). not c.args.fold || list_any (keeps text k) marks in
-    let f = λ (k : ℕ). kept_line c.args.source.now marks k in
-    let i : ℕ = c.loop-index.index in
-    let within : i < length (source_lines text) = omega (arith, c.line_count-index-end.ensures.value) in
-    let shown : c.is_shown.result ≡ p i = c.is_shown.ensures.value
-    ∙ ap (λ bs. not c.args.fold || get_or bs i false) (c.deref.ensures.value ∙ c.in_ok-kept.ensures.value)
-    ∙ ap (λ b. not c.args.fold || b)
-    (get_or-map-range_with_len (λ k. list_any (keeps text k) marks) 0 (length (source_lines text)) i i false within (omega arith)) in
-    elim c.if-is_shown.branch [
-      | then-is_shown+in_ok-annotated_line+in_ok-push w ↦ rw w.lines-is
-          (lines-shown p f i c.loop-index.lines.items w.push.new.self.items w.in_ok-annotated_line.field-0 (sym shown
-          ∙ w.if-is_shown.true) w.in_ok-push.ensures.items
-          (w.in_ok-annotated_line.ensures.value ∙ same-kept _ _ _ _ _ _ _ _ refl refl (ap (λ es. filter
-          (λ (e : PartEntry). eqb e.entry.start.line (c.args.source.now.first + i)) (map seen_part es)) w.deref-then-is_shown-2.ensures.value
-          ∙ c.in_ok-greatest.ensures.value i)
-          (w.flag_at.ensures.value ∙ ap (λ bs. get_or bs i false) w.deref-then-is_shown.ensures.value ∙ c.in_ok-keep.ensures.value i within))
-          c.loop-index.invariant)
-      | else-is_shown w ↦ rw w.lines-is (lines-left p f i c.loop-index.lines.items (sym shown ∙ w.if-is_shown.false) c.loop-index.invariant)
-    ]
+pub annotated_line-requires-clause-within : goal.annotated_line-requires-clause-within
+annotated_line-requires-clause-within c =
+    All-same (λ k. k < length (source_lines c.args.source.now.text)) c.deref-line-items.result.now c.in_ok-kept.kept.items c.deref-line-items.ensures.value c.in_ok-kept.ensures.within c.loop-line.line-index 0 c.loop-line-test.true
+
+pub loop-line-preserved : goal.loop-line-preserved
+loop-line-preserved c =
+    let f = kept_line c.args.source.now c.args.annotations.now in
+    let k : ℕ = get_or c.deref-line-items.result.now c.loop-line.line-index 0 in
+    let within : k < length (source_lines c.args.source.now.text) = All-same (λ k. k < length (source_lines c.args.source.now.text)) c.deref-line-items.result.now c.in_ok-kept.kept.items c.deref-line-items.ensures.value c.in_ok-kept.ensures.within c.loop-line.line-index 0 c.loop-line-test.true in
+    let parts = ap (λ es. filter (λ (e : PartEntry). eqb e.entry.start.line (c.args.source.now.first + k)) (map seen_part es)) c.deref-in-loop-line.ensures.value ∙ c.in_ok-greatest.ensures.value k in
+    let keep = c.flag_at.ensures.value ∙ ap (λ bs. get_or bs k false) c.deref.ensures.value ∙ c.in_ok-keep.ensures.value k within in
+    more f c.deref-line-items.result.now c.loop-line.line-index c.loop-line.lines.items c.push.new.self.items c.in_ok-annotated_line.field-0 c.loop-line-test.true c.in_ok-push.ensures.items (c.in_ok-annotated_line.ensures.value ∙ same-kept _ _ _ _ _ _ _ _ refl refl parts keep) c.loop-line.invariant
 
 pub returns-clause-lines : goal.returns-clause-lines
 returns-clause-lines c =
-    c.loop-index.invariant ∙ ap
-    (λ n. map (kept_line c.args.source.now c.args.annotations.now)
-    (filter (λ k. not c.args.fold || list_any (keeps c.args.source.now.text k) c.args.annotations.now) (range_with_len 0 n)))
-    (same c.loop-index.index c.line_count-index-end.result (length (source_lines c.args.source.now.text))
-    c.loop-index-test.false c.loop-index.auto.index-end c.line_count-index-end.ensures.value)
-  where
-    same : (i n m : ℕ) → n ≤ i → i ≤ n → n ≡ m → i ≡ m
-    same i n m a b e = omega arith
+    c.loop-line.invariant ∙ ap (map (kept_line c.args.source.now c.args.annotations.now)) (take_all c.loop-line.line-index c.deref-line-items.result.now c.loop-line-test.false ∙ c.deref-line-items.ensures.value ∙ c.in_ok-kept.ensures.value)

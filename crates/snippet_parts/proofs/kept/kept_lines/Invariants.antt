@@ -3,7 +3,7 @@ use Rattle.std.specs.List.{list_any}
 use Rattle.snippet_lines.specs.Lines.{source_lines}
 use Rattle.snippet_view.specs.Kept.{keeps}
 use Rattle.snippet_parts.specs.Stretches.{is_covered}
-use Rattle.snippet_parts.proofs.kept.kept.Given as goal
+use Rattle.snippet_parts.proofs.kept.kept_lines.Given as goal
 
 -- the lines that the spans so far cover
 abbrev pub invariant-loop-annotation : goal.invariant-loop-annotation
