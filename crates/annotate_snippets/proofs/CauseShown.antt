@@ -43,7 +43,9 @@ use Rattle.annotate_snippets.proofs.PageLemmas.{cells_of-append, cells_of-others
 use Rattle.annotate_snippets.proofs.PartsFacts.{ends_shown, shown_ascending, shown_within}
 
 -- where a snippet of the group's primary file has a path, its first row is that of the path
-path_first : (layout : OriginLayout) (primary first : Bool) (named : Option (List ℕ)) (place : OriginLocation) (more : List NamedRow) (path : List ℕ) → primary ≡ true → named ≡ Some path → row_at (cells_of (others (snippet_head layout primary first named place) ++ more)) 0 ≡ origin_row layout (primary_start first) path place
+path_first : (layout : OriginLayout) (primary first : Bool) (named : Option (List ℕ)) (place : OriginLocation) (more : List NamedRow) (path : List ℕ)
+    → primary ≡ true → named ≡ Some path → row_at (cells_of (others (snippet_head layout primary first named place) ++ more))
+    0 ≡ origin_row layout (primary_start first) path place
 path_first layout true first None place more path is has = cc
 path_first layout true first (Some other) place more path is has =
     ap (λ own. origin_row layout (primary_start first) own place) (same_path other path has)
@@ -86,7 +88,10 @@ module _ (r : Renderer) (frame : Frame) (around : ElementContext) (s : Snippet A
       snippet_head-free (origin_layout r frame) around.primary around.first (path_bytes s.path) (place_named around.primary (annotated_lines s.fold (numbered_source s) s.markers.items))
 
   -- the first row names the first place of the snippet's spans
-  names_place : All (λ a. IsSpan (cow_str_bytes s.source) a.span.start a.span.end) s.markers.items → (more : List NamedRow) → around.primary ≡ true → (path : List ℕ) → path_bytes s.path ≡ Some path → list_any (λ a. is_marking a.kind) s.markers.items ≡ true → All (λ a. is_long (cow_str_bytes s.source) a ≡ false) s.markers.items → NamesLocation r frame s path (row_at (cells_of (others (cause_head r frame around s) ++ more)) 0)
+  names_place : All (λ a. IsSpan (cow_str_bytes s.source) a.span.start a.span.end) s.markers.items → (more : List NamedRow) → around.primary ≡ true
+      → (path : List ℕ) → path_bytes s.path ≡ Some path → list_any (λ a. is_marking a.kind) s.markers.items ≡ true
+      → All (λ a. is_long (cow_str_bytes s.source) a ≡ false) s.markers.items
+      → NamesLocation r frame s path (row_at (cells_of (others (cause_head r frame around s) ++ more)) 0)
   names_place spans more primary path has some none =
       let lines : List KeptLine = annotated_lines s.fold (numbered_source s) s.markers.items in
       let found = place_known (primary_place lines) (IsLocation (numbered_source s) s.markers.items) (place-named s.fold (numbered_source s) s.markers.items lines spans refl some none) in
@@ -118,7 +123,10 @@ cause_shown r frame around s rows drawable room drawn =
     let head : List (List Cell) = cause_head r frame around s in
     let tail : List (List Cell) = rows_after_cause r frame around in
     let part : List NamedRow = others head ++ (named.part ++ others tail) in
-    let cells : cells_of part ≡ rows = cells_of-append (others head) (named.part ++ others tail) ∙ ap (λ rs. rs ++ cells_of (named.part ++ others tail)) (cells_of-others head) ∙ ap (λ rs. head ++ rs) (cells_of-append named.part (others tail) ∙ ap (λ rs. rs ++ cells_of (others tail)) named.cells ∙ ap (λ rs. drawn.lines ++ rs) (cells_of-others tail)) ∙ sym drawn.rows_are in
+    let cells : cells_of part ≡ rows = cells_of-append (others head) (named.part ++ others tail)
+    ∙ ap (λ rs. rs ++ cells_of (named.part ++ others tail)) (cells_of-others head)
+    ∙ ap (λ rs. head ++ rs) (cells_of-append named.part (others tail) ∙ ap (λ rs. rs ++ cells_of (others tail)) named.cells
+    ∙ ap (λ rs. drawn.lines ++ rs) (cells_of-others tail)) ∙ sym drawn.rows_are in
     let lines_free : All IsFree drawn.lines = free_from_AreLinesShown (layout_in r frame) are.margin (line_numbers r s.line_numbering) (closes_with around) [] are.infos drawn.lines are.shown in
     let all_free : All IsFree (head ++ (drawn.lines ++ tail)) = All-append IsFree head (drawn.lines ++ tail) (head_free r frame around s) (All-append IsFree drawn.lines tail lines_free (after_free r frame around s)) in
     record {

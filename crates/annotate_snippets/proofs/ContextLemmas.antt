@@ -37,7 +37,10 @@ none_around place file es =
     record { count = refl; each = λ j e within same. absurd (omega (arith, within)); primary_is = refl; shares_is = refl }
 
 -- what stands around the next one
-around_next : (place : GroupPosition) (file : Option (List ℕ)) (es : List Element) (i : ℕ) (e : Element) (primary shares shared : Bool) (start : SuggestionStart) (next : Next) → primary ≡ primary_before es i → shares ≡ shares_before es i → start ≡ start_of file shares e → shared ≡ first_two_share (drop i es) → next ≡ next_of (drop (i + 1) es) → record { place = place; first = nat_eq i 0; primary = primary; start = start; shared = shared; next = next } ≡ context_at place file es i e
+around_next : (place : GroupPosition) (file : Option (List ℕ)) (es : List Element) (i : ℕ) (e : Element) (primary shares shared : Bool)
+    (start : SuggestionStart) (next : Next) → primary ≡ primary_before es i → shares ≡ shares_before es i → start ≡ start_of file shares e
+    → shared ≡ first_two_share (drop i es) → next ≡ next_of (drop (i + 1) es)
+    → record { place = place; first = nat_eq i 0; primary = primary; start = start; shared = shared; next = next } ≡ context_at place file es i e
 around_next place file es i e primary shares shared start next p s starts pairs follows =
     let begins : start ≡ start_of file (shares_before es i) e = starts ∙ ap (λ b. start_of file b e) s in
     rw p (rw begins (rw pairs (rw follows refl)))
@@ -63,7 +66,11 @@ shares_next es i =
     sym (ap (λ b. not b && first_two_share (drop (i + 1 - 1) es)) later ∙ ap (λ k. first_two_share (drop k es)) here)
 
 -- one more of them
-pub around_more : (place : GroupPosition) (file : Option (List ℕ)) (es : List Element) (i : ℕ) (e : Element) (primary shares shared : Bool) (start : SuggestionStart) (next : Next) (around new : List ElementContext) → AreAroundBefore place file es i primary shares around → slice_get es i ≡ Some e → start ≡ start_of file shares e → shared ≡ first_two_share (drop i es) → next ≡ next_of (drop (i + 1) es) → new ≡ around ++ record { place = place; first = nat_eq i 0; primary = primary; start = start; shared = shared; next = next } ∷ [] → AreAroundBefore place file es (i + 1) (primary && not (has_file e)) shared new
+pub around_more : (place : GroupPosition) (file : Option (List ℕ)) (es : List Element) (i : ℕ) (e : Element) (primary shares shared : Bool)
+    (start : SuggestionStart) (next : Next) (around new : List ElementContext) → AreAroundBefore place file es i primary shares around
+    → slice_get es i ≡ Some e → start ≡ start_of file shares e → shared ≡ first_two_share (drop i es) → next ≡ next_of (drop (i + 1) es)
+    → new ≡ around ++ record { place = place; first = nat_eq i 0; primary = primary; start = start; shared = shared; next = next } ∷ []
+    → AreAroundBefore place file es (i + 1) (primary && not (has_file e)) shared new
 around_more place file es i e primary shares shared start next around new before at starts pairs follows pushed =
     let one : ElementContext = record { place = place; first = nat_eq i 0; primary = primary; start = start; shared = shared; next = next } in
     let one_is : one ≡ context_at place file es i e = around_next place file es i e primary shares shared start next before.primary_is before.shares_is starts pairs follows in
@@ -86,7 +93,9 @@ around_more place file es i e primary shares shared start next around new before
     }
 
 -- what the next one's depend on, said in another way
-pub around_same : (place : GroupPosition) (file : Option (List ℕ)) (es : List Element) (i : ℕ) (primary primary_said shares shares_said : Bool) (around : List ElementContext) → AreAroundBefore place file es i primary shares around → primary_said ≡ primary → shares_said ≡ shares → AreAroundBefore place file es i primary_said shares_said around
+pub around_same : (place : GroupPosition) (file : Option (List ℕ)) (es : List Element) (i : ℕ) (primary primary_said shares shares_said : Bool)
+    (around : List ElementContext) → AreAroundBefore place file es i primary shares around → primary_said ≡ primary → shares_said ≡ shares
+    → AreAroundBefore place file es i primary_said shares_said around
 around_same place file es i primary primary_said shares shares_said around before p s =
     record { count = before.count; each = before.each; primary_is = p ∙ before.primary_is; shares_is = s ∙ before.shares_is }
 

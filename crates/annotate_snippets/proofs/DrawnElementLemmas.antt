@@ -17,9 +17,13 @@ abbrev pub seen : DrawnElement → Element
 seen d = d.element.now
 
 -- those of the elements so far, and of one more
-pub drawn_more : (es : List Element) (i : ℕ) (e : Element) (ds new ps : List DrawnElement) (drawn : Bool) → i < length es → e ≡ get_or es i e → drawn ≡ is_drawn e → new ≡ ds ++ ps → map seen ps ≡ cond drawn (e ∷ []) [] → map seen ds ≡ filter is_drawn (take i es) → map seen new ≡ filter is_drawn (take (i + 1) es)
+pub drawn_more : (es : List Element) (i : ℕ) (e : Element) (ds new ps : List DrawnElement) (drawn : Bool) → i < length es → e ≡ get_or es i e
+    → drawn ≡ is_drawn e → new ≡ ds ++ ps → map seen ps ≡ cond drawn (e ∷ []) [] → map seen ds ≡ filter is_drawn (take i es)
+    → map seen new ≡ filter is_drawn (take (i + 1) es)
 drawn_more es i e ds new ps drawn within is tests pushed one so_far =
-    ap (map seen) pushed ∙ map-append seen ds ps ∙ ap (λ (xs : List Element). map seen ds ++ xs) one ∙ ap (λ (xs : List Element). xs ++ cond drawn (e ∷ []) []) so_far ∙ ap (λ (b : Bool). filter is_drawn (take i es) ++ cond b (e ∷ []) []) tests ∙ ap (λ (d : Element). filter is_drawn (take i es) ++ cond (is_drawn d) (d ∷ []) []) is ∙ sym (filter_more is_drawn es i e within)
+    ap (map seen) pushed ∙ map-append seen ds ps ∙ ap (λ (xs : List Element). map seen ds ++ xs) one
+    ∙ ap (λ (xs : List Element). xs ++ cond drawn (e ∷ []) []) so_far ∙ ap (λ (b : Bool). filter is_drawn (take i es) ++ cond b (e ∷ []) []) tests
+    ∙ ap (λ (d : Element). filter is_drawn (take i es) ++ cond (is_drawn d) (d ∷ []) []) is ∙ sym (filter_more is_drawn es i e within)
 
 -- what holds of the elements that are drawn holds of each of these
 pub drawn_all : (P : Element → Type 0) (ds : List DrawnElement) (es : List Element) → map seen ds ≡ es → All P es → All (λ d. P (seen d)) ds

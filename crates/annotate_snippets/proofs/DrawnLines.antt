@@ -47,7 +47,9 @@ module _ (r : Renderer) (frame : Frame) (s : Snippet Annotation) (margin : Margi
   Shows closes open_bars info rows =
       strokes.ShowsLine (layout_in r frame) margin numbers closes open_bars info rows
 
-  pub line_drawn : (closes : Bool) (open_bars : List Bar) (k : ℕ) (info : AnnotatedLineInfo) (rows : List (List Cell)) → seen_kept info ≡ kept_line (numbered_source s) s.markers.items k → (shows : Shows closes open_bars info rows) → IsLineDrawn r frame closes s open_bars k (shows.source ∷ shows.below)
+  pub line_drawn : (closes : Bool) (open_bars : List Bar) (k : ℕ) (info : AnnotatedLineInfo) (rows : List (List Cell))
+      → seen_kept info ≡ kept_line (numbered_source s) s.markers.items k → (shows : Shows closes open_bars info rows)
+      → IsLineDrawn r frame closes s open_bars k (shows.source ∷ shows.below)
   line_drawn closes open_bars k info rows seen shows =
       let layout = layout_in r frame in
       let text : List ℕ = norm (chars info.line.now) in
@@ -77,7 +79,9 @@ module _ (r : Renderer) (frame : Frame) (closes : Bool) (s : Snippet Annotation)
   past = bars_apart open_bars (bars_on s k)
 
   -- one of them whose depth no other has stands beside each row of the line, in the cell of its depth
-  pub bar_shown : (rows : List (List Cell)) → IsLineDrawn r frame closes s open_bars k rows → (bar : Bar) → Contains past bar → HasOwnDepth bar past → (i : ℕ) → i < length rows → cell_at rows i (frame.gutter + 2 + bar.depth) ≡ unlinked_cell (underline_role bar.primary) (glyph_of r.decor_style bar.primary 124 124 0x2503 0x2502)
+  pub bar_shown : (rows : List (List Cell)) → IsLineDrawn r frame closes s open_bars k rows → (bar : Bar) → Contains past bar → HasOwnDepth bar past
+      → (i : ℕ) → i < length rows → cell_at rows i (frame.gutter + 2 + bar.depth) ≡ unlinked_cell (underline_role bar.primary)
+      (glyph_of r.decor_style bar.primary 124 124 0x2503 0x2502)
   bar_shown rows line bar among alone i within =
       let ends : ends_of_bars line.entries ≡ bars_on s k = bars_seen s k line.entries line.are in
       let own : Contains (bars_apart open_bars (ends_of_bars line.entries)) bar = subst (λ bs. Contains (bars_apart open_bars bs) bar) (sym ends) among in

@@ -41,7 +41,10 @@ drawn_none r frame place file es old =
     }
 
 -- one more
-pub drawn_more : (r : Renderer) (frame : Frame) (place : GroupPosition) (file : Option (List ℕ)) (es : List Element) (n : ℕ) (e : Element) (old mid new : List (List Cell)) (before : DrawnSoFar r frame place file es n old mid) → slice_get es n ≡ Some e → AddsElement r frame (context_at place file es n e) e (old ++ flat_map (λ part. part) before.parts) new → DrawnSoFar r frame place file es (n + 1) old new
+pub drawn_more : (r : Renderer) (frame : Frame) (place : GroupPosition) (file : Option (List ℕ)) (es : List Element) (n : ℕ) (e : Element)
+    (old mid new : List (List Cell)) (before : DrawnSoFar r frame place file es n old mid) → slice_get es n ≡ Some e
+    → AddsElement r frame (context_at place file es n e) e (old ++ flat_map (λ part. part) before.parts) new
+    → DrawnSoFar r frame place file es (n + 1) old new
 drawn_more r frame place file es n e old mid new before here adds =
     let Part : Type 0 = List (List Cell) in
     let parts : List Part = before.parts ++ adds.rows ∷ [] in
@@ -107,7 +110,10 @@ get-mapped f (y ∷ xs) zero x is =
 get-mapped f (y ∷ xs) (suc n) x is = get-mapped f xs n x is
 
 -- what stands around the next element
-turn_around : (place : GroupPosition) (file : Option (List ℕ)) (ps : List PreparedElement) (around : List ElementContext) (n i : ℕ) (p : PreparedElement) (at : ElementContext) → AreAround place file (map element_of ps) around → (n < length (enumerate_from 0 ps)) × ((i, p) ≡ get_or (enumerate_from 0 ps) n (i, p)) → at ≡ slice_index_or around i at → at ≡ context_at place file (map element_of ps) n (element_of p)
+turn_around : (place : GroupPosition) (file : Option (List ℕ)) (ps : List PreparedElement) (around : List ElementContext) (n i : ℕ)
+    (p : PreparedElement) (at : ElementContext) → AreAround place file (map element_of ps) around
+    → (n < length (enumerate_from 0 ps)) × ((i, p) ≡ get_or (enumerate_from 0 ps) n (i, p)) → at ≡ slice_index_or around i at
+    → at ≡ context_at place file (map element_of ps) n (element_of p)
 turn_around place file ps around n i p at are turn is =
     let item = turn_item ps n i p turn in
     let there : slice_get around n ≡ Some (context_at place file (map element_of ps) n (element_of p)) = are.each n (element_of p) (get-mapped element_of ps n p item.1) in
@@ -117,13 +123,21 @@ turn_around place file ps around n i p at are turn is =
     is ∙ ap (λ j. slice_index_or around j at) item.0 ∙ equal
 
 -- the next element can stand there
-pub turn_stands : (place : GroupPosition) (file : Option (List ℕ)) (ps : List PreparedElement) (around : List ElementContext) (n i : ℕ) (p : PreparedElement) (at : ElementContext) → AreAround place file (map element_of ps) around → (n < length (enumerate_from 0 ps)) × ((i, p) ≡ get_or (enumerate_from 0 ps) n (i, p)) → at ≡ slice_index_or around i at → CanStandIn at (element_of p)
+pub turn_stands : (place : GroupPosition) (file : Option (List ℕ)) (ps : List PreparedElement) (around : List ElementContext) (n i : ℕ)
+    (p : PreparedElement) (at : ElementContext) → AreAround place file (map element_of ps) around
+    → (n < length (enumerate_from 0 ps)) × ((i, p) ≡ get_or (enumerate_from 0 ps) n (i, p)) → at ≡ slice_index_or around i at
+    → CanStandIn at (element_of p)
 turn_stands place file ps around n i p at are turn is =
     let item = turn_item ps n i p turn in
     subst (λ a. CanStandIn a (element_of p)) (sym (turn_around place file ps around n i p at are turn is)) (can_stand place file (map element_of ps) n (element_of p) (get-mapped element_of ps n p item.1))
 
 -- its rows stand below those before it
-pub turn_drawn : (r : Renderer) (frame : Frame) (place : GroupPosition) (file : Option (List ℕ)) (ps : List PreparedElement) (around : List ElementContext) (n m i : ℕ) (p : PreparedElement) (at : ElementContext) (old mid new : List (List Cell)) → AreAround place file (map element_of ps) around → (n < length (enumerate_from 0 ps)) × ((i, p) ≡ get_or (enumerate_from 0 ps) n (i, p)) → at ≡ slice_index_or around i at → m ≡ n + 1 → DrawnSoFar r frame place file (map element_of ps) n old mid → ((above tail : List (List Cell)) → mid ≡ above ++ tail → IsTail r.decor_style frame.gutter (begins_in_row_above at) tail → AddsElement r frame at (element_of p) above new) → DrawnSoFar r frame place file (map element_of ps) m old new
+pub turn_drawn : (r : Renderer) (frame : Frame) (place : GroupPosition) (file : Option (List ℕ)) (ps : List PreparedElement)
+    (around : List ElementContext) (n m i : ℕ) (p : PreparedElement) (at : ElementContext) (old mid new : List (List Cell))
+    → AreAround place file (map element_of ps) around → (n < length (enumerate_from 0 ps)) × ((i, p) ≡ get_or (enumerate_from 0 ps) n (i, p))
+    → at ≡ slice_index_or around i at → m ≡ n + 1 → DrawnSoFar r frame place file (map element_of ps) n old mid
+    → ((above tail : List (List Cell)) → mid ≡ above ++ tail → IsTail r.decor_style frame.gutter (begins_in_row_above
+    at) tail → AddsElement r frame at (element_of p) above new) → DrawnSoFar r frame place file (map element_of ps) m old new
 turn_drawn r frame place file ps around n m i p at old mid new are turn is next before adds =
     let es : List Element = map element_of ps in
     let e : Element = element_of p in
@@ -135,6 +149,8 @@ turn_drawn r frame place file ps around n m i p at old mid new are turn is next 
     subst (λ k. DrawnSoFar r frame place file es k old new) (sym next) (drawn_more r frame place file es n e old mid new before here (subst (λ a. AddsElement r frame a e above new) at_is added))
 
 -- after the last all are drawn
-pub turns_all : (r : Renderer) (frame : Frame) (place : GroupPosition) (file : Option (List ℕ)) (ps : List PreparedElement) (n : ℕ) (old new : List (List Cell)) → n ≡ length (enumerate_from 0 ps) → DrawnSoFar r frame place file (map element_of ps) n old new → AddsElements r frame place file (map element_of ps) old new
+pub turns_all : (r : Renderer) (frame : Frame) (place : GroupPosition) (file : Option (List ℕ)) (ps : List PreparedElement) (n : ℕ)
+    (old new : List (List Cell)) → n ≡ length (enumerate_from 0 ps) → DrawnSoFar r frame place file (map element_of ps) n old new
+    → AddsElements r frame place file (map element_of ps) old new
 turns_all r frame place file ps n old new all drawn =
     drawn_all r frame place file (map element_of ps) n old new (omega (arith, all, length-enumerate_from 0 ps, length-map ps element_of)) drawn

@@ -96,7 +96,9 @@ pub IsSpan-faultless : (source : List ℕ) (start end : ℕ) → span_fault sour
 unfolding span_fault
 IsSpan-faultless source start end none = by_cases (nat_lt end start) (nat_lt (length source + 1) end) (is_span_border source start) (is_span_border source end) refl refl refl refl none
   where
-    by_cases : (reversed past from to : Bool) → nat_lt end start ≡ reversed → nat_lt (length source + 1) end ≡ past → is_span_border source start ≡ from → is_span_border source end ≡ to → cond reversed (Some Reversed) (cond past (Some PastEnd) (cond (from && to) None (Some OffBoundary))) ≡ None → IsSpan source start end
+    by_cases : (reversed past from to : Bool) → nat_lt end start ≡ reversed → nat_lt (length source + 1) end ≡ past
+        → is_span_border source start ≡ from → is_span_border source end ≡ to
+        → cond reversed (Some Reversed) (cond past (Some PastEnd) (cond (from && to) None (Some OffBoundary))) ≡ None → IsSpan source start end
     by_cases true past from to r p f t h = cc
     by_cases false true from to r p f t h = cc
     by_cases false false true true r p f t h = record {
@@ -113,7 +115,10 @@ pub spans-faultless : {X : Type 0} (span_of : X → Range ℕ) (group element n 
 spans-faultless span_of group element n source [] none =
     All-nil (λ x. IsSpan source (span_of x).start (span_of x).end)
 spans-faultless span_of group element n source (x ∷ marks) none =
-    All-cons (λ y. IsSpan source (span_of y).start (span_of y).end) x marks (IsSpan-faultless source (span_of x).start (span_of x).end (no_refusal group element n (span_fault source (span_of x).start (span_of x).end) (front_none _ _ none))) (spans-faultless span_of group element (n + 1) source marks (back_none _ _ none))
+    All-cons (λ y. IsSpan source (span_of y).start (span_of y).end)
+    x marks (IsSpan-faultless source (span_of x).start (span_of x).end
+    (no_refusal group element n (span_fault source (span_of x).start (span_of x).end) (front_none _ _ none)))
+    (spans-faultless span_of group element (n + 1) source marks (back_none _ _ none))
 
 -- the first refusal of patches of which two overlap, after no refusal of their spans
 pub overlap-first : (spans after : List RenderError) (group element : ℕ) (patches : List Patch) (m n : ℕ) → spans ≡ [] → first_overlap (map edit_of patches) ≡ Some (m, n) → Some (PatchesOverlap group element m n) ≡ first_of (spans ++ overlap_faults group element patches ++ after)

@@ -195,6 +195,8 @@ module _ (r : Renderer) (frame : Frame) (closes : Bool) (s : Snippet Annotation)
 
 -- where no span is cut for being wide, and no label holds a line feed, no row below a line of a snippet holds one, nor does a row in place
 -- of lines: each is one line of the text
-pub one_line_below : (r : Renderer) (frame : Frame) (around : ElementContext) (s : Snippet Annotation) (rows : List NamedRow) → (shown : ShowsSnippet r frame around s rows) → ((k : ℕ) → wide_spans (room_of r frame) (length (placeholder_of r.decor_style)) s k ≡ 0) → ((k : ℕ) → HasPlainLabels s k) → All (λ (row : NamedRow). IsLineBelow row.name row.cells) shown.after
+pub one_line_below : (r : Renderer) (frame : Frame) (around : ElementContext) (s : Snippet Annotation) (rows : List NamedRow)
+    → (shown : ShowsSnippet r frame around s rows) → ((k : ℕ) → wide_spans (room_of r frame) (length (placeholder_of r.decor_style)) s k ≡ 0)
+    → ((k : ℕ) → HasPlainLabels s k) → All (λ (row : NamedRow). IsLineBelow row.name row.cells) shown.after
 one_line_below r frame around s rows shown uncut plain =
     all_rows r frame (closes_with around) s uncut plain [] shown.after shown.named shown.drawn (λ i c right. subst (λ (below : List (List Cell)). HoldsNoFeed (cell_at below i c)) (sym shown.begins) refl)

@@ -46,14 +46,20 @@ next_within before (Origin o) i small = tt
 next_within before (Padding p) i small = tt
 
 -- one more of them
-pub element_added : (r : Renderer) (file : Option (List ℕ)) (es : List Element) (i : ℕ) (e : Element) (old form new : List FormPiece) (before after : Option PreviousSuggestion) (followed : Bool) → slice_get es i ≡ Some e → followed ≡ first_two_share (drop i es) → new ≡ form ++ element_form r file before followed e → after ≡ before_next before e → ElementsSoFar r file es i old form before → ElementsSoFar r file es (i + 1) old new after
+pub element_added : (r : Renderer) (file : Option (List ℕ)) (es : List Element) (i : ℕ) (e : Element) (old form new : List FormPiece)
+    (before after : Option PreviousSuggestion) (followed : Bool) → slice_get es i ≡ Some e → followed ≡ first_two_share (drop i es)
+    → new ≡ form ++ element_form r file before followed e → after ≡ before_next before e → ElementsSoFar r file es i old form before
+    → ElementsSoFar r file es (i + 1) old new after
 element_added r file es i e old form new before after followed at shares added follows so_far =
     let next : suc i ≡ i + 1 = omega arith in
     let rest : drop i es ≡ e ∷ drop (i + 1) es = drop-cons es i e (slice_get_within es i e at) ∙ ap (λ (x : Element). x ∷ drop (suc i) es) (get_or_from_slice_get es i e e at) ∙ ap (λ n. e ∷ drop n es) next in
     let later : List FormPiece = elements_form r file (before_next before e) (drop (i + 1) es) in
     let own : element_form r file before followed e ≡ element_form r file before (first_two_share (e ∷ drop (i + 1) es)) e = ap (λ b. element_form r file before b e) (shares ∙ ap first_two_share rest) in
     record {
-      left = ap (λ (b : Option PreviousSuggestion). new ++ elements_form r file b (drop (i + 1) es)) follows ∙ ap (λ (x : List FormPiece). x ++ later) (added ∙ ap (λ (x : List FormPiece). form ++ x) own) ∙ append_assoc form (element_form r file before (first_two_share (e ∷ drop (i + 1) es)) e) later ∙ ap (λ (xs : List Element). form ++ elements_form r file before xs) (sym rest) ∙ so_far.left;
+      left = ap (λ (b : Option PreviousSuggestion). new ++ elements_form r file b (drop (i + 1) es)) follows
+          ∙ ap (λ (x : List FormPiece). x ++ later) (added ∙ ap (λ (x : List FormPiece). form ++ x) own)
+          ∙ append_assoc form (element_form r file before (first_two_share (e ∷ drop (i + 1) es)) e) later
+          ∙ ap (λ (xs : List Element). form ++ elements_form r file before xs) (sym rest) ∙ so_far.left;
       numbered = subst (λ (b : Option PreviousSuggestion). IfSome b (λ (x : PreviousSuggestion). x.number ≤ i + 1)) (sym follows) (next_within before e i so_far.numbered);
     }
 
@@ -82,9 +88,14 @@ no_title_added r title old new is same =
     same ∙ sym (append-nil old) ∙ ap (λ (x : Option Title). old ++ title_form r x) (sym is)
 
 -- a group is added: after its title its elements
-pub group_added : (r : Renderer) (groups : List Group) (g : Group) (file : Option (List ℕ)) (es : List Element) (old titled new : List FormPiece) → file ≡ file_of_group groups g → es ≡ drawn_elements g → titled ≡ old ++ title_form r g.title → new ≡ titled ++ elements_form r file None es → new ≡ old ++ group_form r groups g
+pub group_added : (r : Renderer) (groups : List Group) (g : Group) (file : Option (List ℕ)) (es : List Element) (old titled new : List FormPiece)
+    → file ≡ file_of_group groups g → es ≡ drawn_elements g → titled ≡ old ++ title_form r g.title → new ≡ titled ++ elements_form r file None es
+    → new ≡ old ++ group_form r groups g
 group_added r groups g file es old titled new of drawn title added =
-    added ∙ ap (λ (x : List FormPiece). x ++ elements_form r file None es) title ∙ append_assoc old (title_form r g.title) (elements_form r file None es) ∙ ap (λ (f : Option (List ℕ)). old ++ (title_form r g.title ++ elements_form r f None es)) of ∙ ap (λ (xs : List Element). old ++ (title_form r g.title ++ elements_form r (file_of_group groups g) None xs)) drawn
+    added ∙ ap (λ (x : List FormPiece). x ++ elements_form r file None es) title
+    ∙ append_assoc old (title_form r g.title) (elements_form r file None es)
+    ∙ ap (λ (f : Option (List ℕ)). old ++ (title_form r g.title ++ elements_form r f None es)) of
+    ∙ ap (λ (xs : List Element). old ++ (title_form r g.title ++ elements_form r (file_of_group groups g) None xs)) drawn
 
 -- the groups so far are added, and one more
 abbrev pub groups_form : Renderer → List Group → List Group → List FormPiece

@@ -49,12 +49,18 @@ module _ (r : Renderer) (groups : List Group) (sheets : List Stylesheet) (texts 
   free-in : (form : Form) → ShowsForm form r groups sheets texts → AreFree (trusted_texts groups) (links_in form r groups) sheets texts
   free-in Graphic shown = record {
     plain = page_text shown.page;
-    woven = AllZip-weaker (λ sheet text. PrintsPage sheet (levels_of groups) shown.page text) (λ sheet text. IsWoven sheet text (page_text shown.page) (report_links r groups)) (λ sheet text prints. subst (IsWoven sheet text (page_text shown.page)) shown.links (IsWoven-from_page sheet (levels_of groups) shown.page text prints)) sheets texts shown.printed;
+    woven = AllZip-weaker (λ sheet text. PrintsPage sheet (levels_of groups) shown.page text)
+        (λ sheet text. IsWoven sheet text (page_text shown.page) (report_links r groups))
+        (λ sheet text prints. subst (IsWoven sheet text (page_text shown.page))
+        shown.links (IsWoven-from_page sheet (levels_of groups) shown.page text prints)) sheets texts shown.printed;
     free = shown.free;
   }
   free-in Short shown = record {
     plain = plain_text shown.rows;
-    woven = AllZip-weaker (λ sheet text. Prints sheet shown.group.level shown.rows text) (λ sheet text. IsWoven sheet text (plain_text shown.rows) (short_links r groups)) (λ sheet text prints. subst (IsWoven sheet text (plain_text shown.rows)) shown.links (IsWoven-from_prints sheet shown.group.level shown.rows text prints)) sheets texts shown.printed;
+    woven = AllZip-weaker (λ sheet text. Prints sheet shown.group.level shown.rows text)
+        (λ sheet text. IsWoven sheet text (plain_text shown.rows) (short_links r groups))
+        (λ sheet text prints. subst (IsWoven sheet text (plain_text shown.rows))
+        shown.links (IsWoven-from_prints sheet shown.group.level shown.rows text prints)) sheets texts shown.printed;
     free = shown.free;
   }
   free-in Text shown = record { plain = form_text (text_form r groups); woven = shown.woven; free = shown.free }

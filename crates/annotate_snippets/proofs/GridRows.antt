@@ -70,12 +70,20 @@ turn_prepared ps n i p all turn =
     subst IsGroupPrepared is (all n p within)
 
 -- the frame has room for its elements
-pub turn_room : (r : Renderer) (groups : List Group) (ps : List PreparedGroup) (n i : ℕ) (p : PreparedGroup) (frame : Frame) → All IsGroupDrawable groups → IsGroupPrepared p → map group_of ps ≡ groups → (n < length (enumerate_from 0 ps)) × ((i, p) ≡ get_or (enumerate_from 0 ps) n (i, p)) → frame ≡ frame_of r groups p.group.now → All (λ e. HasRoomFor r frame (element_of e)) p.elements.items
+pub turn_room : (r : Renderer) (groups : List Group) (ps : List PreparedGroup) (n i : ℕ) (p : PreparedGroup) (frame : Frame)
+    → All IsGroupDrawable groups → IsGroupPrepared p → map group_of ps ≡ groups
+    → (n < length (enumerate_from 0 ps)) × ((i, p) ≡ get_or (enumerate_from 0 ps) n (i, p)) → frame ≡ frame_of r groups p.group.now
+    → All (λ e. HasRoomFor r frame (element_of e)) p.elements.items
 turn_room r groups ps n i p frame drawable prepared same turn is =
     All-unmapped (HasRoomFor r frame) element_of p.elements.items (subst (λ es. All (HasRoomFor r frame) es) (sym prepared.elements_are) (subst (λ f. All (HasRoomFor r f) (drawn_elements p.group.now)) (sym is) (room_in_report r groups drawable n p.group.now (turn_group groups ps n i p same turn))))
 
 -- one more grid
-pub turn_grid : (r : Renderer) (groups : List Group) (ps : List PreparedGroup) (n m i : ℕ) (p : PreparedGroup) (frame : Frame) (place : GroupPosition) (file : Option (List ℕ)) (grid : GroupGrid) (grids new : List GroupGrid) → map group_of ps ≡ groups → (n < length (enumerate_from 0 ps)) × ((i, p) ≡ get_or (enumerate_from 0 ps) n (i, p)) → frame ≡ frame_of r groups p.group.now → place ≡ place_at (length groups) i → file ≡ file_of_group groups p.group.now → grid.level ≡ p.group.now.level → IsGroupGrid r frame place file p.group.now grid.buffer → new ≡ grids ++ grid ∷ [] → m ≡ n + 1 → GridsSoFar r groups n grids → GridsSoFar r groups m new
+pub turn_grid : (r : Renderer) (groups : List Group) (ps : List PreparedGroup) (n m i : ℕ) (p : PreparedGroup) (frame : Frame) (place : GroupPosition)
+    (file : Option (List ℕ)) (grid : GroupGrid) (grids new : List GroupGrid) → map group_of ps ≡ groups
+    → (n < length (enumerate_from 0 ps)) × ((i, p) ≡ get_or (enumerate_from 0 ps) n (i, p)) → frame ≡ frame_of r groups p.group.now
+    → place ≡ place_at (length groups) i → file ≡ file_of_group groups p.group.now → grid.level ≡ p.group.now.level
+    → IsGroupGrid r frame place file p.group.now grid.buffer → new ≡ grids ++ grid ∷ [] → m ≡ n + 1 → GridsSoFar r groups n grids
+    → GridsSoFar r groups m new
 turn_grid r groups ps n m i p frame place file grid grids new same turn frame_here place_here file_here level drawn pushed next before =
     let g : Group = p.group.now in
     let at : i ≡ n = (turn_item ps n i p turn).0 in
@@ -85,10 +93,14 @@ turn_grid r groups ps n m i p frame place file grid grids new same turn frame_he
     let is : get_or groups n g ≡ g = cc in
     let taken : take m groups ≡ take n groups ++ g ∷ [] = ap (λ k. take k groups) next ∙ take_more groups n g within ∙ ap (λ x. take n groups ++ x ∷ []) is in
     let whole : IsGroupGrid r (frame_of r groups g) (place_at (length groups) n) (file_of_group groups g) g grid.buffer =
-    subst (λ f. IsGroupGrid r f (place_at (length groups) n) (file_of_group groups g) g grid.buffer) frame_here (subst (λ at_place. IsGroupGrid r frame at_place (file_of_group groups g) g grid.buffer) (place_here ∙ ap (place_at (length groups)) at) (subst (λ path. IsGroupGrid r frame place path g grid.buffer) file_here drawn)) in
+    subst (λ f. IsGroupGrid r f (place_at (length groups) n) (file_of_group groups g) g grid.buffer)
+    frame_here (subst (λ at_place. IsGroupGrid r frame at_place (file_of_group groups g) g grid.buffer)
+    (place_here ∙ ap (place_at (length groups)) at) (subst (λ path. IsGroupGrid r frame place path g grid.buffer) file_here drawn)) in
     record {
       count = ap length pushed ∙ omega (arith, length-append grids (grid ∷ []), before.count, next);
-      levels = ap (map (λ (d : GroupGrid). d.level)) pushed ∙ map-append (λ (d : GroupGrid). d.level) grids (grid ∷ []) ∙ ap (λ xs. xs ++ grid.level ∷ []) before.levels ∙ ap (λ x. map (λ (h : Group). h.level) (take n groups) ++ x ∷ []) level ∙ sym (map-append (λ (h : Group). h.level) (take n groups) (g ∷ [])) ∙ ap (map (λ (h : Group). h.level)) (sym taken);
+      levels = ap (map (λ (d : GroupGrid). d.level)) pushed ∙ map-append (λ (d : GroupGrid). d.level) grids (grid ∷ [])
+          ∙ ap (λ xs. xs ++ grid.level ∷ []) before.levels ∙ ap (λ x. map (λ (h : Group). h.level) (take n groups) ++ x ∷ []) level
+          ∙ sym (map-append (λ (h : Group). h.level) (take n groups) (g ∷ [])) ∙ ap (map (λ (h : Group). h.level)) (sym taken);
       each = λ j h d is_group is_grid.
           let put : slice_get (grids ++ grid ∷ []) j ≡ Some d = ap (λ (xs : List GroupGrid). slice_get xs j) (sym pushed) ∙ is_grid in
           elim (cases_lt j n) [
@@ -99,7 +111,10 @@ turn_grid r groups ps n m i p frame place file grid grids new same turn frame_he
                 let group_same : Some g ≡ Some h = sym here ∙ ap (slice_get groups) equal ∙ is_group in
                 let grid_same : grid ≡ d = last grids grid d j (before.count ∙ equal) put in
                 let g_is : g ≡ h = cc in
-                subst (λ k. IsGroupGrid r (frame_of r groups h) (place_at (length groups) k) (file_of_group groups h) h d.buffer) equal (subst (λ x. IsGroupGrid r (frame_of r groups h) (place_at (length groups) n) (file_of_group groups h) h x.buffer) grid_same (subst (λ y. IsGroupGrid r (frame_of r groups y) (place_at (length groups) n) (file_of_group groups y) y grid.buffer) g_is whole))
+                subst (λ k. IsGroupGrid r (frame_of r groups h) (place_at (length groups) k) (file_of_group groups h) h d.buffer)
+                equal (subst (λ x. IsGroupGrid r (frame_of r groups h) (place_at (length groups) n) (file_of_group groups h) h x.buffer)
+                grid_same (subst (λ y. IsGroupGrid r (frame_of r groups y) (place_at (length groups) n) (file_of_group groups y) y grid.buffer)
+                g_is whole))
           ];
     }
   where

@@ -139,7 +139,10 @@ module _ (r : Renderer) (frame : Frame) (place : GroupPosition) (file : Option (
     part_shown i e is =
         let within : i < length es = slice_get_within es i e is in
         let own : get_or es i e ≡ e = get_or_from_slice_get es i e e is in
-        let shown = element_shown r frame (context_at place file es i e) e (get_or parts i []) (subst IsElementDrawable own (All-get_or IsElementDrawable es i e within drawable)) (subst (λ x. is_drawn x ≡ true) own (All-get_or (λ x. is_drawn x ≡ true) es i e within drawn)) (subst (HasRoomFor r frame) own (All-get_or (HasRoomFor r frame) es i e within room)) (are.each i e is) in
+        let shown = element_shown r frame (context_at place file es i e) e (get_or parts i [])
+        (subst IsElementDrawable own (All-get_or IsElementDrawable es i e within drawable))
+        (subst (λ x. is_drawn x ≡ true) own (All-get_or (λ x. is_drawn x ≡ true) es i e within drawn))
+        (subst (HasRoomFor r frame) own (All-get_or (HasRoomFor r frame) es i e within room)) (are.each i e is) in
         (shown.part, record { cells = shown.cells; shows = shown.shows; free = shown.free })
 
     named_parts : AreNamed

@@ -133,7 +133,16 @@ kept-counted s = by_cases s.fold refl
         omega (arith, low, kept_before source found.0 k found.2)) (filter p all) (filter_passes p all)
     by_cases false is =
         let same : newline_count (reached_source s) ≡ newline_count source = rw is refl in
-        let bound : All (λ k. k ≤ newline_count (reached_source s) + 1) all = λ i d within. omega (arith, get_or-range_with_len 0 (length (source_lines source)) i d (omega (arith, within, length-range_with_len 0 (length (source_lines source)))), within, length-range_with_len 0 (length (source_lines source)), length-source_lines source, same) in
+        let bound : All (λ k. k ≤ newline_count (reached_source s) + 1) all =
+        λ i d within. omega (
+          arith,
+          get_or-range_with_len 0 (length (source_lines source))
+              i d (omega (arith, within, length-range_with_len 0 (length (source_lines source)))),
+          within,
+          length-range_with_len 0 (length (source_lines source)),
+          length-source_lines source,
+          same,
+        ) in
         All-filter (λ k. true) (λ k. k ≤ newline_count (reached_source s) + 1) all bound
 
 -- and so is that of a line between two of them
@@ -147,7 +156,9 @@ between-counted n (j ∷ k ∷ ks) low =
     elim (cases_Bool (k == j + 2)) [
       | inl one ↦
           let middle : j + 1 ≤ n = omega (arith, All-head (λ i. i ≤ n) k ks rest, eqb-true k (j + 2) one) in
-          All-same (λ i. i ≤ n) (with_between (j ∷ k ∷ ks)) (j ∷ (j + 1) ∷ with_between (k ∷ ks)) (cond-true (k == j + 2) (j ∷ (j + 1) ∷ with_between (k ∷ ks)) (j ∷ with_between (k ∷ ks)) one) (All-cons (λ i. i ≤ n) j ((j + 1) ∷ with_between (k ∷ ks)) here (All-cons (λ i. i ≤ n) (j + 1) (with_between (k ∷ ks)) middle after))
+          All-same (λ i. i ≤ n) (with_between (j ∷ k ∷ ks)) (j ∷ (j + 1) ∷ with_between (k ∷ ks))
+          (cond-true (k == j + 2) (j ∷ (j + 1) ∷ with_between (k ∷ ks)) (j ∷ with_between (k ∷ ks)) one)
+          (All-cons (λ i. i ≤ n) j ((j + 1) ∷ with_between (k ∷ ks)) here (All-cons (λ i. i ≤ n) (j + 1) (with_between (k ∷ ks)) middle after))
       | inr other ↦ All-same (λ i. i ≤ n) (with_between (j ∷ k ∷ ks)) (j ∷ with_between (k ∷ ks)) (cond-false (k == j + 2) (j ∷ (j + 1) ∷ with_between (k ∷ ks)) (j ∷ with_between (k ∷ ks)) other) (All-cons (λ i. i ≤ n) j (with_between (k ∷ ks)) here after)
     ]
 
@@ -157,7 +168,9 @@ All-of_lines P f [] [] same each = All-nil (λ (info : AnnotatedLineInfo). P (se
 All-of_lines P f [] (info ∷ infos) same each = cc
 All-of_lines P f (k ∷ ks) [] same each = cc
 All-of_lines P f (k ∷ ks) (info ∷ infos) same each =
-    All-cons (λ (i : AnnotatedLineInfo). P (seen_kept i)) info infos (subst P (sym (first_is (seen_kept info) (f k) (map seen_kept infos) (map f ks) same)) (All-head (λ j. P (f j)) k ks each)) (All-of_lines P f ks infos (rest_is (seen_kept info) (f k) (map seen_kept infos) (map f ks) same) (All-tail (λ j. P (f j)) k ks each))
+    All-cons (λ (i : AnnotatedLineInfo). P (seen_kept i))
+    info infos (subst P (sym (first_is (seen_kept info) (f k) (map seen_kept infos) (map f ks) same)) (All-head (λ j. P (f j)) k ks each))
+    (All-of_lines P f ks infos (rest_is (seen_kept info) (f k) (map seen_kept infos) (map f ks) same) (All-tail (λ j. P (f j)) k ks each))
   where
     first_is : (x y : KeptLine) (xs ys : List KeptLine) → x ∷ xs ≡ y ∷ ys → x ≡ y
     first_is x y xs ys same = cc
@@ -211,7 +224,10 @@ counted-small s fits =
     omega (arith, length-source_lines source)
 
 -- what the gutter shows beside the lines of a snippet takes at most one cell more than the gutter has
-pub numbers_fit : (r : Renderer) (frame : Frame) (s : Snippet Annotation) (infos : List AnnotatedLineInfo) → HasRoomFor r frame (Cause s) → IsDrawable s → map seen_kept infos ≡ map (kept_line (numbered_source s) s.markers.items) (shown_lines s.fold (cow_str_bytes s.source) s.markers.items) → All (λ info. length (shown_number (line_numbers r s.line_numbering) frame.gutter info.line_index) ≤ frame.gutter + 1) infos
+pub numbers_fit : (r : Renderer) (frame : Frame) (s : Snippet Annotation) (infos : List AnnotatedLineInfo) → HasRoomFor r frame (Cause s)
+    → IsDrawable s → map seen_kept infos ≡ map (kept_line (numbered_source s) s.markers.items)
+    (shown_lines s.fold (cow_str_bytes s.source) s.markers.items)
+    → All (λ info. length (shown_number (line_numbers r s.line_numbering) frame.gutter info.line_index) ≤ frame.gutter + 1) infos
 numbers_fit r frame s infos room drawable lines =
     let source : List ℕ = cow_str_bytes s.source in
     let numbers : LineNumbers = line_numbers r s.line_numbering in

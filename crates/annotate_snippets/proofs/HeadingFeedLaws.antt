@@ -50,7 +50,9 @@ brackets_plain : (hidden : Bool) (role : ElementStyle) (address text : Option (L
 brackets_plain hidden role address None plain = All-nil HoldsNoFeed
 brackets_plain hidden role address (Some text) plain =
     let own : List Cell = linked_to address (text_cells role (norm (chars text))) in
-    let opened : HasNoFeed (text_cells role (opening_of hidden) ++ own) = All-append HoldsNoFeed (text_cells role (opening_of hidden)) own (cells_plain role (opening_of hidden) (opening_plain hidden)) (linked_plain address (text_cells role (norm (chars text))) (cells_plain role (norm (chars text)) (norm_plain (chars text) plain))) in
+    let opened : HasNoFeed (text_cells role (opening_of hidden) ++ own) =
+    All-append HoldsNoFeed (text_cells role (opening_of hidden)) own (cells_plain role (opening_of hidden) (opening_plain hidden))
+    (linked_plain address (text_cells role (norm (chars text))) (cells_plain role (norm (chars text)) (norm_plain (chars text) plain))) in
     All-append HoldsNoFeed (text_cells role (opening_of hidden) ++ own) (text_cells role (closing_of hidden)) opened (cells_plain role (closing_of hidden) (closing_plain hidden))
 
 id_plain : (hyperlink hidden : Bool) (role : ElementStyle) (id : Option Id) → HasPlainId id → HasNoFeed (id_cells hyperlink hidden role id)

@@ -99,7 +99,9 @@ labels_are (e ∷ es) [] long = absurd (omega (arith, long))
 labels_are (e ∷ es) (l ∷ ls) long =
     both (ends_here (seen_part e)) (labels_are es ls (omega (arith, long)))
   where
-    both : (b : Bool) → map (λ (x : ShownLabel). x.label) (shown_labels es ls) ≡ map label_of_part (filter ends_here (map seen_part es)) → map (λ (x : ShownLabel). x.label) (cond b (shown_at e l ∷ shown_labels es ls) (shown_labels es ls)) ≡ map label_of_part (cond b (seen_part e ∷ filter ends_here (map seen_part es)) (filter ends_here (map seen_part es)))
+    both : (b : Bool) → map (λ (x : ShownLabel). x.label) (shown_labels es ls) ≡ map label_of_part (filter ends_here (map seen_part es))
+        → map (λ (x : ShownLabel). x.label) (cond b (shown_at e l ∷ shown_labels es ls) (shown_labels es ls))
+        ≡ map label_of_part (cond b (seen_part e ∷ filter ends_here (map seen_part es)) (filter ends_here (map seen_part es)))
     both true rest = ap (λ xs. label_of_part (seen_part e) ∷ xs) rest
     both false rest = rest
 
@@ -181,13 +183,17 @@ module _ (dropped : ℕ) (frame : Frame) (layout : Layout) (code : layout.code �
       let entry = head_same l.entry (shifted dropped e) (map (λ (x : PlacedLabel). x.entry) ls) (map (shifted dropped) es) entries in
       let further = tail_same l.entry (shifted dropped e) (map (λ (x : PlacedLabel). x.entry) ls) (map (shifted dropped) es) entries in
       let one : is_in_label r c (shown_at e l) ≡ is_cell_of r c l = ap (λ (n : ℕ). l.row == r && (nat_le l.cell c && nat_lt c (l.cell + n))) (sym (ap length (text_is e l entry))) in
-      let none : (is_start_part e.annotation_type || is_bar e.annotation_type) ≡ true → is_cell_of r c l ≡ false = λ before. no_cell r c l.row l.cell (length (label_text l.entry)) (ap length (ap label_text entry ∙ All-head IsLabelledAtEnd (shifted dropped e) (map (shifted dropped) es) ends before)) in
+      let none : (is_start_part e.annotation_type || is_bar e.annotation_type) ≡ true → is_cell_of r c l ≡ false =
+      λ before. no_cell r c l.row l.cell (length (label_text l.entry))
+      (ap length (ap label_text entry ∙ All-head IsLabelledAtEnd (shifted dropped e) (map (shifted dropped) es) ends before)) in
       both (is_start_part e.annotation_type || is_bar e.annotation_type) one none (cells_all r c es ls further (All-tail IsLabelledAtEnd (shifted dropped e) (map (shifted dropped) es) ends))
     where
       no_cell : (r c row cell n : ℕ) → n ≡ 0 → (row == r && (nat_le cell c && nat_lt c (cell + n))) ≡ false
       no_cell r c row cell n is = grind (arith, nat_tests, is)
 
-      both : (b : Bool) → is_in_label r c (shown_at e l) ≡ is_cell_of r c l → (b ≡ true → is_cell_of r c l ≡ false) → count_by (is_cell_of r c) ls ≤ count_by (is_in_label r c) (shown_labels es ls) → count_by (is_cell_of r c) (l ∷ ls) ≤ count_by (is_in_label r c) (cond (not b) (shown_at e l ∷ shown_labels es ls) (shown_labels es ls))
+      both : (b : Bool) → is_in_label r c (shown_at e l) ≡ is_cell_of r c l → (b ≡ true → is_cell_of r c l ≡ false)
+          → count_by (is_cell_of r c) ls ≤ count_by (is_in_label r c) (shown_labels es ls)
+          → count_by (is_cell_of r c) (l ∷ ls) ≤ count_by (is_in_label r c) (cond (not b) (shown_at e l ∷ shown_labels es ls) (shown_labels es ls))
       both false one none rest =
           let f : ShownLabel → ℕ = λ x. cond (is_in_label r c x) 1 0 in
           let g : PlacedLabel → ℕ = λ x. cond (is_cell_of r c x) 1 0 in
@@ -210,7 +216,14 @@ one_end s k depth true e = both (e.end.line == s.first + k)
 one_end s k depth false e =
     let bars : List PartEntry = map (λ n. bar_part e depth (s.first + n)) (bar_lines s.text (e.start.line - s.first) (e.end.line - s.first)) in
     let rest : List PartEntry = bars ++ end_part e (MultilineEnd depth) ∷ [] in
-    ap (map label_of_part) (first (e.start.line == s.first + k) (filter on_line rest)) ∙ ap (λ ps. map label_of_part (filter ends_here ps)) (filter-append on_line bars (end_part e (MultilineEnd depth) ∷ [])) ∙ ap (map label_of_part) (filter-append ends_here (filter on_line bars) (filter on_line (end_part e (MultilineEnd depth) ∷ []))) ∙ ap (λ ps. map label_of_part (ps ++ filter ends_here (filter on_line (end_part e (MultilineEnd depth) ∷ [])))) (filter-none ends_here (filter on_line bars) (All-filter on_line (λ p. ends_here p ≡ false) bars (All-map (λ p. ends_here p ≡ false) (λ n. bar_part e depth (s.first + n)) (bar_lines s.text (e.start.line - s.first) (e.end.line - s.first)) (λ i d within. refl)))) ∙ both (e.end.line == s.first + k)
+    ap (map label_of_part) (first (e.start.line == s.first + k) (filter on_line rest))
+    ∙ ap (λ ps. map label_of_part (filter ends_here ps)) (filter-append on_line bars (end_part e (MultilineEnd depth) ∷ []))
+    ∙ ap (map label_of_part) (filter-append ends_here (filter on_line bars) (filter on_line (end_part e (MultilineEnd depth) ∷ [])))
+    ∙ ap (λ ps. map label_of_part (ps ++ filter ends_here (filter on_line (end_part e (MultilineEnd depth) ∷ []))))
+    (filter-none ends_here (filter on_line bars)
+    (All-filter on_line (λ p. ends_here p ≡ false)
+    bars (All-map (λ p. ends_here p ≡ false) (λ n. bar_part e depth (s.first + n))
+    (bar_lines s.text (e.start.line - s.first) (e.end.line - s.first)) (λ i d within. refl)))) ∙ both (e.end.line == s.first + k)
   where
     on_line : PartEntry → Bool
     on_line = λ (p : PartEntry). p.entry.start.line == s.first + k
@@ -223,7 +236,9 @@ one_end s k depth false e =
     both true = refl
     both false = refl
 
-long_ends : (s : Source) (k : ℕ) (places : List LongExtent) (before es : List Entry) → map label_of_part (filter ends_here (filter (λ (p : PartEntry). p.entry.start.line == s.first + k) (long_parts s places before es))) ≡ map label_of_end (filter (λ (e : Entry). e.end.line == s.first + k) (promoted_spans before es))
+long_ends : (s : Source) (k : ℕ) (places : List LongExtent) (before es : List Entry)
+    → map label_of_part (filter ends_here (filter (λ (p : PartEntry). p.entry.start.line == s.first + k) (long_parts s places before es)))
+    ≡ map label_of_end (filter (λ (e : Entry). e.end.line == s.first + k) (promoted_spans before es))
 long_ends s k places before [] = refl
 long_ends s k places before (e ∷ later) =
     let on_line : PartEntry → Bool = λ (p : PartEntry). p.entry.start.line == s.first + k in
@@ -231,7 +246,13 @@ long_ends s k places before (e ∷ later) =
     let others : List PartEntry = long_parts s places (before ++ e ∷ []) later in
     let ends : Entry → Bool = λ (x : Entry). x.end.line == s.first + k in
     let rest : List Entry = promoted_spans (before ++ e ∷ []) later in
-    ap (λ ps. map label_of_part (filter ends_here ps)) (filter-append on_line own others) ∙ ap (map label_of_part) (filter-append ends_here (filter on_line own) (filter on_line others)) ∙ map-append label_of_part (filter ends_here (filter on_line own)) (filter ends_here (filter on_line others)) ∙ ap (λ xs. xs ++ map label_of_part (filter ends_here (filter on_line others))) (one_end s k (depth_among places (long_place e)) (stands_among e later) (promoted before e)) ∙ ap (λ xs. map label_of_end (cond (ends (promoted before e)) (promoted before e ∷ []) []) ++ xs) (long_ends s k places (before ++ e ∷ []) later) ∙ both (ends (promoted before e)) (filter ends rest)
+    ap (λ ps. map label_of_part (filter ends_here ps)) (filter-append on_line own others)
+    ∙ ap (map label_of_part) (filter-append ends_here (filter on_line own) (filter on_line others))
+    ∙ map-append label_of_part (filter ends_here (filter on_line own)) (filter ends_here (filter on_line others))
+    ∙ ap (λ xs. xs ++ map label_of_part (filter ends_here (filter on_line others)))
+    (one_end s k (depth_among places (long_place e)) (stands_among e later) (promoted before e))
+    ∙ ap (λ xs. map label_of_end (cond (ends (promoted before e)) (promoted before e ∷ []) []) ++ xs)
+    (long_ends s k places (before ++ e ∷ []) later) ∙ both (ends (promoted before e)) (filter ends rest)
   where
     both : (b : Bool) (xs : List Entry) → map label_of_end (cond b (promoted before e ∷ []) []) ++ map label_of_end xs ≡ map label_of_end (cond b (promoted before e ∷ xs) xs)
     both true xs = refl
@@ -244,13 +265,18 @@ single_labels s k (a ∷ marked) own =
     let O : Annotation → Type 0 = λ x. is_marked_on s.text k x ≡ true in
     let single : is_single_line s.text a ≡ true = (and_parts (is_marking a.kind) (is_single_line s.text a) (and_parts (is_marking a.kind && is_single_line s.text a) (first_line s.text a == k) (All-head O a marked own)).0).1 in
     let rest = single_labels s k marked (All-tail O a marked own) in
-    let here : label_of_part (single_part s a) ≡ label_of_span s.text a = ap (λ n. record { text = shown_label a; kind = a.kind; from = n; to = (entry_of s a).end.display }) (start_of_entry s a) ∙ ap (λ n. record { text = shown_label a; kind = a.kind; from = start_column s.text a; to = n }) (end_of_entry s a single) in
+    let here : label_of_part (single_part s a) ≡ label_of_span s.text a =
+    ap (λ n. record { text = shown_label a; kind = a.kind; from = n; to = (entry_of s a).end.display }) (start_of_entry s a)
+    ∙ ap (λ n. record { text = shown_label a; kind = a.kind; from = start_column s.text a; to = n }) (end_of_entry s a single) in
     ap (λ x. x ∷ map label_of_part (filter ends_here (map (single_part s) marked))) here ∙ ap (λ xs. label_of_span s.text a ∷ xs) rest
 
 -- ---- the labels of a line
 
 -- the labels of the spans that end on line k stand below it, whatever other entries the line has
-pub labels_shown : (sn : Snippet Annotation) (k dropped : ℕ) (frame : Frame) (layout : Layout) (es : List LineAnnotation) (rows : List (List Cell)) → layout.code ≡ frame.code → map seen_part es ≡ parts_on (numbered_source sn) sn.markers.items k → All (λ e. is_bar e.annotation_type ≡ false → dropped ≤ e.start.display) es → LabelsStand layout (map (shifted dropped) es) rows → ShowsLabels layout.decor frame sn k dropped rows
+pub labels_shown : (sn : Snippet Annotation) (k dropped : ℕ) (frame : Frame) (layout : Layout) (es : List LineAnnotation) (rows : List (List Cell))
+    → layout.code ≡ frame.code → map seen_part es ≡ parts_on (numbered_source sn) sn.markers.items k
+    → All (λ e. is_bar e.annotation_type ≡ false → dropped ≤ e.start.display) es → LabelsStand layout (map (shifted dropped) es) rows
+    → ShowsLabels layout.decor frame sn k dropped rows
 labels_shown sn k dropped frame layout es rows code same clear stand =
     let s : Source = numbered_source sn in
     let marks : List Annotation = sn.markers.items in
@@ -262,7 +288,11 @@ labels_shown sn k dropped frame layout es rows code same clear stand =
     let long : length stand.labels ≡ length es = sym (length-map stand.labels (λ (l : PlacedLabel). l.entry)) ∙ ap length stand.are ∙ length-map es (shifted dropped) in
     record {
       labels = shown_labels es stand.labels;
-      spans = labels_are es stand.labels long ∙ ap (λ ps. map label_of_part (filter ends_here ps)) parts ∙ ap (map label_of_part) (filter-append ends_here singles longs) ∙ map-append label_of_part (filter ends_here singles) (filter ends_here longs) ∙ ap (λ xs. xs ++ map label_of_part (filter ends_here longs)) (single_labels s k marked (filter_passes (is_marked_on s.text k) marks)) ∙ ap (λ xs. map (label_of_span s.text) marked ++ xs) (long_ends s k (long_places s marks) [] (long_spans s marks));
+      spans = labels_are es stand.labels long ∙ ap (λ ps. map label_of_part (filter ends_here ps)) parts
+          ∙ ap (map label_of_part) (filter-append ends_here singles longs)
+          ∙ map-append label_of_part (filter ends_here singles) (filter ends_here longs)
+          ∙ ap (λ xs. xs ++ map label_of_part (filter ends_here longs)) (single_labels s k marked (filter_passes (is_marked_on s.text k) marks))
+          ∙ ap (λ xs. map (label_of_span s.text) marked ++ xs) (long_ends s k (long_places s marks) [] (long_spans s marks));
       stand = all_shown dropped frame layout code rows es stand.labels stand.are clear stand.stand;
       apart = λ r c. omega (arith, cells_few dropped frame layout code rows r c es stand.labels stand.are, stand.apart r c);
       others = λ r c right none.

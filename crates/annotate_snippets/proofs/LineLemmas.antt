@@ -51,7 +51,9 @@ use Rattle.annotate_snippets.proofs.PartsFacts.{stands_left, untouched, wide_on_
 use Rattle.annotate_snippets.proofs.WindowLemmas.{dropped-none}
 
 -- a row that is as a bare one left of the bars is a row below a line
-pub row_below : (decor : DecorStyle) (frame : Frame) (closes plain : Bool) (es : List LineAnnotation) (rows : List (List Cell)) (i : ℕ) → IsStrokeRow (record { gutter = frame.gutter; code = frame.code; decor = decor }) plain es (closes && i + 1 == length rows) (row_at rows i) → IsRowBelow decor frame (closes && i + 1 == length rows) (row_at rows i)
+pub row_below : (decor : DecorStyle) (frame : Frame) (closes plain : Bool) (es : List LineAnnotation) (rows : List (List Cell)) (i : ℕ)
+    → IsStrokeRow (record { gutter = frame.gutter; code = frame.code; decor = decor }) plain es (closes && i + 1 == length rows) (row_at rows i)
+    → IsRowBelow decor frame (closes && i + 1 == length rows) (row_at rows i)
 row_below decor frame closes plain es rows i is =
     record { left = is.left; bars = is.bar_cells }
 
@@ -74,7 +76,9 @@ wide-shifted dropped room width [] clear = refl
 wide-shifted dropped room width (e ∷ es) clear =
     let here = wide_shifted dropped room width e (All-head (λ (x : LineAnnotation). is_bar x.annotation_type ≡ false → dropped ≤ x.start.display) e es clear) in
     let rest = wide-shifted dropped room width es (All-tail (λ (x : LineAnnotation). is_bar x.annotation_type ≡ false → dropped ≤ x.start.display) e es clear) in
-    sum_by-cons (λ x. cond (is_wide_entry room width x) 1 0) (shifted dropped e) (map (shifted dropped) es) ∙ ap (λ b. cond b 1 0 + count_by (is_wide_entry room width) (map (shifted dropped) es)) here ∙ ap (λ n. cond (is_wide_entry room width e) 1 0 + n) rest ∙ sym (sum_by-cons (λ x. cond (is_wide_entry room width x) 1 0) e es)
+    sum_by-cons (λ x. cond (is_wide_entry room width x) 1 0) (shifted dropped e) (map (shifted dropped) es)
+    ∙ ap (λ b. cond b 1 0 + count_by (is_wide_entry room width) (map (shifted dropped) es)) here
+    ∙ ap (λ n. cond (is_wide_entry room width e) 1 0 + n) rest ∙ sym (sum_by-cons (λ x. cond (is_wide_entry room width x) 1 0) e es)
 
 -- a number that passes the test is at most the other
 le_of : (a b : ℕ) → nat_le a b ≡ true → a ≤ b
@@ -140,14 +144,20 @@ single_columns dropped es all clear = λ i d within.
     no_bar (MultilineEnd depth) is = refl
     no_bar (MultilineLine depth) is = cc
 
-module _ (r : Renderer) (frame : Frame) (s : Snippet Annotation) (spans : All (λ a. IsSpan (cow_str_bytes s.source) a.span.start a.span.end) s.markers.items) (margin : Margin) (room : margin.term_width ≡ room_of r frame) (bounds : bounds_of margin ≡ bounds_in r frame s) (ordered : (bounds_of margin).left ≤ (bounds_of margin).right) where
+module _ (r : Renderer) (frame : Frame) (s : Snippet Annotation)
+    (spans : All (λ a. IsSpan (cow_str_bytes s.source) a.span.start a.span.end) s.markers.items) (margin : Margin)
+    (room : margin.term_width ≡ room_of r frame) (bounds : bounds_of margin ≡ bounds_in r frame s)
+    (ordered : (bounds_of margin).left ≤ (bounds_of margin).right) where
   abbrev row_shows : Bool → List Bar → AnnotatedLineInfo → List (List Cell) → Type 0
   row_shows closes open_bars info rows = strokes.ShowsLine (layout_in r frame) margin (line_numbers r s.line_numbering) closes open_bars info rows
 
   abbrev placeholder_width : ℕ
   placeholder_width = length (placeholder_of r.decor_style)
 
-  module _ (closes : Bool) (open_bars : List Bar) (k : ℕ) (info : AnnotatedLineInfo) (rows : List (List Cell)) (within : k < length (source_lines (cow_str_bytes s.source))) (seen : seen_kept info ≡ kept_line (numbered_source s) s.markers.items k) (fits : length (shown_number (line_numbers r s.line_numbering) frame.gutter info.line_index) ≤ frame.gutter + 1) (shows : row_shows closes open_bars info rows) where
+  module _ (closes : Bool) (open_bars : List Bar) (k : ℕ) (info : AnnotatedLineInfo) (rows : List (List Cell))
+      (within : k < length (source_lines (cow_str_bytes s.source))) (seen : seen_kept info ≡ kept_line (numbered_source s) s.markers.items k)
+      (fits : length (shown_number (line_numbers r s.line_numbering) frame.gutter info.line_index) ≤ frame.gutter + 1)
+      (shows : row_shows closes open_bars info rows) where
     abbrev text : List ℕ
     text = norm (chars_at (cow_str_bytes s.source) k)
 
@@ -184,7 +194,12 @@ module _ (r : Renderer) (frame : Frame) (s : Snippet Annotation) (spans : All (�
     -- the text of the line before it is cut where spans are wide
     window_text : row_text (drop frame.code shows.highlighted) ≡ window (placeholder_of r.decor_style) (room_of r frame) (bounds_in r frame s).left (bounds_in r frame s).right text
     window_text =
-        sym (drop-map (λ (cell : Cell). cell.ch) frame.code shows.highlighted) ∙ ap (drop frame.code) (highlighted_text frame.code shows.dropped _ shows.plain shows.highlighted shows.highlights) ∙ drop-map (λ (cell : Cell). cell.ch) frame.code shows.plain ∙ shows.text ∙ ap (λ n. window (placeholder_of r.decor_style) n (bounds_of margin).left (bounds_of margin).right (norm (chars info.line.now))) room ∙ ap (λ (b : Bounds). window (placeholder_of r.decor_style) (room_of r frame) b.left b.right (norm (chars info.line.now))) bounds ∙ ap (λ cs. window (placeholder_of r.decor_style) (room_of r frame) (bounds_in r frame s).left (bounds_in r frame s).right cs) line_text
+        sym (drop-map (λ (cell : Cell). cell.ch) frame.code shows.highlighted)
+        ∙ ap (drop frame.code) (highlighted_text frame.code shows.dropped _ shows.plain shows.highlighted shows.highlights)
+        ∙ drop-map (λ (cell : Cell). cell.ch) frame.code shows.plain ∙ shows.text
+        ∙ ap (λ n. window (placeholder_of r.decor_style) n (bounds_of margin).left (bounds_of margin).right (norm (chars info.line.now))) room
+        ∙ ap (λ (b : Bounds). window (placeholder_of r.decor_style) (room_of r frame) b.left b.right (norm (chars info.line.now))) bounds
+        ∙ ap (λ cs. window (placeholder_of r.decor_style) (room_of r frame) (bounds_in r frame s).left (bounds_in r frame s).right cs) line_text
 
     dropped_here : shows.dropped ≡ width_of (dropped_part (bounds_in r frame s).left text)
     dropped_here =
@@ -201,8 +216,14 @@ module _ (r : Renderer) (frame : Frame) (s : Snippet Annotation) (spans : All (�
         let at_left : (bounds_of margin).left ≡ 0 = ap (λ (b : Bounds). b.left) bounds ∙ left in
         let uncut : drop frame.code shows.source ≡ drop frame.code shows.highlighted = shows.beside.uncut (wide_is ∙ none) in
         let narrow_text : width_of (norm (chars info.line.now)) ≤ margin.term_width = omega (arith, room, own_fits, ap width_of line_text, width_of-norm (chars_at (cow_str_bytes s.source) k)) in
-        let all : row_text (drop frame.code shows.plain) ≡ text = ap row_text (shows.whole at_left narrow_text) ∙ row_text-text_cells Quotation (norm (chars info.line.now)) ∙ line_text in
-        (dropped_here ∙ ap (λ n. width_of (dropped_part n text)) left ∙ dropped-none text, ap row_text uncut ∙ sym (drop-map (λ (cell : Cell). cell.ch) frame.code shows.highlighted) ∙ ap (drop frame.code) (highlighted_text frame.code shows.dropped _ shows.plain shows.highlighted shows.highlights) ∙ drop-map (λ (cell : Cell). cell.ch) frame.code shows.plain ∙ all)
+        let all : row_text (drop frame.code shows.plain) ≡ text = ap row_text (shows.whole at_left narrow_text) ∙ row_text-text_cells Quotation (norm (chars info.line.now)) ∙ line_text in (
+          dropped_here ∙ ap (λ n. width_of
+              (dropped_part n text)) left ∙ dropped-none text,
+          ap row_text uncut
+              ∙ sym (drop-map (λ (cell : Cell). cell.ch) frame.code shows.highlighted)
+              ∙ ap (drop frame.code) (highlighted_text frame.code shows.dropped _ shows.plain shows.highlighted shows.highlights)
+              ∙ drop-map (λ (cell : Cell). cell.ch) frame.code shows.plain ∙ all,
+        )
 
     -- the source row shows its line
     pub source_line : frame.gutter + 3 ≤ frame.code → ShowsSourceLine r frame s k shows.dropped shows.source
@@ -218,7 +239,12 @@ module _ (r : Renderer) (frame : Frame) (s : Snippet Annotation) (spans : All (�
           window = record {
             ordered = omega (arith, ordered, ap (λ (b : Bounds). b.left) bounds, ap (λ (b : Bounds). b.right) bounds);
             dropped_is = dropped_here;
-            shown_is = subst (λ n. AreReplaced (placeholder_of r.decor_style) n (window (placeholder_of r.decor_style) (room_of r frame) (bounds_in r frame s).left (bounds_in r frame s).right text) (row_text (drop frame.code shows.source))) wide_is (subst (λ before. AreReplaced (placeholder_of r.decor_style) (wide_entries margin.term_width r.decor_style (map (shifted shows.dropped) es)) before (row_text (drop frame.code shows.source))) window_text shows.beside.text);
+            shown_is = subst (λ n. AreReplaced (placeholder_of r.decor_style)
+                n (window (placeholder_of r.decor_style) (room_of r frame) (bounds_in r frame s).left (bounds_in r frame s).right text)
+                (row_text (drop frame.code shows.source)))
+                wide_is (subst (λ before. AreReplaced (placeholder_of r.decor_style)
+                (wide_entries margin.term_width r.decor_style (map (shifted shows.dropped) es)) before (row_text (drop frame.code shows.source)))
+                window_text shows.beside.text);
           };
           whole = whole_text;
         }
@@ -235,7 +261,11 @@ module _ (r : Renderer) (frame : Frame) (s : Snippet Annotation) (spans : All (�
       abbrev moved : List LineAnnotation
       moved = map (shifted shows.dropped) es
 
-      qualified_parts : (list_any (is_marked_on (cow_str_bytes s.source) k) s.markers.items ≡ true) × (list_all (λ a. not (is_marked_on (cow_str_bytes s.source) k a && is_wide (room_of r frame) placeholder_width (cow_str_bytes s.source) a)) s.markers.items ≡ true) × (list_all (λ a. not (is_marking a.kind && touches (cow_str_bytes s.source) a k && not (is_single_line (cow_str_bytes s.source) a))) s.markers.items ≡ true)
+      qualified_parts : (list_any (is_marked_on (cow_str_bytes s.source) k) s.markers.items ≡ true)
+          × (list_all (λ a. not (is_marked_on (cow_str_bytes s.source) k a && is_wide (room_of r frame) placeholder_width (cow_str_bytes s.source) a))
+          s.markers.items ≡ true) × (list_all
+          (λ a. not (is_marking a.kind && touches (cow_str_bytes s.source) a k && not (is_single_line (cow_str_bytes s.source) a)))
+          s.markers.items ≡ true)
       qualified_parts =
           let outer = and_parts _ _ qualifies in
           let inner = and_parts _ _ outer.0 in
@@ -287,13 +317,25 @@ module _ (r : Renderer) (frame : Frame) (s : Snippet Annotation) (spans : All (�
                 let right : d ≤ p = omega (arith, All-contains (λ (e : LineAnnotation). d ≤ e.start.display) es own.entry clear own.among, own.covers.0) in
                 subst (λ c. IsMarkCell r.decor_style kind (get_or row c SPACE)) (omega (arith, right)) (marks_are.marks (p - d) kind (shifted_mark d es clear p kind own));
             unmarked = λ p right none. subst (λ c. has_mark_role (get_or row c SPACE) ≡ false) (omega (arith, right)) (marks_are.unmarked (p - d) (shifted_unmarked d es clear p right (unmarked_by_entries (numbered_source s) s.markers.items k es same p none)));
-            before = λ p right left. subst (λ c. get_or row c SPACE ≡ SPACE) (omega (arith, right)) (strokes_row.before plain (frame.code + (p - d)) (frame.code + (p - d) + 1) (omega arith) (omega arith) (shifted_after d es clear frame.code p right (entries_after (numbered_source s) s.markers.items k es same frame.code p left)));
-            spaces = λ unlabelled p right none. subst (λ c. get_or row c SPACE ≡ SPACE) (omega (arith, right)) (marks_are.spaces (All-map (λ (e : LineAnnotation). label_text e ≡ []) (shifted d) es (unlabelled_entries (numbered_source s) s.markers.items k es same unlabelled)) (p - d) (shifted_unmarked d es clear p right (unmarked_by_entries (numbered_source s) s.markers.items k es same p none)));
+            before = λ p right left. subst (λ c. get_or row c SPACE ≡ SPACE) (omega (arith, right))
+                (strokes_row.before plain (frame.code + (p - d)) (frame.code + (p - d) + 1) (omega arith) (omega arith)
+                (shifted_after d es clear frame.code p right (entries_after (numbered_source s) s.markers.items k es same frame.code p left)));
+            spaces = λ unlabelled p right none. subst (λ c. get_or row c SPACE ≡ SPACE) (omega (arith, right))
+                (marks_are.spaces (All-map (λ (e : LineAnnotation). label_text e ≡ []) (shifted d) es (unlabelled_entries (numbered_source s)
+                s.markers.items k es same unlabelled)) (p - d)
+                (shifted_unmarked d es clear p right (unmarked_by_entries (numbered_source s) s.markers.items k es same p none)));
             lone = λ a alone label.
                 let own = lone_entry (numbered_source s) s.markers.items k es same a alone in
                 let e : LineAnnotation = own.0 in
                 let is : IsEntryOf (numbered_source s) k a e = own.2 in
                 let right : d ≤ e.start.display = All-head (λ (x : LineAnnotation). d ≤ x.start.display) e [] (subst (All (λ (x : LineAnnotation). d ≤ x.start.display)) own.1 clear) in
                 let after = marks_are.lone (shifted d e) (ap (map (shifted d)) own.1) (omega (arith, is.start, is.end, right)) (omega (arith, label, ap length is.label)) in
-                subst (λ c. row_text (drop c row) ≡ 32 ∷ shown_label a) (let at : frame.code + (e.end.display - d) ≡ frame.code + end_column (cow_str_bytes s.source) a - d = omega (arith, is.end, is.start, right) in at) (ap row_text after ∙ ap (λ cs. 32 ∷ cs) (row_text-text_cells (label_role e.kind) (label_text e) ∙ is.label));
+                subst (λ c. row_text (drop c row) ≡ 32 ∷ shown_label a)
+                (let at : frame.code + (e.end.display - d) ≡ frame.code + end_column (cow_str_bytes s.source) a - d = omega (
+                  arith,
+                  is.end,
+                  is.start,
+                  right,
+                ) in at) (ap row_text after
+                ∙ ap (λ cs. 32 ∷ cs) (row_text-text_cells (label_role e.kind) (label_text e) ∙ is.label));
           }

@@ -116,7 +116,12 @@ module _ (s : Source) (marks : List Annotation) (k : ℕ) (es : List LineAnnotat
             let theirs = span_of_entry other in_es in
             let b : Annotation = theirs.0 in
             let isb : IsEntryOf s k b other = theirs.2 in
-            let narrow : span_width s.text mark.span < span_width s.text b = mark.primary_wins (context_of kind (ap is_marking (sym mark.is) ∙ (and_parts (is_marking mark.span.kind) (is_single_line s.text mark.span) (and_parts (is_marking mark.span.kind && is_single_line s.text mark.span) (first_line s.text mark.span == k) mark.covers.0).0).0) unprimary) b theirs.1 (isb.marked, (omega (arith, isb.start, covers.0), omega (arith, isb.end, covers.1))) (sym isb.kind ∙ primary) in
+            let narrow : span_width s.text mark.span < span_width s.text b =
+            mark.primary_wins (context_of kind
+            (ap is_marking (sym mark.is)
+            ∙ (and_parts (is_marking mark.span.kind) (is_single_line s.text mark.span)
+            (and_parts (is_marking mark.span.kind && is_single_line s.text mark.span) (first_line s.text mark.span == k) mark.covers.0).0).0)
+            unprimary) b theirs.1 (isb.marked, (omega (arith, isb.start, covers.0), omega (arith, isb.end, covers.1))) (sym isb.kind ∙ primary) in
             omega (arith, is.start, is.end, isb.start, isb.end, narrow);
       }
     where

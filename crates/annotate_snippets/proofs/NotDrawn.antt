@@ -46,7 +46,9 @@ row_doubled r frame closes s open_bars k rows line lone many =
 -- bar's kind, be it of the other kind or a space:
 --
 --     2 ┃ b         where the span is for context
-pub bar_of_other_kind : (r : Renderer) (frame : Frame) (closes : Bool) (s : Snippet Annotation) (bar : Bar) (k : ℕ) (rows : List (List Cell)) → IsLineDrawn r frame closes s (bar ∷ []) k rows → bars_on s k ≡ [] → (i : ℕ) → i < length rows → ((cell_at rows i (frame.gutter + 2 + bar.depth)).role ≡ underline_role bar.primary → ⊥) → ⊥
+pub bar_of_other_kind : (r : Renderer) (frame : Frame) (closes : Bool) (s : Snippet Annotation) (bar : Bar) (k : ℕ) (rows : List (List Cell))
+    → IsLineDrawn r frame closes s (bar ∷ []) k rows → bars_on s k ≡ [] → (i : ℕ) → i < length rows
+    → ((cell_at rows i (frame.gutter + 2 + bar.depth)).role ≡ underline_role bar.primary → ⊥) → ⊥
 bar_of_other_kind r frame closes s bar k rows line none i within other =
     let ends = bars_seen s k line.entries line.are ∙ none in
     other (ap (λ (cell : Cell). cell.role) (bar_beside (layout_in r frame) line.margin.term_width closes line.text line.dropped line.highlighted rows bar line.entries line.drawn ends i within))

@@ -41,7 +41,9 @@ begins frame dropped rows l some shows =
 --
 --     1 | ab cd
 --       | ^^ --
-pub label_left_out : (decor : DecorStyle) (frame : Frame) (s : Snippet Annotation) (k dropped : ℕ) (rows : List (List Cell)) → ShowsLabels decor frame s k dropped rows → (a : SpanLabel) → Contains (labels_ending_on s k) a → 0 < length a.text → ((r c : ℕ) → is_label_role (cell_at rows r c).role ≡ false) → ⊥
+pub label_left_out : (decor : DecorStyle) (frame : Frame) (s : Snippet Annotation) (k dropped : ℕ) (rows : List (List Cell))
+    → ShowsLabels decor frame s k dropped rows → (a : SpanLabel) → Contains (labels_ending_on s k) a → 0 < length a.text
+    → ((r c : ℕ) → is_label_role (cell_at rows r c).role ≡ false) → ⊥
 label_left_out decor frame s k dropped rows shows a among some none =
     let P : ShownLabel → Type 0 = λ l. 0 < length l.label.text → ShowsLabel frame dropped rows l in
     let found = from_map (λ (l : ShownLabel). l.label) shows.labels a (subst (λ spans. Contains spans a) (sym shows.spans) among) in
@@ -58,7 +60,9 @@ Stands frame dropped rows l = 0 < length l.label.text → ShowsLabel frame dropp
 --
 --     1 | ab cd
 --       | ^^ -- x
-pub label_over_another : (decor : DecorStyle) (frame : Frame) (s : Snippet Annotation) (k dropped : ℕ) (rows : List (List Cell)) → ShowsLabels decor frame s k dropped rows → (a b : SpanLabel) → labels_ending_on s k ≡ a ∷ b ∷ [] → 0 < length a.text → 0 < length b.text → (row cell : ℕ) → ((r c : ℕ) → is_label_role (cell_at rows r c).role ≡ true → (r ≡ row) × (c ≡ cell)) → ⊥
+pub label_over_another : (decor : DecorStyle) (frame : Frame) (s : Snippet Annotation) (k dropped : ℕ) (rows : List (List Cell))
+    → ShowsLabels decor frame s k dropped rows → (a b : SpanLabel) → labels_ending_on s k ≡ a ∷ b ∷ [] → 0 < length a.text → 0 < length b.text
+    → (row cell : ℕ) → ((r c : ℕ) → is_label_role (cell_at rows r c).role ≡ true → (r ≡ row) × (c ≡ cell)) → ⊥
 label_over_another decor frame s k dropped rows shows a b spans some_a some_b row cell alone =
     over shows.labels (shows.spans ∙ spans) shows.stand (shows.apart row cell)
   where

@@ -112,7 +112,9 @@ named_first s is Other cells same shows =
     cc
 
 -- a row after others is what its name says, if all are, and so are those after it
-row_named : (s : Snippet Patch) (before : List NamedRow) (row : NamedRow) (after : List NamedRow) → All (λ r. IsSuggestionRow plain_settings 1 s r.name r.cells) (before ++ (row ∷ after)) → IsSuggestionRow plain_settings 1 s row.name row.cells × All (λ r. IsSuggestionRow plain_settings 1 s r.name r.cells) after
+row_named : (s : Snippet Patch) (before : List NamedRow) (row : NamedRow) (after : List NamedRow)
+    → All (λ r. IsSuggestionRow plain_settings 1 s r.name r.cells) (before ++ (row ∷ after))
+    → IsSuggestionRow plain_settings 1 s row.name row.cells × All (λ r. IsSuggestionRow plain_settings 1 s r.name r.cells) after
 row_named s [] row after named =
     (All-head (λ r. IsSuggestionRow plain_settings 1 s r.name r.cells) row after named, All-tail (λ r. IsSuggestionRow plain_settings 1 s r.name r.cells) row after named)
 row_named s (first ∷ before) row after named =
@@ -136,7 +138,9 @@ old_row_named s is Other cells same shows =
 --
 --     1 - ab
 --     1 + ab
-old_lines_repeated : (s : Snippet Patch) → IsSnippetOf s (codes "ab") one_edit → (frame : Frame) → frame.gutter ≡ 1 → (around : ElementContext) (row : NamedRow) (before after : List NamedRow) → row.cells ≡ offering_row (codes "ab") → ShowsSuggestion plain_settings frame around s (others (suggestion_head plain_settings frame around s) ++ (before ++ (row ∷ after))) → ⊥
+old_lines_repeated : (s : Snippet Patch) → IsSnippetOf s (codes "ab") one_edit → (frame : Frame) → frame.gutter ≡ 1
+    → (around : ElementContext) (row : NamedRow) (before after : List NamedRow) → row.cells ≡ offering_row (codes "ab")
+    → ShowsSuggestion plain_settings frame around s (others (suggestion_head plain_settings frame around s) ++ (before ++ (row ∷ after))) → ⊥
 old_lines_repeated s is frame narrow around row before after row_is shown =
     let rows : List NamedRow = before ++ (row ∷ after) in
     let same : shown.after ≡ rows = append_cancel_left (others (suggestion_head plain_settings frame around s)) shown.after rows (sym shown.rows_are) in
@@ -147,7 +151,11 @@ old_lines_repeated s is frame narrow around row before after row_is shown =
 --
 --     1 + ac
 --     1 + ac
-second_copy_offered : (s : Snippet Patch) → IsSnippetOf s (codes "ab") one_edit → (frame : Frame) → frame.gutter ≡ 1 → (around : ElementContext) (row copy : NamedRow) (before between after : List NamedRow) → row.cells ≡ offering_row (codes "ac") → copy.cells ≡ offering_row (codes "ac") → ShowsSuggestion plain_settings frame around s (others (suggestion_head plain_settings frame around s) ++ (before ++ (row ∷ (between ++ (copy ∷ after))))) → ⊥
+second_copy_offered : (s : Snippet Patch) → IsSnippetOf s (codes "ab") one_edit → (frame : Frame) → frame.gutter ≡ 1
+    → (around : ElementContext) (row copy : NamedRow) (before between after : List NamedRow) → row.cells ≡ offering_row (codes "ac")
+    → copy.cells ≡ offering_row (codes "ac")
+    → ShowsSuggestion plain_settings frame around s
+    (others (suggestion_head plain_settings frame around s) ++ (before ++ (row ∷ (between ++ (copy ∷ after))))) → ⊥
 second_copy_offered s is frame narrow around row copy before between after row_is copy_is shown =
     let rows : List NamedRow = before ++ (row ∷ (between ++ (copy ∷ after))) in
     let same : shown.after ≡ rows = append_cancel_left (others (suggestion_head plain_settings frame around s)) shown.after rows (sym shown.rows_are) in
@@ -182,7 +190,10 @@ offerable : (s : Snippet Patch) → IsSnippetOf s two_lines two_edits → IsOffe
 offerable s is =
     record {
       no_cr = subst HasNoCr (sym is.source_is) (no_cr two_lines refl);
-      no_cr_in = subst (All (λ (e : Edit). HasNoCr e.text)) (sym is.edits_are) (All-cons (λ (e : Edit). HasNoCr e.text) (replaced 0 1 (codes "x")) (replaced 2 3 (codes "y") ∷ []) (no_cr (codes "x") refl) (All-cons (λ (e : Edit). HasNoCr e.text) (replaced 2 3 (codes "y")) [] (no_cr (codes "y") refl) (All-nil (λ (e : Edit). HasNoCr e.text))));
+      no_cr_in = subst (All (λ (e : Edit). HasNoCr e.text)) (sym is.edits_are)
+          (All-cons (λ (e : Edit). HasNoCr e.text) (replaced 0 1 (codes "x")) (replaced 2 3 (codes "y") ∷ []) (no_cr (codes "x")
+          refl) (All-cons (λ (e : Edit). HasNoCr e.text) (replaced 2 3 (codes "y")) [] (no_cr (codes "y") refl)
+          (All-nil (λ (e : Edit). HasNoCr e.text))));
       before = λ k d inside final. let other : ◌≡◌ {A = ℕ} 98 10 = subst (λ text. last_byte text ≡ 10) is.source_is final in absurd (omega (arith, other));
     }
 
@@ -219,7 +230,9 @@ touched_left_out : (s : Snippet Patch) → IsSnippetOf s two_lines two_edits →
 touched_left_out s is frame around rows out shown =
     let same : shown.after ≡ rows = append_cancel_left (others (suggestion_head plain_settings frame around s)) shown.after rows (sym shown.rows_are) in
     let touched : IsTouched (cow_str_bytes s.source) (edits_of s) 1 = subst (λ text. IsTouched text (edits_of s) 1) (sym is.source_is) (subst (λ es. IsTouched two_lines es 1) (sym is.edits_are) second_touched) in
-    let visible : is_blank (text_at (source_lines (patched (cow_str_bytes s.source) (edits_of s))) 1) ≡ false = ap (λ text. is_blank (text_at (source_lines (patched text (edits_of s))) 1)) is.source_is ∙ ap (λ es. is_blank (text_at (source_lines (patched two_lines es)) 1)) is.edits_are ∙ second_visible in
+    let visible : is_blank (text_at (source_lines (patched (cow_str_bytes s.source) (edits_of s))) 1) ≡ false =
+    ap (λ text. is_blank (text_at (source_lines (patched text (edits_of s))) 1)) is.source_is
+    ∙ ap (λ es. is_blank (text_at (source_lines (patched two_lines es)) 1)) is.edits_are ∙ second_visible in
     elim (shown.offered (offerable s is) 1 touched visible) [ inl as_it_was ↦ changed as_it_was | inr among ↦ out (subst (λ all. Contains (lines_offered all) 1) same among) ]
   where
     changed : IsAsItWas s → ⊥
@@ -240,7 +253,9 @@ deleted_offerable : (s : Snippet Patch) → IsSnippetOf s lines_of_three put_in_
 deleted_offerable s is =
     record {
       no_cr = subst HasNoCr (sym is.source_is) (no_cr lines_of_three refl);
-      no_cr_in = subst (All (λ (e : Edit). HasNoCr e.text)) (sym is.edits_are) (All-cons (λ (e : Edit). HasNoCr e.text) (replaced 0 0 (codes "x")) (replaced 2 3 [] ∷ []) (no_cr (codes "x") refl) (All-cons (λ (e : Edit). HasNoCr e.text) (replaced 2 3 []) [] (no_cr [] refl) (All-nil (λ (e : Edit). HasNoCr e.text))));
+      no_cr_in = subst (All (λ (e : Edit). HasNoCr e.text)) (sym is.edits_are)
+          (All-cons (λ (e : Edit). HasNoCr e.text) (replaced 0 0 (codes "x")) (replaced 2 3 [] ∷ []) (no_cr (codes "x")
+          refl) (All-cons (λ (e : Edit). HasNoCr e.text) (replaced 2 3 []) [] (no_cr [] refl) (All-nil (λ (e : Edit). HasNoCr e.text))));
       before = λ k d inside final. let other : ◌≡◌ {A = ℕ} 99 10 = subst (λ text. last_byte text ≡ 10) is.source_is final in absurd (omega (arith, other));
     }
 
@@ -271,11 +286,15 @@ rest_spliced false = refl
 -- so no rows show it that don't offer its second line, as where the text is cut off after the line feed with which it ends so far:
 --
 --     1 ~ xa
-line_lost : (s : Snippet Patch) → IsSnippetOf s lines_of_three put_in_and_deleted → (frame : Frame) (around : ElementContext) (rows : List NamedRow) → (Contains (lines_offered rows) 1 → ⊥) → ShowsSuggestion plain_settings frame around s (others (suggestion_head plain_settings frame around s) ++ rows) → ⊥
+line_lost : (s : Snippet Patch) → IsSnippetOf s lines_of_three put_in_and_deleted → (frame : Frame) (around : ElementContext) (rows : List NamedRow)
+    → (Contains (lines_offered rows) 1 → ⊥) → ShowsSuggestion plain_settings frame around s
+    (others (suggestion_head plain_settings frame around s) ++ rows) → ⊥
 line_lost s is frame around rows out shown =
     let same : shown.after ≡ rows = append_cancel_left (others (suggestion_head plain_settings frame around s)) shown.after rows (sym shown.rows_are) in
     let touched : IsTouched (cow_str_bytes s.source) (edits_of s) 1 = subst (λ text. IsTouched text (edits_of s) 1) (sym is.source_is) (subst (λ es. IsTouched lines_of_three es 1) (sym is.edits_are) rest_touched) in
-    let visible : is_blank (text_at (source_lines (patched (cow_str_bytes s.source) (edits_of s))) 1) ≡ false = ap (λ text. is_blank (text_at (source_lines (patched text (edits_of s))) 1)) is.source_is ∙ ap (λ es. is_blank (text_at (source_lines (patched lines_of_three es)) 1)) is.edits_are ∙ rest_visible in
+    let visible : is_blank (text_at (source_lines (patched (cow_str_bytes s.source) (edits_of s))) 1) ≡ false =
+    ap (λ text. is_blank (text_at (source_lines (patched text (edits_of s))) 1)) is.source_is
+    ∙ ap (λ es. is_blank (text_at (source_lines (patched lines_of_three es)) 1)) is.edits_are ∙ rest_visible in
     elim (shown.offered (deleted_offerable s is) 1 touched visible) [ inl as_it_was ↦ changed as_it_was | inr among ↦ out (subst (λ all. Contains (lines_offered all) 1) same among) ]
   where
     changed : IsAsItWas s → ⊥
@@ -361,7 +380,9 @@ module _ (v : Vec Patch Global) (frame : Frame) (narrow : frame.gutter ≡ 1) (a
   --     2 - foo
   --     1 + bar
   --       |
-  removed_number_wrong : (first row : NamedRow) (rest : List NamedRow) → row.cells ≡ text_cells LineNumber (codes "2") ++ SPACE ∷ text_cells Removal (codes "- ") ++ text_cells Quotation (codes "foo") → ShowsSuggestion plain_settings frame around foo (others (suggestion_head plain_settings frame around foo) ++ (first ∷ row ∷ rest)) → ⊥
+  removed_number_wrong : (first row : NamedRow) (rest : List NamedRow)
+      → row.cells ≡ text_cells LineNumber (codes "2") ++ SPACE ∷ text_cells Removal (codes "- ") ++ text_cells Quotation (codes "foo")
+      → ShowsSuggestion plain_settings frame around foo (others (suggestion_head plain_settings frame around foo) ++ (first ∷ row ∷ rest)) → ⊥
   removed_number_wrong first row rest is shown =
       let one : number_text plain_settings true 1 1 ≡ codes "1" = ap (set_right 1) (decimal_digit 1 (omega arith)) in
       let number : number_text plain_settings true 1 (removed_number foo 0) ≡ codes "1" = ap (number_text plain_settings true 1) (foo_number v) ∙ one in

@@ -176,7 +176,10 @@ module _ {s : Snippet Annotation} {source : List ℕ} {marks : List Annotation} 
   -- after the mark of a lone span stands its label
   label_after : (a : Annotation) → filter (is_marked_on source 0) marks ≡ a ∷ [] → 0 < length (shown_label a) → row_text (drop (cell_of frame 0 (end_column source a)) row) ≡ 32 ∷ shown_label a
   label_after a alone some =
-      subst (λ text. row_text (drop (cell_of frame 0 (end_column text a)) row) ≡ 32 ∷ shown_label a) is.source_is (shown.lone a (subst (λ text. filter (is_marked_on text 0) s.markers.items ≡ a ∷ []) (sym is.source_is) (subst (λ spans. filter (is_marked_on source 0) spans ≡ a ∷ []) (sym is.marks_are) alone)) some)
+      subst (λ text. row_text (drop (cell_of frame 0 (end_column text a)) row) ≡ 32 ∷ shown_label a)
+      is.source_is (shown.lone a
+      (subst (λ text. filter (is_marked_on text 0) s.markers.items ≡ a ∷ []) (sym is.source_is)
+      (subst (λ spans. filter (is_marked_on source 0) spans ≡ a ∷ []) (sym is.marks_are) alone)) some)
 
 -- ---- numbers that ascend
 
@@ -252,7 +255,11 @@ second_copy k row copy before between after closes row_is copy_is =
 
 -- so no rows in which it stands twice show the snippet, wherever that stands: neither after those that it begins with nor
 -- before those below its lines
-second_copy_on_page : (s : Snippet Annotation) → cow_str_bytes s.source ≡ codes "a" → (around : ElementContext) (row copy : NamedRow) (before between after : List NamedRow) → row.cells ≡ source_row (codes "a") → copy.cells ≡ source_row (codes "a") → ShowsSnippet plain_settings frame around s (others (cause_head plain_settings frame around s) ++ ((before ++ (row ∷ (between ++ (copy ∷ after)))) ++ others (rows_after_cause plain_settings frame around))) → ⊥
+second_copy_on_page : (s : Snippet Annotation) → cow_str_bytes s.source ≡ codes "a"
+    → (around : ElementContext) (row copy : NamedRow) (before between after : List NamedRow) → row.cells ≡ source_row (codes "a")
+    → copy.cells ≡ source_row (codes "a") → ShowsSnippet plain_settings frame around s
+    (others (cause_head plain_settings frame around s)
+    ++ ((before ++ (row ∷ (between ++ (copy ∷ after)))) ++ others (rows_after_cause plain_settings frame around))) → ⊥
 second_copy_on_page s is around row copy before between after row_is copy_is shown =
     let rows : List NamedRow = before ++ (row ∷ (between ++ (copy ∷ after))) in
     let tail : List NamedRow = others (rows_after_cause plain_settings frame around) in
@@ -353,7 +360,10 @@ label_elsewhere label label_is =
     let span : Annotation = labelled_span label Primary 0 1 in
     let text : shown_label span ≡ codes "x" = ap normalized_chars label_is in
     let some : 0 < length (shown_label span) = omega (arith, ap length text) in
-    other_marks (codes "ab") (span ∷ []) (text_cells UnderlinePrimary (codes "^") ++ SPACE ∷ SPACE ∷ text_cells LabelPrimary (codes "x")) (record { folded = refl; unfolded = refl; qualified = refl }) (λ s is shown. let after : 32 ∷ 32 ∷ codes "x" ≡ 32 ∷ shown_label span = label_after is shown span refl some in absurd (omega (arith, ap length after, ap length text)))
+    other_marks (codes "ab") (span ∷ []) (text_cells UnderlinePrimary (codes "^") ++ SPACE ∷ SPACE ∷ text_cells LabelPrimary (codes "x"))
+    (record { folded = refl; unfolded = refl; qualified = refl })
+    (λ s is shown. let after : 32 ∷ 32 ∷ codes "x" ≡ 32 ∷ shown_label span = label_after is shown span refl some in
+    absurd (omega (arith, ap length after, ap length text)))
 
 -- a label that is drawn as it is given, here U+001B, which is shown as U+241B:
 --
@@ -365,7 +375,10 @@ label_raw label label_is =
     let span : Annotation = labelled_span label Primary 0 1 in
     let text : shown_label span ≡ 0x241B ∷ [] = ap normalized_chars label_is in
     let some : 0 < length (shown_label span) = omega (arith, ap length text) in
-    other_marks (codes "ab") (span ∷ []) (text_cells UnderlinePrimary (codes "^") ++ SPACE ∷ text_cells LabelPrimary (27 ∷ [])) (record { folded = refl; unfolded = refl; qualified = refl }) (λ s is shown. let after : 32 ∷ 27 ∷ [] ≡ 32 ∷ shown_label span = label_after is shown span refl some in let letter : ◌≡◌ {A = ℕ} 27 0x241B = ap (λ (cs : List ℕ). slice_index_or cs 1 0) after ∙ ap (λ (cs : List ℕ). slice_index_or cs 0 0) text in absurd (omega (arith, letter)))
+    other_marks (codes "ab") (span ∷ []) (text_cells UnderlinePrimary (codes "^") ++ SPACE ∷ text_cells LabelPrimary (27 ∷ []))
+    (record { folded = refl; unfolded = refl; qualified = refl })
+    (λ s is shown. let after : 32 ∷ 27 ∷ [] ≡ 32 ∷ shown_label span = label_after is shown span refl some in let letter : ◌≡◌ {A = ℕ} 27 0x241B =
+    ap (λ (cs : List ℕ). slice_index_or cs 1 0) after ∙ ap (λ (cs : List ℕ). slice_index_or cs 0 0) text in absurd (omega (arith, letter)))
 
 -- a mark that stays where it would stand in the whole line, here of the third column of `abcd`, where two columns of the line are
 -- dropped:
@@ -437,7 +450,10 @@ first_alone = refl
 --     1 | a
 --       | ^
 --     2 | b
-fold_ignored : (s : Snippet Annotation) → IsSnippetOf s two_lines (span_of Primary 0 1 ∷ []) → s.fold ≡ true → (around : ElementContext) (row : NamedRow) (before after : List NamedRow) → row.cells ≡ row_of_second → ShowsSnippet plain_settings frame around s (others (cause_head plain_settings frame around s) ++ ((before ++ (row ∷ after)) ++ others (rows_after_cause plain_settings frame around))) → ⊥
+fold_ignored : (s : Snippet Annotation) → IsSnippetOf s two_lines (span_of Primary 0 1 ∷ []) → s.fold ≡ true
+    → (around : ElementContext) (row : NamedRow) (before after : List NamedRow) → row.cells ≡ row_of_second
+    → ShowsSnippet plain_settings frame around s
+    (others (cause_head plain_settings frame around s) ++ ((before ++ (row ∷ after)) ++ others (rows_after_cause plain_settings frame around))) → ⊥
 fold_ignored s is folds around row before after row_is shown =
     let rows : List NamedRow = before ++ (row ∷ after) in
     let tail : List NamedRow = others (rows_after_cause plain_settings frame around) in

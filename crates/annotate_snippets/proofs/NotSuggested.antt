@@ -30,7 +30,9 @@ record StandsAlone (around : ElementContext) : Type 0 where
   own : around.shared ≡ false
 
 -- its rows are those of its value, over nothing
-rows_alone : (frame : Frame) (around : ElementContext) (s : Snippet Patch) (lines : List (List Cell)) → suggestion_layout plain_settings frame s ≡ ascii → StandsAlone around → AreSuggestionRows plain_settings frame around s lines → lines ≡ suggestion_cells ascii Opening (not (is_end around.next)) s []
+rows_alone : (frame : Frame) (around : ElementContext) (s : Snippet Patch) (lines : List (List Cell))
+    → suggestion_layout plain_settings frame s ≡ ascii → StandsAlone around → AreSuggestionRows plain_settings frame around s lines
+    → lines ≡ suggestion_cells ascii Opening (not (is_end around.next)) s []
 unfolding suggestion_cells
 rows_alone frame around s lines layout_is alone shown =
     let next : Bool = not (is_end around.next) in
@@ -50,7 +52,9 @@ narrow_layout frame s narrow numbered =
 --
 --     1 | foo(x)
 --       |      +
-marks_one_right : (v : Vec Patch Global) (frame : Frame) (around : ElementContext) (rows : List NamedRow) → frame.gutter ≡ 1 → StandsAlone around → (shown : ShowsSuggestion plain_settings frame around (text_put_in v) rows) → row_at (cells_of shown.after) 2 ≡ stroke ++ replicate 6 SPACE ++ text_cells Addition (codes "+") → ⊥
+marks_one_right : (v : Vec Patch Global) (frame : Frame) (around : ElementContext) (rows : List NamedRow) → frame.gutter ≡ 1 → StandsAlone around
+    → (shown : ShowsSuggestion plain_settings frame around (text_put_in v) rows)
+    → row_at (cells_of shown.after) 2 ≡ stroke ++ replicate 6 SPACE ++ text_cells Addition (codes "+") → ⊥
 marks_one_right v frame around rows narrow alone shown wrong =
     let s : Snippet Patch = text_put_in v in
     let all = rows_alone frame around s (cells_of shown.after) (narrow_layout frame s narrow refl) alone shown.cells ∙ put_in_cells v (not (is_end around.next)) in
@@ -65,7 +69,10 @@ marks_one_right v frame around rows narrow alone shown wrong =
 --     1 ~ a
 --     2 | b
 --     3 + x
-kept_shown_as_changed : (v : Vec Patch Global) (frame : Frame) (around : ElementContext) (rows : List NamedRow) → frame.gutter ≡ 1 → StandsAlone around → (shown : ShowsSuggestion plain_settings frame around (third_unfolded v) rows) → row_at (cells_of shown.after) 1 ≡ text_cells LineNumber (codes "1") ++ SPACE ∷ text_cells Addition (codes "~ ") ++ text_cells NoStyle (codes "a") → ⊥
+kept_shown_as_changed : (v : Vec Patch Global) (frame : Frame) (around : ElementContext) (rows : List NamedRow) → frame.gutter ≡ 1
+    → StandsAlone around → (shown : ShowsSuggestion plain_settings frame around (third_unfolded v) rows)
+    → row_at (cells_of shown.after) 1 ≡ text_cells LineNumber (codes "1") ++ SPACE ∷ text_cells Addition (codes "~ ")
+    ++ text_cells NoStyle (codes "a") → ⊥
 kept_shown_as_changed v frame around rows narrow alone shown wrong =
     let s : Snippet Patch = third_unfolded v in
     let all = rows_alone frame around s (cells_of shown.after) (narrow_layout frame s narrow refl) alone shown.cells ∙ unfolded_cells v (not (is_end around.next)) in
@@ -76,7 +83,9 @@ kept_shown_as_changed v frame around rows narrow alone shown wrong =
 -- nor in another role: what is put in place of `c` isn't shown as removed
 --
 --     3 + x
-removal_for_addition : (v : Vec Patch Global) (frame : Frame) (around : ElementContext) (rows : List NamedRow) → frame.gutter ≡ 1 → StandsAlone around → (shown : ShowsSuggestion plain_settings frame around (third_unfolded v) rows) → (get_or (row_at (cells_of shown.after) 3) 4 SPACE).role ≡ Removal → ⊥
+removal_for_addition : (v : Vec Patch Global) (frame : Frame) (around : ElementContext) (rows : List NamedRow) → frame.gutter ≡ 1 → StandsAlone around
+    → (shown : ShowsSuggestion plain_settings frame around (third_unfolded v) rows)
+    → (get_or (row_at (cells_of shown.after) 3) 4 SPACE).role ≡ Removal → ⊥
 removal_for_addition v frame around rows narrow alone shown wrong =
     let s : Snippet Patch = third_unfolded v in
     let all = rows_alone frame around s (cells_of shown.after) (narrow_layout frame s narrow refl) alone shown.cells ∙ unfolded_cells v (not (is_end around.next)) in

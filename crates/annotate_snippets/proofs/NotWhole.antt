@@ -133,9 +133,14 @@ line_left_out s is around rows none shown =
 --       = note: m
 --     1 | a
 --       | ^
-exchanged : (s : Snippet Annotation) → IsLineA s → (m : message.Message) (place : GroupPosition) (file : Option (List ℕ)) (rows : List NamedRow) (parts : List (List NamedRow)) → cells_of rows ≡ note_row ∷ [] → AreElementsShown plain_settings frame place file (element.Cause s ∷ element.Message m ∷ []) (rows ∷ parts) → ⊥
+exchanged : (s : Snippet Annotation) → IsLineA s
+    → (m : message.Message) (place : GroupPosition) (file : Option (List ℕ)) (rows : List NamedRow) (parts : List (List NamedRow))
+    → cells_of rows ≡ note_row ∷ [] → AreElementsShown plain_settings frame place file (element.Cause s ∷ element.Message m ∷ []) (rows ∷ parts) → ⊥
 exchanged s is m place file rows parts cells shown =
-    line_left_out s is (context_at place file (element.Cause s ∷ element.Message m ∷ []) 0 (element.Cause s)) rows (All-unmapped (HasNoNumber 1) (λ row. row.cells) rows (subst (All (HasNoNumber 1)) (sym cells) (All-cons (HasNoNumber 1) note_row [] note_unnumbered (All-nil (HasNoNumber 1))))) (shown.each 0 (element.Cause s) refl)
+    line_left_out s is (context_at place file (element.Cause s ∷ element.Message m ∷ []) 0 (element.Cause s))
+    rows (All-unmapped (HasNoNumber 1) (λ row. row.cells)
+    rows (subst (All (HasNoNumber 1)) (sym cells) (All-cons (HasNoNumber 1) note_row [] note_unnumbered (All-nil (HasNoNumber 1)))))
+    (shown.each 0 (element.Cause s) refl)
 
 -- ---- a title that is trusted, and normalised anyhow
 
@@ -164,7 +169,9 @@ normalised_away text is place follows rows wrong shown =
 --
 --     error[E1]: e
 --     ^ links
-linked_elsewhere : (r : Renderer) (text : CowStr Global) (id : Option Id) (trusted : Bool) (place : GroupPosition) (follows : Next) (rows : List (List Cell)) (url : List ℕ) → (cell_at rows 0 0).link ≡ Some url → ShowsTitle r frame place follows (record { level = error_level; id = id; text = text; allows_styling = trusted }) rows → ⊥
+linked_elsewhere : (r : Renderer) (text : CowStr Global) (id : Option Id) (trusted : Bool) (place : GroupPosition) (follows : Next)
+    (rows : List (List Cell)) (url : List ℕ) → (cell_at rows 0 0).link ≡ Some url
+    → ShowsTitle r frame place follows (record { level = error_level; id = id; text = text; allows_styling = trusted }) rows → ⊥
 unfolding chars norm
 linked_elsewhere r text id trusted place follows rows url wrong shown =
     in_own shown.own shown.rows_are (shown.shows.links 0 0)
@@ -245,7 +252,9 @@ last_row (r ∷ rows) (m ∷ more) row other same = last_row rows more row other
 --     1 | a
 --       | ^
 --     note: n
-closing_left_out : (s : Snippet Annotation) (around : ElementContext) → around.place ≡ place.First → around.next ≡ next.Nothing → (rows : List NamedRow) (row : NamedRow) → row.cells ≡ row_below (text_cells UnderlinePrimary (codes "^")) → ShowsSnippet plain_settings frame around s (rows ++ row ∷ []) → ⊥
+closing_left_out : (s : Snippet Annotation) (around : ElementContext) → around.place ≡ place.First → around.next ≡ next.Nothing
+    → (rows : List NamedRow) (row : NamedRow) → row.cells ≡ row_below (text_cells UnderlinePrimary (codes "^"))
+    → ShowsSnippet plain_settings frame around s (rows ++ row ∷ []) → ⊥
 closing_left_out s around first last rows row cells shown =
     let closing : NamedRow = record { name = Other; cells = closing_row Ascii 1 } in
     let head : List NamedRow = others (cause_head plain_settings frame around s) in

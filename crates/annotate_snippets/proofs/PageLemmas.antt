@@ -60,7 +60,10 @@ names_in-others (row ∷ rows) more = names_in-others rows more
 some_more : (m n : ℕ) → (suc m == 0) ≡ (suc n == 0)
 some_more m n = grind (arith, nat_tests)
 
-module _ (r : Renderer) (frame : Frame) (s : Snippet Annotation) (spans : All (λ a. IsSpan (cow_str_bytes s.source) a.span.start a.span.end) s.markers.items) (margin : Margin) (room : margin.term_width ≡ room_of r frame) (bounds : bounds_of margin ≡ bounds_in r frame s) (ordered : (bounds_of margin).left ≤ (bounds_of margin).right) (place : frame.gutter + 3 ≤ frame.code) (closes : Bool) where
+module _ (r : Renderer) (frame : Frame) (s : Snippet Annotation)
+    (spans : All (λ a. IsSpan (cow_str_bytes s.source) a.span.start a.span.end) s.markers.items) (margin : Margin)
+    (room : margin.term_width ≡ room_of r frame) (bounds : bounds_of margin ≡ bounds_in r frame s)
+    (ordered : (bounds_of margin).left ≤ (bounds_of margin).right) (place : frame.gutter + 3 ≤ frame.code) (closes : Bool) where
   abbrev own_lines : ℕ
   own_lines = length (source_lines (cow_str_bytes s.source))
 
@@ -71,21 +74,31 @@ module _ (r : Renderer) (frame : Frame) (s : Snippet Annotation) (spans : All (�
   NumberFits info = length (shown_number (line_numbers r s.line_numbering) frame.gutter info.line_index) ≤ frame.gutter + 1
 
   -- the rows of a line show it, with the marks below
-  line_and_marks : (last : Bool) (open_bars : List Bar) (k : ℕ) (info : AnnotatedLineInfo) (rows : List (List Cell)) (more : List NamedRow) → k < own_lines → seen_kept info ≡ line_of_snippet k → NumberFits info → (shows : strokes.ShowsLine (layout_in r frame) margin (line_numbers r s.line_numbering) last open_bars info rows) → rows_below more ≡ [] → ShowsLineAndMarks r frame s k shows.source (cells_below (others shows.below ++ more)) (rows_below (others shows.below ++ more))
+  line_and_marks : (last : Bool) (open_bars : List Bar) (k : ℕ) (info : AnnotatedLineInfo) (rows : List (List Cell)) (more : List NamedRow)
+      → k < own_lines → seen_kept info ≡ line_of_snippet k → NumberFits info
+      → (shows : strokes.ShowsLine (layout_in r frame) margin (line_numbers r s.line_numbering) last open_bars info rows) → rows_below more ≡ []
+      → ShowsLineAndMarks r frame s k shows.source (cells_below (others shows.below ++ more)) (rows_below (others shows.below ++ more))
   line_and_marks last open_bars k info rows more within seen fits shows ends =
       record {
         dropped = shows.dropped;
         line = source_line r frame s spans margin room bounds ordered last open_bars k info rows within seen fits shows place;
-        marks = λ qualifies. subst (λ row. ShowsMarksOf r.decor_style frame s k shows.dropped row) (sym (below-first shows.below more (marks_there r frame s spans margin room bounds ordered last open_bars k info rows within seen fits shows qualifies))) (marks_of_line r frame s spans margin room bounds ordered last open_bars k info rows within seen fits shows qualifies);
+        marks = λ qualifies. subst (λ row. ShowsMarksOf r.decor_style frame s k shows.dropped row)
+            (sym (below-first shows.below more
+            (marks_there r frame s spans margin room bounds ordered last open_bars k info rows within seen fits shows qualifies)))
+            (marks_of_line r frame s spans margin room bounds ordered last open_bars k info rows within seen fits shows qualifies);
         labels = λ uncut. subst (λ lower. ShowsLabels r.decor_style frame s k shows.dropped lower) (sym (below-own shows.below more ends)) (labels_of_line r frame s spans margin room bounds ordered last open_bars k info rows within seen fits shows uncut);
       }
 
   -- rows below a line, with the last of which the window closes where no row stands after
-  others_are : (last : Bool) (rows : List (List Cell)) (more : List NamedRow) → (length more == 0) ≡ last → ((i : ℕ) → i < length rows → IsRowBelow r.decor_style frame ((closes && last) && i + 1 == length rows) (row_at rows i)) → AreRowsOf r frame closes s more → AreRowsOf r frame closes s (others rows ++ more)
+  others_are : (last : Bool) (rows : List (List Cell)) (more : List NamedRow) → (length more == 0) ≡ last
+      → ((i : ℕ) → i < length rows → IsRowBelow r.decor_style frame ((closes && last) && i + 1 == length rows) (row_at rows i))
+      → AreRowsOf r frame closes s more → AreRowsOf r frame closes s (others rows ++ more)
   others_are last [] more ends below are = are
   others_are last (row ∷ rows) more ends below are =
       let own : IsRowBelow r.decor_style frame ((closes && last) && 0 + 1 == length (row ∷ rows)) row = below 0 (omega arith) in
-      let further : (i : ℕ) → i < length rows → IsRowBelow r.decor_style frame ((closes && last) && i + 1 == length rows) (row_at rows i) = λ i within. subst (λ b. IsRowBelow r.decor_style frame ((closes && last) && b) (row_at rows i)) (shifted i (length rows)) (below (suc i) (omega (arith, within))) in
+      let further : (i : ℕ) → i < length rows → IsRowBelow r.decor_style frame ((closes && last) && i + 1 == length rows) (row_at rows i) =
+      λ i within. subst (λ b. IsRowBelow r.decor_style frame ((closes && last) && b) (row_at rows i)) (shifted i (length rows))
+      (below (suc i) (omega (arith, within))) in
       (subst (λ b. IsRowBelow r.decor_style frame b row) (with_last rows) own, others_are last rows more ends further are)
     where
       shifted : (i n : ℕ) → (suc i + 1 == suc n) ≡ (i + 1 == n)
@@ -122,7 +135,9 @@ module _ (r : Renderer) (frame : Frame) (s : Snippet Annotation) (spans : All (�
     pub begins : (more : List NamedRow) → rows_below more ≡ [] → rows_below (gap ++ more) ≡ []
     pub drawn : (more : List NamedRow) → rows_below more ≡ [] → AreRowsDrawn r frame closes s open_bars more → AreRowsDrawn r frame closes s open_bars (gap ++ more)
 
-  gap_named : (open_bars : List Bar) (j : ℕ) (ks : List ℕ) (info : AnnotatedLineInfo) (infos : List AnnotatedLineInfo) (rows : List (List Cell)) → seen_kept info ≡ line_of_snippet j → map seen_kept infos ≡ map line_of_snippet ks → strokes.IsGap (layout_in r frame) open_bars info.line_index infos rows → IsGapNamed open_bars j ks rows
+  gap_named : (open_bars : List Bar) (j : ℕ) (ks : List ℕ) (info : AnnotatedLineInfo) (infos : List AnnotatedLineInfo) (rows : List (List Cell))
+      → seen_kept info ≡ line_of_snippet j → map seen_kept infos ≡ map line_of_snippet ks
+      → strokes.IsGap (layout_in r frame) open_bars info.line_index infos rows → IsGapNamed open_bars j ks rows
   gap_named open_bars j [] info [] rows here lines gap = record { gap = []; cells = sym gap; lines = λ more. refl; names = λ more none. ap (λ names. SourceRow j ∷ names) none; are = λ more are. are; ends = λ more same. same; begins = λ more none. none; drawn = λ more none drawn. drawn }
   gap_named open_bars j [] info (next ∷ infos) rows here lines gap = cc
   gap_named open_bars j (k ∷ ks) info [] rows here lines gap = cc
@@ -181,7 +196,9 @@ module _ (r : Renderer) (frame : Frame) (s : Snippet Annotation) (spans : All (�
   none_left ks infos same =
       ap (λ n. n == 0) (sym (length-map ks line_of_snippet) ∙ sym (ap length same) ∙ length-map infos seen_kept)
 
-  pub named_lines : (open_bars : List Bar) (ks : List ℕ) (infos : List AnnotatedLineInfo) (rows : List (List Cell)) → All (λ k. k < own_lines) ks → map seen_kept infos ≡ map line_of_snippet ks → All NumberFits infos → strokes.AreLinesShown (layout_in r frame) margin (line_numbers r s.line_numbering) closes open_bars infos rows → AreNamed open_bars ks rows
+  pub named_lines : (open_bars : List Bar) (ks : List ℕ) (infos : List AnnotatedLineInfo) (rows : List (List Cell)) → All (λ k. k < own_lines) ks
+      → map seen_kept infos ≡ map line_of_snippet ks → All NumberFits infos
+      → strokes.AreLinesShown (layout_in r frame) margin (line_numbers r s.line_numbering) closes open_bars infos rows → AreNamed open_bars ks rows
   named_lines open_bars [] [] rows within lines fit shown = record { part = []; cells = sym shown; lines = refl; names = refl; are = tt; ends = refl; begins = refl; drawn = tt }
   named_lines open_bars [] (info ∷ infos) rows within lines fit shown = cc
   named_lines open_bars (k ∷ ks) [] rows within lines fit shown = cc
@@ -198,14 +215,27 @@ module _ (r : Renderer) (frame : Frame) (s : Snippet Annotation) (spans : All (�
       let ends : (length after == 0) ≡ last = between.ends rest.part rest.ends ∙ none_left ks infos further in
       record {
         part = source_row ∷ (others shows.below ++ after);
-        cells = ap (λ rs. shows.source ∷ rs) (cells_of-append (others shows.below) after ∙ ap (λ rs. rs ++ cells_of after) (cells_of-others shows.below) ∙ ap (λ rs. shows.below ++ rs) (cells_of-append between.gap rest.part ∙ ap (λ rs. rs ++ cells_of rest.part) between.cells ∙ ap (λ rs. shown.1 ++ rs) rest.cells)) ∙ ap (λ rs. rs ++ (shown.1 ++ shown.2)) (sym shows.rows_are) ∙ sym (append_assoc shown.0 shown.1 shown.2) ∙ sym shown.3;
+        cells = ap (λ rs. shows.source ∷ rs)
+            (cells_of-append (others shows.below) after ∙ ap (λ rs. rs ++ cells_of after) (cells_of-others shows.below)
+            ∙ ap (λ rs. shows.below ++ rs)
+            (cells_of-append between.gap rest.part ∙ ap (λ rs. rs ++ cells_of rest.part) between.cells ∙ ap (λ rs. shown.1 ++ rs) rest.cells))
+            ∙ ap (λ rs. rs ++ (shown.1 ++ shown.2)) (sym shows.rows_are) ∙ sym (append_assoc shown.0 shown.1 shown.2) ∙ sym shown.3;
         lines = ap (λ js. k ∷ js) (lines_named-others shows.below after ∙ between.lines rest.part ∙ rest.lines);
         names = ap (λ names. SourceRow k ∷ names) (names_in-others shows.below after) ∙ between.names rest.part rest.names;
-        are = (line_and_marks (closes && last) open_bars k info shown.0 after (All-head (λ j. j < own_lines) k ks within) here (All-head NumberFits info infos fit) shows (between.begins rest.part rest.begins), others_are last shows.below after ends (λ i inside. row_below r.decor_style frame (closes && last) _ _ shows.below i (shows.strokes.are i inside)) (between.are rest.part rest.are));
+        are = (
+          line_and_marks (closes && last) open_bars k info shown.0 after (All-head (λ j. j < own_lines) k ks within)
+              here (All-head NumberFits info infos fit) shows (between.begins rest.part rest.begins),
+          others_are last shows.below after ends
+              (λ i inside. row_below r.decor_style frame (closes && last) _ _ shows.below i (shows.strokes.are i inside))
+              (between.are rest.part rest.are),
+        );
         ends = some_more (length (others shows.below ++ after)) (length ks);
         begins = refl;
         drawn = (
-          subst (λ below. IsLineDrawn r frame (closes && length below == length (others shows.below ++ after)) s open_bars k (shows.source ∷ below)) (sym (below-own shows.below after (between.begins rest.part rest.begins))) (subst (λ b. IsLineDrawn r frame b s open_bars k (shows.source ∷ shows.below)) (sym (last_is shows.below after last ends)) (line_drawn r frame s margin room bounds (closes && last) open_bars k info shown.0 here shows)),
+          subst (λ below. IsLineDrawn r frame (closes && length below == length (others shows.below ++ after)) s open_bars k (shows.source ∷ below))
+              (sym (below-own shows.below after (between.begins rest.part rest.begins)))
+              (subst (λ b. IsLineDrawn r frame b s open_bars k (shows.source ∷ shows.below)) (sym (last_is shows.below after last ends))
+              (line_drawn r frame s margin room bounds (closes && last) open_bars k info shown.0 here shows)),
           subst (λ bs. AreRowsDrawn r frame closes s bs (others shows.below ++ after)) (open_seen open_bars k info here) (others_drawn open_now shows.below after (between.drawn rest.part rest.begins rest.drawn)),
         );
       }

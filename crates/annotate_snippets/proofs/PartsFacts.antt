@@ -96,12 +96,16 @@ module _ (s : Source) (marks : List Annotation) (spans : All (λ a. IsSpan s.tex
   lines_labels fit = labels-fit s marks ks infos same fit
 
   pub lines_places : length s.text < 2 ^ 56 → All (λ info. All HasPlace info.annotations.items) infos
-  lines_places short = All-weaker (λ (info : AnnotatedLineInfo). All HasRoom info.annotations.items) (λ info. All HasPlace info.annotations.items) (λ info places. All-weaker HasRoom HasPlace (λ e room. record { ordered = room.0; near = room.1 }) info.annotations.items places) infos (places-fit s marks ks infos same short)
+  lines_places short = All-weaker (λ (info : AnnotatedLineInfo). All HasRoom info.annotations.items) (λ info. All HasPlace info.annotations.items)
+      (λ info places. All-weaker HasRoom HasPlace (λ e room. record { ordered = room.0; near = room.1 }) info.annotations.items places)
+      infos (places-fit s marks ks infos same short)
 
   pub lines_bar_cells : (layout : Layout) → code_after layout.gutter (deepest s marks) ≤ layout.code → All (λ info. All (HasBarCell layout) info.annotations.items) infos
   lines_bar_cells layout code =
       let Within : LineAnnotation → Type 0 = λ e. HasDepthWithin (deepest s marks) e.annotation_type in
-      All-weaker (λ (info : AnnotatedLineInfo). All Within info.annotations.items) (λ info. All (HasBarCell layout) info.annotations.items) (λ info depths. All-weaker Within (HasBarCell layout) (λ e depth. bar_cell layout (deepest s marks) code e.annotation_type depth) info.annotations.items depths) infos (depths-fit s marks ks infos same)
+      All-weaker (λ (info : AnnotatedLineInfo). All Within info.annotations.items) (λ info. All (HasBarCell layout) info.annotations.items)
+      (λ info depths. All-weaker Within (HasBarCell layout) (λ e depth. bar_cell layout (deepest s marks) code e.annotation_type depth)
+      info.annotations.items depths) infos (depths-fit s marks ks infos same)
 
 -- an entry stands clear where one that is seen as it does
 clear_seen : (margin : Margin) (d e : LineAnnotation) → seen_part d ≡ seen_part e → StandsClear margin d → StandsClear margin e
@@ -111,7 +115,10 @@ clear_seen margin d e same clear own cut =
     omega (arith, clear (ap is_bar part ∙ own) cut, start)
 
 -- entries stand clear on all lines that are shown, where they do on those that are kept: none stand on the others
-pub shown_clear : (s : Source) (marks : List Annotation) → All (λ a. IsSpan s.text a.span.start a.span.end) marks → (fold : Bool) (kept shown : List AnnotatedLineInfo) (margin : Margin) → map seen_kept kept ≡ annotated_lines fold s marks → map seen_kept shown ≡ map (kept_line s marks) (shown_lines fold s.text marks) → All (λ info. All (StandsClear margin) info.annotations.items) kept → All (λ info. All (StandsClear margin) info.annotations.items) shown
+pub shown_clear : (s : Source) (marks : List Annotation) → All (λ a. IsSpan s.text a.span.start a.span.end) marks
+    → (fold : Bool) (kept shown : List AnnotatedLineInfo) (margin : Margin) → map seen_kept kept ≡ annotated_lines fold s marks
+    → map seen_kept shown ≡ map (kept_line s marks) (shown_lines fold s.text marks)
+    → All (λ info. All (StandsClear margin) info.annotations.items) kept → All (λ info. All (StandsClear margin) info.annotations.items) shown
 shown_clear s marks spans fold kept shown margin kept_is shown_is clear =
     each-line (λ info. All (StandsClear margin) info.annotations.items) s marks (shown_lines fold s.text marks) shown shown_is (λ i d within info seen. on_line (get_or (shown_lines fold s.text marks) i d) (All-get_or_within i d within) info seen)
   where
@@ -125,7 +132,13 @@ shown_clear s marks spans fold kept shown margin kept_is shown_is clear =
     on_line k within info seen =
         elim (cases_Bool (keeps_it k)) [
           | inl kept_here ↦
-              let among : Contains (kept_lines fold s.text marks) k = Contains-filter keeps_it (range_with_len 0 (length (source_lines s.text))) k kept_here (k, omega (arith, within, length-range_with_len 0 (length (source_lines s.text))), omega (arith, get_or-range_with_len 0 (length (source_lines s.text)) k k within)) in
+              let among : Contains (kept_lines fold s.text marks) k =
+              Contains-filter keeps_it (range_with_len 0 (length (source_lines s.text)))
+              k kept_here (
+                k,
+                omega (arith, within, length-range_with_len 0 (length (source_lines s.text))),
+                omega (arith, get_or-range_with_len 0 (length (source_lines s.text)) k k within),
+              ) in
               let found = from_map seen_kept kept (kept_line s marks k) (subst (λ ls. Contains ls (kept_line s marks k)) (sym kept_is) (Contains-map (kept_line s marks) (kept_lines fold s.text marks) k among)) in
               let own : All (StandsClear margin) found.0.annotations.items = All-contains (λ (x : AnnotatedLineInfo). All (StandsClear margin) x.annotations.items) kept found.0 clear found.1 in
               let same : map seen_part found.0.annotations.items ≡ map seen_part info.annotations.items = ap (λ (l : KeptLine). l.parts) (found.2 ∙ sym seen) in
@@ -141,7 +154,11 @@ shown_clear s marks spans fold kept shown margin kept_is shown_is clear =
         all_seen [] (e ∷ es) same own = cc
         all_seen (d ∷ ds) [] same own = cc
         all_seen (d ∷ ds) (e ∷ es) same own =
-            All-cons (StandsClear margin) e es (clear_seen margin d e (head_seen (seen_part d) (seen_part e) (map seen_part ds) (map seen_part es) same) (All-head (StandsClear margin) d ds own)) (all_seen ds es (tail_seen (seen_part d) (seen_part e) (map seen_part ds) (map seen_part es) same) (All-tail (StandsClear margin) d ds own))
+            All-cons (StandsClear margin)
+            e es (clear_seen margin d e (head_seen (seen_part d) (seen_part e) (map seen_part ds) (map seen_part es) same)
+            (All-head (StandsClear margin) d ds own))
+            (all_seen ds es (tail_seen (seen_part d) (seen_part e) (map seen_part ds) (map seen_part es) same)
+            (All-tail (StandsClear margin) d ds own))
           where
             head_seen : (x y : PartEntry) (xs ys : List PartEntry) → x ∷ xs ≡ y ∷ ys → x ≡ y
             head_seen x y xs ys same = cc
@@ -171,4 +188,13 @@ length-in_order before (x ∷ xs) = omega (arith, length-in_order before xs, len
 pub deepest_few : (s : Source) (marks : List Annotation) → deepest s marks ≤ length marks
 deepest_few s marks =
     let spans = map (long_entry s) (filter (is_long s.text) marks) in
-    omega (arith, greatest-bound (places_of (long_places s marks)), places-bound (long_places s marks), length-map (long_spans s marks) long_place, length-in_order stands_before spans, length-map (filter (is_long s.text) marks) (long_entry s), length-filter (is_long s.text) marks, count_by-le-length (is_long s.text) marks)
+    omega (
+      arith,
+      greatest-bound (places_of (long_places s marks)),
+      places-bound (long_places s marks),
+      length-map (long_spans s marks) long_place,
+      length-in_order stands_before spans,
+      length-map (filter (is_long s.text) marks) (long_entry s),
+      length-filter (is_long s.text) marks,
+      count_by-le-length (is_long s.text) marks,
+    )

@@ -54,7 +54,9 @@ separator_stroke decor gutter =
     unlisted Unicode = refl
 
 -- a gutter that has room for a suggestion has it for the number that it counts
-wide_enough : (numbered anonymized none : Bool) (width gutter : ℕ) (counted : ℕ) → none ≡ false → (anonymized ≡ true → 2 ≤ gutter) → (anonymized ≡ false → (if numbered && not none then length (decimal counted) else 0) ≤ gutter) → number_width (if numbered then (if anonymized then Anonymized else Shown) else Hidden) counted ≤ gutter
+wide_enough : (numbered anonymized none : Bool) (width gutter : ℕ) (counted : ℕ) → none ≡ false → (anonymized ≡ true → 2 ≤ gutter)
+    → (anonymized ≡ false → (if numbered && not none then length (decimal counted) else 0) ≤ gutter)
+    → number_width (if numbered then (if anonymized then Anonymized else Shown) else Hidden) counted ≤ gutter
 wide_enough false anonymized none width gutter counted some wide room = omega arith
 wide_enough true true none width gutter counted some wide room = wide refl
 wide_enough true false true width gutter counted some wide room = absurd (cc)
@@ -82,7 +84,10 @@ pub record Begun (r : Renderer) (frame : Frame) (at : SuggestionStart) (layout :
   pub found : IsUnder r frame at (row_at end 0)
 
 -- so stand its head, and that row
-pub begun_below : (r : Renderer) (frame : Frame) (at : SuggestionStart) (first : Bool) (s : Snippet Patch) (above tail old mid : List (List Cell)) → old ≡ above ++ tail → IsTail r.decor_style frame.gutter (is_next_start at) tail → HasPathFor at s → (at ≡ Path → mid ≡ old ++ path_head r frame first s) → ((at ≡ Path → ⊥) → mid ≡ old) → Begun r frame at (suggestion_layout r frame s) (above ++ suggestion_head_at at r frame first s) mid
+pub begun_below : (r : Renderer) (frame : Frame) (at : SuggestionStart) (first : Bool) (s : Snippet Patch) (above tail old mid : List (List Cell))
+    → old ≡ above ++ tail → IsTail r.decor_style frame.gutter (is_next_start at) tail → HasPathFor at s
+    → (at ≡ Path → mid ≡ old ++ path_head r frame first s) → ((at ≡ Path → ⊥) → mid ≡ old)
+    → Begun r frame at (suggestion_layout r frame s) (above ++ suggestion_head_at at r frame first s) mid
 begun_below r frame Opening first s above tail old mid is tail_is path headed same =
     record {
       end = tail;
@@ -134,13 +139,21 @@ snoc_parts (a ∷ xs) (b ∷ ys) x y same =
     (ap (λ r. r ∷ xs) first ∙ ap (λ rs. b ∷ rs) later.0, later.1)
 
 -- the rows of a suggestion below those that it begins with are the element's: its last row is its own, or the next one begins in it
-pub suggestion_added : (r : Renderer) (frame : Frame) (around : ElementContext) (s : Snippet Patch) (under : List Cell) (above new : List (List Cell)) → IsUnder r frame around.start under → AddsSuggestion (suggestion_layout r frame s) around.start (follows around) s (above ++ suggestion_head r frame around s) new → new ≡ (above ++ suggestion_head r frame around s) ++ suggestion_cells (suggestion_layout r frame s) around.start (follows around) s under → AddsElement r frame around (Suggestion s) above new
+pub suggestion_added : (r : Renderer) (frame : Frame) (around : ElementContext) (s : Snippet Patch) (under : List Cell) (above new : List (List Cell))
+    → IsUnder r frame around.start under → AddsSuggestion (suggestion_layout r frame s) around.start (follows around)
+    s (above ++ suggestion_head r frame around s) new
+    → new ≡ (above ++ suggestion_head r frame around s) ++ suggestion_cells (suggestion_layout r frame s) around.start (follows around) s under
+    → AddsElement r frame around (Suggestion s) above new
 suggestion_added r frame around s under above new found adds drawn = at around.shared refl
   where
     -- the rows are those of its value
     parts : (adds.rows ≡ body_cells (suggestion_layout r frame s) around.start s under) × (adds.last ≡ row_cells (suggestion_layout r frame s) s [] (Ends (follows around)))
     parts =
-        snoc_parts adds.rows (body_cells (suggestion_layout r frame s) around.start s under) adds.last (row_cells (suggestion_layout r frame s) s [] (Ends (follows around))) (append_cancel_left (above ++ suggestion_head r frame around s) (adds.rows ++ adds.last ∷ []) _ (sym adds.added ∙ drawn ∙ ap (λ rows. (above ++ suggestion_head r frame around s) ++ rows) (whole (suggestion_layout r frame s) around.start (follows around) s under)))
+        snoc_parts adds.rows (body_cells (suggestion_layout r frame s) around.start s under)
+        adds.last (row_cells (suggestion_layout r frame s) s [] (Ends (follows around)))
+        (append_cancel_left (above ++ suggestion_head r frame around s) (adds.rows ++ adds.last ∷ [])
+        _ (sym adds.added ∙ drawn ∙ ap (λ rows. (above ++ suggestion_head r frame around s) ++ rows)
+        (whole (suggestion_layout r frame s) around.start (follows around) s under)))
 
     at : (b : Bool) → around.shared ≡ b → AddsElement r frame around (Suggestion s) above new
     at true shares =
@@ -204,7 +217,13 @@ DrawsCells s at next mid new result layout =
     (above tail : List (List Cell)) → mid ≡ above ++ tail → length tail ≡ rows_shared at → OnOk result (new ≡ above ++ suggestion_cells layout at next s (row_at tail 0))
 
 -- the rows of a suggestion stand below what is there
-pub patches_added : (r : Renderer) (frame : Frame) (around : ElementContext) (s : Snippet Patch) (above tail old mid new : List (List Cell)) (numbers : LineNumbers) (next : Bool) (result : Result (Unit {0}) AllocError) → numbers ≡ line_numbers r s.line_numbering → next ≡ follows around → s.markers.items ≢ [] → HasRoomFor r frame (Suggestion s) → old ≡ above ++ tail → IsTail r.decor_style frame.gutter (begins_in_row_above around) tail → HasPathFor around.start s → (around.start ≡ Path → mid ≡ old ++ path_head r frame around.first s) → ((around.start ≡ Path → ⊥) → mid ≡ old) → DrawsBelow s around.start next mid new result (layout_with r frame numbers) → DrawsCells s around.start next mid new result (layout_with r frame numbers) → OnOk result (AddsElement r frame around (Suggestion s) above new)
+pub patches_added : (r : Renderer) (frame : Frame) (around : ElementContext) (s : Snippet Patch) (above tail old mid new : List (List Cell))
+    (numbers : LineNumbers) (next : Bool) (result : Result (Unit {0}) AllocError) → numbers ≡ line_numbers r s.line_numbering → next ≡ follows around
+    → s.markers.items ≢ [] → HasRoomFor r frame (Suggestion s) → old ≡ above ++ tail
+    → IsTail r.decor_style frame.gutter (begins_in_row_above around) tail → HasPathFor around.start s
+    → (around.start ≡ Path → mid ≡ old ++ path_head r frame around.first s) → ((around.start ≡ Path → ⊥) → mid ≡ old)
+    → DrawsBelow s around.start next mid new result (layout_with r frame numbers)
+    → DrawsCells s around.start next mid new result (layout_with r frame numbers) → OnOk result (AddsElement r frame around (Suggestion s) above new)
 patches_added r frame around s above tail old mid new numbers next result numbers_are next_is some room is tail_is path headed same draws draws_cells =
     let begun = begun_below r frame around.start around.first s above tail old mid is tail_is path headed same in
     let Draws : Bool → SuggestionLayout → Type 0 = λ b layout. DrawsBelow s around.start b mid new result layout in

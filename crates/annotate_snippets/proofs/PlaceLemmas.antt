@@ -56,7 +56,9 @@ start-location : (m : Source) (start end : ℕ) → (locations_of m start end).0
 unfolding locations_of
 start-location m start end = refl
 
-pub first-place : (p : PreparedSuggestion) (t : TrimmedPatch) (at : Loc × Loc) → IsPrepared p → slice_get p.splice.patches.items 0 ≡ Some t → at ≡ locations_of p.map t.span.start t.span.end → ◌≡◌ {A = OriginLocation} (record { line = Some at.0.line; column = Some (at.0.char + 1) }) (patch_place p.snippet.now)
+pub first-place : (p : PreparedSuggestion) (t : TrimmedPatch) (at : Loc × Loc) → IsPrepared p → slice_get p.splice.patches.items 0 ≡ Some t
+    → at ≡ locations_of p.map t.span.start t.span.end
+    → ◌≡◌ {A = OriginLocation} (record { line = Some at.0.line; column = Some (at.0.char + 1) }) (patch_place p.snippet.now)
 first-place p t at h is located =
     let first : t.span.start ≡ first_start (trimmed_of p.snippet.now) = first_start-of p.splice.patches.items t is ∙ ap first_start h.edits in
     ap (λ (l : Loc × Loc). place_from l.0) located ∙ ap place_from (start-location p.map t.span.start t.span.end) ∙ ap (λ m. place_from (start_location m t.span.start)) h.lines ∙ ap (λ b. place_from (start_location (source_of p.snippet.now) b)) first

@@ -13,7 +13,11 @@ use Rattle.annotate_snippets.specs.declared.renderer.frame.Frame.{Frame}
 use Rattle.annotate_snippets.specs.declared.renderer.element_context.ElementContext.{ElementContext}
 
 -- the rows of such an element stand below what is there
-pub plain_added : (r : Renderer) (frame : Frame) (around : ElementContext) (p : PreparedElement) (e : Element) (above tail old new rows : List (List Cell)) → element_of p ≡ e → CanStandIn around (element_of p) → (CanStandIn around e → (begins_in_row_above around ≡ false) × (around.shared ≡ false)) → old ≡ above ++ tail → IsTail r.decor_style frame.gutter (begins_in_row_above around) tail → new ≡ old ++ rows → IsElementDrawn r frame around e rows → AddsElement r frame around (element_of p) above new
+pub plain_added : (r : Renderer) (frame : Frame) (around : ElementContext) (p : PreparedElement) (e : Element)
+    (above tail old new rows : List (List Cell)) → element_of p ≡ e → CanStandIn around (element_of p)
+    → (CanStandIn around e → (begins_in_row_above around ≡ false) × (around.shared ≡ false)) → old ≡ above ++ tail
+    → IsTail r.decor_style frame.gutter (begins_in_row_above around) tail → new ≡ old ++ rows → IsElementDrawn r frame around e rows
+    → AddsElement r frame around (element_of p) above new
 plain_added r frame around p e above tail old new rows of stands plain old_is tail_is added is =
     let alone = plain (subst (CanStandIn around) of stands) in
     let none : tail ≡ [] = subst (λ b. IsTail r.decor_style frame.gutter b tail) alone.0 tail_is in

@@ -48,8 +48,12 @@ All-option : (ps : List PreparedElement) (p : Option PreparedElement) → All Is
 All-option ps None all one = All-same IsElementPrepared (ps ++ []) ps (append-nil ps) all
 All-option ps (Some p) all one = All-push IsElementPrepared ps p all one
 
-pub AreDrawnPrepared-push : (es : List Element) (i : ℕ) (e : Element) (ps new : List PreparedElement) (p : Option PreparedElement) → new ≡ ps ++ option_to_list p → i < length es → e ≡ get_or es i e → option_map element_of p ≡ cond (is_drawn e) (Some e) None → IfSome p IsElementPrepared → AreDrawnPrepared (take i es) ps → AreDrawnPrepared (take (i + 1) es) new
+pub AreDrawnPrepared-push : (es : List Element) (i : ℕ) (e : Element) (ps new : List PreparedElement) (p : Option PreparedElement)
+    → new ≡ ps ++ option_to_list p → i < length es → e ≡ get_or es i e → option_map element_of p ≡ cond (is_drawn e) (Some e) None
+    → IfSome p IsElementPrepared → AreDrawnPrepared (take i es) ps → AreDrawnPrepared (take (i + 1) es) new
 AreDrawnPrepared-push es i e ps new p pushed within is drawn prepared before = record {
-  elements = ap (map element_of) pushed ∙ map-append element_of ps (option_to_list p) ∙ ap (λ ds. ds ++ map element_of (option_to_list p)) before.elements ∙ ap (λ ds. filter is_drawn (take i es) ++ ds) (drawn-one e p drawn) ∙ ap (λ d. filter is_drawn (take i es) ++ cond (is_drawn d) (d ∷ []) []) is ∙ sym (filter_more is_drawn es i e within);
+  elements = ap (map element_of) pushed ∙ map-append element_of ps (option_to_list p)
+      ∙ ap (λ ds. ds ++ map element_of (option_to_list p)) before.elements ∙ ap (λ ds. filter is_drawn (take i es) ++ ds) (drawn-one e p drawn)
+      ∙ ap (λ d. filter is_drawn (take i es) ++ cond (is_drawn d) (d ∷ []) []) is ∙ sym (filter_more is_drawn es i e within);
   prepared = All-same IsElementPrepared new (ps ++ option_to_list p) pushed (All-option ps p before.prepared prepared);
 }

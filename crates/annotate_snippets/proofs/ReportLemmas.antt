@@ -69,7 +69,9 @@ module _ (r : Renderer) (groups : List Group) where
     pub printed : (sheet : Stylesheet) (parts : List (List ℕ)) → AllZip (λ (grid : GroupGrid) part. Prints sheet grid.level grid.buffer part) grids parts → ArePrinted sheet (levels_of gs) page parts
 
   -- one more group above
-  free_above : (g : Group) (gs : List Group) (grid : GroupGrid) (grids : List GroupGrid) → IsFreeBut (trusted_texts (g ∷ [])) (grid_plain grid) → IsFreeBut (trusted_texts gs) (join_with_byte 10 (map grid_plain grids)) → IsFreeBut (trusted_texts (g ∷ gs)) (join_with_byte 10 (map grid_plain (grid ∷ grids)))
+  free_above : (g : Group) (gs : List Group) (grid : GroupGrid) (grids : List GroupGrid) → IsFreeBut (trusted_texts (g ∷ [])) (grid_plain grid)
+      → IsFreeBut (trusted_texts gs) (join_with_byte 10 (map grid_plain grids))
+      → IsFreeBut (trusted_texts (g ∷ gs)) (join_with_byte 10 (map grid_plain (grid ∷ grids)))
   free_above g gs grid [] first rest = free_first g gs (grid_plain grid) first
   free_above g gs grid (other ∷ grids) first rest =
       free_joined (trusted_texts (g ∷ gs)) (grid_plain grid) (join_with_byte 10 (map grid_plain (other ∷ grids))) (free_first g gs (grid_plain grid) first) (free_rest g gs (join_with_byte 10 (map grid_plain (other ∷ grids))) rest)
@@ -130,7 +132,10 @@ module _ (r : Renderer) (groups : List Group) (grids : List GroupGrid) (drawable
   -- the page of the report
   report_page : PageOf r groups 0 groups grids
   report_page =
-      PageOf-grids r groups 0 groups grids are.levels (λ i g grid at there. subst (λ k. IsGridShown r groups k g grid) (sym (none_before i)) (group_shown r (frame_of r groups g) (place_at (length groups) i) (file_of_group groups g) g grid.buffer (All-in i g at) (room_in_report r groups drawable i g at) (are.each i g grid at there)))
+      PageOf-grids r groups 0 groups grids are.levels
+      (λ i g grid at there. subst (λ k. IsGridShown r groups k g grid) (sym (none_before i))
+      (group_shown r (frame_of r groups g) (place_at (length groups) i) (file_of_group groups g) g grid.buffer (All-in i g at)
+      (room_in_report r groups drawable i g at) (are.each i g grid at there)))
     where
       All-in : (i : ℕ) (g : Group) → slice_get groups i ≡ Some g → IsGroupDrawable g
       All-in i g at =
@@ -171,7 +176,10 @@ module _ (r : Renderer) (groups : List Group) (grids : List GroupGrid) (drawable
         printed = AllZip-weaker (λ sheet text. PrintsGrids sheet grids text) (λ sheet text. PrintsPage sheet (levels_of groups) report_page.page text) page_printed sheets texts printed;
         free = page_free;
         links = links_of_page;
-        plain = λ none. AllZip-weaker (λ sheet text. PrintsGrids sheet grids text) (λ sheet text. is_plain_sheet sheet ≡ true → text ≡ encode_utf8_all (page_text report_page.page)) (λ sheet text prints plain. plain_woven sheet text (page_text report_page.page) (report_links r groups) plain none (page_woven sheet text prints)) sheets texts printed;
+        plain = λ none. AllZip-weaker (λ sheet text. PrintsGrids sheet grids text)
+            (λ sheet text. is_plain_sheet sheet ≡ true → text ≡ encode_utf8_all (page_text report_page.page))
+            (λ sheet text prints plain. plain_woven sheet text (page_text report_page.page) (report_links r groups)
+            plain none (page_woven sheet text prints)) sheets texts printed;
       }
 
 -- the text of a report of no groups is empty

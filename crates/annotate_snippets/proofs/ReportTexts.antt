@@ -30,7 +30,10 @@ free_more few many text more free =
 
 pub free_first : (g : Group) (gs : List Group) (text : List ℕ) → IsFreeBut (trusted_texts (g ∷ [])) text → IsFreeBut (trusted_texts (g ∷ gs)) text
 free_first g gs text free =
-    free_more (trusted_texts (g ∷ [])) (trusted_texts (g ∷ gs)) text (λ c among. subst (λ cs. Contains cs c) (sym (flat_map-append chars (trusted_of g) (trusted_texts gs))) (Contains-append_left (flat_map chars (trusted_of g)) (flat_map chars (trusted_texts gs)) c (subst (λ ts. Contains (flat_map chars ts) c) (append-nil (trusted_of g)) among))) free
+    free_more (trusted_texts (g ∷ [])) (trusted_texts (g ∷ gs))
+    text (λ c among. subst (λ cs. Contains cs c) (sym (flat_map-append chars (trusted_of g) (trusted_texts gs)))
+    (Contains-append_left (flat_map chars (trusted_of g)) (flat_map chars (trusted_texts gs))
+    c (subst (λ ts. Contains (flat_map chars ts) c) (append-nil (trusted_of g)) among))) free
 
 pub free_rest : (g : Group) (gs : List Group) (text : List ℕ) → IsFreeBut (trusted_texts gs) text → IsFreeBut (trusted_texts (g ∷ gs)) text
 free_rest g gs text free =

@@ -58,7 +58,9 @@ widest-group wants most (h ∷ gs) zero g is =
     let own : ℕ = fold (greater wants) most h.elements.items in
     let all : fold (greater wants) most (flat_map elements_of (h ∷ gs)) ≡ fold (greater wants) own (flat_map elements_of gs) = fold-append (greater wants) most h.elements.items (flat_map elements_of gs) in
     let more : own ≤ fold (greater wants) own (flat_map elements_of gs) = widest-from wants own (flat_map elements_of gs) in
-    let here : All (λ e. wants e ≤ fold (greater wants) most (flat_map elements_of (h ∷ gs))) h.elements.items = All-weaker (λ e. wants e ≤ own) (λ e. wants e ≤ fold (greater wants) most (flat_map elements_of (h ∷ gs))) (λ e low. omega (arith, low, all, more)) h.elements.items (widest-each wants most h.elements.items) in
+    let here : All (λ e. wants e ≤ fold (greater wants) most (flat_map elements_of (h ∷ gs))) h.elements.items =
+    All-weaker (λ e. wants e ≤ own) (λ e. wants e ≤ fold (greater wants) most (flat_map elements_of (h ∷ gs)))
+    (λ e low. omega (arith, low, all, more)) h.elements.items (widest-each wants most h.elements.items) in
     subst (λ (k : Group). All (λ e. wants e ≤ fold (greater wants) most (flat_map elements_of (h ∷ gs))) k.elements.items) same here
 widest-group wants most (h ∷ gs) (suc i) g is =
     let own : ℕ = fold (greater wants) most h.elements.items in

@@ -44,7 +44,9 @@ pub primary_labels-append : (xs ys : List Annotation) → primary_labels (xs ++ 
 primary_labels-append xs ys =
     let labelled = λ (zs : List (List ℕ)). filter (λ label. not (list_all is_whitespace label)) zs in
     let primary = λ (zs : List Annotation). filter (λ (a : Annotation). is_primary a.kind) zs in
-    ap (λ zs. labelled (filter_map label_of zs)) (filter-append (λ (a : Annotation). is_primary a.kind) xs ys) ∙ ap labelled (filter_map-append label_of (primary xs) (primary ys)) ∙ filter-append (λ label. not (list_all is_whitespace label)) (filter_map label_of (primary xs)) (filter_map label_of (primary ys))
+    ap (λ zs. labelled (filter_map label_of zs)) (filter-append (λ (a : Annotation). is_primary a.kind) xs ys)
+    ∙ ap labelled (filter_map-append label_of (primary xs) (primary ys))
+    ∙ filter-append (λ label. not (list_all is_whitespace label)) (filter_map label_of (primary xs)) (filter_map label_of (primary ys))
 
 -- those of one more span
 pub primary_labels-more : (marks : List Annotation) (i : ℕ) (a : Annotation) → i < length marks → a ≡ get_or marks i a → primary_labels (take i marks) ++ primary_labels (a ∷ []) ≡ primary_labels (take (i + 1) marks)
@@ -90,7 +92,10 @@ pub joined_labels-added : (labels : List (List ℕ)) (old sep new label : List �
 joined_labels-added labels old sep new label empty text are none led added =
     let first : chars (old ++ lead empty) ≡ joined_labels labels ++ lead empty = chars-append old (lead empty) text ∙ ap (λ cs. cs ++ chars (lead empty)) are ∙ ap (λ cs. joined_labels labels ++ cs) (lead-chars empty) in
     let nothing : empty ≡ (length (joined_labels labels) == 0) = none ∙ is_empty-chars old text ∙ ap (λ cs. length cs == 0) are in
-    ap chars (added ∙ ap (λ t. t ++ label) led) ∙ chars-append (old ++ lead empty) label (IsUtf8-append old (lead empty) text (IsUtf8-from_ascii (lead empty) (lead-ascii empty))) ∙ ap (λ cs. cs ++ chars label) first ∙ append_assoc (joined_labels labels) (lead empty) (chars label) ∙ sym (joined_labels-last labels (chars label) empty nothing)
+    ap chars (added ∙ ap (λ t. t ++ label) led)
+    ∙ chars-append (old ++ lead empty) label (IsUtf8-append old (lead empty) text (IsUtf8-from_ascii (lead empty) (lead-ascii empty)))
+    ∙ ap (λ cs. cs ++ chars label) first ∙ append_assoc (joined_labels labels) (lead empty) (chars label)
+    ∙ sym (joined_labels-last labels (chars label) empty nothing)
 
 -- ---- the place before the title
 
@@ -129,7 +134,9 @@ place-short anonymized path place new short fits is =
     omega (arith, short, ap length is, length-append (origin_text anonymized path place) (58 ∷ 32 ∷ []), origin_text-short anonymized path place fits)
 
 -- it is the place of its snippet
-pub place-of_path : (r : Renderer) (s : Snippet Annotation) (path : List ℕ) (place : OriginLocation) → path_bytes s.path ≡ Some path → place ≡ place_named true (annotated_lines s.fold (numbered_source s) s.markers.items) → origin_text r.anonymized_origin_line_numbers path place ++ 58 ∷ 32 ∷ [] ≡ place_of_cause r (Some s)
+pub place-of_path : (r : Renderer) (s : Snippet Annotation) (path : List ℕ) (place : OriginLocation) → path_bytes s.path ≡ Some path
+    → place ≡ place_named true (annotated_lines s.fold (numbered_source s) s.markers.items)
+    → origin_text r.anonymized_origin_line_numbers path place ++ 58 ∷ 32 ∷ [] ≡ place_of_cause r (Some s)
 place-of_path r s path place has is =
     ap (λ p. origin_text r.anonymized_origin_line_numbers path p ++ 58 ∷ 32 ∷ []) is ∙ sym (ap (place_of_path r s) has)
 

@@ -152,7 +152,10 @@ title-trusted (h ∷ groups) g title first titled styled c is =
     all = rw (own, styled) refl
 
 -- the first row begins with the first place of the snippet's spans
-begins : (r : Renderer) (g : Group) (title : Title) (rows : List (List Cell)) → rows ≡ short_form r g title → IsGroupDrawable g → (s : Snippet Annotation) → first_cause g.elements.items ≡ Some s → (path : List ℕ) → path_bytes s.path ≡ Some path → list_any (λ a. is_marking a.kind) s.markers.items ≡ true → All (λ a. is_long (cow_str_bytes s.source) a ≡ false) s.markers.items → BeginsWithPlace r s path (row_at rows 0)
+begins : (r : Renderer) (g : Group) (title : Title) (rows : List (List Cell)) → rows ≡ short_form r g title → IsGroupDrawable g
+    → (s : Snippet Annotation) → first_cause g.elements.items ≡ Some s → (path : List ℕ) → path_bytes s.path ≡ Some path
+    → list_any (λ a. is_marking a.kind) s.markers.items ≡ true → All (λ a. is_long (cow_str_bytes s.source) a ≡ false) s.markers.items
+    → BeginsWithPlace r s path (row_at rows 0)
 begins r g title rows are drawable s first path has some none =
     let lines : List KeptLine = annotated_lines s.fold (numbered_source s) s.markers.items in
     let can : IsDrawable s = subst (λ cause. IfSome cause IsDrawable) first (first_cause-drawable g drawable) in
@@ -210,5 +213,8 @@ short-shown r groups grids sheets texts drawable page prints =
       printed = AllZip-weaker (λ sheet text. PrintsGrids sheet grids text) (λ sheet text. Prints sheet g.level rows text) each sheets texts prints;
       free = free_text (trusted_texts groups) rows (All-weaker (IsFreeButText heading) (IsFreeRow (trusted_texts groups)) (own_row (trusted_texts groups) heading (title-trusted groups g title page.first page.titled)) rows shows.free);
       links = links;
-      plain = λ none. AllZip-weaker (λ sheet text. PrintsGrids sheet grids text) (λ sheet text. is_plain_sheet sheet ≡ true → text ≡ encode_utf8_all (plain_text rows)) (λ sheet text given plain. plain_woven sheet text (plain_text rows) (links_of rows) plain (links ∙ none) (IsWoven-from_prints sheet g.level rows text (each sheet text given))) sheets texts prints;
+      plain = λ none. AllZip-weaker (λ sheet text. PrintsGrids sheet grids text)
+          (λ sheet text. is_plain_sheet sheet ≡ true → text ≡ encode_utf8_all (plain_text rows))
+          (λ sheet text given plain. plain_woven sheet text (plain_text rows) (links_of rows) plain (links ∙ none)
+          (IsWoven-from_prints sheet g.level rows text (each sheet text given))) sheets texts prints;
     }

@@ -88,7 +88,10 @@ signs_shown : (r : Renderer) (frame : Frame) (around : ElementContext) (s : Snip
 signs_shown r frame around s lines shown =
     let layout : SuggestionLayout = suggestion_layout r frame s in
     let next : Bool = not (is_end around.next) in
-    subst (AllZip (HasSign layout s) (suggestion_rows around s)) (sym shown.are) (zip_append (HasSign layout s) (rows_of_suggestion around.start s) (if around.shared then [] else Ends next ∷ []) (body_cells layout around.start s shown.under) (if around.shared then [] else row_cells layout s [] (Ends next) ∷ []) (body_signs layout around.start s shown.under) (ends_sign layout s next around.shared))
+    subst (AllZip (HasSign layout s) (suggestion_rows around s)) (sym shown.are)
+    (zip_append (HasSign layout s) (rows_of_suggestion around.start s) (if around.shared then [] else Ends next ∷ [])
+    (body_cells layout around.start s shown.under) (if around.shared then [] else row_cells layout s [] (Ends next) ∷ [])
+    (body_signs layout around.start s shown.under) (ends_sign layout s next around.shared))
 
 -- the rows of a suggestion show it, once they have names: after the row of its path those of its lines
 pub suggestion_shown : (r : Renderer) (frame : Frame) (around : ElementContext) (s : Snippet Patch) (rows : List (List Cell)) → IsSuggestible s → s.markers.items ≢ [] → HasRoomFor r frame (Suggestion s) → IsSuggestionDrawn r frame around s rows → ElementShown r frame around (Suggestion s) rows

@@ -126,7 +126,10 @@ title_holds r (Some t) begun =
 
 group_holds : (r : Renderer) (groups : List Group) (g : Group) (begun : Bool) → StandInOrder (group_texts g) (plain_from begun (group_form r groups g))
 group_holds r groups g begun =
-    both_hold (flat_map (λ (t : Title). whole_text (heading_of_title t)) (option_to_list g.title)) (flat_map element_texts g.elements.items) begun (title_form r g.title) (elements_form r (file_of_group groups g) None (drawn_elements g)) (title_holds r g.title) (λ b. subst (λ (ts : List (List ℕ)). StandInOrder ts (plain_from b (elements_form r (file_of_group groups g) None (drawn_elements g)))) (drawn_texts g.elements.items) (elements_hold r (file_of_group groups g) None (drawn_elements g) b))
+    both_hold (flat_map (λ (t : Title). whole_text (heading_of_title t)) (option_to_list g.title)) (flat_map element_texts g.elements.items)
+    begun (title_form r g.title) (elements_form r (file_of_group groups g) None (drawn_elements g)) (title_holds r g.title)
+    (λ b. subst (λ (ts : List (List ℕ)). StandInOrder ts (plain_from b (elements_form r (file_of_group groups g) None (drawn_elements g))))
+    (drawn_texts g.elements.items) (elements_hold r (file_of_group groups g) None (drawn_elements g) b))
 
 groups_hold : (r : Renderer) (groups gs : List Group) (begun : Bool) → StandInOrder (report_texts gs) (plain_from begun (flat_map (group_form r groups) gs))
 groups_hold r groups [] begun = tt
@@ -149,7 +152,9 @@ elements_free : (trusted : List (List ℕ)) (r : Renderer) (file : Option (List 
 elements_free trusted r file before [] among begun = All-nil (IsTrusted trusted)
 elements_free trusted r file before (e ∷ es) among begun =
     let Among : Element → Type 0 = λ x. AreTextsAmong trusted (trusted_of_element x) in
-    both_free trusted begun (element_form r file before (first_two_share (e ∷ es)) e) (elements_form r file (before_next before e) es) (element_free trusted r file before (first_two_share (e ∷ es)) e (All-head Among e es among)) (elements_free trusted r file (before_next before e) es (All-tail Among e es among))
+    both_free trusted begun (element_form r file before (first_two_share (e ∷ es)) e) (elements_form r file (before_next before e) es)
+    (element_free trusted r file before (first_two_share (e ∷ es)) e (All-head Among e es among))
+    (elements_free trusted r file (before_next before e) es (All-tail Among e es among))
 
 title_free : (r : Renderer) (title : Option Title) (more : List (List ℕ)) (begun : Bool) → IsFreeBut (flat_map trusted_of_title (option_to_list title) ++ more) (plain_from begun (title_form r title))
 title_free r None more begun = All-nil (IsTrusted more)
@@ -183,7 +188,9 @@ report_woven : (r : Renderer) (groups : List Group) (sheet : Stylesheet) (text :
 report_woven r groups sheet text is =
     subst (IsWoven sheet text (form_text (text_form r groups))) (groups_links r groups groups ∙ links_of_titles r groups) is.1
 
-pub text-shown : (r : Renderer) (groups : List Group) (sheets : List Stylesheet) (texts : List (List ℕ)) → AllZip (λ sheet text. (text ≡ form_bytes sheet (text_form r groups)) × IsWoven sheet text (form_text (text_form r groups)) (form_links (text_form r groups))) sheets texts → TextShown r groups sheets texts
+pub text-shown : (r : Renderer) (groups : List Group) (sheets : List Stylesheet) (texts : List (List ℕ))
+    → AllZip (λ sheet text. (text ≡ form_bytes sheet (text_form r groups))
+    × IsWoven sheet text (form_text (text_form r groups)) (form_links (text_form r groups))) sheets texts → TextShown r groups sheets texts
 text-shown r groups sheets texts are =
     let plain : List ℕ = form_text (text_form r groups) in
     record {

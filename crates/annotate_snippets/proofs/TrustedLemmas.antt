@@ -70,7 +70,9 @@ abbrev pub AreTextsAmong : List (List ℕ) → List (List ℕ) → Type 0
 AreTextsAmong trusted texts = (c : ℕ) → Contains (flat_map chars texts) c → Contains (flat_map chars trusted) c
 
 -- a text that holds no listed character but those of a heading's text, which is among the trusted texts if it is trusted
-pub own_text : (trusted : List (List ℕ)) (heading : Heading) → (heading.allows_styling ≡ true → (c : ℕ) → Contains (chars heading.text) c → Contains (flat_map chars trusted) c) → (text : List ℕ) → All (λ c. is_listed c ≡ true → (heading.allows_styling ≡ true) × Contains (chars heading.text) c) text → IsFreeBut trusted text
+pub own_text : (trusted : List (List ℕ)) (heading : Heading)
+    → (heading.allows_styling ≡ true → (c : ℕ) → Contains (chars heading.text) c → Contains (flat_map chars trusted) c) → (text : List ℕ)
+    → All (λ c. is_listed c ≡ true → (heading.allows_styling ≡ true) × Contains (chars heading.text) c) text → IsFreeBut trusted text
 own_text trusted heading among text own =
     All-weaker (λ c. is_listed c ≡ true → (heading.allows_styling ≡ true) × Contains (chars heading.text) c) (IsTrusted trusted) (λ c is listed. among (is listed).0 c (is listed).1) text own
 
@@ -107,12 +109,18 @@ title_part-free r frame place follows (Some title) more =
     let trusted : List (List ℕ) = flat_map trusted_of_title (title ∷ []) ++ more in
     let own : List (List Cell) = title_rows r.hyperlink title in
     let after : List (List Cell) = rows_after_title r frame place follows title.allows_styling in
-    All-append (IsFreeRow trusted) own after (All-weaker (IsFreeButText (heading_of_title title)) (IsFreeRow trusted) (own_row trusted (heading_of_title title) (title_among title more)) own (heading_rows-free r.hyperlink style.Title (heading_of_title title))) (free_rows trusted after (after_title-free r frame place follows title.allows_styling))
+    All-append (IsFreeRow trusted) own after
+    (All-weaker (IsFreeButText (heading_of_title title)) (IsFreeRow trusted) (own_row trusted (heading_of_title title) (title_among title more))
+    own (heading_rows-free r.hyperlink style.Title (heading_of_title title)))
+    (free_rows trusted after (after_title-free r frame place follows title.allows_styling))
 
 -- so are those of the rows of an element whose trusted texts are among these
 pub element-free : (trusted : List (List ℕ)) (e : Element) (part : List NamedRow) → AreTextsAmong trusted (trusted_of_element e) → IsFreeElement e part → All (IsFreeRow trusted) (cells_of part)
 element-free trusted (Message message) part among free =
-    All-map (IsFreeRow trusted) (λ (row : NamedRow). row.cells) part (All-weaker (λ (row : NamedRow). IsFreeButText (heading_of_message message) row.cells) (λ (row : NamedRow). IsFreeRow trusted row.cells) (λ row own. own_row trusted (heading_of_message message) (λ styled. message_among trusted message among) row.cells own) part free)
+    All-map (IsFreeRow trusted) (λ (row : NamedRow). row.cells)
+    part (All-weaker (λ (row : NamedRow). IsFreeButText (heading_of_message message)
+    row.cells) (λ (row : NamedRow). IsFreeRow trusted row.cells)
+    (λ row own. own_row trusted (heading_of_message message) (λ styled. message_among trusted message among) row.cells own) part free)
 element-free trusted (Cause snippet) part among free =
     free_rows trusted (cells_of part) (All-map IsFree (λ (row : NamedRow). row.cells) part free)
 element-free trusted (Suggestion snippet) part among free =
@@ -138,4 +146,7 @@ texts_among titles es =
         let others : List (List ℕ) = flat_map trusted_of_element xs in
         let same : flat_map chars (own ++ others) ≡ flat_map chars own ++ flat_map chars others = flat_map-append chars own others in
         let All_in : Element → Type 0 = λ e. AreTextsAmong (own ++ others) (trusted_of_element e) in
-        All-cons All_in x xs (λ c is. subst (λ cs. Contains cs c) (sym same) (Contains-append_left (flat_map chars own) (flat_map chars others) c is)) (All-weaker (λ e. AreTextsAmong others (trusted_of_element e)) All_in (λ e among c is. subst (λ cs. Contains cs c) (sym same) (Contains-append_right (flat_map chars own) (flat_map chars others) c (among c is))) xs (each xs))
+        All-cons All_in x xs (λ c is. subst (λ cs. Contains cs c) (sym same) (Contains-append_left (flat_map chars own) (flat_map chars others) c is))
+        (All-weaker (λ e. AreTextsAmong others (trusted_of_element e))
+        All_in (λ e among c is. subst (λ cs. Contains cs c) (sym same)
+        (Contains-append_right (flat_map chars own) (flat_map chars others) c (among c is))) xs (each xs))

@@ -58,7 +58,9 @@ widest-drawn wants none most (e ∷ es) = by (is_drawn e) refl (λ m. widest-dra
         ap (λ b. fold (greater wants) most (cond b (e ∷ filter is_drawn es) (filter is_drawn es))) is ∙ rest most ∙ ap (λ m. fold (greater wants) m es) same
 
 -- that of a group's elements that were prepared is that of the group
-pub widest-prepared : (wants : Element → ℕ) → ((e : Element) → is_drawn e ≡ false → wants e ≡ 0) → (most : ℕ) (p : PreparedGroup) (ps : List PreparedElement) → ps ≡ p.elements.items → IsGroupPrepared p → fold (greater wants) most (map element_of ps) ≡ fold (greater wants) most p.group.now.elements.items
+pub widest-prepared : (wants : Element → ℕ) → ((e : Element) → is_drawn e ≡ false → wants e ≡ 0)
+    → (most : ℕ) (p : PreparedGroup) (ps : List PreparedElement) → ps ≡ p.elements.items → IsGroupPrepared p
+    → fold (greater wants) most (map element_of ps) ≡ fold (greater wants) most p.group.now.elements.items
 widest-prepared wants none most p ps is prepared =
     ap (λ (qs : List PreparedElement). fold (greater wants) most (map element_of qs)) is ∙ ap (fold (greater wants) most) prepared.elements_are ∙ widest-drawn wants none most p.group.now.elements.items
 
@@ -67,9 +69,13 @@ abbrev pub elements_in : PreparedGroup → List Element
 elements_in p = p.group.now.elements.items
 
 -- one more of some groups
-pub widest-more_groups : (wants : Element → ℕ) (ps : List PreparedGroup) (i : ℕ) (p : PreparedGroup) → i < length ps → p ≡ get_or ps i p → fold (greater wants) 0 (flat_map elements_in (take (i + 1) ps)) ≡ fold (greater wants) (fold (greater wants) 0 (flat_map elements_in (take i ps))) p.group.now.elements.items
+pub widest-more_groups : (wants : Element → ℕ) (ps : List PreparedGroup) (i : ℕ) (p : PreparedGroup) → i < length ps → p ≡ get_or ps i p
+    → fold (greater wants) 0 (flat_map elements_in (take (i + 1) ps)) ≡ fold (greater wants)
+    (fold (greater wants) 0 (flat_map elements_in (take i ps))) p.group.now.elements.items
 widest-more_groups wants ps i p within is =
     let f : ℕ → Element → ℕ = greater wants in
     let before : List Element = flat_map elements_in (take i ps) in
-    let more : flat_map elements_in (take (i + 1) ps) ≡ before ++ elements_in p = ap (flat_map elements_in) (take_more ps i p within ∙ ap (λ (q : PreparedGroup). take i ps ++ q ∷ []) (sym is)) ∙ flat_map-append elements_in (take i ps) (p ∷ []) ∙ ap (λ es. before ++ es) (append-nil (elements_in p)) in
+    let more : flat_map elements_in (take (i + 1) ps) ≡ before ++ elements_in p =
+    ap (flat_map elements_in) (take_more ps i p within ∙ ap (λ (q : PreparedGroup). take i ps ++ q ∷ []) (sym is))
+    ∙ flat_map-append elements_in (take i ps) (p ∷ []) ∙ ap (λ es. before ++ es) (append-nil (elements_in p)) in
     ap (fold f 0) more ∙ fold-append f 0 before (elements_in p)

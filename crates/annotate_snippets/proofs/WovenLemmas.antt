@@ -54,7 +54,9 @@ IsWoven-from_groups sheet (level ∷ []) (g ∷ other ∷ gs) (part ∷ parts) p
 IsWoven-from_groups sheet (level ∷ more ∷ levels) (g ∷ []) (part ∷ parts) printed = absurd printed.1
 IsWoven-from_groups sheet (level ∷ more ∷ levels) (g ∷ other ∷ gs) (part ∷ []) printed = absurd printed.1
 IsWoven-from_groups sheet (level ∷ more ∷ levels) (g ∷ other ∷ gs) (part ∷ next ∷ parts) printed =
-    IsWoven-joined sheet part (plain_text (group_rows g)) (links_of (group_rows g)) (join_with_byte 10 (next ∷ parts)) (page_text (other ∷ gs)) (page_links (other ∷ gs)) (IsWoven-from_prints sheet level (group_rows g) part printed.0) (IsWoven-from_groups sheet (more ∷ levels) (other ∷ gs) (next ∷ parts) printed.1)
+    IsWoven-joined sheet part (plain_text (group_rows g)) (links_of (group_rows g)) (join_with_byte 10 (next ∷ parts)) (page_text (other ∷ gs))
+    (page_links (other ∷ gs)) (IsWoven-from_prints sheet level (group_rows g) part printed.0)
+    (IsWoven-from_groups sheet (more ∷ levels) (other ∷ gs) (next ∷ parts) printed.1)
 
 pub IsWoven-from_page : (sheet : Stylesheet) (levels : List LevelInner) (page : Page) (text : List ℕ) → PrintsPage sheet levels page text → IsWoven sheet text (page_text page) (page_links page)
 IsWoven-from_page sheet levels page text prints =

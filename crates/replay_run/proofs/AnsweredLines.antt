@@ -82,7 +82,9 @@ answered_none form is_first held left old is =
       still = refl;
     }
 
-answered_more : (form : Form) (is_first still_first : Bool) (held left next old mid out new : Option (List ℕ)) (line text : List ℕ) → HaveAnswered form is_first still_first held left old mid → GivesLine left next line → AnswersLine form still_first line text → Appends mid out text → Keeps out new → HaveAnswered form is_first false held next old new
+answered_more : (form : Form) (is_first still_first : Bool) (held left next old mid out new : Option (List ℕ)) (line text : List ℕ)
+    → HaveAnswered form is_first still_first held left old mid → GivesLine left next line → AnswersLine form still_first line text
+    → Appends mid out text → Keeps out new → HaveAnswered form is_first false held next old new
 answered_more form is_first still_first held left next old mid out new line text h gives answers added kept =
     let here : AnswersLine form (first_after is_first h.lines) line text = subst (λ f. AnswersLine form f line text) h.still answers in
     let alone : Appends mid out (concat (text ∷ [])) = subst (Appends mid out) (sym (append-nil text)) added in
@@ -95,12 +97,18 @@ answered_more form is_first still_first held left next old mid out new line text
       still = sym (first_twice is_first h.lines (line ∷ []));
     }
 
-pub answered_step : {E : Type 0} (form : Form) (is_first still_first : Bool) (held left next old mid out new : Option (List ℕ)) (r : Option (Result (String Global) E)) (line : Result (String Global) E) → HaveAnswered form is_first still_first held left old mid → r ≡ Some line → YieldsKnownPiece string_bytes first_line 10 left r next → IsOkAnd line (λ x. (text : List ℕ) × AnswersLine form still_first (string_bytes x) text × Appends mid out text) → Keeps out new → HaveAnswered form is_first false held next old new
+pub answered_step : {E : Type 0} (form : Form) (is_first still_first : Bool) (held left next old mid out new : Option (List ℕ))
+    (r : Option (Result (String Global) E)) (line : Result (String Global) E) → HaveAnswered form is_first still_first held left old mid
+    → r ≡ Some line → YieldsKnownPiece string_bytes first_line 10 left r next
+    → IsOkAnd line (λ x. (text : List ℕ) × AnswersLine form still_first (string_bytes x) text × Appends mid out text) → Keeps out new
+    → HaveAnswered form is_first false held next old new
 answered_step form is_first still_first held left next old mid out new r (Ok x) h is gives answers kept =
     answered_more form is_first still_first held left next old mid out new (string_bytes x) answers.0 h (subst (λ item. YieldsKnownPiece string_bytes first_line 10 left item next) is gives) answers.1 answers.2 kept
 answered_step form is_first still_first held left next old mid out new r (Err e) h is gives answers kept = absurd answers
 
-pub answered_all : {E : Type 0} (form : Form) (is_first still_first : Bool) (held left next old new : Option (List ℕ)) (r : Option (Result (String Global) E)) → HaveAnswered form is_first still_first held left old new → r ≡ None → YieldsKnownPiece string_bytes first_line 10 left r next → AnswersReader form is_first still_first held old new
+pub answered_all : {E : Type 0} (form : Form) (is_first still_first : Bool) (held left next old new : Option (List ℕ))
+    (r : Option (Result (String Global) E)) → HaveAnswered form is_first still_first held left old new → r ≡ None
+    → YieldsKnownPiece string_bytes first_line 10 left r next → AnswersReader form is_first still_first held old new
 answered_all form is_first still_first held left next old new r h is gives =
     record {
       lines = h.lines;

@@ -39,7 +39,9 @@ readers_none bytes form old =
       still = refl;
     }
 
-pub readers_more : {Reader : Type 0} (bytes : Reader → Option (List ℕ)) (form : Form) (count : ℕ) (is_first still_first : Bool) (old mid new : Option (List ℕ)) (reader : Reader) → HaveAnsweredReaders Reader bytes form count is_first old mid → AnswersReader form is_first still_first (bytes reader) mid new → HaveAnsweredReaders Reader bytes form (count + 1) still_first old new
+pub readers_more : {Reader : Type 0} (bytes : Reader → Option (List ℕ)) (form : Form) (count : ℕ) (is_first still_first : Bool)
+    (old mid new : Option (List ℕ)) (reader : Reader) → HaveAnsweredReaders Reader bytes form count is_first old mid
+    → AnswersReader form is_first still_first (bytes reader) mid new → HaveAnsweredReaders Reader bytes form (count + 1) still_first old new
 readers_more bytes form count is_first still_first old mid new reader h one =
     let so_far = lines_of h.all.readers in
     let next : AnswersLines form (first_after true so_far) one.lines one.texts = subst (λ f. AnswersLines form f one.lines one.texts) h.still one.answered in

@@ -54,7 +54,11 @@ fails : (passes : Bool) → ◌≡◌ {A = ℕ} (cond (not passes) 1 0) (if pass
 fails true = refl
 fails false = refl
 
-pub judged_more : (expected cases expected_left cases_left expected_next cases_next : Option (List ℕ)) (counts more_counts : Counts) (answer line : List ℕ) (passes : Bool) → HaveJudgedKnown expected cases expected_left cases_left counts → GivesLine expected_left expected_next answer → GivesLine cases_left cases_next line → JudgesLine answer line passes → more_counts.passed ≡ counts.passed + (if passes then 1 else 0) → more_counts.failed ≡ counts.failed + (if passes then 0 else 1) → HaveJudgedKnown expected cases expected_next cases_next more_counts
+pub judged_more : (expected cases expected_left cases_left expected_next cases_next : Option (List ℕ)) (counts more_counts : Counts)
+    (answer line : List ℕ) (passes : Bool) → HaveJudgedKnown expected cases expected_left cases_left counts
+    → GivesLine expected_left expected_next answer → GivesLine cases_left cases_next line → JudgesLine answer line passes
+    → more_counts.passed ≡ counts.passed + (if passes then 1 else 0) → more_counts.failed ≡ counts.failed + (if passes then 0 else 1)
+    → HaveJudgedKnown expected cases expected_next cases_next more_counts
 judged_more None cases _ _ _ _ _ _ _ _ _ h answers lines judges passed failed = tt
 judged_more (Some answers) None _ _ _ _ _ _ _ _ _ h gives_answer gives_line judges passed failed = tt
 judged_more (Some answers) (Some lines) expected_left cases_left expected_next cases_next counts more_counts answer line passes h gives_answer gives_line judges passed failed =
@@ -100,7 +104,9 @@ no_files bytes counts passed failed =
 bounded : (a b top sum : ℕ) → a ≡ min sum top → min (a + b) top ≡ min (sum + b) top
 bounded a b top sum is = rw is (omega arith)
 
-pub one_more : {File : Type 0} (bytes : File → Option (List ℕ)) (pairs : ℕ) (counts more all : Counts) (expected cases : File) → CountsFiles File bytes pairs counts → CountsLines (bytes expected) (bytes cases) more → all.passed ≡ min (counts.passed + more.passed) most → all.failed ≡ min (counts.failed + more.failed) most → CountsFiles File bytes (pairs + 1) all
+pub one_more : {File : Type 0} (bytes : File → Option (List ℕ)) (pairs : ℕ) (counts more all : Counts) (expected cases : File)
+    → CountsFiles File bytes pairs counts → CountsLines (bytes expected) (bytes cases) more → all.passed ≡ min (counts.passed + more.passed) most
+    → all.failed ≡ min (counts.failed + more.failed) most → CountsFiles File bytes (pairs + 1) all
 one_more bytes pairs counts more all expected cases h judged passed failed =
     record {
       files = h.files ++ (expected, cases, more) ∷ [];
@@ -119,7 +125,14 @@ pub ended : {E : Type 0} (old new : Option (List ℕ)) (r : Option (Result (Stri
 ended old new r is piece =
     subst (λ next. YieldsKnownPiece string_bytes first_line 10 old next new) is piece
 
-pub judged_step : {E F : Type 0} (expected cases expected_left cases_left expected_next cases_next : Option (List ℕ)) (counts more : Counts) (a : Option (Result (String Global) E)) (l : Option (Result (String Global) F)) (answer : Result (String Global) E) (line : Result (String Global) F) (passes : Bool) → HaveJudgedKnown expected cases expected_left cases_left counts → a ≡ Some answer → l ≡ Some line → YieldsKnownPiece string_bytes first_line 10 expected_left a expected_next → YieldsKnownPiece string_bytes first_line 10 cases_left l cases_next → IsOkAnd answer (λ x. IsOkAnd line (λ y. JudgesLine (string_bytes x) (string_bytes y) passes)) → more.passed ≡ counts.passed + (if passes then 1 else 0) → more.failed ≡ counts.failed + (if passes then 0 else 1) → HaveJudgedKnown expected cases expected_next cases_next more
+pub judged_step : {E F : Type 0} (expected cases expected_left cases_left expected_next cases_next : Option (List ℕ)) (counts more : Counts)
+    (a : Option (Result (String Global) E)) (l : Option (Result (String Global) F)) (answer : Result (String Global) E)
+    (line : Result (String Global) F) (passes : Bool) → HaveJudgedKnown expected cases expected_left cases_left counts → a ≡ Some answer
+    → l ≡ Some line → YieldsKnownPiece string_bytes first_line 10 expected_left a expected_next
+    → YieldsKnownPiece string_bytes first_line 10 cases_left l cases_next
+    → IsOkAnd answer (λ x. IsOkAnd line (λ y. JudgesLine (string_bytes x) (string_bytes y) passes))
+    → more.passed ≡ counts.passed + (if passes then 1 else 0) → more.failed ≡ counts.failed + (if passes then 0 else 1)
+    → HaveJudgedKnown expected cases expected_next cases_next more
 judged_step expected cases el cl en cn counts more a l (Ok x) (Ok y) passes h a_is l_is a_gives l_gives judges passed failed =
     judged_more expected cases el cl en cn counts more (string_bytes x) (string_bytes y) passes h (subst (λ next. YieldsKnownPiece string_bytes first_line 10 el next en) a_is a_gives) (subst (λ next. YieldsKnownPiece string_bytes first_line 10 cl next cn) l_is l_gives) judges passed failed
 judged_step expected cases el cl en cn counts more a l (Ok x) (Err e) passes h a_is l_is a_gives l_gives judges passed failed = absurd judges

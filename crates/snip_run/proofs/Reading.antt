@@ -41,7 +41,9 @@ name_begins Styled xs w ws e = (3, omega arith, cc)
 name_begins (Width digits) xs w ws e = (4, omega arith, cc)
 
 -- where words begin with an option, a line's first option is that one
-first_setting : (s : Setting) (rest : List Word) (settings : List Setting) (file : Word) (more : List Word) → words_of s ++ rest ≡ flat_map words_of settings ++ file ∷ more → (Contains option_names file → ⊥) → (later : List Setting) × (settings ≡ s ∷ later) × (rest ≡ flat_map words_of later ++ file ∷ more)
+first_setting : (s : Setting) (rest : List Word) (settings : List Setting) (file : Word) (more : List Word)
+    → words_of s ++ rest ≡ flat_map words_of settings ++ file ∷ more → (Contains option_names file → ⊥)
+    → (later : List Setting) × (settings ≡ s ∷ later) × (rest ≡ flat_map words_of later ++ file ∷ more)
 first_setting s rest [] file more e free = absurd (free (name_begins s rest file more (sym e)))
 first_setting s rest (t ∷ later) file more e free =
     let same = same_setting s t rest (flat_map words_of later ++ file ∷ more) (e ∙ append_assoc (words_of t) (flat_map words_of later) (file ∷ more)) in

@@ -224,9 +224,15 @@ line-left p i now fails before =
     before ∙ sym (filter-more p i ∙ ap (λ b. filter p (range_with_len 0 i) ++ cond b (i ∷ []) []) fails ∙ append-nil (filter p (range_with_len 0 i)))
 
 -- with all spans
-pub kept-all : (p : ℕ → Annotation → Bool) (marks : List Annotation) (fold : Bool) (i n : ℕ) (reach lent : List ℕ) → length marks ≤ i → length reach ≡ n → lent ≡ reach → ((k : ℕ) → is_covered reach k ≡ list_any (p k) (take i marks)) → filter (λ k. not fold || is_covered lent k) (range_with_len 0 (length lent)) ≡ filter (λ k. not fold || list_any (p k) marks) (range_with_len 0 n)
+pub kept-all : (p : ℕ → Annotation → Bool) (marks : List Annotation) (fold : Bool) (i n : ℕ) (reach lent : List ℕ) → length marks ≤ i
+    → length reach ≡ n → lent ≡ reach → ((k : ℕ) → is_covered reach k ≡ list_any (p k) (take i marks))
+    → filter (λ k. not fold || is_covered lent k) (range_with_len 0 (length lent)) ≡ filter (λ k. not fold || list_any (p k) marks)
+    (range_with_len 0 n)
 kept-all p marks fold i n reach lent all len is so_far =
-    ap (λ xs. filter (λ k. not fold || is_covered xs k) (range_with_len 0 (length xs))) is ∙ ap (λ m. filter (λ k. not fold || is_covered reach k) (range_with_len 0 m)) len ∙ filter_agree (λ k. not fold || is_covered reach k) (λ k. not fold || list_any (p k) marks) (λ k. ap (λ b. not fold || b) (so_far k ∙ ap (list_any (p k)) (take_all i marks all))) (range_with_len 0 n)
+    ap (λ xs. filter (λ k. not fold || is_covered xs k) (range_with_len 0 (length xs))) is
+    ∙ ap (λ m. filter (λ k. not fold || is_covered reach k) (range_with_len 0 m)) len
+    ∙ filter_agree (λ k. not fold || is_covered reach k) (λ k. not fold || list_any (p k) marks)
+    (λ k. ap (λ b. not fold || b) (so_far k ∙ ap (list_any (p k)) (take_all i marks all))) (range_with_len 0 n)
 
 pub kept-within : (p : ℕ → Bool) (n : ℕ) → All (λ k. k < n) (filter p (range_with_len 0 n))
 kept-within p n = All-filter p (λ k. k < n) (range_with_len 0 n) (All-weaker (λ k. (0 ≤ k) × (k < 0 + n)) (λ k. k < n) (λ k within. omega (arith, within.1)) (range_with_len 0 n) (All-range 0 n))

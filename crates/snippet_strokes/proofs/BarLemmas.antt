@@ -117,7 +117,9 @@ beside_itself bars from k d same =
     }
 
 -- one more bar stands beside those before it
-pub beside_next : (bars : List OpenBar) (from to k : ℕ) (d e : OpenBar) → from < to → k ≡ to → to < length bars → StandsBeside (get_or bars from d) (to - 1 - from) (get_or bars (to - 1) d) → StandsBeside (get_or bars (to - 1) e) 1 (get_or bars to e) → StandsBeside (get_or bars from d) (k - from) (get_or bars k d)
+pub beside_next : (bars : List OpenBar) (from to k : ℕ) (d e : OpenBar) → from < to → k ≡ to → to < length bars
+    → StandsBeside (get_or bars from d) (to - 1 - from) (get_or bars (to - 1) d) → StandsBeside (get_or bars (to - 1) e) 1 (get_or bars to e)
+    → StandsBeside (get_or bars from d) (k - from) (get_or bars k d)
 beside_next bars from to k d e ordered same within done next =
     let here : get_or bars to e ≡ get_or bars to d = get_or_default bars to e d within in
     let before : get_or bars (to - 1) e ≡ get_or bars (to - 1) d = get_or_default bars (to - 1) e d (omega (arith, within)) in
@@ -128,7 +130,9 @@ beside_next bars from to k d e ordered same within done next =
     }
 
 -- parts of bars are written into a row
-BarsDrawn-write : (layout : Layout) (old new : List (List Cell)) (row at : ℕ) (cells : List Cell) → WritesCells old new row at cells → layout.gutter + 3 ≤ at → at + length cells ≤ layout.code → All (IsBarCell layout.decor) cells → All IsFreeCell cells → BarsDrawn layout (row_at old row) (row_at new row)
+BarsDrawn-write : (layout : Layout) (old new : List (List Cell)) (row at : ℕ) (cells : List Cell) → WritesCells old new row at cells
+    → layout.gutter + 3 ≤ at → at + length cells ≤ layout.code → All (IsBarCell layout.decor) cells → All IsFreeCell cells
+    → BarsDrawn layout (row_at old row) (row_at new row)
 BarsDrawn-write layout old new row at cells writes right near bar_cell clean =
     let before = row_at old row in
     let later = row_at new row in
@@ -138,7 +142,10 @@ BarsDrawn-write layout old new row at cells writes right near bar_cell clean =
     record {
       left = λ c left. writes.before c (omega (arith, left, right));
       bar_cells = λ c is. written_cell Q old new row at c cells writes bar_cell is;
-      code = ext_get_or SPACE (drop layout.code later) (drop layout.code before) (omega (arith, length-drop layout.code later, length-drop layout.code before, long, near)) (λ k within. get_or-drop layout.code later k SPACE ∙ writes.after (layout.code + k) (omega (arith, near)) ∙ sym (get_or-drop layout.code before k SPACE));
+      code = ext_get_or SPACE (drop layout.code later) (drop layout.code before)
+          (omega (arith, length-drop layout.code later, length-drop layout.code before, long, near))
+          (λ k within. get_or-drop layout.code later k SPACE ∙ writes.after (layout.code + k) (omega (arith, near))
+          ∙ sym (get_or-drop layout.code before k SPACE));
       longer = omega (arith, long);
       short = omega (arith, long, near);
       free = λ free. All-from_get_or P later SPACE (λ c within. written_cell P old new row at c cells writes clean (elim (cases_lt c (length before)) [
@@ -147,7 +154,9 @@ BarsDrawn-write layout old new row at cells writes right near bar_cell clean =
       ]));
     }
 
-pub DrawsBars-writes : (layout : Layout) (row r at : ℕ) (old new : List (List Cell)) (cells : List Cell) → WritesCells old new r at cells → row ≤ r → r < length old → layout.gutter + 3 ≤ at → at + length cells ≤ layout.code → All (IsBarCell layout.decor) cells → All IsFreeCell cells → DrawsBars layout row old new
+pub DrawsBars-writes : (layout : Layout) (row r at : ℕ) (old new : List (List Cell)) (cells : List Cell) → WritesCells old new r at cells → row ≤ r
+    → r < length old → layout.gutter + 3 ≤ at → at + length cells ≤ layout.code → All (IsBarCell layout.decor) cells → All IsFreeCell cells
+    → DrawsBars layout row old new
 DrawsBars-writes layout row r at old new cells writes lower within right near bar_cell clean =
     record {
       above = λ k high. writes.others k (λ same. omega (arith, same, high, lower));
@@ -211,7 +220,9 @@ ShowsMarks-drawn layout es old new shows drawn =
       lone = λ e alone wide label. sym (drop-drop e.end.display layout.code new) ∙ ap (drop e.end.display) drawn.code ∙ drop-drop e.end.display layout.code old ∙ shows.lone e alone wide label;
     }
 
-AreStrokes-drawn : (layout : Layout) (room : ℕ) (es : List LineAnnotation) (closes : Bool) (old new : List (List Cell)) → AreStrokes layout room es closes old → length new ≡ length old → ((k : ℕ) → k < length old → BarsDrawn layout (row_at old k) (row_at new k)) → AreStrokes layout room es closes new
+AreStrokes-drawn : (layout : Layout) (room : ℕ) (es : List LineAnnotation) (closes : Bool) (old new : List (List Cell))
+    → AreStrokes layout room es closes old → length new ≡ length old → ((k : ℕ) → k < length old → BarsDrawn layout (row_at old k) (row_at new k))
+    → AreStrokes layout room es closes new
 AreStrokes-drawn layout room es closes old new is count drawn =
     let plain : Bool = are_plain room layout.decor es in
     record {
@@ -247,7 +258,9 @@ AreStrokes-drawn layout room es closes old new is count drawn =
         ]
 
 -- the strokes of a line with bars that are drawn beside all its rows
-pub AddsStrokes-drawn : (layout : Layout) (room : ℕ) (es : List LineAnnotation) (closes : Bool) (above : List (List Cell)) (plain : List Cell) (old new : List (List Cell)) (row : ℕ) → row ≡ length above → layout.gutter + 2 ≤ length plain → AddsStrokes layout room es closes above plain old → DrawsBars layout row old new → AddsStrokes layout room es closes above plain new
+pub AddsStrokes-drawn : (layout : Layout) (room : ℕ) (es : List LineAnnotation) (closes : Bool) (above : List (List Cell)) (plain : List Cell)
+    (old new : List (List Cell)) (row : ℕ) → row ≡ length above → layout.gutter + 2 ≤ length plain → AddsStrokes layout room es closes above plain old
+    → DrawsBars layout row old new → AddsStrokes layout room es closes above plain new
 AddsStrokes-drawn layout room es closes above plain old new row last long adds draws =
     let source = adds.source in
     let rows = adds.rows in
@@ -266,7 +279,9 @@ AddsStrokes-drawn layout room es closes above plain old new row last long adds d
       rows = below;
       added = split new row ∙ ap (λ rs. rs ++ drop row new) top ∙ ap (λ rs. above ++ rs) (drop_more new row [] here);
       beside = IsBeside-drawn layout (wide_entries room layout.decor es) plain source (row_at new row) long adds.beside (subst (λ cells. BarsDrawn layout cells (row_at new row)) first (draws.rows row));
-      are = AreStrokes-drawn layout room es closes rows below adds.are few (λ k within. subst (λ cells. BarsDrawn layout cells (row_at below k)) (sym (get_or-drop (row + 1) old k []) ∙ ap (λ rs. row_at rs k) rest) (subst (λ cells. BarsDrawn layout (row_at old (row + 1 + k)) cells) (sym (get_or-drop (row + 1) new k [])) (draws.rows (row + 1 + k))));
+      are = AreStrokes-drawn layout room es closes rows below adds.are few
+          (λ k within. subst (λ cells. BarsDrawn layout cells (row_at below k)) (sym (get_or-drop (row + 1) old k []) ∙ ap (λ rs. row_at rs k) rest)
+          (subst (λ cells. BarsDrawn layout (row_at old (row + 1 + k)) cells) (sym (get_or-drop (row + 1) new k [])) (draws.rows (row + 1 + k))));
     }
   where
     after : (xs : List (List Cell)) (x : List Cell) (ys : List (List Cell)) (n : ℕ) → n ≡ length xs + 1 → drop n (xs ++ x ∷ ys) ≡ ys

@@ -53,7 +53,9 @@ ChangesRows-next at cells row r old mid new low there done writes =
     beside n other = ap (λ rows. row_at rows n) writes ∙ row_at-cells_written_other mid r at cells n other
 
 -- one rule after another, where a third one does what both do
-pub ChangesRows-more : (first second both : List Cell → List Cell) (row end : ℕ) (old mid new : List (List Cell)) → end ≡ length old → ((cells : List Cell) → second (first cells) ≡ both cells) → ChangesRows first row end old mid → ChangesRows second row (length mid) mid new → ChangesRows both row end old new
+pub ChangesRows-more : (first second both : List Cell → List Cell) (row end : ℕ) (old mid new : List (List Cell)) → end ≡ length old
+    → ((cells : List Cell) → second (first cells) ≡ both cells) → ChangesRows first row end old mid → ChangesRows second row (length mid) mid new
+    → ChangesRows both row end old new
 ChangesRows-more first second both row end old mid new all same done more =
     record {
       inside = λ r from to there. more.inside r from (omega (arith, there, done.count)) (omega (arith, there, done.count)) ∙ ap second (done.inside r from to there) ∙ same (row_at old r);
@@ -74,7 +76,10 @@ barred-is layout stroke bars row old new changes =
             | inr low ↦
                 let there : r < length old = omega (arith, within, changes.count) in
                 let place : row + (r - row) ≡ r = omega (arith, low) in
-                changes.inside r low there there ∙ sym (get_or-append_right (take row old) (map rule (drop row old)) row r [] short low ∙ get_or-map rule (drop row old) (r - row) [] [] (omega (arith, length-drop row old, there, low)) ∙ ap rule (get_or-drop row old (r - row) [] ∙ ap (row_at old) place))
+                changes.inside r low there there
+                ∙ sym (get_or-append_right (take row old) (map rule (drop row old)) row r [] short low
+                ∙ get_or-map rule (drop row old) (r - row) [] [] (omega (arith, length-drop row old, there, low))
+                ∙ ap rule (get_or-drop row old (r - row) [] ∙ ap (row_at old) place))
           ])
       | inr past ↦
           let whole : take row old ≡ old = take_all row old (omega (arith, past)) in
@@ -112,11 +117,20 @@ written-next row at n cell =
           let place : at + j ≡ k = omega (arith, from) in
           elim (cases_lt k (at + n)) [
             | inl inside ↦
-                slice_index_or-written_before SPACE mid (at + n) (cell ∷ []) k inside ∙ ap (λ i. get_or mid i SPACE) (sym place) ∙ slice_index_or-written_inside SPACE row at few j SPACE (omega (arith, inside, from, count)) ∙ get_or-replicate n j cell SPACE (omega (arith, inside, from)) ∙ sym (ap (λ i. get_or (written SPACE row at more) i SPACE) (sym place) ∙ slice_index_or-written_inside SPACE row at more j SPACE (omega (arith, inside, from, count_more)) ∙ get_or-replicate (n + 1) j cell SPACE (omega (arith, inside, from)))
+                slice_index_or-written_before SPACE mid (at + n) (cell ∷ []) k inside ∙ ap (λ i. get_or mid i SPACE) (sym place)
+                ∙ slice_index_or-written_inside SPACE row at few j SPACE (omega (arith, inside, from, count))
+                ∙ get_or-replicate n j cell SPACE (omega (arith, inside, from))
+                ∙ sym (ap (λ i. get_or (written SPACE row at more) i SPACE) (sym place)
+                ∙ slice_index_or-written_inside SPACE row at more j SPACE (omega (arith, inside, from, count_more))
+                ∙ get_or-replicate (n + 1) j cell SPACE (omega (arith, inside, from)))
             | inr past ↦ elim (cases_eq k (at + n)) [
               | inl here ↦
                   let last : at + n + 0 ≡ k = omega (arith, here) in
-                  ap (λ i. get_or (written SPACE mid (at + n) (cell ∷ [])) i SPACE) (sym last) ∙ slice_index_or-written_inside SPACE mid (at + n) (cell ∷ []) 0 SPACE (omega arith) ∙ sym (ap (λ i. get_or (written SPACE row at more) i SPACE) (sym place) ∙ slice_index_or-written_inside SPACE row at more j SPACE (omega (arith, here, from, count_more)) ∙ get_or-replicate (n + 1) j cell SPACE (omega (arith, here, from)))
+                  ap (λ i. get_or (written SPACE mid (at + n) (cell ∷ [])) i SPACE) (sym last)
+                  ∙ slice_index_or-written_inside SPACE mid (at + n) (cell ∷ []) 0 SPACE (omega arith)
+                  ∙ sym (ap (λ i. get_or (written SPACE row at more) i SPACE) (sym place)
+                  ∙ slice_index_or-written_inside SPACE row at more j SPACE (omega (arith, here, from, count_more))
+                  ∙ get_or-replicate (n + 1) j cell SPACE (omega (arith, here, from)))
               | inr after ↦
                   let beyond : at + n + 1 ≤ k = omega (arith, past, after) in
                   slice_index_or-written_after SPACE mid (at + n) (cell ∷ []) k SPACE beyond ∙ slice_index_or-written_after SPACE row at few k SPACE (omega (arith, count, beyond)) ∙ sym (slice_index_or-written_after SPACE row at more k SPACE (omega (arith, count_more, beyond)))
@@ -137,7 +151,10 @@ module _ (layout : Layout) (stroke : BarStroke) where
       ap (λ bs. with_bars layout stroke bs row) (take_more bars i d within) ∙ fold-append (with_bar layout stroke) row (take i bars) (get_or bars i d ∷ [])
 
   -- bars that stand side by side are one text
-  side_more : (bars : List OpenBar) (from n : ℕ) (first : OpenBar) (row : List Cell) → from + (n + 1) ≤ length bars → ((k : ℕ) (d : OpenBar) → k < n + 1 → StandsBeside first k (get_or bars (from + k) d)) → written SPACE (with_bars layout stroke (take from bars) row) (layout.gutter + 2 + first.depth) (replicate (n + 1) (bar_part layout stroke first)) ≡ with_bars layout stroke (take (from + (n + 1)) bars) row
+  side_more : (bars : List OpenBar) (from n : ℕ) (first : OpenBar) (row : List Cell) → from + (n + 1) ≤ length bars
+      → ((k : ℕ) (d : OpenBar) → k < n + 1 → StandsBeside first k (get_or bars (from + k) d))
+      → written SPACE (with_bars layout stroke (take from bars) row) (layout.gutter + 2 + first.depth)
+      (replicate (n + 1) (bar_part layout stroke first)) ≡ with_bars layout stroke (take (from + (n + 1)) bars) row
   side_more bars from zero first row within beside =
       let here : from + 0 ≡ from = omega arith in
       let at : ℕ = layout.gutter + 2 + first.depth in
@@ -153,14 +170,24 @@ module _ (layout : Layout) (stroke : BarStroke) where
       let j : ℕ = suc m in
       let one : m + 1 ≡ j = omega arith in
       let further : from + j + 1 ≡ from + (j + 1) = omega arith in
-      let so_far : written SPACE before at (replicate j cell) ≡ with_bars layout stroke (take (from + j) bars) row = subst (λ i. written SPACE before at (replicate i cell) ≡ with_bars layout stroke (take (from + i) bars) row) one (side_more bars from m first row (omega (arith, within)) (λ k d low. beside k d (omega (arith, low)))) in
-      let next = bars_more bars (from + j) first row (omega (arith, within)) ∙ beside_part first (get_or bars (from + j) first) j (with_bars layout stroke (take (from + j) bars) row) (beside j first (omega arith)) ∙ ap (λ cells. written SPACE cells (at + j) (cell ∷ [])) (sym so_far) ∙ written-next before at j cell in
+      let so_far : written SPACE before at (replicate j cell) ≡ with_bars layout stroke (take (from + j) bars) row =
+      subst (λ i. written SPACE before at (replicate i cell) ≡ with_bars layout stroke (take (from + i) bars) row)
+      one (side_more bars from m first row (omega (arith, within)) (λ k d low. beside k d (omega (arith, low)))) in
+      let next = bars_more bars (from + j) first row (omega (arith, within))
+      ∙ beside_part first (get_or bars (from + j) first) j (with_bars layout stroke (take (from + j) bars) row) (beside j first (omega arith))
+      ∙ ap (λ cells. written SPACE cells (at + j) (cell ∷ [])) (sym so_far) ∙ written-next before at j cell in
       sym next ∙ ap (λ i. with_bars layout stroke (take i bars) row) further
 
   -- the bars from one place to before another
-  pub side_drawn : (bars : List OpenBar) (from to : ℕ) (first : OpenBar) (row : List Cell) → from < to → to ≤ length bars → ((k : ℕ) (d : OpenBar) → k < to - from → StandsBeside first k (get_or bars (from + k) d)) → written SPACE (with_bars layout stroke (take from bars) row) (layout.gutter + 2 + first.depth) (replicate (to - from) (bar_part layout stroke first)) ≡ with_bars layout stroke (take to bars) row
+  pub side_drawn : (bars : List OpenBar) (from to : ℕ) (first : OpenBar) (row : List Cell) → from < to → to ≤ length bars
+      → ((k : ℕ) (d : OpenBar) → k < to - from → StandsBeside first k (get_or bars (from + k) d))
+      → written SPACE (with_bars layout stroke (take from bars) row) (layout.gutter + 2 + first.depth)
+      (replicate (to - from) (bar_part layout stroke first)) ≡ with_bars layout stroke (take to bars) row
   side_drawn bars from to first row some within beside =
       let n : ℕ = to - from - 1 in
       let many : n + 1 ≡ to - from = omega (arith, some) in
       let end : from + (n + 1) ≡ to = omega (arith, some) in
-      ap (λ k. written SPACE (with_bars layout stroke (take from bars) row) (layout.gutter + 2 + first.depth) (replicate k (bar_part layout stroke first))) (sym many) ∙ side_more bars from n first row (omega (arith, within, end)) (λ k d low. beside k d (omega (arith, low, many))) ∙ ap (λ k. with_bars layout stroke (take k bars) row) end
+      ap (λ k. written SPACE (with_bars layout stroke (take from bars) row) (layout.gutter + 2 + first.depth)
+      (replicate k (bar_part layout stroke first))) (sym many)
+      ∙ side_more bars from n first row (omega (arith, within, end)) (λ k d low. beside k d (omega (arith, low, many)))
+      ∙ ap (λ k. with_bars layout stroke (take k bars) row) end

@@ -98,7 +98,10 @@ connectors_none layout row es single =
     by_part e (MultilineLine depth) is = refl
 
 -- a line to a bar is drawn with the glyph and in the role of its entry
-pub line_painted : (layout : Layout) (row : ℕ) (e : PlacedEntry) (depth glyph : ℕ) (role : ElementStyle) (old new : List (List Cell)) → glyph ≡ glyph_of layout.decor (is_primary e.entry.kind) 95 95 0x2501 0x2500 → role ≡ stroke_role e → new ≡ painted (stretch_of (row + e.position) (layout.gutter + 3 + depth) (layout.code + e.entry.start.display) glyph role) old → new ≡ painted (line_to layout row e depth) old
+pub line_painted : (layout : Layout) (row : ℕ) (e : PlacedEntry) (depth glyph : ℕ) (role : ElementStyle) (old new : List (List Cell))
+    → glyph ≡ glyph_of layout.decor (is_primary e.entry.kind) 95 95 0x2501 0x2500 → role ≡ stroke_role e
+    → new ≡ painted (stretch_of (row + e.position) (layout.gutter + 3 + depth) (layout.code + e.entry.start.display) glyph role) old
+    → new ≡ painted (line_to layout row e depth) old
 line_painted layout row e depth glyph role old new is_glyph is_role drawn_now =
     let from = layout.gutter + 3 + depth in
     let to = layout.code + e.entry.start.display in
@@ -126,7 +129,9 @@ DrawsBarCells-painted layout row count (w ∷ ws) old is all =
     let writes : WritesCells old mid w.row w.cell (text_cells w.role w.text) = WritesCells-cells_written old w.row w.cell (text_cells w.role w.text) in
     let there : w.row < length old = omega (arith, bar.there, is) in
     let same : count ≡ length mid = omega (arith, writes.count, there, is) in
-    DrawsBarCells-more layout row old mid (painted ws mid) (DrawsBarCells-writes layout row w.row w.cell old mid cell (subst (WritesCells old mid w.row w.cell) (ap (text_cells w.role) bar.one) writes) bar.below there bar.right bar.left bar.bar_cell) (DrawsBarCells-painted layout row count ws mid same (All-tail B w ws all))
+    DrawsBarCells-more layout row old mid (painted ws mid)
+    (DrawsBarCells-writes layout row w.row w.cell old mid cell (subst (WritesCells old mid w.row w.cell) (ap (text_cells w.role) bar.one) writes)
+    bar.below there bar.right bar.left bar.bar_cell) (DrawsBarCells-painted layout row count ws mid same (All-tail B w ws all))
 
 -- what holds of each glyph of a column
 pub All-column_of : (P : Write → Type 0) (start end cell glyph : ℕ) (role : ElementStyle) → ((r : ℕ) → start ≤ r → r < end → P (glyph_at r cell glyph role)) → All P (column_of start end cell glyph role)
@@ -177,7 +182,9 @@ corners_bars layout row count es bar_cells rows =
         let primary = is_primary e.entry.kind in
         let glyph : ℕ = glyph_of layout.decor primary 124 124 0x2517 0x2514 in
         let corner = row + 1 + e.position in
-        All-append B (bar_of layout e depth row corner) (glyph_at corner (layout.gutter + 2 + depth) glyph (stroke_role e) ∷ []) (bar e depth row corner bar_cell.0 bar_cell.1 (omega arith) (omega (arith, has.mark))) (All-cons B (glyph_at corner (layout.gutter + 2 + depth) glyph (stroke_role e)) [] (record {
+        All-append B (bar_of layout e depth row corner) (glyph_at corner (layout.gutter + 2 + depth) glyph (stroke_role e) ∷ [])
+        (bar e depth row corner bar_cell.0 bar_cell.1 (omega arith) (omega (arith, has.mark)))
+        (All-cons B (glyph_at corner (layout.gutter + 2 + depth) glyph (stroke_role e)) [] (record {
           below = omega arith;
           there = has.mark;
           right = omega (arith, bar_cell.0);
@@ -200,7 +207,10 @@ corners_none layout row count es single =
     by_part e (MultilineLine depth) is = refl
 
 -- a bar grows by a row, in the glyph and in the role of its entry
-pub bar_painted : (layout : Layout) (e : PlacedEntry) (depth start row glyph : ℕ) (role : ElementStyle) (old mid new : List (List Cell)) → glyph ≡ glyph_of layout.decor (is_primary e.entry.kind) 124 124 0x2503 0x2502 → role ≡ stroke_role e → start ≤ row → mid ≡ painted (bar_of layout e depth start row) old → new ≡ cells_written mid row (layout.gutter + 2 + depth) (text_cells role (glyph ∷ [])) → new ≡ painted (bar_of layout e depth start (row + 1)) old
+pub bar_painted : (layout : Layout) (e : PlacedEntry) (depth start row glyph : ℕ) (role : ElementStyle) (old mid new : List (List Cell))
+    → glyph ≡ glyph_of layout.decor (is_primary e.entry.kind) 124 124 0x2503 0x2502 → role ≡ stroke_role e → start ≤ row
+    → mid ≡ painted (bar_of layout e depth start row) old → new ≡ cells_written mid row (layout.gutter + 2 + depth) (text_cells role (glyph ∷ []))
+    → new ≡ painted (bar_of layout e depth start (row + 1)) old
 bar_painted layout e depth start row glyph role old mid new is_glyph is_role below so_far writes =
     let line : ℕ = glyph_of layout.decor (is_primary e.entry.kind) 124 124 0x2503 0x2502 in
     let cell = layout.gutter + 2 + depth in
@@ -212,14 +222,24 @@ bar_of-none layout e depth start =
     column_of-none start (layout.gutter + 2 + depth) (glyph_of layout.decor (is_primary e.entry.kind) 124 124 0x2503 0x2502) (stroke_role e)
 
 -- the corner of a start, and the bar below it
-pub top_painted : (layout : Layout) (row count : ℕ) (e : PlacedEntry) (depth end glyph : ℕ) (role : ElementStyle) (old mid new : List (List Cell)) → glyph ≡ glyph_of layout.decor (is_primary e.entry.kind) 32 32 0x250F 0x250C → role ≡ stroke_role e → end ≡ count → mid ≡ cells_written old (row + 1 + e.position) (layout.gutter + 2 + depth) (text_cells role (glyph ∷ [])) → new ≡ painted (bar_of layout e depth (row + 1 + e.position + 1) end) mid → new ≡ painted (top_of layout row count e depth) old
+pub top_painted : (layout : Layout) (row count : ℕ) (e : PlacedEntry) (depth end glyph : ℕ) (role : ElementStyle) (old mid new : List (List Cell))
+    → glyph ≡ glyph_of layout.decor (is_primary e.entry.kind) 32 32 0x250F 0x250C → role ≡ stroke_role e → end ≡ count
+    → mid ≡ cells_written old (row + 1 + e.position) (layout.gutter + 2 + depth) (text_cells role (glyph ∷ []))
+    → new ≡ painted (bar_of layout e depth (row + 1 + e.position + 1) end) mid → new ≡ painted (top_of layout row count e depth) old
 top_painted layout row count e depth end glyph role old mid new is_glyph is_role is_end begins continues =
     let corner = row + 1 + e.position in
     let cell = layout.gutter + 2 + depth in
-    continues ∙ ap (λ n. painted (bar_of layout e depth (corner + 1) n) mid) is_end ∙ ap (painted (bar_of layout e depth (corner + 1) count)) (begins ∙ ap (λ g. cells_written old corner cell (text_cells role (g ∷ []))) is_glyph ∙ ap (λ r. cells_written old corner cell (text_cells r (glyph_of layout.decor (is_primary e.entry.kind) 32 32 0x250F 0x250C ∷ []))) is_role)
+    continues ∙ ap (λ n. painted (bar_of layout e depth (corner + 1) n) mid) is_end
+    ∙ ap (painted (bar_of layout e depth (corner + 1) count))
+    (begins ∙ ap (λ g. cells_written old corner cell (text_cells role (g ∷ []))) is_glyph
+    ∙ ap (λ r. cells_written old corner cell (text_cells r (glyph_of layout.decor (is_primary e.entry.kind) 32 32 0x250F 0x250C ∷ []))) is_role)
 
 -- the bar of an end, and the corner below it
-pub bottom_painted : (layout : Layout) (row : ℕ) (e : PlacedEntry) (depth glyph : ℕ) (role : ElementStyle) (old mid new : List (List Cell)) → glyph ≡ glyph_of layout.decor (is_primary e.entry.kind) 124 124 0x2517 0x2514 → role ≡ stroke_role e → mid ≡ painted (bar_of layout e depth row (row + 1 + e.position)) old → new ≡ cells_written mid (row + 1 + e.position) (layout.gutter + 2 + depth) (text_cells role (glyph ∷ [])) → new ≡ painted (bottom_of layout row e depth) old
+pub bottom_painted : (layout : Layout) (row : ℕ) (e : PlacedEntry) (depth glyph : ℕ) (role : ElementStyle) (old mid new : List (List Cell))
+    → glyph ≡ glyph_of layout.decor (is_primary e.entry.kind) 124 124 0x2517 0x2514 → role ≡ stroke_role e
+    → mid ≡ painted (bar_of layout e depth row (row + 1 + e.position)) old
+    → new ≡ cells_written mid (row + 1 + e.position) (layout.gutter + 2 + depth) (text_cells role (glyph ∷ []))
+    → new ≡ painted (bottom_of layout row e depth) old
 bottom_painted layout row e depth glyph role old mid new is_glyph is_role begins ends =
     let corner = row + 1 + e.position in
     let cell = layout.gutter + 2 + depth in

@@ -40,7 +40,9 @@ kept_above old new long above =
     first k d within = grind (arith, places, above k within)
 
 -- a row that was begun
-pub begun_row : (layout : Layout) (closes : Bool) (old begun : List (List Cell)) (count k : ℕ) → begun ≡ old ++ replicate (count - 1) (separator_row layout.decor layout.gutter) ++ bare_row layout.decor layout.gutter closes ∷ [] → k < count → row_at begun (length old + k) ≡ bare_row layout.decor layout.gutter (closes && k + 1 == count)
+pub begun_row : (layout : Layout) (closes : Bool) (old begun : List (List Cell)) (count k : ℕ)
+    → begun ≡ old ++ replicate (count - 1) (separator_row layout.decor layout.gutter) ++ bare_row layout.decor layout.gutter closes ∷ [] → k < count
+    → row_at begun (length old + k) ≡ bare_row layout.decor layout.gutter (closes && k + 1 == count)
 begun_row layout closes old begun count k begins within =
     ap (λ rows. row_at rows (length old + k)) begins ∙ elim (cases_eq (k + 1) count) [
       | inl here ↦
@@ -79,7 +81,10 @@ written_far row cells at short =
     let whole : List Cell = written SPACE row (at + 1) cells in
     let pad : List Cell = row ++ replicate (at - length row) SPACE in
     let one : (at + 1) - length row ≡ (at - length row) + 1 = omega arith in
-    let front : take (at + 1) whole ≡ pad ++ SPACE ∷ [] = take-written_past SPACE row (at + 1) cells (omega arith) ∙ ap (λ n. row ++ replicate n SPACE) one ∙ ap (λ xs. row ++ xs) (sym (replicate_more (at - length row) SPACE)) ∙ sym (append_assoc row (replicate (at - length row) SPACE) (SPACE ∷ [])) in
+    let front : take (at + 1) whole ≡ pad ++ SPACE ∷ [] =
+    take-written_past SPACE row (at + 1) cells (omega arith) ∙ ap (λ n. row ++ replicate n SPACE) one
+    ∙ ap (λ xs. row ++ xs) (sym (replicate_more (at - length row) SPACE))
+    ∙ sym (append_assoc row (replicate (at - length row) SPACE) (SPACE ∷ [])) in
     let back : drop (at + 1) whole ≡ cells = drop-written SPACE row (at + 1) cells ∙ ap (λ xs. cells ++ xs) (drop_all (at + 1 + length cells) row (omega arith)) ∙ append-nil cells in
     let all : whole ≡ pad ++ SPACE ∷ cells = sym (take-append-drop (at + 1) whole) ∙ ap (λ xs. xs ++ drop (at + 1) whole) front ∙ ap (λ xs. (pad ++ SPACE ∷ []) ++ xs) back ∙ append_assoc pad (SPACE ∷ []) cells in
     let long : length pad ≡ at = length-append row (replicate (at - length row) SPACE) ∙ ap (λ n. length row + n) (length-replicate (at - length row) SPACE) ∙ let full : length row + (at - length row) ≡ at = omega arith in full in
@@ -136,7 +141,9 @@ pub cut_left : (layout : Layout) (wide : ℕ) (whole row : List Cell) → IsCut 
 cut_left layout wide whole row cut c left =
     sym (get_or-take layout.code row c SPACE left) ∙ ap (λ cells. slice_index_or cells c SPACE) cut.left ∙ get_or-take layout.code whole c SPACE left
 
-pub IsStrokeRow-cut : (layout : Layout) (wide : ℕ) (plain : Bool) (es : List LineAnnotation) (closes : Bool) (whole row : List Cell) → layout.gutter + 3 ≤ layout.code → (plain ≡ true → wide ≡ 0) → IsStrokeRow layout plain es closes whole → IsCut layout wide whole row → IsStrokeRow layout plain es closes row
+pub IsStrokeRow-cut : (layout : Layout) (wide : ℕ) (plain : Bool) (es : List LineAnnotation) (closes : Bool) (whole row : List Cell)
+    → layout.gutter + 3 ≤ layout.code → (plain ≡ true → wide ≡ 0) → IsStrokeRow layout plain es closes whole → IsCut layout wide whole row
+    → IsStrokeRow layout plain es closes row
 IsStrokeRow-cut layout wide plain es closes whole row place narrow is cut =
     record {
       left = λ c before. cut_left layout wide whole row cut c (omega (arith, before, place)) ∙ is.left c before;

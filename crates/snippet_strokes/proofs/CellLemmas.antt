@@ -53,7 +53,10 @@ put_more code k (c ∷ cells) row y ys ends =
     written_after code k (c ∷ cells) row (y ∷ ys) ends (omega arith) ∙ sym (with_cells-some code (written SPACE (c ∷ cells) k (y ∷ ys)) row (omega (arith, length-written SPACE (c ∷ cells) k (y ∷ ys))))
 
 -- a text that is put after the cells of the last row
-pub put_text : (above mid new : List (List Cell)) (cells row : List Cell) (r code k : ℕ) (bytes : List ℕ) (role : ElementStyle) → IsUtf8 bytes → length row ≤ code → mid ≡ above ++ with_cells code cells row ∷ [] → r ≡ length above → (0 < length bytes → new ≡ cells_written mid r (code + k) (text_cells role (chars bytes))) → (bytes ≡ [] → new ≡ mid) → new ≡ above ++ with_cells code (put k cells (text_cells role (chars bytes))) row ∷ []
+pub put_text : (above mid new : List (List Cell)) (cells row : List Cell) (r code k : ℕ) (bytes : List ℕ) (role : ElementStyle) → IsUtf8 bytes
+    → length row ≤ code → mid ≡ above ++ with_cells code cells row ∷ [] → r ≡ length above
+    → (0 < length bytes → new ≡ cells_written mid r (code + k) (text_cells role (chars bytes))) → (bytes ≡ [] → new ≡ mid)
+    → new ≡ above ++ with_cells code (put k cells (text_cells role (chars bytes))) row ∷ []
 put_text above mid new cells row r code k [] role utf8 ends before last writes stays =
     stays refl ∙ before ∙ ap (λ cs. above ++ with_cells code (put k cells (text_cells role cs)) row ∷ []) (sym chars-nil)
 put_text above mid new cells row r code k (b ∷ bs) role utf8 ends before last writes stays =
@@ -62,7 +65,10 @@ put_text above mid new cells row r code k (b ∷ bs) role utf8 ends before last 
     some : (cs : List ℕ) → 0 < length cs → new ≡ cells_written mid r (code + k) (text_cells role cs) → new ≡ above ++ with_cells code (put k cells (text_cells role cs)) row ∷ []
     some [] none is = absurd (omega arith)
     some (c ∷ cs) more is =
-        is ∙ ap (λ rows. cells_written rows r (code + k) (text_cells role (c ∷ cs))) before ∙ ap (λ i. cells_written (above ++ with_cells code cells row ∷ []) i (code + k) (text_cells role (c ∷ cs))) last ∙ cells_written_last above (with_cells code cells row) (code + k) (text_cells role (c ∷ cs)) ∙ ap (λ r. above ++ r ∷ []) (put_more code k cells row _ _ ends)
+        is ∙ ap (λ rows. cells_written rows r (code + k) (text_cells role (c ∷ cs))) before
+        ∙ ap (λ i. cells_written (above ++ with_cells code cells row ∷ []) i (code + k) (text_cells role (c ∷ cs))) last
+        ∙ cells_written_last above (with_cells code cells row) (code + k) (text_cells role (c ∷ cs))
+        ∙ ap (λ r. above ++ r ∷ []) (put_more code k cells row _ _ ends)
 
 -- the cells of a text that begins a window
 pub put_alone : (role : ElementStyle) (cs : List ℕ) → put 0 [] (text_cells role cs) ≡ text_cells role cs
@@ -80,7 +86,10 @@ not_zero n some = grind (arith, nat_tests, some)
 pub put_begun : (decor : DecorStyle) (columns : ℕ) (cs : List ℕ) → put columns (put 0 [] (text_cells LineNumber (placeholder_of decor))) (text_cells Quotation cs) ≡ begun_cells decor (Some columns) cs
 put_begun decor columns [] = put_alone LineNumber (placeholder_of decor)
 put_begun decor columns (c ∷ cs) =
-    ap (λ cells. written SPACE cells columns (text_cells Quotation (c ∷ cs))) (put_alone LineNumber (placeholder_of decor)) ∙ ap (λ b. cond b (text_cells LineNumber (placeholder_of decor)) (written SPACE (text_cells LineNumber (placeholder_of decor)) columns (text_cells Quotation (c ∷ cs)))) (sym (not_zero (length (c ∷ cs)) (omega arith)))
+    ap (λ cells. written SPACE cells columns (text_cells Quotation (c ∷ cs))) (put_alone LineNumber (placeholder_of decor))
+    ∙ ap (λ b. cond b (text_cells LineNumber (placeholder_of decor))
+    (written SPACE (text_cells LineNumber (placeholder_of decor)) columns (text_cells Quotation (c ∷ cs))))
+    (sym (not_zero (length (c ∷ cs)) (omega arith)))
 
 pub put_ended : (decor : DecorStyle) (at : ℕ) (cells : List Cell) → put at cells (text_cells LineNumber (placeholder_of decor)) ≡ ended_cells decor (Some at) cells
 put_ended decor at cells = placeholder_some decor cells at
@@ -95,17 +104,29 @@ unfolding written
 row_text-written cells at new =
     let f : Cell → ℕ = λ c. c.ch in
     let pad : map f (replicate (at - length cells) SPACE) ≡ replicate (at - length (map f cells)) 32 = map-replicate f (at - length cells) SPACE ∙ ap (λ n. replicate (at - n) 32) (sym (length-map cells f)) in
-    let front : map f (take at (cells ++ replicate (at - length cells) SPACE)) ≡ take at (map f cells ++ replicate (at - length (map f cells)) 32) = sym (take-map f at (cells ++ replicate (at - length cells) SPACE)) ∙ ap (take at) (map-append f cells (replicate (at - length cells) SPACE) ∙ ap (λ p. map f cells ++ p) pad) in
+    let front : map f (take at (cells ++ replicate (at - length cells) SPACE)) ≡ take at (map f cells ++ replicate (at - length (map f cells)) 32) =
+    sym (take-map f at (cells ++ replicate (at - length cells) SPACE))
+    ∙ ap (take at) (map-append f cells (replicate (at - length cells) SPACE) ∙ ap (λ p. map f cells ++ p) pad) in
     let back : map f (drop (at + length new) cells) ≡ drop (at + length (map f new)) (map f cells) = sym (drop-map f (at + length new) cells) ∙ ap (λ n. drop (at + n) (map f cells)) (sym (length-map new f)) in
-    map-append f (take at (cells ++ replicate (at - length cells) SPACE) ++ new) (drop (at + length new) cells) ∙ ap (λ xs. xs ++ map f (drop (at + length new) cells)) (map-append f (take at (cells ++ replicate (at - length cells) SPACE)) new ∙ ap (λ xs. xs ++ map f new) front) ∙ ap (λ xs. (take at (map f cells ++ replicate (at - length (map f cells)) 32) ++ map f new) ++ xs) back
+    map-append f (take at (cells ++ replicate (at - length cells) SPACE) ++ new) (drop (at + length new) cells)
+    ∙ ap (λ xs. xs ++ map f (drop (at + length new) cells))
+    (map-append f (take at (cells ++ replicate (at - length cells) SPACE)) new ∙ ap (λ xs. xs ++ map f new) front)
+    ∙ ap (λ xs. (take at (map f cells ++ replicate (at - length (map f cells)) 32) ++ map f new) ++ xs) back
 
 row_text-begun : (decor : DecorStyle) (start : Option ℕ) (text : List ℕ) → row_text (begun_cells decor start text) ≡ begun_with (placeholder_of decor) start text
 row_text-begun decor None text = row_text-text_cells Quotation text
 row_text-begun decor (Some columns) [] = row_text-text_cells LineNumber (placeholder_of decor)
 row_text-begun decor (Some columns) (c ∷ cs) =
-    some (length (c ∷ cs) == 0) (row_text-written (text_cells LineNumber (placeholder_of decor)) columns (text_cells Quotation (c ∷ cs)) ∙ ap (λ p. written 32 p columns (row_text (text_cells Quotation (c ∷ cs)))) (row_text-text_cells LineNumber (placeholder_of decor)) ∙ ap (written 32 (placeholder_of decor) columns) (row_text-text_cells Quotation (c ∷ cs)))
+    some (length (c ∷ cs) == 0)
+    (row_text-written (text_cells LineNumber (placeholder_of decor)) columns (text_cells Quotation (c ∷ cs))
+    ∙ ap (λ p. written 32 p columns (row_text (text_cells Quotation (c ∷ cs)))) (row_text-text_cells LineNumber (placeholder_of decor))
+    ∙ ap (written 32 (placeholder_of decor) columns) (row_text-text_cells Quotation (c ∷ cs)))
   where
-    some : (b : Bool) → row_text (written SPACE (text_cells LineNumber (placeholder_of decor)) columns (text_cells Quotation (c ∷ cs))) ≡ written 32 (placeholder_of decor) columns (c ∷ cs) → row_text (cond b (text_cells LineNumber (placeholder_of decor)) (written SPACE (text_cells LineNumber (placeholder_of decor)) columns (text_cells Quotation (c ∷ cs)))) ≡ cond b (placeholder_of decor) (written 32 (placeholder_of decor) columns (c ∷ cs))
+    some : (b : Bool) → row_text (written SPACE (text_cells LineNumber (placeholder_of decor)) columns (text_cells Quotation (c ∷ cs)))
+        ≡ written 32 (placeholder_of decor) columns (c ∷ cs)
+        → row_text (cond b (text_cells LineNumber (placeholder_of decor))
+        (written SPACE (text_cells LineNumber (placeholder_of decor)) columns (text_cells Quotation (c ∷ cs)))) ≡ cond b (placeholder_of decor)
+        (written 32 (placeholder_of decor) columns (c ∷ cs))
     some true is = row_text-text_cells LineNumber (placeholder_of decor)
     some false is = is
 
@@ -176,32 +197,65 @@ unlisted_part left room from right placeholder text free =
     ]
 
 -- the beginning of a window is written, where lines aren't cut on the left
-pub begun_plain : (decor : DecorStyle) (start : Option ℕ) (above old new : List (List Cell)) (row : List Cell) (r code : ℕ) (text : List ℕ) → start ≡ None → IsUtf8 text → (0 < length text → new ≡ cells_written old r code (text_cells Quotation (chars text))) → (text ≡ [] → new ≡ old) → r ≡ length above → length row ≤ code → old ≡ above ++ row ∷ [] → new ≡ above ++ with_cells code (begun_cells decor start (chars text)) row ∷ []
+pub begun_plain : (decor : DecorStyle) (start : Option ℕ) (above old new : List (List Cell)) (row : List Cell) (r code : ℕ) (text : List ℕ)
+    → start ≡ None → IsUtf8 text → (0 < length text → new ≡ cells_written old r code (text_cells Quotation (chars text))) → (text ≡ [] → new ≡ old)
+    → r ≡ length above → length row ≤ code → old ≡ above ++ row ∷ [] → new ≡ above ++ with_cells code (begun_cells decor start (chars text)) row ∷ []
 begun_plain decor start above old new row r code text none utf8 writes stays last ends before =
-    put_text above old new [] row r code 0 text Quotation utf8 ends before last (λ some. writes some ∙ ap (λ k. cells_written old r k (text_cells Quotation (chars text))) (sym (add-zero code))) stays ∙ ap (λ cells. above ++ with_cells code cells row ∷ []) (put_alone Quotation (chars text)) ∙ ap (λ s. above ++ with_cells code (begun_cells decor s (chars text)) row ∷ []) (sym none)
+    put_text above old new [] row r code 0 text Quotation utf8 ends before last
+    (λ some. writes some ∙ ap (λ k. cells_written old r k (text_cells Quotation (chars text))) (sym (add-zero code))) stays
+    ∙ ap (λ cells. above ++ with_cells code cells row ∷ []) (put_alone Quotation (chars text))
+    ∙ ap (λ s. above ++ with_cells code (begun_cells decor s (chars text)) row ∷ []) (sym none)
 
 -- and where they are
-pub begun_cut : (decor : DecorStyle) (start : Option ℕ) (columns : ℕ) (above old mid new : List (List Cell)) (row : List Cell) (r code : ℕ) (placeholder text : List ℕ) → start ≡ Some columns → IsUtf8 placeholder → IsUtf8 text → chars placeholder ≡ placeholder_of decor → (0 < length placeholder → mid ≡ cells_written old r code (text_cells LineNumber (chars placeholder))) → (placeholder ≡ [] → mid ≡ old) → (0 < length text → new ≡ cells_written mid r (code + columns) (text_cells Quotation (chars text))) → (text ≡ [] → new ≡ mid) → r ≡ length above → length row ≤ code → old ≡ above ++ row ∷ [] → new ≡ above ++ with_cells code (begun_cells decor start (chars text)) row ∷ []
+pub begun_cut : (decor : DecorStyle) (start : Option ℕ) (columns : ℕ) (above old mid new : List (List Cell)) (row : List Cell) (r code : ℕ)
+    (placeholder text : List ℕ) → start ≡ Some columns → IsUtf8 placeholder → IsUtf8 text → chars placeholder ≡ placeholder_of decor
+    → (0 < length placeholder → mid ≡ cells_written old r code (text_cells LineNumber (chars placeholder))) → (placeholder ≡ [] → mid ≡ old)
+    → (0 < length text → new ≡ cells_written mid r (code + columns) (text_cells Quotation (chars text))) → (text ≡ [] → new ≡ mid) → r ≡ length above
+    → length row ≤ code → old ≡ above ++ row ∷ [] → new ≡ above ++ with_cells code (begun_cells decor start (chars text)) row ∷ []
 begun_cut decor start columns above old mid new row r code placeholder text some utf8_placeholder utf8 is first first_stays writes stays last ends before =
     let placed = put_text above old mid [] row r code 0 placeholder LineNumber utf8_placeholder ends before last (λ more. first more ∙ ap (λ k. cells_written old r k (text_cells LineNumber (chars placeholder))) (sym (add-zero code))) first_stays in
-    put_text above mid new (put 0 [] (text_cells LineNumber (chars placeholder))) row r code columns text Quotation utf8 ends placed last writes stays ∙ ap (λ (cs : List ℕ). above ++ with_cells code (put columns (put 0 [] (text_cells LineNumber cs)) (text_cells Quotation (chars text))) row ∷ []) is ∙ ap (λ cells. above ++ with_cells code cells row ∷ []) (put_begun decor columns (chars text)) ∙ ap (λ s. above ++ with_cells code (begun_cells decor s (chars text)) row ∷ []) (sym some)
+    put_text above mid new (put 0 [] (text_cells LineNumber (chars placeholder))) row r code columns text Quotation utf8 ends placed last writes stays
+    ∙ ap (λ (cs : List ℕ). above ++ with_cells code (put columns (put 0 [] (text_cells LineNumber cs)) (text_cells Quotation (chars text)))
+    row ∷ []) is ∙ ap (λ cells. above ++ with_cells code cells row ∷ []) (put_begun decor columns (chars text))
+    ∙ ap (λ s. above ++ with_cells code (begun_cells decor s (chars text)) row ∷ []) (sym some)
 
 -- the end of a window is written
-pub ended_cut : (decor : DecorStyle) (end : Option ℕ) (at : ℕ) (above old new : List (List Cell)) (row cells : List Cell) (r code : ℕ) (placeholder : List ℕ) → end ≡ Some at → IsUtf8 placeholder → chars placeholder ≡ placeholder_of decor → (0 < length placeholder → new ≡ cells_written old r (code + at) (text_cells LineNumber (chars placeholder))) → (placeholder ≡ [] → new ≡ old) → r ≡ length above → length row ≤ code → old ≡ above ++ with_cells code cells row ∷ [] → new ≡ above ++ with_cells code (ended_cells decor end cells) row ∷ []
+pub ended_cut : (decor : DecorStyle) (end : Option ℕ) (at : ℕ) (above old new : List (List Cell)) (row cells : List Cell) (r code : ℕ)
+    (placeholder : List ℕ) → end ≡ Some at → IsUtf8 placeholder → chars placeholder ≡ placeholder_of decor
+    → (0 < length placeholder → new ≡ cells_written old r (code + at) (text_cells LineNumber (chars placeholder))) → (placeholder ≡ [] → new ≡ old)
+    → r ≡ length above → length row ≤ code → old ≡ above ++ with_cells code cells row ∷ []
+    → new ≡ above ++ with_cells code (ended_cells decor end cells) row ∷ []
 ended_cut decor end at above old new row cells r code placeholder some utf8 is writes stays last ends before =
-    put_text above old new cells row r code at placeholder LineNumber utf8 ends before last writes stays ∙ ap (λ (cs : List ℕ). above ++ with_cells code (put at cells (text_cells LineNumber cs)) row ∷ []) is ∙ ap (λ cs. above ++ with_cells code cs row ∷ []) (put_ended decor at cells) ∙ ap (λ e. above ++ with_cells code (ended_cells decor e cells) row ∷ []) (sym some)
+    put_text above old new cells row r code at placeholder LineNumber utf8 ends before last writes stays
+    ∙ ap (λ (cs : List ℕ). above ++ with_cells code (put at cells (text_cells LineNumber cs)) row ∷ []) is
+    ∙ ap (λ cs. above ++ with_cells code cs row ∷ []) (put_ended decor at cells)
+    ∙ ap (λ e. above ++ with_cells code (ended_cells decor e cells) row ∷ []) (sym some)
 
 -- the text of a window is no longer than its line
 pub part_few : (left room from right : ℕ) (placeholder text : List ℕ) → length (uncovered_part left placeholder (inner_part room from right text)) ≤ length text
 part_few left room from right placeholder text =
     let inner = inner_part room from right text in
-    omega (arith, uncovered_short left placeholder inner, part_short (reaching (window_left from text) text) (fitting (window_right room from right text - window_left from text) (drop (reaching (window_left from text) text) text)) text (drop (reaching (window_left from text) text) text) inner refl refl)
+    omega (
+      arith,
+      uncovered_short left placeholder inner,
+      part_short (reaching (window_left from text) text)
+          (fitting (window_right room from right text - window_left from text) (drop (reaching (window_left from text) text) text))
+          text (drop (reaching (window_left from text) text) text) inner refl refl,
+    )
 
 -- the cells of a window that was found
-pub cells_are : (decor : DecorStyle) (margin : Margin) (start end : Option ℕ) (shown placeholder cs text : List ℕ) → placeholder ≡ placeholder_of decor → cs ≡ text → start ≡ covered_columns (bounds_of margin).left placeholder (inner_part margin.term_width (bounds_of margin).left (bounds_of margin).right cs) → shown ≡ uncovered_part (bounds_of margin).left placeholder (inner_part margin.term_width (bounds_of margin).left (bounds_of margin).right cs) → end ≡ covered_end margin.term_width (bounds_of margin).left (bounds_of margin).right placeholder cs → shown_cells decor start shown end ≡ window_cells decor margin text
+pub cells_are : (decor : DecorStyle) (margin : Margin) (start end : Option ℕ) (shown placeholder cs text : List ℕ)
+    → placeholder ≡ placeholder_of decor → cs ≡ text
+    → start ≡ covered_columns (bounds_of margin).left placeholder (inner_part margin.term_width (bounds_of margin).left (bounds_of margin).right cs)
+    → shown ≡ uncovered_part (bounds_of margin).left placeholder (inner_part margin.term_width (bounds_of margin).left (bounds_of margin).right cs)
+    → end ≡ covered_end margin.term_width (bounds_of margin).left (bounds_of margin).right placeholder cs
+    → shown_cells decor start shown end ≡ window_cells decor margin text
 cells_are decor margin start end shown placeholder cs text is_placeholder is_text is_start is_shown is_end =
     let left = (bounds_of margin).left in
     let right = (bounds_of margin).right in
     let room = margin.term_width in
-    let made = ap (λ s. shown_cells decor s shown end) is_start ∙ ap (λ t. shown_cells decor (covered_columns left placeholder (inner_part room left right cs)) t end) is_shown ∙ ap (λ e. shown_cells decor (covered_columns left placeholder (inner_part room left right cs)) (uncovered_part left placeholder (inner_part room left right cs)) e) is_end in
+    let made = ap (λ s. shown_cells decor s shown end) is_start
+    ∙ ap (λ t. shown_cells decor (covered_columns left placeholder (inner_part room left right cs)) t end) is_shown
+    ∙ ap (λ e. shown_cells decor (covered_columns left placeholder (inner_part room left right cs))
+    (uncovered_part left placeholder (inner_part room left right cs)) e) is_end in
     made ∙ ap (λ p. shown_cells decor (covered_columns left p (inner_part room left right cs)) (uncovered_part left p (inner_part room left right cs)) (covered_end room left right p cs)) is_placeholder ∙ ap (λ t. window_cells decor margin t) is_text

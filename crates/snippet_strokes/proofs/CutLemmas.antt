@@ -128,7 +128,10 @@ cells_replaced_here above below source cells row start end here =
     changed_within_one change row rows [] there ∙ ap (λ r. set rows row (change r)) read ∙ ap (λ n. set rows n (change source)) (sym here) ∙ set-append_seam above source below (change source)
 
 -- the same stretch of both rows gave its place to the placeholder
-pub CutsRows-replaced : (layout : Layout) (row start end : ℕ) (above : List (List Cell)) (source marks : List Cell) (below old new : List (List Cell)) → layout.code ≤ start → length above ≡ row → old ≡ above ++ source ∷ marks ∷ below → new ≡ cells_replaced (cells_replaced old row start end (text_cells LineNumber (placeholder_of layout.decor))) (row + 1) start end (text_cells LineNumber (placeholder_of layout.decor)) → CutsRows layout 1 above source marks below new
+pub CutsRows-replaced : (layout : Layout) (row start end : ℕ) (above : List (List Cell)) (source marks : List Cell) (below old new : List (List Cell))
+    → layout.code ≤ start → length above ≡ row → old ≡ above ++ source ∷ marks ∷ below
+    → new ≡ cells_replaced (cells_replaced old row start end (text_cells LineNumber (placeholder_of layout.decor))) (row + 1)
+    start end (text_cells LineNumber (placeholder_of layout.decor)) → CutsRows layout 1 above source marks below new
 CutsRows-replaced layout row start end above source marks below old new from here was is =
     let placeholder = text_cells LineNumber (placeholder_of layout.decor) in
     let change = replaced_within start end placeholder in
@@ -145,7 +148,9 @@ CutsRows-replaced layout row start end above source marks below old new from her
     }
 
 -- both rows were cut, and then once more
-pub CutsRows-more : (layout : Layout) (m n : ℕ) (above : List (List Cell)) (source marks : List Cell) (below mid new : List (List Cell)) → (done : CutsRows layout m above source marks below mid) → CutsRows layout n above done.source_now done.marks_now below new → CutsRows layout (m + n) above source marks below new
+pub CutsRows-more : (layout : Layout) (m n : ℕ) (above : List (List Cell)) (source marks : List Cell) (below mid new : List (List Cell))
+    → (done : CutsRows layout m above source marks below mid) → CutsRows layout n above done.source_now done.marks_now below new
+    → CutsRows layout (m + n) above source marks below new
 CutsRows-more layout m n above source marks below mid new done then =
     record {
       source_now = then.source_now;

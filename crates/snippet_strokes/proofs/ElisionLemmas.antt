@@ -49,7 +49,9 @@ free_bare_elision Unicode gutter =
     free_led (gutter + 1) (elision_of Unicode) (All-cons P 0x2506 [] refl (All-nil P))
 
 -- the row with its bars
-pub elision_added : (layout : Layout) (open_bars : List OpenBar) (old begun new : List (List Cell)) (row : ℕ) → row ≡ length old → layout.gutter + 3 ≤ layout.code → begun ≡ old ++ bare_elision_row layout.decor layout.gutter ∷ [] → DrawsBars layout row begun new → new ≡ barred layout Dotted open_bars row begun → AddsElision layout open_bars old new
+pub elision_added : (layout : Layout) (open_bars : List OpenBar) (old begun new : List (List Cell)) (row : ℕ) → row ≡ length old
+    → layout.gutter + 3 ≤ layout.code → begun ≡ old ++ bare_elision_row layout.decor layout.gutter ∷ [] → DrawsBars layout row begun new
+    → new ≡ barred layout Dotted open_bars row begun → AddsElision layout open_bars old new
 elision_added layout open_bars old begun new row last place begins draws value =
     let bare = bare_elision_row layout.decor layout.gutter in
     let is_bare : row_at begun row ≡ bare = ap (λ rs. row_at rs row) begins ∙ get_or_push old bare [] row (sym last) in

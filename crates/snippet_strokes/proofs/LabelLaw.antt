@@ -172,7 +172,9 @@ label_chars_le : (e : PlacedEntry) → HasItsLabel e → length (label_text e.en
 label_chars_le e has = omega (arith, ap length has, length-chars_le (cow_str_bytes e.label))
 
 -- the labels of two entries, the second of them farther left, share no cell
-pub labels_apart : (layout : Layout) (row : ℕ) (e f : PlacedEntry) → HasPlace e.entry → HasPlace f.entry → HasItsLabel f → has_label e ≡ true → has_label f ≡ true → f.entry.start.display ≤ e.entry.start.display → (e.position ≡ f.position → crowds e.position e f ≡ false) → (r c : ℕ) → Reaches r c (label_write layout row e) → Reaches r c (label_write layout row f) → ⊥
+pub labels_apart : (layout : Layout) (row : ℕ) (e f : PlacedEntry) → HasPlace e.entry → HasPlace f.entry → HasItsLabel f → has_label e ≡ true
+    → has_label f ≡ true → f.entry.start.display ≤ e.entry.start.display → (e.position ≡ f.position → crowds e.position e f ≡ false) → (r c : ℕ)
+    → Reaches r c (label_write layout row e) → Reaches r c (label_write layout row f) → ⊥
 labels_apart layout row e f place_e place_f label has_e has_f left clear r c there_e there_f =
     let short : length (label_text f.entry) ≤ length (cow_str_bytes f.label) = label_chars_le f label in
     let gap : e.position ≡ f.position → f.entry.end.display + (length (cow_str_bytes f.label) + 2) ≤ e.entry.start.display = λ same. uncrowded_apart e.position e f (clear same) has_e has_f left in
@@ -212,7 +214,10 @@ stands_left given es i j d d2 placed before within =
     omega (arith, column, ap (λ (e : LineAnnotation). e.start.display) first, ap (λ (e : LineAnnotation). e.start.display) second)
 
 -- the labels of two entries of a line share no cell
-pub placed_apart : (layout : Layout) (row : ℕ) (given : List LineAnnotation) (es : List PlacedEntry) (i j : ℕ) (d d2 : PlacedEntry) → ArePlaced given es → All (λ e. HasPlace e.entry) es → i < j → j < length es → has_label (get_or es i d) ≡ true → has_label (get_or es j d2) ≡ true → (r c : ℕ) → Reaches r c (label_write layout row (get_or es i d)) → Reaches r c (label_write layout row (get_or es j d2)) → ⊥
+pub placed_apart : (layout : Layout) (row : ℕ) (given : List LineAnnotation) (es : List PlacedEntry) (i j : ℕ) (d d2 : PlacedEntry)
+    → ArePlaced given es → All (λ e. HasPlace e.entry) es → i < j → j < length es → has_label (get_or es i d) ≡ true
+    → has_label (get_or es j d2) ≡ true → (r c : ℕ) → Reaches r c (label_write layout row (get_or es i d))
+    → Reaches r c (label_write layout row (get_or es j d2)) → ⊥
 placed_apart layout row given es i j d d2 placed places before within has has_f r c here there =
     let e : PlacedEntry = get_or es i d in
     let f : PlacedEntry = get_or es j d2 in
@@ -220,7 +225,9 @@ placed_apart layout row given es i j d d2 placed places before within has has_f 
     let are = labelled_positions given es i d placed inside has in
     let at_e = position_of es i d are inside in
     let at_f = position_of es j d2 are within in
-    labels_apart layout row e f (places i d inside) (places j d2 within) (placed.labels j d2 within) has has_f (stands_left given es i j d d2 placed before within) (λ one_row. subst (λ p. crowds p e f ≡ false) (sym at_e) (uncrowded 0 es i j d d2 before within (sym at_e ∙ one_row ∙ at_f))) r c here there
+    labels_apart layout row e f (places i d inside) (places j d2 within) (placed.labels j d2 within)
+    has has_f (stands_left given es i j d d2 placed before within)
+    (λ one_row. subst (λ p. crowds p e f ≡ false) (sym at_e) (uncrowded 0 es i j d d2 before within (sym at_e ∙ one_row ∙ at_f))) r c here there
 
 -- each label stands whole once all are written
 pub labels_stand : (layout : Layout) (row : ℕ) (given : List LineAnnotation) (es : List PlacedEntry) (rows : List (List Cell)) → ArePlaced given es → All (λ e. HasPlace e.entry) es → All (StandsWhole layout row (painted (labels_of layout row es) rows)) es
@@ -332,7 +339,9 @@ labels_kept layout row given es old new placed places marked stand k d within ha
           let p : ℕ = (label_place e).1 + n in
           let there : layout.code + (label_place e).1 + n ≡ layout.code + p = omega arith in
           let clear : All (λ (f : PlacedEntry). IsPaintedAt f p → ⊥) es = All-weaker (IsClear e) (λ (f : PlacedEntry). IsPaintedAt f p → ⊥) (λ f is. unpainted e f n at (placed.labels k d within) is inside) es (all_clear given es k d placed places within has at.position) in
-          ap (λ r. cell_at new r (layout.code + (label_place e).1 + n)) here ∙ ap (cell_at new row) there ∙ marked.painted.unmarked p (All-permutation (λ (f : PlacedEntry). IsPaintedAt f p → ⊥) es marked.order marked.same clear) ∙ sym (ap (cell_at old row) there) ∙ sym (ap (λ r. cell_at old r (layout.code + (label_place e).1 + n)) here) ∙ before
+          ap (λ r. cell_at new r (layout.code + (label_place e).1 + n)) here ∙ ap (cell_at new row) there
+          ∙ marked.painted.unmarked p (All-permutation (λ (f : PlacedEntry). IsPaintedAt f p → ⊥) es marked.order marked.same clear)
+          ∙ sym (ap (cell_at old row) there) ∙ sym (ap (λ r. cell_at old r (layout.code + (label_place e).1 + n)) here) ∙ before
       | inr at ↦
           ap (λ cells. get_or cells (layout.code + (label_place e).1 + n) SPACE) (marked.painted.others (row + (label_place e).0) (λ same. omega (arith, same, at.row))) ∙ before
     ]

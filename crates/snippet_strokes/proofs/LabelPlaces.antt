@@ -28,7 +28,9 @@ map-swap : {X Y : Type 0} (f : X → Y) (xs : List X) (i j : ℕ) → i < length
 map-swap f [] i j first second = refl
 map-swap f (d ∷ ys) i j first second =
     let xs = d ∷ ys in
-    map-set f (set xs i (get_or xs j d)) j (get_or xs i d) ∙ ap (λ l. set l j (f (get_or xs i d))) (map-set f xs i (get_or xs j d)) ∙ ap (λ y. set (set (map f xs) i y) j (f (get_or xs i d))) (sym (get_or-map f xs j d (f d) second)) ∙ ap (λ y. set (set (map f xs) i (get_or (map f xs) j (f d))) j y) (sym (get_or-map f xs i d (f d) first))
+    map-set f (set xs i (get_or xs j d)) j (get_or xs i d) ∙ ap (λ l. set l j (f (get_or xs i d))) (map-set f xs i (get_or xs j d))
+    ∙ ap (λ y. set (set (map f xs) i y) j (f (get_or xs i d))) (sym (get_or-map f xs j d (f d) second))
+    ∙ ap (λ y. set (set (map f xs) i (get_or (map f xs) j (f d))) j y) (sym (get_or-map f xs i d (f d) first))
 
 -- things whose values were put in another order, in that order
 pub record Reordered {X Y : Type 0} (f : X → Y) (xs : List X) (ys : List Y) : Type 0 where
@@ -158,7 +160,9 @@ HasStrokesBeside layout row placed rows =
     (r c : ℕ) → layout.code ≤ c → BesideLabels layout row (row + r) c placed → IsStrokeCell layout.decor (cell_at rows (row + r) c)
 
 -- labels that stand whole in the rows from `row` on stand so in those rows alone, for each entry as it is given
-pub LabelsStand-placed : (layout : Layout) (row : ℕ) (es : List LineAnnotation) (placed : List PlacedEntry) (rows below : List (List Cell)) → ArePlaced es placed → All (λ (e : PlacedEntry). HasPlace e.entry) placed → All (StandsWhole layout row rows) placed → HasStrokesBeside layout row placed rows → ((r c : ℕ) → cell_at below r c ≡ cell_at rows (row + r) c) → LabelsStand layout es below
+pub LabelsStand-placed : (layout : Layout) (row : ℕ) (es : List LineAnnotation) (placed : List PlacedEntry) (rows below : List (List Cell))
+    → ArePlaced es placed → All (λ (e : PlacedEntry). HasPlace e.entry) placed → All (StandsWhole layout row rows) placed
+    → HasStrokesBeside layout row placed rows → ((r c : ℕ) → cell_at below r c ≡ cell_at rows (row + r) c) → LabelsStand layout es below
 LabelsStand-placed layout row es placed rows below is places stands beside same =
     let f : PlacedEntry → LineAnnotation = λ e. e.entry in
     let moved : Reordered f placed es = reordered f placed es (IsPermutation-sym es (map f placed) is.same) in
@@ -180,7 +184,9 @@ LabelsStand-placed layout row es placed rows below is places stands beside same 
           let few : count_by q placed ≤ 1 = one_passes q placed (λ i j d d2 before within one other.
           let here = reached layout (get_or placed i d) r c one in
           let there = reached layout (get_or placed j d2) r c other in
-          placed_apart layout 0 es placed i j d d2 is places before within (shows_label (get_or placed i d) (is.labels i d (omega (arith, before, within))) (omega (arith, here.from, here.to))) (shows_label (get_or placed j d2) (is.labels j d2 within) (omega (arith, there.from, there.to))) r c here there) in
+          placed_apart layout 0 es placed i j d d2 is places before within
+          (shows_label (get_or placed i d) (is.labels i d (omega (arith, before, within))) (omega (arith, here.from, here.to)))
+          (shows_label (get_or placed j d2) (is.labels j d2 within) (omega (arith, there.from, there.to))) r c here there) in
           let kept : count_by q order ≡ count_by q placed = sum_by-IsPermutation (λ e. cond (q e) 1 0) placed order moved.same in
           omega (arith, few, kept, count-map (is_cell_of r c) g order);
       others = λ r c right none.

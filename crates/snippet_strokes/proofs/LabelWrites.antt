@@ -55,7 +55,11 @@ labels_none layout row es none =
     flat_map-none (label_of layout row) es (λ k d within. ap (λ b. cond b (label_write layout row (get_or es k d) ∷ []) []) (none k d within))
 
 -- a lone label stands one cell after its mark
-pub label_lone : (layout : Layout) (row : ℕ) (e : PlacedEntry) (rows : List (List Cell)) → e.position ≡ 0 → 0 < e.entry.end.display → has_label e ≡ true → painted (labels_of layout row (e ∷ [])) rows ≡ cells_written rows row (layout.code + e.entry.end.display + 1) (text_cells (label_role e.entry.kind) (label_text e.entry))
+pub label_lone : (layout : Layout) (row : ℕ) (e : PlacedEntry) (rows : List (List Cell)) → e.position ≡ 0 → 0 < e.entry.end.display
+    → has_label e ≡ true → painted (labels_of layout row (e ∷ [])) rows ≡ cells_written rows row (layout.code + e.entry.end.display + 1)
+    (text_cells (label_role e.entry.kind) (label_text e.entry))
 label_lone layout row e rows beside some has =
     let at : ℕ × ℕ → List (List Cell) = λ place. cells_written rows (row + place.0) (layout.code + place.1) (text_cells (label_role e.entry.kind) (label_text e.entry)) in
-    ap (λ b. painted (cond b (label_write layout row e ∷ []) [] ++ []) rows) has ∙ ap at (label_beside e beside some) ∙ ap (λ r. cells_written rows r (layout.code + (e.entry.end.display + 1)) (text_cells (label_role e.entry.kind) (label_text e.entry))) (omega arith) ∙ ap (λ n. cells_written rows row n (text_cells (label_role e.entry.kind) (label_text e.entry))) (omega arith)
+    ap (λ b. painted (cond b (label_write layout row e ∷ []) [] ++ []) rows) has ∙ ap at (label_beside e beside some)
+    ∙ ap (λ r. cells_written rows r (layout.code + (e.entry.end.display + 1)) (text_cells (label_role e.entry.kind) (label_text e.entry)))
+    (omega arith) ∙ ap (λ n. cells_written rows row n (text_cells (label_role e.entry.kind) (label_text e.entry))) (omega arith)

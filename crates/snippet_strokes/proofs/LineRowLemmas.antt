@@ -132,7 +132,9 @@ module _ (layout : Layout) (room : ℕ) (closes : Bool) (text : List ℕ) (dropp
   Painted es above source new = AddsPainted layout room closes (map (shifted dropped) es) above source new
 
   -- a line that isn't
-  pub own_strokes : (es : List LineAnnotation) (above : List (List Cell)) (source : List Cell) (old new : List (List Cell)) → is_whole_line text es ≡ false → old ≡ above ++ source ∷ [] → (length es ≡ 0 → new ≡ old ++ end_rows) → (0 < length es → Painted es above source new) → OwnRows es above source new
+  pub own_strokes : (es : List LineAnnotation) (above : List (List Cell)) (source : List Cell) (old new : List (List Cell))
+      → is_whole_line text es ≡ false → old ≡ above ++ source ∷ [] → (length es ≡ 0 → new ≡ old ++ end_rows)
+      → (0 < length es → Painted es above source new) → OwnRows es above source new
   own_strokes [] above source old new other old_is bare strokes =
       record {
         rows = source ∷ end_rows;
@@ -156,7 +158,9 @@ module _ (layout : Layout) (room : ℕ) (closes : Bool) (text : List ℕ) (dropp
       }
 
   -- bars that run past a line stand beside all its rows
-  pub line_rows : (open_bars bars : List OpenBar) (es : List LineAnnotation) (above : List (List Cell)) (source : List Cell) (rows done new : List (List Cell)) (row : ℕ) → OwnRows es above source done → row ≡ length above → bars ≡ bars_apart open_bars (ends_of_bars es) → new ≡ barred layout Solid bars row done → new ≡ above ++ rows → AreLineRows layout room closes text dropped open_bars es source rows
+  pub line_rows : (open_bars bars : List OpenBar) (es : List LineAnnotation) (above : List (List Cell)) (source : List Cell)
+      (rows done new : List (List Cell)) (row : ℕ) → OwnRows es above source done → row ≡ length above → bars ≡ bars_apart open_bars (ends_of_bars es)
+      → new ≡ barred layout Solid bars row done → new ≡ above ++ rows → AreLineRows layout room closes text dropped open_bars es source rows
   line_rows open_bars bars es above source rows done new row own row_is bars_are new_is added =
       let past : List OpenBar = bars_apart open_bars (ends_of_bars es) in
       let below = barred-below layout Solid past above own.rows in

@@ -112,13 +112,17 @@ module _ (layout : Layout) (n : ℕ) where
       top : (e : PlacedEntry) (depth : ℕ) → top_of layout (n + row) (n + count) e depth ≡ map (lowered n) (top_of layout row count e depth)
       top e depth =
           let glyph : ℕ = glyph_of layout.decor (is_primary e.entry.kind) 32 32 0x250F 0x250C in
-          ap (λ r. glyph_at r (layout.gutter + 2 + depth) glyph (stroke_role e) ∷ bar_of layout e depth (r + 1) (n + count)) (corner e) ∙ ap (λ ws. lowered n (glyph_at (row + 1 + e.position) (layout.gutter + 2 + depth) glyph (stroke_role e)) ∷ ws) (bar e depth (row + 1 + e.position + 1) count (n + (row + 1 + e.position) + 1) (n + count) (omega arith) refl)
+          ap (λ r. glyph_at r (layout.gutter + 2 + depth) glyph (stroke_role e) ∷ bar_of layout e depth (r + 1) (n + count)) (corner e)
+          ∙ ap (λ ws. lowered n (glyph_at (row + 1 + e.position) (layout.gutter + 2 + depth) glyph (stroke_role e)) ∷ ws)
+          (bar e depth (row + 1 + e.position + 1) count (n + (row + 1 + e.position) + 1) (n + count) (omega arith) refl)
 
       bottom : (e : PlacedEntry) (depth : ℕ) → bottom_of layout (n + row) e depth ≡ map (lowered n) (bottom_of layout row e depth)
       bottom e depth =
           let glyph : ℕ = glyph_of layout.decor (is_primary e.entry.kind) 124 124 0x2517 0x2514 in
           let own : Write = glyph_at (row + 1 + e.position) (layout.gutter + 2 + depth) glyph (stroke_role e) in
-          ap (λ r. bar_of layout e depth (n + row) r ++ glyph_at r (layout.gutter + 2 + depth) glyph (stroke_role e) ∷ []) (corner e) ∙ ap (λ ws. ws ++ lowered n own ∷ []) (bar e depth row (row + 1 + e.position) (n + row) (n + (row + 1 + e.position)) refl refl) ∙ sym (map-append (lowered n) (bar_of layout e depth row (row + 1 + e.position)) (own ∷ []))
+          ap (λ r. bar_of layout e depth (n + row) r ++ glyph_at r (layout.gutter + 2 + depth) glyph (stroke_role e) ∷ []) (corner e)
+          ∙ ap (λ ws. ws ++ lowered n own ∷ []) (bar e depth row (row + 1 + e.position) (n + row) (n + (row + 1 + e.position)) refl refl)
+          ∙ sym (map-append (lowered n) (bar_of layout e depth row (row + 1 + e.position)) (own ∷ []))
 
       by_part : (e : PlacedEntry) (part : LineAnnotationType) → corner_by layout (n + row) (n + count) e part ≡ map (lowered n) (corner_by layout row count e part)
       by_part e Singleline = refl
@@ -152,7 +156,9 @@ module _ (layout : Layout) (n : ℕ) where
   stems-lowered : (row : ℕ) (es : List PlacedEntry) → stems_of layout (n + row) es ≡ map (lowered n) (stems_of layout row es)
   stems-lowered row [] = refl
   stems-lowered row (e ∷ later) =
-      ap (λ ws. ws ++ stems_of layout (n + row) later) (either (is_hidden e later)) ∙ ap (λ ws. map (lowered n) (cond (is_hidden e later) [] (stem_of layout row e)) ++ ws) (stems-lowered row later) ∙ sym (map-append (lowered n) (cond (is_hidden e later) [] (stem_of layout row e)) (stems_of layout row later))
+      ap (λ ws. ws ++ stems_of layout (n + row) later) (either (is_hidden e later))
+      ∙ ap (λ ws. map (lowered n) (cond (is_hidden e later) [] (stem_of layout row e)) ++ ws) (stems-lowered row later)
+      ∙ sym (map-append (lowered n) (cond (is_hidden e later) [] (stem_of layout row e)) (stems_of layout row later))
     where
       either : (hidden : Bool) → cond hidden [] (stem_of layout (n + row) e) ≡ map (lowered n) (cond hidden [] (stem_of layout row e))
       either true = refl
@@ -198,7 +204,12 @@ module _ (layout : Layout) (n : ℕ) where
       let four : List Write = labels_of layout 1 placed in
       let five : List Write = marks_of layout 1 order in
       let corners : corners_of layout n (n + count) placed ≡ map (lowered n) two = ap (λ r. corners_of layout r (n + count) placed) (sym none) ∙ corners-lowered 0 count placed in
-      join (connectors-lowered 1 placed) corners (stems-lowered 1 placed) (labels-lowered 1 placed) (marks-lowered 1 order) ∙ sym (map-append (lowered n) (one ++ two ++ three ++ four) five ∙ ap (λ ws. ws ++ map (lowered n) five) (map-append (lowered n) (one ++ two ++ three) four ∙ ap (λ ws. ws ++ map (lowered n) four) (map-append (lowered n) (one ++ two) three ∙ ap (λ ws. ws ++ map (lowered n) three) (map-append (lowered n) one two))))
+      join (connectors-lowered 1 placed) corners (stems-lowered 1 placed) (labels-lowered 1 placed) (marks-lowered 1 order)
+      ∙ sym (map-append (lowered n) (one ++ two ++ three ++ four) five
+      ∙ ap (λ ws. ws ++ map (lowered n) five)
+      (map-append (lowered n) (one ++ two ++ three) four
+      ∙ ap (λ ws. ws ++ map (lowered n) four)
+      (map-append (lowered n) (one ++ two) three ∙ ap (λ ws. ws ++ map (lowered n) three) (map-append (lowered n) one two))))
     where
       join : {a b c d e a' b' c' d' e' : List Write} → a ≡ a' → b ≡ b' → c ≡ c' → d ≡ d' → e ≡ e' → a ++ b ++ c ++ d ++ e ≡ a' ++ b' ++ c' ++ d' ++ e'
       join a b c d e = cc

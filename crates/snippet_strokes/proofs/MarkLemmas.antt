@@ -56,7 +56,9 @@ from_map f (x ∷ xs) y (k, within, same) =
     (get_or (x ∷ xs) at x, Contains-get_or (x ∷ xs) at x inside, sym (get_or-map f (x ∷ xs) at x y inside) ∙ same)
 
 -- the cell below a column with a mark holds it
-pub mark_shown : (layout : Layout) (es : List LineAnnotation) (placed : List PlacedEntry) (row : ℕ) (old new : List (List Cell)) → All IsPlainEntry es → IsPermutation es (map (λ (e : PlacedEntry). e.entry) placed) → AreMarked layout placed row old new → (p : ℕ) (kind : AnnotationKind) → IsEntryMark es p kind → IsMarkCell layout.decor kind (cell_at new row (layout.code + p))
+pub mark_shown : (layout : Layout) (es : List LineAnnotation) (placed : List PlacedEntry) (row : ℕ) (old new : List (List Cell)) → All IsPlainEntry es
+    → IsPermutation es (map (λ (e : PlacedEntry). e.entry) placed) → AreMarked layout placed row old new → (p : ℕ) (kind : AnnotationKind)
+    → IsEntryMark es p kind → IsMarkCell layout.decor kind (cell_at new row (layout.code + p))
 mark_shown layout es placed row old new plain same marked p kind mark =
     let f : PlacedEntry → LineAnnotation = λ e. e.entry in
     let order : List PlacedEntry = marked.order in

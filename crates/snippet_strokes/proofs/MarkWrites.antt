@@ -37,7 +37,11 @@ paints_some layout row e old some =
     let is : painted (mark_of layout row e) old ≡ new = ap (λ b. painted (cond b (glyph_at row from first role ∷ stretch_of row (from + 1) to glyph role) []) old) (less from to (omega (arith, some))) in
     subst (λ (rows : List (List Cell)). Paints old rows row from to marks) (sym is) (elim (cases_lt (from + 1) to) [
       | inl more ↦
-          let writes : WritesCells mid new row (from + 1) (replicate n line) = subst (WritesCells mid new row (from + 1)) (text_cells-replicate role n glyph) (subst (λ (rows : List (List Cell)). WritesCells mid rows row (from + 1) (text_cells role (replicate n glyph))) (sym (ap (λ b. painted (cond b (w ∷ []) []) mid) (less (from + 1) to more))) (WritesCells-cells_written mid row (from + 1) (text_cells role (replicate n glyph)))) in
+          let writes : WritesCells mid new row (from + 1) (replicate n line) =
+          subst (WritesCells mid new row (from + 1)) (text_cells-replicate role n glyph)
+          (subst (λ (rows : List (List Cell)). WritesCells mid rows row (from + 1)
+          (text_cells role (replicate n glyph))) (sym (ap (λ b. painted (cond b (w ∷ []) []) mid) (less (from + 1) to more)))
+          (WritesCells-cells_written mid row (from + 1) (text_cells role (replicate n glyph)))) in
           Paints-rest old mid new row from to line marks begun (λ c past. is_line c past) more writes
       | inr none ↦
           let all : from + 1 ≡ to = omega (arith, none, some) in
@@ -64,7 +68,10 @@ painted_upto layout row es d old (suc i) within =
     let mid : List (List Cell) = painted (marks_of layout row (take i es)) old in
     let next : suc i ≡ i + 1 = omega arith in
     let is : painted (marks_of layout row (take (i + 1) es)) old ≡ painted (f e) mid = ap (λ ws. painted ws old) (flat_map-take_more f es i d inside) ∙ painted-append (marks_of layout row (take i es)) (f e) old in
-    subst (λ n. Painted layout (take n es) row old (painted (marks_of layout row (take n es)) old)) (sym next) (subst (Painted layout (take (i + 1) es) row old) (sym is) (Painted-next layout es i d row old mid (painted (f e) mid) inside (painted_upto layout row es d old i (omega (arith, within))) (Paints-mark layout row e mid)))
+    subst (λ n. Painted layout (take n es) row old (painted (marks_of layout row (take n es)) old)) (sym next)
+    (subst (Painted layout (take (i + 1) es) row old) (sym is)
+    (Painted-next layout es i d row old mid (painted (f e) mid) inside (painted_upto layout row es d old i (omega (arith, within)))
+    (Paints-mark layout row e mid)))
 
 pub Painted-marks : (layout : Layout) (row : ℕ) (es : List PlacedEntry) (old : List (List Cell)) → Painted layout es row old (painted (marks_of layout row es) old)
 Painted-marks layout row [] old = Painted-none layout row old

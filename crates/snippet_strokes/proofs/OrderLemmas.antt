@@ -39,7 +39,9 @@ CoversOver-trans a b c first second =
     }
 
 -- neighbours that are in an order put the whole list in it
-from_neighbours : (R : LineAnnotation → LineAnnotation → Type 0) → ((a : LineAnnotation) → R a a) → ((a b c : LineAnnotation) → R a b → R b c → R a c) → (es : List LineAnnotation) → ((k : ℕ) (d : LineAnnotation) → k + 1 < length es → R (get_or es k d) (get_or es (k + 1) d)) → (i j : ℕ) (d : LineAnnotation) → i ≤ j → j < length es → R (get_or es i d) (get_or es j d)
+from_neighbours : (R : LineAnnotation → LineAnnotation → Type 0) → ((a : LineAnnotation) → R a a) → ((a b c : LineAnnotation) → R a b → R b c → R a c)
+    → (es : List LineAnnotation) → ((k : ℕ) (d : LineAnnotation) → k + 1 < length es → R (get_or es k d) (get_or es (k + 1) d))
+    → (i j : ℕ) (d : LineAnnotation) → i ≤ j → j < length es → R (get_or es i d) (get_or es j d)
 from_neighbours R same trans es next i zero d before within =
     let here : i ≡ zero = omega arith in
     subst (λ n. R (get_or es i d) (get_or es n d)) here (same (get_or es i d))
@@ -54,14 +56,20 @@ from_neighbours R same trans es next i (suc j) d before within =
     ]
 
 -- what is known of neighbours among placed entries is known of their entries
-entries_next : (R : LineAnnotation → LineAnnotation → Type 0) (first : PlacedEntry) (ps : List PlacedEntry) → ((k : ℕ) → k + 1 < length ps → R (get_or ps k first).entry (get_or ps (k + 1) first).entry) → (k : ℕ) (d : LineAnnotation) → k + 1 < length (map (λ (e : PlacedEntry). e.entry) ps) → R (get_or (map (λ (e : PlacedEntry). e.entry) ps) k d) (get_or (map (λ (e : PlacedEntry). e.entry) ps) (k + 1) d)
+entries_next : (R : LineAnnotation → LineAnnotation → Type 0) (first : PlacedEntry) (ps : List PlacedEntry)
+    → ((k : ℕ) → k + 1 < length ps → R (get_or ps k first).entry (get_or ps (k + 1) first).entry) → (k : ℕ) (d : LineAnnotation)
+    → k + 1 < length (map (λ (e : PlacedEntry). e.entry) ps)
+    → R (get_or (map (λ (e : PlacedEntry). e.entry) ps) k d) (get_or (map (λ (e : PlacedEntry). e.entry) ps) (k + 1) d)
 entries_next R first ps next k d within =
     let f : PlacedEntry → LineAnnotation = λ e. e.entry in
     let fits : k + 1 < length ps = omega (arith, within, length-map ps f) in
     subst (λ e. R e (get_or (map f ps) (k + 1) d)) (sym (get_or-map f ps k first d (omega arith))) (subst (R (get_or ps k first).entry) (sym (get_or-map f ps (k + 1) first d fits)) (next k fits))
 
 -- entries that are sorted by that key are in painting order
-pub painting_order_from_sort : (ps : List PlacedEntry) → ((k : ℕ) (d : PlacedEntry) → 0 ≤ k → k + 1 < length ps → is_lt (ordering_then (nat_cmp (paint_key (get_or ps k d)).0.0 (paint_key (get_or ps (k + 1) d)).0.0) (bool_cmp (paint_key (get_or ps (k + 1) d)).1 (paint_key (get_or ps k d)).1)) ≡ false) → IsPaintingOrder (map (λ (e : PlacedEntry). e.entry) ps)
+pub painting_order_from_sort : (ps : List PlacedEntry)
+    → ((k : ℕ) (d : PlacedEntry) → 0 ≤ k → k + 1 < length ps → is_lt (ordering_then
+    (nat_cmp (paint_key (get_or ps k d)).0.0 (paint_key (get_or ps (k + 1) d)).0.0)
+    (bool_cmp (paint_key (get_or ps (k + 1) d)).1 (paint_key (get_or ps k d)).1)) ≡ false) → IsPaintingOrder (map (λ (e : PlacedEntry). e.entry) ps)
 painting_order_from_sort [] sorted = λ i j d before within. absurd (omega arith)
 painting_order_from_sort (first ∷ rest) sorted =
     let ps = first ∷ rest in
@@ -92,7 +100,10 @@ StandsLeft-trans a b c first second =
     }
 
 -- entries that are sorted by that key stand from right to left
-pub from_right_from_sort : (ps : List PlacedEntry) → ((k : ℕ) (d : PlacedEntry) → 0 ≤ k → k + 1 < length ps → is_lt (ordering_then (nat_cmp (place_key (get_or ps k d)).0.0 (place_key (get_or ps (k + 1) d)).0.0) (nat_cmp (place_key (get_or ps k d)).0.1 (place_key (get_or ps (k + 1) d)).0.1)) ≡ false) → IsFromRight (map (λ (e : PlacedEntry). e.entry) ps)
+pub from_right_from_sort : (ps : List PlacedEntry)
+    → ((k : ℕ) (d : PlacedEntry) → 0 ≤ k → k + 1 < length ps → is_lt (ordering_then
+    (nat_cmp (place_key (get_or ps k d)).0.0 (place_key (get_or ps (k + 1) d)).0.0)
+    (nat_cmp (place_key (get_or ps k d)).0.1 (place_key (get_or ps (k + 1) d)).0.1)) ≡ false) → IsFromRight (map (λ (e : PlacedEntry). e.entry) ps)
 from_right_from_sort [] sorted = λ i j d before within. absurd (omega arith)
 from_right_from_sort (first ∷ rest) sorted =
     let ps = first ∷ rest in

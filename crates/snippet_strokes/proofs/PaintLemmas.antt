@@ -73,7 +73,9 @@ Paints-past rows row from to cell past =
     }
 
 -- after the first cell come those that are all one
-pub Paints-rest : (old mid new : List (List Cell)) (row from to : ℕ) (line : Cell) (cell : ℕ → Cell) → Paints old mid row from (from + 1) cell → ((c : ℕ) → from < c → line ≡ cell c) → from + 1 < to → WritesCells mid new row (from + 1) (replicate (to - (from + 1)) line) → Paints old new row from to cell
+pub Paints-rest : (old mid new : List (List Cell)) (row from to : ℕ) (line : Cell) (cell : ℕ → Cell) → Paints old mid row from (from + 1) cell
+    → ((c : ℕ) → from < c → line ≡ cell c) → from + 1 < to → WritesCells mid new row (from + 1) (replicate (to - (from + 1)) line)
+    → Paints old new row from to cell
 Paints-rest old mid new row from to line cell done is more writes =
     let n = to - (from + 1) in
     let long : length (replicate n line) ≡ n = length-replicate n line in
@@ -100,13 +102,18 @@ first_cell_is layout e first primary role is_kind is_first is_role =
     let here : (layout.code + e.entry.start.display == layout.code + e.entry.start.display) ≡ true = grind (arith, nat_tests) in
     rw (is_role, is_first, is_kind, here) refl
 
-pub other_cell_is : (layout : Layout) (e : PlacedEntry) (glyph : ℕ) (primary : Bool) (role : ElementStyle) → primary ≡ is_primary e.entry.kind → glyph ≡ glyph_of layout.decor primary 94 45 0x2501 0x2500 → role ≡ underline_role primary → (c : ℕ) → layout.code + e.entry.start.display < c → unlinked_cell role glyph ≡ mark_cell layout e c
+pub other_cell_is : (layout : Layout) (e : PlacedEntry) (glyph : ℕ) (primary : Bool) (role : ElementStyle) → primary ≡ is_primary e.entry.kind
+    → glyph ≡ glyph_of layout.decor primary 94 45 0x2501 0x2500 → role ≡ underline_role primary → (c : ℕ) → layout.code + e.entry.start.display < c
+    → unlinked_cell role glyph ≡ mark_cell layout e c
 other_cell_is layout e glyph primary role is_kind is_glyph is_role c past =
     let other : (c == layout.code + e.entry.start.display) ≡ false = grind (arith, nat_tests) in
     rw (is_role, is_glyph, is_kind, other) refl
 
 -- a mark cell of an entry that stands for a whole span is one of its kind
-stroke_is : (decor : DecorStyle) (kind : AnnotationKind) (start stem : Bool) → IsMarkCell decor kind (unlinked_cell (underline_role (is_primary kind)) (cond start (cond stem (glyph_of decor (is_primary kind) 94 45 0x252F 0x252C) (glyph_of decor (is_primary kind) 94 45 0x2501 0x2500)) (glyph_of decor (is_primary kind) 94 45 0x2501 0x2500)))
+stroke_is : (decor : DecorStyle) (kind : AnnotationKind) (start stem : Bool)
+    → IsMarkCell decor kind (unlinked_cell (underline_role (is_primary kind))
+    (cond start (cond stem (glyph_of decor (is_primary kind) 94 45 0x252F 0x252C) (glyph_of decor (is_primary kind) 94 45 0x2501 0x2500))
+    (glyph_of decor (is_primary kind) 94 45 0x2501 0x2500)))
 stroke_is Ascii Primary true true = (refl, refl)
 stroke_is Ascii Context true true = (refl, refl)
 stroke_is Ascii Visible true true = (refl, refl)
@@ -131,10 +138,16 @@ IsMarkCell-mark_cell layout e c flat =
     let primary = is_primary e.entry.kind in
     let corner = cond (has_stem e) (glyph_of layout.decor primary 94 45 0x257F 0x2502) (glyph_of layout.decor primary 94 45 0x251B 0x2518) in
     let own = cond (has_stem e) (glyph_of layout.decor primary 94 45 0x252F 0x252C) (glyph_of layout.decor primary 94 45 0x2501 0x2500) in
-    subst (λ b. IsMarkCell layout.decor e.entry.kind (unlinked_cell (underline_role primary) (cond (c == layout.code + e.entry.start.display) (cond b corner own) (glyph_of layout.decor primary 94 45 0x2501 0x2500)))) (sym flat) (stroke_is layout.decor e.entry.kind (c == layout.code + e.entry.start.display) (has_stem e))
+    subst (λ b. IsMarkCell layout.decor e.entry.kind
+    (unlinked_cell (underline_role primary)
+    (cond (c == layout.code + e.entry.start.display) (cond b corner own) (glyph_of layout.decor primary 94 45 0x2501 0x2500)))) (sym flat)
+    (stroke_is layout.decor e.entry.kind (c == layout.code + e.entry.start.display) (has_stem e))
 
 -- no glyph of a mark is a listed character
-free_glyphs : (decor : DecorStyle) (primary first space stem : Bool) → is_listed (cond first (cond space (cond stem (glyph_of decor primary 94 45 0x257F 0x2502) (glyph_of decor primary 94 45 0x251B 0x2518)) (cond stem (glyph_of decor primary 94 45 0x252F 0x252C) (glyph_of decor primary 94 45 0x2501 0x2500))) (glyph_of decor primary 94 45 0x2501 0x2500)) ≡ false
+free_glyphs : (decor : DecorStyle) (primary first space stem : Bool)
+    → is_listed (cond first (cond space (cond stem (glyph_of decor primary 94 45 0x257F 0x2502) (glyph_of decor primary 94 45 0x251B 0x2518))
+    (cond stem (glyph_of decor primary 94 45 0x252F 0x252C) (glyph_of decor primary 94 45 0x2501 0x2500)))
+    (glyph_of decor primary 94 45 0x2501 0x2500)) ≡ false
 free_glyphs Ascii true true true true = refl
 free_glyphs Ascii true true true false = refl
 free_glyphs Ascii true true false true = refl
@@ -206,7 +219,9 @@ untouched layout mid new row p e paints not_covered =
     ]
 
 -- what an entry shows that was painted last
-shows_new : (layout : Layout) (es : List PlacedEntry) (e d : PlacedEntry) (k p : ℕ) (mid new : List (List Cell)) (row : ℕ) → Paints mid new row (layout.code + e.entry.start.display) (layout.code + mark_end e) (mark_cell layout e) → k < length (es ++ e ∷ []) → IsPaintedAt e p → ShowsFrom layout (es ++ e ∷ []) k p d (cell_at new row (layout.code + p))
+shows_new : (layout : Layout) (es : List PlacedEntry) (e d : PlacedEntry) (k p : ℕ) (mid new : List (List Cell)) (row : ℕ)
+    → Paints mid new row (layout.code + e.entry.start.display) (layout.code + mark_end e) (mark_cell layout e) → k < length (es ++ e ∷ [])
+    → IsPaintedAt e p → ShowsFrom layout (es ++ e ∷ []) k p d (cell_at new row (layout.code + p))
 shows_new layout es e d k p mid new row paints within covers =
     let here = new_place es e d in
     record {
@@ -230,7 +245,9 @@ shows_old layout es e d k p cell same is shows =
     }
 
 -- where one entry is painted the row ends where the entry does, or where it did
-sole_width : (layout : Layout) (es : List PlacedEntry) (e f : PlacedEntry) (row : ℕ) (old mid new : List (List Cell)) → Painted layout es row old mid → Paints mid new row (layout.code + e.entry.start.display) (layout.code + mark_end e) (mark_cell layout e) → es ++ e ∷ [] ≡ f ∷ [] → f.entry.start.display < mark_end f → length (row_at new row) ≡ max (length (row_at old row)) (layout.code + mark_end f)
+sole_width : (layout : Layout) (es : List PlacedEntry) (e f : PlacedEntry) (row : ℕ) (old mid new : List (List Cell)) → Painted layout es row old mid
+    → Paints mid new row (layout.code + e.entry.start.display) (layout.code + mark_end e) (mark_cell layout e) → es ++ e ∷ [] ≡ f ∷ []
+    → f.entry.start.display < mark_end f → length (row_at new row) ≡ max (length (row_at old row)) (layout.code + mark_end f)
 sole_width layout [] e f row old mid new done paints one some =
     let same : e ≡ f = cc in
     omega (arith, paints.width (omega (arith, ap (λ (x : PlacedEntry). x.entry.start.display) same, ap mark_end same)), done.kept refl, ap mark_end same)
@@ -238,7 +255,9 @@ sole_width layout (d ∷ es) e f row old mid new done paints one some =
     absurd (omega (arith, length_push es e, ap length one))
 
 -- one more entry is painted over those before
-pub Painted-more : (layout : Layout) (es : List PlacedEntry) (e : PlacedEntry) (row : ℕ) (old mid new : List (List Cell)) → Painted layout es row old mid → Paints mid new row (layout.code + e.entry.start.display) (layout.code + mark_end e) (mark_cell layout e) → Painted layout (es ++ e ∷ []) row old new
+pub Painted-more : (layout : Layout) (es : List PlacedEntry) (e : PlacedEntry) (row : ℕ) (old mid new : List (List Cell))
+    → Painted layout es row old mid → Paints mid new row (layout.code + e.entry.start.display) (layout.code + mark_end e) (mark_cell layout e)
+    → Painted layout (es ++ e ∷ []) row old new
 Painted-more layout es e row old mid new done paints =
     record {
       marked = λ k p d within covers. elim (covers_or_not e p) [
@@ -277,7 +296,10 @@ Painted-more layout es e row old mid new done paints =
     }
 
 -- the entry that stands next is painted
-pub Painted-next : (layout : Layout) (es : List PlacedEntry) (i : ℕ) (d : PlacedEntry) (row : ℕ) (old mid new : List (List Cell)) → i < length es → Painted layout (take i es) row old mid → Paints mid new row (layout.code + (get_or es i d).entry.start.display) (layout.code + mark_end (get_or es i d)) (mark_cell layout (get_or es i d)) → Painted layout (take (i + 1) es) row old new
+pub Painted-next : (layout : Layout) (es : List PlacedEntry) (i : ℕ) (d : PlacedEntry) (row : ℕ) (old mid new : List (List Cell)) → i < length es
+    → Painted layout (take i es) row old mid
+    → Paints mid new row (layout.code + (get_or es i d).entry.start.display) (layout.code + mark_end (get_or es i d))
+    (mark_cell layout (get_or es i d)) → Painted layout (take (i + 1) es) row old new
 Painted-next layout es i d row old mid new within done paints =
     subst (λ xs. Painted layout xs row old new) (sym (take_more es i d within)) (Painted-more layout (take i es) (get_or es i d) row old mid new done paints)
 

@@ -21,7 +21,9 @@ use Rattle.snippet_strokes.specs.Entries.{HasPlace}
 use Rattle.snippet_view.proofs.PartLemmas.{list_any-map}
 
 -- one more position is known
-pub positions_more : (ps : List ℕ) (es : List PlacedEntry) (all : List ℕ) (i reached : ℕ) (d : PlacedEntry) → i < length es → ps ++ positions reached (drop i es) ≡ all → let e = get_or es i d in let others = drop (i + 1) es in (ps ++ position_at reached e others ∷ []) ++ positions (position_after (position_at reached e others) e others) others ≡ all
+pub positions_more : (ps : List ℕ) (es : List PlacedEntry) (all : List ℕ) (i reached : ℕ) (d : PlacedEntry) → i < length es
+    → ps ++ positions reached (drop i es) ≡ all → let e = get_or es i d in let others = drop (i + 1) es in
+    (ps ++ position_at reached e others ∷ []) ++ positions (position_after (position_at reached e others) e others) others ≡ all
 positions_more ps es all i reached d within so_far =
     let e = get_or es i d in
     let others = drop (i + 1) es in
@@ -180,7 +182,9 @@ positions-unplaced p (e ∷ others) =
     let here : position_at p (unplaced e) (map unplaced others) ≡ position_at p e others = ap (λ b. cond ((p == 0) && (has_label e && b)) 1 p) crossed in
     let crowded : (q : ℕ) → list_any (crowds q (unplaced e)) (map unplaced others) ≡ list_any (crowds q e) others = λ q. list_any-map (crowds q (unplaced e)) unplaced others in
     let after : (q : ℕ) → position_after q (unplaced e) (map unplaced others) ≡ position_after q e others = λ q. ap (λ b. cond b (q + 1) q) (crowded q) in
-    ap (λ q. q ∷ positions (position_after q (unplaced e) (map unplaced others)) (map unplaced others)) here ∙ ap (λ q. position_at p e others ∷ positions q (map unplaced others)) (after (position_at p e others)) ∙ ap (λ qs. position_at p e others ∷ qs) (positions-unplaced (position_after (position_at p e others) e others) others)
+    ap (λ q. q ∷ positions (position_after q (unplaced e) (map unplaced others)) (map unplaced others)) here
+    ∙ ap (λ q. position_at p e others ∷ positions q (map unplaced others)) (after (position_at p e others))
+    ∙ ap (λ qs. position_at p e others ∷ qs) (positions-unplaced (position_after (position_at p e others) e others) others)
 
 -- what doesn't look at positions is kept where nothing else changes
 pub all_kept : (P : PlacedEntry → Type 0) (es fs : List PlacedEntry) → ((e : PlacedEntry) → P (unplaced e) → P e) → ((e : PlacedEntry) → P e → P (unplaced e)) → map unplaced es ≡ map unplaced fs → All P fs → All P es
@@ -273,7 +277,11 @@ written_back xs ys len is kept =
     ap (λ rest. take len (xs ++ rest)) (drop_all (length xs) ys (omega (arith, long))) ∙ ap (take len) (append-nil xs) ∙ take_all len xs (omega (arith, is, long))
 
 -- entries that were put in an order and got the positions of it are placed
-pub ArePlaced-from : (es : List LineAnnotation) (labelled sorted placed : List PlacedEntry) (ps : List ℕ) → map (λ (e : PlacedEntry). e.entry) labelled ≡ es → All HasItsLabel labelled → IsPermutation labelled sorted → map (λ (e : PlacedEntry). e.entry) sorted ≡ ordered_by is_placed_before (map (λ (e : PlacedEntry). e.entry) labelled) → IsFromRight (map (λ (e : PlacedEntry). e.entry) sorted) → ps ≡ line_positions sorted → map (λ (e : PlacedEntry). e.position) placed ≡ ps → map unplaced placed ≡ map unplaced sorted → ArePlaced es placed
+pub ArePlaced-from : (es : List LineAnnotation) (labelled sorted placed : List PlacedEntry) (ps : List ℕ)
+    → map (λ (e : PlacedEntry). e.entry) labelled ≡ es → All HasItsLabel labelled → IsPermutation labelled sorted
+    → map (λ (e : PlacedEntry). e.entry) sorted ≡ ordered_by is_placed_before (map (λ (e : PlacedEntry). e.entry) labelled)
+    → IsFromRight (map (λ (e : PlacedEntry). e.entry) sorted) → ps ≡ line_positions sorted → map (λ (e : PlacedEntry). e.position) placed ≡ ps
+    → map unplaced placed ≡ map unplaced sorted → ArePlaced es placed
 ArePlaced-from es labelled sorted placed ps entries labels same order ordered are got kept =
     let f : PlacedEntry → LineAnnotation = λ e. e.entry in
     record {

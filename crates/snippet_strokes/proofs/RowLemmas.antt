@@ -137,7 +137,10 @@ source_full layout shown cells place short free_shown free_cells =
     let before : (c : ℕ) → c < layout.code → slice_index_or row c SPACE ≡ slice_index_or start c SPACE = λ c left. slice_index_or-written_before SPACE start layout.code cells c left in
     record {
       shows = record {
-        number = sym (take-take (length shown) layout.code row (omega arith)) ∙ ap (take (length shown)) (take-written_past SPACE start layout.code cells ends) ∙ take-append-le (length shown) start (replicate (layout.code - length start) SPACE) (omega (arith, length-front layout shown short)) ∙ take-front layout shown;
+        number = sym (take-take (length shown) layout.code row (omega arith))
+            ∙ ap (take (length shown)) (take-written_past SPACE start layout.code cells ends)
+            ∙ take-append-le (length shown) start (replicate (layout.code - length start) SPACE) (omega (arith, length-front layout shown short))
+            ∙ take-front layout shown;
         code = drop-written SPACE start layout.code cells ∙ ap (λ rest. cells ++ rest) (drop_all (layout.code + length cells) start (omega arith)) ∙ append-nil cells;
       };
       separator = before (layout.gutter + 1) (omega arith) ∙ bare.separator;
@@ -152,7 +155,10 @@ source_celled layout shown (cell ∷ cells) place short free_shown free_cells =
     source_full layout shown (cell ∷ cells) place short free_shown free_cells
 
 -- the number is written
-pub number_written : (layout : Layout) (number : List ℕ) (old begun mid : List (List Cell)) (row : ℕ) → row ≡ length old → begun ≡ old ++ separator_row layout.decor layout.gutter ∷ [] → (0 < length number → mid ≡ cells_written begun row 0 (text_cells LineNumber (chars number))) → (number ≡ [] → mid ≡ begun) → mid ≡ old ++ front layout (chars number) ∷ []
+pub number_written : (layout : Layout) (number : List ℕ) (old begun mid : List (List Cell)) (row : ℕ) → row ≡ length old
+    → begun ≡ old ++ separator_row layout.decor layout.gutter ∷ []
+    → (0 < length number → mid ≡ cells_written begun row 0 (text_cells LineNumber (chars number))) → (number ≡ [] → mid ≡ begun)
+    → mid ≡ old ++ front layout (chars number) ∷ []
 number_written layout number old begun mid row last begins numbers number_stays =
     text_put old begun mid (separator_row layout.decor layout.gutter) row 0 number (text_cells LineNumber (chars number)) begins last numbers number_stays ∙ ap (λ r. old ++ r ∷ []) (texted_start number (separator_row layout.decor layout.gutter))
 
@@ -161,7 +167,9 @@ pub front_short : (layout : Layout) (shown : List ℕ) → layout.gutter + 3 ≤
 front_short layout shown place short = omega (arith, length-front layout shown short)
 
 -- the number and the cells of the window make the source row
-pub source_row_added : (layout : Layout) (number : List ℕ) (cells : List Cell) (old new : List (List Cell)) → layout.gutter + 3 ≤ layout.code → length (chars number) ≤ layout.gutter + 1 → All (λ c. is_listed c ≡ false) (chars number) → IsFree cells → new ≡ old ++ with_cells layout.code cells (front layout (chars number)) ∷ [] → AddsSourceRow layout (chars number) cells old new
+pub source_row_added : (layout : Layout) (number : List ℕ) (cells : List Cell) (old new : List (List Cell)) → layout.gutter + 3 ≤ layout.code
+    → length (chars number) ≤ layout.gutter + 1 → All (λ c. is_listed c ≡ false) (chars number) → IsFree cells
+    → new ≡ old ++ with_cells layout.code cells (front layout (chars number)) ∷ [] → AddsSourceRow layout (chars number) cells old new
 source_row_added layout number cells old new place short free_number free_cells writes =
     record {
       row = with_cells layout.code cells (front layout (chars number));

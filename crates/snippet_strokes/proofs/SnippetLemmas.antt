@@ -149,7 +149,15 @@ clear_entries margin dropped es all near uncut k d within columns =
     ]
 
 -- a source row, what its entries highlight, the strokes below and beside it, and the bars that run past show a line
-pub line_added : (layout : Layout) (margin : Margin) (numbers : LineNumbers) (closes : Bool) (open_bars bars : List OpenBar) (info : AnnotatedLineInfo) (dropped : ℕ) (old mid high done new : List (List Cell)) (row : ℕ) → length (shown_number numbers layout.gutter info.line_index) ≤ layout.gutter + 1 → AddsSourceRow layout (shown_number numbers layout.gutter info.line_index) (window_cells layout.decor margin (norm (chars info.line.now))) old mid → row ≡ length old → dropped ≡ width_of (dropped_part (bounds_of margin).left (norm (chars info.line.now))) → All (λ e. is_bar e.annotation_type ≡ false → dropped ≤ e.start.display) info.annotations.items → IsHighlighted layout.code dropped (filter (λ e. not (is_end_part e.annotation_type)) info.annotations.items) (row_at mid row) (row_at high row) → ((r : ℕ) → r ≢ row → row_at high r ≡ row_at mid r) → length high ≡ length mid → ((above : List (List Cell)) (plain : List Cell) → high ≡ above ++ plain ∷ [] → HasNoBars layout plain → AddsStrokes layout margin.term_width (map (shifted dropped) info.annotations.items) closes above plain done) → DrawsBars layout row done new → ((above : List (List Cell)) (bright : List Cell) → high ≡ above ++ bright ∷ [] → AddsOwnRows layout margin.term_width closes (norm (chars info.line.now)) dropped info.annotations.items above bright done) → bars ≡ bars_apart open_bars (ends_of_bars info.annotations.items) → new ≡ barred layout Solid bars row done → AddsLine layout margin numbers closes open_bars info old new
+pub line_added : (layout : Layout) (margin : Margin) (numbers : LineNumbers) (closes : Bool) (open_bars bars : List OpenBar)
+    (info : AnnotatedLineInfo) (dropped : ℕ) (old mid high done new : List (List Cell)) (row : ℕ)
+    → length (shown_number numbers layout.gutter info.line_index) ≤ layout.gutter + 1
+    → AddsSourceRow layout (shown_number numbers layout.gutter info.line_index) (window_cells layout.decor margin (norm (chars info.line.now)))
+    old mid → row ≡ length old → dropped ≡ width_of (dropped_part (bounds_of margin).left (norm (chars info.line.now)))
+    → All (λ e. is_bar e.annotation_type ≡ false → dropped ≤ e.start.display) info.annotations.items
+    → IsHighlighted layout.code dropped (filter (λ e. not (is_end_part e.annotation_type)) info.annotations.items) (row_at mid row) (row_at high row)
+    → ((r : ℕ) → r ≢ row → row_at high r ≡ row_at mid r) → length high ≡ length mid
+    → ((above : List (List Cell)) (plain : List Cell) → high ≡ above ++ plain ∷ [] → HasNoBars layout plain → AddsStrokes layout margin.term_width (map (shifted dropped) info.annotations.items) closes above plain done) → DrawsBars layout row done new → ((above : List (List Cell)) (bright : List Cell) → high ≡ above ++ bright ∷ [] → AddsOwnRows layout margin.term_width closes (norm (chars info.line.now)) dropped info.annotations.items above bright done) → bars ≡ bars_apart open_bars (ends_of_bars info.annotations.items) → new ≡ barred layout Solid bars row done → AddsLine layout margin numbers closes open_bars info old new
 line_added layout margin numbers closes open_bars bars info dropped old mid high done new row short source last dropped_is clear highlights others count strokes draws own bars_are value =
     let shown = shown_number numbers layout.gutter info.line_index in
     let text = norm (chars info.line.now) in
@@ -207,7 +215,12 @@ last_closes true infos i within =
 last_closes false infos i within = refl
 
 -- the line that stands next is drawn, and the row for lines that are left out after it
-pub AddsLines-next : (layout : Layout) (margin : Margin) (numbers : LineNumbers) (closes : Bool) (infos : List AnnotatedLineInfo) (i : ℕ) (info : AnnotatedLineInfo) (open_bars below : List OpenBar) (old before mid new : List (List Cell)) → i < length infos → info ≡ get_or infos i info → below ≡ open_below open_bars info.annotations.items → AddsLines layout margin numbers closes infos i open_bars old before → AddsLine layout margin numbers (closes && i + 1 == length infos) open_bars info before mid → AddsGap layout below info.line_index (drop (i + 1) infos) mid new → AddsLines layout margin numbers closes infos (i + 1) below old new
+pub AddsLines-next : (layout : Layout) (margin : Margin) (numbers : LineNumbers) (closes : Bool) (infos : List AnnotatedLineInfo) (i : ℕ)
+    (info : AnnotatedLineInfo) (open_bars below : List OpenBar) (old before mid new : List (List Cell)) → i < length infos
+    → info ≡ get_or infos i info → below ≡ open_below open_bars info.annotations.items
+    → AddsLines layout margin numbers closes infos i open_bars old before
+    → AddsLine layout margin numbers (closes && i + 1 == length infos) open_bars info before mid
+    → AddsGap layout below info.line_index (drop (i + 1) infos) mid new → AddsLines layout margin numbers closes infos (i + 1) below old new
 AddsLines-next layout margin numbers closes infos i info open_bars below old before mid new within is below_is done line gap =
     let later = drop (i + 1) infos in
     let next : drop i infos ≡ info ∷ later = drop_more infos i info within ∙ ap (λ x. x ∷ later) (sym is) in
@@ -218,7 +231,15 @@ AddsLines-next layout margin numbers closes infos i info open_bars below old bef
       rows = done.rows ++ first ++ between;
       added = gap.added ∙ ap (λ rs. rs ++ between) (line.added ∙ ap (λ rs. rs ++ first) done.added) ∙ regroup old done.rows first between;
       shown = λ rest shown.
-          let all : AreLinesShown layout margin numbers closes open_bars (info ∷ later) (first ++ between ++ rest) = (first, between, rest, refl, shows, subst (λ bs. IsGap layout bs info.line_index later between) below_is gap.is, subst (λ bs. AreLinesShown layout margin numbers closes bs later rest) below_is shown) in
+          let all : AreLinesShown layout margin numbers closes open_bars (info ∷ later) (first ++ between ++ rest) = (
+            first,
+            between,
+            rest,
+            refl,
+            shows,
+            subst (λ bs. IsGap layout bs info.line_index later between) below_is gap.is,
+            subst (λ bs. AreLinesShown layout margin numbers closes bs later rest) below_is shown,
+          ) in
           let whole : AreLinesShown layout margin numbers closes [] infos (done.rows ++ (first ++ between ++ rest)) = done.shown (first ++ between ++ rest) (subst (λ xs. AreLinesShown layout margin numbers closes open_bars xs (first ++ between ++ rest)) (sym next) all) in
           subst (λ rs. AreLinesShown layout margin numbers closes [] infos rs) (sym (regroup done.rows first between rest)) whole;
     }
@@ -227,7 +248,9 @@ AddsLines-next layout margin numbers closes infos i info open_bars below old bef
     regroup a b c d = ap (λ rs. rs ++ d) (append_assoc a b c) ∙ append_assoc a (b ++ c) d
 
 -- all lines are drawn
-pub AddsSnippet-from_lines : (layout : Layout) (margin : Margin) (numbers : LineNumbers) (closes : Bool) (infos : List AnnotatedLineInfo) (i : ℕ) (open_bars : List OpenBar) (old new : List (List Cell)) → i ≡ length infos → AddsLines layout margin numbers closes infos i open_bars old new → AddsSnippet layout margin numbers closes infos old new
+pub AddsSnippet-from_lines : (layout : Layout) (margin : Margin) (numbers : LineNumbers) (closes : Bool) (infos : List AnnotatedLineInfo) (i : ℕ)
+    (open_bars : List OpenBar) (old new : List (List Cell)) → i ≡ length infos → AddsLines layout margin numbers closes infos i open_bars old new
+    → AddsSnippet layout margin numbers closes infos old new
 AddsSnippet-from_lines layout margin numbers closes infos i open_bars old new all done =
     let none : drop i infos ≡ [] = drop_all i infos (omega (arith, all)) in
     let shown : AreLinesShown layout margin numbers closes [] infos (done.rows ++ []) = done.shown [] (subst (λ xs. AreLinesShown layout margin numbers closes open_bars xs []) (sym none) refl) in
@@ -248,4 +271,8 @@ free_gap layout open_bars number (next ∷ infos) rows (inr near) = All-same IsF
 pub free_from_AreLinesShown : (layout : Layout) (margin : Margin) (numbers : LineNumbers) (closes : Bool) (open_bars : List OpenBar) (infos : List AnnotatedLineInfo) (rows : List (List Cell)) → AreLinesShown layout margin numbers closes open_bars infos rows → All IsFree rows
 free_from_AreLinesShown layout margin numbers closes open_bars [] rows none = All-same IsFree rows [] none (All-nil IsFree)
 free_from_AreLinesShown layout margin numbers closes open_bars (info ∷ infos) rows shown =
-    All-same IsFree rows (shown.0 ++ shown.1 ++ shown.2) shown.3 (All-append IsFree (shown.0 ++ shown.1) shown.2 (All-append IsFree shown.0 shown.1 shown.4.free (free_gap layout (open_below open_bars info.annotations.items) info.line_index infos shown.1 shown.5)) (free_from_AreLinesShown layout margin numbers closes (open_below open_bars info.annotations.items) infos shown.2 shown.6))
+    All-same IsFree rows (shown.0 ++ shown.1 ++ shown.2)
+    shown.3 (All-append IsFree (shown.0 ++ shown.1)
+    shown.2 (All-append IsFree shown.0 shown.1 shown.4.free
+    (free_gap layout (open_below open_bars info.annotations.items) info.line_index infos shown.1 shown.5))
+    (free_from_AreLinesShown layout margin numbers closes (open_below open_bars info.annotations.items) infos shown.2 shown.6))

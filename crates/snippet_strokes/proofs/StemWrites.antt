@@ -47,7 +47,9 @@ stem_within layout row count from e rows stand =
       below = omega arith;
       there = omega (arith, rows.mark, low);
       right = stand;
-      free = All-cons P (cond (b == e.position) (foot_glyph layout.decor e) (glyph_of layout.decor primary 124 124 0x2502 0x2502)) [] (either (b == e.position) (foot_glyph layout.decor e) (glyph_of layout.decor primary 124 124 0x2502 0x2502) (free_foot e.entry.annotation_type layout.decor primary (has_label e)) (free_stem layout.decor primary)) (All-nil P);
+      free = All-cons P (cond (b == e.position) (foot_glyph layout.decor e) (glyph_of layout.decor primary 124 124 0x2502 0x2502)) []
+          (either (b == e.position) (foot_glyph layout.decor e) (glyph_of layout.decor primary 124 124 0x2502 0x2502)
+          (free_foot e.entry.annotation_type layout.decor primary (has_label e)) (free_stem layout.decor primary)) (All-nil P);
     })
   where
     either : (b : Bool) (foot stem : ℕ) → is_listed foot ≡ false → is_listed stem ≡ false → is_listed (cond b foot stem) ≡ false

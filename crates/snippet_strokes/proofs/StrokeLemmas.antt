@@ -161,7 +161,10 @@ module _ (layout : Layout) (room : ℕ) (closes : Bool) (es : List LineAnnotatio
   pub source_beside : (wide : ℕ) (row_now : List Cell) → IsCut layout wide source row_now → IsBeside layout wide plain_row row_now
   source_beside wide row_now cut =
       record {
-        front = sym (take-take (layout.gutter + 2) layout.code row_now (omega (arith, place))) ∙ ap (take (layout.gutter + 2)) cut.left ∙ take-take (layout.gutter + 2) layout.code source (omega (arith, place)) ∙ same_front source plain_row (layout.gutter + 2) (omega (arith, source_long, bare_bars.0)) bare_bars.0 (λ c before. source_left c (omega (arith, before)));
+        front = sym (take-take (layout.gutter + 2) layout.code row_now (omega (arith, place))) ∙ ap (take (layout.gutter + 2)) cut.left
+            ∙ take-take (layout.gutter + 2) layout.code source (omega (arith, place))
+            ∙ same_front source plain_row (layout.gutter + 2) (omega (arith, source_long, bare_bars.0))
+            bare_bars.0 (λ c before. source_left c (omega (arith, before)));
         gap = cut_left layout wide source row_now cut (layout.gutter + 2) (omega (arith, place)) ∙ source_left (layout.gutter + 2) (omega arith);
         bar_cells = λ c right before. subst (IsBarCell layout.decor) (sym (cut_left layout wide source row_now cut c before)) (source_bar_cells c right before);
         text = subst (λ cells. AreReplaced (placeholder_of layout.decor) wide (row_text cells) (row_text (drop layout.code row_now))) source_code cut.text;
@@ -427,12 +430,17 @@ module _ (layout : Layout) (room : ℕ) (closes : Bool) (es : List LineAnnotatio
           subst (IsStrokeRow layout plain es (closes && suc k + 1 == row_count placed)) (sym (lower_at k)) (stroke_row (suc k) within)
 
   -- the same, from what the cut says of any rows above, between and below
-  pub strokes_drawn : (final : List (List Cell)) (wide : ℕ) → 0 < length es → wide ≡ wide_entries room layout.decor es → ((above : List (List Cell)) (source marks : List Cell) (below : List (List Cell)) → length above ≡ length above_rows → new ≡ above ++ source ∷ marks ∷ below → CutsRows layout wide above source marks below final) → AddsStrokes layout room es closes above_rows plain_row final
+  pub strokes_drawn : (final : List (List Cell)) (wide : ℕ) → 0 < length es → wide ≡ wide_entries room layout.decor es
+      → ((above : List (List Cell)) (source marks : List Cell) (below : List (List
+      Cell)) → length above ≡ length above_rows → new ≡ above ++ source ∷ marks ∷ below → CutsRows layout wide above source marks below final)
+      → AddsStrokes layout room es closes above_rows plain_row final
   strokes_drawn final wide some same cut =
       strokes_added final some (subst (λ n. CutsRows layout n above_rows source (row_at new row) lower final) same (cut above_rows source (row_at new row) lower refl rows_split))
 
 -- a line with no entries has no strokes, but a row that closes the window where it closes there
-pub strokes_none : (layout : Layout) (room : ℕ) (closes : Bool) (es : List LineAnnotation) (above : List (List Cell)) (plain : List Cell) (old new : List (List Cell)) → layout.gutter + 3 ≤ layout.code → length es ≡ 0 → old ≡ above ++ plain ∷ [] → HasNoBars layout plain → new ≡ old ++ (if closes then closing_row layout.decor layout.gutter ∷ [] else []) → AddsStrokes layout room es closes above plain new
+pub strokes_none : (layout : Layout) (room : ℕ) (closes : Bool) (es : List LineAnnotation) (above : List (List Cell)) (plain : List Cell)
+    (old new : List (List Cell)) → layout.gutter + 3 ≤ layout.code → length es ≡ 0 → old ≡ above ++ plain ∷ [] → HasNoBars layout plain
+    → new ≡ old ++ (if closes then closing_row layout.decor layout.gutter ∷ [] else []) → AddsStrokes layout room es closes above plain new
 strokes_none layout room closes es above plain old new place none old_is bare_bars adds =
     record {
       source = plain;
@@ -483,7 +491,10 @@ strokes_none layout room closes es above plain old new place none old_is bare_ba
     space true p = bare_row_right layout.decor layout.gutter true (layout.code + p) (omega (arith, place))
     space false p = refl
 
-    rows_are : (closes : Bool) (k : ℕ) → k < length (if closes then closing_row layout.decor layout.gutter ∷ [] else []) → IsStrokeRow layout (are_plain room layout.decor es) es (closes && k + 1 == length (if closes then closing_row layout.decor layout.gutter ∷ [] else [])) (row_at (if closes then closing_row layout.decor layout.gutter ∷ [] else []) k)
+    rows_are : (closes : Bool) (k : ℕ) → k < length (if closes then closing_row layout.decor layout.gutter ∷ [] else [])
+        → IsStrokeRow layout (are_plain room layout.decor es)
+        es (closes && k + 1 == length (if closes then closing_row layout.decor layout.gutter ∷ [] else []))
+        (row_at (if closes then closing_row layout.decor layout.gutter ∷ [] else []) k)
     rows_are true zero within =
         record {
           left = λ c before. refl;

@@ -108,7 +108,9 @@ IsBeside-same layout wide plain bare =
       free = λ free. free;
     }
 
-pub whole_added : (layout : Layout) (text : List ℕ) (room dropped : ℕ) (closes : Bool) (es : List LineAnnotation) (above : List (List Cell)) (plain : List Cell) (old new : List (List Cell)) (row : ℕ) → is_whole_line text es ≡ true → length old ≡ row + 1 → DrawsBars layout row old new → old ≡ above ++ plain ∷ [] → HasNoBars layout plain → AddsStrokes layout room (map (shifted dropped) es) closes above plain new
+pub whole_added : (layout : Layout) (text : List ℕ) (room dropped : ℕ) (closes : Bool) (es : List LineAnnotation) (above : List (List Cell))
+    (plain : List Cell) (old new : List (List Cell)) (row : ℕ) → is_whole_line text es ≡ true → length old ≡ row + 1 → DrawsBars layout row old new
+    → old ≡ above ++ plain ∷ [] → HasNoBars layout plain → AddsStrokes layout room (map (shifted dropped) es) closes above plain new
 whole_added layout text room dropped closes es above plain old new row whole long draws is bare =
     let shown = map (shifted dropped) es in
     let last : row ≡ length above = omega (arith, long, ap length is, length_push above plain) in

@@ -37,20 +37,36 @@ painted_more f xs i x old mid within is so_far =
     ap (painted (f x)) so_far ∙ sym (painted-append (flat_map f (take i xs)) (f x) old) ∙ ap (λ y. painted (flat_map f (take i xs) ++ f y) old) is ∙ sym (ap (λ ws. painted ws old) (flat_map-take_more f xs i x within))
 
 -- a label is written where the entry has one
-pub label_painted : (layout : Layout) (row : ℕ) (e : PlacedEntry) (place : ℕ × ℕ) (role : ElementStyle) (text : List ℕ) (old new : List (List Cell)) → place ≡ label_place e → role ≡ label_role e.entry.kind → text ≡ label_text e.entry → (has_label e ≡ true → new ≡ cells_written old (row + place.0) (layout.code + place.1) (text_cells role text)) → (has_label e ≡ false → new ≡ old) → new ≡ painted (label_of layout row e) old
+pub label_painted : (layout : Layout) (row : ℕ) (e : PlacedEntry) (place : ℕ × ℕ) (role : ElementStyle) (text : List ℕ) (old new : List (List Cell))
+    → place ≡ label_place e → role ≡ label_role e.entry.kind → text ≡ label_text e.entry
+    → (has_label e ≡ true → new ≡ cells_written old (row + place.0) (layout.code + place.1) (text_cells role text))
+    → (has_label e ≡ false → new ≡ old) → new ≡ painted (label_of layout row e) old
 label_painted layout row e place role text old new is_place is_role is_text writes stays =
     elim (cases_Bool (has_label e)) [
       | inl has ↦
-          writes has ∙ ap (λ (p : ℕ × ℕ). cells_written old (row + p.0) (layout.code + p.1) (text_cells role text)) is_place ∙ ap (λ r. cells_written old (row + (label_place e).0) (layout.code + (label_place e).1) (text_cells r text)) is_role ∙ ap (λ cs. cells_written old (row + (label_place e).0) (layout.code + (label_place e).1) (text_cells (label_role e.entry.kind) cs)) is_text ∙ sym (ap (λ b. painted (cond b (label_write layout row e ∷ []) []) old) has)
+          writes has ∙ ap (λ (p : ℕ × ℕ). cells_written old (row + p.0) (layout.code + p.1) (text_cells role text)) is_place
+          ∙ ap (λ r. cells_written old (row + (label_place e).0) (layout.code + (label_place e).1) (text_cells r text)) is_role
+          ∙ ap (λ cs. cells_written old (row + (label_place e).0) (layout.code + (label_place e).1) (text_cells (label_role e.entry.kind) cs))
+          is_text ∙ sym (ap (λ b. painted (cond b (label_write layout row e ∷ []) []) old) has)
       | inr none ↦ stays none ∙ sym (ap (λ b. painted (cond b (label_write layout row e ∷ []) []) old) none)
     ]
 
 -- one cell more of a stem
-pub stem_drawn : (layout : Layout) (row : ℕ) (e : PlacedEntry) (n foot stem glyph : ℕ) (role : ElementStyle) (old mid new : List (List Cell)) → glyph ≡ cond (n == e.position) foot stem → foot ≡ foot_glyph layout.decor e → stem ≡ glyph_of layout.decor (is_primary e.entry.kind) 124 124 0x2502 0x2502 → role ≡ underline_role (is_primary e.entry.kind) → new ≡ cells_written mid (row + n) (layout.code + e.entry.start.display) (text_cells role (glyph ∷ [])) → mid ≡ painted (map (stem_write layout row e) (range_with_len 0 n)) old → new ≡ painted (map (stem_write layout row e) (range_with_len 0 (n + 1))) old
+pub stem_drawn : (layout : Layout) (row : ℕ) (e : PlacedEntry) (n foot stem glyph : ℕ) (role : ElementStyle) (old mid new : List (List Cell))
+    → glyph ≡ cond (n == e.position) foot stem → foot ≡ foot_glyph layout.decor e
+    → stem ≡ glyph_of layout.decor (is_primary e.entry.kind) 124 124 0x2502 0x2502 → role ≡ underline_role (is_primary e.entry.kind)
+    → new ≡ cells_written mid (row + n) (layout.code + e.entry.start.display) (text_cells role (glyph ∷ []))
+    → mid ≡ painted (map (stem_write layout row e) (range_with_len 0 n)) old
+    → new ≡ painted (map (stem_write layout row e) (range_with_len 0 (n + 1))) old
 stem_drawn layout row e n foot stem glyph role old mid new is_glyph is_foot is_stem is_role writes so_far =
     let cell = layout.code + e.entry.start.display in
     let same : glyph ≡ cond (n == e.position) (foot_glyph layout.decor e) (glyph_of layout.decor (is_primary e.entry.kind) 124 124 0x2502 0x2502) = is_glyph ∙ ap (λ f. cond (n == e.position) f stem) is_foot ∙ ap (λ s. cond (n == e.position) (foot_glyph layout.decor e) s) is_stem in
-    writes ∙ ap (λ g. cells_written mid (row + n) cell (text_cells role (g ∷ []))) same ∙ ap (λ r. cells_written mid (row + n) cell (text_cells r (cond (n == e.position) (foot_glyph layout.decor e) (glyph_of layout.decor (is_primary e.entry.kind) 124 124 0x2502 0x2502) ∷ []))) is_role ∙ ap (λ rows. written_by rows (stem_write layout row e n)) so_far ∙ sym (painted-append (map (stem_write layout row e) (range_with_len 0 n)) (stem_write layout row e n ∷ []) old) ∙ sym (ap (λ ws. painted ws old) (map-range_with_len_more (stem_write layout row e) 0 n n (omega arith)))
+    writes ∙ ap (λ g. cells_written mid (row + n) cell (text_cells role (g ∷ []))) same
+    ∙ ap (λ r. cells_written mid (row + n) cell
+    (text_cells r (cond (n == e.position) (foot_glyph layout.decor e) (glyph_of layout.decor (is_primary e.entry.kind) 124 124 0x2502 0x2502)
+    ∷ []))) is_role ∙ ap (λ rows. written_by rows (stem_write layout row e n)) so_far
+    ∙ sym (painted-append (map (stem_write layout row e) (range_with_len 0 n)) (stem_write layout row e n ∷ []) old)
+    ∙ sym (ap (λ ws. painted ws old) (map-range_with_len_more (stem_write layout row e) 0 n n (omega arith)))
 
 -- ---- stretches, columns and marks
 
@@ -73,7 +89,9 @@ stretch_painted row from to glyph role cs old new some is writes =
     writes ∙ ap (λ xs. cells_written old row from (text_cells role xs)) is ∙ sym (ap (λ b. painted (cond b (w ∷ []) []) old) (less from to some))
 
 -- a column grows by a glyph in the next row
-pub column_painted : (start row cell glyph : ℕ) (role : ElementStyle) (old mid new : List (List Cell)) → start ≤ row → mid ≡ painted (column_of start row cell glyph role) old → new ≡ cells_written mid row cell (text_cells role (glyph ∷ [])) → new ≡ painted (column_of start (row + 1) cell glyph role) old
+pub column_painted : (start row cell glyph : ℕ) (role : ElementStyle) (old mid new : List (List Cell)) → start ≤ row
+    → mid ≡ painted (column_of start row cell glyph role) old → new ≡ cells_written mid row cell (text_cells role (glyph ∷ []))
+    → new ≡ painted (column_of start (row + 1) cell glyph role) old
 column_painted start row cell glyph role old mid new below so_far writes =
     let f : ℕ → Write = λ r. glyph_at r cell glyph role in
     let n : ℕ = row - start in
@@ -95,16 +113,31 @@ mark_of-none layout row e past =
     ap (λ b. cond b ws []) (not_less from to (omega (arith, past)))
 
 -- a mark is its first glyph, and the underline after it
-pub mark_painted : (layout : Layout) (row : ℕ) (e : PlacedEntry) (first underline : ℕ) (role : ElementStyle) (end : ℕ) (old mid new : List (List Cell)) → e.entry.start.display < mark_end e → end ≡ mark_end e → first ≡ first_glyph layout.decor e → underline ≡ glyph_of layout.decor (is_primary e.entry.kind) 94 45 0x2501 0x2500 → role ≡ stroke_role e → mid ≡ cells_written old row (layout.code + e.entry.start.display) (text_cells role (first ∷ [])) → new ≡ painted (stretch_of row (layout.code + e.entry.start.display + 1) (layout.code + end) underline role) mid → new ≡ painted (mark_of layout row e) old
+pub mark_painted : (layout : Layout) (row : ℕ) (e : PlacedEntry) (first underline : ℕ) (role : ElementStyle) (end : ℕ)
+    (old mid new : List (List Cell)) → e.entry.start.display < mark_end e → end ≡ mark_end e → first ≡ first_glyph layout.decor e
+    → underline ≡ glyph_of layout.decor (is_primary e.entry.kind) 94 45 0x2501 0x2500 → role ≡ stroke_role e
+    → mid ≡ cells_written old row (layout.code + e.entry.start.display) (text_cells role (first ∷ []))
+    → new ≡ painted (stretch_of row (layout.code + e.entry.start.display + 1) (layout.code + end) underline role) mid
+    → new ≡ painted (mark_of layout row e) old
 mark_painted layout row e first underline role end old mid new some is_end is_first is_underline is_role begins continues =
     let from = layout.code + e.entry.start.display in
     let to = layout.code + mark_end e in
     let line : ℕ = glyph_of layout.decor (is_primary e.entry.kind) 94 45 0x2501 0x2500 in
     let ws : List Write = glyph_at row from (first_glyph layout.decor e) (stroke_role e) ∷ stretch_of row (from + 1) to line (stroke_role e) in
-    continues ∙ ap (λ n. painted (stretch_of row (from + 1) (layout.code + n) underline role) mid) is_end ∙ ap (λ g. painted (stretch_of row (from + 1) to g role) mid) is_underline ∙ ap (λ r. painted (stretch_of row (from + 1) to line r) mid) is_role ∙ ap (painted (stretch_of row (from + 1) to line (stroke_role e))) (begins ∙ ap (λ g. cells_written old row from (text_cells role (g ∷ []))) is_first ∙ ap (λ r. cells_written old row from (text_cells r (first_glyph layout.decor e ∷ []))) is_role) ∙ sym (ap (λ b. painted (cond b ws []) old) (less from to (omega (arith, some))))
+    continues ∙ ap (λ n. painted (stretch_of row (from + 1) (layout.code + n) underline role) mid) is_end
+    ∙ ap (λ g. painted (stretch_of row (from + 1) to g role) mid) is_underline
+    ∙ ap (λ r. painted (stretch_of row (from + 1) to line r) mid) is_role
+    ∙ ap (painted (stretch_of row (from + 1) to line (stroke_role e)))
+    (begins ∙ ap (λ g. cells_written old row from (text_cells role (g ∷ []))) is_first
+    ∙ ap (λ r. cells_written old row from (text_cells r (first_glyph layout.decor e ∷ []))) is_role)
+    ∙ sym (ap (λ b. painted (cond b ws []) old) (less from to (omega (arith, some))))
 
 -- the strokes of a line, painted one list after another
-pub strokes_painted : (layout : Layout) (row below count all : ℕ) (placed order : List PlacedEntry) (rows begun joined barred stemmed labelled new : List (List Cell)) → below ≡ row + 1 → count ≡ all → begun ≡ rows → joined ≡ painted (connectors_of layout below placed) begun → barred ≡ painted (corners_of layout row count placed) joined → stemmed ≡ painted (stems_of layout below placed) barred → labelled ≡ painted (labels_of layout below placed) stemmed → new ≡ painted (marks_of layout below order) labelled → new ≡ painted (strokes_of layout row all placed order) rows
+pub strokes_painted : (layout : Layout) (row below count all : ℕ) (placed order : List PlacedEntry)
+    (rows begun joined barred stemmed labelled new : List (List Cell)) → below ≡ row + 1 → count ≡ all → begun ≡ rows
+    → joined ≡ painted (connectors_of layout below placed) begun → barred ≡ painted (corners_of layout row count placed) joined
+    → stemmed ≡ painted (stems_of layout below placed) barred → labelled ≡ painted (labels_of layout below placed) stemmed
+    → new ≡ painted (marks_of layout below order) labelled → new ≡ painted (strokes_of layout row all placed order) rows
 strokes_painted layout row below count all placed order rows begun joined barred stemmed labelled new is_below is_all is_begun lines bars stems labels marks =
     let one : List Write = connectors_of layout (row + 1) placed in
     let two : List Write = corners_of layout row all placed in

@@ -84,14 +84,20 @@ put_left gutter role old cs row covers there c inside =
           elim (cases_lt c (at + length cs)) [
             | inl within ↦
                 let here : at + (c - at) ≡ c = omega (arith, not_before) in
-                let shown : slice_index_or (written SPACE row at cells) c SPACE ≡ slice_index_or cells (c - at) SPACE = ap (λ (k : ℕ). slice_index_or (written SPACE row at cells) k SPACE) (sym here) ∙ slice_index_or-written_inside SPACE row at cells (c - at) SPACE (omega (arith, size, within, not_before)) in
+                let shown : slice_index_or (written SPACE row at cells) c SPACE ≡ slice_index_or cells (c - at) SPACE =
+                ap (λ (k : ℕ). slice_index_or (written SPACE row at cells) k SPACE) (sym here)
+                ∙ slice_index_or-written_inside SPACE row at cells (c - at) SPACE (omega (arith, size, within, not_before)) in
                 ap ch shown ∙ ch_at cells (c - at) ∙ ap (λ (t : List ℕ). slice_index_or t (c - at) 32) (row_text-text_cells role cs) ∙ sym (get_or-append_right spaces cs at c 32 long (omega (arith, not_before)))
             | inr past ↦
-                ap ch (slice_index_or-written_after SPACE row at cells c SPACE (omega (arith, size, past))) ∙ there c inside ∙ get_or_past (spaces ++ old) c 32 (omega (arith, length-append spaces old, long, covers, past)) ∙ sym (get_or_past (spaces ++ cs) c 32 (omega (arith, length-append spaces cs, long, past)))
+                ap ch (slice_index_or-written_after SPACE row at cells c SPACE (omega (arith, size, past))) ∙ there c inside
+                ∙ get_or_past (spaces ++ old) c 32 (omega (arith, length-append spaces old, long, covers, past))
+                ∙ sym (get_or_past (spaces ++ cs) c 32 (omega (arith, length-append spaces cs, long, past)))
           ]
     ]
 
-pub stroke_put : (decor : DecorStyle) (gutter : ℕ) (role : ElementStyle) (glyph : SuggestionGlyph) (old : List ℕ) (row : List Cell) → is_sign glyph ≡ false → length old ≤ length (glyph_of decor glyph) → IsStrokeRow decor gutter (beside_gutter gutter old) row → IsStrokeRow decor gutter (beside_gutter gutter (glyph_of decor glyph)) (written SPACE row (gutter + 1) (text_cells role (glyph_of decor glyph)))
+pub stroke_put : (decor : DecorStyle) (gutter : ℕ) (role : ElementStyle) (glyph : SuggestionGlyph) (old : List ℕ) (row : List Cell)
+    → is_sign glyph ≡ false → length old ≤ length (glyph_of decor glyph) → IsStrokeRow decor gutter (beside_gutter gutter old) row
+    → IsStrokeRow decor gutter (beside_gutter gutter (glyph_of decor glyph)) (written SPACE row (gutter + 1) (text_cells role (glyph_of decor glyph)))
 stroke_put decor gutter role glyph old row other covers stroke =
     record {
       bare = bare_signed decor gutter role glyph row other stroke.bare;
@@ -113,7 +119,10 @@ stroke_signed decor gutter role glyph other =
     stroke_put decor gutter role glyph [] [] other (omega arith) (record { bare = bare_none decor gutter; left_is = λ c inside. sym (spaces_left (gutter + 1) c) })
 
 -- a row of a placeholder was added
-pub gap_added : (gutter : ℕ) (decor : DecorStyle) (old new : List (List Cell)) (row at : ℕ) (text : List ℕ) → row ≡ length old → at ≡ gutter - width_of (placeholder_of decor) → chars text ≡ placeholder_of decor → (0 < length text → new ≡ cells_written old row at (text_cells LineNumber (chars text))) → AddsRow (IsStrokeRow decor gutter (gap_left decor gutter)) old new
+pub gap_added : (gutter : ℕ) (decor : DecorStyle) (old new : List (List Cell)) (row at : ℕ) (text : List ℕ) → row ≡ length old
+    → at ≡ gutter - width_of (placeholder_of decor) → chars text ≡ placeholder_of decor
+    → (0 < length text → new ≡ cells_written old row at (text_cells LineNumber (chars text)))
+    → AddsRow (IsStrokeRow decor gutter (gap_left decor gutter)) old new
 gap_added gutter decor old new row at text below right is writes =
     let cs = chars text in
     let left : at ≤ gutter = omega (arith, right) in
@@ -122,7 +131,9 @@ gap_added gutter decor old new row at text below right is writes =
     record {
       row = replicate at SPACE ++ text_cells LineNumber cs;
       added = begun_by old new row at (text_cells LineNumber cs) below (writes some);
-      is = subst (λ (t : List ℕ). IsStrokeRow decor gutter t (replicate at SPACE ++ text_cells LineNumber cs)) gap_is (stroke_led decor gutter at LineNumber cs (omega (arith, left, ap length is, placeholder_short decor)) (ap (list_all (is_stroke decor)) is ∙ placeholder_strokes decor) (ap (list_any is_listed) is ∙ placeholder_free decor));
+      is = subst (λ (t : List ℕ). IsStrokeRow decor gutter t (replicate at SPACE ++ text_cells LineNumber cs))
+          gap_is (stroke_led decor gutter at LineNumber cs (omega (arith, left, ap length is, placeholder_short decor))
+          (ap (list_all (is_stroke decor)) is ∙ placeholder_strokes decor) (ap (list_any is_listed) is ∙ placeholder_free decor));
     }
   where
     placeholder_some : (decor : DecorStyle) → 0 < length (placeholder_of decor)

@@ -39,8 +39,14 @@ stroke = SPACE ∷ SPACE ∷ text_cells LineNumber (codes "|")
 --       |
 --     1 | foo(x)
 --       |     +
-pub put_in_cells : (v : Vec Patch Global) (follows : Bool) → suggestion_cells ascii Opening follows (text_put_in v) [] ≡ stroke ∷ (text_cells LineNumber (codes "1") ++ SPACE ∷ text_cells LineNumber (codes "| ") ++ text_cells NoStyle (codes "foo(") ++ text_cells Addition (codes "x") ++ text_cells NoStyle (codes ")")) ∷ (stroke ++ replicate 5 SPACE ++ text_cells Addition (codes "+")) ∷ []
-unfolding suggestion_cells body_cells cells_of begin_cells end_cells line_cells offered_cells put sign_of with_stretches with_mark with_marks changed_within written new_stretches norm digits char_width unicode_width locations_of location_of start_location end_location place_of steps_after_text shown_text trimmed_edit sandwich kept_before start_of line_of chars last_line_reached newline_count trim_start trim_end lib.Utf8.encode
+pub put_in_cells : (v : Vec Patch Global) (follows : Bool)
+    → suggestion_cells ascii Opening follows (text_put_in v) []
+    ≡ stroke ∷ (text_cells LineNumber (codes "1") ++ SPACE ∷ text_cells LineNumber (codes "| ") ++ text_cells NoStyle (codes "foo(")
+    ++ text_cells Addition (codes "x") ++ text_cells NoStyle (codes ")")) ∷ (stroke ++ replicate 5 SPACE ++ text_cells Addition (codes "+")) ∷ []
+unfolding suggestion_cells body_cells cells_of begin_cells end_cells line_cells offered_cells put sign_of with_stretches with_mark with_marks
+    changed_within written new_stretches norm digits char_width unicode_width locations_of location_of start_location end_location place_of
+    steps_after_text shown_text trimmed_edit sandwich kept_before start_of line_of chars last_line_reached newline_count trim_start trim_end
+    lib.Utf8.encode
 put_in_cells v true = refl
 put_in_cells v false = refl
 
@@ -50,8 +56,14 @@ put_in_cells v false = refl
 --     1 - foo
 --     1 + bar
 --       |
-word_cells : (v : Vec Patch Global) (follows : Bool) → suggestion_cells ascii Opening follows (one_word v) [] ≡ stroke ∷ (text_cells LineNumber (codes "1") ++ SPACE ∷ text_cells Removal (codes "- foo")) ∷ (text_cells LineNumber (codes "1") ++ SPACE ∷ text_cells Addition (codes "+ bar")) ∷ stroke ∷ []
-unfolding suggestion_cells body_cells cells_of begin_cells end_cells line_cells offered_cells removed_cells on_last put sign_of with_stretches with_mark with_marks changed_within written new_stretches replaced_stretches norm digits char_width unicode_width locations_of location_of start_location end_location place_of steps_after_text shown_text trimmed_edit sandwich kept_before start_of line_of chars last_line_reached newline_count trim_start trim_end lib.Utf8.encode
+word_cells : (v : Vec Patch Global) (follows : Bool)
+    → suggestion_cells ascii Opening follows (one_word v) []
+    ≡ stroke ∷ (text_cells LineNumber (codes "1") ++ SPACE ∷ text_cells Removal (codes "- foo"))
+    ∷ (text_cells LineNumber (codes "1") ++ SPACE ∷ text_cells Addition (codes "+ bar")) ∷ stroke ∷ []
+unfolding suggestion_cells body_cells cells_of begin_cells end_cells line_cells offered_cells removed_cells on_last put sign_of with_stretches
+    with_mark with_marks changed_within written new_stretches replaced_stretches norm digits char_width unicode_width locations_of location_of
+    start_location end_location place_of steps_after_text shown_text trimmed_edit sandwich kept_before start_of line_of chars last_line_reached
+    newline_count trim_start trim_end lib.Utf8.encode
 word_cells v true = refl
 word_cells v false = refl
 
@@ -61,8 +73,14 @@ word_cells v false = refl
 --     1 ~ xa
 --     2 | c
 --       |
-two_line_cells : (v : Vec Patch Global) (follows : Bool) → suggestion_cells ascii Opening follows (two_lines v) [] ≡ stroke ∷ (text_cells LineNumber (codes "1") ++ SPACE ∷ text_cells Addition (codes "~ x") ++ text_cells NoStyle (codes "a")) ∷ (text_cells LineNumber (codes "2") ++ SPACE ∷ text_cells LineNumber (codes "|") ++ SPACE ∷ text_cells NoStyle (codes "c")) ∷ stroke ∷ []
-unfolding suggestion_cells body_cells cells_of begin_cells end_cells line_cells offered_cells put sign_of with_stretches with_mark with_marks changed_within written new_stretches norm digits char_width unicode_width locations_of location_of start_location end_location place_of steps_after_text shown_text trimmed_edit sandwich kept_before start_of line_of chars last_line_reached newline_count trim_start trim_end lib.Utf8.encode
+two_line_cells : (v : Vec Patch Global) (follows : Bool)
+    → suggestion_cells ascii Opening follows (two_lines v) []
+    ≡ stroke ∷ (text_cells LineNumber (codes "1") ++ SPACE ∷ text_cells Addition (codes "~ x") ++ text_cells NoStyle (codes "a"))
+    ∷ (text_cells LineNumber (codes "2") ++ SPACE ∷ text_cells LineNumber (codes "|") ++ SPACE ∷ text_cells NoStyle (codes "c")) ∷ stroke ∷ []
+unfolding suggestion_cells body_cells cells_of begin_cells end_cells line_cells offered_cells put sign_of with_stretches with_mark with_marks
+    changed_within written new_stretches norm digits char_width unicode_width locations_of location_of start_location end_location place_of
+    steps_after_text shown_text trimmed_edit sandwich kept_before start_of line_of chars last_line_reached newline_count trim_start trim_end
+    lib.Utf8.encode
 two_line_cells v true = refl
 two_line_cells v false = refl
 
@@ -74,8 +92,15 @@ two_line_cells v false = refl
 --     2 | b
 --     3 + x
 --       |
-pub unfolded_cells : (v : Vec Patch Global) (follows : Bool) → suggestion_cells ascii Opening follows (third_unfolded v) [] ≡ stroke ∷ (text_cells LineNumber (codes "1") ++ SPACE ∷ text_cells LineNumber (codes "|") ++ SPACE ∷ text_cells NoStyle (codes "a")) ∷ (text_cells LineNumber (codes "2") ++ SPACE ∷ text_cells LineNumber (codes "|") ++ SPACE ∷ text_cells NoStyle (codes "b")) ∷ (text_cells LineNumber (codes "3") ++ SPACE ∷ text_cells Addition (codes "+ x")) ∷ stroke ∷ []
-unfolding suggestion_cells body_cells cells_of begin_cells end_cells line_cells offered_cells put sign_of with_stretches with_mark with_marks changed_within written new_stretches norm digits char_width unicode_width locations_of location_of start_location end_location place_of steps_after_text shown_text trimmed_edit sandwich kept_before start_of line_of chars last_line_reached newline_count trim_start trim_end lib.Utf8.encode
+pub unfolded_cells : (v : Vec Patch Global) (follows : Bool)
+    → suggestion_cells ascii Opening follows (third_unfolded v) []
+    ≡ stroke ∷ (text_cells LineNumber (codes "1") ++ SPACE ∷ text_cells LineNumber (codes "|") ++ SPACE ∷ text_cells NoStyle (codes "a"))
+    ∷ (text_cells LineNumber (codes "2") ++ SPACE ∷ text_cells LineNumber (codes "|") ++ SPACE ∷ text_cells NoStyle (codes "b"))
+    ∷ (text_cells LineNumber (codes "3") ++ SPACE ∷ text_cells Addition (codes "+ x")) ∷ stroke ∷ []
+unfolding suggestion_cells body_cells cells_of begin_cells end_cells line_cells offered_cells put sign_of with_stretches with_mark with_marks
+    changed_within written new_stretches norm digits char_width unicode_width locations_of location_of start_location end_location place_of
+    steps_after_text shown_text trimmed_edit sandwich kept_before start_of line_of chars last_line_reached newline_count trim_start trim_end
+    lib.Utf8.encode
 unfolded_cells v true = refl
 unfolded_cells v false = refl
 
@@ -85,7 +110,10 @@ unfolded_cells v false = refl
 --     1 - a
 --       |
 deleted_cells : (v : Vec Patch Global) (follows : Bool) → suggestion_cells ascii Opening follows (deleted_line v) [] ≡ stroke ∷ (text_cells LineNumber (codes "1") ++ SPACE ∷ text_cells Removal (codes "- a")) ∷ stroke ∷ []
-unfolding suggestion_cells body_cells cells_of begin_cells end_cells removed_cells on_last put sign_of with_stretches with_mark with_marks changed_within written new_stretches replaced_stretches norm digits char_width unicode_width locations_of location_of start_location end_location place_of steps_after_text shown_text trimmed_edit sandwich kept_before start_of line_of chars last_line_reached newline_count trim_start trim_end lib.Utf8.encode
+unfolding suggestion_cells body_cells cells_of begin_cells end_cells removed_cells on_last put sign_of with_stretches with_mark with_marks
+    changed_within written new_stretches replaced_stretches norm digits char_width unicode_width locations_of location_of start_location end_location
+    place_of steps_after_text shown_text trimmed_edit sandwich kept_before start_of line_of chars last_line_reached newline_count trim_start trim_end
+    lib.Utf8.encode
 deleted_cells v true = refl
 deleted_cells v false = refl
 
@@ -96,6 +124,9 @@ deleted_cells v false = refl
 --     1 - a
 --       |
 left_out_row : (v : Vec Patch Global) (follows : Bool) → suggestion_cells ascii Opening follows (first_line_deleted v) [] ≡ stroke ∷ (text_cells LineNumber (codes "1") ++ SPACE ∷ text_cells Removal (codes "- a")) ∷ stroke ∷ []
-unfolding suggestion_cells body_cells cells_of begin_cells end_cells removed_cells on_last put sign_of with_stretches with_mark with_marks changed_within written new_stretches replaced_stretches norm digits char_width unicode_width locations_of location_of start_location end_location place_of steps_after_text shown_text trimmed_edit sandwich kept_before start_of line_of chars last_line_reached newline_count trim_start trim_end lib.Utf8.encode
+unfolding suggestion_cells body_cells cells_of begin_cells end_cells removed_cells on_last put sign_of with_stretches with_mark with_marks
+    changed_within written new_stretches replaced_stretches norm digits char_width unicode_width locations_of location_of start_location end_location
+    place_of steps_after_text shown_text trimmed_edit sandwich kept_before start_of line_of chars last_line_reached newline_count trim_start trim_end
+    lib.Utf8.encode
 left_out_row v true = refl
 left_out_row v false = refl

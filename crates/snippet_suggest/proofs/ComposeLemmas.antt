@@ -67,7 +67,9 @@ first_fits layout first small fits =
     subst (λ (n : ℕ). length (shown_number layout.numbers layout.gutter n) ≤ layout.gutter + 1) (number_first first small) fits
 
 -- the row of one line, painted
-pub line_lines : (layout : SuggestionLayout) (first : ℕ) (line : List ℕ) (above mid new : List (List Cell)) → first < 2 ^ 64 → (adds : AddsRow (IsLineRow layout.decor layout.gutter (shown_number layout.numbers layout.gutter first) (norm (chars line))) above mid) → IsRepainted above adds.row new → AddsRows layout first (line ∷ []) (Offers 0 ∷ []) above new
+pub line_lines : (layout : SuggestionLayout) (first : ℕ) (line : List ℕ) (above mid new : List (List Cell)) → first < 2 ^ 64
+    → (adds : AddsRow (IsLineRow layout.decor layout.gutter (shown_number layout.numbers layout.gutter first) (norm (chars line))) above mid)
+    → IsRepainted above adds.row new → AddsRows layout first (line ∷ []) (Offers 0 ∷ []) above new
 line_lines layout first line above mid new small adds painted =
     let shown : AddsRow (IsLineRow layout.decor layout.gutter (shown_number layout.numbers layout.gutter first) (norm (chars line))) above new = line_repainted layout.decor layout.gutter (shown_number layout.numbers layout.gutter first) (norm (chars line)) above mid new adds painted in
     row_alone layout first (line ∷ []) (Offers 0) above new (subst (λ (n : ℕ). AddsRow (IsLineRow layout.decor layout.gutter (shown_number layout.numbers layout.gutter n) (norm (chars line))) above new) (sym (number_first first small)) shown)

@@ -17,7 +17,9 @@ shown_none layout first lines old =
       are = tt;
     }
 
-pub shown_more : (layout : SuggestionLayout) (first : ℕ) (lines : List (List ℕ)) (shown now : List ShownLine) (line : ShownLine) (old mid new : List (List Cell)) → now ≡ shown ++ line ∷ [] → AddsShown layout first lines shown old mid → AddsRow (IsShownRow layout first lines line) mid new → AddsShown layout first lines now old new
+pub shown_more : (layout : SuggestionLayout) (first : ℕ) (lines : List (List ℕ)) (shown now : List ShownLine) (line : ShownLine)
+    (old mid new : List (List Cell)) → now ≡ shown ++ line ∷ [] → AddsShown layout first lines shown old mid
+    → AddsRow (IsShownRow layout first lines line) mid new → AddsShown layout first lines now old new
 shown_more layout first lines shown now line old mid new more adds row =
     subst (λ (s : List ShownLine). AddsShown layout first lines s old new) (sym more) (record {
       rows = adds.rows ++ row.row ∷ [];
@@ -25,6 +27,8 @@ shown_more layout first lines shown now line old mid new more adds row =
       are = zip_push (IsShownRow layout first lines) shown adds.rows line row.row adds.are row.is;
     })
 
-pub shown_next : (layout : SuggestionLayout) (first : ℕ) (lines : List (List ℕ)) (shown : List ShownLine) (i : ℕ) (d : ShownLine) (old mid new : List (List Cell)) → i < length shown → AddsShown layout first lines (take i shown) old mid → AddsRow (IsShownRow layout first lines (get_or shown i d)) mid new → AddsShown layout first lines (take (i + 1) shown) old new
+pub shown_next : (layout : SuggestionLayout) (first : ℕ) (lines : List (List ℕ)) (shown : List ShownLine) (i : ℕ) (d : ShownLine)
+    (old mid new : List (List Cell)) → i < length shown → AddsShown layout first lines (take i shown) old mid
+    → AddsRow (IsShownRow layout first lines (get_or shown i d)) mid new → AddsShown layout first lines (take (i + 1) shown) old new
 shown_next layout first lines shown i d old mid new within adds row =
     shown_more layout first lines (take i shown) (take (i + 1) shown) (get_or shown i d) old mid new (take_more shown i d within) adds row

@@ -83,12 +83,16 @@ module _ (p : PreparedSuggestion) (line : List ℕ) (infos : List LineInfo) (sta
         reached = sym there ∙ sym (reached source es (known_apart p is.prepared));
       }
 
-  pub known_diff_rows : (at : SuggestionStart) → let s = p.snippet.now in rows_of_suggestion at s ≡ Begins at ∷ changed_rows true (is_left_out Diff (line ∷ []) (last_reached s)) (removed_from from (counted_from (s.line_start + first_given s) 0 (map text (range_with_len from (shown_count s line count)))))
+  pub known_diff_rows : (at : SuggestionStart) → let s = p.snippet.now in
+      rows_of_suggestion at s ≡ Begins at ∷ changed_rows true (is_left_out Diff (line ∷ []) (last_reached s))
+      (removed_from from (counted_from (s.line_start + first_given s) 0 (map text (range_with_len from (shown_count s line count)))))
   known_diff_rows at =
       let s = p.snippet.now in
       let left : Bool = is_left_out Diff (line ∷ []) (last_reached s) in
       let Removed : List (List ℕ) → ℕ → List SuggestionRow = λ ts n. removed_from from (counted_from n 0 ts) in
-      let texts : unless_stays (bytes_eq line (last_removed infos)) (texts_at infos) ≡ map text (range_with_len from (shown_count s line count)) = known_replaced p is.prepared line infos start end is.one is.touches is.starts is.ends is.are last ∙ ap (map text) (replaced_touched p is.prepared line is.one is.touches ∙ unless_range (bytes_eq line (last_reached s)) from count) in
+      let texts : unless_stays (bytes_eq line (last_removed infos)) (texts_at infos) ≡ map text (range_with_len from (shown_count s line count)) =
+      known_replaced p is.prepared line infos start end is.one is.touches is.starts is.ends is.are last
+      ∙ ap (map text) (replaced_touched p is.prepared line is.one is.touches ∙ unless_range (bytes_eq line (last_reached s)) from count) in
       let removed = known_replaced_rows p is.prepared line infos start end first is.diff is.one is.touches is.starts is.ends is.are last is.numbered in
       let touched : is_touched s.fold (given_ranges s) 0 ≡ true = ap (λ rs. is_touched s.fold rs 0) (sym is.prepared.ranges) ∙ sym is.touches in
       rows_diff at s line [] true left is.one (sym is.prepared.kind ∙ is.diff) touched refl ∙ ap (λ rs. Begins at ∷ changed_rows true left rs) (sym removed ∙ ap (λ ts. Removed ts first) texts ∙ ap (Removed (map text (range_with_len from (shown_count s line count)))) is.numbered)

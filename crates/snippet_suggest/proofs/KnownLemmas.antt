@@ -56,7 +56,9 @@ known_reached p is infos start end ordered ends are =
     let source : List ℕ = cow_str_bytes p.snippet.now.source in
     let es : List Edit = edits_of p.snippet.now in
     let text : p.map.text ≡ source = ap (λ m. m.text) is.lines in
-    touched_last p.map infos start end ordered are ∙ ap (λ t. text_at (source_lines t) (line_of (source_lines t) end)) text ∙ ap (λ n. text_at (source_lines source) (line_of (source_lines source) n)) (ends ∙ ap (end_from 0) is.edits) ∙ ap (text_at (source_lines source)) (sym (reached source es (known_apart p is)))
+    touched_last p.map infos start end ordered are ∙ ap (λ t. text_at (source_lines t) (line_of (source_lines t) end)) text
+    ∙ ap (λ n. text_at (source_lines source) (line_of (source_lines source) n)) (ends ∙ ap (end_from 0) is.edits)
+    ∙ ap (text_at (source_lines source)) (sym (reached source es (known_apart p is)))
 
 -- the number of its first line
 first_of : (ts : List TrimmedPatch) (es : List Edit) → map original_bounds_of ts ≡ map bounds_of es → first_original ts ≡ first_start es

@@ -32,7 +32,10 @@ touched_either : (folds : Bool) (source : List ℕ) (start end size : ℕ) → l
 touched_either true source start end size = refl
 touched_either false source start end size = refl
 
-known_emptied : (p : PreparedSuggestion) → IsPrepared p → (start end : ℕ) → start ≡ (if p.snippet.now.fold then first_original p.splice.patches.items else 0) → end ≡ (if p.snippet.now.fold then first_original_end p.splice.patches.items else length p.map.text) → lines_touched (cow_str_bytes p.snippet.now.source) start end ≡ emptied_lines p.snippet.now
+known_emptied : (p : PreparedSuggestion) → IsPrepared p → (start end : ℕ)
+    → start ≡ (if p.snippet.now.fold then first_original p.splice.patches.items else 0)
+    → end ≡ (if p.snippet.now.fold then first_original_end p.splice.patches.items else length p.map.text)
+    → lines_touched (cow_str_bytes p.snippet.now.source) start end ≡ emptied_lines p.snippet.now
 known_emptied p is start end starts ends =
     let s = p.snippet.now in
     let source : List ℕ = cow_str_bytes s.source in
@@ -55,7 +58,11 @@ range_counted f first a b j (suc n) at =
     ap (λ ls. (number_after first j, f b) ∷ ls) rest ∙ ap (λ (m : ℕ). (number_after first m, f b) ∷ map {B = ℕ × List ℕ} (λ k. (number_after first (k - a), f k)) (range_with_len (b + 1) n)) here
 
 -- the rows of those that are removed where no line stands in their place
-pub known_emptied_rows : (p : PreparedSuggestion) → IsPrepared p → (infos : List LineInfo) (start end : ℕ) → given_lines p.snippet.now ≡ [] → start ≡ (if p.snippet.now.fold then first_original p.splice.patches.items else 0) → end ≡ (if p.snippet.now.fold then first_original_end p.splice.patches.items else length p.map.text) → map entry_of infos ≡ touched_entries p.map start end → removed_from (line_of (source_lines p.map.text) start) (numbered_at infos) ≡ map (removed_row p.snippet.now) (removed_lines p.snippet.now)
+pub known_emptied_rows : (p : PreparedSuggestion) → IsPrepared p → (infos : List LineInfo) (start end : ℕ) → given_lines p.snippet.now ≡ []
+    → start ≡ (if p.snippet.now.fold then first_original p.splice.patches.items else 0)
+    → end ≡ (if p.snippet.now.fold then first_original_end p.splice.patches.items else length p.map.text)
+    → map entry_of infos ≡ touched_entries p.map start end
+    → removed_from (line_of (source_lines p.map.text) start) (numbered_at infos) ≡ map (removed_row p.snippet.now) (removed_lines p.snippet.now)
 known_emptied_rows p is infos start end none starts ends are =
     let s = p.snippet.now in
     let source : List ℕ = cow_str_bytes s.source in
@@ -68,7 +75,9 @@ known_emptied_rows p is infos start end none starts ends are =
     let row : List (List ℕ) → ℕ → SuggestionRow = λ given k. Removes k (number_beside given (s.line_start + k) (counted k)) (text_at (source_lines source) k) in
     let ks : List ℕ = removed_lines s in
     let lines : lines_touched source start end ≡ ks = known_emptied p is start end starts ends ∙ ap (λ (given : List (List ℕ)). removed_of given (shown_kind s) (emptied_lines s) (replaced_lines s)) (sym none) in
-    ap (removed_from a) (touched_numbered p.map infos start end are) ∙ range_removed own a n ∙ ap (λ m. map (λ k. Removes k (m.first + k) (text_at (source_lines m.text) k)) (lines_touched m.text start end)) is.lines ∙ ap (map (row [])) lines ∙ ap (λ (given : List (List ℕ)). map (row given) ks) (sym none)
+    ap (removed_from a) (touched_numbered p.map infos start end are) ∙ range_removed own a n
+    ∙ ap (λ m. map (λ k. Removes k (m.first + k) (text_at (source_lines m.text) k)) (lines_touched m.text start end)) is.lines
+    ∙ ap (map (row [])) lines ∙ ap (λ (given : List (List ℕ)). map (row given) ks) (sym none)
 
 -- the texts of some lines, without the last if that stays
 unless_stays-map : (stays : Bool) (f : ℕ → List ℕ) (ks : List ℕ) → unless_stays stays (map f ks) ≡ map f (unless_stays stays ks)
@@ -94,14 +103,21 @@ removes_replaced p is line diff one =
     let s = p.snippet.now in
     ap (λ (ls : List (List ℕ)). removed_of ls (shown_kind s) (emptied_lines s) (replaced_lines s)) one ∙ ap (λ k. removed_of (line ∷ []) k (emptied_lines s) (replaced_lines s)) (sym is.kind ∙ diff)
 
-pub replaced_touched : (p : PreparedSuggestion) → IsPrepared p → (line : List ℕ) → given_lines p.snippet.now ≡ line ∷ [] → true ≡ is_touched p.snippet.now.fold p.splice.ranges.items 0 → replaced_lines p.snippet.now ≡ unless_stays (bytes_eq line (last_reached p.snippet.now)) (lines_touched (cow_str_bytes p.snippet.now.source) (first_start (trimmed_of p.snippet.now)) (end_from 0 (trimmed_of p.snippet.now)))
+pub replaced_touched : (p : PreparedSuggestion) → IsPrepared p → (line : List ℕ) → given_lines p.snippet.now ≡ line ∷ []
+    → true ≡ is_touched p.snippet.now.fold p.splice.ranges.items 0
+    → replaced_lines p.snippet.now ≡ unless_stays (bytes_eq line (last_reached p.snippet.now))
+    (lines_touched (cow_str_bytes p.snippet.now.source) (first_start (trimmed_of p.snippet.now)) (end_from 0 (trimmed_of p.snippet.now)))
 replaced_touched p is line one touches =
     let s = p.snippet.now in
     let ks : List ℕ = lines_touched (cow_str_bytes s.source) (first_start (trimmed_of s)) (end_from 0 (trimmed_of s)) in
     ap (λ t. if t then unless_stays (bytes_eq (slice_index_or (given_lines s) 0 []) (last_reached s)) ks else []) (ap (λ rs. is_touched s.fold rs 0) (sym is.ranges) ∙ sym touches) ∙ ap (λ (ls : List (List ℕ)). unless_stays (bytes_eq (slice_index_or ls 0 []) (last_reached s)) ks) one
 
 -- those from the first trimmed patch's start to the last one's end
-pub known_replaced : (p : PreparedSuggestion) → IsPrepared p → (line : List ℕ) (infos : List LineInfo) (start end : ℕ) → given_lines p.snippet.now ≡ line ∷ [] → true ≡ is_touched p.snippet.now.fold p.splice.ranges.items 0 → start ≡ first_start (map trimmed_edit_of p.splice.patches.items) → end ≡ end_from 0 (map trimmed_edit_of p.splice.patches.items) → map entry_of infos ≡ touched_entries p.map start end → last_removed infos ≡ last_reached p.snippet.now → unless_stays (bytes_eq line (last_removed infos)) (texts_at infos) ≡ texts_of_source p.snippet.now (replaced_lines p.snippet.now)
+pub known_replaced : (p : PreparedSuggestion) → IsPrepared p → (line : List ℕ) (infos : List LineInfo) (start end : ℕ)
+    → given_lines p.snippet.now ≡ line ∷ [] → true ≡ is_touched p.snippet.now.fold p.splice.ranges.items 0
+    → start ≡ first_start (map trimmed_edit_of p.splice.patches.items) → end ≡ end_from 0 (map trimmed_edit_of p.splice.patches.items)
+    → map entry_of infos ≡ touched_entries p.map start end → last_removed infos ≡ last_reached p.snippet.now
+    → unless_stays (bytes_eq line (last_removed infos)) (texts_at infos) ≡ texts_of_source p.snippet.now (replaced_lines p.snippet.now)
 known_replaced p is line infos start end one touches starts ends are reached =
     let s = p.snippet.now in
     let source : List ℕ = cow_str_bytes s.source in
@@ -114,7 +130,14 @@ known_replaced p is line infos start end one touches starts ends are reached =
     ap (λ (t : List ℕ). unless_stays (bytes_eq line t) (texts_at infos)) reached ∙ ap (unless_stays stays) texts ∙ unless_stays-map stays (text_at (source_lines source)) ks ∙ ap (texts_of_source s) (sym lines)
 
 -- the rows of those
-pub known_replaced_rows : (p : PreparedSuggestion) → IsPrepared p → (line : List ℕ) (infos : List LineInfo) (start end first : ℕ) → p.kind ≡ Diff → given_lines p.snippet.now ≡ line ∷ [] → true ≡ is_touched p.snippet.now.fold p.splice.ranges.items 0 → start ≡ first_start (map trimmed_edit_of p.splice.patches.items) → end ≡ end_from 0 (map trimmed_edit_of p.splice.patches.items) → map entry_of infos ≡ touched_entries p.map start end → last_removed infos ≡ last_reached p.snippet.now → first ≡ p.snippet.now.line_start + first_given p.snippet.now → removed_from (line_of (source_lines (cow_str_bytes p.snippet.now.source)) (first_start (trimmed_of p.snippet.now))) (counted_from first 0 (unless_stays (bytes_eq line (last_removed infos)) (texts_at infos))) ≡ map (removed_row p.snippet.now) (removed_lines p.snippet.now)
+pub known_replaced_rows : (p : PreparedSuggestion) → IsPrepared p → (line : List ℕ) (infos : List LineInfo) (start end first : ℕ) → p.kind ≡ Diff
+    → given_lines p.snippet.now ≡ line ∷ [] → true ≡ is_touched p.snippet.now.fold p.splice.ranges.items 0
+    → start ≡ first_start (map trimmed_edit_of p.splice.patches.items) → end ≡ end_from 0 (map trimmed_edit_of p.splice.patches.items)
+    → map entry_of infos ≡ touched_entries p.map start end → last_removed infos ≡ last_reached p.snippet.now
+    → first ≡ p.snippet.now.line_start + first_given p.snippet.now
+    → removed_from (line_of (source_lines (cow_str_bytes p.snippet.now.source)) (first_start (trimmed_of p.snippet.now)))
+    (counted_from first 0 (unless_stays (bytes_eq line (last_removed infos)) (texts_at infos))) ≡ map (removed_row p.snippet.now)
+    (removed_lines p.snippet.now)
 known_replaced_rows p is line infos start end first diff one touches starts ends are reached numbered =
     let s = p.snippet.now in
     let source : List ℕ = cow_str_bytes s.source in

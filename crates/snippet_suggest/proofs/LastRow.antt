@@ -35,7 +35,10 @@ empty_below layout first lines begin above new adds =
     }
 
 -- the rows of a suggestion, the last of which is what it ends with
-pub suggestion_added : (layout : SuggestionLayout) (start : SuggestionStart) (follows : Bool) (s : Snippet Patch) (skipped : ℕ) (above mid new : List (List Cell)) → AddsRows layout (s.line_start + first_given s) (given_lines s) (rows_of_suggestion start s) above (mid ++ replicate skipped []) → AddsRow (Shows layout (s.line_start + first_given s) (given_lines s) (Ends follows)) (mid ++ replicate skipped []) new → AddsSuggestion layout start follows s above new
+pub suggestion_added : (layout : SuggestionLayout) (start : SuggestionStart) (follows : Bool) (s : Snippet Patch) (skipped : ℕ)
+    (above mid new : List (List Cell)) → AddsRows layout (s.line_start + first_given s) (given_lines s) (rows_of_suggestion start s)
+    above (mid ++ replicate skipped []) → AddsRow (Shows layout (s.line_start + first_given s) (given_lines s) (Ends follows))
+    (mid ++ replicate skipped []) new → AddsSuggestion layout start follows s above new
 suggestion_added layout start follows s skipped above mid new body last =
     record {
       rows = body.rows;

@@ -53,14 +53,18 @@ number_before decor Hidden gutter number fits =
     All-replicate P gutter 32 (inl refl)
 
 -- what stands in the gutter of a row that showed no line, once a number was put into it
-pub before_sign : (numbers : LineNumbers) (decor : DecorStyle) (gutter : ℕ) (number : List ℕ) (row : List Cell) → All (IsBeforeSign numbers decor) (chars number) → ((c : ℕ) → c < gutter + 3 → is_stroke decor (slice_index_or row c SPACE).ch ≡ true) → (c : ℕ) → c < gutter + 3 → IsBeforeSign numbers decor (slice_index_or (texted number row 0 (text_cells LineNumber (chars number))) c SPACE).ch
+pub before_sign : (numbers : LineNumbers) (decor : DecorStyle) (gutter : ℕ) (number : List ℕ) (row : List Cell)
+    → All (IsBeforeSign numbers decor) (chars number) → ((c : ℕ) → c < gutter + 3 → is_stroke decor (slice_index_or row c SPACE).ch ≡ true) → (c : ℕ)
+    → c < gutter + 3 → IsBeforeSign numbers decor (slice_index_or (texted number row 0 (text_cells LineNumber (chars number))) c SPACE).ch
 before_sign numbers decor gutter [] row number_is strokes c left = inl (strokes c left)
 before_sign numbers decor gutter (b ∷ bs) row number_is strokes c left =
     let P : Cell → Type 0 = λ cell. IsBeforeSign numbers decor cell.ch in
     each_written P row 0 (gutter + 3) (text_cells LineNumber (chars (b ∷ bs))) (λ k inside. inl (strokes k inside)) (All-text_cells P LineNumber (chars (b ∷ bs)) number_is) c left
 
 -- what stands after the gutter of a row that showed no line, once a number was put into it
-pub left_over : (decor : DecorStyle) (gutter : ℕ) (number : List ℕ) (row : List Cell) → StaysLeft decor gutter (chars number) → ((c : ℕ) → gutter + 3 ≤ c → IsMarkOrSpace decor (slice_index_or row c SPACE).ch) → (c : ℕ) → gutter + 3 ≤ c → IsLeftOver decor (slice_index_or (texted number row 0 (text_cells LineNumber (chars number))) c SPACE).ch
+pub left_over : (decor : DecorStyle) (gutter : ℕ) (number : List ℕ) (row : List Cell) → StaysLeft decor gutter (chars number)
+    → ((c : ℕ) → gutter + 3 ≤ c → IsMarkOrSpace decor (slice_index_or row c SPACE).ch) → (c : ℕ) → gutter + 3 ≤ c
+    → IsLeftOver decor (slice_index_or (texted number row 0 (text_cells LineNumber (chars number))) c SPACE).ch
 left_over decor gutter [] row number_is marks c right = inl (marks c right)
 left_over decor gutter (b ∷ bs) row number_is marks c right =
     let P : Cell → Type 0 = λ cell. IsLeftOver decor cell.ch in

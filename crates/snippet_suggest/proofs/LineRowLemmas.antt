@@ -30,7 +30,9 @@ line_row gutter sign_role number_role line_role sign number text =
     texted text (texted number (sign_row gutter sign_role sign) 0 (text_cells number_role (chars number))) (gutter + 3) (text_cells line_role (chars text))
 
 -- from the number to the line its cells are those that the glyph began the row with
-line_row_between : (gutter c : ℕ) (sign_role number_role line_role : ElementStyle) (sign number text : List ℕ) → length (chars number) ≤ c → c < gutter + 3 → slice_index_or (line_row gutter sign_role number_role line_role sign number text) c SPACE ≡ slice_index_or (sign_row gutter sign_role sign) c SPACE
+line_row_between : (gutter c : ℕ) (sign_role number_role line_role : ElementStyle) (sign number text : List ℕ) → length (chars number) ≤ c
+    → c < gutter + 3 → slice_index_or (line_row gutter sign_role number_role line_role sign number text)
+    c SPACE ≡ slice_index_or (sign_row gutter sign_role sign) c SPACE
 line_row_between gutter c sign_role number_role line_role sign number text after left =
     let led = sign_row gutter sign_role sign in
     let cells = text_cells number_role (chars number) in
@@ -55,7 +57,10 @@ sign_row_space gutter role decor glyph is =
     sym (ap (λ c. (slice_index_or (sign_row gutter role (glyph_of decor glyph)) c SPACE).ch) here) ∙ led_ch (gutter + 1) 1 role (glyph_of decor glyph) ∙ sign_second decor glyph is
 
 -- it offers the line
-line_row_offers : (decor : DecorStyle) (glyph : SuggestionGlyph) (gutter : ℕ) (sign_role number_role line_role : ElementStyle) (number text : List ℕ) → is_sign glyph ≡ true → length (chars number) ≤ gutter + 1 → All (λ c. is_listed c ≡ false) (chars number) → list_any is_listed (chars text) ≡ false → IsLineRow decor gutter (chars number) (chars text) (line_row gutter sign_role number_role line_role (glyph_of decor glyph) number text)
+line_row_offers : (decor : DecorStyle) (glyph : SuggestionGlyph) (gutter : ℕ) (sign_role number_role line_role : ElementStyle) (number text : List ℕ)
+    → is_sign glyph ≡ true → length (chars number) ≤ gutter + 1 → All (λ c. is_listed c ≡ false) (chars number)
+    → list_any is_listed (chars text) ≡ false
+    → IsLineRow decor gutter (chars number) (chars text) (line_row gutter sign_role number_role line_role (glyph_of decor glyph) number text)
 line_row_offers decor glyph gutter sign_role number_role line_role number text is fits free_number free_text =
     let sign = glyph_of decor glyph in
     let led = sign_row gutter sign_role sign in
@@ -73,10 +78,16 @@ line_row_offers decor glyph gutter sign_role number_role line_role number text i
       sign = subst (λ (cell : Cell). IsSign decor cell.ch) (sym sign_is) (sign_row_sign gutter sign_role decor glyph is);
       space = ap (λ (cell : Cell). cell.ch) space_is ∙ sign_row_space gutter sign_role decor glyph is;
       holds = holds_texted gutter text numbered line_role numbered_short;
-      free = free_texted text numbered (gutter + 3) (text_cells line_role (chars text)) (free_texted number led 0 cells (free_led (gutter + 1) (text_cells sign_role sign) (free_drawn sign_role sign (All-from_none is_listed sign (glyph_unlisted decor glyph)))) (free_drawn number_role (chars number) free_number)) (free_drawn line_role (chars text) (All-from_none is_listed (chars text) free_text));
+      free = free_texted text numbered (gutter + 3) (text_cells line_role (chars text))
+          (free_texted number led 0 cells
+          (free_led (gutter + 1) (text_cells sign_role sign) (free_drawn sign_role sign (All-from_none is_listed sign (glyph_unlisted decor glyph))))
+          (free_drawn number_role (chars number) free_number)) (free_drawn line_role (chars text) (All-from_none is_listed (chars text) free_text));
     }
 
-pub line_row_is : (decor : DecorStyle) (glyph : SuggestionGlyph) (gutter : ℕ) (sign_role number_role line_role : ElementStyle) (sign number shown text norm_text : List ℕ) → is_sign glyph ≡ true → sign ≡ glyph_of decor glyph → chars number ≡ shown → length shown ≤ gutter + 1 → All (λ c. is_listed c ≡ false) shown → chars text ≡ norm_text → list_any is_listed norm_text ≡ false → IsLineRow decor gutter shown norm_text (line_row gutter sign_role number_role line_role sign number text)
+pub line_row_is : (decor : DecorStyle) (glyph : SuggestionGlyph) (gutter : ℕ) (sign_role number_role line_role : ElementStyle)
+    (sign number shown text norm_text : List ℕ) → is_sign glyph ≡ true → sign ≡ glyph_of decor glyph → chars number ≡ shown
+    → length shown ≤ gutter + 1 → All (λ c. is_listed c ≡ false) shown → chars text ≡ norm_text → list_any is_listed norm_text ≡ false
+    → IsLineRow decor gutter shown norm_text (line_row gutter sign_role number_role line_role sign number text)
 line_row_is decor glyph gutter sign_role number_role line_role sign number shown text norm_text is sign_is number_is fits free_number text_is free_text =
     let row = λ (signs : List ℕ). line_row gutter sign_role number_role line_role signs number text in
     let free : All (λ c. is_listed c ≡ false) (chars number) = subst (λ (t : List ℕ). All (λ c. is_listed c ≡ false) t) (sym number_is) free_number in

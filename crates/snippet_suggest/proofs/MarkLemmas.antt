@@ -68,7 +68,9 @@ stroke_marked decor gutter at role ch left row right is stroke =
     }
 
 -- one mark more
-pub marks_more : (decor : DecorStyle) (gutter at : ℕ) (role : ElementStyle) (ch : ℕ) (left : List ℕ) (above mid new : List (List Cell)) (row : ℕ) → row ≡ length above → gutter + 3 ≤ at → IsMarkOrSpace decor ch → AddsRow (IsStrokeRow decor gutter left) above mid → new ≡ cells_written mid row at (text_cells role (ch ∷ [])) → AddsRow (IsStrokeRow decor gutter left) above new
+pub marks_more : (decor : DecorStyle) (gutter at : ℕ) (role : ElementStyle) (ch : ℕ) (left : List ℕ) (above mid new : List (List Cell)) (row : ℕ)
+    → row ≡ length above → gutter + 3 ≤ at → IsMarkOrSpace decor ch → AddsRow (IsStrokeRow decor gutter left) above mid
+    → new ≡ cells_written mid row at (text_cells role (ch ∷ [])) → AddsRow (IsStrokeRow decor gutter left) above new
 marks_more decor gutter at role ch left above mid new row here right is adds writes =
     let cells = text_cells role (ch ∷ []) in
     record {

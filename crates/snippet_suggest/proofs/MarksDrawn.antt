@@ -116,14 +116,22 @@ pub marks_begun : (mark at n : ℕ) (above : List (List Cell)) (last : List Cell
 marks_begun mark at n above last now none is =
     is ∙ ap (λ (row : List Cell). above ++ row ∷ []) (sym (ap (λ k. put Addition (replicate k mark) at last) none ∙ put_none Addition at last))
 
-pub marks_next : (mark at cell n m r : ℕ) (above : List (List Cell)) (last : List Cell) (now new : List (List Cell)) → r ≡ length above → cell ≡ at + n → m ≡ n + 1 → now ≡ above ++ put Addition (replicate n mark) at last ∷ [] → new ≡ cells_written now r cell (text_cells Addition (mark ∷ [])) → new ≡ above ++ put Addition (replicate m mark) at last ∷ []
+pub marks_next : (mark at cell n m r : ℕ) (above : List (List Cell)) (last : List Cell) (now new : List (List Cell)) → r ≡ length above
+    → cell ≡ at + n → m ≡ n + 1 → now ≡ above ++ put Addition (replicate n mark) at last ∷ []
+    → new ≡ cells_written now r cell (text_cells Addition (mark ∷ [])) → new ≡ above ++ put Addition (replicate m mark) at last ∷ []
 marks_next mark at cell n m r above last now new here cell_is m_is is writes =
     let row : List Cell = put Addition (replicate n mark) at last in
     let one : List Cell = text_cells Addition (mark ∷ []) in
     let there : cell ≡ at + length (replicate n mark) = omega (arith, cell_is, length-replicate n mark) in
-    writes ∙ ap (λ (rows : List (List Cell)). cells_written rows r cell one) is ∙ ap (λ k. cells_written (above ++ row ∷ []) k cell one) here ∙ cells_written_last above row cell one ∙ ap (λ k. above ++ written SPACE row k one ∷ []) there ∙ ap (λ (now : List Cell). above ++ now ∷ []) (put_push Addition (replicate n mark) mark at last ∙ ap (λ cs. put Addition cs at last) (replicate_push n mark ∙ ap (λ k. replicate k mark) (sym m_is)))
+    writes ∙ ap (λ (rows : List (List Cell)). cells_written rows r cell one) is ∙ ap (λ k. cells_written (above ++ row ∷ []) k cell one) here
+    ∙ cells_written_last above row cell one ∙ ap (λ k. above ++ written SPACE row k one ∷ []) there
+    ∙ ap (λ (now : List Cell). above ++ now ∷ [])
+    (put_push Addition (replicate n mark) mark at last
+    ∙ ap (λ cs. put Addition cs at last) (replicate_push n mark ∙ ap (λ k. replicate k mark) (sym m_is)))
 
-pub marks_done : (layout : SuggestionLayout) (mark start end n : ℕ) (above : List (List Cell)) (last : List Cell) (now : List (List Cell)) → n ≡ min end (2 ^ 60) - start → now ≡ above ++ put Addition (replicate n mark) (layout.gutter + 3 + start) last ∷ [] → now ≡ above ++ with_mark layout mark start end last ∷ []
+pub marks_done : (layout : SuggestionLayout) (mark start end n : ℕ) (above : List (List Cell)) (last : List Cell) (now : List (List Cell))
+    → n ≡ min end (2 ^ 60) - start → now ≡ above ++ put Addition (replicate n mark) (layout.gutter + 3 + start) last ∷ []
+    → now ≡ above ++ with_mark layout mark start end last ∷ []
 unfolding with_mark
 marks_done layout mark start end n above last now n_is is =
     is ∙ ap (λ k. above ++ put Addition (replicate k mark) (layout.gutter + 3 + start) last ∷ []) n_is
@@ -136,7 +144,9 @@ pub record Marked (layout : SuggestionLayout) (s : Source) (earlier : List Patch
   pub is : now ≡ above ++ row ∷ []
   pub whole : with_marks layout s earlier left row ≡ all
 
-marks-cons : (layout : SuggestionLayout) (s : Source) (earlier : List PatchColumns) (e : Edit) (es : List Edit) (row : List Cell) → let c = columns_of s e in with_marks layout s earlier (e ∷ es) row ≡ with_marks layout s (earlier ++ c ∷ []) es (with_mark layout (mark_of layout.decor s.text e) (mark_start earlier c e.text) (mark_end earlier c e.text) row)
+marks-cons : (layout : SuggestionLayout) (s : Source) (earlier : List PatchColumns) (e : Edit) (es : List Edit) (row : List Cell) → let c =
+    columns_of s e in with_marks layout s earlier (e ∷ es) row ≡ with_marks layout s (earlier ++ c ∷ [])
+    es (with_mark layout (mark_of layout.decor s.text e) (mark_start earlier c e.text) (mark_end earlier c e.text) row)
 unfolding with_marks
 marks-cons layout s earlier e es row = refl
 
@@ -144,12 +154,18 @@ marks-nil : (layout : SuggestionLayout) (s : Source) (earlier : List PatchColumn
 unfolding with_marks
 marks-nil layout s earlier row = refl
 
-pub marked_next : (layout : SuggestionLayout) (s : Source) (earlier later : List PatchColumns) (e : Edit) (left es : List Edit) (all : List Cell) (above now new : List (List Cell)) (mark start end : ℕ) (so_far : Marked layout s earlier left all above now) → left ≡ e ∷ es → later ≡ earlier ++ columns_of s e ∷ [] → mark ≡ mark_of layout.decor s.text e → start ≡ mark_start earlier (columns_of s e) e.text → end ≡ mark_end earlier (columns_of s e) e.text → new ≡ above ++ with_mark layout mark start end so_far.row ∷ [] → Marked layout s later es all above new
+pub marked_next : (layout : SuggestionLayout) (s : Source) (earlier later : List PatchColumns) (e : Edit) (left es : List Edit) (all : List Cell)
+    (above now new : List (List Cell)) (mark start end : ℕ) (so_far : Marked layout s earlier left all above now) → left ≡ e ∷ es
+    → later ≡ earlier ++ columns_of s e ∷ [] → mark ≡ mark_of layout.decor s.text e → start ≡ mark_start earlier (columns_of s e) e.text
+    → end ≡ mark_end earlier (columns_of s e) e.text → new ≡ above ++ with_mark layout mark start end so_far.row ∷ []
+    → Marked layout s later es all above new
 marked_next layout s earlier later e left es all above now new mark start end so_far first more mark_is start_is end_is adds =
     let row : List Cell = so_far.row in
     let c : PatchColumns = columns_of s e in
     let Drawn : ℕ → ℕ → ℕ → List Cell = λ m i j. with_mark layout m i j row in
-    let row_is : Drawn mark start end ≡ Drawn (mark_of layout.decor s.text e) (mark_start earlier c e.text) (mark_end earlier c e.text) = ap (λ m. Drawn m start end) mark_is ∙ ap (λ i. Drawn (mark_of layout.decor s.text e) i end) start_is ∙ ap (Drawn (mark_of layout.decor s.text e) (mark_start earlier c e.text)) end_is in
+    let row_is : Drawn mark start end ≡ Drawn (mark_of layout.decor s.text e) (mark_start earlier c e.text) (mark_end earlier c e.text) =
+    ap (λ m. Drawn m start end) mark_is ∙ ap (λ i. Drawn (mark_of layout.decor s.text e) i end) start_is
+    ∙ ap (Drawn (mark_of layout.decor s.text e) (mark_start earlier c e.text)) end_is in
     record {
       row = Drawn mark start end;
       is = adds;

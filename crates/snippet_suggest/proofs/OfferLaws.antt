@@ -41,7 +41,9 @@ given-from s spans disjoint some offerable =
     let part : IsShownPart s.fold source (edits_of s) = given-part s spans disjoint some offerable in
     subst (λ t. AreFrom (first_given s) (texts_of (lines_of t)) (texts_of (source_lines (patched source (edits_of s))))) (sym part.text) (shown-lines s.fold source (edits_of s) offerable.no_cr offerable.no_cr_in part)
 
-pub given-is-patched : (s : Snippet Patch) → HaveSpans s → AreDisjoint (edits_of s) → s.markers.items ≢ [] → IsOfferable s → (k : ℕ) → k < length (given_lines s) → (first_given s + k < length (source_lines (patched (cow_str_bytes s.source) (edits_of s)))) × (slice_index_or (given_lines s) k [] ≡ text_at (source_lines (patched (cow_str_bytes s.source) (edits_of s))) (first_given s + k))
+pub given-is-patched : (s : Snippet Patch) → HaveSpans s → AreDisjoint (edits_of s) → s.markers.items ≢ [] → IsOfferable s → (k : ℕ)
+    → k < length (given_lines s) → (first_given s + k < length (source_lines (patched (cow_str_bytes s.source) (edits_of s))))
+    × (slice_index_or (given_lines s) k [] ≡ text_at (source_lines (patched (cow_str_bytes s.source) (edits_of s))) (first_given s + k))
 given-is-patched s spans disjoint some offerable k low =
     let ls : List Line = source_lines (patched (cow_str_bytes s.source) (edits_of s)) in
     let at = AreFrom-at (given_lines s) (texts_of ls) (first_given s) k [] (given-from s spans disjoint some offerable) low in
@@ -56,4 +58,6 @@ numbers-ascend false touched count = rising_shown touched count
 pub offered-ascends : (s : Snippet Patch) → AreRising (first_given s) (first_given s + length (given_lines s)) (offered_lines s)
 offered-ascends s =
     let base : first_given s + 0 ≡ first_given s = omega arith in
-    subst (λ n. AreRising n (first_given s + length (given_lines s)) (offered_lines s)) base (rising-moved (first_given s) 0 (length (given_lines s)) (numbers_given s) (numbers-ascend (is_left_out (shown_kind s) (given_lines s) (last_reached s)) (is_touched s.fold (given_ranges s)) (length (given_lines s))))
+    subst (λ n. AreRising n (first_given s + length (given_lines s)) (offered_lines s))
+    base (rising-moved (first_given s) 0 (length (given_lines s)) (numbers_given s)
+    (numbers-ascend (is_left_out (shown_kind s) (given_lines s) (last_reached s)) (is_touched s.fold (given_ranges s)) (length (given_lines s))))

@@ -52,7 +52,9 @@ module _ (start : SuggestionStart) (s : Snippet Patch) where
   rows_none none other = by_case [] false none (not_diff (shown_kind s) other)
 
   -- in a diff, where lines are given
-  pub rows_diff : (line : List ℕ) (lines : List (List ℕ)) (touched left : Bool) → given_lines s ≡ line ∷ lines → shown_kind s ≡ Diff → is_touched s.fold (given_ranges s) 0 ≡ touched → is_left_out Diff (line ∷ lines) (last_reached s) ≡ left → rows_of_suggestion start s ≡ Begins start ∷ changed_rows touched left (map (removed_row s) (removed_lines s))
+  pub rows_diff : (line : List ℕ) (lines : List (List ℕ)) (touched left : Bool) → given_lines s ≡ line ∷ lines → shown_kind s ≡ Diff
+      → is_touched s.fold (given_ranges s) 0 ≡ touched → is_left_out Diff (line ∷ lines) (last_reached s) ≡ left
+      → rows_of_suggestion start s ≡ Begins start ∷ changed_rows touched left (map (removed_row s) (removed_lines s))
   rows_diff line lines touched left some diff touches leaves =
       let left_is : left_out ≡ left = ap (λ k. is_left_out k (given_lines s) (last_reached s)) diff ∙ ap (λ ls. is_left_out Diff ls (last_reached s)) some ∙ leaves in
       by_case (line ∷ lines) true some (ap is_diff diff) ∙ ap (λ t. Begins start ∷ changed_rows t left_out taken) touches ∙ ap (λ l. Begins start ∷ changed_rows touched l taken) left_is
@@ -93,7 +95,11 @@ changed_take true false removed ks taken untouched = filter_map-append line_take
 changed_take false left removed ks taken untouched = sym (untouched refl)
 
 -- a line is offered for each number that is given, in order
-offered_where : (kind : DisplaySuggestion) (lines : List (List ℕ)) (folds : Bool) (ranges : List LineRange) (last : List ℕ) (start : SuggestionStart) (removed : List SuggestionRow) → numbers_offered removed ≡ [] → (kind ≡ Diff → length lines ≤ 1) → numbers_offered (rows_where lines (is_diff kind) (Begins start) removed (changed_rows (is_touched folds ranges 0) (is_left_out kind lines last) removed) (map row_of_shown (shown_lines (is_touched folds ranges) (length lines)))) ≡ numbers_of kind folds ranges lines last
+offered_where : (kind : DisplaySuggestion) (lines : List (List ℕ)) (folds : Bool) (ranges : List LineRange) (last : List ℕ) (start : SuggestionStart)
+    (removed : List SuggestionRow) → numbers_offered removed ≡ [] → (kind ≡ Diff → length lines ≤ 1)
+    → numbers_offered (rows_where lines (is_diff kind) (Begins start)
+    removed (changed_rows (is_touched folds ranges 0) (is_left_out kind lines last) removed)
+    (map row_of_shown (shown_lines (is_touched folds ranges) (length lines)))) ≡ numbers_of kind folds ranges lines last
 offered_where Diff [] folds ranges last start removed none few = none ∙ sym (none_numbers Diff folds ranges last)
 offered_where Underline [] folds ranges last start removed none few = none ∙ sym (none_numbers Underline folds ranges last)
 offered_where Plain [] folds ranges last start removed none few = none ∙ sym (none_numbers Plain folds ranges last)
@@ -117,7 +123,11 @@ rows-offer start s =
     offered_where (shown_kind s) (given_lines s) s.fold (given_ranges s) (last_reached s) start (map (removed_row s) (removed_lines s)) (removed_offer s (removed_lines s)) (few_in_diff s)
 
 -- each line that is removed is shown as removed, in order
-taken_where : (kind : DisplaySuggestion) (lines : List (List ℕ)) (touched left : Bool) (start : SuggestionStart) (removed : List SuggestionRow) (shown : List ShownLine) (emptied replaced : List ℕ) → lines_taken removed ≡ removed_of lines kind emptied replaced → (touched ≡ false → replaced ≡ []) → lines_taken (rows_where lines (is_diff kind) (Begins start) removed (changed_rows touched left removed) (map row_of_shown shown)) ≡ removed_of lines kind emptied replaced
+taken_where : (kind : DisplaySuggestion) (lines : List (List ℕ)) (touched left : Bool) (start : SuggestionStart) (removed : List SuggestionRow)
+    (shown : List ShownLine) (emptied replaced : List ℕ) → lines_taken removed ≡ removed_of lines kind emptied replaced
+    → (touched ≡ false → replaced ≡ []) → lines_taken
+    (rows_where lines (is_diff kind) (Begins start) removed (changed_rows touched left removed) (map row_of_shown shown))
+    ≡ removed_of lines kind emptied replaced
 taken_where Diff [] touched left start removed shown emptied replaced taken untouched = taken
 taken_where Underline [] touched left start removed shown emptied replaced taken untouched = taken
 taken_where Plain [] touched left start removed shown emptied replaced taken untouched = taken
@@ -135,7 +145,9 @@ none_untouched false ks untouched = refl
 pub rows-take : (start : SuggestionStart) (s : Snippet Patch) → lines_taken (rows_of_suggestion start s) ≡ removed_lines s
 rows-take start s =
     let touched : Bool = is_touched s.fold (given_ranges s) 0 in
-    taken_where (shown_kind s) (given_lines s) touched (is_left_out (shown_kind s) (given_lines s) (last_reached s)) start (map (removed_row s) (removed_lines s)) (shown_lines (is_touched s.fold (given_ranges s)) (length (given_lines s))) (emptied_lines s) (replaced_lines s) (removed_take s (removed_lines s)) (none_untouched touched _)
+    taken_where (shown_kind s) (given_lines s) touched (is_left_out (shown_kind s) (given_lines s) (last_reached s))
+    start (map (removed_row s) (removed_lines s)) (shown_lines (is_touched s.fold (given_ranges s)) (length (given_lines s))) (emptied_lines s)
+    (replaced_lines s) (removed_take s (removed_lines s)) (none_untouched touched _)
 
 -- the row of a line that is removed is that of the snippet
 abbrev pub IsRowOf : Snippet Patch → SuggestionRow → Type 0

@@ -37,7 +37,9 @@ others_begun layout first lines begin above new row added is =
     }
 
 -- their last row is painted
-pub others_painted : (layout : SuggestionLayout) (first : ℕ) (lines : List (List ℕ)) (shown : List SuggestionRow) (above mid new : List (List Cell)) (adds : AddsOthers layout first lines shown above mid) → IsRepainted (above ++ adds.before) adds.last.row new → AddsOthers layout first lines shown above new
+pub others_painted : (layout : SuggestionLayout) (first : ℕ) (lines : List (List ℕ)) (shown : List SuggestionRow) (above mid new : List (List Cell))
+    (adds : AddsOthers layout first lines shown above mid) → IsRepainted (above ++ adds.before) adds.last.row new
+    → AddsOthers layout first lines shown above new
 others_painted layout first lines shown above mid new adds painted =
     record {
       before = adds.before;
@@ -49,7 +51,9 @@ others_painted layout first lines shown above mid new adds painted =
     }
 
 -- one row more
-others_more : (layout : SuggestionLayout) (first : ℕ) (lines : List (List ℕ)) (shown : List SuggestionRow) (end : SuggestionRow) (above mid new : List (List Cell)) → AddsOthers layout first lines shown above mid → AddsRow (Shows layout first lines end) mid new → AddsOthers layout first lines (shown ++ end ∷ []) above new
+others_more : (layout : SuggestionLayout) (first : ℕ) (lines : List (List ℕ)) (shown : List SuggestionRow) (end : SuggestionRow)
+    (above mid new : List (List Cell)) → AddsOthers layout first lines shown above mid → AddsRow (Shows layout first lines end) mid new
+    → AddsOthers layout first lines (shown ++ end ∷ []) above new
 others_more layout first lines shown end above mid new adds more =
     let rows = adds.before ++ adds.last.row ∷ [] in
     let whole : mid ≡ above ++ rows = adds.last.added ∙ append_assoc above adds.before (adds.last.row ∷ []) in
@@ -67,7 +71,9 @@ others_more layout first lines shown end above mid new adds more =
     }
 
 -- rows of removed lines more
-pub others_removed : (layout : SuggestionLayout) (first : ℕ) (lines : List (List ℕ)) (shown : List SuggestionRow) (i : ℕ) (removed : List (ℕ × List ℕ)) (above mid new : List (List Cell)) → AddsOthers layout first lines shown above mid → AddsRemoved layout removed mid new → AddsOthers layout first lines (shown ++ removed_from i removed) above new
+pub others_removed : (layout : SuggestionLayout) (first : ℕ) (lines : List (List ℕ)) (shown : List SuggestionRow) (i : ℕ)
+    (removed : List (ℕ × List ℕ)) (above mid new : List (List Cell)) → AddsOthers layout first lines shown above mid
+    → AddsRemoved layout removed mid new → AddsOthers layout first lines (shown ++ removed_from i removed) above new
 others_removed layout first lines shown i removed above mid new adds more = go shown i removed more.rows mid adds more.added more.are
   where
     go : (done : List SuggestionRow) (at : ℕ) (ls : List (ℕ × List ℕ)) (rows now : List (List Cell)) → AddsOthers layout first lines done above now → new ≡ now ++ rows → AllZip (IsRowOfRemoved layout) ls rows → AddsOthers layout first lines (done ++ removed_from at ls) above new

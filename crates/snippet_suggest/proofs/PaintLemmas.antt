@@ -101,7 +101,10 @@ line_row_painted decor gutter number text row now same is =
     }
 
 -- a line's row that was added, and then painted
-pub line_added_painted : (decor : DecorStyle) (gutter : ℕ) (number counted text other : List ℕ) (old mid new : List (List Cell)) (row : ℕ) → number ≡ counted → text ≡ other → AddsRow (IsLineRow decor gutter number text) old mid → row ≡ length old → ((above : List (List Cell)) (last : List Cell) → row ≡ length above → mid ≡ above ++ last ∷ [] → IsRepainted above last new) → AddsRow (IsLineRow decor gutter counted other) old new
+pub line_added_painted : (decor : DecorStyle) (gutter : ℕ) (number counted text other : List ℕ) (old mid new : List (List Cell)) (row : ℕ)
+    → number ≡ counted → text ≡ other → AddsRow (IsLineRow decor gutter number text) old mid → row ≡ length old
+    → ((above : List (List Cell)) (last : List Cell) → row ≡ length above → mid ≡ above ++ last ∷ [] → IsRepainted above last new)
+    → AddsRow (IsLineRow decor gutter counted other) old new
 line_added_painted decor gutter number counted text other old mid new row numbers same adds here paints =
     let painted = paints old adds.row here adds.added in
     record {

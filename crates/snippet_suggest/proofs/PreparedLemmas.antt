@@ -69,11 +69,21 @@ counted_from source fold text kind start end =
     if fold then counted_folded kind first (source.first + line_of ls end) last else last
 
 -- it is that of the snippet
-pub counted-is : (s : Snippet Patch) (source : Source) (ps : List TrimmedPatch) (text : List ℕ) (kind : DisplaySuggestion) (count : ℕ) → IsSuggestible s → source ≡ source_of s → text ≡ given_text s → map trimmed_edit_of ps ≡ trimmed_of s → map original_bounds_of ps ≡ map bounds_of (in_order (edits_of s)) → kind ≡ shown_kind s → (source.first + (if s.fold then line_of (source_lines source.text) (first_original ps) else 0) + newline_count text < 2 ^ 64 → count ≡ counted_from source s.fold text kind (first_original ps) (first_end (map trimmed_edit_of ps))) → count ≡ counted_line s
+pub counted-is : (s : Snippet Patch) (source : Source) (ps : List TrimmedPatch) (text : List ℕ) (kind : DisplaySuggestion) (count : ℕ)
+    → IsSuggestible s → source ≡ source_of s → text ≡ given_text s → map trimmed_edit_of ps ≡ trimmed_of s
+    → map original_bounds_of ps ≡ map bounds_of (in_order (edits_of s)) → kind ≡ shown_kind s
+    → (source.first + (if s.fold then line_of (source_lines source.text) (first_original ps) else 0) + newline_count text < 2 ^ 64
+    → count ≡ counted_from source s.fold text kind (first_original ps) (first_end (map trimmed_edit_of ps))) → count ≡ counted_line s
 counted-is s source ps text kind count h of given edits originals shown counted =
     let start : ℕ = first_original ps in
     let end : ℕ = first_end (map trimmed_edit_of ps) in
     let begin : start ≡ first_start (in_order (edits_of s)) = first-original ps (in_order (edits_of s)) originals in
-    let first : source.first + (if s.fold then line_of (source_lines source.text) start else 0) ≡ s.line_start + first_given s = ap (λ (m : Source). m.first + (if s.fold then line_of (source_lines m.text) start else 0)) of ∙ ap (λ at. s.line_start + (if s.fold then line_of (source_lines (cow_str_bytes s.source)) at else 0)) begin in
+    let first : source.first + (if s.fold then line_of (source_lines source.text) start else 0) ≡ s.line_start + first_given s =
+    ap (λ (m : Source). m.first + (if s.fold then line_of (source_lines m.text) start else 0)) of
+    ∙ ap (λ at. s.line_start + (if s.fold then line_of (source_lines (cow_str_bytes s.source)) at else 0)) begin in
     let small : source.first + (if s.fold then line_of (source_lines source.text) start else 0) + newline_count text < 2 ^ 64 = omega (arith, first, ap newline_count given, last-fits s h) in
-    counted small ∙ ap (λ (m : Source). counted_from m s.fold text kind start end) of ∙ ap (λ t. counted_from (source_of s) s.fold t kind start end) given ∙ ap (λ k. counted_from (source_of s) s.fold (given_text s) k start end) shown ∙ ap (λ at. counted_from (source_of s) s.fold (given_text s) (shown_kind s) at end) begin ∙ ap (λ ts. counted_from (source_of s) s.fold (given_text s) (shown_kind s) (first_start (in_order (edits_of s))) (first_end ts)) edits
+    counted small ∙ ap (λ (m : Source). counted_from m s.fold text kind start end) of
+    ∙ ap (λ t. counted_from (source_of s) s.fold t kind start end) given
+    ∙ ap (λ k. counted_from (source_of s) s.fold (given_text s) k start end) shown
+    ∙ ap (λ at. counted_from (source_of s) s.fold (given_text s) (shown_kind s) at end) begin
+    ∙ ap (λ ts. counted_from (source_of s) s.fold (given_text s) (shown_kind s) (first_start (in_order (edits_of s))) (first_end ts)) edits

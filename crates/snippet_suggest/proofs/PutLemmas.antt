@@ -54,7 +54,9 @@ put_begun role cs at r above tail old new some here is few writes =
     writes ∙ ap (λ n. cells_written old n at cells) here ∙ ap (λ (rows : List (List Cell)). cells_written rows (length above) at cells) is ∙ over above tail at cells few ∙ ap (λ (row : List Cell). above ++ row ∷ []) (sym (put_some role cs at (row_at tail 0) some))
 
 -- a text that may be empty was put into the last row
-pub put_more : (role : ElementStyle) (bytes : List ℕ) (at r : ℕ) (above : List (List Cell)) (row : List Cell) (old new : List (List Cell)) → IsUtf8 bytes → r ≡ length above → old ≡ above ++ row ∷ [] → (0 < length bytes → new ≡ cells_written old r at (text_cells role (chars bytes))) → (bytes ≡ [] → new ≡ old) → new ≡ above ++ put role (chars bytes) at row ∷ []
+pub put_more : (role : ElementStyle) (bytes : List ℕ) (at r : ℕ) (above : List (List Cell)) (row : List Cell) (old new : List (List Cell))
+    → IsUtf8 bytes → r ≡ length above → old ≡ above ++ row ∷ [] → (0 < length bytes → new ≡ cells_written old r at (text_cells role (chars bytes)))
+    → (bytes ≡ [] → new ≡ old) → new ≡ above ++ put role (chars bytes) at row ∷ []
 put_more role [] at r above row old new text here is writes stays =
     stays refl ∙ is ∙ ap (λ (now : List Cell). above ++ now ∷ []) (sym (ap (λ (cs : List ℕ). put role cs at row) chars-nil ∙ put_none role at row))
 put_more role (b ∷ bs) at r above row old new text here is writes stays =
@@ -67,7 +69,9 @@ pub record IsOver (above : List (List Cell)) (row : List Cell) (rows : List (Lis
   pub row_is : row_at tail 0 ≡ row
   pub is : rows ≡ above ++ tail
 
-pub put_over : (role : ElementStyle) (bytes : List ℕ) (at r : ℕ) (above tail old new : List (List Cell)) → IsUtf8 bytes → r ≡ length above → old ≡ above ++ tail → length tail ≤ 1 → (0 < length bytes → new ≡ cells_written old r at (text_cells role (chars bytes))) → (bytes ≡ [] → new ≡ old) → IsOver above (put role (chars bytes) at (row_at tail 0)) new
+pub put_over : (role : ElementStyle) (bytes : List ℕ) (at r : ℕ) (above tail old new : List (List Cell)) → IsUtf8 bytes → r ≡ length above
+    → old ≡ above ++ tail → length tail ≤ 1 → (0 < length bytes → new ≡ cells_written old r at (text_cells role (chars bytes)))
+    → (bytes ≡ [] → new ≡ old) → IsOver above (put role (chars bytes) at (row_at tail 0)) new
 put_over role [] at r above tail old new text here is few writes stays =
     record {
       tail = tail;
@@ -107,30 +111,50 @@ placeholder_some Ascii = λ none. cc
 placeholder_some Unicode = λ none. cc
 
 -- the row of a line was drawn
-pub line_drawn : (layout : SuggestionLayout) (glyph : SuggestionGlyph) (number : ℕ) (line : List ℕ) (role : ElementStyle) (signed digits text : List ℕ) (r : ℕ) (old one two new : List (List Cell)) → r ≡ length old → role ≡ role_of glyph → chars signed ≡ glyph_of layout.decor glyph → chars digits ≡ shown_number layout.numbers layout.gutter number → chars text ≡ norm (chars line) → IsUtf8 digits → IsUtf8 text → one ≡ cells_written old r (layout.gutter + 1) (text_cells role (chars signed)) → (0 < length digits → two ≡ cells_written one r 0 (text_cells LineNumber (chars digits))) → (digits ≡ [] → two ≡ one) → (0 < length text → new ≡ cells_written two r (layout.gutter + 3) (text_cells NoStyle (chars text))) → (text ≡ [] → new ≡ two) → new ≡ old ++ line_cells layout glyph number line ∷ []
+pub line_drawn : (layout : SuggestionLayout) (glyph : SuggestionGlyph) (number : ℕ) (line : List ℕ) (role : ElementStyle)
+    (signed digits text : List ℕ) (r : ℕ) (old one two new : List (List Cell)) → r ≡ length old → role ≡ role_of glyph
+    → chars signed ≡ glyph_of layout.decor glyph → chars digits ≡ shown_number layout.numbers layout.gutter number → chars text ≡ norm (chars line)
+    → IsUtf8 digits → IsUtf8 text → one ≡ cells_written old r (layout.gutter + 1) (text_cells role (chars signed))
+    → (0 < length digits → two ≡ cells_written one r 0 (text_cells LineNumber (chars digits))) → (digits ≡ [] → two ≡ one)
+    → (0 < length text → new ≡ cells_written two r (layout.gutter + 3) (text_cells NoStyle (chars text))) → (text ≡ [] → new ≡ two)
+    → new ≡ old ++ line_cells layout glyph number line ∷ []
 unfolding line_cells
 line_drawn layout glyph number line role signed digits text r old one two new here role_is sign_is digits_are text_is utf8_digits utf8_text signs numbers no_number texts no_text =
     let g = layout.gutter in
     let sign_row = put (role_of glyph) (glyph_of layout.decor glyph) (g + 1) [] in
-    let first : one ≡ old ++ sign_row ∷ [] = put_begun (role_of glyph) (glyph_of layout.decor glyph) (g + 1) r old [] old one (glyph_some layout.decor glyph) here (sym (append-nil old)) (omega arith) (signs ∙ ap (λ (k : ElementStyle). cells_written old r (g + 1) (text_cells k (chars signed))) role_is ∙ ap (λ (cs : List ℕ). cells_written old r (g + 1) (text_cells (role_of glyph) cs)) sign_is) in
+    let first : one ≡ old ++ sign_row ∷ [] =
+    put_begun (role_of glyph) (glyph_of layout.decor glyph) (g + 1) r old [] old one (glyph_some layout.decor glyph) here (sym (append-nil old))
+    (omega arith) (signs ∙ ap (λ (k : ElementStyle). cells_written old r (g + 1)
+    (text_cells k (chars signed))) role_is ∙ ap (λ (cs : List ℕ). cells_written old r (g + 1) (text_cells (role_of glyph) cs)) sign_is) in
     let second = put_more LineNumber digits 0 r old sign_row one two utf8_digits here first numbers no_number in
     let third = put_more NoStyle text (g + 3) r old (put LineNumber (chars digits) 0 sign_row) two new utf8_text here second texts no_text in
     third ∙ ap (λ (cs : List ℕ). old ++ put NoStyle cs (g + 3) (put LineNumber (chars digits) 0 sign_row) ∷ []) text_is ∙ ap (λ (cs : List ℕ). old ++ put NoStyle (norm (chars line)) (g + 3) (put LineNumber cs 0 sign_row) ∷ []) digits_are
 
 -- the row of a line that is removed was drawn, over one that is there or not
-pub removed_drawn : (layout : SuggestionLayout) (role : ElementStyle) (number : ℕ) (line : List ℕ) (minus digits text : List ℕ) (r : ℕ) (above tail old one two new : List (List Cell)) → r ≡ length above → old ≡ above ++ tail → length tail ≤ 1 → chars minus ≡ codes "- " → chars digits ≡ shown_number layout.numbers layout.gutter number → chars text ≡ norm (chars line) → IsUtf8 digits → IsUtf8 text → (0 < length digits → one ≡ cells_written old r 0 (text_cells LineNumber (chars digits))) → (digits ≡ [] → one ≡ old) → two ≡ cells_written one r (layout.gutter + 1) (text_cells Removal (chars minus)) → (0 < length text → new ≡ cells_written two r (layout.gutter + 3) (text_cells role (chars text))) → (text ≡ [] → new ≡ two) → new ≡ above ++ removed_cells layout role number line (row_at tail 0) ∷ []
+pub removed_drawn : (layout : SuggestionLayout) (role : ElementStyle) (number : ℕ) (line : List ℕ) (minus digits text : List ℕ) (r : ℕ)
+    (above tail old one two new : List (List Cell)) → r ≡ length above → old ≡ above ++ tail → length tail ≤ 1 → chars minus ≡ codes "- "
+    → chars digits ≡ shown_number layout.numbers layout.gutter number → chars text ≡ norm (chars line) → IsUtf8 digits → IsUtf8 text
+    → (0 < length digits → one ≡ cells_written old r 0 (text_cells LineNumber (chars digits))) → (digits ≡ [] → one ≡ old)
+    → two ≡ cells_written one r (layout.gutter + 1) (text_cells Removal (chars minus))
+    → (0 < length text → new ≡ cells_written two r (layout.gutter + 3) (text_cells role (chars text))) → (text ≡ [] → new ≡ two)
+    → new ≡ above ++ removed_cells layout role number line (row_at tail 0) ∷ []
 unfolding removed_cells
 removed_drawn layout role number line minus digits text r above tail old one two new here is few minus_is digits_are text_is utf8_digits utf8_text numbers no_number signs texts no_text =
     let g = layout.gutter in
     let under = row_at tail 0 in
     let first = put_over LineNumber digits 0 r above tail old one utf8_digits here is few numbers no_number in
     let numbered = put LineNumber (chars digits) 0 under in
-    let second : two ≡ above ++ put Removal (codes "- ") (g + 1) numbered ∷ [] = put_begun Removal (codes "- ") (g + 1) r above first.tail one two (λ none. cc) here first.is first.few (signs ∙ ap (λ (cs : List ℕ). cells_written one r (g + 1) (text_cells Removal cs)) minus_is) ∙ ap (λ (row : List Cell). above ++ put Removal (codes "- ") (g + 1) row ∷ []) first.row_is in
+    let second : two ≡ above ++ put Removal (codes "- ") (g + 1) numbered ∷ [] =
+    put_begun Removal (codes "- ") (g + 1) r above first.tail one two (λ none. cc)
+    here first.is first.few (signs ∙ ap (λ (cs : List ℕ). cells_written one r (g + 1) (text_cells Removal cs)) minus_is)
+    ∙ ap (λ (row : List Cell). above ++ put Removal (codes "- ") (g + 1) row ∷ []) first.row_is in
     let third = put_more role text (g + 3) r above (put Removal (codes "- ") (g + 1) numbered) two new utf8_text here second texts no_text in
     third ∙ ap (λ (cs : List ℕ). above ++ put role cs (g + 3) (put Removal (codes "- ") (g + 1) numbered) ∷ []) text_is ∙ ap (λ (cs : List ℕ). above ++ put role (norm (chars line)) (g + 3) (put Removal (codes "- ") (g + 1) (put LineNumber cs 0 under)) ∷ []) digits_are
 
 -- the row in place of lines that are left out was drawn
-pub gap_drawn : (layout : SuggestionLayout) (text : List ℕ) (r at : ℕ) (old new : List (List Cell)) → r ≡ length old → at ≡ layout.gutter - width_of (placeholder_of layout.decor) → chars text ≡ placeholder_of layout.decor → (0 < length text → new ≡ cells_written old r at (text_cells LineNumber (chars text))) → new ≡ old ++ gap_cells layout ∷ []
+pub gap_drawn : (layout : SuggestionLayout) (text : List ℕ) (r at : ℕ) (old new : List (List Cell)) → r ≡ length old
+    → at ≡ layout.gutter - width_of (placeholder_of layout.decor) → chars text ≡ placeholder_of layout.decor
+    → (0 < length text → new ≡ cells_written old r at (text_cells LineNumber (chars text))) → new ≡ old ++ gap_cells layout ∷ []
 unfolding gap_cells
 gap_drawn layout [] r at old new here right is writes = absurd (placeholder_some layout.decor (sym is ∙ chars-nil))
 gap_drawn layout (b ∷ bs) r at old new here right is writes =
@@ -138,7 +162,10 @@ gap_drawn layout (b ∷ bs) r at old new here right is writes =
     put_begun LineNumber cs at r old [] old new (placeholder_some layout.decor) here (sym (append-nil old)) (omega arith) (writes (omega arith) ∙ ap (λ (t : List ℕ). cells_written old r at (text_cells LineNumber t)) is) ∙ ap (λ (n : ℕ). old ++ put LineNumber cs n [] ∷ []) right
 
 -- the row of a line that is offered
-pub offered_is : (layout : SuggestionLayout) (kind : DisplaySuggestion) (glyph : SuggestionGlyph) (count counted number numbered : ℕ) (line text : List ℕ) (ss new : List SubstitutionHighlight) → glyph ≡ sign_of kind count line ss → count ≡ counted → number ≡ numbered → line ≡ text → ss ≡ new → with_stretches Addition layout.gutter (chars line) ss (line_cells layout glyph number line) ≡ offered_cells layout kind counted numbered text new
+pub offered_is : (layout : SuggestionLayout) (kind : DisplaySuggestion) (glyph : SuggestionGlyph) (count counted number numbered : ℕ)
+    (line text : List ℕ) (ss new : List SubstitutionHighlight) → glyph ≡ sign_of kind count line ss → count ≡ counted → number ≡ numbered
+    → line ≡ text → ss ≡ new → with_stretches Addition layout.gutter (chars line) ss (line_cells layout glyph number line)
+    ≡ offered_cells layout kind counted numbered text new
 unfolding offered_cells
 offered_is layout kind glyph count counted number numbered line text ss new sign counts numbers lines stretches =
     let Row : List ℕ → List SubstitutionHighlight → SuggestionGlyph → ℕ → List Cell = λ t es g n. with_stretches Addition layout.gutter (chars t) es (line_cells layout g n t) in
@@ -146,12 +173,19 @@ offered_is layout kind glyph count counted number numbered line text ss new sign
     ap (λ t. Row t ss glyph number) lines ∙ ap (λ es. Row text es glyph number) stretches ∙ ap (λ g. Row text new g number) signed ∙ ap (Row text new (sign_of kind counted text new)) numbers
 
 -- a glyph that was drawn below all rows and so many empty ones
-pub glyph_below : (role : ElementStyle) (decor : DecorStyle) (glyph : SuggestionGlyph) (cs : List ℕ) (at r skipped : ℕ) (old new : List (List Cell)) → cs ≡ glyph_of decor glyph → r ≡ length old + skipped → new ≡ cells_written old r at (text_cells role cs) → new ≡ (old ++ replicate skipped []) ++ put role (glyph_of decor glyph) at [] ∷ []
+pub glyph_below : (role : ElementStyle) (decor : DecorStyle) (glyph : SuggestionGlyph) (cs : List ℕ) (at r skipped : ℕ) (old new : List (List Cell))
+    → cs ≡ glyph_of decor glyph → r ≡ length old + skipped → new ≡ cells_written old r at (text_cells role cs)
+    → new ≡ (old ++ replicate skipped []) ++ put role (glyph_of decor glyph) at [] ∷ []
 glyph_below role decor glyph cs at r skipped old new is here writes =
     let cells = text_cells role (glyph_of decor glyph) in
-    writes ∙ ap (λ (t : List ℕ). cells_written old r at (text_cells role t)) is ∙ ap (λ n. cells_written old n at cells) here ∙ skipped_written old skipped at cells ∙ sym (append_assoc old (replicate skipped []) (written SPACE [] at cells ∷ [])) ∙ ap (λ (row : List Cell). (old ++ replicate skipped []) ++ row ∷ []) (sym (put_some role (glyph_of decor glyph) at [] (glyph_some decor glyph)))
+    writes ∙ ap (λ (t : List ℕ). cells_written old r at (text_cells role t)) is ∙ ap (λ n. cells_written old n at cells) here
+    ∙ skipped_written old skipped at cells ∙ sym (append_assoc old (replicate skipped []) (written SPACE [] at cells ∷ []))
+    ∙ ap (λ (row : List Cell). (old ++ replicate skipped []) ++ row ∷ [])
+    (sym (put_some role (glyph_of decor glyph) at [] (glyph_some decor glyph)))
 
-pub glyph_over : (role : ElementStyle) (decor : DecorStyle) (glyph : SuggestionGlyph) (cs : List ℕ) (at r : ℕ) (above tail old new : List (List Cell)) → cs ≡ glyph_of decor glyph → r ≡ length above → old ≡ above ++ tail → length tail ≤ 1 → new ≡ cells_written old r at (text_cells role cs) → new ≡ above ++ put role (glyph_of decor glyph) at (row_at tail 0) ∷ []
+pub glyph_over : (role : ElementStyle) (decor : DecorStyle) (glyph : SuggestionGlyph) (cs : List ℕ) (at r : ℕ) (above tail old new : List (List Cell))
+    → cs ≡ glyph_of decor glyph → r ≡ length above → old ≡ above ++ tail → length tail ≤ 1 → new ≡ cells_written old r at (text_cells role cs)
+    → new ≡ above ++ put role (glyph_of decor glyph) at (row_at tail 0) ∷ []
 glyph_over role decor glyph cs at r above tail old new is here old_is few writes =
     put_begun role (glyph_of decor glyph) at r above tail old new (glyph_some decor glyph) here old_is few (writes ∙ ap (λ (t : List ℕ). cells_written old r at (text_cells role t)) is)
 

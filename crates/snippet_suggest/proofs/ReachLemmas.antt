@@ -117,7 +117,9 @@ touched_last s infos start end ordered are =
     let low : a ≤ b = lines_ordered s start end ordered in
     let size : length (range_with_len a n) ≡ n = length-range_with_len a n in
     let at : a + (length infos - 1) ≡ b = omega arith in
-    texts infos (length infos - 1) none (omega arith) ∙ ap (λ es. text (get_or es (length infos - 1) none)) are ∙ ap text (get_or-map (entry_at s.first ls) (range_with_len a n) (length infos - 1) 0 none (omega arith)) ∙ ap (text_at ls) (get_or-range_with_len a n (length infos - 1) 0 (omega arith) ∙ at)
+    texts infos (length infos - 1) none (omega arith) ∙ ap (λ es. text (get_or es (length infos - 1) none)) are
+    ∙ ap text (get_or-map (entry_at s.first ls) (range_with_len a n) (length infos - 1) 0 none (omega arith))
+    ∙ ap (text_at ls) (get_or-range_with_len a n (length infos - 1) 0 (omega arith) ∙ at)
   where
     texts : (is : List LineInfo) (i : ℕ) (d : LineEntry) → i < length is → get_or (map (λ info. info.line.now) is) i [] ≡ (get_or (map entry_of is) i d).text
     texts [] i d within = absurd (omega (arith, within))

@@ -49,9 +49,14 @@ counted_next first infos i d within =
     let texts : List (List ℕ) = texts_at infos in
     let inside : i < length texts = omega (arith, length-map infos text) in
     let count : i ≡ 0 + length (take i texts) = omega (arith, length-take i texts, inside) in
-    ap (λ t. counted_from first 0 (take i texts) ++ (number_after first i, t) ∷ []) (sym (get_or-map text infos i d [] within)) ∙ ap (λ (n : ℕ). counted_from first 0 (take i texts) ++ (number_after first n, get_or texts i []) ∷ []) count ∙ sym (counted_push first 0 (take i texts) (get_or texts i [])) ∙ ap (counted_from first 0) (sym (take_more texts i [] inside))
+    ap (λ t. counted_from first 0 (take i texts) ++ (number_after first i, t) ∷ []) (sym (get_or-map text infos i d [] within))
+    ∙ ap (λ (n : ℕ). counted_from first 0 (take i texts) ++ (number_after first n, get_or texts i []) ∷ []) count
+    ∙ sym (counted_push first 0 (take i texts) (get_or texts i [])) ∙ ap (counted_from first 0) (sym (take_more texts i [] inside))
 
-pub removed_more : (layout : SuggestionLayout) (first number : ℕ) (infos : List LineInfo) (i : ℕ) (d : LineInfo) (old mid new : List (List Cell)) → i < length infos → number ≡ number_after first i → AddsRemoved layout (counted_from first 0 (take i (texts_at infos))) old mid → AddsRow (IsRowOfRemoved layout (number, (get_or infos i d).line.now)) mid new → AddsRemoved layout (counted_from first 0 (take (i + 1) (texts_at infos))) old new
+pub removed_more : (layout : SuggestionLayout) (first number : ℕ) (infos : List LineInfo) (i : ℕ) (d : LineInfo) (old mid new : List (List Cell))
+    → i < length infos → number ≡ number_after first i → AddsRemoved layout (counted_from first 0 (take i (texts_at infos))) old mid
+    → AddsRow (IsRowOfRemoved layout (number, (get_or infos i d).line.now)) mid new
+    → AddsRemoved layout (counted_from first 0 (take (i + 1) (texts_at infos))) old new
 removed_more layout first number infos i d old mid new within counted adds more =
     let text : List ℕ = (get_or infos i d).line.now in
     let so_far : List (ℕ × List ℕ) = counted_from first 0 (take i (texts_at infos)) in
@@ -108,7 +113,10 @@ removes_begun layout above tail shares infos at now here stands is =
       after = λ none. absurd (omega arith);
     }
 
-pub removes_more : (layout : SuggestionLayout) (above : List (List Cell)) (infos : List LineInfo) (d : LineInfo) (at count next : ℕ) (now new : List (List Cell)) (drawn : RemovesAt layout above infos at count now) → count < length infos → AddsRow (IsRowOfRemoved layout ((get_or infos count d).line_index, (get_or infos count d).line.now)) (above ++ drawn.rows) new → next ≡ length new → RemovesAt layout above infos next (count + 1) new
+pub removes_more : (layout : SuggestionLayout) (above : List (List Cell)) (infos : List LineInfo) (d : LineInfo) (at count next : ℕ)
+    (now new : List (List Cell)) (drawn : RemovesAt layout above infos at count now) → count < length infos
+    → AddsRow (IsRowOfRemoved layout ((get_or infos count d).line_index, (get_or infos count d).line.now)) (above ++ drawn.rows) new
+    → next ≡ length new → RemovesAt layout above infos next (count + 1) new
 removes_more layout above infos d at count next now new drawn within adds below =
     let whole : new ≡ above ++ (drawn.rows ++ adds.row ∷ []) = adds.added ∙ append_assoc above drawn.rows (adds.row ∷ []) in
     let line : ℕ × List ℕ = ((get_or infos count d).line_index, (get_or infos count d).line.now) in

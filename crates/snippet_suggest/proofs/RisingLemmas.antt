@@ -38,7 +38,11 @@ rising_run : (from to : ℕ) → from ≤ to → AreRising from to (numbers_show
 rising_run from to ordered = rising_run_by from to (nat_le (to - from) 3) refl ordered
 
 -- those of all that is shown
-rising_from_by : (touched : ℕ → Bool) (from k left : ℕ) (is : Bool) → from ≤ k → AreRising (k + 1) (k + 1 + left) (numbers_shown (shown_from touched (k + 1) (k + 1) left)) → AreRising from (k + 1 + left) (numbers_shown (shown_from touched from (k + 1) left)) → AreRising from (k + 1 + left) (numbers_shown (if is then shown_run from k ++ (Line k ∷ shown_from touched (k + 1) (k + 1) left) else shown_from touched from (k + 1) left))
+rising_from_by : (touched : ℕ → Bool) (from k left : ℕ) (is : Bool) → from ≤ k
+    → AreRising (k + 1) (k + 1 + left) (numbers_shown (shown_from touched (k + 1) (k + 1) left))
+    → AreRising from (k + 1 + left) (numbers_shown (shown_from touched from (k + 1) left))
+    → AreRising from (k + 1 + left)
+    (numbers_shown (if is then shown_run from k ++ (Line k ∷ shown_from touched (k + 1) (k + 1) left) else shown_from touched from (k + 1) left))
 rising_from_by touched from k left false ordered shown waiting = waiting
 rising_from_by touched from k left true ordered shown waiting =
     let rest = Line k ∷ shown_from touched (k + 1) (k + 1) left in
@@ -74,7 +78,10 @@ shown_all touched shown all after line count past whole =
     sym (append-nil shown) ∙ sym (ap (λ n. shown ++ shown_from touched after line n) none) ∙ whole
 
 -- each touched line is among them
-touched_from_by : (touched : ℕ → Bool) (from k left j : ℕ) (is : Bool) → touched k ≡ is → k ≤ j → j < k + suc left → touched j ≡ true → ((next : ℕ) → k + 1 ≤ j → Contains (numbers_shown (shown_from touched next (k + 1) left)) j) → Contains (numbers_shown (if is then shown_run from k ++ (Line k ∷ shown_from touched (k + 1) (k + 1) left) else shown_from touched from (k + 1) left)) j
+touched_from_by : (touched : ℕ → Bool) (from k left j : ℕ) (is : Bool) → touched k ≡ is → k ≤ j → j < k + suc left → touched j ≡ true
+    → ((next : ℕ) → k + 1 ≤ j → Contains (numbers_shown (shown_from touched next (k + 1) left)) j)
+    → Contains (numbers_shown
+    (if is then shown_run from k ++ (Line k ∷ shown_from touched (k + 1) (k + 1) left) else shown_from touched from (k + 1) left)) j
 touched_from_by touched from k left j true is low high holds later =
     let rest = shown_from touched (k + 1) (k + 1) left in
     let here : Contains (numbers_shown (Line k ∷ rest)) j = elim (cases_eq j k) [

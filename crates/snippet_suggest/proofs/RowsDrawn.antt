@@ -57,7 +57,10 @@ emptied-nil : (layout : SuggestionLayout) (under : List Cell) → emptied_cells 
 unfolding emptied_cells
 emptied-nil layout under = refl
 
-pub emptied_more : (layout : SuggestionLayout) (above : List (List Cell)) (under : List Cell) (lines : List (ℕ × List ℕ)) (d : ℕ × List ℕ) (at count next : ℕ) (now new : List (List Cell)) (drawn : Emptied layout above under lines at count now) → count < length lines → new ≡ (above ++ drawn.rows) ++ removed_cells layout Removal (get_or lines count d).0 (get_or lines count d).1 (row_at drawn.tail 0) ∷ [] → next ≡ length new → Emptied layout above under lines next (count + 1) new
+pub emptied_more : (layout : SuggestionLayout) (above : List (List Cell)) (under : List Cell) (lines : List (ℕ × List ℕ)) (d : ℕ × List ℕ)
+    (at count next : ℕ) (now new : List (List Cell)) (drawn : Emptied layout above under lines at count now) → count < length lines
+    → new ≡ (above ++ drawn.rows) ++ removed_cells layout Removal (get_or lines count d).0 (get_or lines count d).1 (row_at drawn.tail 0) ∷ []
+    → next ≡ length new → Emptied layout above under lines next (count + 1) new
 emptied_more layout above under lines d at count next now new drawn within adds below =
     let line : ℕ × List ℕ = get_or lines count d in
     let row : List Cell = removed_cells layout Removal line.0 line.1 (row_at drawn.tail 0) in
@@ -76,7 +79,10 @@ emptied_more layout above under lines d at count next now new drawn within adds 
     }
 
 -- the next of some lines of the source
-pub emptied_next : (layout : SuggestionLayout) (above : List (List Cell)) (under : List Cell) (infos : List LineInfo) (d : LineInfo) (at count next : ℕ) (now new : List (List Cell)) (drawn : Emptied layout above under (numbered_at infos) at count now) → count < length infos → new ≡ (above ++ drawn.rows) ++ removed_cells layout Removal (get_or infos count d).line_index (get_or infos count d).line.now (row_at drawn.tail 0) ∷ [] → next ≡ length new → Emptied layout above under (numbered_at infos) next (count + 1) new
+pub emptied_next : (layout : SuggestionLayout) (above : List (List Cell)) (under : List Cell) (infos : List LineInfo) (d : LineInfo)
+    (at count next : ℕ) (now new : List (List Cell)) (drawn : Emptied layout above under (numbered_at infos) at count now) → count < length infos
+    → new ≡ (above ++ drawn.rows) ++ removed_cells layout Removal (get_or infos count d).line_index (get_or infos count d).line.now
+    (row_at drawn.tail 0) ∷ [] → next ≡ length new → Emptied layout above under (numbered_at infos) next (count + 1) new
 emptied_next layout above under infos d at count next now new drawn within adds below =
     let f : LineInfo → ℕ × List ℕ = λ info. (info.line_index, info.line.now) in
     let line : get_or (numbered_at infos) count (f d) ≡ f (get_or infos count d) = get_or-map f infos count d in
@@ -96,7 +102,10 @@ emptied_done layout above under lines at count now some all drawn =
 
 -- ---- a diff
 
-taken-append : (layout : SuggestionLayout) (first : ℕ) (replaced : ℕ → List SubstitutionHighlight) (k : ℕ) (infos : List LineInfo) (info : LineInfo) → taken_cells layout first replaced k (infos ++ info ∷ []) ≡ taken_cells layout first replaced k infos ++ with_stretches Removal layout.gutter (chars info.line.now) (replaced (info.line_index - first)) (removed_cells layout NoStyle (number_after first (k + length infos)) info.line.now []) ∷ []
+taken-append : (layout : SuggestionLayout) (first : ℕ) (replaced : ℕ → List SubstitutionHighlight) (k : ℕ) (infos : List LineInfo) (info : LineInfo)
+    → taken_cells layout first replaced k (infos ++ info ∷ [])
+    ≡ taken_cells layout first replaced k infos ++ with_stretches Removal layout.gutter (chars info.line.now) (replaced (info.line_index - first))
+    (removed_cells layout NoStyle (number_after first (k + length infos)) info.line.now []) ∷ []
 unfolding taken_cells
 taken-append layout first replaced k [] info =
     let here : k ≡ k + 0 = omega arith in
@@ -112,14 +121,21 @@ unfolding taken_cells
 taken_none layout first replaced infos old = sym (append-nil old)
 
 -- the next of them
-pub taken_next : (layout : SuggestionLayout) (first : ℕ) (replaced : ℕ → List SubstitutionHighlight) (infos : List LineInfo) (i number : ℕ) (d : LineInfo) (ss : List SubstitutionHighlight) (old now new : List (List Cell)) → i < length infos → number ≡ number_after first i → ss ≡ replaced ((get_or infos i d).line_index - first) → now ≡ old ++ taken_cells layout first replaced 0 (take i infos) → new ≡ now ++ with_stretches Removal layout.gutter (chars (get_or infos i d).line.now) ss (removed_cells layout NoStyle number (get_or infos i d).line.now []) ∷ [] → new ≡ old ++ taken_cells layout first replaced 0 (take (i + 1) infos)
+pub taken_next : (layout : SuggestionLayout) (first : ℕ) (replaced : ℕ → List SubstitutionHighlight) (infos : List LineInfo) (i number : ℕ)
+    (d : LineInfo) (ss : List SubstitutionHighlight) (old now new : List (List Cell)) → i < length infos → number ≡ number_after first i
+    → ss ≡ replaced ((get_or infos i d).line_index - first) → now ≡ old ++ taken_cells layout first replaced 0 (take i infos)
+    → new ≡ now ++ with_stretches Removal layout.gutter (chars (get_or infos i d).line.now)
+    ss (removed_cells layout NoStyle number (get_or infos i d).line.now []) ∷ []
+    → new ≡ old ++ taken_cells layout first replaced 0 (take (i + 1) infos)
 taken_next layout first replaced infos i number d ss old now new within number_is ss_is is adds =
     let info : LineInfo = get_or infos i d in
     let front : List (List Cell) = taken_cells layout first replaced 0 (take i infos) in
     let Row : ℕ → List SubstitutionHighlight → List Cell = λ n es. with_stretches Removal layout.gutter (chars info.line.now) es (removed_cells layout NoStyle n info.line.now []) in
     let count : i ≡ 0 + length (take i infos) = omega (arith, length-take i infos, within) in
     let row : Row number ss ≡ Row (number_after first (0 + length (take i infos))) (replaced (info.line_index - first)) = ap (λ n. Row n ss) (number_is ∙ ap (number_after first) count) ∙ ap (Row (number_after first (0 + length (take i infos)))) ss_is in
-    let more : taken_cells layout first replaced 0 (take (i + 1) infos) ≡ front ++ Row (number_after first (0 + length (take i infos))) (replaced (info.line_index - first)) ∷ [] = ap (taken_cells layout first replaced 0) (take_more infos i d within) ∙ taken-append layout first replaced 0 (take i infos) info in
+    let more : taken_cells layout first replaced 0 (take (i + 1) infos) ≡ front ++ Row (number_after first (0 + length (take i infos)))
+    (replaced (info.line_index - first)) ∷ [] =
+    ap (taken_cells layout first replaced 0) (take_more infos i d within) ∙ taken-append layout first replaced 0 (take i infos) info in
     adds ∙ ap (λ rows. rows ++ Row number ss ∷ []) is ∙ append_assoc old front (Row number ss ∷ []) ∙ ap (λ r. old ++ (front ++ r ∷ [])) row ∙ ap (λ rows. old ++ rows) (sym more)
 
 -- the last of some rows
@@ -142,7 +158,11 @@ last_of row (next ∷ rows) =
     }
 
 -- the rows of a diff whose line isn't shown, and of one whose line is
-pub diff_left : (layout : SuggestionLayout) (first : ℕ) (infos : List LineInfo) (replaced : ℕ → List SubstitutionHighlight) (line : List ℕ) (added : List SubstitutionHighlight) (last : List Cell) (stays : Bool) → stays ≡ bytes_eq line (last_removed infos) → is_left_out Diff (line ∷ []) (last_removed infos) ≡ true → on_last (left_out_cells layout.gutter line (gone_of stays first replaced infos) added) (last ∷ taken_cells layout first replaced 0 (unless_stays stays infos)) ≡ diff_cells layout first infos replaced line added last
+pub diff_left : (layout : SuggestionLayout) (first : ℕ) (infos : List LineInfo) (replaced : ℕ → List SubstitutionHighlight) (line : List ℕ)
+    (added : List SubstitutionHighlight) (last : List Cell) (stays : Bool) → stays ≡ bytes_eq line (last_removed infos)
+    → is_left_out Diff (line ∷ []) (last_removed infos) ≡ true
+    → on_last (left_out_cells layout.gutter line (gone_of stays first replaced infos) added)
+    (last ∷ taken_cells layout first replaced 0 (unless_stays stays infos)) ≡ diff_cells layout first infos replaced line added last
 unfolding diff_cells
 diff_left layout first infos replaced line added last stays is left =
     let Rows : Bool → List (List Cell) = λ b. on_last (left_out_cells layout.gutter line (gone_of b first replaced infos) added) (last ∷ taken_cells layout first replaced 0 (unless_stays b infos)) in
@@ -150,12 +170,19 @@ diff_left layout first infos replaced line added last stays is left =
     let rows : List (List Cell) = last ∷ taken_cells layout first replaced 0 (unless_stays real infos) in
     ap Rows is ∙ sym (cond-true (is_left_out Diff (line ∷ []) (last_removed infos)) (Rows real) (rows ++ offered_cells layout Diff 1 first line added ∷ []) left)
 
-pub diff_shown : (layout : SuggestionLayout) (first : ℕ) (infos : List LineInfo) (replaced : ℕ → List SubstitutionHighlight) (line : List ℕ) (added : List SubstitutionHighlight) (last : List Cell) (stays : Bool) → stays ≡ bytes_eq line (last_removed infos) → is_left_out Diff (line ∷ []) (last_removed infos) ≡ false → (last ∷ taken_cells layout first replaced 0 (unless_stays stays infos)) ++ offered_cells layout Diff 1 first line added ∷ [] ≡ diff_cells layout first infos replaced line added last
+pub diff_shown : (layout : SuggestionLayout) (first : ℕ) (infos : List LineInfo) (replaced : ℕ → List SubstitutionHighlight) (line : List ℕ)
+    (added : List SubstitutionHighlight) (last : List Cell) (stays : Bool) → stays ≡ bytes_eq line (last_removed infos)
+    → is_left_out Diff (line ∷ []) (last_removed infos) ≡ false
+    → (last ∷ taken_cells layout first replaced 0 (unless_stays stays infos)) ++ offered_cells layout Diff 1 first line added ∷ []
+    ≡ diff_cells layout first infos replaced line added last
 unfolding diff_cells
 diff_shown layout first infos replaced line added last stays is shown =
     let Rows : Bool → List (List Cell) = λ b. last ∷ taken_cells layout first replaced 0 (unless_stays b infos) in
     let real : Bool = bytes_eq line (last_removed infos) in
-    ap (λ b. Rows b ++ offered_cells layout Diff 1 first line added ∷ []) is ∙ sym (cond-false (is_left_out Diff (line ∷ []) (last_removed infos)) (on_last (left_out_cells layout.gutter line (gone_of real first replaced infos) added) (Rows real)) (Rows real ++ offered_cells layout Diff 1 first line added ∷ []) shown)
+    ap (λ b. Rows b ++ offered_cells layout Diff 1 first line added ∷ []) is
+    ∙ sym (cond-false (is_left_out Diff (line ∷ []) (last_removed infos))
+    (on_last (left_out_cells layout.gutter line (gone_of real first replaced infos) added) (Rows real))
+    (Rows real ++ offered_cells layout Diff 1 first line added ∷ []) shown)
 
 -- a line that is the last that is reached isn't shown
 pub stays_left : (line last : List ℕ) → bytes_eq line last ≡ true → is_left_out Diff (line ∷ []) last ≡ true
@@ -176,7 +203,10 @@ none_gone gutter line stays first replaced infos row goes =
     ap (λ b. with_stretches Removal gutter (chars line) (gone_of b first replaced infos) row) goes ∙ with_none Removal gutter (chars line) row
 
 -- and those of the line that stays are
-pub some_gone : (gutter : ℕ) (line : List ℕ) (stays : Bool) (first : ℕ) (replaced : ℕ → List SubstitutionHighlight) (infos : List LineInfo) (row : List Cell) (count : ℕ) (d : LineInfo) (ss : List SubstitutionHighlight) → stays ≡ true → count ≡ length infos - bool_byte stays → count < length infos → ss ≡ replaced ((get_or infos count d).line_index - first) → with_stretches Removal gutter (chars line) ss row ≡ with_stretches Removal gutter (chars line) (gone_of stays first replaced infos) row
+pub some_gone : (gutter : ℕ) (line : List ℕ) (stays : Bool) (first : ℕ) (replaced : ℕ → List SubstitutionHighlight) (infos : List LineInfo)
+    (row : List Cell) (count : ℕ) (d : LineInfo) (ss : List SubstitutionHighlight) → stays ≡ true → count ≡ length infos - bool_byte stays
+    → count < length infos → ss ≡ replaced ((get_or infos count d).line_index - first)
+    → with_stretches Removal gutter (chars line) ss row ≡ with_stretches Removal gutter (chars line) (gone_of stays first replaced infos) row
 some_gone gutter line stays first replaced infos row count d ss keeps counts within is =
     let index : LineInfo → ℕ = λ info. info.line_index in
     let last : length infos - 1 ≡ count = sym (counts ∙ ap (λ b. length infos - bool_byte b) keeps) in

@@ -58,7 +58,9 @@ put_first role (x ∷ cs) at row some =
     ap (λ n. (slice_index_or (put role (x ∷ cs) at row) n SPACE).ch) here ∙ ap (λ (cell : Cell). cell.ch) (slice_index_or-written_inside SPACE row at cells 0 SPACE (omega arith))
 
 -- the sign stands in the row of a line
-line_sign : (layout : SuggestionLayout) (glyph : SuggestionGlyph) (number : ℕ) (line : List ℕ) → length (shown_number layout.numbers layout.gutter number) ≤ layout.gutter + 1 → (slice_index_or (line_cells layout glyph number line) (layout.gutter + 1) SPACE).ch ≡ slice_index_or (glyph_of layout.decor glyph) 0 32
+line_sign : (layout : SuggestionLayout) (glyph : SuggestionGlyph) (number : ℕ) (line : List ℕ)
+    → length (shown_number layout.numbers layout.gutter number) ≤ layout.gutter + 1
+    → (slice_index_or (line_cells layout glyph number line) (layout.gutter + 1) SPACE).ch ≡ slice_index_or (glyph_of layout.decor glyph) 0 32
 unfolding line_cells
 line_sign layout glyph number line fits =
     let g : ℕ = layout.gutter in
@@ -68,7 +70,10 @@ line_sign layout glyph number line fits =
     let Ch : Cell → ℕ = λ cell. cell.ch in
     ap Ch (put_left NoStyle (norm (chars line)) (g + 3) (g + 1) numbered (omega arith)) ∙ ap Ch (put_right LineNumber digits 0 (g + 1) signed (omega (arith, fits))) ∙ put_first (role_of glyph) (glyph_of layout.decor glyph) (g + 1) [] (glyph_some layout.decor glyph)
 
-offered_sign : (layout : SuggestionLayout) (kind : DisplaySuggestion) (count number : ℕ) (line : List ℕ) (ss : List SubstitutionHighlight) → length (shown_number layout.numbers layout.gutter number) ≤ layout.gutter + 1 → (slice_index_or (offered_cells layout kind count number line ss) (layout.gutter + 1) SPACE).ch ≡ slice_index_or (glyph_of layout.decor (sign_of kind count line ss)) 0 32
+offered_sign : (layout : SuggestionLayout) (kind : DisplaySuggestion) (count number : ℕ) (line : List ℕ) (ss : List SubstitutionHighlight)
+    → length (shown_number layout.numbers layout.gutter number) ≤ layout.gutter + 1
+    → (slice_index_or (offered_cells layout kind count number line ss) (layout.gutter + 1) SPACE).ch ≡ slice_index_or
+    (glyph_of layout.decor (sign_of kind count line ss)) 0 32
 unfolding offered_cells
 offered_sign layout kind count number line ss fits =
     let row : List Cell = line_cells layout (sign_of kind count line ss) number line in
@@ -101,7 +106,9 @@ sign_kept layout s (Removes i number text) now row same has = tt
 sign_kept layout s Empty now row same has = tt
 sign_kept layout s (Ends follows) now row same has = tt
 
-signs_last : (layout : SuggestionLayout) (s : Snippet Patch) (f : List Cell → List Cell) (shown : List SuggestionRow) (rows : List (List Cell)) → ((row : List Cell) → map without_role (f row) ≡ map without_role row) → AllZip (HasSign layout s) shown rows → AllZip (HasSign layout s) shown (on_last f rows)
+signs_last : (layout : SuggestionLayout) (s : Snippet Patch) (f : List Cell → List Cell) (shown : List SuggestionRow) (rows : List (List Cell))
+    → ((row : List Cell) → map without_role (f row) ≡ map without_role row) → AllZip (HasSign layout s) shown rows
+    → AllZip (HasSign layout s) shown (on_last f rows)
 unfolding on_last
 signs_last layout s f [] [] same have = tt
 signs_last layout s f [] (row ∷ rows) same have = elim have [ ]

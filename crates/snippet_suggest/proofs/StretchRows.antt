@@ -94,7 +94,9 @@ pub with_none : (role : ElementStyle) (gutter : ℕ) (cs : List ℕ) (row : List
 unfolding with_stretches
 with_none role gutter cs row = refl
 
-with_append : (role : ElementStyle) (gutter : ℕ) (cs : List ℕ) (ss : List SubstitutionHighlight) (s : SubstitutionHighlight) (row : List Cell) → with_stretches role gutter cs (ss ++ s ∷ []) row ≡ changed_within (restyled role true) (stretch_cell gutter cs s.start) (stretch_cell gutter cs s.end) (with_stretches role gutter cs ss row)
+with_append : (role : ElementStyle) (gutter : ℕ) (cs : List ℕ) (ss : List SubstitutionHighlight) (s : SubstitutionHighlight) (row : List Cell)
+    → with_stretches role gutter cs (ss ++ s ∷ []) row ≡ changed_within (restyled role true) (stretch_cell gutter cs s.start)
+    (stretch_cell gutter cs s.end) (with_stretches role gutter cs ss row)
 unfolding with_stretches
 with_append role gutter cs [] s row = refl
 with_append role gutter cs (t ∷ ss) s row =
@@ -110,14 +112,25 @@ pub painted_begun : (role : ElementStyle) (gutter : ℕ) (cs : List ℕ) (ss : L
 painted_begun role gutter cs ss above last now is =
     is ∙ ap (λ (row : List Cell). above ++ row ∷ []) (sym (with_none role gutter cs last))
 
-pub painted_next : (role : ElementStyle) (gutter : ℕ) (cs : List ℕ) (ss : List SubstitutionHighlight) (i : ℕ) (d : SubstitutionHighlight) (above : List (List Cell)) (last : List Cell) (now new : List (List Cell)) (row start end : ℕ) → i < length ss → row ≡ length above → now ≡ above ++ with_stretches role gutter cs (take i ss) last ∷ [] → start ≡ stretch_cell gutter cs (get_or ss i d).start → end ≡ stretch_cell gutter cs (get_or ss i d).end → new ≡ cells_restyled now row start end role true → new ≡ above ++ with_stretches role gutter cs (take (i + 1) ss) last ∷ []
+pub painted_next : (role : ElementStyle) (gutter : ℕ) (cs : List ℕ) (ss : List SubstitutionHighlight) (i : ℕ) (d : SubstitutionHighlight)
+    (above : List (List Cell)) (last : List Cell) (now new : List (List Cell)) (row start end : ℕ) → i < length ss → row ≡ length above
+    → now ≡ above ++ with_stretches role gutter cs (take i ss) last ∷ [] → start ≡ stretch_cell gutter cs (get_or ss i d).start
+    → end ≡ stretch_cell gutter cs (get_or ss i d).end → new ≡ cells_restyled now row start end role true
+    → new ≡ above ++ with_stretches role gutter cs (take (i + 1) ss) last ∷ []
 painted_next role gutter cs ss i d above last now new row start end within here is starts ends paints =
     let so_far : List Cell = with_stretches role gutter cs (take i ss) last in
     let f : ℕ → ℕ → List Cell → List Cell = λ from to. changed_within (restyled role true) from to in
     let s : SubstitutionHighlight = get_or ss i d in
-    paints ∙ ap (λ (rows : List (List Cell)). changed_within (f start end) row (row + 1) rows) is ∙ ap (λ r. changed_within (f start end) r (r + 1) (above ++ so_far ∷ [])) here ∙ changed_last (f start end) above so_far ∙ ap (λ n. above ++ f n end so_far ∷ []) starts ∙ ap (λ n. above ++ f (stretch_cell gutter cs s.start) n so_far ∷ []) ends ∙ ap (λ (r : List Cell). above ++ r ∷ []) (sym (with_append role gutter cs (take i ss) s last)) ∙ ap (λ (t : List SubstitutionHighlight). above ++ with_stretches role gutter cs t last ∷ []) (sym (take_more ss i d within))
+    paints ∙ ap (λ (rows : List (List Cell)). changed_within (f start end) row (row + 1) rows) is
+    ∙ ap (λ r. changed_within (f start end) r (r + 1) (above ++ so_far ∷ [])) here ∙ changed_last (f start end) above so_far
+    ∙ ap (λ n. above ++ f n end so_far ∷ []) starts ∙ ap (λ n. above ++ f (stretch_cell gutter cs s.start) n so_far ∷ []) ends
+    ∙ ap (λ (r : List Cell). above ++ r ∷ []) (sym (with_append role gutter cs (take i ss) s last))
+    ∙ ap (λ (t : List SubstitutionHighlight). above ++ with_stretches role gutter cs t last ∷ []) (sym (take_more ss i d within))
 
-pub passed_next : (role : ElementStyle) (gutter : ℕ) (cs : List ℕ) (ss : List SubstitutionHighlight) (i : ℕ) (d : SubstitutionHighlight) (above : List (List Cell)) (last : List Cell) (now : List (List Cell)) → i < length ss → now ≡ above ++ with_stretches role gutter cs (take i ss) last ∷ [] → (get_or ss i d).start ≡ (get_or ss i d).end → now ≡ above ++ with_stretches role gutter cs (take (i + 1) ss) last ∷ []
+pub passed_next : (role : ElementStyle) (gutter : ℕ) (cs : List ℕ) (ss : List SubstitutionHighlight) (i : ℕ) (d : SubstitutionHighlight)
+    (above : List (List Cell)) (last : List Cell) (now : List (List Cell)) → i < length ss
+    → now ≡ above ++ with_stretches role gutter cs (take i ss) last ∷ [] → (get_or ss i d).start ≡ (get_or ss i d).end
+    → now ≡ above ++ with_stretches role gutter cs (take (i + 1) ss) last ∷ []
 passed_next role gutter cs ss i d above last now within is empty =
     let so_far : List Cell = with_stretches role gutter cs (take i ss) last in
     let s : SubstitutionHighlight = get_or ss i d in

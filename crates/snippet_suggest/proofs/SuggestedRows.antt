@@ -87,7 +87,9 @@ pub body_emptied : (layout : SuggestionLayout) (start : SuggestionStart) (s : Sn
 body_emptied layout start s under i lines none is =
     sym (body_none layout start s under (removed_from i lines) none is ∙ emptied_over layout s under i lines none)
 
-pub body_emptied_diff : (layout : SuggestionLayout) (start : SuggestionStart) (s : Snippet Patch) (under : List Cell) (i : ℕ) (lines : List (ℕ × List ℕ)) → given_lines s ≡ [] → rows_of_suggestion start s ≡ Begins start ∷ removed_from i lines → begin_cells layout start under ∷ emptied_cells layout lines [] ≡ body_cells layout start s under
+pub body_emptied_diff : (layout : SuggestionLayout) (start : SuggestionStart) (s : Snippet Patch) (under : List Cell) (i : ℕ)
+    (lines : List (ℕ × List ℕ)) → given_lines s ≡ [] → rows_of_suggestion start s ≡ Begins start ∷ removed_from i lines
+    → begin_cells layout start under ∷ emptied_cells layout lines [] ≡ body_cells layout start s under
 body_emptied_diff layout start s under i lines none is =
     sym (body_none layout start s under (Begins start ∷ removed_from i lines) none is ∙ ap (λ row. row ∷ map (cells_of layout s []) (removed_from i lines)) (begins_is layout s under start) ∙ ap (λ rows. begin_cells layout start under ∷ rows) (emptied_later layout s i lines none))
 
@@ -100,13 +102,19 @@ not_diff Plain other = refl
 not_diff Add other = refl
 
 -- the rows where no line gives its roles to another row
-body_plain : (layout : SuggestionLayout) (start : SuggestionStart) (s : Snippet Patch) (under : List Cell) (line : List ℕ) (lines : List (List ℕ)) (rows : List SuggestionRow) → given_lines s ≡ line ∷ lines → (is_diff (shown_kind s) && is_touched s.fold (given_ranges s) 0 && is_left_out (shown_kind s) (line ∷ lines) (last_reached s)) ≡ false → rows_of_suggestion start s ≡ rows → body_cells layout start s under ≡ cells_over (cells_of layout s) under rows
+body_plain : (layout : SuggestionLayout) (start : SuggestionStart) (s : Snippet Patch) (under : List Cell) (line : List ℕ) (lines : List (List ℕ))
+    (rows : List SuggestionRow) → given_lines s ≡ line ∷ lines
+    → (is_diff (shown_kind s) && is_touched s.fold (given_ranges s) 0 && is_left_out (shown_kind s) (line ∷ lines) (last_reached s)) ≡ false
+    → rows_of_suggestion start s ≡ rows → body_cells layout start s under ≡ cells_over (cells_of layout s) under rows
 unfolding body_cells
 body_plain layout start s under line lines rows some stays is =
     let all : List (List Cell) = cells_over (cells_of layout s) under (rows_of_suggestion start s) in
     ap (λ (ls : List (List ℕ)). with_left_out layout s ls all) some ∙ cond-false (is_diff (shown_kind s) && is_touched s.fold (given_ranges s) 0 && is_left_out (shown_kind s) (line ∷ lines) (last_reached s)) _ all stays ∙ ap (cells_over (cells_of layout s) under) is
 
-pub body_shown : (layout : SuggestionLayout) (start : SuggestionStart) (s : Snippet Patch) (under : List Cell) (line : List ℕ) (lines : List (List ℕ)) (shown : List ShownLine) → given_lines s ≡ line ∷ lines → shown_kind s ≢ Diff → rows_of_suggestion start s ≡ Begins start ∷ map row_of_shown shown → begin_cells layout start under ∷ map (shown_cells layout (shown_kind s) (s.line_start + first_given s) (given_lines s) (new_on s)) shown ≡ body_cells layout start s under
+pub body_shown : (layout : SuggestionLayout) (start : SuggestionStart) (s : Snippet Patch) (under : List Cell) (line : List ℕ) (lines : List (List ℕ))
+    (shown : List ShownLine) → given_lines s ≡ line ∷ lines → shown_kind s ≢ Diff → rows_of_suggestion start s ≡ Begins start ∷ map row_of_shown shown
+    → begin_cells layout start under ∷ map (shown_cells layout (shown_kind s) (s.line_start + first_given s) (given_lines s) (new_on s))
+    shown ≡ body_cells layout start s under
 body_shown layout start s under line lines shown some other is =
     let t : Bool = is_touched s.fold (given_ranges s) 0 in
     let l : Bool = is_left_out (shown_kind s) (line ∷ lines) (last_reached s) in
@@ -116,19 +124,27 @@ body_shown layout start s under line lines shown some other is =
 -- ---- a diff
 
 -- one that no patch touches
-pub body_untouched : (layout : SuggestionLayout) (start : SuggestionStart) (s : Snippet Patch) (under : List Cell) (line : List ℕ) → given_lines s ≡ line ∷ [] → shown_kind s ≡ Diff → is_touched s.fold (given_ranges s) 0 ≡ false → rows_of_suggestion start s ≡ Begins start ∷ Empty ∷ [] → begin_cells layout start under ∷ [] ∷ [] ≡ body_cells layout start s under
+pub body_untouched : (layout : SuggestionLayout) (start : SuggestionStart) (s : Snippet Patch) (under : List Cell) (line : List ℕ)
+    → given_lines s ≡ line ∷ [] → shown_kind s ≡ Diff → is_touched s.fold (given_ranges s) 0 ≡ false
+    → rows_of_suggestion start s ≡ Begins start ∷ Empty ∷ [] → begin_cells layout start under ∷ [] ∷ [] ≡ body_cells layout start s under
 body_untouched layout start s under line one diff untouched is =
     let l : Bool = is_left_out (shown_kind s) (line ∷ []) (last_reached s) in
     let stays : (is_diff (shown_kind s) && is_touched s.fold (given_ranges s) 0 && l) ≡ false = ap (λ (b : Bool). b && is_touched s.fold (given_ranges s) 0 && l) (ap is_diff diff) ∙ ap (λ (b : Bool). b && l) untouched in
     sym (body_plain layout start s under line [] (Begins start ∷ Empty ∷ []) one stays is ∙ ap (λ row. row ∷ cells_of layout s [] Empty ∷ []) (begins_is layout s under start) ∙ ap (λ (row : List Cell). begin_cells layout start under ∷ row ∷ []) (empty_is layout s []))
 
 -- the lines that are removed above one in their place
-removed_some : (layout : SuggestionLayout) (s : Snippet Patch) (under : List Cell) (line : List ℕ) (i number : ℕ) (text : List ℕ) → given_lines s ≡ line ∷ [] → cells_of layout s under (Removes i number text) ≡ with_stretches Removal layout.gutter (chars text) (replaced_on s (i - first_given s)) (removed_cells layout NoStyle number text under)
+removed_some : (layout : SuggestionLayout) (s : Snippet Patch) (under : List Cell) (line : List ℕ) (i number : ℕ) (text : List ℕ)
+    → given_lines s ≡ line ∷ [] → cells_of layout s under (Removes i number text) ≡ with_stretches Removal layout.gutter (chars text)
+    (replaced_on s (i - first_given s)) (removed_cells layout NoStyle number text under)
 unfolding cells_of
 removed_some layout s under line i number text one =
     ap (λ (ls : List (List ℕ)). removed_in layout ls (replaced_on s (i - first_given s)) number text under) one
 
-pub taken_rows : (layout : SuggestionLayout) (s : Snippet Patch) (line : List ℕ) (replaced : ℕ → List SubstitutionHighlight) (infos : List LineInfo) (f : ℕ → List ℕ) (a m k : ℕ) → given_lines s ≡ line ∷ [] → ((j : ℕ) → replaced j ≡ replaced_on s j) → numbered_at infos ≡ map {B = ℕ × List ℕ} (λ j. (s.line_start + j, f j)) (range_with_len a m) → taken_cells layout (s.line_start + first_given s) replaced k infos ≡ map (cells_of layout s []) (removed_from a (counted_from (s.line_start + first_given s) k (map f (range_with_len a m))))
+pub taken_rows : (layout : SuggestionLayout) (s : Snippet Patch) (line : List ℕ) (replaced : ℕ → List SubstitutionHighlight) (infos : List LineInfo)
+    (f : ℕ → List ℕ) (a m k : ℕ) → given_lines s ≡ line ∷ [] → ((j : ℕ) → replaced j ≡ replaced_on s j)
+    → numbered_at infos ≡ map {B = ℕ × List ℕ} (λ j. (s.line_start + j, f j)) (range_with_len a m)
+    → taken_cells layout (s.line_start + first_given s) replaced k infos ≡ map (cells_of layout s [])
+    (removed_from a (counted_from (s.line_start + first_given s) k (map f (range_with_len a m))))
 unfolding taken_cells
 taken_rows layout s line replaced [] f a zero k one same are = refl
 taken_rows layout s line replaced [] f a (suc m) k one same are = absurd (cc)
@@ -213,7 +229,9 @@ module _ (layout : SuggestionLayout) (s : Snippet Patch) (line : List ℕ) (f : 
   taken_are : taken_cells layout first replaced 0 (unless_stays stays infos) ≡ map (cells_of layout s []) removed
   taken_are =
       let g : ℕ → ℕ × List ℕ = λ j. (s.line_start + j, f j) in
-      let numbered : numbered_at (unless_stays stays infos) ≡ map g (range_with_len a (shown_count s line n)) = unless-map stays (λ (info : LineInfo). (info.line_index, info.line.now)) infos ∙ ap (unless_stays stays) known.are ∙ sym (unless-map stays g (range_with_len a n)) ∙ ap (map g) (unless_range stays a n) in
+      let numbered : numbered_at (unless_stays stays infos) ≡ map g (range_with_len a (shown_count s line n)) =
+      unless-map stays (λ (info : LineInfo). (info.line_index, info.line.now)) infos ∙ ap (unless_stays stays) known.are
+      ∙ sym (unless-map stays g (range_with_len a n)) ∙ ap (map g) (unless_range stays a n) in
       taken_rows layout s line replaced (unless_stays stays infos) f a (shown_count s line n) 0 known.one same numbered
 
   -- the stretches of the last of them
@@ -230,29 +248,48 @@ module _ (layout : SuggestionLayout) (s : Snippet Patch) (line : List ℕ) (f : 
   unfolding cells_of
   offered_is =
       let number : number_after first 0 ≡ first = omega (arith, known.small) in
-      ap (λ (ls : List (List ℕ)). offered_cells layout (shown_kind s) (length ls) (number_after first 0) (get_or ls 0 []) (new_on s 0)) known.one ∙ ap (λ k. offered_cells layout k 1 (number_after first 0) line (new_on s 0)) known.diff ∙ ap (λ m. offered_cells layout Diff 1 m line (new_on s 0)) number
+      ap (λ (ls : List (List ℕ)). offered_cells layout (shown_kind s) (length ls) (number_after first 0) (get_or ls 0 []) (new_on s 0)) known.one
+      ∙ ap (λ k. offered_cells layout k 1 (number_after first 0) line (new_on s 0)) known.diff
+      ∙ ap (λ m. offered_cells layout Diff 1 m line (new_on s 0)) number
 
   -- where the line isn't shown, and where it is
-  body_left : (start : SuggestionStart) (under : List Cell) → left ≡ true → rows_of_suggestion start s ≡ Begins start ∷ changed_rows true left removed → on_last (left_out_cells layout.gutter line (gone_of stays first replaced infos) (new_on s 0)) (begin_cells layout start under ∷ taken_cells layout first replaced 0 (unless_stays stays infos)) ≡ body_cells layout start s under
+  body_left : (start : SuggestionStart) (under : List Cell) → left ≡ true → rows_of_suggestion start s ≡ Begins start ∷ changed_rows true left removed
+      → on_last (left_out_cells layout.gutter line (gone_of stays first replaced infos) (new_on s 0))
+      (begin_cells layout start under ∷ taken_cells layout first replaced 0 (unless_stays stays infos)) ≡ body_cells layout start s under
   unfolding body_cells
   body_left start under leaves rows =
       let all : List (List Cell) = cells_over (cells_of layout s) under (rows_of_suggestion start s) in
       let Painted : List SubstitutionHighlight → List (List Cell) → List (List Cell) = λ ss rs. on_last (left_out_cells layout.gutter line ss (new_on s 0)) rs in
-      let test : (is_diff (shown_kind s) && is_touched s.fold (given_ranges s) 0 && is_left_out (shown_kind s) (line ∷ []) (last_reached s)) ≡ true = ap (λ k. is_diff k && is_touched s.fold (given_ranges s) 0 && is_left_out k (line ∷ []) (last_reached s)) known.diff ∙ ap (λ (t : Bool). t && left) known.touched ∙ leaves in
+      let test : (is_diff (shown_kind s) && is_touched s.fold (given_ranges s) 0 && is_left_out (shown_kind s) (line ∷ []) (last_reached s)) ≡ true =
+      ap (λ k. is_diff k && is_touched s.fold (given_ranges s) 0 && is_left_out k (line ∷ []) (last_reached s)) known.diff
+      ∙ ap (λ (t : Bool). t && left) known.touched ∙ leaves in
       let body : with_left_out layout s (given_lines s) all ≡ Painted gone all = ap (λ (ls : List (List ℕ)). with_left_out layout s ls all) known.one ∙ cond-true _ (Painted gone all) all test in
-      let shown : all ≡ begin_cells layout start under ∷ taken_cells layout first replaced 0 (unless_stays stays infos) = ap (cells_over (cells_of layout s) under) (rows ∙ ap (λ l. Begins start ∷ changed_rows true l removed) leaves ∙ ap (λ rs. Begins start ∷ rs) (append-nil removed)) ∙ ap (λ row. row ∷ map (cells_of layout s []) removed) (begins_is layout s under start) ∙ ap (λ rs. begin_cells layout start under ∷ rs) (sym taken_are) in
+      let shown : all ≡ begin_cells layout start under ∷ taken_cells layout first replaced 0 (unless_stays stays infos) =
+      ap (cells_over (cells_of layout s) under)
+      (rows ∙ ap (λ l. Begins start ∷ changed_rows true l removed) leaves ∙ ap (λ rs. Begins start ∷ rs) (append-nil removed))
+      ∙ ap (λ row. row ∷ map (cells_of layout s []) removed) (begins_is layout s under start)
+      ∙ ap (λ rs. begin_cells layout start under ∷ rs) (sym taken_are) in
       ap (λ ss. Painted ss (begin_cells layout start under ∷ taken_cells layout first replaced 0 (unless_stays stays infos))) gone_are ∙ sym (body ∙ ap (Painted gone) shown)
 
-  body_offered : (start : SuggestionStart) (under : List Cell) → left ≡ false → rows_of_suggestion start s ≡ Begins start ∷ changed_rows true left removed → (begin_cells layout start under ∷ taken_cells layout first replaced 0 (unless_stays stays infos)) ++ offered_cells layout Diff 1 first line (new_on s 0) ∷ [] ≡ body_cells layout start s under
+  body_offered : (start : SuggestionStart) (under : List Cell) → left ≡ false
+      → rows_of_suggestion start s ≡ Begins start ∷ changed_rows true left removed
+      → (begin_cells layout start under ∷ taken_cells layout first replaced 0 (unless_stays stays infos))
+      ++ offered_cells layout Diff 1 first line (new_on s 0) ∷ [] ≡ body_cells layout start s under
   body_offered start under shown rows =
       let row : List Cell = offered_cells layout Diff 1 first line (new_on s 0) in
       let begin : List Cell = begin_cells layout start under in
-      let test : (is_diff (shown_kind s) && is_touched s.fold (given_ranges s) 0 && is_left_out (shown_kind s) (line ∷ []) (last_reached s)) ≡ false = ap (λ k. is_diff k && is_touched s.fold (given_ranges s) 0 && is_left_out k (line ∷ []) (last_reached s)) known.diff ∙ ap (λ (t : Bool). t && left) known.touched ∙ shown in
+      let test : (is_diff (shown_kind s) && is_touched s.fold (given_ranges s) 0 && is_left_out (shown_kind s) (line ∷ []) (last_reached s)) ≡ false =
+      ap (λ k. is_diff k && is_touched s.fold (given_ranges s) 0 && is_left_out k (line ∷ []) (last_reached s)) known.diff
+      ∙ ap (λ (t : Bool). t && left) known.touched ∙ shown in
       let body = body_plain layout start s under line [] (Begins start ∷ (removed ++ Offers 0 ∷ [])) known.one test (rows ∙ ap (λ l. Begins start ∷ changed_rows true l removed) shown) in
-      let cells : map (cells_of layout s []) (removed ++ Offers 0 ∷ []) ≡ taken_cells layout first replaced 0 (unless_stays stays infos) ++ row ∷ [] = map-append (cells_of layout s []) removed (Offers 0 ∷ []) ∙ ap (λ rs. rs ++ cells_of layout s [] (Offers 0) ∷ []) (sym taken_are) ∙ ap (λ (r : List Cell). taken_cells layout first replaced 0 (unless_stays stays infos) ++ r ∷ []) offered_is in
+      let cells : map (cells_of layout s []) (removed ++ Offers 0 ∷ []) ≡ taken_cells layout first replaced 0 (unless_stays stays infos) ++ row ∷ [] =
+      map-append (cells_of layout s []) removed (Offers 0 ∷ []) ∙ ap (λ rs. rs ++ cells_of layout s [] (Offers 0) ∷ []) (sym taken_are)
+      ∙ ap (λ (r : List Cell). taken_cells layout first replaced 0 (unless_stays stays infos) ++ r ∷ []) offered_is in
       sym (body ∙ ap (λ r. r ∷ map (cells_of layout s []) (removed ++ Offers 0 ∷ [])) (begins_is layout s under start) ∙ ap (λ rs. begin ∷ rs) cells)
 
-  pub body_diff : (start : SuggestionStart) (under : List Cell) (added : List SubstitutionHighlight) → added ≡ new_on s 0 → rows_of_suggestion start s ≡ Begins start ∷ changed_rows true left removed → diff_cells layout first infos replaced line added (begin_cells layout start under) ≡ body_cells layout start s under
+  pub body_diff : (start : SuggestionStart) (under : List Cell) (added : List SubstitutionHighlight) → added ≡ new_on s 0
+      → rows_of_suggestion start s ≡ Begins start ∷ changed_rows true left removed
+      → diff_cells layout first infos replaced line added (begin_cells layout start under) ≡ body_cells layout start s under
   body_diff start under added new rows =
       let stays_is : stays ≡ bytes_eq line (last_removed infos) = ap (bytes_eq line) (sym known.last) in
       let left_is : is_left_out Diff (line ∷ []) (last_removed infos) ≡ left = ap (is_left_out Diff (line ∷ [])) known.last in
@@ -279,7 +316,9 @@ unfolding cells_of with_marks
 ends_plain layout s follows other =
     ap (λ es. with_marks layout (source_of s) [] es (end_cells layout follows)) (sym (none_marked (shown_kind s) (trimmed_of s) other))
 
-pub suggestion_is : (layout : SuggestionLayout) (start : SuggestionStart) (follows : Bool) (s : Snippet Patch) (under : List Cell) (above before new : List (List Cell)) → before ≡ above ++ body_cells layout start s under → new ≡ before ++ cells_of layout s [] (Ends follows) ∷ [] → new ≡ above ++ suggestion_cells layout start follows s under
+pub suggestion_is : (layout : SuggestionLayout) (start : SuggestionStart) (follows : Bool) (s : Snippet Patch) (under : List Cell)
+    (above before new : List (List Cell)) → before ≡ above ++ body_cells layout start s under
+    → new ≡ before ++ cells_of layout s [] (Ends follows) ∷ [] → new ≡ above ++ suggestion_cells layout start follows s under
 unfolding suggestion_cells
 suggestion_is layout start follows s under above before new body adds =
     let end : List (List Cell) = cells_of layout s [] (Ends follows) ∷ [] in

@@ -62,7 +62,9 @@ tail_written layout false above tail at cells is =
     subst (λ (rows : List (List Cell)). cells_written (above ++ rows) (length above) at cells ≡ above ++ written SPACE (tail_row rows) at cells ∷ []) (sym is) (ap (λ (rows : List (List Cell)). cells_written rows (length above) at cells) (append-nil above) ∙ cells_written_below above at cells)
 
 -- the same, of a grid that has these rows
-pub tail_put : (layout : SuggestionLayout) (shares : Bool) (above tail old new : List (List Cell)) (row at : ℕ) (cells : List Cell) → row ≡ length above → old ≡ above ++ tail → IsTail layout.decor layout.gutter shares tail → new ≡ cells_written old row at cells → new ≡ above ++ written SPACE (tail_row tail) at cells ∷ []
+pub tail_put : (layout : SuggestionLayout) (shares : Bool) (above tail old new : List (List Cell)) (row at : ℕ) (cells : List Cell)
+    → row ≡ length above → old ≡ above ++ tail → IsTail layout.decor layout.gutter shares tail → new ≡ cells_written old row at cells
+    → new ≡ above ++ written SPACE (tail_row tail) at cells ∷ []
 tail_put layout shares above tail old new row at cells here is tail_is writes =
     writes ∙ ap (λ r. cells_written old r at cells) here ∙ ap (λ (rows : List (List Cell)). cells_written rows (length above) at cells) is ∙ tail_written layout shares above tail at cells tail_is
 
@@ -93,7 +95,10 @@ begin_covers decor sign.Alone follows is = absurd (cc)
 begin_covers decor sign.Changed follows is = absurd (cc)
 begin_covers decor sign.Added follows is = absurd (cc)
 
-tail_stroke : (layout : SuggestionLayout) (shares : Bool) (glyph : SuggestionGlyph) (tail : List (List Cell)) → is_begin glyph ≡ true → IsTail layout.decor layout.gutter shares tail → IsStrokeRow layout.decor layout.gutter (beside_gutter layout.gutter (glyph_of layout.decor glyph)) (written SPACE (tail_row tail) (layout.gutter + 1) (text_cells LineNumber (glyph_of layout.decor glyph)))
+tail_stroke : (layout : SuggestionLayout) (shares : Bool) (glyph : SuggestionGlyph) (tail : List (List Cell)) → is_begin glyph ≡ true
+    → IsTail layout.decor layout.gutter shares tail
+    → IsStrokeRow layout.decor layout.gutter (beside_gutter layout.gutter (glyph_of layout.decor glyph))
+    (written SPACE (tail_row tail) (layout.gutter + 1) (text_cells LineNumber (glyph_of layout.decor glyph)))
 tail_stroke layout true glyph tail is shared =
     let Is : List (List Cell) → Type 0 = λ rs. IsStrokeRow layout.decor layout.gutter (beside_gutter layout.gutter (glyph_of layout.decor glyph)) (written SPACE (tail_row rs) (layout.gutter + 1) (text_cells LineNumber (glyph_of layout.decor glyph))) in
     subst Is (sym shared.2) (stroke_put layout.decor layout.gutter LineNumber glyph (end_glyph layout.decor shared.1) shared.0 (begin_other glyph is) (begin_covers layout.decor glyph shared.1 is) shared.3)
@@ -101,7 +106,11 @@ tail_stroke layout false glyph tail is none =
     let Is : List (List Cell) → Type 0 = λ rs. IsStrokeRow layout.decor layout.gutter (beside_gutter layout.gutter (glyph_of layout.decor glyph)) (written SPACE (tail_row rs) (layout.gutter + 1) (text_cells LineNumber (glyph_of layout.decor glyph))) in
     subst Is (sym none) (stroke_signed layout.decor layout.gutter LineNumber glyph (begin_other glyph is))
 
-pub glyph_added : (layout : SuggestionLayout) (shares : Bool) (glyph : SuggestionGlyph) (above tail old new : List (List Cell)) (row : ℕ) (text : List ℕ) → is_begin glyph ≡ true → chars text ≡ glyph_of layout.decor glyph → new ≡ cells_written old row (layout.gutter + 1) (text_cells LineNumber (chars text)) → row ≡ length above → old ≡ above ++ tail → IsTail layout.decor layout.gutter shares tail → AddsRow (IsStrokeRow layout.decor layout.gutter (beside_gutter layout.gutter (glyph_of layout.decor glyph))) above new
+pub glyph_added : (layout : SuggestionLayout) (shares : Bool) (glyph : SuggestionGlyph) (above tail old new : List (List Cell)) (row : ℕ)
+    (text : List ℕ) → is_begin glyph ≡ true → chars text ≡ glyph_of layout.decor glyph
+    → new ≡ cells_written old row (layout.gutter + 1) (text_cells LineNumber (chars text)) → row ≡ length above → old ≡ above ++ tail
+    → IsTail layout.decor layout.gutter shares tail
+    → AddsRow (IsStrokeRow layout.decor layout.gutter (beside_gutter layout.gutter (glyph_of layout.decor glyph))) above new
 glyph_added layout shares glyph above tail old new row text begins is writes here old_is tail_is =
     let cells = text_cells LineNumber (glyph_of layout.decor glyph) in
     record {
@@ -119,7 +128,10 @@ skipped_written rows skipped at cells =
     filled row = same_lists _ _ (unfold written in grind (arith, places)) (λ k d h. unfold written in grind (arith, places))
 
 -- a glyph was drawn there
-pub end_added : (layout : SuggestionLayout) (glyph : SuggestionGlyph) (skipped : ℕ) (old new : List (List Cell)) (row : ℕ) (text : List ℕ) → is_sign glyph ≡ false → chars text ≡ glyph_of layout.decor glyph → new ≡ cells_written old row (layout.gutter + 1) (text_cells LineNumber (chars text)) → row ≡ length old + skipped → AddsEnd layout (glyph_of layout.decor glyph) skipped old new
+pub end_added : (layout : SuggestionLayout) (glyph : SuggestionGlyph) (skipped : ℕ) (old new : List (List Cell)) (row : ℕ) (text : List ℕ)
+    → is_sign glyph ≡ false → chars text ≡ glyph_of layout.decor glyph
+    → new ≡ cells_written old row (layout.gutter + 1) (text_cells LineNumber (chars text)) → row ≡ length old + skipped
+    → AddsEnd layout (glyph_of layout.decor glyph) skipped old new
 end_added layout glyph skipped old new row text other is writes here =
     let cells = text_cells LineNumber (glyph_of layout.decor glyph) in
     record {
@@ -129,7 +141,10 @@ end_added layout glyph skipped old new row text other is writes here =
     }
 
 -- a number, which may have no bytes, and a glyph after it were put into it
-number_and_glyph : (layout : SuggestionLayout) (shares : Bool) (above tail old mid new : List (List Cell)) (r at : ℕ) (bytes : List ℕ) (cells sign : List Cell) → r ≡ length above → old ≡ above ++ tail → IsTail layout.decor layout.gutter shares tail → (0 < length bytes → mid ≡ cells_written old r 0 cells) → (bytes ≡ [] → mid ≡ old) → new ≡ cells_written mid r at sign → new ≡ above ++ written SPACE (texted bytes (tail_row tail) 0 cells) at sign ∷ []
+number_and_glyph : (layout : SuggestionLayout) (shares : Bool) (above tail old mid new : List (List Cell)) (r at : ℕ) (bytes : List ℕ)
+    (cells sign : List Cell) → r ≡ length above → old ≡ above ++ tail → IsTail layout.decor layout.gutter shares tail
+    → (0 < length bytes → mid ≡ cells_written old r 0 cells) → (bytes ≡ [] → mid ≡ old) → new ≡ cells_written mid r at sign
+    → new ≡ above ++ written SPACE (texted bytes (tail_row tail) 0 cells) at sign ∷ []
 number_and_glyph layout shares above tail old mid new r at [] cells sign here is tail_is writes stays signs =
     tail_put layout shares above tail old new r at sign here is tail_is (signs ∙ ap (λ (rows : List (List Cell)). cells_written rows r at sign) (stays refl))
 number_and_glyph layout shares above tail old mid new r at (b ∷ bs) cells sign here is tail_is writes stays signs =
@@ -148,7 +163,12 @@ number_within [] row cells same = omega (arith, ap length chars-nil)
 number_within (b ∷ bs) row cells same = omega (arith, same, length-written SPACE row 0 cells)
 
 -- a row of `- ` after the gutter and a text after that
-removed_row : (numbers : LineNumbers) (decor : DecorStyle) (gutter : ℕ) (role : ElementStyle) (led : List Cell) (number text : List ℕ) → row_text (take (length number) led) ≡ number → length number ≤ length led → ((c : ℕ) → c < gutter + 3 → IsBeforeSign numbers decor (slice_index_or led c SPACE).ch) → ((c : ℕ) → gutter + 3 ≤ c → IsLeftOver decor (slice_index_or led c SPACE).ch) → IsFree led → All (λ ch. is_listed ch ≡ false) (chars text) → IsRemovedRow numbers decor gutter number (chars text) (texted text (written SPACE led (gutter + 1) (text_cells Removal (45 ∷ 32 ∷ []))) (gutter + 3) (text_cells role (chars text)))
+removed_row : (numbers : LineNumbers) (decor : DecorStyle) (gutter : ℕ) (role : ElementStyle) (led : List Cell) (number text : List ℕ)
+    → row_text (take (length number) led) ≡ number → length number ≤ length led
+    → ((c : ℕ) → c < gutter + 3 → IsBeforeSign numbers decor (slice_index_or led c SPACE).ch)
+    → ((c : ℕ) → gutter + 3 ≤ c → IsLeftOver decor (slice_index_or led c SPACE).ch) → IsFree led → All (λ ch. is_listed ch ≡ false) (chars text)
+    → IsRemovedRow numbers decor gutter number (chars text)
+    (texted text (written SPACE led (gutter + 1) (text_cells Removal (45 ∷ 32 ∷ []))) (gutter + 3) (text_cells role (chars text)))
 removed_row numbers decor gutter role led number text begins within before left free_led free_text =
     let P : Cell → Type 0 = IsFreeCell in
     let glyph = text_cells Removal (45 ∷ 32 ∷ []) in
@@ -172,7 +192,14 @@ removed_row numbers decor gutter role led number text begins within before left 
     }
 
 -- a line that is removed was drawn into it
-pub removed_added : (layout : SuggestionLayout) (shares : Bool) (role : ElementStyle) (above tail old mid signed new : List (List Cell)) (r : ℕ) (number sign text : List ℕ) → chars sign ≡ 45 ∷ 32 ∷ [] → All (λ ch. is_listed ch ≡ false) (chars number) → All (IsBeforeSign layout.numbers layout.decor) (chars number) → StaysLeft layout.decor layout.gutter (chars number) → All (λ ch. is_listed ch ≡ false) (chars text) → (0 < length number → mid ≡ cells_written old r 0 (text_cells LineNumber (chars number))) → (number ≡ [] → mid ≡ old) → signed ≡ cells_written mid r (layout.gutter + 1) (text_cells Removal (chars sign)) → (0 < length text → new ≡ cells_written signed r (layout.gutter + 3) (text_cells role (chars text))) → (text ≡ [] → new ≡ signed) → r ≡ length above → old ≡ above ++ tail → IsTail layout.decor layout.gutter shares tail → AddsRow (IsRemovedRow layout.numbers layout.decor layout.gutter (chars number) (chars text)) above new
+pub removed_added : (layout : SuggestionLayout) (shares : Bool) (role : ElementStyle) (above tail old mid signed new : List (List Cell)) (r : ℕ)
+    (number sign text : List ℕ) → chars sign ≡ 45 ∷ 32 ∷ [] → All (λ ch. is_listed ch ≡ false) (chars number)
+    → All (IsBeforeSign layout.numbers layout.decor) (chars number) → StaysLeft layout.decor layout.gutter (chars number)
+    → All (λ ch. is_listed ch ≡ false) (chars text) → (0 < length number → mid ≡ cells_written old r 0 (text_cells LineNumber (chars number)))
+    → (number ≡ [] → mid ≡ old) → signed ≡ cells_written mid r (layout.gutter + 1) (text_cells Removal (chars sign))
+    → (0 < length text → new ≡ cells_written signed r (layout.gutter + 3) (text_cells role (chars text))) → (text ≡ [] → new ≡ signed)
+    → r ≡ length above → old ≡ above ++ tail → IsTail layout.decor layout.gutter shares tail
+    → AddsRow (IsRemovedRow layout.numbers layout.decor layout.gutter (chars number) (chars text)) above new
 removed_added layout shares role above tail old mid signed new r number sign text minus free_number before_number left_number free_text numbers no_number signs texts no_text here old_is tail_is =
     let g = layout.gutter in
     let led = texted number (tail_row tail) 0 (text_cells LineNumber (chars number)) in
@@ -183,5 +210,8 @@ removed_added layout shares role above tail old mid signed new r number sign tex
     record {
       row = texted text row (g + 3) (text_cells role (chars text));
       added = text_put above signed new row r (g + 3) text (text_cells role (chars text)) begun here texts no_text;
-      is = removed_row layout.numbers layout.decor g role led (chars number) text (begins_texted number (tail_row tail) LineNumber) (number_within number (tail_row tail) (text_cells LineNumber (chars number)) (length-text_cells LineNumber (chars number))) (before_sign layout.numbers layout.decor g number (tail_row tail) before_number (tail_bare layout shares tail tail_is).strokes) (left_over layout.decor g number (tail_row tail) left_number (tail_bare layout shares tail tail_is).marks) free_led free_text;
+      is = removed_row layout.numbers layout.decor g role led (chars number) text (begins_texted number (tail_row tail) LineNumber)
+          (number_within number (tail_row tail) (text_cells LineNumber (chars number)) (length-text_cells LineNumber (chars number)))
+          (before_sign layout.numbers layout.decor g number (tail_row tail) before_number (tail_bare layout shares tail tail_is).strokes)
+          (left_over layout.decor g number (tail_row tail) left_number (tail_bare layout shares tail tail_is).marks) free_led free_text;
     }

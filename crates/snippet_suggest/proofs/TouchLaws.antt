@@ -83,7 +83,9 @@ none-left-out kind folds ranges lines last none =
     ap (λ b. if b then [] else numbers_shown (shown_lines (is_touched folds ranges) (length lines))) none
 
 -- where the line of a text is left out, it is blank or the text is as it was
-one-left-out : (s : Snippet Patch) → HaveSpans s → AreDisjoint (edits_of s) → s.markers.items ≢ [] → IsOfferable s → 0 < length (given_lines s) → is_left_out (shown_kind s) (given_lines s) (last_reached s) ≡ true → (length (given_lines s) ≤ 1) × ((is_blank (get_or (given_lines s) 0 []) ≡ true) ⊎ IsAsItWas s)
+one-left-out : (s : Snippet Patch) → HaveSpans s → AreDisjoint (edits_of s) → s.markers.items ≢ [] → IsOfferable s → 0 < length (given_lines s)
+    → is_left_out (shown_kind s) (given_lines s) (last_reached s) ≡ true
+    → (length (given_lines s) ≤ 1) × ((is_blank (get_or (given_lines s) 0 []) ≡ true) ⊎ IsAsItWas s)
 one-left-out s spans disjoint some offerable first is =
     let source : List ℕ = cow_str_bytes s.source in
     let why = left-out (shown_kind s) (given_lines s) (last_reached s) is in

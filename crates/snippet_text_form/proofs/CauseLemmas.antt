@@ -104,24 +104,36 @@ place-added old one two three indent place first second third =
     joined = simp (append_assoc, map-append)
 
 -- a span at its place
-placed : (anonymized : Bool) (source : Source) (indent : List ℕ) (path : Option (List ℕ)) (a : Annotation) (at : Loc × Loc) (old : List FormPiece) → at ≡ locations_of source a.span.start a.span.end → old ++ Break ∷ bare ((indent ++ span_place anonymized source path at.0 at.1) ++ after_place (label_of a)) ≡ old ++ span_form anonymized source indent path a
+placed : (anonymized : Bool) (source : Source) (indent : List ℕ) (path : Option (List ℕ)) (a : Annotation) (at : Loc × Loc) (old : List FormPiece)
+    → at ≡ locations_of source a.span.start a.span.end
+    → old ++ Break ∷ bare ((indent ++ span_place anonymized source path at.0 at.1) ++ after_place (label_of a))
+    ≡ old ++ span_form anonymized source indent path a
 placed anonymized source indent path a at old is =
     ap (λ (p : Loc × Loc). old ++ Break ∷ bare ((indent ++ span_place anonymized source path p.0 p.1) ++ after_place (label_of a))) is
 
 -- a span without a label
-pub span-plain : (anonymized : Bool) (source : Source) (indent : List ℕ) (path : Option (List ℕ)) (a : Annotation) (at : Loc × Loc) (old one two three : List FormPiece) → at ≡ locations_of source a.span.start a.span.end → one ≡ old ++ Break ∷ [] → two ≡ one ++ bare indent → three ≡ two ++ bare (span_place anonymized source path at.0 at.1) → has_label a ≡ false → three ≡ old ++ span_form anonymized source indent path a
+pub span-plain : (anonymized : Bool) (source : Source) (indent : List ℕ) (path : Option (List ℕ)) (a : Annotation) (at : Loc × Loc)
+    (old one two three : List FormPiece) → at ≡ locations_of source a.span.start a.span.end → one ≡ old ++ Break ∷ [] → two ≡ one ++ bare indent
+    → three ≡ two ++ bare (span_place anonymized source path at.0 at.1) → has_label a ≡ false
+    → three ≡ old ++ span_form anonymized source indent path a
 span-plain anonymized source indent path a at old one two three is first second third none =
     let front : List ℕ = indent ++ span_place anonymized source path at.0 at.1 in
     let same : front ++ after_place (label_of a) ≡ front = ap (λ l. front ++ l) (cond-false (has_label a) (codes ": " ++ label_of a) [] none) ∙ append-nil front in
     place-added old one two three indent (span_place anonymized source path at.0 at.1) first second third ∙ ap (λ l. old ++ Break ∷ bare l) (sym same) ∙ placed anonymized source indent path a at old is
 
 -- a span with a label
-pub span-labelled : (anonymized : Bool) (source : Source) (indent : List ℕ) (path : Option (List ℕ)) (a : Annotation) (at : Loc × Loc) (old one two three four five : List FormPiece) → at ≡ locations_of source a.span.start a.span.end → one ≡ old ++ Break ∷ [] → two ≡ one ++ bare indent → three ≡ two ++ bare (span_place anonymized source path at.0 at.1) → four ≡ three ++ bare (codes ": ") → five ≡ four ++ bare (label_of a) → has_label a ≡ true → five ≡ old ++ span_form anonymized source indent path a
+pub span-labelled : (anonymized : Bool) (source : Source) (indent : List ℕ) (path : Option (List ℕ)) (a : Annotation) (at : Loc × Loc)
+    (old one two three four five : List FormPiece) → at ≡ locations_of source a.span.start a.span.end → one ≡ old ++ Break ∷ []
+    → two ≡ one ++ bare indent → three ≡ two ++ bare (span_place anonymized source path at.0 at.1) → four ≡ three ++ bare (codes ": ")
+    → five ≡ four ++ bare (label_of a) → has_label a ≡ true → five ≡ old ++ span_form anonymized source indent path a
 span-labelled anonymized source indent path a at old one two three four five is first second third fourth fifth some =
     let front : List ℕ = indent ++ span_place anonymized source path at.0 at.1 in
     let label : List ℕ = label_of a in
     let after : codes ": " ++ label ≡ after_place label = sym (cond-true (has_label a) (codes ": " ++ label) [] some) in
-    fifth ∙ ap (λ l. l ++ bare label) (fourth ∙ ap (λ l. l ++ bare (codes ": ")) (place-added old one two three indent (span_place anonymized source path at.0 at.1) first second third)) ∙ joined front (codes ": ") label ∙ ap (λ l. old ++ Break ∷ bare (front ++ l)) after ∙ placed anonymized source indent path a at old is
+    fifth ∙ ap (λ l. l ++ bare label)
+    (fourth ∙ ap (λ l. l ++ bare (codes ": "))
+    (place-added old one two three indent (span_place anonymized source path at.0 at.1) first second third)) ∙ joined front (codes ": ") label
+    ∙ ap (λ l. old ++ Break ∷ bare (front ++ l)) after ∙ placed anonymized source indent path a at old is
   where
     joined : (front colon label : List ℕ) → ((old ++ Break ∷ bare front) ++ bare colon) ++ bare label ≡ old ++ Break ∷ bare (front ++ (colon ++ label))
     joined front colon label = simp (append_assoc, map-append)
@@ -137,19 +149,29 @@ further-one form old new a some added =
     added ∙ ap (λ l. old ++ l) (sym (ap (flat_map form) (cond-true (has_label a) (a ∷ []) [] some) ∙ append-nil (form a)))
 
 -- the first span and those after it
-pub spans-added : (anonymized : Bool) (source : Source) (path : Option (List ℕ)) (old one new : List FormPiece) (spans others so_far : List NamedSpan) (first : NamedSpan) (indent : List ℕ) → spans ≡ first ∷ others → one ≡ old ++ span_form anonymized source (codes " ") path (annotation_of first) → indent ≡ further_indent path → so_far ≡ others → new ≡ one ++ flat_map (span_form anonymized source indent None) (filter has_label (map annotation_of so_far)) → new ≡ old ++ spans_form anonymized source path (map annotation_of spans)
+pub spans-added : (anonymized : Bool) (source : Source) (path : Option (List ℕ)) (old one new : List FormPiece) (spans others so_far : List NamedSpan)
+    (first : NamedSpan) (indent : List ℕ) → spans ≡ first ∷ others → one ≡ old ++ span_form anonymized source (codes " ") path (annotation_of first)
+    → indent ≡ further_indent path → so_far ≡ others
+    → new ≡ one ++ flat_map (span_form anonymized source indent None) (filter has_label (map annotation_of so_far))
+    → new ≡ old ++ spans_form anonymized source path (map annotation_of spans)
 spans-added anonymized source path old one new spans others so_far first indent parts begun by all added =
     let more : List NamedSpan → List ℕ → List FormPiece = λ ss i. flat_map (span_form anonymized source i None) (filter has_label (map annotation_of ss)) in
     let form : List FormPiece = span_form anonymized source (codes " ") path (annotation_of first) in
-    added ∙ ap (λ i. one ++ more so_far i) by ∙ ap (λ ss. one ++ more ss (further_indent path)) all ∙ ap (λ l. l ++ more others (further_indent path)) begun ∙ append_assoc old form (more others (further_indent path)) ∙ ap (λ ss. old ++ spans_form anonymized source path (map annotation_of ss)) (sym parts)
+    added ∙ ap (λ i. one ++ more so_far i) by ∙ ap (λ ss. one ++ more ss (further_indent path)) all
+    ∙ ap (λ l. l ++ more others (further_indent path)) begun ∙ append_assoc old form (more others (further_indent path))
+    ∙ ap (λ ss. old ++ spans_form anonymized source path (map annotation_of ss)) (sym parts)
 
 -- without spans the place where the source begins
-pub no_span-added : (anonymized : Bool) (source : Source) (path : Option (List ℕ)) (old one two three : List FormPiece) (spans : List NamedSpan) (line : ℕ) → line ≡ source.first → one ≡ old ++ Break ∷ [] → two ≡ one ++ bare (codes " ") → three ≡ two ++ bare (place anonymized path line None) → spans ≡ [] → three ≡ old ++ spans_form anonymized source path (map annotation_of spans)
+pub no_span-added : (anonymized : Bool) (source : Source) (path : Option (List ℕ)) (old one two three : List FormPiece) (spans : List NamedSpan)
+    (line : ℕ) → line ≡ source.first → one ≡ old ++ Break ∷ [] → two ≡ one ++ bare (codes " ") → three ≡ two ++ bare (place anonymized path line None)
+    → spans ≡ [] → three ≡ old ++ spans_form anonymized source path (map annotation_of spans)
 no_span-added anonymized source path old one two three spans line number first second third none =
     place-added old one two three (codes " ") (place anonymized path line None) first second third ∙ ap (λ n. old ++ Break ∷ bare (codes " " ++ place anonymized path n None)) number ∙ ap (λ ss. old ++ spans_form anonymized source path (map annotation_of ss)) (sym none)
 
 -- the whole snippet
-pub cause-added : (anonymized : Bool) (source : Source) (path : Option (List ℕ)) (spans : List Annotation) (s : Snippet Annotation) (old new : List FormPiece) → source ≡ source_of s → path ≡ option_map cow_str_bytes s.path → spans ≡ named_spans s.markers.items → new ≡ old ++ spans_form anonymized source path spans → new ≡ old ++ cause_form anonymized s
+pub cause-added : (anonymized : Bool) (source : Source) (path : Option (List ℕ)) (spans : List Annotation) (s : Snippet Annotation)
+    (old new : List FormPiece) → source ≡ source_of s → path ≡ option_map cow_str_bytes s.path → spans ≡ named_spans s.markers.items
+    → new ≡ old ++ spans_form anonymized source path spans → new ≡ old ++ cause_form anonymized s
 unfolding cause_form
 cause-added anonymized source path spans s old new its by are added =
     added ∙ ap (λ (given : Source). old ++ spans_form anonymized given path spans) its ∙ ap (λ p. old ++ spans_form anonymized (source_of s) p spans) by ∙ ap (λ marks. old ++ spans_form anonymized (source_of s) (option_map cow_str_bytes s.path) marks) are

@@ -110,7 +110,11 @@ empty_id = refl
 abbrev escape : List ℕ → List ℕ
 escape code = 27 ∷ code
 
-coloured : form_bytes default_sheet (heading_form true Title (heading Help Standard (Some (record { id = Some (text_of (codes "E1")); url = Some (text_of (codes "u")) })) [])) ≡ escape (codes "[1m") ++ escape (codes "[96m") ++ codes "help" ++ escape (codes "[0m") ++ codes " " ++ escape (codes "[1m") ++ escape (codes "[96m") ++ link_start ++ codes "u" ++ link_stop ++ codes "E1" ++ link_start ++ link_stop ++ escape (codes "[0m") ++ escape (codes "[1m") ++ codes ": " ++ escape (codes "[0m") ++ escape (codes "[1m") ++ escape (codes "[0m")
+coloured : form_bytes default_sheet
+    (heading_form true Title (heading Help Standard (Some (record { id = Some (text_of (codes "E1")); url = Some (text_of (codes "u")) })) []))
+    ≡ escape (codes "[1m") ++ escape (codes "[96m") ++ codes "help" ++ escape (codes "[0m") ++ codes " " ++ escape (codes "[1m")
+    ++ escape (codes "[96m") ++ link_start ++ codes "u" ++ link_stop ++ codes "E1" ++ link_start ++ link_stop ++ escape (codes "[0m")
+    ++ escape (codes "[1m") ++ codes ": " ++ escape (codes "[0m") ++ escape (codes "[1m") ++ escape (codes "[0m")
 unfolding heading_form norm chars digits lib.Utf8.encode
 coloured = refl
 

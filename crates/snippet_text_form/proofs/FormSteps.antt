@@ -63,16 +63,24 @@ text-chars (c ∷ cs) ps =
     ap (λ (bs : List ℕ). encode_utf8 c ++ bs) (text-chars cs ps) ∙ sym (append_assoc (encode_utf8 c) (encode_utf8_all cs) (flat_map piece_text ps))
 
 -- the bytes of a text in a style
-text-in_style : (style : Style) (link : Option (List ℕ)) (cs : List ℕ) → flat_map piece_text (in_style style link cs) ≡ encode_utf8_all (opening style) ++ (flat_map piece_text (link_codes_before link) ++ (encode_utf8_all cs ++ (flat_map piece_text (link_codes_after link) ++ encode_utf8_all (reset style))))
+text-in_style : (style : Style) (link : Option (List ℕ)) (cs : List ℕ)
+    → flat_map piece_text (in_style style link cs) ≡ encode_utf8_all (opening style)
+    ++ (flat_map piece_text (link_codes_before link)
+    ++ (encode_utf8_all cs ++ (flat_map piece_text (link_codes_after link) ++ encode_utf8_all (reset style))))
 text-in_style style link cs =
     let before : List Piece = link_codes_before link in
     let after : List Piece = link_codes_after link in
     let whole = sym (append-nil (in_style style link cs)) ∙ in_style-pieces style link cs [] in
     let last : flat_map piece_text (after ++ Reset style ∷ []) ≡ flat_map piece_text after ++ encode_utf8_all (reset style) = flat_map-append piece_text after (Reset style ∷ []) ∙ ap (λ (bs : List ℕ). flat_map piece_text after ++ bs) (append-nil (encode_utf8_all (reset style))) in
-    ap (flat_map piece_text) whole ∙ ap (λ (bs : List ℕ). encode_utf8_all (opening style) ++ bs) (flat_map-append piece_text before (woven_chars cs ++ (after ++ Reset style ∷ [])) ∙ ap (λ (bs : List ℕ). flat_map piece_text before ++ bs) (text-chars cs (after ++ Reset style ∷ []) ∙ ap (λ (bs : List ℕ). encode_utf8_all cs ++ bs) last))
+    ap (flat_map piece_text) whole ∙ ap (λ (bs : List ℕ). encode_utf8_all (opening style) ++ bs)
+    (flat_map-append piece_text before (woven_chars cs ++ (after ++ Reset style ∷ [])) ∙ ap (λ (bs : List ℕ). flat_map piece_text before
+    ++ bs) (text-chars cs (after ++ Reset style ∷ []) ∙ ap (λ (bs : List ℕ). encode_utf8_all cs ++ bs) last))
 
 -- a text that grew by each of these in turn
-pub styled_added : (style : Style) (link : Option (List ℕ)) (bytes : List ℕ) (old one two three four new : List ℕ) → IsUtf8 bytes → one ≡ old ++ encode_utf8_all (opening style) → two ≡ one ++ flat_map piece_text (link_codes_before link) → three ≡ two ++ bytes → four ≡ three ++ flat_map piece_text (link_codes_after link) → new ≡ four ++ encode_utf8_all (reset style) → new ≡ old ++ flat_map piece_text (in_style style link (chars bytes))
+pub styled_added : (style : Style) (link : Option (List ℕ)) (bytes : List ℕ) (old one two three four new : List ℕ) → IsUtf8 bytes
+    → one ≡ old ++ encode_utf8_all (opening style) → two ≡ one ++ flat_map piece_text (link_codes_before link) → three ≡ two ++ bytes
+    → four ≡ three ++ flat_map piece_text (link_codes_after link) → new ≡ four ++ encode_utf8_all (reset style)
+    → new ≡ old ++ flat_map piece_text (in_style style link (chars bytes))
 styled_added style link bytes old one two three four new utf8 first second third fourth fifth =
     let before : List ℕ = flat_map piece_text (link_codes_before link) in
     let after : List ℕ = flat_map piece_text (link_codes_after link) in
@@ -181,18 +189,26 @@ pub record IsRendered (sheet : Stylesheet) (parts : List TextPart) (text : List 
 pub IsRendered-none : (sheet : Stylesheet) (text : List ℕ) → text ≡ [] → IsRendered sheet [] text false
 IsRendered-none sheet text none = record { text_is = none; begun_is = refl }
 
-rendered-push : (sheet : Stylesheet) (parts : List TextPart) (part : TextPart) (old new : List ℕ) (begun after : Bool) → IsRendered sheet parts old begun → new ≡ old ++ flat_map piece_text (woven_from sheet begun (pieces_of part)) → after ≡ (begun || begun_after false (plain_from false (pieces_of part))) → IsRendered sheet (parts ++ part ∷ []) new after
+rendered-push : (sheet : Stylesheet) (parts : List TextPart) (part : TextPart) (old new : List ℕ) (begun after : Bool)
+    → IsRendered sheet parts old begun → new ≡ old ++ flat_map piece_text (woven_from sheet begun (pieces_of part))
+    → after ≡ (begun || begun_after false (plain_from false (pieces_of part))) → IsRendered sheet (parts ++ part ∷ []) new after
 rendered-push sheet parts part old new begun after rendered added is =
     let front : List FormPiece = flat_map pieces_of parts in
     let own : List FormPiece = pieces_of part in
     let split : flat_map pieces_of (parts ++ part ∷ []) ≡ front ++ own = flat_map-append pieces_of parts (part ∷ []) ∙ ap (λ (ps : List FormPiece). front ++ ps) (append-nil own) in
     record {
-      text_is = added ∙ ap (λ (bs : List ℕ). bs ++ flat_map piece_text (woven_from sheet begun own)) rendered.text_is ∙ ap (λ (b : Bool). form_bytes sheet front ++ flat_map piece_text (woven_from sheet b own)) rendered.begun_is ∙ sym (flat_map-append piece_text (woven_from sheet false front) (woven_from sheet (begun_past false front) own)) ∙ ap (flat_map piece_text) (sym (woven-append sheet false front own)) ∙ ap (form_bytes sheet) (sym split);
+      text_is = added ∙ ap (λ (bs : List ℕ). bs ++ flat_map piece_text (woven_from sheet begun own)) rendered.text_is
+          ∙ ap (λ (b : Bool). form_bytes sheet front ++ flat_map piece_text (woven_from sheet b own)) rendered.begun_is
+          ∙ sym (flat_map-append piece_text (woven_from sheet false front) (woven_from sheet (begun_past false front) own))
+          ∙ ap (flat_map piece_text) (sym (woven-append sheet false front own)) ∙ ap (form_bytes sheet) (sym split);
       begun_is = is ∙ sym (begun_past-is begun own) ∙ ap (λ (b : Bool). begun_past b own) rendered.begun_is ∙ sym (begun_past-append false front own) ∙ ap (begun_past false) (sym split);
     }
 
 -- one part more of a list
-pub IsRendered-more : (sheet : Stylesheet) (parts : List TextPart) (i : ℕ) (part : TextPart) (old new : List ℕ) (begun after : Bool) → i < length parts → part ≡ get_or parts i part → IsRendered sheet (take i parts) old begun → new ≡ old ++ flat_map piece_text (woven_from sheet begun (pieces_of part)) → after ≡ (begun || begun_after false (plain_from false (pieces_of part))) → IsRendered sheet (take (i + 1) parts) new after
+pub IsRendered-more : (sheet : Stylesheet) (parts : List TextPart) (i : ℕ) (part : TextPart) (old new : List ℕ) (begun after : Bool)
+    → i < length parts → part ≡ get_or parts i part → IsRendered sheet (take i parts) old begun
+    → new ≡ old ++ flat_map piece_text (woven_from sheet begun (pieces_of part))
+    → after ≡ (begun || begun_after false (plain_from false (pieces_of part))) → IsRendered sheet (take (i + 1) parts) new after
 IsRendered-more sheet parts i part old new begun after within read rendered added is =
     let more : take (i + 1) parts ≡ take i parts ++ part ∷ [] = take_more parts i part within ∙ ap (λ (p : TextPart). take i parts ++ p ∷ []) (sym read) in
     subst (λ (ps : List TextPart). IsRendered sheet ps new after) (sym more) (rendered-push sheet (take i parts) part old new begun after rendered added is)

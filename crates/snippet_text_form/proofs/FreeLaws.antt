@@ -126,7 +126,10 @@ end_in_file-free anonymized start end = of_lines (start.line == end.line)
 
     text-free : AreFree text
     text-free =
-        free-append (codes " to " ++ line_name anonymized end.line ++ codes ":") (decimal (end.char + 1)) (free-append (codes " to " ++ line_name anonymized end.line) (codes ":") (free-append (codes " to ") (line_name anonymized end.line) (each-fails is_listed (codes " to ") refl) (line_name-free anonymized end.line)) (each-fails is_listed (codes ":") refl)) (decimal-free (end.char + 1))
+        free-append (codes " to " ++ line_name anonymized end.line ++ codes ":") (decimal (end.char + 1))
+        (free-append (codes " to " ++ line_name anonymized end.line) (codes ":")
+        (free-append (codes " to ") (line_name anonymized end.line) (each-fails is_listed (codes " to ") refl)
+        (line_name-free anonymized end.line)) (each-fails is_listed (codes ":") refl)) (decimal-free (end.char + 1))
 
     of_lines : (same : Bool) → AreFree (if same then [] else text)
     of_lines true = All-nil IsUnlisted
@@ -193,7 +196,10 @@ spans-free anonymized source path (a ∷ marks) =
     let indent : List ℕ = further_indent path in
     let further : Annotation → List FormPiece = span_form anonymized source indent None in
     let one : FormIsFree (span_form anonymized source (codes " ") path a) = line-free (span_text anonymized source (codes " ") path a) (span_text-free anonymized source (codes " ") path a (each-fails is_listed (codes " ") refl)) in
-    each-append IsUnlisted refl (span_form anonymized source (codes " ") path a) (flat_map further (filter has_label marks)) one (each-flat_map IsUnlisted refl further (λ b. line-free (span_text anonymized source indent None b) (span_text-free anonymized source indent None b (further_indent-free path))) (filter has_label marks))
+    each-append IsUnlisted refl (span_form anonymized source (codes " ") path a) (flat_map further (filter has_label marks))
+    one (each-flat_map IsUnlisted refl further
+    (λ b. line-free (span_text anonymized source indent None b) (span_text-free anonymized source indent None b (further_indent-free path)))
+    (filter has_label marks))
 
 -- a cause holds none
 pub cause-free : (begun anonymized : Bool) (s : Snippet Annotation) → All (λ c. is_listed c ≡ false) (plain_from begun (cause_form anonymized s))
@@ -218,7 +224,10 @@ replaced_to-free anonymized start end = of_lines (start.line == end.line)
     of_lines true =
         free-append (codes " to column ") column (each-fails is_listed (codes " to column ") refl) (decimal-free (end.char + 1))
     of_lines false =
-        free-append (codes " to line " ++ line_name anonymized end.line ++ codes ", column ") column (free-append (codes " to line " ++ line_name anonymized end.line) (codes ", column ") (free-append (codes " to line ") (line_name anonymized end.line) (each-fails is_listed (codes " to line ") refl) (line_name-free anonymized end.line)) (each-fails is_listed (codes ", column ") refl)) (decimal-free (end.char + 1))
+        free-append (codes " to line " ++ line_name anonymized end.line ++ codes ", column ")
+        column (free-append (codes " to line " ++ line_name anonymized end.line) (codes ", column ")
+        (free-append (codes " to line ") (line_name anonymized end.line) (each-fails is_listed (codes " to line ") refl)
+        (line_name-free anonymized end.line)) (each-fails is_listed (codes ", column ") refl)) (decimal-free (end.char + 1))
 
 edit_place-free : (anonymized : Bool) (source : Source) (path : Option (List ℕ)) (e : Edit) (start end : Loc) → AreFree (edit_place anonymized source path e start end)
 edit_place-free anonymized source path e start end = of_kind (replaces source.text e)

@@ -41,10 +41,17 @@ link-known true bytes own text address given utf8 same is spelled none some =
 link-known false bytes own text address given utf8 same is spelled none some =
     some refl ∙ ap (λ (b : Bool). if b then address else None) (begun-chars false bytes own utf8 same is ∙ ap (λ (cs : List ℕ). nat_lt 0 (length cs)) spelled)
 
-pub id-added : {T E : Type 0} (r : Result T E) (old one new : List FormPiece) (hyperlink hidden : Bool) (role : ElementStyle) (id : Id) (text before shown : List ℕ) (address : Option (List ℕ)) → option_map cow_str_bytes id.id ≡ Some text → before ≡ before_id hidden → shown ≡ norm (chars text) → address ≡ link_for (address_of hyperlink id) (norm (chars text)) → one ≡ old ++ bare before → OnOk r (new ≡ one ++ Styled role address shown ∷ []) → OnOk r (new ≡ old ++ id_form hyperlink hidden role (Some id))
+pub id-added : {T E : Type 0} (r : Result T E) (old one new : List FormPiece) (hyperlink hidden : Bool) (role : ElementStyle) (id : Id)
+    (text before shown : List ℕ) (address : Option (List ℕ)) → option_map cow_str_bytes id.id ≡ Some text → before ≡ before_id hidden
+    → shown ≡ norm (chars text) → address ≡ link_for (address_of hyperlink id) (norm (chars text)) → one ≡ old ++ bare before
+    → OnOk r (new ≡ one ++ Styled role address shown ∷ []) → OnOk r (new ≡ old ++ id_form hyperlink hidden role (Some id))
 id-added r old one new hyperlink hidden role id text before shown address is led shows known first second =
     let own : List ℕ = norm (chars text) in
-    let parts : bare before ++ Styled role address shown ∷ [] ≡ id_form hyperlink hidden role (Some id) = ap (λ (cs : List ℕ). bare cs ++ Styled role address shown ∷ []) led ∙ ap (λ (cs : List ℕ). bare (before_id hidden) ++ Styled role address cs ∷ []) shows ∙ ap (λ (a : Option (List ℕ)). bare (before_id hidden) ++ Styled role a own ∷ []) known ∙ ap (id_text_form hidden role (address_of hyperlink id)) (sym is) in
+    let parts : bare before ++ Styled role address shown ∷ [] ≡ id_form hyperlink hidden role (Some id) =
+    ap (λ (cs : List ℕ). bare cs ++ Styled role address shown ∷ []) led
+    ∙ ap (λ (cs : List ℕ). bare (before_id hidden) ++ Styled role address cs ∷ []) shows
+    ∙ ap (λ (a : Option (List ℕ)). bare (before_id hidden) ++ Styled role a own ∷ []) known
+    ∙ ap (id_text_form hidden role (address_of hyperlink id)) (sym is) in
     subst (λ (ps : List FormPiece). OnOk r (new ≡ old ++ ps)) parts (added-two-on_ok r old one new (bare before) (Styled role address shown ∷ []) first second)
 
 -- ---- the columns
@@ -67,7 +74,13 @@ width_of-shown_if : (hidden : Bool) (name : List ℕ) → (if hidden then 0 else
 width_of-shown_if true name = refl
 width_of-shown_if false name = refl
 
-pub label-width : (kind : HeadingKind) (known level : Level) (hidden : Bool) (owned id set : Option Id) (name shown colon : ℕ) (colons : List ℕ) → level ≡ known → hidden ≡ is_hidden known.name → id ≡ owned → set ≡ owned → name ≡ (if is_hidden level.name then 0 else width_of (before_name kind ++ norm (chars (name_of level)))) → shown ≡ width_of (label_of_id hidden id) → colons ≡ colon_of hidden set → colon ≡ width_of colons → name + shown + colon ≡ width_of ((if is_hidden known.name then [] else before_name kind ++ norm (chars (name_of known))) ++ (label_of_id (is_hidden known.name) owned ++ colon_of (is_hidden known.name) owned))
+pub label-width : (kind : HeadingKind) (known level : Level) (hidden : Bool) (owned id set : Option Id) (name shown colon : ℕ) (colons : List ℕ)
+    → level ≡ known → hidden ≡ is_hidden known.name → id ≡ owned → set ≡ owned
+    → name ≡ (if is_hidden level.name then 0 else width_of (before_name kind ++ norm (chars (name_of level))))
+    → shown ≡ width_of (label_of_id hidden id) → colons ≡ colon_of hidden set → colon ≡ width_of colons
+    → name + shown + colon ≡ width_of
+    ((if is_hidden known.name then [] else before_name kind ++ norm (chars (name_of known)))
+    ++ (label_of_id (is_hidden known.name) owned ++ colon_of (is_hidden known.name) owned))
 label-width kind known level hidden owned id set name shown colon colons leveled hides own is_set named identified spelled measured =
     let h : Bool = is_hidden known.name in
     let front : List ℕ = if h then [] else before_name kind ++ norm (chars (name_of known)) in
@@ -78,11 +91,19 @@ label-width kind known level hidden owned id set name shown colon colons leveled
 
 -- ---- the whole heading
 
-pub heading-added : {T E : Type 0} (r : Result T E) (old one two new : List FormPiece) (hyperlink : Bool) (kind : HeadingKind) (heading : Heading) (level : Level) (trusted : Bool) (roles : HeadingRoles) (width : ℕ) → level ≡ heading.level → trusted ≡ heading.allows_styling → roles ≡ roles_of kind level.kind trusted → width ≡ width_of (label_text kind heading) → one ≡ old ++ Break ∷ [] → two ≡ one ++ label_form hyperlink kind roles heading → OnOk r (new ≡ two ++ lines_form roles.text width (heading_lines heading)) → OnOk r (new ≡ old ++ heading_form hyperlink kind heading)
+pub heading-added : {T E : Type 0} (r : Result T E) (old one two new : List FormPiece) (hyperlink : Bool) (kind : HeadingKind) (heading : Heading)
+    (level : Level) (trusted : Bool) (roles : HeadingRoles) (width : ℕ) → level ≡ heading.level → trusted ≡ heading.allows_styling
+    → roles ≡ roles_of kind level.kind trusted → width ≡ width_of (label_text kind heading) → one ≡ old ++ Break ∷ []
+    → two ≡ one ++ label_form hyperlink kind roles heading → OnOk r (new ≡ two ++ lines_form roles.text width (heading_lines heading))
+    → OnOk r (new ≡ old ++ heading_form hyperlink kind heading)
 unfolding heading_form
 heading-added r old one two new hyperlink kind heading level trusted roles width leveled trusts are wide first second third =
     let label : List FormPiece = label_form hyperlink kind roles heading in
     let lines : List FormPiece = lines_form roles.text width (heading_lines heading) in
     let known : roles ≡ roles_of kind heading.level.kind heading.allows_styling = are ∙ ap (λ (l : Level). roles_of kind l.kind trusted) leveled ∙ ap (roles_of kind heading.level.kind) trusts in
-    let parts : old ++ (Break ∷ (label ++ lines)) ≡ old ++ heading_form hyperlink kind heading = ap (λ (rs : HeadingRoles). old ++ (Break ∷ (label_form hyperlink kind rs heading ++ lines_form rs.text width (heading_lines heading)))) known ∙ ap (λ n. old ++ (Break ∷ (label_form hyperlink kind (roles_of kind heading.level.kind heading.allows_styling) heading ++ lines_form (roles_of kind heading.level.kind heading.allows_styling).text n (heading_lines heading)))) wide in
+    let parts : old ++ (Break ∷ (label ++ lines)) ≡ old ++ heading_form hyperlink kind heading =
+    ap (λ (rs : HeadingRoles). old ++ (Break ∷ (label_form hyperlink kind rs heading ++ lines_form rs.text width (heading_lines heading)))) known
+    ∙ ap (λ n. old ++ (Break
+    ∷ (label_form hyperlink kind (roles_of kind heading.level.kind heading.allows_styling)
+    heading ++ lines_form (roles_of kind heading.level.kind heading.allows_styling).text n (heading_lines heading)))) wide in
     on_ok_weaker r (λ last. added-two old one new (Break ∷ []) (label ++ lines) first (added-two one two new label lines second last) ∙ parts) third

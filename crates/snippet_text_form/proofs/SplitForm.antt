@@ -69,9 +69,14 @@ shown_lines-numbered trusted n [] = refl
 shown_lines-numbered trusted n (line ∷ lines) =
     ap (λ (ls : List (List ℕ)). line_shown trusted (chars line) ∷ ls) (shown_lines-numbered trusted (n + 1) lines)
 
-pub shown_lines-all : (styling trusted : Bool) (own text : List ℕ) (numbered : List (ℕ × Bor (List ℕ))) → trusted ≡ styling → IsUtf8 text → text ≡ own → map (λ (p : ℕ × Bor (List ℕ)). (p.0, p.1.now)) numbered ≡ enumerate_from 0 (lines_at text) → shown_lines trusted numbered ≡ lines_at (if styling then chars own else norm (chars own))
+pub shown_lines-all : (styling trusted : Bool) (own text : List ℕ) (numbered : List (ℕ × Bor (List ℕ))) → trusted ≡ styling → IsUtf8 text → text ≡ own
+    → map (λ (p : ℕ × Bor (List ℕ)). (p.0, p.1.now)) numbered ≡ enumerate_from 0 (lines_at text)
+    → shown_lines trusted numbered ≡ lines_at (if styling then chars own else norm (chars own))
 shown_lines-all styling trusted own text numbered trusts utf8 is all =
-    shown_lines-seen trusted numbered ∙ ap (map (λ (p : ℕ × List ℕ). line_shown trusted (chars p.1))) all ∙ shown_lines-numbered trusted 0 (lines_at text) ∙ ap (map (line_shown trusted)) (lines_at-chars text utf8) ∙ shown_lines-of trusted (chars text) ∙ ap (λ (b : Bool). lines_at (if b then chars text else norm (chars text))) trusts ∙ ap (λ (bs : List ℕ). lines_at (if styling then chars bs else norm (chars bs))) is
+    shown_lines-seen trusted numbered ∙ ap (map (λ (p : ℕ × List ℕ). line_shown trusted (chars p.1))) all
+    ∙ shown_lines-numbered trusted 0 (lines_at text) ∙ ap (map (line_shown trusted)) (lines_at-chars text utf8)
+    ∙ shown_lines-of trusted (chars text) ∙ ap (λ (b : Bool). lines_at (if b then chars text else norm (chars text))) trusts
+    ∙ ap (λ (bs : List ℕ). lines_at (if styling then chars bs else norm (chars bs))) is
 
 -- one line more
 lines_form-push : (role : ElementStyle) (width : ℕ) (lines : List (List ℕ)) (line : List ℕ) → lines_form role width (lines ++ line ∷ []) ≡ lines_form role width lines ++ (bare (before_line width (length lines)) ++ styled role line)
@@ -87,14 +92,22 @@ pub all_added : (old form : List FormPiece) (role : ElementStyle) (width : ℕ) 
 all_added old form role width trusted numbered lines so_far all =
     so_far ∙ ap (λ (ls : List (List ℕ)). old ++ lines_form role width ls) all
 
-pub line_added : (old form one new : List FormPiece) (role : ElementStyle) (width index : ℕ) (trusted : Bool) (numbered : List (ℕ × Bor (List ℕ))) (line : Bor (List ℕ)) (text : List ℕ) → index ≡ length numbered → form ≡ with_lines old role width trusted numbered → one ≡ form ++ bare (before_line width index) → new ≡ one ++ styled role text → text ≡ line_shown trusted (chars line.now) → new ≡ with_lines old role width trusted (numbered ++ (index, line) ∷ [])
+pub line_added : (old form one new : List FormPiece) (role : ElementStyle) (width index : ℕ) (trusted : Bool) (numbered : List (ℕ × Bor (List ℕ)))
+    (line : Bor (List ℕ)) (text : List ℕ) → index ≡ length numbered → form ≡ with_lines old role width trusted numbered
+    → one ≡ form ++ bare (before_line width index) → new ≡ one ++ styled role text → text ≡ line_shown trusted (chars line.now)
+    → new ≡ with_lines old role width trusted (numbered ++ (index, line) ∷ [])
 line_added old form one new role width index trusted numbered line text at is first second shows =
     let ls : List (List ℕ) = shown_lines trusted numbered in
     let l : List ℕ = line_shown trusted (chars line.now) in
     let before : List FormPiece = lines_form role width ls in
     let count : index ≡ length ls = at ∙ sym (length-map numbered (λ p. line_shown trusted (line_of p))) in
     let both : shown_lines trusted (numbered ++ (index, line) ∷ []) ≡ ls ++ l ∷ [] = map-append (λ p. line_shown trusted (line_of p)) numbered ((index, line) ∷ []) in
-    second ∙ ap (λ (ps : List FormPiece). ps ++ styled role text) first ∙ append_assoc form (bare (before_line width index)) (styled role text) ∙ ap (λ (cs : List ℕ). form ++ (bare (before_line width index) ++ styled role cs)) shows ∙ ap (λ n. form ++ (bare (before_line width n) ++ styled role l)) count ∙ ap (λ (ps : List FormPiece). ps ++ (bare (before_line width (length ls)) ++ styled role l)) is ∙ append_assoc old before (bare (before_line width (length ls)) ++ styled role l) ∙ ap (λ (ps : List FormPiece). old ++ ps) (sym (lines_form-push role width ls l) ∙ ap (lines_form role width) (sym both))
+    second ∙ ap (λ (ps : List FormPiece). ps ++ styled role text) first ∙ append_assoc form (bare (before_line width index)) (styled role text)
+    ∙ ap (λ (cs : List ℕ). form ++ (bare (before_line width index) ++ styled role cs)) shows
+    ∙ ap (λ n. form ++ (bare (before_line width n) ++ styled role l)) count
+    ∙ ap (λ (ps : List FormPiece). ps ++ (bare (before_line width (length ls)) ++ styled role l)) is
+    ∙ append_assoc old before (bare (before_line width (length ls)) ++ styled role l)
+    ∙ ap (λ (ps : List FormPiece). old ++ ps) (sym (lines_form-push role width ls l) ∙ ap (lines_form role width) (sym both))
 
 -- what stands before a further line
 pub before_line-later : (width index : ℕ) → index ≢ 0 → 10 ∷ replicate width 32 ≡ before_line width index

@@ -33,26 +33,40 @@ seen_over text source e over same span asked =
     asked (subst (λ t. IsSpan t e.start e.end) (sym same) span) ∙ ap (λ t. overwrites t e) same
 
 -- where an edit stands that replaces text, and where any other stands
-pub replaced_place : (anonymized : Bool) (source : Source) (path : Option (List ℕ)) (e : Edit) (start end : Loc) → overwrites source.text e ≡ true → is_blank e.text ≡ false → edit_place anonymized source path e start end ≡ place anonymized path start.line (Some (start.char + 1)) ++ replaced_to anonymized start end
+pub replaced_place : (anonymized : Bool) (source : Source) (path : Option (List ℕ)) (e : Edit) (start end : Loc) → overwrites source.text e ≡ true
+    → is_blank e.text ≡ false → edit_place anonymized source path e start end ≡ place anonymized path start.line (Some (start.char + 1))
+    ++ replaced_to anonymized start end
 replaced_place anonymized source path e start end over given =
-    cond-true (replaces source.text e) (place anonymized path start.line (Some (start.char + 1)) ++ replaced_to anonymized start end) (place anonymized path start.line (column_unless (is_whole_line source start end e) start)) (and_from (overwrites source.text e) (not (is_blank e.text)) over (ap not given))
+    cond-true (replaces source.text e) (place anonymized path start.line (Some (start.char + 1)) ++ replaced_to anonymized start end)
+    (place anonymized path start.line (column_unless (is_whole_line source start end e) start))
+    (and_from (overwrites source.text e) (not (is_blank e.text)) over (ap not given))
 
 pub other_place : (anonymized : Bool) (source : Source) (path : Option (List ℕ)) (e : Edit) (start end : Loc) → replaces source.text e ≡ false → edit_place anonymized source path e start end ≡ place anonymized path start.line (column_unless (is_whole_line source start end e) start)
 other_place anonymized source path e start end other =
     cond-false (replaces source.text e) (place anonymized path start.line (Some (start.char + 1)) ++ replaced_to anonymized start end) (place anonymized path start.line (column_unless (is_whole_line source start end e) start)) other
 
 -- what is added for one more patch
-pub edits_more : (f : Edit → List FormPiece) (old mid new : List FormPiece) (ps : List TrimmedPatch) (i : ℕ) (d : TrimmedPatch) → i < length ps → mid ≡ old ++ flat_map f (map trimmed_edit_of (take i ps)) → new ≡ mid ++ f (trimmed_edit_of (get_or ps i d)) → new ≡ old ++ flat_map f (map trimmed_edit_of (take (i + 1) ps))
+pub edits_more : (f : Edit → List FormPiece) (old mid new : List FormPiece) (ps : List TrimmedPatch) (i : ℕ) (d : TrimmedPatch) → i < length ps
+    → mid ≡ old ++ flat_map f (map trimmed_edit_of (take i ps)) → new ≡ mid ++ f (trimmed_edit_of (get_or ps i d))
+    → new ≡ old ++ flat_map f (map trimmed_edit_of (take (i + 1) ps))
 edits_more f old mid new ps i d within first last =
     let e : Edit = trimmed_edit_of (get_or ps i d) in
     last ∙ ap (λ form. form ++ f e) first ∙ flat_map_more f old (map trimmed_edit_of (take i ps)) e ∙ ap (λ es. old ++ flat_map f es) (sym (map_more trimmed_edit_of ps i d within))
 
 -- a suggestion is added once its number and all of its patches are
-pub suggestion_added : (anonymized : Bool) (at : SuggestionContext) (p : PreparedSuggestion) (indent : List ℕ) (path : Option (List ℕ)) (old mid new : List FormPiece) → IsPrepared p → indent ≡ edit_indent at.option → path ≡ named_path at.names_path (option_map cow_str_bytes p.snippet.now.path) → mid ≡ old ++ option_form at.option → new ≡ mid ++ flat_map (edit_form anonymized p.map indent path) (map trimmed_edit_of p.splice.patches.items) → new ≡ old ++ suggestion_form anonymized at p.snippet.now
+pub suggestion_added : (anonymized : Bool) (at : SuggestionContext) (p : PreparedSuggestion) (indent : List ℕ) (path : Option (List ℕ))
+    (old mid new : List FormPiece) → IsPrepared p → indent ≡ edit_indent at.option
+    → path ≡ named_path at.names_path (option_map cow_str_bytes p.snippet.now.path) → mid ≡ old ++ option_form at.option
+    → new ≡ mid ++ flat_map (edit_form anonymized p.map indent path) (map trimmed_edit_of p.splice.patches.items)
+    → new ≡ old ++ suggestion_form anonymized at p.snippet.now
 unfolding suggestion_form
 suggestion_added anonymized at p indent path old mid new is indents names first last =
     let s : Snippet Patch = p.snippet.now in
     let edits : List Edit = map trimmed_edit_of p.splice.patches.items in
     let named : Option (List ℕ) = named_path at.names_path (option_map cow_str_bytes s.path) in
-    let forms : flat_map (edit_form anonymized p.map indent path) edits ≡ flat_map (edit_form anonymized (source_of s) (edit_indent at.option) named) (trimmed_of s) = ap (λ source. flat_map (edit_form anonymized source indent path) edits) is.lines ∙ ap (λ text. flat_map (edit_form anonymized (source_of s) text path) edits) indents ∙ ap (λ to. flat_map (edit_form anonymized (source_of s) (edit_indent at.option) to) edits) names ∙ ap (λ es. flat_map (edit_form anonymized (source_of s) (edit_indent at.option) named) es) is.edits in
+    let forms : flat_map (edit_form anonymized p.map indent path) edits ≡ flat_map (edit_form anonymized (source_of s) (edit_indent at.option) named)
+    (trimmed_of s) = ap (λ source. flat_map (edit_form anonymized source indent path) edits) is.lines
+    ∙ ap (λ text. flat_map (edit_form anonymized (source_of s) text path) edits) indents
+    ∙ ap (λ to. flat_map (edit_form anonymized (source_of s) (edit_indent at.option) to) edits) names
+    ∙ ap (λ es. flat_map (edit_form anonymized (source_of s) (edit_indent at.option) named) es) is.edits in
     added-two old mid new (option_form at.option) (flat_map (edit_form anonymized p.map indent path) edits) first last ∙ ap (λ form. old ++ (option_form at.option ++ form)) forms

@@ -31,7 +31,10 @@ returns-then-not-is_text c =
     let wanted = c.args.wanted.now in
     let texts = c.args.texts.now in
     let there : i < length wanted = omega (arith, c.loop-i-test.true, c.if-wanted-texts.false) in
-    let never : texts_at wanted ≡ map string_bytes texts → ⊥ = λ same. denied c.is_text.result c.is_text.ensures.value c.if-not-is_text.true (sym (get_or-map text_of wanted i no_text [] there) ∙ ap (λ xs. get_or xs i []) same ∙ get_or-map string_bytes texts i c.index-texts-i.result [] c.loop-i-test.true ∙ sym (ap string_bytes c.index-texts-i.is)) in
+    let never : texts_at wanted ≡ map string_bytes texts → ⊥ =
+    λ same. denied c.is_text.result c.is_text.ensures.value c.if-not-is_text.true
+    (sym (get_or-map text_of wanted i no_text [] there) ∙ ap (λ xs. get_or xs i []) same
+    ∙ get_or-map string_bytes texts i c.index-texts-i.result [] c.loop-i-test.true ∙ sym (ap string_bytes c.index-texts-i.is)) in
     record { equal = (λ no. cc, λ same. absurd (never same)) }
 
 pub loop-i-preserved : goal.loop-i-preserved

@@ -16,12 +16,16 @@ returns-in-Ok-flush-clause-compares g c = λ within files is.
 
 pub returns-in-Ok-flush-clause-answers : goal.returns-in-Ok-flush-clause-answers
 returns-in-Ok-flush-clause-answers g c = λ done form files asks some.
-    let told = files_answered (words_at c.args.words.now) c.in-Some.command (λ f n. 0 < n → AnswersReaders g.row.R-File.Denot g.R.File.Read.remaining f n (g.W.Write.contents c.args.out.now) (g.W.Write.contents c.do_command.new.out)) form files c.in-Some.ensures.command asks c.in-Ok.ensures.answers in
+    let told = files_answered (words_at c.args.words.now)
+    c.in-Some.command (λ f n. 0 < n → AnswersReaders g.row.R-File.Denot g.R.File.Read.remaining f n (g.W.Write.contents c.args.out.now)
+    (g.W.Write.contents c.do_command.new.out)) form files c.in-Some.ensures.command asks c.in-Ok.ensures.answers in
     readers_kept g.R.File.Read.remaining form (length files) _ _ _ (told some) c.in-Ok-flush.ensures.bytes
 
 pub returns-in-Ok-flush-clause-answers_input : goal.returns-in-Ok-flush-clause-answers_input
 returns-in-Ok-flush-clause-answers_input g c = λ done form asks.
-    let told = files_answered (words_at c.args.words.now) c.in-Some.command (λ f n. n ≡ 0 → AnswersReaders g.row.R-Reader.Denot g.R.Reader.Read.remaining f 1 (g.W.Write.contents c.args.out.now) (g.W.Write.contents c.do_command.new.out)) form [] c.in-Some.ensures.command asks c.in-Ok.ensures.answers_input in
+    let told = files_answered (words_at c.args.words.now)
+    c.in-Some.command (λ f n. n ≡ 0 → AnswersReaders g.row.R-Reader.Denot g.R.Reader.Read.remaining f 1 (g.W.Write.contents c.args.out.now)
+    (g.W.Write.contents c.do_command.new.out)) form [] c.in-Some.ensures.command asks c.in-Ok.ensures.answers_input in
     readers_kept g.R.Reader.Read.remaining form 1 _ _ _ (told refl) c.in-Ok-flush.ensures.bytes
 
 pub returns-in-Ok-flush-clause-help : goal.returns-in-Ok-flush-clause-help

@@ -69,5 +69,12 @@ returns c =
     } in
     let settings = c.renderer_of-renderer.ensures.settings in
     record {
-      shows = IfOk-weaker c.render.result (λ text. ShowsReport made (group ∷ []) made.stylesheet (string_bytes text)) (λ text. ShowsCommand command source (string_bytes text)) (λ text shown. record { groups = group ∷ []; report = report; shows = subst (λ (r : Renderer). ShowsReport r (group ∷ []) r.stylesheet (string_bytes text)) settings shown }) c.render.ensures.shows;
+      shows = IfOk-weaker c.render.result (λ text. ShowsReport made (group ∷ []) made.stylesheet (string_bytes text))
+          (λ text. ShowsCommand command source (string_bytes text))
+          (λ text shown. record {
+            groups = group ∷ [];
+            report = report;
+            shows =
+                subst (λ (r : Renderer). ShowsReport r (group ∷ []) r.stylesheet (string_bytes text)) settings shown;
+          }) c.render.ensures.shows;
     }

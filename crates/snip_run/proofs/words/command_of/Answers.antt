@@ -40,7 +40,9 @@ begins_none : (ws : List (Bor Word)) (at : ℕ) → BeginsNone (words_at (take (
 begins_none ws at none = subst (λ (rest : List (Bor Word)). BeginsNone (words_at rest)) (sliced ws at) none
 
 -- where the rest is no operands, the words are no line
-no_line : (ws : List (Bor Word)) (at : ℕ) (options : Options) → Continues (words_at ws) (words_at (drop at ws)) options → BeginsNone (words_at (take (length ws - at) (drop at ws))) → ((line : Line) → words_at (take (length ws - at) (drop at ws)) ≡ operands_of line → ⊥) → (line : Line) → AreLine (words_at ws) line → ⊥
+no_line : (ws : List (Bor Word)) (at : ℕ) (options : Options) → Continues (words_at ws) (words_at (drop at ws)) options
+    → BeginsNone (words_at (take (length ws - at) (drop at ws)))
+    → ((line : Line) → words_at (take (length ws - at) (drop at ws)) ≡ operands_of line → ⊥) → (line : Line) → AreLine (words_at ws) line → ⊥
 no_line ws at options so_far none no_operands line h =
     let (next, here, _) = so_far.reads line h in
     let is = only_operands (words_at (drop at ws)) (begins_none ws at none) next here in
@@ -55,7 +57,10 @@ found None P Q some p q = absurd cc
 found (Some c) P Q some p q = q c p
 
 -- what is said of the operands is said of the line
-said : (ws : List (Bor Word)) (at : ℕ) (options : Options) (o : Operands) (r : Option Command) → Continues (words_at ws) (words_at (drop at ws)) options → BeginsNone (words_at (take (length ws - at) (drop at ws))) → words_at (take (length ws - at) (drop at ws)) ≡ operands_of (line_of o) → IfSome r (Says options (line_of o)) → (HasOperands (line_of o) → IsSome r) → (line : Line) → AreLine (words_at ws) line → IsSomeAnd r (Says no_options line)
+said : (ws : List (Bor Word)) (at : ℕ) (options : Options) (o : Operands) (r : Option Command)
+    → Continues (words_at ws) (words_at (drop at ws)) options → BeginsNone (words_at (take (length ws - at) (drop at ws)))
+    → words_at (take (length ws - at) (drop at ws)) ≡ operands_of (line_of o) → IfSome r (Says options (line_of o))
+    → (HasOperands (line_of o) → IsSome r) → (line : Line) → AreLine (words_at ws) line → IsSomeAnd r (Says no_options line)
 said ws at options o r so_far none whole says form line h =
     let is = ap (λ (rest : List (Bor Word)). words_at rest) (sym (sliced ws at)) ∙ whole in
     let (has, goes) = continues_all (words_at ws) (words_at (drop at ws)) options so_far (begins_none ws at none) line h (line_of o) refl is in
@@ -64,7 +69,9 @@ said ws at options o r so_far none whole says form line h =
 pub returns-clause-each_line : goal.returns-clause-each_line
 returns-clause-each_line c = said c.args.words.now c.loop-changed.at c.loop-changed.options c.in_ok-operands_in.field-0 c.command_with.result c.loop-changed.invariant.so_far (c.in_default.ensures.none refl) c.in_ok-operands_in.ensures.whole c.command_with.ensures.says c.command_with.ensures.form.1
 
-commanded : (ws : List (Bor Word)) (at : ℕ) (options : Options) (o : Operands) (r : Option Command) → Continues (words_at ws) (words_at (drop at ws)) options → words_at (take (length ws - at) (drop at ws)) ≡ operands_of (line_of o) → IfSome r (Says options (line_of o)) → (IsSome r → HasOperands (line_of o)) → IfSome r (IsCommandOf (words_at ws))
+commanded : (ws : List (Bor Word)) (at : ℕ) (options : Options) (o : Operands) (r : Option Command)
+    → Continues (words_at ws) (words_at (drop at ws)) options → words_at (take (length ws - at) (drop at ws)) ≡ operands_of (line_of o)
+    → IfSome r (Says options (line_of o)) → (IsSome r → HasOperands (line_of o)) → IfSome r (IsCommandOf (words_at ws))
 commanded ws at options o None so_far whole says has = tt
 commanded ws at options o (Some c) so_far whole says has =
     let is = ap (λ (rest : List (Bor Word)). words_at rest) (sym (sliced ws at)) ∙ whole in

@@ -46,7 +46,10 @@ loop-from-preserved c =
     subst (λ n. StandsBeside first n (get_or bars (from + k) d)) place (subst (λ b. StandsBeside b (from + k - from) (get_or bars (from + k) d)) own one) in (
       DrawsBars-more layout c.args.row old mid new c.loop-from.invariant.0 c.in_ok-draw_side.ensures.draws,
       to.ensures.within,
-      ChangesRows-more (with_bars layout c.args.stroke (take from bars)) _ (with_bars layout c.args.stroke (take to.result bars)) c.args.row (length old) old mid new refl (λ cells. side_drawn layout c.args.stroke bars from to.result first cells to.ensures.more to.ensures.within beside) c.loop-from.invariant.2 c.in_ok-draw_side.ensures.changes,
+      ChangesRows-more (with_bars layout c.args.stroke (take from bars)) _ (with_bars layout c.args.stroke (take to.result bars))
+          c.args.row (length old) old mid new refl
+          (λ cells. side_drawn layout c.args.stroke bars from to.result first cells to.ensures.more to.ensures.within beside)
+          c.loop-from.invariant.2 c.in_ok-draw_side.ensures.changes,
     )
 
 pub returns : goal.returns

@@ -43,8 +43,14 @@ loop-r-preserved c =
     let part : unlinked_cell role glyph.result ≡ bar_part layout c.args.stroke c.args.first = ap (unlinked_cell role) glyph.ensures.value ∙ ap (λ r. unlinked_cell r (bar_glyph c.args.stroke layout.decor c.args.first.primary)) c.underline-role.ensures.style in
     let parts : text_cells role (chars c.as_str.result.now) ≡ replicate n (bar_part layout c.args.stroke c.args.first) = cells ∙ ap (replicate n) part in
     let there : c.loop-r.r < length c.args.buffer.now = omega (arith, done.count, c.num_lines-r-end.ensures.count, c.loop-r-test.true) in
-    let changed = ChangesRows-next at (replicate n (bar_part layout c.args.stroke c.args.first)) c.args.row c.loop-r.r c.args.buffer.now c.loop-r.buffer c.puts.new.self (omega arith) there c.loop-r.invariant.1 (written_is ∙ ap (cells_written c.loop-r.buffer c.loop-r.r at) parts) in
-    (DrawsBars-more layout c.args.row c.args.buffer.now c.loop-r.buffer c.puts.new.self done (DrawsBars-writes layout c.args.row c.loop-r.r at c.loop-r.buffer c.puts.new.self (replicate n cell) writes (omega arith) (omega (arith, done.count, c.num_lines-r-end.ensures.count, c.loop-r-test.true)) (omega (arith, c.requires.left)) (omega (arith, c.requires.room, length-replicate n cell)) (All-replicate (IsBarCell layout.decor) n cell bar_cell) (All-replicate IsFreeCell n cell free)), changed)
+    let changed = ChangesRows-next at (replicate n (bar_part layout c.args.stroke c.args.first)) c.args.row c.loop-r.r c.args.buffer.now c.loop-r.buffer c.puts.new.self (omega arith) there c.loop-r.invariant.1 (written_is ∙ ap (cells_written c.loop-r.buffer c.loop-r.r at) parts) in (
+      DrawsBars-more layout c.args.row c.args.buffer.now c.loop-r.buffer c.puts.new.self done
+          (DrawsBars-writes layout c.args.row c.loop-r.r at c.loop-r.buffer c.puts.new.self (replicate n cell) writes (omega arith)
+          (omega (arith, done.count, c.num_lines-r-end.ensures.count, c.loop-r-test.true)) (omega (arith, c.requires.left))
+          (omega (arith, c.requires.room, length-replicate n cell)) (All-replicate (IsBarCell layout.decor) n cell bar_cell)
+          (All-replicate IsFreeCell n cell free)),
+      changed,
+    )
 
 pub loop-r-init : goal.loop-r-init
 loop-r-init c = (DrawsBars-none c.args.layout c.args.row c.args.buffer.now, ChangesRows-none _ c.args.row c.args.row c.args.buffer.now (omega arith))

@@ -25,7 +25,11 @@ draw_connector-requires-clause-small c =
 
 pub draw_connector-requires-clause-rows : goal.draw_connector-requires-clause-rows
 draw_connector-requires-clause-rows c =
-    subst (λ n. HasRows c.args.row n c.entry-item.result) (sym (count_kept c.args.layout c.args.row c.loop-entry.entry-index c.args.placed.now c.args.buffer.now c.loop-entry.buffer c.loop-entry.invariant c.requires.rows)) (subst (HasRows c.args.row (length c.args.buffer.now)) (sym c.entry-item.is) (c.requires.rows c.loop-entry.entry-index c.entry-item.result c.loop-entry-test.true))
+    subst (λ n. HasRows c.args.row n c.entry-item.result)
+    (sym (count_kept c.args.layout c.args.row c.loop-entry.entry-index c.args.placed.now c.args.buffer.now c.loop-entry.buffer
+    c.loop-entry.invariant c.requires.rows))
+    (subst (HasRows c.args.row (length c.args.buffer.now)) (sym c.entry-item.is)
+    (c.requires.rows c.loop-entry.entry-index c.entry-item.result c.loop-entry-test.true))
 
 pub loop-entry-preserved : goal.loop-entry-preserved
 loop-entry-preserved c =

@@ -8,5 +8,9 @@ pub returns : goal.returns
 returns c =
     let strokes = c.underline-strokes in
     record {
-      painted = on_ok_weaker c.draw_stretch.result (λ drawn_now. line_painted c.args.layout c.args.row c.args.placed.now c.args.depth strokes.result.multiline_horizontal strokes.result.style c.args.buffer.now c.draw_stretch.new.buffer (strokes.ensures.multiline_horizontal ∙ ap (λ b. glyph_of c.args.layout.decor b 95 95 0x2501 0x2500) c.is_primary.ensures.value) (strokes.ensures.style ∙ ap underline_role c.is_primary.ensures.value) drawn_now) c.draw_stretch.ensures.painted;
+      painted = on_ok_weaker c.draw_stretch.result
+          (λ drawn_now. line_painted c.args.layout c.args.row c.args.placed.now c.args.depth strokes.result.multiline_horizontal strokes.result.style
+          c.args.buffer.now c.draw_stretch.new.buffer
+          (strokes.ensures.multiline_horizontal ∙ ap (λ b. glyph_of c.args.layout.decor b 95 95 0x2501 0x2500) c.is_primary.ensures.value)
+          (strokes.ensures.style ∙ ap underline_role c.is_primary.ensures.value) drawn_now) c.draw_stretch.ensures.painted;
     }

@@ -12,7 +12,10 @@ loop-row-init c =
 pub loop-row-preserved : goal.loop-row-preserved
 loop-row-preserved c =
     let strokes = c.underline-strokes in
-    bar_painted c.args.layout c.args.placed.now c.args.depth c.args.start c.loop-row.row strokes.result.multiline_vertical strokes.result.style c.args.buffer.now c.loop-row.buffer c.putc.new.self (strokes.ensures.multiline_vertical ∙ ap (λ b. glyph_of c.args.layout.decor b 124 124 0x2503 0x2502) c.is_primary.ensures.value) (strokes.ensures.style ∙ ap underline_role c.is_primary.ensures.value) (omega arith) c.loop-row.invariant c.in_ok-putc.ensures.ok
+    bar_painted c.args.layout c.args.placed.now c.args.depth c.args.start c.loop-row.row strokes.result.multiline_vertical strokes.result.style
+    c.args.buffer.now c.loop-row.buffer c.putc.new.self
+    (strokes.ensures.multiline_vertical ∙ ap (λ b. glyph_of c.args.layout.decor b 124 124 0x2503 0x2502) c.is_primary.ensures.value)
+    (strokes.ensures.style ∙ ap underline_role c.is_primary.ensures.value) (omega arith) c.loop-row.invariant c.in_ok-putc.ensures.ok
 
 pub returns : goal.returns
 returns c =

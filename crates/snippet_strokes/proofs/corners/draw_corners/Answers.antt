@@ -25,14 +25,20 @@ draw_corner-requires-clause-small c =
 
 pub draw_corner-requires-clause-rows : goal.draw_corner-requires-clause-rows
 draw_corner-requires-clause-rows c =
-    subst (λ n. HasRows (c.args.row + 1) n c.entry-item.result) (sym (count_kept c.args.layout c.args.row c.loop-entry.entry-index c.args.placed.now c.args.buffer.now c.loop-entry.buffer c.loop-entry.invariant c.requires.bar_cells c.requires.rows)) (subst (HasRows (c.args.row + 1) (length c.args.buffer.now)) (sym c.entry-item.is) (c.requires.rows c.loop-entry.entry-index c.entry-item.result c.loop-entry-test.true))
+    subst (λ n. HasRows (c.args.row + 1) n c.entry-item.result)
+    (sym (count_kept c.args.layout c.args.row c.loop-entry.entry-index c.args.placed.now c.args.buffer.now c.loop-entry.buffer
+    c.loop-entry.invariant c.requires.bar_cells c.requires.rows))
+    (subst (HasRows (c.args.row + 1) (length c.args.buffer.now)) (sym c.entry-item.is)
+    (c.requires.rows c.loop-entry.entry-index c.entry-item.result c.loop-entry-test.true))
 
 pub loop-entry-preserved : goal.loop-entry-preserved
 loop-entry-preserved c =
     let old = c.args.buffer.now in
     let mid = c.loop-entry.buffer in
     let kept = count_kept c.args.layout c.args.row c.loop-entry.entry-index c.args.placed.now old mid c.loop-entry.invariant c.requires.bar_cells c.requires.rows in
-    c.in_ok-draw_corner.ensures.painted ∙ ap (λ n. painted (corner_of c.args.layout c.args.row n c.entry-item.result) mid) kept ∙ painted_more (corner_of c.args.layout c.args.row (length old)) c.args.placed.now c.loop-entry.entry-index c.entry-item.result old mid c.loop-entry-test.true c.entry-item.is c.loop-entry.invariant
+    c.in_ok-draw_corner.ensures.painted ∙ ap (λ n. painted (corner_of c.args.layout c.args.row n c.entry-item.result) mid) kept
+    ∙ painted_more (corner_of c.args.layout c.args.row (length old))
+    c.args.placed.now c.loop-entry.entry-index c.entry-item.result old mid c.loop-entry-test.true c.entry-item.is c.loop-entry.invariant
 
 pub returns : goal.returns
 returns c =

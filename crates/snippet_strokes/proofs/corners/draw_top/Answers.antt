@@ -11,5 +11,9 @@ returns c =
     let mid = c.putc.new.self in
     let same : c.num_lines-end.result ≡ length old = omega (arith, c.num_lines-end.ensures.count, c.in_ok-putc.ensures.reads.count, c.requires.rows.mark) in
     record {
-      painted = on_ok_weaker c.draw_bar.result (λ continues. top_painted c.args.layout c.args.row (length old) c.args.placed.now c.args.depth c.num_lines-end.result strokes.result.top_left strokes.result.style old mid c.draw_bar.new.buffer (strokes.ensures.top_left ∙ ap (λ b. glyph_of c.args.layout.decor b 32 32 0x250F 0x250C) c.is_primary.ensures.value) (strokes.ensures.style ∙ ap underline_role c.is_primary.ensures.value) same c.in_ok-putc.ensures.ok continues) c.draw_bar.ensures.painted;
+      painted = on_ok_weaker c.draw_bar.result
+          (λ continues. top_painted c.args.layout c.args.row (length old)
+          c.args.placed.now c.args.depth c.num_lines-end.result strokes.result.top_left strokes.result.style old mid c.draw_bar.new.buffer
+          (strokes.ensures.top_left ∙ ap (λ b. glyph_of c.args.layout.decor b 32 32 0x250F 0x250C) c.is_primary.ensures.value)
+          (strokes.ensures.style ∙ ap underline_role c.is_primary.ensures.value) same c.in_ok-putc.ensures.ok continues) c.draw_bar.ensures.painted;
     }

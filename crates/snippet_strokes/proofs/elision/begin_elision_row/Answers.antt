@@ -19,5 +19,9 @@ returns c =
       | in-Unicode w ↦ w.cell-is ∙ sym (ap (λ (d : DecorStyle). elision_cell d gutter) w.in-Unicode.is)
     ] in
     record {
-      added = on_ok_weaker c.puts.result (λ writes. begun_by_text old c.puts.new.self c.num_lines-row.result c.match-layout.cell c.elision.result.now (elision_of decor) c.num_lines-row.ensures.count c.elision.ensures.value (elision_some decor) writes ∙ ap (λ n. old ++ (replicate n SPACE ++ text_cells LineNumber (elision_of decor)) ∷ []) at ∙ ap (λ row. old ++ row ∷ []) (bare_elision_is decor gutter)) c.puts.ensures.ok;
+      added = on_ok_weaker c.puts.result
+          (λ writes. begun_by_text old c.puts.new.self c.num_lines-row.result c.match-layout.cell c.elision.result.now (elision_of decor)
+          c.num_lines-row.ensures.count c.elision.ensures.value (elision_some decor) writes
+          ∙ ap (λ n. old ++ (replicate n SPACE ++ text_cells LineNumber (elision_of decor)) ∷ []) at
+          ∙ ap (λ row. old ++ row ∷ []) (bare_elision_is decor gutter)) c.puts.ensures.ok;
     }

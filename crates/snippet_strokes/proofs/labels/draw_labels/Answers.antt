@@ -18,7 +18,11 @@ use Rattle.snippet_strokes.proofs.labels.draw_labels.Goals as goal
 -- labels add no row
 count_kept : (layout : Layout) (row i : ℕ) (es : List PlacedEntry) (old mid : List (List Cell)) → mid ≡ painted (labels_of layout row (take i es)) old → All (λ e. HasPlace e.entry) es → All (HasRows row (length old)) es → length mid ≡ length old
 count_kept layout row i es old mid so_far places rows =
-    ap length so_far ∙ painted-count (labels_of layout row (take i es)) old (length old) refl (All-weaker (IsWithin row (length old) 0) (λ (w : Write). w.row < length old) (λ w is. is.there) (labels_of layout row (take i es)) (labels_within layout row (length old) 0 (take i es) (All-take (λ (e : PlacedEntry). HasPlace e.entry) i es places) (All-take (HasRows row (length old)) i es rows) (λ k d within. omega arith)))
+    ap length so_far ∙ painted-count (labels_of layout row (take i es)) old (length old)
+    refl (All-weaker (IsWithin row (length old)
+    0) (λ (w : Write). w.row < length old) (λ w is. is.there) (labels_of layout row (take i es))
+    (labels_within layout row (length old) 0 (take i es) (All-take (λ (e : PlacedEntry). HasPlace e.entry) i es places) (All-take
+    (HasRows row (length old)) i es rows) (λ k d within. omega arith)))
 
 pub draw_label-requires-clause-small : goal.draw_label-requires-clause-small
 draw_label-requires-clause-small c =
@@ -26,7 +30,11 @@ draw_label-requires-clause-small c =
 
 pub draw_label-requires-clause-rows : goal.draw_label-requires-clause-rows
 draw_label-requires-clause-rows c =
-    subst (λ n. HasRows c.args.row n c.entry-item.result) (sym (count_kept c.args.layout c.args.row c.loop-entry.entry-index c.args.placed.now c.args.buffer.now c.loop-entry.buffer c.loop-entry.invariant c.requires.columns c.requires.rows)) (subst (HasRows c.args.row (length c.args.buffer.now)) (sym c.entry-item.is) (c.requires.rows c.loop-entry.entry-index c.entry-item.result c.loop-entry-test.true))
+    subst (λ n. HasRows c.args.row n c.entry-item.result)
+    (sym (count_kept c.args.layout c.args.row c.loop-entry.entry-index c.args.placed.now c.args.buffer.now c.loop-entry.buffer
+    c.loop-entry.invariant c.requires.columns c.requires.rows))
+    (subst (HasRows c.args.row (length c.args.buffer.now)) (sym c.entry-item.is)
+    (c.requires.rows c.loop-entry.entry-index c.entry-item.result c.loop-entry-test.true))
 
 pub loop-entry-preserved : goal.loop-entry-preserved
 loop-entry-preserved c =

@@ -24,5 +24,8 @@ returns c =
     let is_line = strokes.ensures.underline ∙ ap (λ b. glyph_of layout.decor b 94 45 0x2501 0x2500) c.is_primary.ensures.value in
     let is_role = strokes.ensures.style ∙ ap underline_role c.is_primary.ensures.value in
     record {
-      painted = on_ok_weaker c.draw_stretch.result (λ drawn_now. mark_painted layout c.args.row placed c.first_glyph-first.result strokes.result.underline strokes.result.style c.mark_end-end.result c.args.buffer.now c.putc.new.self c.draw_stretch.new.buffer some is_end c.first_glyph-first.ensures.value is_line is_role c.in_ok-putc.ensures.ok drawn_now) c.draw_stretch.ensures.painted;
+      painted = on_ok_weaker c.draw_stretch.result
+          (λ drawn_now. mark_painted layout c.args.row placed c.first_glyph-first.result strokes.result.underline strokes.result.style
+          c.mark_end-end.result c.args.buffer.now c.putc.new.self c.draw_stretch.new.buffer some is_end c.first_glyph-first.ensures.value is_line
+          is_role c.in_ok-putc.ensures.ok drawn_now) c.draw_stretch.ensures.painted;
     }

@@ -10,4 +10,7 @@ returns-clause-ordered c =
 
 pub returns-clause-order : goal.returns-clause-order
 returns-clause-order c =
-    on_ok_weaker c.sort_by_key.result (λ sorted. painting_order_of_sort c.args.placed.now.items c.sort_by_key.new.self.items (sorted paint_key (answers_always _ _ _ (λ f a r g h. search rules))) (c.sort_by_key.ensures.stable paint_key (answers_always _ _ _ (λ f a r g h. search rules)))) c.sort_by_key.ensures.sorted
+    on_ok_weaker c.sort_by_key.result
+    (λ sorted. painting_order_of_sort c.args.placed.now.items c.sort_by_key.new.self.items
+    (sorted paint_key (answers_always _ _ _ (λ f a r g h. search rules)))
+    (c.sort_by_key.ensures.stable paint_key (answers_always _ _ _ (λ f a r g h. search rules)))) c.sort_by_key.ensures.sorted

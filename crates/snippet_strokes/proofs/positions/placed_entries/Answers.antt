@@ -29,5 +29,12 @@ returns c =
     let placed = c.set_positions.new.entries in
     let kept = c.set_positions.ensures.kept ∙ ap (map unplaced) c.deref_mut.ensures.value in
     record {
-      placed = subst (ArePlaced es) (sym (written_back placed sorted.items sorted.len sorted.ok.0 kept)) (ArePlaced-from es c.in_ok-placed.placed.items sorted.items placed c.deref-2.result.now c.in_ok-placed.ensures.entries c.in_ok-placed.ensures.labels c.in_ok-sort_by_key.ensures.permutation (order_of_sort c.in_ok-placed.placed.items sorted.items (c.in_ok-sort_by_key.ensures.sorted place_key (answers_always _ _ _ (λ f a r g h. search rules))) (c.sort_by_key.ensures.stable place_key (answers_always _ _ _ (λ f a r g h. search rules)))) (from_right_from_sort sorted.items (c.in_ok-sort_by_key.ensures.sorted place_key (answers_always _ _ _ (λ f a r g h. search rules)))) (c.deref-2.ensures.value ∙ c.in_ok-positions.ensures.value ∙ ap line_positions c.deref.ensures.value) c.set_positions.ensures.placed kept);
+      placed = subst (ArePlaced es) (sym (written_back placed sorted.items sorted.len sorted.ok.0 kept))
+          (ArePlaced-from es c.in_ok-placed.placed.items sorted.items placed c.deref-2.result.now c.in_ok-placed.ensures.entries
+          c.in_ok-placed.ensures.labels c.in_ok-sort_by_key.ensures.permutation
+          (order_of_sort c.in_ok-placed.placed.items sorted.items
+          (c.in_ok-sort_by_key.ensures.sorted place_key (answers_always _ _ _ (λ f a r g h. search rules)))
+          (c.sort_by_key.ensures.stable place_key (answers_always _ _ _ (λ f a r g h. search rules))))
+          (from_right_from_sort sorted.items (c.in_ok-sort_by_key.ensures.sorted place_key (answers_always _ _ _ (λ f a r g h. search rules))))
+          (c.deref-2.ensures.value ∙ c.in_ok-positions.ensures.value ∙ ap line_positions c.deref.ensures.value) c.set_positions.ensures.placed kept);
     }

@@ -29,4 +29,7 @@ returns-clause-added c =
     let clear = clear_entries margin dropped info.annotations.items c.requires.clear drawn.near drawn.uncut in
     let ends_are : c.deref-4.result.now ≡ ends_of_bars info.annotations.items = c.deref-4.ensures.value ∙ c.in_ok-ends.ensures.value ∙ ap ends_of_bars c.deref-2.ensures.value in
     let bars_are : c.deref-5.result.now ≡ bars_apart c.args.open_bars.now (ends_of_bars info.annotations.items) = c.deref-5.ensures.value ∙ c.in_ok-below.ensures.value ∙ ap (bars_apart c.args.open_bars.now) ends_are in
-    line_added layout margin c.args.numbers c.args.closes c.args.open_bars.now c.deref-5.result.now info dropped c.args.buffer.now mid high c.draw_entries.new.buffer c.draw_bars.new.buffer row c.requires.number drawn.added drawn.row drawn.dropped clear highlights highlighted.others highlighted.count c.in_ok-draw_entries.ensures.added c.in_ok-draw_bars.ensures.draws c.in_ok-draw_entries.ensures.own bars_are c.in_ok-draw_bars.ensures.value
+    line_added layout margin c.args.numbers c.args.closes c.args.open_bars.now c.deref-5.result.now info dropped c.args.buffer.now mid high
+    c.draw_entries.new.buffer c.draw_bars.new.buffer row c.requires.number drawn.added drawn.row drawn.dropped clear highlights highlighted.others
+    highlighted.count c.in_ok-draw_entries.ensures.added c.in_ok-draw_bars.ensures.draws c.in_ok-draw_entries.ensures.own bars_are
+    c.in_ok-draw_bars.ensures.value

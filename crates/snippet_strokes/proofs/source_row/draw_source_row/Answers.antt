@@ -24,7 +24,10 @@ write_source_row-requires-clause-number c =
 
 pub write_source_row-requires-clause-number_free : goal.write_source_row-requires-clause-number_free
 write_source_row-requires-clause-number_free c =
-    ap (list_any is_listed) (ap chars (c.as_str-2.ensures.value ∙ c.in_ok-number.ensures.text) ∙ chars-shown_number c.args.numbers c.args.layout.gutter c.args.info.now.line_index (omega arith)) ∙ list_any_none is_listed (shown_number c.args.numbers c.args.layout.gutter c.args.info.now.line_index) (shown_number_unlisted c.args.numbers c.args.layout.gutter c.args.info.now.line_index (omega arith))
+    ap (list_any is_listed) (ap chars (c.as_str-2.ensures.value ∙ c.in_ok-number.ensures.text)
+    ∙ chars-shown_number c.args.numbers c.args.layout.gutter c.args.info.now.line_index (omega arith))
+    ∙ list_any_none is_listed (shown_number c.args.numbers c.args.layout.gutter c.args.info.now.line_index)
+    (shown_number_unlisted c.args.numbers c.args.layout.gutter c.args.info.now.line_index (omega arith))
 
 pub write_source_row-requires-clause-text : goal.write_source_row-requires-clause-text
 write_source_row-requires-clause-text c =
@@ -52,7 +55,10 @@ returns-clause-added c =
     let text = ap chars c.as_str.ensures.value ∙ c.in_ok-text.ensures.value in
     let part = part_of_norm args.margin c.str_width-width.result c.near_part-near.result.skipped line (chars c.near_part-near.result.text.now) (chars c.as_str.result.now) c.str_width-width.ensures.value text c.near_part-near.ensures.holds in
     let window = c.window_of-window in
-    let cells = cells_are args.layout.decor args.margin window.result.start window.result.end (chars window.result.text.now) (chars c.placeholder-placeholder.result.now) (norm line) (norm line) c.placeholder-placeholder.ensures.value refl (window.ensures.start (norm line) part) (window.ensures.text (norm line) part) (window.ensures.end (norm line) part) in
+    let cells = cells_are args.layout.decor args.margin window.result.start window.result.end (chars window.result.text.now)
+    (chars c.placeholder-placeholder.result.now) (norm line) (norm line)
+    c.placeholder-placeholder.ensures.value refl (window.ensures.start (norm line) part) (window.ensures.text (norm line) part)
+    (window.ensures.end (norm line) part) in
     AddsSourceRow-same args.layout _ _ _ _ args.buffer.now c.write_source_row.new.buffer number cells c.in_ok-row.ensures.added
 
 pub returns-clause-short : goal.returns-clause-short
@@ -62,7 +68,10 @@ returns-clause-short c =
     let text = ap chars c.as_str.ensures.value ∙ c.in_ok-text.ensures.value in
     let part = part_of_norm args.margin c.str_width-width.result c.near_part-near.result.skipped line (chars c.near_part-near.result.text.now) (chars c.as_str.result.now) c.str_width-width.ensures.value text c.near_part-near.ensures.holds in
     let window = c.window_of-window in
-    let cells = cells_are args.layout.decor args.margin window.result.start window.result.end (chars window.result.text.now) (chars c.placeholder-placeholder.result.now) (norm line) (norm line) c.placeholder-placeholder.ensures.value refl (window.ensures.start (norm line) part) (window.ensures.text (norm line) part) (window.ensures.end (norm line) part) in
+    let cells = cells_are args.layout.decor args.margin window.result.start window.result.end (chars window.result.text.now)
+    (chars c.placeholder-placeholder.result.now) (norm line) (norm line)
+    c.placeholder-placeholder.ensures.value refl (window.ensures.start (norm line) part) (window.ensures.text (norm line) part)
+    (window.ensures.end (norm line) part) in
     omega (arith, ap length cells, c.in_ok-row.ensures.short)
 
 pub returns-clause-dropped : goal.returns-clause-dropped

@@ -10,4 +10,10 @@ returns-in-None c =
 pub returns-in_ok-puts-in-Some : goal.returns-in_ok-puts-in-Some
 returns-in_ok-puts-in-Some c =
     let decor = c.args.layout.decor in
-    record { writes = on_ok_weaker c.puts-in-Some-2.result (λ writes above row last ends before. begun_cut decor c.args.start c.in-Some.columns above c.args.buffer.now c.puts-in-Some.new.self c.puts-in-Some-2.new.self row c.args.row c.args.layout.code c.args.placeholder.now c.args.text.now c.in-Some.is c.utf8.placeholder c.utf8.text c.requires.placeholder c.in_ok-puts-in-Some.ensures.ok c.puts-in-Some.ensures.empty writes c.puts-in-Some-2.ensures.empty last ends before) c.puts-in-Some-2.ensures.ok }
+    record {
+      writes = on_ok_weaker c.puts-in-Some-2.result
+          (λ writes above row last ends before. begun_cut decor c.args.start c.in-Some.columns above c.args.buffer.now c.puts-in-Some.new.self
+          c.puts-in-Some-2.new.self row c.args.row c.args.layout.code c.args.placeholder.now c.args.text.now c.in-Some.is c.utf8.placeholder c.utf8.text
+          c.requires.placeholder c.in_ok-puts-in-Some.ensures.ok c.puts-in-Some.ensures.empty writes c.puts-in-Some-2.ensures.empty last ends before)
+          c.puts-in-Some-2.ensures.ok;
+    }

@@ -24,8 +24,12 @@ loop-i-preserved c =
     let has : HasRows row (length mid) e = subst (λ n. HasRows row n e) (sym c.loop-i.invariant.1) (subst (HasRows row (length c.args.buffer.now)) (sym c.index-placed-i.is) (c.requires.rows i e c.loop-i-test.true)) in
     elim c.if-not-is_hidden.branch [
       | then-not-is_hidden+in_ok-draw_stem w ↦
-          let shown : is_hidden e later ≡ false = sym hidden ∙ cc in
-          (ap (painted (stems_of layout row later)) w.buffer-is ∙ stems_next layout row e later mid w.draw_stem.new.buffer shown (cc w.in_ok-draw_stem.ensures.painted) ∙ so_far, ap length w.buffer-is ∙ ap length (cc w.in_ok-draw_stem.ensures.painted) ∙ stem_count layout row e mid has ∙ c.loop-i.invariant.1)
+          let shown : is_hidden e later ≡ false = sym hidden ∙ cc in (
+            ap (painted (stems_of layout row later)) w.buffer-is
+                ∙ stems_next layout row e later mid w.draw_stem.new.buffer shown (cc w.in_ok-draw_stem.ensures.painted) ∙ so_far,
+            ap length w.buffer-is
+                ∙ ap length (cc w.in_ok-draw_stem.ensures.painted) ∙ stem_count layout row e mid has ∙ c.loop-i.invariant.1,
+          )
       | else-not-is_hidden w ↦
           let covered : is_hidden e later ≡ true = sym hidden ∙ cc in
           (ap (painted (stems_of layout row later)) w.buffer-is ∙ stems_skip layout row e later mid covered ∙ so_far, ap length w.buffer-is ∙ c.loop-i.invariant.1)

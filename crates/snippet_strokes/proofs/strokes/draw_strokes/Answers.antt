@@ -32,47 +32,85 @@ row_count-requires c =
     record { low = subst (All (λ (e : PlacedEntry). e.position < 2 ^ 63)) (sym c.deref-2.ensures.value) (λ k d within. omega (arith, positions_of_placed (map (shifted c.args.dropped) c.args.entries.now) placed.items c.in_ok-placed.ensures.placed k d within, placed.ok.0, placed.small)) }
 
 pub overlapping-requires : goal.overlapping-requires
-overlapping-requires c = record { columns = subst (All (λ (e : PlacedEntry). HasPlace e.entry)) (sym c.deref.ensures.value) (entries_all HasPlace (map (shifted c.args.dropped) c.args.entries.now) c.in_ok-placed.placed.items c.in_ok-placed.ensures.placed.same (shifted_places c.args.dropped c.args.entries.now c.requires.columns)) }
+overlapping-requires c =
+    record {
+      columns = subst (All (λ (e : PlacedEntry). HasPlace e.entry)) (sym c.deref.ensures.value)
+          (entries_all HasPlace (map (shifted c.args.dropped) c.args.entries.now)
+          c.in_ok-placed.placed.items c.in_ok-placed.ensures.placed.same (shifted_places c.args.dropped c.args.entries.now c.requires.columns));
+    }
 
 pub draw_connectors-requires-clause-columns : goal.draw_connectors-requires-clause-columns
-draw_connectors-requires-clause-columns c = subst (All (λ (e : PlacedEntry). HasPlace e.entry)) (sym c.deref-3.ensures.value) (entries_all HasPlace (map (shifted c.args.dropped) c.args.entries.now) c.in_ok-placed.placed.items c.in_ok-placed.ensures.placed.same (shifted_places c.args.dropped c.args.entries.now c.requires.columns))
+draw_connectors-requires-clause-columns c =
+    subst (All (λ (e : PlacedEntry). HasPlace e.entry)) (sym c.deref-3.ensures.value)
+    (entries_all HasPlace (map (shifted c.args.dropped) c.args.entries.now)
+    c.in_ok-placed.placed.items c.in_ok-placed.ensures.placed.same (shifted_places c.args.dropped c.args.entries.now c.requires.columns))
 
 pub draw_connectors-requires-clause-bar_cells : goal.draw_connectors-requires-clause-bar_cells
-draw_connectors-requires-clause-bar_cells c = subst (All (λ (e : PlacedEntry). HasBarCell c.args.layout e.entry)) (sym c.deref-3.ensures.value) (entries_all (HasBarCell c.args.layout) (map (shifted c.args.dropped) c.args.entries.now) c.in_ok-placed.placed.items c.in_ok-placed.ensures.placed.same (shifted_bars c.args.layout c.args.dropped c.args.entries.now c.requires.bar_cells))
+draw_connectors-requires-clause-bar_cells c =
+    subst (All (λ (e : PlacedEntry). HasBarCell c.args.layout e.entry)) (sym c.deref-3.ensures.value)
+    (entries_all (HasBarCell c.args.layout) (map (shifted c.args.dropped) c.args.entries.now)
+    c.in_ok-placed.placed.items c.in_ok-placed.ensures.placed.same
+    (shifted_bars c.args.layout c.args.dropped c.args.entries.now c.requires.bar_cells))
 
 pub draw_connectors-requires-clause-rows : goal.draw_connectors-requires-clause-rows
 draw_connectors-requires-clause-rows c =
-    subst (All (HasRows c.in_ok-below.below (length c.begin_rows.new.buffer))) (sym c.deref-3.ensures.value) (rows_ready c.in_ok-placed.placed.items c.args.buffer.now c.begin_rows.new.buffer (separator_row c.args.layout.decor c.args.layout.gutter) (bare_row c.args.layout.decor c.args.layout.gutter c.args.closes) c.row_count.result c.in_ok-below.below (length c.begin_rows.new.buffer) (c.row_count.ensures.value ∙ ap row_count c.deref-2.ensures.value) c.in_ok-below.ensures.row c.in_ok-below.ensures.added refl)
+    subst (All (HasRows c.in_ok-below.below (length c.begin_rows.new.buffer))) (sym c.deref-3.ensures.value)
+    (rows_ready c.in_ok-placed.placed.items c.args.buffer.now c.begin_rows.new.buffer (separator_row c.args.layout.decor c.args.layout.gutter)
+    (bare_row c.args.layout.decor c.args.layout.gutter c.args.closes) c.row_count.result c.in_ok-below.below (length c.begin_rows.new.buffer)
+    (c.row_count.ensures.value ∙ ap row_count c.deref-2.ensures.value) c.in_ok-below.ensures.row c.in_ok-below.ensures.added refl)
 
 pub draw_corners-requires-clause-bar_cells : goal.draw_corners-requires-clause-bar_cells
-draw_corners-requires-clause-bar_cells c = subst (All (λ (e : PlacedEntry). HasBarCell c.args.layout e.entry)) (sym c.deref-4.ensures.value) (entries_all (HasBarCell c.args.layout) (map (shifted c.args.dropped) c.args.entries.now) c.in_ok-placed.placed.items c.in_ok-placed.ensures.placed.same (shifted_bars c.args.layout c.args.dropped c.args.entries.now c.requires.bar_cells))
+draw_corners-requires-clause-bar_cells c =
+    subst (All (λ (e : PlacedEntry). HasBarCell c.args.layout e.entry)) (sym c.deref-4.ensures.value)
+    (entries_all (HasBarCell c.args.layout) (map (shifted c.args.dropped) c.args.entries.now)
+    c.in_ok-placed.placed.items c.in_ok-placed.ensures.placed.same
+    (shifted_bars c.args.layout c.args.dropped c.args.entries.now c.requires.bar_cells))
 
 pub draw_corners-requires-clause-small : goal.draw_corners-requires-clause-small
 draw_corners-requires-clause-small c = omega (arith, c.in_ok-draw_connectors.ensures.draws.count, c.in_ok-below.ensures.small)
 
 pub draw_corners-requires-clause-rows : goal.draw_corners-requires-clause-rows
 draw_corners-requires-clause-rows c =
-    subst (All (HasRows (c.args.row + 1) (length c.draw_connectors.new.buffer))) (sym c.deref-4.ensures.value) (rows_ready c.in_ok-placed.placed.items c.args.buffer.now c.begin_rows.new.buffer (separator_row c.args.layout.decor c.args.layout.gutter) (bare_row c.args.layout.decor c.args.layout.gutter c.args.closes) c.row_count.result (c.args.row + 1) (length c.draw_connectors.new.buffer) (c.row_count.ensures.value ∙ ap row_count c.deref-2.ensures.value) (sym c.requires.last) c.in_ok-below.ensures.added c.in_ok-draw_connectors.ensures.draws.count)
+    subst (All (HasRows (c.args.row + 1) (length c.draw_connectors.new.buffer))) (sym c.deref-4.ensures.value)
+    (rows_ready c.in_ok-placed.placed.items c.args.buffer.now c.begin_rows.new.buffer (separator_row c.args.layout.decor c.args.layout.gutter)
+    (bare_row c.args.layout.decor c.args.layout.gutter c.args.closes) c.row_count.result (c.args.row + 1) (length c.draw_connectors.new.buffer)
+    (c.row_count.ensures.value ∙ ap row_count c.deref-2.ensures.value) (sym c.requires.last)
+    c.in_ok-below.ensures.added c.in_ok-draw_connectors.ensures.draws.count)
 
 pub draw_stems-requires-clause-columns : goal.draw_stems-requires-clause-columns
-draw_stems-requires-clause-columns c = subst (All (λ (e : PlacedEntry). HasPlace e.entry)) (sym c.deref-5.ensures.value) (entries_all HasPlace (map (shifted c.args.dropped) c.args.entries.now) c.in_ok-placed.placed.items c.in_ok-placed.ensures.placed.same (shifted_places c.args.dropped c.args.entries.now c.requires.columns))
+draw_stems-requires-clause-columns c = subst (All (λ (e : PlacedEntry). HasPlace e.entry)) (sym c.deref-5.ensures.value)
+    (entries_all HasPlace (map (shifted c.args.dropped) c.args.entries.now)
+    c.in_ok-placed.placed.items c.in_ok-placed.ensures.placed.same (shifted_places c.args.dropped c.args.entries.now c.requires.columns))
 
 pub draw_stems-requires-clause-small : goal.draw_stems-requires-clause-small
 draw_stems-requires-clause-small c = omega (arith, c.in_ok-draw_connectors.ensures.draws.count, c.in_ok-draw_corners.ensures.draws.draws.count, c.in_ok-below.ensures.small)
 
 pub draw_stems-requires-clause-rows : goal.draw_stems-requires-clause-rows
 draw_stems-requires-clause-rows c =
-    subst (All (HasRows c.in_ok-below.below (length c.draw_corners.new.buffer))) (sym c.deref-5.ensures.value) (rows_ready c.in_ok-placed.placed.items c.args.buffer.now c.begin_rows.new.buffer (separator_row c.args.layout.decor c.args.layout.gutter) (bare_row c.args.layout.decor c.args.layout.gutter c.args.closes) c.row_count.result c.in_ok-below.below (length c.draw_corners.new.buffer) (c.row_count.ensures.value ∙ ap row_count c.deref-2.ensures.value) c.in_ok-below.ensures.row c.in_ok-below.ensures.added (c.in_ok-draw_corners.ensures.draws.draws.count ∙ c.in_ok-draw_connectors.ensures.draws.count))
+    subst (All (HasRows c.in_ok-below.below (length c.draw_corners.new.buffer))) (sym c.deref-5.ensures.value)
+    (rows_ready c.in_ok-placed.placed.items c.args.buffer.now c.begin_rows.new.buffer (separator_row c.args.layout.decor c.args.layout.gutter)
+    (bare_row c.args.layout.decor c.args.layout.gutter c.args.closes) c.row_count.result c.in_ok-below.below (length c.draw_corners.new.buffer)
+    (c.row_count.ensures.value ∙ ap row_count c.deref-2.ensures.value)
+    c.in_ok-below.ensures.row c.in_ok-below.ensures.added
+    (c.in_ok-draw_corners.ensures.draws.draws.count ∙ c.in_ok-draw_connectors.ensures.draws.count))
 
 pub draw_labels-requires-clause-columns : goal.draw_labels-requires-clause-columns
-draw_labels-requires-clause-columns c = subst (All (λ (e : PlacedEntry). HasPlace e.entry)) (sym c.deref-6.ensures.value) (entries_all HasPlace (map (shifted c.args.dropped) c.args.entries.now) c.in_ok-placed.placed.items c.in_ok-placed.ensures.placed.same (shifted_places c.args.dropped c.args.entries.now c.requires.columns))
+draw_labels-requires-clause-columns c = subst (All (λ (e : PlacedEntry). HasPlace e.entry)) (sym c.deref-6.ensures.value)
+    (entries_all HasPlace (map (shifted c.args.dropped) c.args.entries.now)
+    c.in_ok-placed.placed.items c.in_ok-placed.ensures.placed.same (shifted_places c.args.dropped c.args.entries.now c.requires.columns))
 
 pub draw_labels-requires-clause-small : goal.draw_labels-requires-clause-small
 draw_labels-requires-clause-small c = omega (arith, c.in_ok-draw_connectors.ensures.draws.count, c.in_ok-draw_corners.ensures.draws.draws.count, (c.in_ok-draw_stems.ensures.draws 0 (λ k d within. omega arith)).count, c.in_ok-below.ensures.small)
 
 pub draw_labels-requires-clause-rows : goal.draw_labels-requires-clause-rows
 draw_labels-requires-clause-rows c =
-    subst (All (HasRows c.in_ok-below.below (length c.draw_stems.new.buffer))) (sym c.deref-6.ensures.value) (rows_ready c.in_ok-placed.placed.items c.args.buffer.now c.begin_rows.new.buffer (separator_row c.args.layout.decor c.args.layout.gutter) (bare_row c.args.layout.decor c.args.layout.gutter c.args.closes) c.row_count.result c.in_ok-below.below (length c.draw_stems.new.buffer) (c.row_count.ensures.value ∙ ap row_count c.deref-2.ensures.value) c.in_ok-below.ensures.row c.in_ok-below.ensures.added ((c.in_ok-draw_stems.ensures.draws 0 (λ k d within. omega arith)).count ∙ c.in_ok-draw_corners.ensures.draws.draws.count ∙ c.in_ok-draw_connectors.ensures.draws.count))
+    subst (All (HasRows c.in_ok-below.below (length c.draw_stems.new.buffer))) (sym c.deref-6.ensures.value)
+    (rows_ready c.in_ok-placed.placed.items c.args.buffer.now c.begin_rows.new.buffer (separator_row c.args.layout.decor c.args.layout.gutter)
+    (bare_row c.args.layout.decor c.args.layout.gutter c.args.closes) c.row_count.result c.in_ok-below.below (length c.draw_stems.new.buffer)
+    (c.row_count.ensures.value ∙ ap row_count c.deref-2.ensures.value)
+    c.in_ok-below.ensures.row c.in_ok-below.ensures.added
+    ((c.in_ok-draw_stems.ensures.draws 0 (λ k d within. omega arith)).count ∙ c.in_ok-draw_corners.ensures.draws.draws.count
+    ∙ c.in_ok-draw_connectors.ensures.draws.count))
 
 pub draw_labels-requires-clause-labels : goal.draw_labels-requires-clause-labels
 draw_labels-requires-clause-labels c =
@@ -89,7 +127,11 @@ draw_marks-requires-clause-columns c = λ k d within. ((entries_all HasPlace (ma
 -- the entries in the order of painting
 pub cut_wide-requires-clause-columns : goal.cut_wide-requires-clause-columns
 cut_wide-requires-clause-columns c =
-    subst (All (λ (e : PlacedEntry). HasPlace e.entry)) (sym c.deref-7.ensures.value) (All-permutation (λ (e : PlacedEntry). HasPlace e.entry) c.in_ok-placed.placed.items c.draw_marks.new.placed.items c.in_ok-draw_marks.ensures.same (entries_all HasPlace (map (shifted c.args.dropped) c.args.entries.now) c.in_ok-placed.placed.items c.in_ok-placed.ensures.placed.same (shifted_places c.args.dropped c.args.entries.now c.requires.columns)))
+    subst (All (λ (e : PlacedEntry). HasPlace e.entry)) (sym c.deref-7.ensures.value)
+    (All-permutation (λ (e : PlacedEntry). HasPlace
+    e.entry) c.in_ok-placed.placed.items c.draw_marks.new.placed.items c.in_ok-draw_marks.ensures.same
+    (entries_all HasPlace (map (shifted c.args.dropped) c.args.entries.now)
+    c.in_ok-placed.placed.items c.in_ok-placed.ensures.placed.same (shifted_places c.args.dropped c.args.entries.now c.requires.columns)))
 
 pub cut_wide-requires-clause-count : goal.cut_wide-requires-clause-count
 cut_wide-requires-clause-count c =
@@ -99,16 +141,26 @@ cut_wide-requires-clause-count c =
 pub cut_wide-requires-clause-rows : goal.cut_wide-requires-clause-rows
 cut_wide-requires-clause-rows c =
     let count = c.row_count.ensures.value ∙ ap row_count c.deref-2.ensures.value in
-    let begun = rows_begun c.args.buffer.now c.begin_rows.new.buffer (separator_row c.args.layout.decor c.args.layout.gutter) (bare_row c.args.layout.decor c.args.layout.gutter c.args.closes) c.row_count.result (omega (arith, count, row_count_some c.in_ok-placed.placed.items)) c.in_ok-below.ensures.added in
-    let long : length c.draw_labels.new.buffer ≡ length c.args.buffer.now + c.row_count.result = (c.in_ok-draw_labels.ensures.draws 0 (λ k d within. omega arith)).count ∙ (c.in_ok-draw_stems.ensures.draws 0 (λ k d within. omega arith)).count ∙ c.in_ok-draw_corners.ensures.draws.draws.count ∙ c.in_ok-draw_connectors.ensures.draws.count ∙ begun in
+    let begun = rows_begun c.args.buffer.now c.begin_rows.new.buffer (separator_row c.args.layout.decor c.args.layout.gutter)
+    (bare_row c.args.layout.decor c.args.layout.gutter c.args.closes)
+    c.row_count.result (omega (arith, count, row_count_some c.in_ok-placed.placed.items)) c.in_ok-below.ensures.added in
+    let long : length c.draw_labels.new.buffer ≡ length c.args.buffer.now + c.row_count.result =
+    (c.in_ok-draw_labels.ensures.draws 0 (λ k d within. omega arith)).count
+    ∙ (c.in_ok-draw_stems.ensures.draws 0 (λ k d within. omega arith)).count ∙ c.in_ok-draw_corners.ensures.draws.draws.count
+    ∙ c.in_ok-draw_connectors.ensures.draws.count ∙ begun in
     let there : c.in_ok-below.below < length c.draw_labels.new.buffer = omega (arith, long, c.in_ok-below.ensures.row, count, row_count_some c.in_ok-placed.placed.items) in
     omega (arith, c.in_ok-draw_marks.ensures.marked.painted.count there, there, c.in_ok-below.ensures.row, c.requires.last)
 
 pub cut_wide-requires-clause-small : goal.cut_wide-requires-clause-small
 cut_wide-requires-clause-small c =
     let count = c.row_count.ensures.value ∙ ap row_count c.deref-2.ensures.value in
-    let begun = rows_begun c.args.buffer.now c.begin_rows.new.buffer (separator_row c.args.layout.decor c.args.layout.gutter) (bare_row c.args.layout.decor c.args.layout.gutter c.args.closes) c.row_count.result (omega (arith, count, row_count_some c.in_ok-placed.placed.items)) c.in_ok-below.ensures.added in
-    let same : length c.draw_labels.new.buffer ≡ length c.begin_rows.new.buffer = (c.in_ok-draw_labels.ensures.draws 0 (λ k d within. omega arith)).count ∙ (c.in_ok-draw_stems.ensures.draws 0 (λ k d within. omega arith)).count ∙ c.in_ok-draw_corners.ensures.draws.draws.count ∙ c.in_ok-draw_connectors.ensures.draws.count in
+    let begun = rows_begun c.args.buffer.now c.begin_rows.new.buffer (separator_row c.args.layout.decor c.args.layout.gutter)
+    (bare_row c.args.layout.decor c.args.layout.gutter c.args.closes)
+    c.row_count.result (omega (arith, count, row_count_some c.in_ok-placed.placed.items)) c.in_ok-below.ensures.added in
+    let same : length c.draw_labels.new.buffer ≡ length c.begin_rows.new.buffer =
+    (c.in_ok-draw_labels.ensures.draws 0 (λ k d within. omega arith)).count
+    ∙ (c.in_ok-draw_stems.ensures.draws 0 (λ k d within. omega arith)).count ∙ c.in_ok-draw_corners.ensures.draws.draws.count
+    ∙ c.in_ok-draw_connectors.ensures.draws.count in
     let there : c.in_ok-below.below < length c.draw_labels.new.buffer = omega (arith, same, begun, c.in_ok-below.ensures.row, count, row_count_some c.in_ok-placed.placed.items) in
     omega (arith, c.in_ok-draw_marks.ensures.marked.painted.count there, same, c.in_ok-below.ensures.small)
 
@@ -149,8 +201,14 @@ returns c =
     let labels = subst (λ ps. (from : ℕ) → All (λ (e : PlacedEntry). StandsFrom layout.code from e.entry) ps → DrawsFrom below from stemmed labelled) c.deref-6.ensures.value c.in_ok-draw_labels.ensures.draws in
     let stem_starts = subst (λ ps. MarksStarts layout.code ps barred stemmed) c.deref-5.ensures.value c.in_ok-draw_stems.ensures.starts in
     let no_labels = subst (λ ps. All (λ e. has_label e ≡ false) ps → labelled ≡ stemmed) c.deref-6.ensures.value c.in_ok-draw_labels.ensures.none in
-    let lone = subst (λ ps. (e : PlacedEntry) → ps ≡ e ∷ [] → e.position ≡ 0 → 0 < e.entry.end.display → has_label e ≡ true → labelled ≡ cells_written stemmed below (layout.code + e.entry.end.display + 1) (text_cells (label_role e.entry.kind) (label_text e.entry))) c.deref-6.ensures.value c.in_ok-draw_labels.ensures.lone in
-    let wide : wide_entries c.args.room layout.decor (map f c.deref-7.result.now) ≡ wide_entries c.args.room layout.decor es = ap (λ ps. wide_entries c.args.room layout.decor (map f ps)) c.deref-7.ensures.value ∙ wide_entries-permutation c.args.room layout.decor es (map f after) (IsPermutation-trans es (map f placed) (map f after) c.in_ok-placed.ensures.placed.same (IsPermutation-map f placed after c.in_ok-draw_marks.ensures.same)) in
+    let lone = subst (λ ps. (e : PlacedEntry) → ps ≡ e ∷ [] → e.position ≡ 0 → 0 < e.entry.end.display → has_label e ≡ true
+    → labelled ≡ cells_written stemmed below (layout.code + e.entry.end.display + 1) (text_cells (label_role e.entry.kind) (label_text e.entry)))
+    c.deref-6.ensures.value c.in_ok-draw_labels.ensures.lone in
+    let wide : wide_entries c.args.room layout.decor (map f c.deref-7.result.now) ≡ wide_entries c.args.room layout.decor es =
+    ap (λ ps. wide_entries c.args.room layout.decor (map f ps)) c.deref-7.ensures.value
+    ∙ wide_entries-permutation c.args.room layout.decor es (map f after)
+    (IsPermutation-trans es (map f placed) (map f after)
+    c.in_ok-placed.ensures.placed.same (IsPermutation-map f placed after c.in_ok-draw_marks.ensures.same)) in
     let places : All (λ (e : PlacedEntry). HasPlace e.entry) placed = entries_all HasPlace es placed c.in_ok-placed.ensures.placed.same (shifted_places c.args.dropped c.args.entries.now c.requires.columns) in
     let written : All (StandsWhole layout below labelled) placed = subst (λ (ps : List PlacedEntry). ArePlaced es ps → All (StandsWhole layout below labelled) ps) c.deref-6.ensures.value (c.in_ok-draw_labels.ensures.stand es) c.in_ok-placed.ensures.placed in
     let stands : All (StandsWhole layout below new) placed = c.in_ok-draw_marks.ensures.stand es c.in_ok-placed.ensures.placed places written in
@@ -164,18 +222,41 @@ returns c =
     let hung : stemmed ≡ painted (stems_of layout below placed) barred = c.in_ok-draw_stems.ensures.painted ∙ ap (λ xs. painted (stems_of layout below xs) barred) c.deref-5.ensures.value in
     let named : labelled ≡ painted (labels_of layout below placed) stemmed = c.in_ok-draw_labels.ensures.painted ∙ ap (λ xs. painted (labels_of layout below xs) stemmed) c.deref-6.ensures.value in
     let all : ℕ = length c.args.buffer.now + row_count placed in
-    let new_is : new ≡ painted (strokes_of layout c.args.row all placed after) rows = strokes_painted layout c.args.row below (length joined) all placed after rows begun joined barred stemmed labelled new row_is (joined_long ∙ long) begun_is lines bars hung named c.in_ok-draw_marks.ensures.painted in
+    let new_is : new ≡ painted (strokes_of layout c.args.row all placed after) rows =
+    strokes_painted layout c.args.row below (length joined)
+    all placed after rows begun joined barred stemmed labelled new row_is (joined_long ∙ long)
+    begun_is lines bars hung named c.in_ok-draw_marks.ensures.painted in
     let bar_cells : All (λ (e : PlacedEntry). HasBarCell layout e.entry) placed = entries_all (HasBarCell layout) es placed c.in_ok-placed.ensures.placed.same (shifted_bars layout c.args.dropped c.args.entries.now c.requires.bar_cells) in
     let IsBeside : ℕ → ℕ → ℕ → Type 0 = λ n r at. BesideLabels layout n r at placed in
     let IsStroke : List (List Cell) → ℕ → ℕ → Type 0 = λ g r at. IsStrokeCell layout.decor (cell_at g r at) in
-    let cells : (r at : ℕ) → layout.code ≤ at → IsStroke begun r at → IsBeside below r at → IsStroke new r at = λ r at right before beside. subst (λ g. IsStroke g r at) (sym new_is) (cell_of_strokes layout r at right c.args.row all placed after rows bar_cells (subst (λ g. IsStroke g r at) begun_is before) (subst (λ n. IsBeside n r at) row_is beside)) in
+    let cells : (r at : ℕ) → layout.code ≤ at → IsStroke begun r at → IsBeside below r at → IsStroke new r at =
+    λ r at right before beside. subst (λ g. IsStroke g r at) (sym new_is)
+    (cell_of_strokes layout r at right c.args.row all placed after rows bar_cells (subst (λ g. IsStroke g r at) begun_is before)
+    (subst (λ n. IsBeside n r at) row_is beside)) in
     record {
       added = on_ok_weaker c.cut_wide.result (λ cut above plain old_is bare_bars.
           let long : length above + 1 ≡ length c.args.buffer.now = sym (ap length old_is ∙ length_push above plain) in
           let source_row : c.args.row ≡ length above = omega (arith, long, c.requires.last) in
           let marks_row : below ≡ length above + 1 = c.in_ok-below.ensures.row ∙ sym long in
           let begins : begun ≡ (above ++ plain ∷ []) ++ replicate (row_count placed - 1) sep ++ end ∷ [] = c.in_ok-below.ensures.added ∙ ap (λ n. c.args.buffer.now ++ replicate (n - 1) sep ++ end ∷ []) count ∙ ap (λ old. old ++ replicate (row_count placed - 1) sep ++ end ∷ []) old_is in
-          strokes_drawn layout c.args.room c.args.closes es placed above plain begun joined barred stemmed labelled new c.requires.place c.in_ok-placed.ensures.placed places bare_bars begins (subst (λ n. DrawsFrom n (layout.gutter + 3) begun joined) marks_row c.in_ok-draw_connectors.ensures.draws) c.in_ok-draw_connectors.ensures.bar_cells no_lines (subst (λ n. DrawsBarCells layout n joined barred) source_row c.in_ok-draw_corners.ensures.draws) no_bars (subst (λ n. (from : ℕ) → All (λ (e : PlacedEntry). StandsFrom layout.code from e.entry) placed → DrawsFrom n from barred stemmed) marks_row stems) no_stems (subst (λ n. (from : ℕ) → All (λ (e : PlacedEntry). StandsFrom layout.code from e.entry) placed → DrawsFrom n from stemmed labelled) marks_row labels) stem_starts c.in_ok-draw_labels.ensures.starts no_labels (subst (λ n. (e : PlacedEntry) → placed ≡ e ∷ [] → e.position ≡ 0 → 0 < e.entry.end.display → has_label e ≡ true → labelled ≡ cells_written stemmed n (layout.code + e.entry.end.display + 1) (text_cells (label_role e.entry.kind) (label_text e.entry))) marks_row lone) (subst (λ n. AreMarked layout placed n labelled new) marks_row c.in_ok-draw_marks.ensures.marked) (subst (λ n. All (StandsWhole layout n new) placed) marks_row stands) (λ r at right before beside. cells r at right before (subst (λ n. IsBeside n r at) (sym marks_row) beside)) c.cut_wide.new.buffer (wide_entries c.args.room layout.decor (map f c.deref-7.result.now)) some wide (λ up source marks rest same. cut up source marks rest (same ∙ sym source_row))) c.cut_wide.ensures.cut;
+          strokes_drawn layout c.args.room c.args.closes es placed above plain begun joined barred stemmed labelled new c.requires.place
+          c.in_ok-placed.ensures.placed places bare_bars begins
+          (subst (λ n. DrawsFrom n (layout.gutter + 3) begun joined) marks_row c.in_ok-draw_connectors.ensures.draws)
+          c.in_ok-draw_connectors.ensures.bar_cells no_lines
+          (subst (λ n. DrawsBarCells layout n joined barred) source_row c.in_ok-draw_corners.ensures.draws)
+          no_bars (subst (λ n. (from : ℕ) → All (λ (e : PlacedEntry). StandsFrom layout.code from e.entry) placed
+          → DrawsFrom n from barred stemmed) marks_row stems)
+          no_stems (subst (λ n. (from : ℕ) → All (λ (e : PlacedEntry). StandsFrom layout.code from e.entry) placed
+          → DrawsFrom n from stemmed labelled) marks_row labels)
+          stem_starts c.in_ok-draw_labels.ensures.starts no_labels
+          (subst (λ n. (e : PlacedEntry) → placed ≡ e ∷ [] → e.position ≡ 0 → 0 < e.entry.end.display → has_label e ≡ true
+          → labelled ≡ cells_written stemmed n (layout.code + e.entry.end.display + 1)
+          (text_cells (label_role e.entry.kind) (label_text e.entry))) marks_row lone)
+          (subst (λ n. AreMarked layout placed n labelled new) marks_row c.in_ok-draw_marks.ensures.marked)
+          (subst (λ n. All (StandsWhole layout n new) placed) marks_row stands)
+          (λ r at right before beside. cells r at right before (subst (λ n. IsBeside n r at) (sym marks_row) beside))
+          c.cut_wide.new.buffer (wide_entries c.args.room layout.decor (map f c.deref-7.result.now))
+          some wide (λ up source marks rest same. cut up source marks rest (same ∙ sym source_row))) c.cut_wide.ensures.cut;
       none = on_ok_weaker c.cut_wide.result (λ _ none. absurd (omega (arith, given, none))) c.cut_wide.ensures.cut;
       painted = on_ok_weaker c.cut_wide.result (λ cut _ above plain old_is.
           let same_long : length labelled ≡ length begun = (c.in_ok-draw_labels.ensures.draws 0 (λ k d within. omega arith)).count ∙ (c.in_ok-draw_stems.ensures.draws 0 (λ k d within. omega arith)).count ∙ c.in_ok-draw_corners.ensures.draws.draws.count ∙ joined_long in

@@ -53,7 +53,9 @@ returns c =
           elim (cases_Bool c.is_left_out-left_out.result) [
             | inl left_out ↦
                 let painted = c.draw_diff_line.ensures.left (above ++ stands.before) stands.last.row left_out stands.last.added in
-                subst Drawn (sym left_out ∙ c.is_left_out-left_out.ensures.value c.requires.some) (on_ok_weaker result (λ paints. subst (λ rs. AddsRows l a.first lines rs above new) (sym (append-nil rows)) (rows_of_others l a.first lines rows above new (others_painted l a.first lines rows above mid new stands paints))) painted)
+                subst Drawn (sym left_out ∙ c.is_left_out-left_out.ensures.value c.requires.some)
+                (on_ok_weaker result (λ paints. subst (λ rs. AddsRows l a.first lines rs above new) (sym (append-nil rows))
+                (rows_of_others l a.first lines rows above new (others_painted l a.first lines rows above mid new stands paints))) painted)
             | inr offers ↦
                 let offered = c.draw_diff_line.ensures.added offers fits in
                 subst Drawn (sym offers ∙ c.is_left_out-left_out.ensures.value c.requires.some) (on_ok_weaker result (rows_append l a.first lines rows (Offers 0 ∷ []) above mid new (rows_of_others l a.first lines rows above mid stands)) offered)
@@ -82,7 +84,10 @@ returns c =
             | then-stays+in_ok-paint_last w ↦
                 let one : bool_byte stays ≡ 1 = ap bool_byte w.if-stays.true in
                 let within : count < length infos = omega (arith, counts, one, c.requires.some) in
-                w.buffer-is ∙ w.in_ok-paint_last.ensures.cells (above ++ end.front) end.end stands ∙ ap (λ (row : List Cell). (above ++ end.front) ++ row ∷ []) (some_gone l.gutter line stays a.first replaced infos end.end count _ w.diff_stretches-stretches.result.now w.if-stays.true counts within w.diff_stretches-stretches.ensures.value)
+                w.buffer-is ∙ w.in_ok-paint_last.ensures.cells (above ++ end.front) end.end stands
+                ∙ ap (λ (row : List Cell). (above ++ end.front) ++ row ∷ [])
+                (some_gone l.gutter line stays a.first replaced infos end.end count _ w.diff_stretches-stretches.result.now w.if-stays.true counts
+                within w.diff_stretches-stretches.ensures.value)
             | else-stays w ↦ w.buffer-is ∙ stands ∙ ap (λ (row : List Cell). (above ++ end.front) ++ row ∷ []) (sym (none_gone l.gutter line stays a.first replaced infos end.end w.if-stays.false))
           ] in
           let is_stays : stays ≡ bytes_eq line (last_removed infos) = c.is_last-stays.ensures.value c.requires.some in
@@ -90,7 +95,12 @@ returns c =
           let Drawn : Type 0 = new ≡ above ++ diff_cells l a.first infos replaced line added last in
           elim (cases_Bool c.is_left_out-left_out.result) [
             | inl left_out ↦
-                on_ok_weaker c.draw_diff_line.result (λ done. done ∙ append_assoc above end.front _ ∙ ap (λ rs. above ++ rs) (sym (end.changed (left_out_cells l.gutter line gone added)) ∙ diff_left l a.first infos replaced line added last stays is_stays (sym left_is ∙ left_out))) (c.draw_diff_line.ensures.left_cells (above ++ end.front) _ left_out painted)
+                on_ok_weaker c.draw_diff_line.result
+                (λ done. done ∙ append_assoc above end.front _
+                ∙ ap (λ rs. above ++ rs)
+                (sym (end.changed (left_out_cells l.gutter line gone added))
+                ∙ diff_left l a.first infos replaced line added last stays is_stays (sym left_is ∙ left_out)))
+                (c.draw_diff_line.ensures.left_cells (above ++ end.front) _ left_out painted)
             | inr offers ↦
                 let keeps : stays ≡ false = elim (cases_Bool stays) [
                   | inl same ↦

@@ -24,8 +24,13 @@ loop-i-preserved c =
     let painted = c.in_ok-paint_stretches.ensures.repaints old adds.row c.num_lines-row.ensures.count adds.added in
     let drawn = c.in_ok-draw_removed_line.ensures.cells old [] c.num_lines-row.ensures.count (sym (append-nil old)) (omega arith) in
     record {
-      added = removed_more a.layout a.first number a.removed.now c.loop-i.i _ a.buffer.now old c.paint_stretches.new.buffer (omega arith) c.saturating_add-number.ensures c.loop-i.invariant.added (removed_repainted a.layout (number, _) old c.draw_removed_line.new.buffer c.paint_stretches.new.buffer adds painted);
-      cells = taken_next a.layout a.first (line_stretches a.replaced.now) a.removed.now c.loop-i.i number _ c.diff_stretches-stretches.result.now a.buffer.now old c.paint_stretches.new.buffer (omega arith) c.saturating_add-number.ensures c.diff_stretches-stretches.ensures.value c.loop-i.invariant.cells (c.in_ok-paint_stretches.ensures.cells old _ c.num_lines-row.ensures.count drawn);
+      added = removed_more a.layout a.first number a.removed.now c.loop-i.i _ a.buffer.now old c.paint_stretches.new.buffer (omega arith)
+          c.saturating_add-number.ensures c.loop-i.invariant.added
+          (removed_repainted a.layout (number, _) old c.draw_removed_line.new.buffer c.paint_stretches.new.buffer adds painted);
+      cells = taken_next a.layout a.first (line_stretches a.replaced.now)
+          a.removed.now c.loop-i.i number _ c.diff_stretches-stretches.result.now a.buffer.now old c.paint_stretches.new.buffer (omega arith)
+          c.saturating_add-number.ensures c.diff_stretches-stretches.ensures.value c.loop-i.invariant.cells
+          (c.in_ok-paint_stretches.ensures.cells old _ c.num_lines-row.ensures.count drawn);
     }
 
 pub returns : goal.returns

@@ -17,9 +17,18 @@ returns c =
     let shown = λ (n : ℕ). shown_number layout.numbers layout.gutter n in
     let number = c.number_after-number.ensures.value in
     record {
-      added = λ fits. line_added_painted layout.decor layout.gutter _ _ _ _ c.args.buffer.now c.draw_line.new.buffer c.paint_stretches.new.buffer c.in_ok-row.row (ap shown number) (ap (λ t. norm (chars t)) c.line_at-line.ensures.value) (c.in_ok-row.ensures.added (subst (λ (n : ℕ). length (shown n) ≤ layout.gutter + 1) (sym number) fits)) c.in_ok-row.ensures.row c.in_ok-paint_stretches.ensures.repaints;
+      added = λ fits. line_added_painted layout.decor layout.gutter _ _ _ _ c.args.buffer.now c.draw_line.new.buffer c.paint_stretches.new.buffer
+          c.in_ok-row.row (ap shown number) (ap (λ t. norm (chars t)) c.line_at-line.ensures.value)
+          (c.in_ok-row.ensures.added (subst (λ (n : ℕ). length (shown n) ≤ layout.gutter + 1) (sym number) fits))
+          c.in_ok-row.ensures.row c.in_ok-paint_stretches.ensures.repaints;
       cells =
           let a = c.args in
           let drawn = c.in_ok-paint_stretches.ensures.cells a.buffer.now _ c.in_ok-row.ensures.row c.in_ok-row.ensures.cells in
-          drawn ∙ ap (λ (row : List Cell). a.buffer.now ++ row ∷ []) (offered_is layout a.kind c.glyph_of-glyph.result (length a.lines.now) (length a.lines.now) c.number_after-number.result (number_after a.first a.k) c.line_at-line.result.now (slice_index_or (map (λ l. l.now) a.lines.now) a.k []) c.stretches_of-stretches.result.now (line_stretches a.stretches.now a.k) c.glyph_of-glyph.ensures.value refl number c.line_at-line.ensures.value c.stretches_of-stretches.ensures.value ∙ ap (λ n. offered_cells layout a.kind n (number_after a.first a.k) (slice_index_or (map (λ l. l.now) a.lines.now) a.k []) (line_stretches a.stretches.now a.k)) (sym (length-map a.lines.now (λ l. l.now))));
+          drawn ∙ ap (λ (row : List Cell). a.buffer.now ++ row ∷ [])
+          (offered_is layout a.kind c.glyph_of-glyph.result (length a.lines.now) (length a.lines.now)
+          c.number_after-number.result (number_after a.first a.k) c.line_at-line.result.now (slice_index_or (map (λ l. l.now) a.lines.now) a.k [])
+          c.stretches_of-stretches.result.now (line_stretches a.stretches.now a.k)
+          c.glyph_of-glyph.ensures.value refl number c.line_at-line.ensures.value c.stretches_of-stretches.ensures.value
+          ∙ ap (λ n. offered_cells layout a.kind n (number_after a.first a.k) (slice_index_or (map (λ l. l.now) a.lines.now) a.k [])
+          (line_stretches a.stretches.now a.k)) (sym (length-map a.lines.now (λ l. l.now))));
     }

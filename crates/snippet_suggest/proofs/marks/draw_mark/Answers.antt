@@ -20,12 +20,17 @@ loop-column-preserved c =
     record {
       marked = λ above last left here is bare mark. marks_more c.args.layout.decor c.args.layout.gutter _ Addition c.args.mark left above c.loop-column.buffer c.putc.new.self c.args.row here (omega arith) mark (inv.marked above last left here is bare mark) c.in_ok-putc.ensures.ok;
       within = omega arith;
-      cells = λ above last here is. marks_next c.args.mark (c.args.layout.gutter + 3 + start) (c.args.layout.gutter + 3 + column) (column - start) (column + 1 - start) c.args.row above last c.loop-column.buffer c.putc.new.self here (omega arith) (omega arith) (inv.cells above last here is) c.in_ok-putc.ensures.ok;
+      cells = λ above last here is. marks_next c.args.mark (c.args.layout.gutter + 3 + start) (c.args.layout.gutter + 3 + column) (column - start)
+          (column + 1 - start) c.args.row above last c.loop-column.buffer c.putc.new.self here (omega arith) (omega arith)
+          (inv.cells above last here is) c.in_ok-putc.ensures.ok;
     }
 
 pub returns : goal.returns
 returns c =
     record {
       marked = c.loop-column.invariant.marked;
-      cells = λ above last here is. marks_done c.args.layout c.args.mark c.args.start c.args.end (c.loop-column.column - c.args.start) above last c.loop-column.buffer (omega (arith, c.loop-column.invariant.within, c.loop-column-test.false, c.loop-column.auto.column, c.min-column-end.ensures)) (c.loop-column.invariant.cells above last here is);
+      cells = λ above last here is. marks_done c.args.layout c.args.mark c.args.start c.args.end (c.loop-column.column - c.args.start)
+          above last c.loop-column.buffer
+          (omega (arith, c.loop-column.invariant.within, c.loop-column-test.false, c.loop-column.auto.column, c.min-column-end.ensures))
+          (c.loop-column.invariant.cells above last here is);
     }

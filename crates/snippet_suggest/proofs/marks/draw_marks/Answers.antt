@@ -39,7 +39,14 @@ loop-patch-preserved c =
       of = subst (λ (cs : List PatchColumns). AreMoves cs c.push.new.self) (sym (more ∙ ap (λ (x : PatchColumns). earlier ++ x ∷ []) (sym columns))) (c.in_ok-push.ensures.of earlier inv.of);
       cells = λ above last here is.
           let so_far = inv.cells above last here is in
-          marked_next a.layout m earlier (map f (take (i + 1) ps)) e (map trimmed_edit_of (drop i ps)) (map trimmed_edit_of (drop (i + 1) ps)) (with_marks a.layout m [] (map trimmed_edit_of ps) last) above c.loop-patch.buffer c.draw_mark.new.buffer c.patch_mark-mark.result c.marked_columns-start.result.0 c.marked_columns-start.result.1 so_far (ap (map trimmed_edit_of) (drop_more ps i d within)) more (c.patch_mark-mark.ensures.value (c.requires.spans i d within)) (ap (λ (b : ℕ × ℕ). b.0) bounds ∙ ap (λ (x : PatchColumns). mark_start earlier x e.text) columns) (ap (λ (b : ℕ × ℕ). b.1) bounds ∙ ap (λ (x : PatchColumns). mark_end earlier x e.text) columns) (c.in_ok-draw_mark.ensures.cells above so_far.row here so_far.is);
+          marked_next a.layout m earlier (map f (take (i + 1) ps)) e (map trimmed_edit_of (drop i ps)) (map trimmed_edit_of (drop (i + 1) ps))
+          (with_marks a.layout m [] (map trimmed_edit_of ps) last)
+          above c.loop-patch.buffer c.draw_mark.new.buffer c.patch_mark-mark.result c.marked_columns-start.result.0
+          c.marked_columns-start.result.1 so_far (ap (map trimmed_edit_of) (drop_more ps i d within))
+          more (c.patch_mark-mark.ensures.value (c.requires.spans i d within))
+          (ap (λ (b : ℕ × ℕ). b.0) bounds ∙ ap (λ (x : PatchColumns). mark_start earlier x e.text) columns)
+          (ap (λ (b : ℕ × ℕ). b.1) bounds ∙ ap (λ (x : PatchColumns). mark_end earlier x e.text) columns)
+          (c.in_ok-draw_mark.ensures.cells above so_far.row here so_far.is);
     }
 
 pub returns : goal.returns

@@ -12,5 +12,7 @@ abbrev pub invariant-loop-patch : goal.invariant-loop-patch
 invariant-loop-patch l = record {
   marked : (above : List (List Cell)) (last : List Cell) (left : List ℕ) → l.row ≡ length above → l.initial.buffer ≡ above ++ last ∷ [] → IsStrokeRow l.layout.decor l.layout.gutter left last → AddsRow (IsStrokeRow l.layout.decor l.layout.gutter left) above l.buffer;
   of : AreMoves (map (λ p. columns_of l.map (trimmed_edit_of p)) (take l.patch-index l.patches)) l.moves;
-  cells : (above : List (List Cell)) (last : List Cell) → l.row ≡ length above → l.initial.buffer ≡ above ++ last ∷ [] → Marked l.layout l.map (map (λ p. columns_of l.map (trimmed_edit_of p)) (take l.patch-index l.patches)) (map trimmed_edit_of (drop l.patch-index l.patches)) (with_marks l.layout l.map [] (map trimmed_edit_of l.patches) last) above l.buffer;
+  cells : (above : List (List Cell)) (last : List Cell) → l.row ≡ length above → l.initial.buffer ≡ above ++ last ∷ []
+      → Marked l.layout l.map (map (λ p. columns_of l.map (trimmed_edit_of p)) (take l.patch-index l.patches))
+      (map trimmed_edit_of (drop l.patch-index l.patches)) (with_marks l.layout l.map [] (map trimmed_edit_of l.patches) last) above l.buffer;
 }

@@ -40,8 +40,15 @@ returns-clause-prepared c =
     let text : string_bytes c.in-Some.splice.complete ≡ given_text s = splice.value ∙ ap (λ (t : List ℕ). shown_text s.fold t (map edit_of c.deref.result.now)) of ∙ ap (λ (ms : List Patch). shown_text s.fold source (map edit_of ms)) given in
     let edits : map trimmed_edit_of ps ≡ trimmed_of s = splice.edits ∙ ap (λ (t : List ℕ). trimmed_edits t (map edit_of c.deref.result.now)) of ∙ ap (λ (ms : List Patch). trimmed_edits source (map edit_of ms)) given in
     let originals : map original_bounds_of ps ≡ map bounds_of (in_order (edits_of s)) = splice.originals ∙ ap (λ (ms : List Patch). map bounds_of (in_order (map edit_of ms))) given in
-    let ranges : c.in-Some.splice.ranges.items ≡ given_ranges s = splice.written ∙ ap (λ (t : List ℕ). written_ranges t 0 (shown_start s.fold t (first_start (in_order (map edit_of c.deref.result.now)))) (trimmed_edits t (map edit_of c.deref.result.now))) of ∙ ap (λ (ms : List Patch). written_ranges source 0 (shown_start s.fold source (first_start (in_order (map edit_of ms)))) (trimmed_edits source (map edit_of ms))) given in
-    let kind : c.new-kind.result ≡ shown_kind s = c.new-kind.ensures.value ∙ ap (λ (t : List ℕ). kind_of t (map trimmed_edit_of ps) (string_bytes c.in-Some.splice.complete)) (c.source.ensures.value ∙ of) ∙ ap (λ (ts : List Edit). kind_of source ts (string_bytes c.in-Some.splice.complete)) edits ∙ ap (kind_of source (trimmed_of s)) text in
+    let ranges : c.in-Some.splice.ranges.items ≡ given_ranges s =
+    splice.written ∙ ap (λ (t : List ℕ). written_ranges t 0 (shown_start s.fold t (first_start (in_order (map edit_of c.deref.result.now))))
+    (trimmed_edits t (map edit_of c.deref.result.now))) of
+    ∙ ap (λ (ms : List Patch). written_ranges source 0 (shown_start s.fold source (first_start (in_order (map edit_of ms))))
+    (trimmed_edits source (map edit_of ms))) given in
+    let kind : c.new-kind.result ≡ shown_kind s =
+    c.new-kind.ensures.value ∙ ap (λ (t : List ℕ). kind_of t (map trimmed_edit_of ps) (string_bytes c.in-Some.splice.complete))
+    (c.source.ensures.value ∙ of) ∙ ap (λ (ts : List Edit). kind_of source ts (string_bytes c.in-Some.splice.complete)) edits
+    ∙ ap (kind_of source (trimmed_of s)) text in
     record {
       suggestible = c.requires.suggestible;
       some = λ e. let other = none.1 (given ∙ e) in cc;

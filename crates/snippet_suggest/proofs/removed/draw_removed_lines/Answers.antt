@@ -34,6 +34,10 @@ loop-info-preserved c =
 pub returns : goal.returns
 returns c =
     record {
-      added = λ above tail shares here stands is. removes_done c.args.layout above c.args.lines.now c.loop-info.row c.loop-info.info-index c.loop-info.buffer (omega (arith, c.requires.some, c.loop-info-test.false)) (omega (arith, c.loop-info-test.false)) (c.loop-info.invariant.drawn above tail shares here stands is);
-      cells = λ above tail here is few. emptied_done c.args.layout above (row_at tail 0) (numbered_at c.args.lines.now) c.loop-info.row c.loop-info.info-index c.loop-info.buffer (omega (arith, c.requires.some, c.loop-info-test.false)) (numbered_all c.args.lines.now c.loop-info.info-index c.loop-info-test.false) (c.loop-info.invariant.cells above tail here is few);
+      added = λ above tail shares here stands is. removes_done c.args.layout above c.args.lines.now c.loop-info.row c.loop-info.info-index
+          c.loop-info.buffer (omega (arith, c.requires.some, c.loop-info-test.false)) (omega (arith, c.loop-info-test.false))
+          (c.loop-info.invariant.drawn above tail shares here stands is);
+      cells = λ above tail here is few. emptied_done c.args.layout above (row_at tail 0) (numbered_at c.args.lines.now)
+          c.loop-info.row c.loop-info.info-index c.loop-info.buffer (omega (arith, c.requires.some, c.loop-info-test.false))
+          (numbered_all c.args.lines.now c.loop-info.info-index c.loop-info-test.false) (c.loop-info.invariant.cells above tail here is few);
     }

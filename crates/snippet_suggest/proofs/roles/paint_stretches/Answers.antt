@@ -40,8 +40,12 @@ loop-stretch-preserved c =
           record {
             at = subst IsCursor (sym w.tabs-is) w.before-then-stretch-2.ensures.at;
             line = ap (λ (t : TabCursor). t.line.now) w.tabs-is ∙ w.before-then-stretch-2.ensures.line ∙ line;
-            painted = λ above last here is. subst (λ (rows : List (List Cell)). IsRepainted above last rows) (sym w.buffer-is) (repaint_more above last c.loop-stretch.buffer w.set_style_range.new.self a.row w.stretch_cell-start.result w.stretch_cell-end.result a.role here (inv.painted above last here is) w.in_ok-set_style_range.ensures.ok);
-            cells = λ above last here is. w.buffer-is ∙ painted_next a.role g cs ss i d above last c.loop-stretch.buffer w.set_style_range.new.self a.row w.stretch_cell-start.result w.stretch_cell-end.result c.loop-stretch-test.true here (inv.cells above last here is) starts ends w.in_ok-set_style_range.ensures.ok;
+            painted = λ above last here is. subst (λ (rows : List (List Cell)). IsRepainted above last rows) (sym w.buffer-is)
+                (repaint_more above last c.loop-stretch.buffer w.set_style_range.new.self a.row w.stretch_cell-start.result w.stretch_cell-end.result
+                a.role here (inv.painted above last here is) w.in_ok-set_style_range.ensures.ok);
+            cells = λ above last here is. w.buffer-is
+                ∙ painted_next a.role g cs ss i d above last c.loop-stretch.buffer w.set_style_range.new.self a.row w.stretch_cell-start.result
+                w.stretch_cell-end.result c.loop-stretch-test.true here (inv.cells above last here is) starts ends w.in_ok-set_style_range.ensures.ok;
           }
       | else-stretch w ↦
           record {

@@ -40,7 +40,9 @@ returns-clause-added c fits =
     record {
       row = line_row g c.role.result LineNumber NoStyle sign number text;
       added = lined;
-      is = line_row_is c.args.layout.decor c.args.glyph g c.role.result LineNumber NoStyle sign number shown text (norm (chars c.args.line.now)) c.requires.sign c.text-sign.ensures.value is_number fits (shown_number_unlisted c.args.layout.numbers g c.args.number (omega arith)) is_text (list_any-norm (chars c.args.line.now));
+      is = line_row_is c.args.layout.decor c.args.glyph g c.role.result LineNumber NoStyle sign number shown text (norm (chars c.args.line.now))
+          c.requires.sign c.text-sign.ensures.value is_number fits (shown_number_unlisted c.args.layout.numbers g c.args.number (omega arith))
+          is_text (list_any-norm (chars c.args.line.now));
     }
 
 pub returns-clause-cells : goal.returns-clause-cells
@@ -48,4 +50,7 @@ returns-clause-cells c =
     let a = c.args in
     let is_number : chars c.as_str.result.now ≡ shown_number a.layout.numbers a.layout.gutter a.number = ap chars (c.as_str.ensures.value ∙ c.in_ok-number.ensures.text) ∙ chars-shown_number a.layout.numbers a.layout.gutter a.number (omega arith) in
     let is_text : chars c.as_str-2.result.now ≡ norm (chars a.line.now) = ap chars c.as_str-2.ensures.value ∙ c.in_ok-text.ensures.value in
-    line_drawn a.layout a.glyph a.number a.line.now c.role.result c.text-sign.result.now c.as_str.result.now c.as_str-2.result.now c.num_lines-row.result a.buffer.now c.puts.new.self c.puts-2.new.self c.puts-3.new.self c.num_lines-row.ensures.count c.role.ensures.value c.text-sign.ensures.value is_number is_text c.as_str.utf8 c.as_str-2.utf8 (c.in_ok-puts.ensures.ok c.text-sign.ensures.some) c.in_ok-puts-2.ensures.ok c.puts-2.ensures.empty c.in_ok-puts-3.ensures.ok c.puts-3.ensures.empty
+    line_drawn a.layout a.glyph a.number a.line.now c.role.result c.text-sign.result.now c.as_str.result.now c.as_str-2.result.now
+    c.num_lines-row.result a.buffer.now c.puts.new.self c.puts-2.new.self c.puts-3.new.self c.num_lines-row.ensures.count c.role.ensures.value
+    c.text-sign.ensures.value is_number is_text c.as_str.utf8 c.as_str-2.utf8 (c.in_ok-puts.ensures.ok c.text-sign.ensures.some)
+    c.in_ok-puts-2.ensures.ok c.puts-2.ensures.empty c.in_ok-puts-3.ensures.ok c.puts-3.ensures.empty

@@ -35,6 +35,16 @@ returns c =
     let left_number : StaysLeft a.layout.decor g (chars number) = subst (StaysLeft a.layout.decor g) (sym is_number) (number_left a.layout.decor a.layout.numbers g a.number (omega arith)) in
     let free_text = All-from_none is_listed (chars text) (ap (list_any is_listed) is_text ∙ list_any-norm (chars a.line.now)) in
     record {
-      added = λ above tail shares here is shared. subst (λ (t : List ℕ). AddsRow (IsRemovedRow a.layout.numbers a.layout.decor g (shown_number a.layout.numbers g a.number) t) above c.puts-3.new.self) is_text (subst (λ (n : List ℕ). AddsRow (IsRemovedRow a.layout.numbers a.layout.decor g n (chars text)) above c.puts-3.new.self) is_number (removed_added a.layout shares a.role above tail a.buffer.now c.puts.new.self c.puts-2.new.self c.puts-3.new.self a.row number (45 ∷ 32 ∷ []) text chars-minus free_number before_number left_number free_text c.in_ok-puts.ensures.ok c.puts.ensures.empty (c.in_ok-puts-2.ensures.ok (omega arith)) c.in_ok-puts-3.ensures.ok c.puts-3.ensures.empty here is shared));
-      cells = λ above tail here is few. removed_drawn a.layout a.role a.number a.line.now (45 ∷ 32 ∷ []) number text a.row above tail a.buffer.now c.puts.new.self c.puts-2.new.self c.puts-3.new.self here is few chars-minus is_number is_text c.as_str.utf8 c.as_str-2.utf8 c.in_ok-puts.ensures.ok c.puts.ensures.empty (c.in_ok-puts-2.ensures.ok (omega arith)) c.in_ok-puts-3.ensures.ok c.puts-3.ensures.empty;
+      added = λ above tail shares here is shared. subst
+          (λ (t : List ℕ). AddsRow (IsRemovedRow a.layout.numbers a.layout.decor g (shown_number a.layout.numbers g a.number) t)
+          above c.puts-3.new.self)
+          is_text (subst (λ (n : List ℕ). AddsRow (IsRemovedRow a.layout.numbers a.layout.decor g n (chars text))
+          above c.puts-3.new.self)
+          is_number (removed_added a.layout shares a.role above tail a.buffer.now c.puts.new.self c.puts-2.new.self c.puts-3.new.self a.row number
+          (45 ∷ 32 ∷ []) text chars-minus free_number before_number left_number free_text c.in_ok-puts.ensures.ok c.puts.ensures.empty
+          (c.in_ok-puts-2.ensures.ok (omega arith)) c.in_ok-puts-3.ensures.ok c.puts-3.ensures.empty here is shared));
+      cells = λ above tail here is few. removed_drawn a.layout a.role a.number a.line.now (45 ∷ 32 ∷ [])
+          number text a.row above tail a.buffer.now c.puts.new.self c.puts-2.new.self c.puts-3.new.self here is few chars-minus is_number is_text
+          c.as_str.utf8 c.as_str-2.utf8 c.in_ok-puts.ensures.ok c.puts.ensures.empty (c.in_ok-puts-2.ensures.ok (omega arith))
+          c.in_ok-puts-3.ensures.ok c.puts-3.ensures.empty;
     }

@@ -94,7 +94,11 @@ returns-clause-added c = λ room above tail is shared.
     let shown : Shown c.deref-2.result.now (length a.lines.now) ≡ Shown (given_ranges s) (length lines) = ap (λ rs. Shown rs (length a.lines.now)) ranges ∙ ap (Shown (given_ranges s)) count in
     let Adds : ℕ → List (List ℕ) → List SuggestionRow → Type 0 = λ m ls rs. AddsRows l m ls rs mid new in
     let drawn : Adds n (map (λ l. l.now) a.lines.now) (Shown c.deref-2.result.now (length a.lines.now)) = rows_shown l n (map (λ l. l.now) a.lines.now) (shown_lines (is_touched s.fold c.deref-2.result.now) (length a.lines.now)) mid new (c.in_ok-draw_lines.ensures.added fits) in
-    let below : Adds at lines (Shown (given_ranges s) (length lines)) = subst (Adds at lines) shown (subst (λ (m : ℕ). Adds m lines (Shown c.deref-2.result.now (length a.lines.now))) first (subst (λ (ls : List (List ℕ)). Adds n ls (Shown c.deref-2.result.now (length a.lines.now))) c.requires.lines drawn)) in
+    let below : Adds at lines (Shown (given_ranges s) (length lines)) =
+    subst (Adds at lines) shown
+    (subst (λ (m : ℕ). Adds m lines
+    (Shown c.deref-2.result.now (length a.lines.now)))
+    first (subst (λ (ls : List (List ℕ)). Adds n ls (Shown c.deref-2.result.now (length a.lines.now))) c.requires.lines drawn)) in
     let head = row_alone l at lines (Begins a.start) above mid (c.in_ok-draw_head.ensures.added above tail is shared) in
     let line = lines_some (λ l. l.now) a.lines.now lines c.in-Some.line.now (sym c.in-Some.ensures.value) c.requires.lines in
     let rows = rows_others a.start s _ line.0 line.1 (λ diff. other (c.requires.prepared.kind ∙ diff)) in
@@ -127,9 +131,16 @@ returns-clause-cells c = λ above tail is count.
     let stretches : ℕ → List SubstitutionHighlight = line_stretches c.deref-3.result.now in
     let same : (k : ℕ) → stretches k ≡ new_on s k = λ k. ap (λ vs. line_stretches vs k) c.deref-3.ensures.value ∙ c.requires.prepared.new k in
     let Rows : DisplaySuggestion → ℕ → List (List ℕ) → List LineRange → ℕ → List (List Cell) = λ kind m ls rs k. map (shown_cells l kind m ls stretches) (shown_lines (is_touched s.fold rs) k) in
-    let drawn : Rows p.kind n (map (λ l. l.now) a.lines.now) c.deref-2.result.now (length a.lines.now) ≡ Rows (shown_kind s) at lines (given_ranges s) (length lines) = ap (λ kind. Rows kind n (map (λ l. l.now) a.lines.now) c.deref-2.result.now (length a.lines.now)) c.requires.prepared.kind ∙ ap (λ m. Rows (shown_kind s) m (map (λ l. l.now) a.lines.now) c.deref-2.result.now (length a.lines.now)) first ∙ ap (λ ls. Rows (shown_kind s) at ls c.deref-2.result.now (length a.lines.now)) c.requires.lines ∙ ap (λ rs. Rows (shown_kind s) at lines rs (length a.lines.now)) ranges ∙ ap (Rows (shown_kind s) at lines (given_ranges s)) size in
+    let drawn : Rows p.kind n (map (λ l. l.now) a.lines.now) c.deref-2.result.now (length a.lines.now) ≡ Rows (shown_kind s) at lines (given_ranges s)
+    (length lines) = ap (λ kind. Rows kind n (map (λ l. l.now) a.lines.now) c.deref-2.result.now (length a.lines.now)) c.requires.prepared.kind
+    ∙ ap (λ m. Rows (shown_kind s) m (map (λ l. l.now) a.lines.now) c.deref-2.result.now (length a.lines.now)) first
+    ∙ ap (λ ls. Rows (shown_kind s) at ls c.deref-2.result.now (length a.lines.now)) c.requires.lines
+    ∙ ap (λ rs. Rows (shown_kind s) at lines rs (length a.lines.now)) ranges ∙ ap (Rows (shown_kind s) at lines (given_ranges s)) size in
     let below : Rows (shown_kind s) at lines (given_ranges s) (length lines) ≡ map (shown_cells l (shown_kind s) at lines (new_on s)) shown = shown_same l (shown_kind s) at lines stretches (new_on s) shown same in
     let line = lines_some (λ l. l.now) a.lines.now lines c.in-Some.line.now (sym c.in-Some.ensures.value) c.requires.lines in
     let kind : shown_kind s ≢ Diff = λ diff. other (c.requires.prepared.kind ∙ diff) in
     let rows = rows_others a.start s _ line.0 line.1 kind in
-    append-nil new ∙ c.in_ok-draw_lines.ensures.cells ∙ ap (λ rs. rs ++ Rows p.kind n (map (λ l. l.now) a.lines.now) c.deref-2.result.now (length a.lines.now)) (c.in_ok-draw_head.ensures.cells above tail is count) ∙ append_assoc above (begin ∷ []) _ ∙ ap (λ rs. above ++ (begin ∷ rs)) (drawn ∙ below) ∙ ap (λ rs. above ++ rs) (body_shown l a.start s (row_at tail 0) _ line.0 shown line.1 kind rows)
+    append-nil new ∙ c.in_ok-draw_lines.ensures.cells
+    ∙ ap (λ rs. rs ++ Rows p.kind n (map (λ l. l.now) a.lines.now) c.deref-2.result.now (length a.lines.now))
+    (c.in_ok-draw_head.ensures.cells above tail is count) ∙ append_assoc above (begin ∷ []) _ ∙ ap (λ rs. above ++ (begin ∷ rs)) (drawn ∙ below)
+    ∙ ap (λ rs. above ++ rs) (body_shown l a.start s (row_at tail 0) _ line.0 shown line.1 kind rows)

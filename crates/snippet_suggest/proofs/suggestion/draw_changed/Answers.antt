@@ -67,7 +67,9 @@ returns-clause-added c = λ fits above last start is shows.
     let reached : last_removed infos ≡ last_reached s = known_reached p c.requires.prepared infos span.start span.end c.trimmed_span.ensures.span.ordered ends c.in_ok-removed.ensures.lines in
     let i : ℕ = line_of (source_lines (cow_str_bytes s.source)) (first_start (trimmed_of s)) in
     let Removed : List LineInfo → List SuggestionRow = λ is. removed_from i (counted_from a.first 0 (unless_stays (bytes_eq a.line.now (last_removed is)) (texts_at is))) in
-    let removed : Removed left ≡ map (removed_row s) (removed_lines s) = ap Removed c.deref-4.ensures.value ∙ known_replaced_rows p c.requires.prepared a.line.now infos span.start span.end a.first c.requires.diff c.requires.line touches starts ends c.in_ok-removed.ensures.lines reached c.requires.first in
+    let removed : Removed left ≡ map (removed_row s) (removed_lines s) =
+    ap Removed c.deref-4.ensures.value ∙ known_replaced_rows p c.requires.prepared a.line.now infos span.start span.end a.first c.requires.diff
+    c.requires.line touches starts ends c.in_ok-removed.ensures.lines reached c.requires.first in
     let leaves : Bool = is_left_out Diff (a.line.now ∷ []) (last_removed left) in
     let leaves_is : is_left_out Diff (a.line.now ∷ []) (last_reached s) ≡ leaves = ap (is_left_out Diff (a.line.now ∷ [])) (sym reached ∙ ap last_removed (sym c.deref-4.ensures.value)) in
     let rows = rows_diff start s a.line.now [] true leaves c.requires.line (sym c.requires.prepared.kind ∙ c.requires.diff) (ap (λ rs. is_touched s.fold rs 0) (sym c.requires.prepared.ranges) ∙ sym touches) leaves_is in
@@ -115,4 +117,8 @@ returns-clause-cells c = λ above under start is.
     let same : (j : ℕ) → replaced j ≡ replaced_on s j = λ j. ap (λ vs. line_stretches vs j) c.deref-5.ensures.value ∙ c.requires.prepared.replaced j in
     let new : added ≡ new_on s 0 = c.stretches_of-added.ensures.value ∙ ap (λ vs. line_stretches vs 0) c.deref-3.ensures.value ∙ c.requires.prepared.new 0 in
     let Drawn : ℕ → List LineInfo → List (List Cell) = λ n is. above ++ diff_cells a.layout n is replaced a.line.now added begin in
-    append-nil c.draw_diff.new.buffer ∙ c.in_ok-draw_diff.ensures.cells above begin is ∙ ap (Drawn a.first) c.deref-4.ensures.value ∙ ap (λ n. Drawn n infos) c.requires.first ∙ ap (λ (rs : List (List Cell)). above ++ rs) (body_diff a.layout s a.line.now _ _ _ infos replaced (known_diff p a.line.now infos span.start span.end a.first diff) same start under added new (known_diff_rows p a.line.now infos span.start span.end a.first diff start))
+    append-nil c.draw_diff.new.buffer ∙ c.in_ok-draw_diff.ensures.cells above begin is ∙ ap (Drawn a.first) c.deref-4.ensures.value
+    ∙ ap (λ n. Drawn n infos) c.requires.first
+    ∙ ap (λ (rs : List (List Cell)). above ++ rs)
+    (body_diff a.layout s a.line.now _ _ _ infos replaced (known_diff p a.line.now infos span.start span.end a.first diff)
+    same start under added new (known_diff_rows p a.line.now infos span.start span.end a.first diff start))

@@ -56,12 +56,17 @@ returns-then-eq c =
           let some : 0 < length c.deref.result.now = subst (λ (ps : List TrimmedPatch). 0 < length ps) (sym c.deref.ensures.value) (known_some p c.requires.prepared) in
           let starts = c.given_span.ensures.start ∙ ap (λ ps. if s.fold then first_original ps else 0) c.deref.ensures.value in
           let ends = c.given_span.ensures.end some ∙ ap (λ ps. if s.fold then first_original_end ps else length p.map.text) c.deref.ensures.value in
-          let removed : removed_from i (numbered_at c.deref-then-eq.result.now) ≡ map (removed_row s) (removed_lines s) = ap (λ is. removed_from i (numbered_at is)) c.deref-then-eq.ensures.value ∙ known_emptied_rows p c.requires.prepared infos span.start span.end c.requires.none starts ends c.in_ok-removed.ensures.lines in
+          let removed : removed_from i (numbered_at c.deref-then-eq.result.now) ≡ map (removed_row s) (removed_lines s) =
+          ap (λ is. removed_from i (numbered_at is)) c.deref-then-eq.ensures.value
+          ∙ known_emptied_rows p c.requires.prepared infos span.start span.end c.requires.none starts ends c.in_ok-removed.ensures.lines in
           let rows = rows_none_diff a.start s c.requires.none (sym c.requires.prepared.kind ∙ diff) in
           let Adds : List SuggestionRow → Type 0 = λ rs. AddsRows a.layout first (given_lines s) rs above new in
           let head = row_alone a.layout first (given_lines s) (Begins a.start) above mid (c.in_ok-draw_head.ensures.added above tail is shared) in
           let below = c.draw_removed_lines.ensures.added mid [] false c.num_lines-row.ensures.count (sym (append-nil mid)) refl in
-          on_ok_weaker c.draw_removed_lines.result (λ adds. subst Adds (ap (λ rs. Begins a.start ∷ rs) removed ∙ sym rows) (rows_append a.layout first (given_lines s) (Begins a.start ∷ []) (removed_from i (numbered_at c.deref-then-eq.result.now)) above mid new head (removed_rows a.layout first (given_lines s) i (numbered_at c.deref-then-eq.result.now) mid new adds))) below;
+          on_ok_weaker c.draw_removed_lines.result
+          (λ adds. subst Adds (ap (λ rs. Begins a.start ∷ rs) removed ∙ sym rows)
+          (rows_append a.layout first (given_lines s) (Begins a.start ∷ []) (removed_from i (numbered_at c.deref-then-eq.result.now))
+          above mid new head (removed_rows a.layout first (given_lines s) i (numbered_at c.deref-then-eq.result.now) mid new adds))) below;
       cells = λ above tail is count.
           let a = c.args in
           let p = a.suggestion.now in
@@ -79,7 +84,11 @@ returns-then-eq c =
           let rows = rows_none_diff a.start s c.requires.none (sym c.requires.prepared.kind ∙ diff) ∙ ap (λ rs. Begins a.start ∷ rs) (sym removed) in
           let begun = c.in_ok-draw_head.ensures.cells above tail is count in
           let begin : List Cell = begin_cells a.layout a.start (row_at tail 0) in
-          on_ok_weaker c.draw_removed_lines.result (λ drawn. drawn ∙ ap (λ rs. rs ++ emptied_cells a.layout lines []) begun ∙ append_assoc above (begin ∷ []) (emptied_cells a.layout lines []) ∙ ap (λ rs. above ++ rs) (body_emptied_diff a.layout a.start s (row_at tail 0) i lines c.requires.none rows)) (c.draw_removed_lines.ensures.cells mid [] c.num_lines-row.ensures.count (sym (append-nil mid)) (omega arith));
+          on_ok_weaker c.draw_removed_lines.result
+          (λ drawn. drawn ∙ ap (λ rs. rs ++ emptied_cells a.layout lines []) begun
+          ∙ append_assoc above (begin ∷ []) (emptied_cells a.layout lines [])
+          ∙ ap (λ rs. above ++ rs) (body_emptied_diff a.layout a.start s (row_at tail 0) i lines c.requires.none rows))
+          (c.draw_removed_lines.ensures.cells mid [] c.num_lines-row.ensures.count (sym (append-nil mid)) (omega arith));
     }
 
 pub returns : goal.returns
@@ -98,11 +107,16 @@ returns c =
           let some : 0 < length c.deref.result.now = subst (λ (ps : List TrimmedPatch). 0 < length ps) (sym c.deref.ensures.value) (known_some p c.requires.prepared) in
           let starts = c.given_span.ensures.start ∙ ap (λ ps. if s.fold then first_original ps else 0) c.deref.ensures.value in
           let ends = c.given_span.ensures.end some ∙ ap (λ ps. if s.fold then first_original_end ps else length p.map.text) c.deref.ensures.value in
-          let removed : removed_from i (numbered_at c.deref-2.result.now) ≡ map (removed_row s) (removed_lines s) = ap (λ is. removed_from i (numbered_at is)) c.deref-2.ensures.value ∙ known_emptied_rows p c.requires.prepared infos span.start span.end c.requires.none starts ends c.in_ok-removed.ensures.lines in
+          let removed : removed_from i (numbered_at c.deref-2.result.now) ≡ map (removed_row s) (removed_lines s) =
+          ap (λ is. removed_from i (numbered_at is)) c.deref-2.ensures.value
+          ∙ known_emptied_rows p c.requires.prepared infos span.start span.end c.requires.none starts ends c.in_ok-removed.ensures.lines in
           let rows = rows_none a.start s c.requires.none (λ diff. other (c.requires.prepared.kind ∙ diff)) in
           let Adds : List SuggestionRow → Type 0 = λ rs. AddsRows a.layout first (given_lines s) rs above new in
           let row = tail_row a.layout (begins_in_last a.start) above tail a.buffer.now c.first_row-row.result is (start_tail a.layout a.start tail shared) c.first_row-row.ensures.value in
-          on_ok_weaker c.draw_removed_lines-2.result (λ adds. subst Adds (removed ∙ sym rows) (removed_rows a.layout first (given_lines s) i (numbered_at c.deref-2.result.now) above new adds)) (c.draw_removed_lines-2.ensures.added above tail (begins_in_last a.start) row is (start_tail a.layout a.start tail shared));
+          on_ok_weaker c.draw_removed_lines-2.result
+          (λ adds. subst Adds (removed ∙ sym rows)
+          (removed_rows a.layout first (given_lines s) i (numbered_at c.deref-2.result.now) above new adds))
+          (c.draw_removed_lines-2.ensures.added above tail (begins_in_last a.start) row is (start_tail a.layout a.start tail shared));
       cells = λ above tail is count.
           let a = c.args in
           let p = a.suggestion.now in

@@ -59,7 +59,10 @@ returns c =
                 let kind : p.kind ≡ Underline = same_true the_type (search rules) p.kind Underline (sym w.if-eq.ensures) in
                 let marks : shown_kind s ≡ Underline = sym c.requires.prepared.kind ∙ kind in
                 let edits : map trimmed_edit_of w.deref-then-eq.result.now ≡ trimmed_of s = ap (map trimmed_edit_of) w.deref-then-eq.ensures.value ∙ c.requires.prepared.edits in
-                w.buffer-is ∙ w.in_ok-draw_marks.ensures.cells before row (end_number skipped c.in_ok-row.row mid c.in_ok-row.ensures.row.0) ended ∙ ap (λ es. before ++ with_marks l p.map [] es row ∷ []) edits ∙ ap (λ m. before ++ with_marks l m [] (trimmed_of s) row ∷ []) c.requires.prepared.lines ∙ ap (λ (r : List Cell). before ++ r ∷ []) (ends_marked l s a.follows marks)
+                w.buffer-is ∙ w.in_ok-draw_marks.ensures.cells before row (end_number skipped c.in_ok-row.row mid c.in_ok-row.ensures.row.0) ended
+                ∙ ap (λ es. before ++ with_marks l p.map [] es row ∷ []) edits
+                ∙ ap (λ m. before ++ with_marks l m [] (trimmed_of s) row ∷ []) c.requires.prepared.lines
+                ∙ ap (λ (r : List Cell). before ++ r ∷ []) (ends_marked l s a.follows marks)
             | else-eq w ↦
                 let other : shown_kind s ≢ Underline = λ same. cc (w.if-eq.false, c.eq.ensures, true_same the_type p.kind Underline (c.requires.prepared.kind ∙ same)) in
                 w.buffer-is ∙ ended ∙ ap (λ (r : List Cell). before ++ r ∷ []) (ends_plain l s a.follows other)

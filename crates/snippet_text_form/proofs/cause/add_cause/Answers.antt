@@ -18,4 +18,8 @@ add_spans-requires c =
 pub returns : goal.returns
 returns c =
     let named = ap (map annotation_of) c.deref-2.ensures.value ∙ c.in_ok-spans.ensures.value ∙ ap named_spans c.deref.ensures.value in
-    record { added = on_ok_weaker c.add_spans.result (λ added. cause-added c.args.anonymized c.args.map.now (option_copied c.path_of-path.result) (map annotation_of c.deref-2.result.now) c.args.snippet.now c.args.form.now c.add_spans.new.form c.requires.map c.path_of-path.ensures.value named added) c.add_spans.ensures.added }
+    record {
+      added = on_ok_weaker c.add_spans.result
+          (λ added. cause-added c.args.anonymized c.args.map.now (option_copied c.path_of-path.result) (map annotation_of c.deref-2.result.now)
+          c.args.snippet.now c.args.form.now c.add_spans.new.form c.requires.map c.path_of-path.ensures.value named added) c.add_spans.ensures.added;
+    }

@@ -20,4 +20,10 @@ returns c =
     let text : List ℕ = codes " to line " ++ line ++ column_words (column_unless ends end) in
     let other = cond-false (eqb start.line end.line) [] text (ne_eqb start.line end.line c.if-start-end.false) in
     let column = c.column_unless.ensures.value ∙ ap (λ plain. column_unless plain end) (c.is_blank_after-ends.ensures.value ∙ ap (λ l. is_blank_after l end.char) c.get_line.ensures.value) in
-    record { added = on_ok_weaker c.add_column.result (λ last. bare-three c.args.form.now c.add_text.new.self c.add_line.new.form c.add_column.new.form (codes " to line ") line (column_words (column_unless ends end)) c.in_ok-add_text.ensures.added c.in_ok-add_line.ensures.added (last ∙ ap (λ o. c.add_line.new.form ++ bare (column_words o)) column) ∙ ap (λ l. c.args.form.now ++ bare l) (sym other)) c.add_column.ensures.added }
+    record {
+      added = on_ok_weaker c.add_column.result
+          (λ last. bare-three c.args.form.now c.add_text.new.self c.add_line.new.form c.add_column.new.form (codes " to line ")
+          line (column_words (column_unless ends end))
+          c.in_ok-add_text.ensures.added c.in_ok-add_line.ensures.added (last ∙ ap (λ o. c.add_line.new.form ++ bare (column_words o)) column)
+          ∙ ap (λ l. c.args.form.now ++ bare l) (sym other)) c.add_column.ensures.added;
+    }

@@ -16,7 +16,10 @@ loop-c-preserved c =
     let cs = chars c.args.line.now in
     let at = YieldsList-turn (YieldsList-from_chars c.args.line.now c.utf8.line cc) c.loop-c.yielded _ c.loop-c.yielded_by _ _ c.in-Some.c c.in-Some.is c.next.ensures.steps in
     let fewer = c.saturating_sub-left.result in
-    ap (λ n. blank_from (drop n cs) fewer) (length_push c.loop-c.yielded c.in-Some.c) ∙ blank_from-step cs (length c.loop-c.yielded) c.in-Some.c c.loop-c.left fewer at (sym c.is_visible_after.ensures.value ∙ c.if-is_visible_after.false) (omega (arith, c.saturating_sub-left.ensures)) ∙ c.loop-c.invariant
+    ap (λ n. blank_from (drop n cs) fewer) (length_push c.loop-c.yielded c.in-Some.c)
+    ∙ blank_from-step cs (length c.loop-c.yielded)
+    c.in-Some.c c.loop-c.left fewer at (sym c.is_visible_after.ensures.value ∙ c.if-is_visible_after.false)
+    (omega (arith, c.saturating_sub-left.ensures)) ∙ c.loop-c.invariant
 
 pub returns : goal.returns
 returns c =

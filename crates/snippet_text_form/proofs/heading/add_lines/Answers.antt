@@ -13,7 +13,9 @@ loop-index-init g c = (sym (append-nil c.args.form.now), tt)
 pub loop-index-preserved : goal.loop-index-preserved
 loop-index-preserved g c =
     let turn = YieldsList-turn (YieldsList-from_enumerate (YieldsList-from_str_split 10 c.text.result.now (lit< tt) (cc) (cc) (cc)) (cc)) c.loop-index.yielded _ c.loop-index.yielded_by _ _ _ c.in-Some.is c.next.ensures.steps in
-    let added = line_added _ _ _ _ c.args.role _ _ c.allows_styling-trusted.result c.loop-index.yielded c.in-Some.line _ (number_is (lines_at c.text.result.now) _ _ _ turn.0 turn.1) c.loop-index.invariant.0 c.in_ok-width.ensures.added c.in_ok-add_styled.ensures.added c.in_ok-shown_line.ensures.value in
+    let added = line_added _ _ _ _ c.args.role _ _ c.allows_styling-trusted.result c.loop-index.yielded c.in-Some.line _
+    (number_is (lines_at c.text.result.now) _ _ _ turn.0 turn.1)
+    c.loop-index.invariant.0 c.in_ok-width.ensures.added c.in_ok-add_styled.ensures.added c.in_ok-shown_line.ensures.value in
     (added, c.in_ok-width.ensures.known)
 
 pub returns : goal.returns

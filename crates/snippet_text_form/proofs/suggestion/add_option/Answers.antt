@@ -18,5 +18,8 @@ returns c =
     let digits : List ℕ = decimal c.in-Some.number in
     let name : named ≡ begun ++ bare (codes " option ") = c.in_ok-add_text.ensures.added ∙ ap (λ text. begun ++ bare text) (chars-encodes (codes " option ") refl) in
     record {
-      added = on_ok_weaker c.add_number.result (λ last. adds_line old begun new (bare (codes " option " ++ digits)) c.in_ok-add_break.ensures.added (text-two begun named new (codes " option ") digits name last) ∙ ap (λ option. old ++ option_form option) (sym c.in-Some.is)) c.add_number.ensures.added;
+      added = on_ok_weaker c.add_number.result
+          (λ last. adds_line old begun new (bare (codes " option " ++ digits))
+          c.in_ok-add_break.ensures.added (text-two begun named new (codes " option ") digits name last)
+          ∙ ap (λ option. old ++ option_form option) (sym c.in-Some.is)) c.add_number.ensures.added;
     }

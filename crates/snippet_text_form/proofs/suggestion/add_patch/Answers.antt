@@ -24,5 +24,9 @@ returns c =
     let stands : placed ≡ indented ++ bare (place at) = c.in_ok-add_patch_place.ensures.added ∙ ap (λ l. indented ++ bare (place l)) c.span_to_locations.ensures.value in
     let front : placed ≡ begun ++ bare (chars a.indent.now ++ place at) = text-two begun indented placed (chars a.indent.now) (place at) c.in_ok-add_text.ensures.added stands in
     record {
-      added = on_ok_weaker c.add_replacement.result (λ last. adds_line a.form.now begun new (bare (chars a.indent.now ++ place at) ++ added) c.in_ok-add_break.ensures.added (added-two begun placed new (bare (chars a.indent.now ++ place at)) added front (last ∙ ap (λ text. placed ++ added_form text e) c.source-source.ensures.value))) c.add_replacement.ensures.added;
+      added = on_ok_weaker c.add_replacement.result
+          (λ last. adds_line a.form.now begun new (bare (chars a.indent.now ++ place at) ++ added)
+          c.in_ok-add_break.ensures.added
+          (added-two begun placed new (bare (chars a.indent.now ++ place at))
+          added front (last ∙ ap (λ text. placed ++ added_form text e) c.source-source.ensures.value))) c.add_replacement.ensures.added;
     }

@@ -24,7 +24,10 @@ returns-in_ok-add_place c =
     let over : overwrites a.map.now.text e ≡ true = sym (seen_over c.source.result.now a.map.now.text e c.overwrites.result c.source.ensures.value c.requires.span c.overwrites.ensures.value) ∙ c.if-overwrites.true in
     let given : is_blank e.text ≡ false = sym c.is_blank.ensures.value ∙ c.if-not-is_blank.true in
     record {
-      added = on_ok_weaker c.add_end.result (λ last. text-two old mid new (place a.anonymized path a.start.line (Some (a.start.char + 1))) (replaced_to a.anonymized a.start a.end) c.in_ok-add_place.ensures.added last ∙ ap (λ text. old ++ bare text) (sym (replaced_place a.anonymized a.map.now path e a.start a.end over given))) c.add_end.ensures.added;
+      added = on_ok_weaker c.add_end.result
+          (λ last. text-two old mid new (place a.anonymized path a.start.line (Some (a.start.char + 1))) (replaced_to a.anonymized a.start a.end)
+          c.in_ok-add_place.ensures.added last ∙ ap (λ text. old ++ bare text)
+          (sym (replaced_place a.anonymized a.map.now path e a.start a.end over given))) c.add_end.ensures.added;
     }
 
 pub returns-else-overwrites : goal.returns-else-overwrites

@@ -36,5 +36,7 @@ returns c =
     let path : Option (List ℕ) = option_copied c.shown_path-path.result in
     let all : take c.loop-patch.patch-index c.deref-patch-items.result.now ≡ p.splice.patches.items = take_all c.loop-patch.patch-index c.deref-patch-items.result.now c.loop-patch-test.false ∙ c.deref-patch-items.ensures.value in
     record {
-      added = suggestion_added a.anonymized a.place p indent path a.form.now begun c.loop-patch.form c.requires.prepared c.indent_below-indent.ensures.value c.shown_path-path.ensures.value c.in_ok-add_option.ensures.added (c.loop-patch.invariant ∙ ap (λ ts. begun ++ flat_map (edit_form a.anonymized p.map indent path) (map trimmed_edit_of ts)) all);
+      added = suggestion_added a.anonymized a.place p indent path a.form.now begun c.loop-patch.form c.requires.prepared
+          c.indent_below-indent.ensures.value c.shown_path-path.ensures.value c.in_ok-add_option.ensures.added
+          (c.loop-patch.invariant ∙ ap (λ ts. begun ++ flat_map (edit_form a.anonymized p.map indent path) (map trimmed_edit_of ts)) all);
     }

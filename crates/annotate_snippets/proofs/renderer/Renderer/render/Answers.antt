@@ -18,11 +18,18 @@ returns-clause-shows c =
     let sheet : Stylesheet = r.stylesheet in
     let report : Drawn = c.in_ok-drawn.drawn in
     let drawable = drawable-from_ok r groups c.drawn.result report c.requires.fits c.drawn.ensures.refused c.in_ok-drawn.was in
-    IfOk-map_err (λ text. TextsShown r groups (sheet ∷ []) (string_bytes text ∷ [])) _ c.text_under.result c.map_err.result (IfOk-weaker c.text_under.result (λ text. IsPrintedAs report sheet (string_bytes text)) (λ text. TextsShown r groups (sheet ∷ []) (string_bytes text ∷ [])) (λ text printed. texts-shown r groups (sheet ∷ []) (string_bytes text ∷ []) report drawable c.in_ok-drawn.ensures.drawn (printed, tt)) c.text_under.ensures.printed) c.map_err.ensures.cases
+    IfOk-map_err (λ text. TextsShown r groups (sheet ∷ []) (string_bytes text ∷ []))
+    _ c.text_under.result c.map_err.result
+    (IfOk-weaker c.text_under.result (λ text. IsPrintedAs report sheet (string_bytes text))
+    (λ text. TextsShown r groups (sheet ∷ []) (string_bytes text ∷ []))
+    (λ text printed. texts-shown r groups (sheet ∷ []) (string_bytes text ∷ []) report drawable c.in_ok-drawn.ensures.drawn (printed, tt))
+    c.text_under.ensures.printed) c.map_err.ensures.cases
 
 pub returns-clause-free : goal.returns-clause-free
 returns-clause-free c =
     let r = c.args.self.now in
     let groups : List Group = c.args.groups.now in
     let sheet : Stylesheet = r.stylesheet in
-    IfOk-weaker c.map_err.result (λ text. TextsShown r groups (sheet ∷ []) (string_bytes text ∷ [])) (λ text. AreFree (trusted_texts groups) (links_in (form_of r) r groups) (sheet ∷ []) (string_bytes text ∷ [])) (λ text. are-free r groups (sheet ∷ []) (string_bytes text ∷ [])) (returns-clause-shows c)
+    IfOk-weaker c.map_err.result (λ text. TextsShown r groups (sheet ∷ []) (string_bytes text ∷ []))
+    (λ text. AreFree (trusted_texts groups) (links_in (form_of r) r groups) (sheet ∷ []) (string_bytes text ∷ []))
+    (λ text. are-free r groups (sheet ∷ []) (string_bytes text ∷ [])) (returns-clause-shows c)

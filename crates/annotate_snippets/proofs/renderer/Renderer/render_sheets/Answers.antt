@@ -19,11 +19,18 @@ returns-clause-shows c =
     let sheets : List Stylesheet = c.args.sheets.now in
     let report : Drawn = c.in_ok-drawn.drawn in
     let drawable = drawable-from_ok r groups c.drawn.result report c.requires.fits c.drawn.ensures.refused c.in_ok-drawn.was in
-    IfOk-map_err (λ texts. TextsShown r groups sheets (map string_bytes texts.items)) _ c.texts_under.result c.map_err.result (IfOk-weaker c.texts_under.result (λ texts. AllZip (IsPrintedAs report) sheets (map string_bytes texts.items)) (λ texts. TextsShown r groups sheets (map string_bytes texts.items)) (λ texts. texts-shown r groups sheets (map string_bytes texts.items) report drawable c.in_ok-drawn.ensures.drawn) c.texts_under.ensures.printed) c.map_err.ensures.cases
+    IfOk-map_err (λ texts. TextsShown r groups sheets (map string_bytes texts.items))
+    _ c.texts_under.result c.map_err.result
+    (IfOk-weaker c.texts_under.result (λ texts. AllZip (IsPrintedAs report) sheets (map string_bytes texts.items))
+    (λ texts. TextsShown r groups sheets (map string_bytes texts.items))
+    (λ texts. texts-shown r groups sheets (map string_bytes texts.items) report drawable c.in_ok-drawn.ensures.drawn)
+    c.texts_under.ensures.printed) c.map_err.ensures.cases
 
 pub returns-clause-free : goal.returns-clause-free
 returns-clause-free c =
     let r = c.args.self.now in
     let groups : List Group = c.args.groups.now in
     let sheets : List Stylesheet = c.args.sheets.now in
-    IfOk-weaker c.map_err.result (λ texts. TextsShown r groups sheets (map string_bytes texts.items)) (λ texts. AreFree (trusted_texts groups) (links_in (form_of r) r groups) sheets (map string_bytes texts.items)) (λ texts. are-free r groups sheets (map string_bytes texts.items)) (returns-clause-shows c)
+    IfOk-weaker c.map_err.result (λ texts. TextsShown r groups sheets (map string_bytes texts.items))
+    (λ texts. AreFree (trusted_texts groups) (links_in (form_of r) r groups) sheets (map string_bytes texts.items))
+    (λ texts. are-free r groups sheets (map string_bytes texts.items)) (returns-clause-shows c)

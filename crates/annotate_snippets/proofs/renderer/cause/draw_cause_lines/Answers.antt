@@ -39,7 +39,12 @@ margin_for-margin-requires-clause-labels c =
     lines_labels (numbered_source s) s.markers.items drawable.spans (kept_lines s.fold (cow_str_bytes s.source) s.markers.items) c.deref.result.now (kept_is c) drawable.labels
 
 -- those that are shown
-shown_of : (cause : PreparedCause) → IsCausePrepared cause → (source : Source) → source ≡ cause.map → (shown infos : List AnnotatedLineInfo) → infos ≡ shown → ((fold : Bool) (marks : List Annotation) → All (λ a. IsSpan source.text a.span.start a.span.end) marks → map seen_kept cause.kept.items ≡ annotated_lines fold source marks → map seen_kept shown ≡ map (kept_line source marks) (shown_lines fold source.text marks)) → map seen_kept infos ≡ map (kept_line (numbered_source cause.snippet.now) cause.snippet.now.markers.items) (shown_lines cause.snippet.now.fold (cow_str_bytes cause.snippet.now.source) cause.snippet.now.markers.items)
+shown_of : (cause : PreparedCause) → IsCausePrepared cause → (source : Source) → source ≡ cause.map → (shown infos : List AnnotatedLineInfo)
+    → infos ≡ shown → ((fold : Bool) (marks : List Annotation) → All (λ a. IsSpan source.text a.span.start
+    a.span.end) marks → map seen_kept cause.kept.items ≡ annotated_lines fold source marks
+    → map seen_kept shown ≡ map (kept_line source marks) (shown_lines fold source.text marks))
+    → map seen_kept infos ≡ map (kept_line (numbered_source cause.snippet.now) cause.snippet.now.markers.items)
+    (shown_lines cause.snippet.now.fold (cow_str_bytes cause.snippet.now.source) cause.snippet.now.markers.items)
 shown_of cause prepared source is shown infos same between =
     let s = cause.snippet.now in
     let marks : List Annotation = s.markers.items in
@@ -67,7 +72,10 @@ draw_snippet-requires-clause-place c =
 pub draw_snippet-requires-clause-numbers : goal.draw_snippet-requires-clause-numbers
 draw_snippet-requires-clause-numbers c =
     let s = c.args.cause.snippet.now in
-    subst (λ (numbers : LineNumbers). All (λ (info : AnnotatedLineInfo). length (shown_number numbers c.args.frame.gutter info.line_index) ≤ c.args.frame.gutter + 1) c.deref-2.result.now) (sym c.line_numbers-numbers.ensures.value) (numbers_fit c.args.renderer.now c.args.frame s c.deref-2.result.now c.requires.room c.requires.prepared.drawable (shown_is c))
+    subst (λ (numbers : LineNumbers). All
+    (λ (info : AnnotatedLineInfo). length (shown_number numbers c.args.frame.gutter info.line_index) ≤ c.args.frame.gutter + 1)
+    c.deref-2.result.now) (sym c.line_numbers-numbers.ensures.value)
+    (numbers_fit c.args.renderer.now c.args.frame s c.deref-2.result.now c.requires.room c.requires.prepared.drawable (shown_is c))
 
 pub draw_snippet-requires-clause-texts : goal.draw_snippet-requires-clause-texts
 draw_snippet-requires-clause-texts c =
@@ -89,7 +97,9 @@ draw_snippet-requires-clause-clear c =
 pub draw_snippet-requires-clause-bar_cells : goal.draw_snippet-requires-clause-bar_cells
 draw_snippet-requires-clause-bar_cells c =
     let s = c.args.cause.snippet.now in
-    lines_bar_cells (numbered_source s) s.markers.items c.requires.prepared.drawable.spans (shown_lines s.fold (cow_str_bytes s.source) s.markers.items) c.deref-2.result.now (shown_is c) (record { gutter = c.args.frame.gutter; code = c.args.frame.code; decor = c.args.renderer.now.decor_style }) c.requires.room.bars
+    lines_bar_cells (numbered_source s) s.markers.items c.requires.prepared.drawable.spans
+    (shown_lines s.fold (cow_str_bytes s.source) s.markers.items) c.deref-2.result.now (shown_is c)
+    (record { gutter = c.args.frame.gutter; code = c.args.frame.code; decor = c.args.renderer.now.decor_style }) c.requires.room.bars
 
 pub draw_snippet-requires-clause-labels : goal.draw_snippet-requires-clause-labels
 draw_snippet-requires-clause-labels c =
@@ -104,7 +114,10 @@ returns c =
     let frame = c.args.frame in
     let kept : map seen_kept c.deref.result.now ≡ annotated_lines s.fold (numbered_source s) s.markers.items = ap (map seen_kept) c.deref.ensures.value ∙ prepared.kept_are in
     let room : c.saturating_sub-room.result ≡ c.args.renderer.now.term_width - frame.code = c.saturating_sub-room.ensures in
-    let bounds : bounds_of c.margin_for-margin.result ≡ margin_of (c.args.renderer.now.term_width - frame.code) s.fold (numbered_source s) s.markers.items = c.margin_for-margin.ensures.bounds ∙ bounds_of_kept c.saturating_sub-room.result s.fold (numbered_source s) s.markers.items c.deref.result.now prepared.drawable.spans kept ∙ ap (λ n. margin_of n s.fold (numbered_source s) s.markers.items) room in
+    let bounds : bounds_of c.margin_for-margin.result ≡ margin_of (c.args.renderer.now.term_width - frame.code) s.fold (numbered_source s)
+    s.markers.items = c.margin_for-margin.ensures.bounds
+    ∙ bounds_of_kept c.saturating_sub-room.result s.fold (numbered_source s) s.markers.items c.deref.result.now prepared.drawable.spans kept
+    ∙ ap (λ n. margin_of n s.fold (numbered_source s) s.markers.items) room in
     record {
       added = on_ok_weaker c.draw_snippet.result (λ adds. record {
         rows = adds.rows;

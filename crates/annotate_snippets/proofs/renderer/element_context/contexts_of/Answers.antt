@@ -14,10 +14,24 @@ loop-i-init c =
 
 pub loop-i-preserved : goal.loop-i-preserved
 loop-i-preserved c =
-    let more = around_more c.args.place (option_copied c.args.file) (map element_of c.args.elements.now) c.loop-i.i (element_of c.index-elements-i.result) c.loop-i.primary c.loop-i.shares c.first_two_share-shared.result c.start_of.result c.next_of.result c.loop-i.around.items c.push.new.self.items c.loop-i.invariant (element_read c.args.elements.now c.loop-i.i c.index-elements-i.result c.loop-i-test.true c.index-elements-i.is) c.start_of.ensures.value (c.first_two_share-shared.ensures.value ∙ ap first_two_share (elements_from c.args.elements.now c.loop-i.i)) (c.next_of.ensures.value ∙ ap next_of (elements_from c.args.elements.now (c.loop-i.i + 1))) c.in_ok-push.ensures.items in
+    let more = around_more c.args.place (option_copied c.args.file) (map element_of c.args.elements.now)
+    c.loop-i.i (element_of c.index-elements-i.result)
+    c.loop-i.primary c.loop-i.shares c.first_two_share-shared.result c.start_of.result c.next_of.result c.loop-i.around.items
+    c.push.new.self.items c.loop-i.invariant
+    (element_read c.args.elements.now c.loop-i.i c.index-elements-i.result c.loop-i-test.true c.index-elements-i.is)
+    c.start_of.ensures.value (c.first_two_share-shared.ensures.value ∙ ap first_two_share (elements_from c.args.elements.now c.loop-i.i))
+    (c.next_of.ensures.value ∙ ap next_of (elements_from c.args.elements.now (c.loop-i.i + 1))) c.in_ok-push.ensures.items in
     elim c.if-primary.branch [
-      | then-primary w ↦ around_same c.args.place (option_copied c.args.file) (map element_of c.args.elements.now) (c.loop-i.i + 1) (c.loop-i.primary && not (has_file (element_of c.index-elements-i.result))) c.if-primary.primary c.first_two_share-shared.result c.if-primary.shares c.push.new.self.items more (w.primary-is ∙ ap not w.has_file.ensures.value ∙ ap (λ b. b && not (has_file (element_of c.index-elements-i.result))) (sym w.if-primary.true)) w.shares-is
-      | else-primary w ↦ around_same c.args.place (option_copied c.args.file) (map element_of c.args.elements.now) (c.loop-i.i + 1) (c.loop-i.primary && not (has_file (element_of c.index-elements-i.result))) c.if-primary.primary c.first_two_share-shared.result c.if-primary.shares c.push.new.self.items more (w.primary-is ∙ w.if-primary.false ∙ ap (λ b. b && not (has_file (element_of c.index-elements-i.result))) (sym w.if-primary.false)) w.shares-is
+      | then-primary w ↦ around_same c.args.place (option_copied c.args.file) (map element_of c.args.elements.now) (c.loop-i.i + 1)
+          (c.loop-i.primary && not (has_file (element_of c.index-elements-i.result)))
+          c.if-primary.primary c.first_two_share-shared.result c.if-primary.shares c.push.new.self.items more
+          (w.primary-is ∙ ap not w.has_file.ensures.value
+          ∙ ap (λ b. b && not (has_file (element_of c.index-elements-i.result))) (sym w.if-primary.true)) w.shares-is
+      | else-primary w ↦ around_same c.args.place (option_copied c.args.file) (map element_of c.args.elements.now) (c.loop-i.i + 1)
+          (c.loop-i.primary && not (has_file (element_of c.index-elements-i.result)))
+          c.if-primary.primary c.first_two_share-shared.result c.if-primary.shares c.push.new.self.items more
+          (w.primary-is ∙ w.if-primary.false ∙ ap (λ b. b && not (has_file (element_of c.index-elements-i.result))) (sym w.if-primary.false))
+          w.shares-is
     ]
 
 pub returns : goal.returns

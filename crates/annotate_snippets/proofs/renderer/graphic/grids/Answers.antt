@@ -17,7 +17,10 @@ pub draw_group-requires-clause-room : goal.draw_group-requires-clause-room
 draw_group-requires-clause-room c =
     let turn = YieldsList-turn (YieldsList-from_enumerate (YieldsList-from_vec c.in_ok-prepared.prepared.items (cc) (cc)) (cc)) c.loop-i.yielded c.loop-i.i-iterator c.loop-i.yielded_by c.next.result c.next.new.self (c.in-Some.i, c.in-Some.group) c.in-Some.is c.next.ensures.steps in
     let same : map group_of c.deref.result.now ≡ c.args.groups.now = ap (map group_of) c.deref.ensures.value ∙ c.in_ok-prepared.ensures.groups in
-    let frame : c.frame_for-frame.result ≡ frame_of c.args.renderer.now c.args.groups.now c.in-Some.group.group.now = frame_is c.args.renderer.now c.args.groups.now (map group_of c.deref.result.now) c.in-Some.group.group.now c.frame_for-frame.result c.gutter_of-gutter.result c.depth.result same c.gutter_of-gutter.ensures.value c.depth.ensures.value c.frame_for-frame.ensures.gutter c.frame_for-frame.ensures.code in
+    let frame : c.frame_for-frame.result ≡ frame_of c.args.renderer.now c.args.groups.now c.in-Some.group.group.now =
+    frame_is c.args.renderer.now c.args.groups.now (map group_of c.deref.result.now)
+    c.in-Some.group.group.now c.frame_for-frame.result c.gutter_of-gutter.result c.depth.result same c.gutter_of-gutter.ensures.value
+    c.depth.ensures.value c.frame_for-frame.ensures.gutter c.frame_for-frame.ensures.code in
     let prepared : IsGroupPrepared c.in-Some.group = turn_prepared c.in_ok-prepared.prepared.items (length c.loop-i.yielded) c.in-Some.i c.in-Some.group c.in_ok-prepared.ensures.prepared turn in
     turn_room c.args.renderer.now c.args.groups.now c.in_ok-prepared.prepared.items (length c.loop-i.yielded) c.in-Some.i c.in-Some.group c.frame_for-frame.result c.requires.drawable prepared c.in_ok-prepared.ensures.groups turn frame
 
@@ -25,9 +28,18 @@ pub loop-i-preserved : goal.loop-i-preserved
 loop-i-preserved c =
     let turn = YieldsList-turn (YieldsList-from_enumerate (YieldsList-from_vec c.in_ok-prepared.prepared.items (cc) (cc)) (cc)) c.loop-i.yielded c.loop-i.i-iterator c.loop-i.yielded_by c.next.result c.next.new.self (c.in-Some.i, c.in-Some.group) c.in-Some.is c.next.ensures.steps in
     let same : map group_of c.deref.result.now ≡ c.args.groups.now = ap (map group_of) c.deref.ensures.value ∙ c.in_ok-prepared.ensures.groups in
-    let frame : c.frame_for-frame.result ≡ frame_of c.args.renderer.now c.args.groups.now c.in-Some.group.group.now = frame_is c.args.renderer.now c.args.groups.now (map group_of c.deref.result.now) c.in-Some.group.group.now c.frame_for-frame.result c.gutter_of-gutter.result c.depth.result same c.gutter_of-gutter.ensures.value c.depth.ensures.value c.frame_for-frame.ensures.gutter c.frame_for-frame.ensures.code in
-    let file = ap option_copied c.or-file.ensures ∙ copied_or c.primary_path.result c.report_file-file.result ∙ ap (λ path. option_or path (option_copied c.report_file-file.result)) c.primary_path.ensures.value ∙ ap (option_or (primary_path c.in-Some.group.group.now)) c.report_file-file.ensures.value in
-    turn_grid c.args.renderer.now c.args.groups.now c.in_ok-prepared.prepared.items (length c.loop-i.yielded) _ c.in-Some.i c.in-Some.group c.frame_for-frame.result c.at-place.result (option_copied c.or-file.result) c.in_ok-draw_group.field-0 c.loop-i.grids.items c.push.new.self.items c.in_ok-prepared.ensures.groups turn frame c.at-place.ensures.value file c.in_ok-draw_group.ensures.level c.in_ok-draw_group.ensures.drawn c.in_ok-push.ensures.items (length_push c.loop-i.yielded (c.in-Some.i, c.in-Some.group)) c.loop-i.invariant
+    let frame : c.frame_for-frame.result ≡ frame_of c.args.renderer.now c.args.groups.now c.in-Some.group.group.now =
+    frame_is c.args.renderer.now c.args.groups.now (map group_of c.deref.result.now)
+    c.in-Some.group.group.now c.frame_for-frame.result c.gutter_of-gutter.result c.depth.result same c.gutter_of-gutter.ensures.value
+    c.depth.ensures.value c.frame_for-frame.ensures.gutter c.frame_for-frame.ensures.code in
+    let file = ap option_copied c.or-file.ensures ∙ copied_or c.primary_path.result c.report_file-file.result
+    ∙ ap (λ path. option_or path (option_copied c.report_file-file.result)) c.primary_path.ensures.value
+    ∙ ap (option_or (primary_path c.in-Some.group.group.now)) c.report_file-file.ensures.value in
+    turn_grid c.args.renderer.now c.args.groups.now c.in_ok-prepared.prepared.items (length c.loop-i.yielded)
+    _ c.in-Some.i c.in-Some.group c.frame_for-frame.result c.at-place.result (option_copied c.or-file.result)
+    c.in_ok-draw_group.field-0 c.loop-i.grids.items c.push.new.self.items c.in_ok-prepared.ensures.groups turn frame c.at-place.ensures.value file
+    c.in_ok-draw_group.ensures.level c.in_ok-draw_group.ensures.drawn c.in_ok-push.ensures.items
+    (length_push c.loop-i.yielded (c.in-Some.i, c.in-Some.group)) c.loop-i.invariant
 
 pub returns : goal.returns
 returns c =

@@ -23,7 +23,9 @@ loop-group-preserved c =
     let g = c.group-item.result in
     let drawable : IsGroupDrawable g = subst IsGroupDrawable (sym c.group-item.is) (c.requires.drawable c.loop-group.group-index g c.loop-group-test.true) in
     let elements = c.in_ok-elements.ensures.elements ∙ ap (filter is_drawn) c.deref.ensures.value in
-    ArePrepared-push c.args.groups.now c.loop-group.group-index g c.loop-group.prepared.items c.push.new.self.items _ c.in_ok-push.ensures.items c.loop-group-test.true c.group-item.is refl c.loop-group.invariant (record { fits = drawable.0; elements_are = elements; prepared = c.in_ok-elements.ensures.prepared })
+    ArePrepared-push c.args.groups.now c.loop-group.group-index g c.loop-group.prepared.items c.push.new.self.items _ c.in_ok-push.ensures.items
+    c.loop-group-test.true c.group-item.is refl c.loop-group.invariant
+    (record { fits = drawable.0; elements_are = elements; prepared = c.in_ok-elements.ensures.prepared })
 
 pub returns-clause-groups : goal.returns-clause-groups
 returns-clause-groups c =

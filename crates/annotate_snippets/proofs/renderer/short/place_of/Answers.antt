@@ -41,7 +41,9 @@ returns c =
     let path : List ℕ = cow_str_bytes c.in-Some.path in
     let place : OriginLocation = c.named_place-place.result in
     let map_is : c.in_ok-map.map ≡ numbered_source s = c.in_ok-map.ensures.ok ∙ ap (λ t. record { text = t; first = s.line_start }) c.as_str.ensures.value in
-    let own : place ≡ place_named true (annotated_lines s.fold (numbered_source s) s.markers.items) = c.named_place-place.ensures.value s.fold ∙ ap (λ source. place_named true (annotated_lines s.fold source c.deref.result.now)) map_is ∙ ap (λ marks. place_named true (annotated_lines s.fold (numbered_source s) marks)) c.deref.ensures.value in
+    let own : place ≡ place_named true (annotated_lines s.fold (numbered_source s) s.markers.items) =
+    c.named_place-place.ensures.value s.fold ∙ ap (λ source. place_named true (annotated_lines s.fold source c.deref.result.now)) map_is
+    ∙ ap (λ marks. place_named true (annotated_lines s.fold (numbered_source s) marks)) c.deref.ensures.value in
     let text : chars (string_bytes c.in_ok-text.text) ≡ origin_text c.args.renderer.now.anonymized_origin_line_numbers path place = c.in_ok-text.ensures.value ∙ ap (λ bs. origin_text c.args.renderer.now.anonymized_origin_line_numbers bs place) c.as_str-2.ensures.value in
     let is = place-added (string_bytes c.in_ok-text.text) (string_bytes c.push_str.new.self) _ (IsUtf8-string_bytes c.in_ok-text.text) text c.in_ok-push_str.ensures.bytes in
     let short : TextFits path = subst (λ p. IfSome p (λ t. TextFits (cow_str_bytes t))) c.in-Some.is c.requires.fits.1 in

@@ -28,7 +28,12 @@ add_element-requires-clause-small c =
 
 pub loop-i-preserved : goal.loop-i-preserved
 loop-i-preserved c =
-    element_added c.args.renderer.now (option_copied c.args.file) (map seen c.args.elements.now) c.loop-i.i (seen c.index-elements-i.result) c.args.form.now c.loop-i.form c.add_element.new.form (before_seen c.loop-i.before) (before_seen c.before_next-before.result) c.first_two_share-followed.result (drawn_read c.args.elements.now c.loop-i.i c.index-elements-i.result c.loop-i-test.true c.index-elements-i.is) (c.first_two_share-followed.ensures.value ∙ ap first_two_share (drawn_from c.args.elements.now c.loop-i.i)) c.in_ok-add_element.ensures.added c.before_next-before.ensures.value c.loop-i.invariant
+    element_added c.args.renderer.now (option_copied c.args.file) (map seen c.args.elements.now) c.loop-i.i (seen c.index-elements-i.result)
+    c.args.form.now c.loop-i.form c.add_element.new.form (before_seen c.loop-i.before) (before_seen c.before_next-before.result)
+    c.first_two_share-followed.result
+    (drawn_read c.args.elements.now c.loop-i.i c.index-elements-i.result c.loop-i-test.true c.index-elements-i.is)
+    (c.first_two_share-followed.ensures.value ∙ ap first_two_share (drawn_from c.args.elements.now c.loop-i.i))
+    c.in_ok-add_element.ensures.added c.before_next-before.ensures.value c.loop-i.invariant
 
 pub returns : goal.returns
 returns c =

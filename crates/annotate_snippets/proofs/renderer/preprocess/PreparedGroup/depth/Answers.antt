@@ -24,4 +24,6 @@ loop-element-preserved c =
 pub returns-clause-value : goal.returns-clause-value
 returns-clause-value c =
     let ps = c.deref-element-items.result.now in
-    c.loop-element.invariant.value ∙ ap (λ (qs : List PreparedElement). fold (greater depth_of_element) 0 (map element_of qs)) (take_all c.loop-element.element-index ps c.loop-element-test.false) ∙ widest-prepared depth_of_element depth-undrawn 0 c.args.self.now ps c.deref-element-items.ensures.value c.requires.prepared
+    c.loop-element.invariant.value ∙ ap (λ (qs : List PreparedElement). fold (greater depth_of_element) 0 (map element_of qs))
+    (take_all c.loop-element.element-index ps c.loop-element-test.false)
+    ∙ widest-prepared depth_of_element depth-undrawn 0 c.args.self.now ps c.deref-element-items.ensures.value c.requires.prepared
