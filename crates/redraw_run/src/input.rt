@@ -22,6 +22,8 @@ pub struct Reading {
     has_begun: bool,
     /// The lines of a document that is more than its first line.
     document: Option<String>,
+    /// Whether each line so far was UTF-8.
+    is_text: bool,
 }
 
 /// What a value of JSON is.
@@ -63,6 +65,7 @@ impl Reading {
             is_known: false,
             has_begun: false,
             document: None,
+            is_text: true,
         }
     }
 
@@ -97,6 +100,16 @@ impl Reading {
         }
     }
 
+    /// Takes a line that isn't UTF-8, which is told and left out. So is all of a document that holds one.
+    fn undecoded<S: Shelf + Drop, W: Write, V: Write>(
+        &mut self,
+        drawing: &mut Drawing<'_, '_, S, W, V>,
+    ) {
+        self.has_begun = true;
+        self.is_text = false;
+        drawing.wrong("not valid UTF-8");
+    }
+
     /// Ends the input: a document is read when all of its lines are there.
     pub fn end<S: Shelf + Drop, W: Write, V: Write>(
         &mut self,
@@ -105,6 +118,9 @@ impl Reading {
         let Some(document) = self.document.take() else {
             return Ok(());
         };
+        if !self.is_text {
+            return Ok(());
+        }
         match Value::from_str(self.alloc, document.as_str()) {
             Ok(value) => self.value(&value, drawing),
             Err(error) if error.is_memory() => Err(Stop::Memory),
@@ -172,7 +188,7 @@ pub fn draw_input<B: BufRead + Drop, S: Shelf + Drop, W: Write, V: Write>(
         match line {
             Ok(line) => reading.line(line.as_str(), drawing)?,
             Err(error) if error.kind() == io::ErrorKind::InvalidData => {
-                drawing.wrong("not valid UTF-8");
+                reading.undecoded(drawing);
             }
             Err(error) => return Err(Stop::Unreadable(error)),
         }

@@ -71,6 +71,9 @@ pub fn run<'r, 'w, R: Files + Input + AllocGlobal, W: Write, V: Write>(
     out: &'r mut W,
     err: &'r mut V,
 ) -> u8 {
+    if matches!(words, ["--help"]) {
+        return help(out);
+    }
     let Some(command) = command_of(words) else {
         let _ = err.writeln(USAGE);
         return FAILED;
@@ -92,6 +95,14 @@ pub fn run<'r, 'w, R: Files + Input + AllocGlobal, W: Write, V: Write>(
     };
     let is_whole = draw_inputs(rt, command.files, &mut drawing);
     finish(&mut drawing, is_whole)
+}
+
+/// Writes how the words are to be written.
+fn help<W: Write>(out: &mut W) -> u8 {
+    match out.writeln(USAGE) {
+        Ok(()) => CLEAN,
+        Err(_) => FAILED,
+    }
 }
 
 /// The name that is shown for standard input.

@@ -119,3 +119,16 @@ fn an_input_of_another_form_is_not_known(rt: HostRuntime) -> Result<(), Fail> {
     assert_eq!(rt; run.tally.drawn, 0);
     Ok(())
 }
+
+/// A log of three lines, the second of which isn't UTF-8.
+const LATIN: &[u8] = b"{\"version\": \"2.1.0\",\n\"x\": \"\xe9\",\n\"runs\": []}\n";
+
+#[test]
+fn a_document_that_is_not_text_is_not_known(rt: HostRuntime) -> Result<(), Fail> {
+    let run = run_over(rt.alloc(), LATIN)?;
+    let told: &[u8] = b"redraw: in:2: not valid UTF-8\n";
+    assert!(rt; !run.is_known);
+    assert_eq!(rt; run.err.as_slice(), told);
+    assert_eq!(rt; run.tally.wrong, 1);
+    Ok(())
+}
