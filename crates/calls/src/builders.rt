@@ -32,10 +32,13 @@ fn line(alloc: Global) -> Snippet<'static, Annotation<'static>> {
 }
 
 /// A line of owned source, unnumbered and not folded.
-fn owned_line(alloc: Global, source: String) -> Snippet<'static, Patch<'static>> {
-    Snippet::source_cow(alloc, CowStr::Owned(source))
-        .line_numbering(false)
-        .fold(false)
+fn owned_line(alloc: Global) -> Result<Snippet<'static, Patch<'static>>, AllocError> {
+    let source = String::from_str(alloc, LINE)?;
+    Ok(
+        Snippet::source_cow(alloc, CowStr::Owned(source))
+            .line_numbering(false)
+            .fold(false),
+    )
 }
 
 /// The line with both annotations, given at once.
@@ -50,11 +53,8 @@ fn patches() -> [Patch<'static>; 2] {
 }
 
 /// The owned line with both, given at once.
-fn suggestion(
-    alloc: Global,
-    source: String,
-) -> Result<Snippet<'static, Patch<'static>>, AllocError> {
-    owned_line(alloc, source).patches(patches())
+fn suggestion(alloc: Global) -> Result<Snippet<'static, Patch<'static>>, AllocError> {
+    owned_line(alloc)?.patches(patches())
 }
 
 /// An element of each kind.
@@ -72,16 +72,14 @@ fn elements(
     ]
 }
 
-/// A group of these elements, with an identifier and an address.
-fn whole_group(
-    alloc: Global,
-    elements: [Element<'static>; 5],
-    url: String,
-) -> Result<Group<'static>, AllocError> {
+/// A group with an element of each kind, an identifier and an address.
+fn whole_group(alloc: Global) -> Result<Group<'static>, AllocError> {
+    let elements = elements(cause(alloc)?, suggestion(alloc)?);
+    let url = CowStr::Borrowed("https://a.example/E1");
     ERROR
         .primary_title("e")
         .id("E1")
-        .id_url_cow(CowStr::Owned(url))
+        .id_url_cow(url)
         .elements(alloc, elements)
 }
 
@@ -103,7 +101,8 @@ fn pair_one_by_one(alloc: Global) -> Result<Group<'static>, AllocError> {
 pub fn print(rt: &(impl Print + AllocGlobal)) -> io::Result<()> {
     println!(rt; "== snippets and groups, filled at once and one by one")?;
     print_snippets(rt, rt.alloc())?;
-    print_groups(rt, rt.alloc())
+    print_groups(rt, rt.alloc())?;
+    print_copy(rt, rt.alloc())
 }
 
 /// Prints snippets, filled at once and one by one.
@@ -113,22 +112,24 @@ fn print_snippets(rt: &impl Print, alloc: Global) -> io::Result<()> {
         .annotation(labelled())?
         .annotation(unlabelled())?;
     println!(rt; "{marked:?}")?;
-    println!(rt; "{:?}", suggestion(alloc, String::from_str(alloc, LINE)?)?)?;
-    let patched = owned_line(alloc, String::from_str(alloc, LINE)?)
+    println!(rt; "{:?}", suggestion(alloc)?)?;
+    let patched = owned_line(alloc)?
         .patch(Patch::new(4..5, "y"))?
         .patch(Patch::new(9..9, "0"))?;
     println!(rt; "{patched:?}")
 }
 
-/// Prints groups, filled at once and one by one, and the copy of one with an element of each kind.
+/// Prints groups, filled at once and one by one, and an empty one.
 fn print_groups(rt: &impl Print, alloc: Global) -> io::Result<()> {
     println!(rt; "{:?}", pair(alloc)?)?;
     println!(rt; "{:?}", pair_one_by_one(alloc)?)?;
     let untitled = Group::with_level(alloc, NOTE);
-    println!(rt; "{untitled:?} {}", untitled.is_empty())?;
-    let patched = suggestion(alloc, String::from_str(alloc, LINE)?)?;
-    let url = String::from_str(alloc, "https://a.example/E1")?;
-    let whole = whole_group(alloc, elements(cause(alloc)?, patched), url)?;
+    println!(rt; "{untitled:?} {}", untitled.is_empty())
+}
+
+/// Prints a group with an element of each kind, after its copy.
+fn print_copy(rt: &impl Print, alloc: Global) -> io::Result<()> {
+    let whole = whole_group(alloc)?;
     println!(rt; "{:?}", whole.clone()?)?;
     println!(rt; "{whole:?}")
 }

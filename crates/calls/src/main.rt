@@ -1,20 +1,21 @@
-//! Makes each call of the library that no case of `replay` makes, and prints what it answers: what has to be seen to succeed
-//! where memory is ample.
+//! Makes each call of the library that no case of `replay` makes, and whose answer `starved` doesn't compare, and prints what it
+//! answers: what has to be seen to succeed where memory is ample.
 #![tactic(auto)]
 
 mod builders;
 mod grid;
+mod headings;
 mod levels;
 mod lines;
 mod margin;
 mod marked;
+mod order;
 mod plain;
-mod public;
 mod refusals;
+mod roles;
 mod sequences;
 mod source;
 mod splice;
-mod strokes;
 mod styles;
 mod text;
 
@@ -31,10 +32,11 @@ fn print_all(rt: &(impl Print + AllocGlobal)) -> io::Result<()> {
     margin::print(rt)?;
     grid::print(rt)?;
     sequences::print(rt)?;
-    strokes::print(rt)?;
     builders::print(rt)?;
     refusals::print(rt)?;
-    public::print(rt)
+    headings::print(rt)?;
+    order::print(rt)?;
+    roles::print(rt)
 }
 
 fn main(rt: HostRuntime) -> io::Result<()> {

@@ -1,6 +1,8 @@
 //! The lines of a source, and the places in it.
 
-use annotate_snippets::renderer::parts::{CursorLines, SourceMap, check_span, newline_count};
+use annotate_snippets::renderer::parts::{
+    CursorLines, LineRange, SourceMap, check_span, newline_count,
+};
 use annotate_snippets::text::text_fits;
 use std::io;
 
@@ -54,7 +56,7 @@ pub fn print(rt: &(impl Print + AllocGlobal)) -> io::Result<()> {
     for (source, first, spans) in MAPPED {
         print_source(rt, source, usize::from(first), spans)?;
     }
-    Ok(())
+    println!(rt; "{:?}", LineRange { first: 1, last: 2 })
 }
 
 /// Prints the lines of a source, and the lines and places of its spans.

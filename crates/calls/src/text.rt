@@ -1,6 +1,8 @@
 //! What is shown of texts that nobody vouches for, and how wide they are.
 
-use annotate_snippets::text::{char_width, normalize_untrusted_str, str_width, text_fits};
+use annotate_snippets::text::{
+    char_width, is_one_line, normalize_untrusted_str, str_width, text_fits,
+};
 use snippet_text::{CowStr, normalized};
 use std::io;
 
@@ -11,6 +13,9 @@ const CHARACTERS: &str =
 /// Texts of several characters.
 const TEXTS: [&str; 3] = ["a\tb\u{1b}[1m\u{200d}", "e\u{301}x日本", "a\n日本"];
 
+/// Texts, of which the second, the fourth and the last are one line.
+const LINES: [&str; 5] = ["\n", "", "here\n2 | let y = 666;", "here", "a\rb"];
+
 /// Prints the calls of characters and of texts.
 pub fn print(rt: &(impl Print + AllocGlobal)) -> io::Result<()> {
     println!(rt; "== what is shown of each character, and its columns")?;
@@ -20,6 +25,10 @@ pub fn print(rt: &(impl Print + AllocGlobal)) -> io::Result<()> {
     println!(rt; "== what is shown of texts, whether the text itself, and its columns")?;
     for text in TEXTS {
         print_text(rt, text)?;
+    }
+    println!(rt; "== whether a text is one line")?;
+    for text in LINES {
+        println!(rt; "{text:?}: {}", is_one_line(text))?;
     }
     Ok(())
 }

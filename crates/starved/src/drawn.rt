@@ -1,7 +1,9 @@
 //! A report in its three forms, and under two sheets.
 ghost use Rattle.annotate_snippets.specs.Fits.{GroupFits, ReportFits};
 
+use crate::reports::{Subject, built};
 use crate::subject::print_text;
+use crate::texts_of_reports::REPORTS;
 use annotate_snippets::renderer::{RenderError, Stylesheet};
 use annotate_snippets::snippet::Report;
 use annotate_snippets::{Group, Renderer};
@@ -25,8 +27,30 @@ pub struct Texts {
     pub styled: &'static str,
 }
 
+/// Builds each report, draws it in each form and under two sheets, and prints what came out right.
+pub fn print(rt: &(impl Print + AllocGlobal)) -> io::Result<()> {
+    for (subject, texts) in REPORTS {
+        print_subject(rt, subject, texts)?;
+    }
+    Ok(())
+}
+
+/// The same of one report.
+fn print_subject(
+    rt: &(impl Print + AllocGlobal),
+    subject: Subject,
+    texts: Texts,
+) -> io::Result<()> {
+    let group = built(rt.alloc(), subject)?;
+    print_group(rt, group, texts)
+}
+
 /// Draws a report of one group in each form, and under two sheets.
-pub fn print(rt: &(impl Print + AllocGlobal), group: Group<'static>, texts: Texts) -> io::Result<()>
+fn print_group(
+    rt: &(impl Print + AllocGlobal),
+    group: Group<'static>,
+    texts: Texts,
+) -> io::Result<()>
     requires fits { GroupFits group }
 {
     let groups = [group];
@@ -48,6 +72,17 @@ fn print_report(rt: &(impl Print + AllocGlobal), groups: Report<'_>, texts: Text
     print_form(rt, groups, &text_form, "  text form", texts.text_form)
 }
 
+/// The text of a report.
+pub fn text_of(
+    alloc: Global,
+    groups: Report<'_>,
+    renderer: &Renderer,
+) -> Result<String, RenderError>
+    requires fits { ReportFits groups.now }
+{
+    renderer.render(alloc, groups)
+}
+
 /// Draws a report in one form, once more where it is out of memory.
 fn print_form(
     rt: &(impl Print + AllocGlobal),
@@ -58,8 +93,8 @@ fn print_form(
 ) -> io::Result<()>
     requires fits { ReportFits groups.now }
 {
-    let drawn = match renderer.render(rt.alloc(), groups) {
-        Err(RenderError::Memory(_)) => renderer.render(rt.alloc(), groups),
+    let drawn = match text_of(rt.alloc(), groups, renderer) {
+        Err(RenderError::Memory(_)) => text_of(rt.alloc(), groups, renderer),
         drawn => drawn,
     };
     match drawn {

@@ -5,7 +5,7 @@ use annotate_snippets::level::{ERROR, HELP, NOTE};
 use annotate_snippets::renderer::MessageOrTitle;
 use annotate_snippets::text::CowStr;
 use annotate_snippets::{
-    Annotation, AnnotationKind, Element, Group, OptionCow, Origin, Padding, Patch, Snippet,
+    Annotation, AnnotationKind, Element, Group, OptionCow, Origin, Padding, Patch, Snippet, Title,
 };
 use std::alloc::Global;
 use std::io;
@@ -29,13 +29,17 @@ pub fn print(rt: &(impl Print + AllocGlobal)) -> io::Result<()> {
 
 /// Whether levels have the names that they are given.
 fn names() -> bool {
-    ERROR.as_str() == "error"
-        && NOTE.with_name(OptionCow::from("remark")).as_str() == "remark"
-        && HELP.no_name().as_str() == ""
+    ERROR.as_str() == "error" && HELP.no_name().as_str() == "" && own_name()
+}
+
+/// Whether a level has a name of its own.
+fn own_name() -> bool {
+    let level = NOTE.with_name(OptionCow::from("remark"));
+    level.as_str() == "remark"
 }
 
 /// Whether this is a heading of this text, trusted or not.
-fn is_heading(heading: &dyn MessageOrTitle, text: &str, trusted: bool) -> bool {
+fn is_heading<H: MessageOrTitle + Drop>(heading: H, text: &str, trusted: bool) -> bool {
     heading.text() == text
         && heading.allows_styling() == trusted
         && heading.id().is_none()
@@ -44,20 +48,45 @@ fn is_heading(heading: &dyn MessageOrTitle, text: &str, trusted: bool) -> bool {
 
 /// Whether titles and messages have the texts that they are given.
 fn headings() -> bool {
-    let owned = CowStr::Borrowed("e");
-    let title = ERROR.primary_title("e").id("E1").id_url("u");
-    is_heading(&ERROR.primary_title("e"), "e", false)
-        && is_heading(&ERROR.secondary_title("t"), "t", true)
-        && is_heading(&ERROR.message("m"), "m", true)
-        && is_heading(&ERROR.primary_title_cow(owned), "e", false)
-        && title.id.is_some()
+    is_heading(ERROR.primary_title("e"), "e", false)
+        && is_heading(ERROR.secondary_title("t"), "t", true)
+        && is_heading(ERROR.message("m"), "m", true)
+        && has_id(ERROR.primary_title("e").id("E1").id_url("u"))
+}
+
+/// A title whose texts are copies on write.
+fn shared_title() -> Title<'static> {
+    ERROR
+        .secondary_title_cow(CowStr::Borrowed("t"))
+        .id_cow(CowStr::Borrowed("E1"))
+        .id_url_cow(CowStr::Borrowed("u"))
+}
+
+/// The same of texts that they are given as copies on write.
+fn shared_headings() -> bool {
+    is_heading(ERROR.primary_title_cow(CowStr::Borrowed("e")), "e", false)
+        && is_heading(ERROR.secondary_title_cow(CowStr::Borrowed("t")), "t", true)
+        && is_heading(ERROR.message_cow(CowStr::Borrowed("m")), "m", true)
+        && has_id(shared_title())
+}
+
+/// Whether a title has the id `E1`, whose address is `u`.
+fn has_id(title: Title<'_>) -> bool {
+    match &title.id {
+        Some(id) => is_text(&id.id, "E1") && is_text(&id.url, "u"),
+        None => false,
+    }
 }
 
 /// Whether groups without elements are empty where they have no title.
 fn groups(alloc: Global) -> bool {
-    let titled = Group::with_title(alloc, ERROR.primary_title("e"));
-    let untitled = Group::with_level(alloc, NOTE);
-    !titled.is_empty() && untitled.is_empty()
+    !is_empty(Group::with_title(alloc, ERROR.primary_title("e")))
+        && is_empty(Group::with_level(alloc, NOTE))
+}
+
+/// Whether a group is empty.
+fn is_empty(group: Group<'_>) -> bool {
+    group.is_empty()
 }
 
 /// Whether a snippet has the settings that it is given.
@@ -96,72 +125,86 @@ fn annotations() -> bool {
 
 /// Whether patches have what they are given.
 fn patches() -> bool {
-    let patch = Patch::new(1..2, "x");
-    let other = Patch::new_cow(1..2, CowStr::Borrowed("y"));
-    patch.span.end == 2 && patch.replacement.as_str() == "x" && other.replacement.as_str() == "y"
+    puts(Patch::new(1..2, "x"), "x") && puts(Patch::new_cow(1..2, CowStr::Borrowed("y")), "y")
 }
 
-/// Whether an origin has what it is given.
+/// Whether a patch puts this text in place of the second byte.
+fn puts(patch: Patch<'_>, text: &str) -> bool {
+    patch.span.start == 1 && patch.span.end == 2 && patch.replacement.as_str() == text
+}
+
+/// Whether origins have what they are given.
 fn origins() -> bool {
-    let place = Origin::path("a.rs").line(3).char_column(2);
-    let other = Origin::from(CowStr::Borrowed("b.rs"));
-    let shared = Origin::path_cow(CowStr::Borrowed("c.rs"));
-    shared.path.as_str() == "c.rs"
-        && place.path.as_str() == "a.rs"
-        && place.line == Some(3)
-        && place.char_column == Some(2)
-        && other.path.as_str() == "b.rs"
+    is_place(
+        Origin::path("a.rs").line(3).char_column(2),
+        "a.rs",
+        Some(3),
+        Some(2),
+    ) && is_place(Origin::from(CowStr::Borrowed("b.rs")), "b.rs", None, None)
+        && is_place(
+            Origin::path_cow(CowStr::Borrowed("c.rs")),
+            "c.rs",
+            None,
+            None,
+        )
+}
+
+/// Whether an origin is this place of this file.
+fn is_place(origin: Origin<'_>, path: &str, line: Option<usize>, column: Option<usize>) -> bool {
+    origin.path.as_str() == path && origin.line == line && origin.char_column == column
+}
+
+/// What kind of element this is.
+fn kind_of(element: Element<'_>) -> &'static str {
+    match &element {
+        Element::Message(_) => "message",
+        Element::Cause(_) => "cause",
+        Element::Suggestion(_) => "suggestion",
+        Element::Origin(_) => "origin",
+        Element::Padding(_) => "padding",
+    }
 }
 
 /// Whether elements are of the kinds that they are made from.
 fn elements() -> bool {
-    let message = Element::from(NOTE.message("m"));
-    let origin = Element::from(Origin::path("a.rs"));
-    let padding = Element::from(Padding);
-    matches!(&message, Element::Message(_))
-        && matches!(&origin, Element::Origin(_))
-        && matches!(&padding, Element::Padding(_))
+    kind_of(Element::from(NOTE.message("m"))) == "message"
+        && kind_of(Element::from(Origin::path("a.rs"))) == "origin"
+        && kind_of(Element::from(Padding)) == "padding"
+}
+
+/// The same of snippets with annotations, and with patches.
+fn snippet_elements(alloc: Global) -> bool {
+    let marked: Snippet<'static, Annotation<'static>> = Snippet::source(alloc, "a");
+    let patched: Snippet<'static, Patch<'static>> = Snippet::source_cow(
+        alloc,
+        CowStr::Borrowed("a"),
+    );
+    let (cause, suggestion) = (Element::from(marked), Element::from(patched));
+    let (one, other) = (kind_of(cause), kind_of(suggestion));
+    one == "cause" && other == "suggestion"
+}
+
+/// Whether an optional text is there, and is this one.
+fn is_given(given: OptionCow<'_>, text: &str) -> bool {
+    is_text(&given.0, text)
 }
 
 /// Whether optional texts are those that they are made from.
 fn optional_texts(alloc: Global) -> bool {
     let none: Option<&str> = None;
-    is_text(&OptionCow::from("a").0, "a")
-        && is_text(&OptionCow::from(Some("a")).0, "a")
-        && is_text(&OptionCow::from(CowStr::Borrowed("a")).0, "a")
-        && is_text(&OptionCow::from(String::new(alloc)).0, "")
-        && OptionCow::from(none).0.is_none()
-}
-
-/// Whether titles and messages have the texts that they are given as copies on write, and a title such an id.
-fn shared_headings() -> bool {
-    let title = ERROR
-        .secondary_title_cow(CowStr::Borrowed("t"))
-        .id_cow(CowStr::Borrowed("E1"))
-        .id_url_cow(CowStr::Borrowed("u"));
-    is_heading(&ERROR.secondary_title_cow(CowStr::Borrowed("t")), "t", true)
-        && is_heading(&ERROR.message_cow(CowStr::Borrowed("m")), "m", true)
-        && title.id.is_some()
-}
-
-/// Whether an element is what it is made of: a snippet with annotations, or with patches.
-fn snippet_elements(alloc: Global) -> bool {
-    let source: Snippet<'static, Annotation<'static>> = Snippet::source(alloc, "a");
-    let patched: Snippet<'static, Patch<'static>> = Snippet::source_cow(
-        alloc,
-        CowStr::Borrowed("a"),
-    );
-    let cause = Element::from(source);
-    let suggestion = Element::from(patched);
-    matches!(&cause, Element::Cause(_)) && matches!(&suggestion, Element::Suggestion(_))
+    is_given(OptionCow::from("a"), "a")
+        && is_given(OptionCow::from(Some("a")), "a")
+        && is_given(OptionCow::from(CowStr::Borrowed("a")), "a")
+        && is_given(OptionCow::from(String::new(alloc)), "")
+        && !is_given(OptionCow::from(none), "")
 }
 
 /// Whether an optional text is the one that is lent, or is there.
 fn lent_texts(alloc: Global) -> bool {
     let owned = String::new(alloc);
     let shared = CowStr::Borrowed("a");
-    is_text(&OptionCow::from(&owned).0, "")
-        && is_text(&OptionCow::from(&shared).0, "a")
-        && is_text(&OptionCow::from(Some(String::new(alloc))).0, "")
-        && is_text(&OptionCow::from(Some(CowStr::Borrowed("a"))).0, "a")
+    is_given(OptionCow::from(&owned), "")
+        && is_given(OptionCow::from(&shared), "a")
+        && is_given(OptionCow::from(Some(String::new(alloc))), "")
+        && is_given(OptionCow::from(Some(CowStr::Borrowed("a"))), "a")
 }

@@ -5,19 +5,19 @@
 //! and with all refused after the first line.
 #![tactic(auto)]
 
-mod causes;
 mod drawn;
 mod free;
 mod free_model;
 mod free_parts;
 mod grid;
 mod refusals;
+mod reports;
 mod retry;
 mod source;
 mod styles;
 mod subject;
-mod suggestions;
 mod texts;
+mod texts_of_reports;
 
 use annotate_snippets::renderer::parts::{SourceMap, newline_count};
 use annotate_snippets::text::text_fits;
@@ -45,8 +45,7 @@ fn print_free(rt: &(impl Print + AllocGlobal)) -> io::Result<()> {
 /// Makes the calls that take memory.
 fn print_taking(rt: &(impl Print + AllocGlobal)) -> io::Result<()> {
     println!(rt; "what follows takes memory")?;
-    causes::print(rt)?;
-    suggestions::print(rt)?;
+    drawn::print(rt)?;
     texts::print(rt)?;
     styles::print(rt)?;
     source::print(rt)?;

@@ -2,7 +2,7 @@ use Rattle.std.proofs.Common.{rules, ap, sym, subst, ◌∙◌, ◌++◌, All, I
 use Rattle.annotate_snippets.specs.Fits.{ElementFits, TitleFits}
 use Rattle.std.proofs.lemmas.Result.{IfOk-weaker}
 use Rattle.starved.proofs.Lists.{array-drained, IfOk-both}
-use Rattle.starved.proofs.causes.origin.Goals as goal
+use Rattle.starved.proofs.reports.origin.Goals as goal
 
 pub returns : goal.returns
 returns c =

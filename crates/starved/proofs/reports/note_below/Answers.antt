@@ -2,7 +2,7 @@ use Rattle.std.proofs.Common.{rules, sym, subst, ◌∙◌, All, IfSome}
 use Rattle.annotate_snippets.specs.Fits.{ElementFits, TitleFits}
 use Rattle.std.proofs.lemmas.Result.{IfOk-weaker}
 use Rattle.starved.proofs.Lists.{array-drained, IfOk-both}
-use Rattle.starved.proofs.causes.note_below.Goals as goal
+use Rattle.starved.proofs.reports.note_below.Goals as goal
 
 pub returns : goal.returns
 returns c =
