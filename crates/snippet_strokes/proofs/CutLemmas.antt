@@ -1,12 +1,13 @@
 -- Rows in which stretches gave their place to the placeholder.
 use Rattle.std.proofs.Common.{◌≡◌, ◌∙◌, ℕ, zero, suc, ◌+◌, ◌-◌, ◌<◌, ◌≤◌, Bool, List, [], ◌∷◌, ◌++◌, length, take, drop, set, get_or, cond, refl, sym, ap, subst, arith, inl, inr}
 use Rattle.std.proofs.lemmas.Bool.{cases_lt}
-use Rattle.std.proofs.lemmas.List.{places, same_lists, map-append, append_assoc, length-append, take_more}
+use Rattle.std.proofs.lemmas.List.{places, same_lists, map-append, append_assoc, length-append, take_more, drop_more, drop_all}
 use Rattle.std.proofs.lemmas.List.Sums.{sum_by-append}
 use Rattle.std.proofs.lemmas.List.Elements.{All-append, All-take, All-drop}
 use Rattle.std.proofs.Math.Seq.{set-append_seam}
 use Rattle.std.specs.List.{count_by, slice_index_or}
 use Rattle.snippet_view.specs.Window.{AreReplaced, IsReplaced}
+use Rattle.snippet_style.specs.declared.glyphs.DecorStyle.{DecorStyle}
 use Rattle.snippet_style.specs.declared.role.ElementStyle.TheVariants.{LineNumber}
 use Rattle.snippet_style.specs.Glyphs.{placeholder_of}
 use Rattle.snippet_grid.specs.Grid.{replaced_within, cells_replaced}
@@ -15,7 +16,9 @@ use Rattle.snippet_grid.specs.Print.{row_text}
 use Rattle.snippet_grid.proofs.ChangeLemmas.{changed_within_one}
 use Rattle.snippet_grid.proofs.ReplaceLemmas.{replaced_there, replaced_empty, replaced_past}
 use Rattle.snippet_strokes.specs.declared.layout.Layout.{Layout}
+use Rattle.snippet_strokes.specs.declared.positions.PlacedEntry.{PlacedEntry}
 use Rattle.snippet_model.specs.Rows.{IsFreeCell}
+use Rattle.snippet_strokes.specs.Cuts.{Stretch, cut_of, cut_rows, cuts_of}
 use Rattle.snippet_strokes.specs.Rows.{IsCut, CutsRows}
 use Rattle.snippet_strokes.proofs.CellLemmas.{free_placeholder, row_text-text_cells}
 
@@ -159,3 +162,22 @@ CutsRows-more layout m n above source marks below mid new done then =
       source_cut = IsCut-more layout m n source done.source_now then.source_now done.source_cut then.source_cut;
       marks_cut = IsCut-more layout m n marks done.marks_now then.marks_now done.marks_cut then.marks_cut;
     }
+
+-- rows that are cut at some stretches, and then at some more
+pub cut_rows-append : (decor : DecorStyle) (row : ℕ) (cuts more : List Stretch) (rows : List (List Cell)) → cut_rows decor row (cuts ++ more) rows ≡ cut_rows decor row more (cut_rows decor row cuts rows)
+cut_rows-append decor row [] more rows = refl
+cut_rows-append decor row (cut ∷ cuts) more rows =
+    let placeholder = text_cells LineNumber (placeholder_of decor) in
+    cut_rows-append decor row cuts more (cells_replaced (cells_replaced rows row cut.from cut.to placeholder) (row + 1) cut.from cut.to placeholder)
+
+-- what is cut from one entry on is what is cut for it, and from the next one on
+pub cuts_of-more : (layout : Layout) (room : ℕ) (placed : List PlacedEntry) (flags : List Bool) (k : ℕ) (e : PlacedEntry) (flag : Bool)
+    → k < length placed → k < length flags
+    → cuts_of layout room (drop k placed) (drop k flags) ≡ cut_of layout room (get_or placed k e, get_or flags k flag) ++ cuts_of layout room (drop (k + 1) placed) (drop (k + 1) flags)
+cuts_of-more layout room placed flags k e flag within there =
+    ap (λ es. cuts_of layout room es (drop k flags)) (drop_more placed k e within)
+        ∙ ap (cuts_of layout room (get_or placed k e ∷ drop (k + 1) placed)) (drop_more flags k flag there)
+
+-- nothing is cut after the last entry
+pub cuts_of-none : (layout : Layout) (room k : ℕ) (placed : List PlacedEntry) (flags : List Bool) → length placed ≤ k → cuts_of layout room (drop k placed) (drop k flags) ≡ []
+cuts_of-none layout room k placed flags past = ap (λ es. cuts_of layout room es (drop k flags)) (drop_all k placed past)

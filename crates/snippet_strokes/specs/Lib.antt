@@ -8,3 +8,4 @@ pub mod Rows
 pub mod Snippet
 pub mod Bars
 pub mod LineRows
+pub mod Cuts

@@ -1,11 +1,15 @@
 //! Wide spans, of which the middle gives its place to the placeholder, in the source row and in the row of the marks.
-ghost use Rattle.std.specs.Prelude.{◌≡◌, ◌+◌, ◌-◌, ◌^◌, ◌<◌, ◌≤◌, ◌++◌, ◌∷◌, [], List, All, IfOk, OnOk, length, map};
+ghost use Rattle.std.specs.Prelude.{◌≡◌, ◌+◌, ◌^◌, ◌<◌, ◌≤◌, ◌++◌, ◌∷◌, [], true, List, All, IfOk, IfSome, OnOk, length, map};
+ghost use Rattle.std.specs.List.{list_any, position};
 ghost use Rattle.snippet_view.specs.Measures.{is_wide_entry};
 ghost use Rattle.snippet_style.specs.Glyphs.{placeholder_of};
 ghost use Rattle.snippet_grid.specs.Grid.{cells_replaced};
 ghost use Rattle.snippet_style.specs.Cell.{Cell, text_cells};
 ghost use Rattle.snippet_style.specs.declared.role.ElementStyle.TheVariants.{LineNumber};
+ghost use Rattle.snippet_strokes.specs.Cuts as spec;
+ghost use Rattle.snippet_strokes.specs.Cuts.{is_wide_at};
 ghost use Rattle.snippet_strokes.specs.Entries.{HasPlace, wide_entries};
+ghost use Rattle.snippet_strokes.specs.Positions.{crosses, do_overlap};
 ghost use Rattle.snippet_strokes.specs.Rows.{CutsRows};
 
 use crate::layout::Layout;
@@ -38,72 +42,131 @@ pub(crate) fn overlapping(
     placed: &[PlacedEntry],
 ) -> Result<Vec<bool>, AllocError>
     requires columns { All (λ e. HasPlace e.entry) placed.now }
-    ensures count { IfOk result (λ overlapped. length overlapped.items ≡ length placed.now) }
+    ensures count { IfOk result (λ flags. length flags.items ≡ length placed.now) }
+    ensures value { IfOk result (λ flags. list_any (is_wide_at room decor) placed.now ≡ true → flags.items ≡ spec.overlapped placed.now) }
 {
-    let mut overlapped = vec![in alloc; false; placed.len()]?;
     if !has_wide(room, decor, placed) {
-        return Ok(overlapped);
+        return vec![in alloc; false; placed.len()];
     }
-    let mut reached = 0;
-    for i in 0..placed.len() {
-        let end = walk_end(placed, i, reached);
-        mark_overlapped(&mut overlapped, placed, i, end);
-        if reached == 0 {
-            reached = position_reached(placed, i);
-        }
-    }
-    Ok(overlapped)
+    let ends = look_ends(alloc, placed)?;
+    overlapped(alloc, placed, &ends)
 }
 
 /// Whether one of these entries is wide, in a room of this many columns.
 fn has_wide(room: usize, decor: DecorStyle, placed: &[PlacedEntry]) -> bool
     requires columns { All (λ e. HasPlace e.entry) placed.now }
+    ensures value { result ≡ list_any (is_wide_at room decor) placed.now }
 {
     placed.iter().any(|p| is_wide(room, decor, &p.entry))
 }
 
-/// The position that is reached after entry i, where position 0 was reached before it.
-fn position_reached(placed: &[PlacedEntry], i: usize) -> usize
+/// For each entry before which place those stand that are looked at while the place of its label is sought, from the first on.
+///
+/// # Errors
+///
+/// There is no memory for the list.
+fn look_ends(alloc: Global, placed: &[PlacedEntry]) -> Result<Vec<usize>, AllocError>
     requires columns { All (λ e. HasPlace e.entry) placed.now }
-    requires within { i < length placed.now }
+    ensures value { IfOk result (λ ends. ends.items ≡ spec.look_ends 0 0 placed.now) }
+    ensures count { IfOk result (λ ends. length ends.items ≡ length placed.now) }
 {
-    let entry = &placed[i];
-    let others = &placed[i + 1..];
-    position_after(position_at(0, entry, others), entry, others)
+    let mut ends = Vec::new(alloc);
+    let mut reached = 0;
+    for i in 0..placed.len() {
+        let entry = &placed[i];
+        let others = &placed[i + 1..];
+        ends.push(i + 1 + looked_after(reached, entry, others))?;
+        reached = position_after(position_at(reached, entry, others), entry, others);
+    }
+    Ok(ends)
 }
 
-/// How many entries, from the first one on, are looked at for entry i, where this position is reached: all up to the first
-/// one after it for which its label has to make way.
-fn walk_end(placed: &[PlacedEntry], i: usize, reached: usize) -> usize
-    requires columns { All (λ e. HasPlace e.entry) placed.now }
-    requires within { i < length placed.now }
-    ensures inside { result ≤ length placed.now }
+/// How many of the entries after one are looked at, where this position is reached: all, or where its label may still stand
+/// beside the mark, those up to the first one that is in its way.
+fn looked_after(reached: usize, entry: &PlacedEntry, others: &[PlacedEntry]) -> usize
+    requires columns { All (λ e. HasPlace e.entry) others.now }
+    ensures value { result ≡ spec.looked_after reached entry.now others.now }
+    ensures few { result ≤ length others.now }
 {
-    let entry = &placed[i];
     if reached > 0 || !entry.has_label() {
-        return placed.len();
+        return others.len();
     }
-    for j in i + 1..placed.len() {
-        if crosses(entry, &placed[j]) {
-            return j + 1;
-        }
+    match first_in_the_way(entry, others) {
+        Some(k) => k + 1,
+        None => others.len(),
     }
-    placed.len()
 }
 
-/// Notes which entries before place `end` entry i overlaps, and that it does, the two farthest right left out.
-fn mark_overlapped(overlapped: &mut [bool], placed: &[PlacedEntry], i: usize, end: usize)
-    requires columns { All (λ e. HasPlace e.entry) placed.now }
-    requires count { length overlapped.old ≡ length placed.now }
-    requires within { i < length placed.now }
-    requires inside { end ≤ length placed.now }
+/// The place of the first of these entries that is in the way of the label of another, if there is one.
+fn first_in_the_way(entry: &PlacedEntry, others: &[PlacedEntry]) -> Option<usize>
+    requires columns { All (λ e. HasPlace e.entry) others.now }
+    ensures value { result ≡ position (crosses entry.now) others.now }
+    ensures within { IfSome result (λ k. k < length others.now) }
 {
-    for j in 2..end {
-        if overlap(&placed[j], 0, &placed[i]) {
-            overlapped[i] = true;
-            overlapped[j] = true;
-        }
+    others.iter().position(|other| crosses(entry, other))
+}
+
+/// For each entry whether it is overlapped, where those before these places are looked at.
+///
+/// # Errors
+///
+/// There is no memory for the list.
+fn overlapped(
+    alloc: Global,
+    placed: &[PlacedEntry],
+    ends: &[usize],
+) -> Result<Vec<bool>, AllocError>
+    requires columns { All (λ e. HasPlace e.entry) placed.now }
+    requires count { length ends.now ≡ length placed.now }
+    ensures value { IfOk result (λ flags. flags.items ≡ spec.overlapped_by placed.now ends.now 0 placed.now) }
+    ensures count { IfOk result (λ flags. length flags.items ≡ length placed.now) }
+{
+    let mut flags = Vec::new(alloc);
+    for k in 0..placed.len() {
+        flags.push(is_overlapped(k, &placed[k], placed, ends))?;
     }
+    Ok(flags)
+}
+
+/// Whether the entry at place k is overlapped, where those before these places are looked at.
+fn is_overlapped(k: usize, entry: &PlacedEntry, placed: &[PlacedEntry], ends: &[usize]) -> bool
+    requires columns { All (λ e. HasPlace e.entry) placed.now }
+    requires own { HasPlace entry.now.entry }
+    requires there { k < length ends.now }
+    ensures value { result ≡ spec.is_overlapped placed.now ends.now k entry.now }
+{
+    let looked = &placed[..ends[k].min(placed.len())];
+    meets(entry, looked) || (2 <= k && is_met(k, entry, placed, ends))
+}
+
+/// Whether an entry overlaps one of those that are looked at for it, the two farthest right left out.
+fn meets(entry: &PlacedEntry, looked: &[PlacedEntry]) -> bool
+    requires columns { All (λ e. HasPlace e.entry) looked.now }
+    ensures value { result ≡ spec.meets entry.now looked.now }
+{
+    match looked.get(2..) {
+        Some(others) => overlaps_any(entry, others),
+        None => false,
+    }
+}
+
+/// Whether an entry overlaps one of these.
+fn overlaps_any(entry: &PlacedEntry, others: &[PlacedEntry]) -> bool
+    requires columns { All (λ e. HasPlace e.entry) others.now }
+    ensures value { result ≡ list_any (λ other. do_overlap other 0 entry.now) others.now }
+{
+    others.iter().any(|other| overlap(other, 0, entry))
+}
+
+/// Whether the entry at place k is looked at for one of these, and overlaps it.
+fn is_met(k: usize, entry: &PlacedEntry, placed: &[PlacedEntry], ends: &[usize]) -> bool
+    requires columns { HasPlace entry.now.entry }
+    ensures value { result ≡ spec.is_met k entry.now placed.now ends.now }
+{
+    placed
+        .iter()
+        .zip(ends)
+        .any(|(other, end)| k < *end && overlap(entry, 0, other))
 }
 
 /// Puts the placeholder in place of the middle of each wide entry that stands at a place which isn't overlapped: in the source row,
@@ -133,9 +196,10 @@ pub(crate) fn cut_wide(
     ensures cut { OnOk result ((above : List (List Cell)) (source marks : List Cell) (below : List (List Cell))
         → length above ≡ row → buffer.old ≡ above ++ source ∷ marks ∷ below
         → CutsRows layout (wide_entries room layout.decor (map (λ e. e.entry) placed.now)) above source marks below buffer.new) }
+    ensures value { OnOk result (buffer.new ≡ spec.cut_rows layout.decor row (spec.cuts_of layout room placed.now overlapped.now) buffer.old) }
 {
     for k in 0..placed.len() {
-        cut_entry(buffer, layout, row, room, &placed[k].entry, overlapped[k])?;
+        cut_entry(buffer, layout, row, room, &placed[k], overlapped[k])?;
     }
     Ok(())
 }
@@ -150,16 +214,18 @@ fn cut_entry(
     layout: Layout,
     row: usize,
     room: usize,
-    entry: &LineAnnotation,
+    placed: &PlacedEntry,
     overlapped: bool,
 ) -> Result<(), AllocError>
     requires narrow { layout.code < 2 ^ 63 + 2 ^ 32 }
-    requires columns { HasPlace entry.now }
+    requires columns { HasPlace placed.now.entry }
     requires small { row + 1 < 2 ^ 64 }
     ensures cut { OnOk result ((above : List (List Cell)) (source marks : List Cell) (below : List (List Cell))
         → length above ≡ row → buffer.old ≡ above ++ source ∷ marks ∷ below
-        → CutsRows layout (wide_entries room layout.decor (entry.now ∷ [])) above source marks below buffer.new) }
+        → CutsRows layout (wide_entries room layout.decor (placed.now.entry ∷ [])) above source marks below buffer.new) }
+    ensures value { OnOk result (buffer.new ≡ spec.cut_rows layout.decor row (spec.cut_of layout room (placed.now, overlapped)) buffer.old) }
 {
+    let entry = &placed.entry;
     if overlapped || !is_wide(room, layout.decor, entry) {
         return Ok(());
     }
@@ -182,7 +248,7 @@ fn is_wide(room: usize, decor: DecorStyle, entry: &LineAnnotation) -> bool
 
 /// How many columns stay at each end of an entry that is cut, in a room of this many columns.
 fn end_columns(room: usize) -> usize
-    ensures few { result ≤ room + 5 }
+    ensures value { result ≡ spec.end_columns room }
 {
     let third = room / 3;
     if third > LEAST_END { third } else { LEAST_END }
