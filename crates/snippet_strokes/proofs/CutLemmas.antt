@@ -1,11 +1,12 @@
 -- Rows in which stretches gave their place to the placeholder.
-use Rattle.std.proofs.Common.{◌≡◌, ◌∙◌, ℕ, zero, suc, ◌+◌, ◌-◌, ◌<◌, ◌≤◌, Bool, List, [], ◌∷◌, ◌++◌, length, take, drop, set, get_or, cond, refl, sym, ap, subst, arith, inl, inr}
-use Rattle.std.proofs.lemmas.Bool.{cases_lt}
+use Rattle.std.proofs.Common.{◌≡◌, ◌∙◌, false, ℕ, zero, suc, ◌+◌, ◌-◌, ◌<◌, ◌≤◌, Bool, List, [], ◌∷◌, ◌++◌, length, take, drop, set, get_or, cond, refl, sym, ap, subst, arith, inl, inr}
+use Rattle.std.proofs.lemmas.Bool.{cases_lt, or_parts}
 use Rattle.std.proofs.lemmas.List.{places, same_lists, map-append, append_assoc, length-append, take_more, drop_more, drop_all}
 use Rattle.std.proofs.lemmas.List.Sums.{sum_by-append}
 use Rattle.std.proofs.lemmas.List.Elements.{All-append, All-take, All-drop}
 use Rattle.std.proofs.Math.Seq.{set-append_seam}
-use Rattle.std.specs.List.{count_by, slice_index_or}
+use Rattle.std.specs.Prelude.{◌&&◌, not}
+use Rattle.std.specs.List.{count_by, list_any, slice_index_or}
 use Rattle.snippet_view.specs.Window.{AreReplaced, IsReplaced}
 use Rattle.snippet_style.specs.declared.glyphs.DecorStyle.{DecorStyle}
 use Rattle.snippet_style.specs.declared.role.ElementStyle.TheVariants.{LineNumber}
@@ -18,7 +19,7 @@ use Rattle.snippet_grid.proofs.ReplaceLemmas.{replaced_there, replaced_empty, re
 use Rattle.snippet_strokes.specs.declared.layout.Layout.{Layout}
 use Rattle.snippet_strokes.specs.declared.positions.PlacedEntry.{PlacedEntry}
 use Rattle.snippet_model.specs.Rows.{IsFreeCell}
-use Rattle.snippet_strokes.specs.Cuts.{Stretch, cut_of, cut_rows, cuts_of}
+use Rattle.snippet_strokes.specs.Cuts.{Stretch, cut_of, cut_row, cut_rows, cuts_of, is_wide_at, middle_of}
 use Rattle.snippet_strokes.specs.Rows.{IsCut, CutsRows}
 use Rattle.snippet_strokes.proofs.CellLemmas.{free_placeholder, row_text-text_cells}
 
@@ -181,3 +182,35 @@ cuts_of-more layout room placed flags k e flag within there =
 -- nothing is cut after the last entry
 pub cuts_of-none : (layout : Layout) (room k : ℕ) (placed : List PlacedEntry) (flags : List Bool) → length placed ≤ k → cuts_of layout room (drop k placed) (drop k flags) ≡ []
 cuts_of-none layout room k placed flags past = ap (λ es. cuts_of layout room es (drop k flags)) (drop_all k placed past)
+
+-- the same stretch of two rows gave its place to the placeholder
+replaced_here : (layout : Layout) (row start end : ℕ) (above : List (List Cell)) (source marks : List Cell) (below : List (List Cell)) → length above ≡ row
+    → let placeholder = text_cells LineNumber (placeholder_of layout.decor) in
+    cells_replaced (cells_replaced (above ++ source ∷ marks ∷ below) row start end placeholder) (row + 1) start end placeholder
+    ≡ above ++ replaced_within start end placeholder source ∷ replaced_within start end placeholder marks ∷ below
+replaced_here layout row start end above source marks below here =
+    let placeholder = text_cells LineNumber (placeholder_of layout.decor) in
+    let change = replaced_within start end placeholder in
+    let first = cells_replaced_here above (marks ∷ below) source placeholder row start end here in
+    let apart : above ++ change source ∷ marks ∷ below ≡ (above ++ change source ∷ []) ++ marks ∷ below = sym (append_assoc above (change source ∷ []) (marks ∷ below)) in
+    let next : length (above ++ change source ∷ []) ≡ row + 1 = omega (arith, here, length-append above (change source ∷ [])) in
+    let second = cells_replaced_here (above ++ change source ∷ []) below marks placeholder (row + 1) start end next in
+    ap (λ rows. cells_replaced rows (row + 1) start end placeholder) (first ∙ apart) ∙ second ∙ append_assoc above (change source ∷ []) (change marks ∷ below)
+
+-- rows that are cut are the two of them, each cut
+pub cut_rows-here : (layout : Layout) (row : ℕ) (cuts : List Stretch) (above : List (List Cell)) (source marks : List Cell) (below : List (List Cell)) → length above ≡ row → cut_rows layout.decor row cuts (above ++ source ∷ marks ∷ below) ≡ above ++ cut_row layout.decor cuts source ∷ cut_row layout.decor cuts marks ∷ below
+cut_rows-here layout row [] above source marks below here = refl
+cut_rows-here layout row (cut ∷ cuts) above source marks below here =
+    let placeholder = text_cells LineNumber (placeholder_of layout.decor) in
+    let change = replaced_within cut.from cut.to placeholder in
+    ap (cut_rows layout.decor row cuts) (replaced_here layout row cut.from cut.to above source marks below here)
+        ∙ cut_rows-here layout row cuts above (change source) (change marks) below here
+
+-- nothing is cut where no entry is wide
+pub cuts_of-narrow : (layout : Layout) (room : ℕ) (placed : List PlacedEntry) (flags : List Bool) → list_any (is_wide_at room layout.decor) placed ≡ false → cuts_of layout room placed flags ≡ []
+cuts_of-narrow layout room [] flags narrow = refl
+cuts_of-narrow layout room (e ∷ es) [] narrow = refl
+cuts_of-narrow layout room (e ∷ es) (flag ∷ flags) narrow =
+    let parts = or_parts (is_wide_at room layout.decor e) (list_any (is_wide_at room layout.decor) es) narrow in
+    ap (λ wide. cond (wide && not flag) (middle_of layout room e.entry ∷ []) [] ++ cuts_of layout room es flags) parts.0
+        ∙ cuts_of-narrow layout room es flags parts.1

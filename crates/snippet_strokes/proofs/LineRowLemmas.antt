@@ -1,7 +1,9 @@
 -- The rows of a line, as they are drawn below those that are there.
-use Rattle.std.proofs.Common.{◌≡◌, ℕ, ◌+◌, ◌-◌, ◌<◌, Bool, true, false, List, [], ◌∷◌, ◌++◌, length, map, replicate, drop, get_or, refl, sym, ap, ◌∙◌, subst, arith}
-use Rattle.std.specs.Prelude.{if◌then◌else◌}
-use Rattle.std.proofs.lemmas.Bool.{false≢true}
+use Rattle.std.proofs.Common.{◌≡◌, ℕ, ◌+◌, ◌-◌, ◌<◌, Bool, true, false, List, [], ◌∷◌, ◌++◌, length, map, replicate, drop, get_or, refl, sym, ap, ◌∙◌, subst, arith, inl, inr}
+use Rattle.std.specs.Prelude.{IsPermutation, if◌then◌else◌}
+use Rattle.std.specs.List.{list_any}
+use Rattle.std.proofs.lemmas.List.Sorted.{list_any-IsPermutation}
+use Rattle.std.proofs.lemmas.Bool.{false≢true, cases_Bool}
 use Rattle.std.proofs.lemmas.List.{append_assoc, length-append, length_push}
 use Rattle.snippet_style.specs.Cell.{Cell}
 use Rattle.snippet_style.specs.Separators.{closing_row, separator_row}
@@ -15,10 +17,12 @@ use Rattle.snippet_strokes.specs.Entries.{shifted, wide_entries}
 use Rattle.snippet_strokes.specs.LineRows.{AddsOwnRows, AreLineRows}
 use Rattle.snippet_strokes.specs.Painting.{painting_order}
 use Rattle.snippet_strokes.specs.Positions.{ArePlaced, row_count}
+use Rattle.snippet_strokes.specs.Cuts.{Stretch, cut_row, cut_rows, cuts_of, is_wide_at, overlapped}
 use Rattle.snippet_strokes.specs.Rows.{CutsRows, bare_row}
 use Rattle.snippet_strokes.specs.Strokes.{AddsPainted, begun_rows, strokes_of}
 use Rattle.snippet_strokes.specs.Writes.{Write, painted}
 use Rattle.snippet_strokes.proofs.BarRows.{barred-below}
+use Rattle.snippet_strokes.proofs.CutLemmas.{cut_rows-here, cuts_of-narrow}
 use Rattle.snippet_strokes.proofs.LowerWrites.{painted-below, strokes-lowered}
 use Rattle.snippet_strokes.proofs.PositionLemmas.{row_count_some}
 
@@ -35,8 +39,13 @@ two_more [] some = absurd (omega (arith, some))
 two_more (x ∷ []) some = absurd (omega (arith, some))
 two_more (x ∷ y ∷ rows) some = refl
 
+-- what stands after the same rows is the same
+same_after : (front a b : List (List Cell)) → front ++ a ≡ front ++ b → a ≡ b
+same_after [] a b same = same
+same_after (x ∷ front) a b same = same_after front a b (cc same)
+
 -- the strokes of a line, painted and then cut, are its rows
-module _ (layout : Layout) (room : ℕ) (closes : Bool) (es : List LineAnnotation) (placed order : List PlacedEntry) (above : List (List Cell)) (source : List Cell) (old new final : List (List Cell)) (row wide : ℕ)
+module _ (layout : Layout) (room : ℕ) (closes : Bool) (es : List LineAnnotation) (placed order : List PlacedEntry) (flags : List Bool) (above : List (List Cell)) (source : List Cell) (old new final : List (List Cell)) (row wide : ℕ)
     (are : ArePlaced es placed)
     (order_is : order ≡ painting_order placed)
     (old_is : old ≡ above ++ source ∷ [])
@@ -44,6 +53,9 @@ module _ (layout : Layout) (room : ℕ) (closes : Bool) (es : List LineAnnotatio
     (long : length new ≡ length old + row_count placed)
     (new_is : new ≡ painted (strokes_of layout row (length old + row_count placed) placed order) (old ++ replicate (row_count placed - 1) (separator_row layout.decor layout.gutter) ++ bare_row layout.decor layout.gutter closes ∷ []))
     (wide_is : wide ≡ wide_entries room layout.decor es)
+    (same : IsPermutation placed order)
+    (flags_are : list_any (is_wide_at room layout.decor) placed ≡ true → flags ≡ overlapped placed)
+    (final_is : final ≡ cut_rows layout.decor row (cuts_of layout room order flags) new)
     (cuts : (up : List (List Cell)) (top marks : List Cell) (lower : List (List Cell)) → length up ≡ row → new ≡ up ++ top ∷ marks ∷ lower → CutsRows layout wide up top marks lower final) where
   abbrev count : ℕ
   count = row_count placed
@@ -73,6 +85,16 @@ module _ (layout : Layout) (room : ℕ) (closes : Bool) (es : List LineAnnotatio
       let lower = ap (λ ws. painted ws (above ++ bare)) (strokes-lowered layout n (count + 1) placed order) in
       new_is ∙ by_row ∙ by_count ∙ by_rows ∙ lower ∙ painted-below above strokes bare
 
+  -- what is cut: where an entry is wide, it is known which are overlapped
+  cuts_are : cuts_of layout room order flags ≡ cuts_of layout room (painting_order placed) (overlapped placed)
+  cuts_are =
+      elim (cases_Bool (list_any (is_wide_at room layout.decor) placed)) [
+        | inl wide_one ↦ ap (cuts_of layout room order) (flags_are wide_one) ∙ ap (λ os. cuts_of layout room os (overlapped placed)) order_is
+        | inr narrow ↦
+            let none : list_any (is_wide_at room layout.decor) order ≡ false = sym (list_any-IsPermutation (is_wide_at room layout.decor) placed order same) ∙ narrow in
+            cuts_of-narrow layout room order flags none ∙ sym (cuts_of-narrow layout room (painting_order placed) (overlapped placed) (ap (list_any (is_wide_at room layout.decor)) (sym order_is) ∙ none))
+      ]
+
   pub painted_added : AddsPainted layout room closes es above source final
   painted_added =
       let many : length own ≡ count + 1 = omega (arith, ap length new_below, length-append above own, long, all_rows) in
@@ -83,6 +105,8 @@ module _ (layout : Layout) (room : ℕ) (closes : Bool) (es : List LineAnnotatio
       let few : length (top ∷ marks ∷ lower) ≡ count + 1 = sym (ap length parts) ∙ many in
       let cut : CutsRows layout wide above top marks lower final = cuts above top marks lower (sym row_is) (new_below ∙ ap (λ rs. above ++ rs) parts) in
       let exact : CutsRows layout (wide_entries room layout.decor es) above top marks lower final = subst (λ w. CutsRows layout w above top marks lower final) wide_is cut in
+      let stretches : List Stretch = cuts_of layout room (painting_order placed) (overlapped placed) in
+      let by_row : final ≡ above ++ cut_row layout.decor stretches top ∷ cut_row layout.decor stretches marks ∷ lower = final_is ∙ ap (λ cs. cut_rows layout.decor row cs new) cuts_are ∙ ap (cut_rows layout.decor row stretches) (new_below ∙ ap (λ rs. above ++ rs) parts) ∙ cut_rows-here layout row stretches above top marks lower (sym row_is) in
       record {
         rows = exact.source_now ∷ exact.marks_now ∷ lower;
         added = exact.new_is;
@@ -93,6 +117,7 @@ module _ (layout : Layout) (room : ℕ) (closes : Bool) (es : List LineAnnotatio
           marks = marks;
           lower = lower;
           painted_are = sym parts ∙ ap (λ os. painted (strokes_of layout 0 (count + 1) placed os) bare) order_is;
+          rows_are = same_after above (exact.source_now ∷ exact.marks_now ∷ lower) (cut_row layout.decor stretches top ∷ cut_row layout.decor stretches marks ∷ lower) (sym exact.new_is ∙ by_row);
           cut = record {
             source_now = exact.source_now;
             marks_now = exact.marks_now;
@@ -172,7 +197,3 @@ module _ (layout : Layout) (room : ℕ) (closes : Bool) (text : List ℕ) (dropp
         are = own.are;
         rows_are = same_after above rows (map (with_bars layout Solid past) own.rows) (sym added ∙ new_is ∙ by_bars ∙ by_row ∙ by_rows ∙ below);
       }
-    where
-      same_after : (front a b : List (List Cell)) → front ++ a ≡ front ++ b → a ≡ b
-      same_after [] a b same = same
-      same_after (x ∷ front) a b same = same_after front a b (cc same)

@@ -5,7 +5,7 @@ use Rattle.snippet_style.specs.Cell.{Cell, text_cells}
 use Rattle.snippet_style.specs.Glyphs.{placeholder_of}
 use Rattle.snippet_style.specs.declared.glyphs.DecorStyle.{DecorStyle}
 use Rattle.snippet_style.specs.declared.role.ElementStyle.TheVariants.{LineNumber}
-use Rattle.snippet_grid.specs.Grid.{cells_replaced}
+use Rattle.snippet_grid.specs.Grid.{cells_replaced, replaced_within}
 use Rattle.snippet_view.specs.declared.entries.LineAnnotation.{LineAnnotation}
 use Rattle.snippet_view.specs.Measures.{is_wide_entry}
 use Rattle.snippet_strokes.specs.declared.layout.Layout.{Layout}
@@ -75,9 +75,10 @@ middle_of layout room e =
 -- what is cut for an entry of which it is known whether it is overlapped: its middle, if it is wide and isn't
 abbrev pub cut_of : Layout → ℕ → PlacedEntry × Bool → List Stretch
 cut_of layout room pair =
-    if not pair.1 && is_wide_at room layout.decor pair.0 then middle_of layout room pair.0.entry ∷ [] else []
+    if is_wide_at room layout.decor pair.0 && not pair.1 then middle_of layout room pair.0.entry ∷ [] else []
 
--- what is cut of a line, for each of its entries
+-- what is cut of a line, for each of its entries in the order in which their marks are painted. What is known of the entry at a place in
+-- the order in which they are placed stands for the one at the same place here, as in the original
 abbrev pub cuts_of : Layout → ℕ → List PlacedEntry → List Bool → List Stretch
 cuts_of layout room placed flags = flat_map (cut_of layout room) (zip placed flags)
 
@@ -87,3 +88,9 @@ cut_rows decor row [] rows = rows
 cut_rows decor row (cut ∷ cuts) rows =
     let placeholder = text_cells LineNumber (placeholder_of decor) in
     cut_rows decor row cuts (cells_replaced (cells_replaced rows row cut.from cut.to placeholder) (row + 1) cut.from cut.to placeholder)
+
+-- the same of one row; a stretch that it doesn't hold stays
+abbrev pub cut_row : DecorStyle → List Stretch → List Cell → List Cell
+cut_row decor [] row = row
+cut_row decor (cut ∷ cuts) row =
+    cut_row decor cuts (replaced_within cut.from cut.to (text_cells LineNumber (placeholder_of decor)) row)

@@ -15,6 +15,7 @@ use Rattle.snippet_style.specs.Cell.{Cell}
 use Rattle.snippet_style.specs.Separators.{separator_row}
 use Rattle.snippet_strokes.specs.Painting.{first_glyph, foot_glyph, mark_end, painting_order}
 use Rattle.snippet_strokes.specs.Positions.{ArePlaced, has_label, has_stem, label_place, row_count}
+use Rattle.snippet_strokes.specs.Cuts.{cut_row, cuts_of, overlapped}
 use Rattle.snippet_strokes.specs.Rows.{CutsRows, bare_row}
 use Rattle.snippet_strokes.specs.Writes.{Write, column_of, glyph_at, painted, stretch_of}
 
@@ -145,7 +146,7 @@ begun_rows layout closes count source =
 
 -- the rows of a line with the strokes of these entries, of which this is the source row: as many as the entries ask for, and over
 -- them all strokes. The entries are placed from right to left, and their marks painted in the order of painting. Of the first two
--- rows, the source row and that of the marks, stretches are cut where entries are wide
+-- rows, the source row and that of the marks, stretches are cut where entries are wide (`cut` follows from `rows_are`)
 pub record StrokesPainted (layout : Layout) (room : ℕ) (closes : Bool) (es : List LineAnnotation) (source : List Cell) (rows : List (List Cell)) : Type 0 where
   pub placed : List PlacedEntry
   pub are : ArePlaced es placed
@@ -153,6 +154,7 @@ pub record StrokesPainted (layout : Layout) (room : ℕ) (closes : Bool) (es : L
   pub marks : List Cell
   pub lower : List (List Cell)
   pub painted_are : top ∷ marks ∷ lower ≡ painted (strokes_of layout 0 (row_count placed + 1) placed (painting_order placed)) (begun_rows layout closes (row_count placed) source)
+  pub rows_are : rows ≡ (let cuts = cuts_of layout room (painting_order placed) (overlapped placed) in cut_row layout.decor cuts top ∷ cut_row layout.decor cuts marks ∷ lower)
   pub cut : CutsRows layout (wide_entries room layout.decor es) [] top marks lower rows
   pub count : length rows ≡ row_count placed + 1
 

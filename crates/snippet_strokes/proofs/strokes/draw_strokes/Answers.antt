@@ -1,5 +1,6 @@
-use Rattle.std.proofs.Common.{◌≡◌, ◌∙◌, ◌+◌, ◌-◌, ◌<◌, ◌≤◌, ◌^◌, List, ◌++◌, ◌∷◌, [], true, false, ℕ, refl, All, map, replicate, ap, sym, subst, arith, length}
+use Rattle.std.proofs.Common.{◌≡◌, ◌∙◌, ◌+◌, ◌-◌, ◌<◌, ◌≤◌, ◌^◌, List, ◌++◌, ◌∷◌, [], Bool, true, false, ℕ, refl, All, map, replicate, ap, sym, subst, arith, length}
 use Rattle.std.proofs.lemmas.Result.{on_ok_weaker}
+use Rattle.snippet_grid.proofs.OutcomeLemmas.{on_ok_two}
 use Rattle.std.proofs.lemmas.List.{length_push, length-map}
 use Rattle.std.proofs.lemmas.List.Sorted.{All-permutation, IsPermutation-map, IsPermutation-trans, length_permutation}
 use Rattle.snippet_view.specs.declared.entries.LineAnnotation.{LineAnnotation}
@@ -10,6 +11,8 @@ use Rattle.snippet_grid.specs.Grid.{cell_at, cells_written}
 use Rattle.snippet_style.specs.Cell.{text_cells}
 use Rattle.snippet_strokes.specs.Entries.{HasPlace, HasBarCell, is_single, label_role, label_text, shifted, wide_entries}
 use Rattle.snippet_strokes.proofs.ShiftLemmas.{shifted_places, shifted_bars}
+use Rattle.std.specs.List.{list_any}
+use Rattle.snippet_strokes.specs.Cuts.{cut_rows, cuts_of, is_wide_at, overlapped}
 use Rattle.snippet_strokes.specs.Rows.{bare_row}
 use Rattle.snippet_style.specs.Separators.{separator_row}
 use Rattle.snippet_strokes.proofs.PositionLemmas.{entries_all, row_count_some, positions_of_placed}
@@ -258,12 +261,15 @@ returns c =
           c.cut_wide.new.buffer (wide_entries c.args.room layout.decor (map f c.deref-7.result.now))
           some wide (λ up source marks rest same. cut up source marks rest (same ∙ sym source_row))) c.cut_wide.ensures.cut;
       none = on_ok_weaker c.cut_wide.result (λ _ none. absurd (omega (arith, given, none))) c.cut_wide.ensures.cut;
-      painted = on_ok_weaker c.cut_wide.result (λ cut _ above plain old_is.
+      painted = on_ok_two c.cut_wide.result (λ cut value _ above plain old_is.
           let same_long : length labelled ≡ length begun = (c.in_ok-draw_labels.ensures.draws 0 (λ k d within. omega arith)).count ∙ (c.in_ok-draw_stems.ensures.draws 0 (λ k d within. omega arith)).count ∙ c.in_ok-draw_corners.ensures.draws.draws.count ∙ joined_long in
           let there : below < length labelled = omega (arith, same_long, long, c.in_ok-below.ensures.row, row_count_some placed) in
           let last_row : c.args.row ≡ length above = omega (arith, c.requires.last, ap length old_is, length_push above plain) in
           let all_rows : length new ≡ all = c.in_ok-draw_marks.ensures.marked.painted.count there ∙ same_long ∙ long in
           let wide_count : ℕ = wide_entries c.args.room layout.decor (map f c.deref-7.result.now) in
           let marked = c.in_ok-draw_marks.ensures in
-          painted_added layout c.args.room c.args.closes es placed after above plain c.args.buffer.now new c.cut_wide.new.buffer c.args.row wide_count c.in_ok-placed.ensures.placed marked.order old_is last_row all_rows new_is wide cut) c.cut_wide.ensures.cut;
+          let flags = c.in_ok-overlapped.overlapped.items in
+          let is_wide : PlacedEntry → Bool = is_wide_at c.args.room layout.decor in
+          let flags_are : list_any is_wide placed ≡ true → flags ≡ overlapped placed = λ some_wide. c.in_ok-overlapped.ensures.value (ap (list_any is_wide) c.deref.ensures.value ∙ some_wide) ∙ ap overlapped c.deref.ensures.value in
+          painted_added layout c.args.room c.args.closes es placed after flags above plain c.args.buffer.now new c.cut_wide.new.buffer c.args.row wide_count c.in_ok-placed.ensures.placed marked.order old_is last_row all_rows new_is wide marked.same flags_are (value ∙ ap (λ ps. cut_rows layout.decor c.args.row (cuts_of layout c.args.room ps c.deref-8.result.now) new) c.deref-7.ensures.value ∙ ap (λ fs. cut_rows layout.decor c.args.row (cuts_of layout c.args.room after fs) new) c.deref-8.ensures.value) cut) c.cut_wide.ensures.cut c.cut_wide.ensures.value;
     }
