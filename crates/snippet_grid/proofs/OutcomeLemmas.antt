@@ -1,5 +1,5 @@
 -- A result that a function returns as another gave it.
-use Rattle.std.proofs.Common.{◌≡◌, if◌then◌else◌, Result, Ok, Err, OnOk, OnErr}
+use Rattle.std.proofs.Common.{◌≡◌, if◌then◌else◌, Result, Ok, Err, IfOk, OnOk, OnErr}
 use Rattle.std.specs.Result.{is_ok}
 
 -- a fact that holds after either answer
@@ -20,3 +20,8 @@ on_ok_three (Err e) f p q s = tt
 pub on_ok_value : {T E X : Type 0} (r : Result T E) (x y z : X) → x ≡ (if is_ok r then y else z) → OnOk r (x ≡ y)
 on_ok_value (Ok v) x y z is = is
 on_ok_value (Err e) x y z is = tt
+
+-- what follows from a fact of the value of a granted call
+pub if_ok_weaker : {T E : Type 0} {P Q : T → Type 0} (r : Result T E) → ((x : T) → P x → Q x) → IfOk r P → IfOk r Q
+if_ok_weaker (Ok x) f p = f x p
+if_ok_weaker (Err e) f p = tt

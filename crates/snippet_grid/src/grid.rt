@@ -311,34 +311,33 @@ impl<'a> StyledBuffer<'a> {
         ensures plain { IfOk result (λ t. is_plain_sheet sheet.now ≡ true → links_of self.now ≡ []
             → string_bytes t ≡ encode_utf8_all (spec.plain_text self.now)) }
     {
-        let mut text = String::new(self.alloc);
-        self.render_into(&mut text, level, sheet)?;
-        Ok(text)
+        self.render_after(String::new(self.alloc), level, sheet)
     }
 
-    /// Adds the text that `render` gives to one that is there.
+    /// The text that `render` gives, after one that is there.
     ///
     /// # Errors
     ///
-    /// There is no memory for the text. What was added until then stays.
-    pub fn render_into(
+    /// There is no memory for the text.
+    pub fn render_after(
         &self,
-        out: &mut String,
+        before: String,
         level: LevelInner,
         sheet: &Stylesheet,
-    ) -> Result<(), AllocError>
-        ensures added { OnOk result
-            (AddsRows sheet.now level self.now (string_bytes out.old) (string_bytes out.new)) }
+    ) -> Result<String, AllocError>
+        ensures added { IfOk result (λ text. AddsRows sheet.now level self.now (string_bytes before) (string_bytes text)) }
     {
+        let mut text = before;
         // Codes take about as much as the text itself.
-        out.reserve(self.text.len().saturating_mul(2))?;
+        text.reserve(self.text.len().saturating_mul(2))?;
         weave_rows(
-            out,
+            &mut text,
             self.text.as_str(),
             &self.runs,
             &self.widths,
             level,
             sheet,
-        )
+        )?;
+        Ok(text)
     }
 }

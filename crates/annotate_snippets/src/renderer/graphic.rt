@@ -112,7 +112,7 @@ pub fn printed(
         if i > 0 {
             text.push('\n')?;
         }
-        grid.buffer.render_into(&mut text, grid.level, sheet)?;
+        text = grid.buffer.render_after(text, grid.level, sheet)?;
     }
     Ok(text)
 }

@@ -11,8 +11,8 @@ pub loop-i-preserved : goal.loop-i-preserved
 loop-i-preserved c =
     let sheet = c.args.sheet.now in
     let old = string_bytes c.loop-i.text in
-    let new = string_bytes c.render_into.new.out in
-    let adds = c.in_ok-render_into.ensures.added in
+    let new = string_bytes c.in_ok-text.text in
+    let adds = c.in_ok-text.ensures.added in
     let part = flat_map piece_text adds.pieces in
     let pushed : new ≡ string_bytes c.if-i-gt0.text ++ part = adds.text_is in
     let prints = subst (λ grid. IsPart sheet grid part) c.index-grids-i.is (IsPart-added sheet c.index-grids-i.result _ _ adds) in

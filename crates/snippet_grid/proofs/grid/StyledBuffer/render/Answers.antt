@@ -1,25 +1,27 @@
-use Rattle.std.proofs.Common.{refl, string_bytes}
+use Rattle.std.proofs.Common.{ℕ, List, String, refl, string_bytes}
+use Rattle.std.specs.declared.alloc.Global.{Global}
 use Rattle.snippet_grid.specs.Print.{plain_text}
-use Rattle.snippet_grid.specs.Woven.{Prints, links_of}
+use Rattle.snippet_grid.specs.Woven.{AddsRows, Prints, links_of}
+use Rattle.snippet_grid.proofs.OutcomeLemmas.{if_ok_weaker}
 use Rattle.snippet_grid.proofs.PrintsOnce.{Prints-unique}
 use Rattle.snippet_grid.proofs.WovenLemmas.{Prints-from_adds, IsWoven-from_prints, plain_woven}
 use Rattle.snippet_grid.proofs.grid.StyledBuffer.render.Goals as goal
 
-printed : (c : goal.In_ok-render_into) → Prints c.args.sheet.now c.args.level c.args.self.now (string_bytes c.render_into.new.out)
-printed c =
-    Prints-from_adds c.args.sheet.now c.args.level c.args.self.now _ _ _ refl c.new-text.ensures.bytes c.in_ok-render_into.ensures.added
+-- what is added to no text prints the rows
+printed : (c : goal.After-render_after) (new : List ℕ) → AddsRows c.args.sheet.now c.args.level c.args.self.now (string_bytes c.new.result) new → Prints c.args.sheet.now c.args.level c.args.self.now new
+printed c new adds = Prints-from_adds c.args.sheet.now c.args.level c.args.self.now _ _ _ refl c.new.ensures.bytes adds
 
 pub returns-clause-prints : goal.returns-clause-prints
-returns-clause-prints c = printed c
+returns-clause-prints c = if_ok_weaker c.render_after.result (λ t adds. printed c (string_bytes t) adds) c.render_after.ensures.added
 
 pub returns-clause-woven : goal.returns-clause-woven
 returns-clause-woven c =
-    IsWoven-from_prints c.args.sheet.now c.args.level c.args.self.now _ (printed c)
+    if_ok_weaker c.render_after.result (λ t adds. IsWoven-from_prints c.args.sheet.now c.args.level c.args.self.now _ (printed c (string_bytes t) adds)) c.render_after.ensures.added
 
 pub returns-clause-plain : goal.returns-clause-plain
 returns-clause-plain c =
-    λ plain none. plain_woven c.args.sheet.now _ (plain_text c.args.self.now) (links_of c.args.self.now) plain none (IsWoven-from_prints c.args.sheet.now c.args.level c.args.self.now _ (printed c))
+    if_ok_weaker c.render_after.result (λ t adds plain none. plain_woven c.args.sheet.now _ (plain_text c.args.self.now) (links_of c.args.self.now) plain none (IsWoven-from_prints c.args.sheet.now c.args.level c.args.self.now _ (printed c (string_bytes t) adds))) c.render_after.ensures.added
 
 pub returns-clause-only : goal.returns-clause-only
 returns-clause-only c =
-    λ other prints. Prints-unique c.args.sheet.now c.args.level c.args.self.now _ other (printed c) prints
+    if_ok_weaker c.render_after.result (λ t adds other prints. Prints-unique c.args.sheet.now c.args.level c.args.self.now _ other (printed c (string_bytes t) adds) prints) c.render_after.ensures.added
