@@ -17,6 +17,7 @@ pub replaced_empty : {X : Type 0} (start end : ℕ) (new xs : List X) → end �
 unfolding replaced_within
 replaced_empty start end new xs none = grind arith
 
+-- a replacement that would end right of the list changes nothing
 pub replaced_past : {X : Type 0} (start end : ℕ) (new xs : List X) → length xs < end → replaced_within start end new xs ≡ xs
 unfolding replaced_within
 replaced_past start end new xs past = grind arith

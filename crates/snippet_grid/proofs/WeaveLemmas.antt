@@ -31,6 +31,7 @@ value_or d (Some x) = x
 pub none≢some : {X : Type 0} {x : X} → None ≡ Some x → ⊥
 none≢some h = false≢true (ap is_there h)
 
+-- two values that are there and the same hold the same
 pub some_same : {X : Type 0} {x y : X} → Some x ≡ Some y → x ≡ y
 some_same {X = X} {x = x} h = ap (value_or x) h
 

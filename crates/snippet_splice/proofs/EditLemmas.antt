@@ -62,6 +62,7 @@ shrunk-by source e a m b ordered within h =
       text = h.whole ∙ append_assoc (take a o) m (drop a o) ∙ ap (λ l. l ++ (m ++ drop a o)) before ∙ ap (λ l. slice_range source e.start (e.start + a) ++ (m ++ l)) back;
     }
 
+-- a trimmed edit is the edit made smaller, where that doesn't end before it starts
 pub trimmed_edit-shrunk : (source : List ℕ) (e : Edit) → e.start ≤ e.end → IsShrunk source e (trimmed_edit source e)
 unfolding trimmed_edit
 trimmed_edit-shrunk source e ordered =

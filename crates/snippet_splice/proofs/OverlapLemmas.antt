@@ -71,6 +71,7 @@ put-apart at e (d ∷ ds) low ordered apart clear =
     subst (AreApart at) (sym (cond-false (precedes d e) (d ∷ put_in precedes e ds) (e ∷ d ∷ ds) f)) (low, ordered, (before, apart.1, apart.2)))
     (cases_Bool (precedes d e))
 
+-- edits that don't overlap stand apart once they are in order
 pub apart-in_order : (es : List Edit) → All (λ e. e.start ≤ e.end) es → AreDisjoint es → AreApart 0 (in_order es)
 apart-in_order [] ordered disjoint = tt
 apart-in_order (e ∷ es) ordered disjoint =

@@ -24,6 +24,7 @@ use Rattle.snippet_splice.proofs.SpliceLemmas.{AreBeforeFinalLf, copied-same, st
 abbrev pub feeds : List ℕ → ℕ
 feeds bytes = count_by is_lf bytes
 
+-- two texts together have as many line feeds as both
 pub feeds-append : (xs ys : List ℕ) → feeds (xs ++ ys) ≡ feeds xs + feeds ys
 feeds-append xs ys = sum_by-append (λ b. cond (is_lf b) 1 0) xs ys
 

@@ -45,6 +45,7 @@ utf8-after rest front after b utf8 ascii e =
     let cut : drop (length front + 1) rest ≡ after = ap (drop (length front + 1)) (e ∙ sym (append_assoc front (b ∷ []) after)) ∙ drop_at (front ++ b ∷ []) after (length front + 1) (length_push front b) in
     subst IsUtf8 cut (IsUtf8-drop rest (length front + 1) utf8 (IsCharBoundary-after_ascii rest (length front) utf8 within (omega (arith, at))))
 
+-- what stands before an ASCII byte in UTF-8 is UTF-8
 pub utf8-front : (rest front after : List ℕ) (b : ℕ) → IsUtf8 rest → b < 128 → rest ≡ front ++ b ∷ after → IsUtf8 front
 utf8-front rest front after b utf8 ascii e =
     let at : get_or rest (length front) 0 ≡ b = ap (λ l. get_or l (length front) 0) e ∙ get_or_at front b after 0 (length front) refl in

@@ -81,6 +81,7 @@ pub bare_row_short : (decor : DecorStyle) (gutter : ℕ) (closes : Bool) → len
 bare_row_short decor gutter true = omega (arith, length-led (gutter + 1) (closing_of decor), closing_short decor)
 bare_row_short decor gutter false = omega (arith, length-separator_row decor gutter)
 
+-- a row of strokes before any stroke is drawn is blank as far as the gutter reaches
 pub bare_row_left : (decor : DecorStyle) (gutter : ℕ) (closes : Bool) (c : ℕ) → c ≤ gutter → slice_index_or (bare_row decor gutter closes) c SPACE ≡ SPACE
 bare_row_left decor gutter true c left =
     led_before (gutter + 1) c (text_cells LineNumber (closing_of decor)) (omega (arith, left))

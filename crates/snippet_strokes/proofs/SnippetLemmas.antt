@@ -95,6 +95,7 @@ role_left code dropped c left es role =
     let any : list_any (highlights code dropped c) es ≡ false = list_any_none _ es (λ k d within. unasked (get_or es k d)) in
     rw (primary, any)
 
+-- highlighting changes no cell left of the code
 pub highlighted_left : (code dropped : ℕ) (es : List LineAnnotation) (plain row : List Cell) → IsHighlighted code dropped es plain row → (c : ℕ) → c < code → slice_index_or row c SPACE ≡ slice_index_or plain c SPACE
 highlighted_left code dropped es plain row is c left =
     elim (cases_lt c (length plain)) [

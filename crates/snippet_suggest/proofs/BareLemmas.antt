@@ -61,6 +61,7 @@ led_text : (n : ℕ) (role : ElementStyle) (cs : List ℕ) → row_text (replica
 led_text zero role cs = row_text-text_cells role cs
 led_text (suc n) role cs = ap (λ t. 32 ∷ t) (led_text n role cs)
 
+-- spaces and then the characters of strokes, no wider than a bare row, are a row of strokes
 pub stroke_led : (decor : DecorStyle) (gutter at : ℕ) (role : ElementStyle) (cs : List ℕ) → at + length cs ≤ gutter + 3 → list_all (is_stroke decor) cs ≡ true → list_any is_listed cs ≡ false → IsStrokeRow decor gutter (replicate at 32 ++ cs) (replicate at SPACE ++ text_cells role cs)
 stroke_led decor gutter at role cs short strokes free =
     record {

@@ -58,6 +58,7 @@ module _ (P : List Cell → Type 0) where
   All-on_top [] (r ∷ rows) one all = All-cons P [] (r ∷ rows) one all
   All-on_top (cell ∷ cells) rows one all = All-cons P (cell ∷ cells) rows one all
 
+  -- what holds of each row holds of each row once rows are trimmed
   pub All-trimmed : (rows : List (List Cell)) → All P rows → All P (trimmed rows)
   All-trimmed [] all = All-nil P
   All-trimmed (row ∷ rows) all =
@@ -169,9 +170,11 @@ heading_rows-untrusted hyperlink style heading untrusted =
 abbrev pub IsOwn : Heading → ℕ → Type 0
 IsOwn heading c = is_listed c ≡ true → (heading.allows_styling ≡ true) × Contains (chars heading.text) c
 
+-- a character that isn't listed is allowed in a heading's rows
 pub own_unlisted : (heading : Heading) (c : ℕ) → IsUnlisted c → IsOwn heading c
 own_unlisted heading c unlisted listed = cc
 
+-- each character that a heading's text shows is allowed in its rows
 pub own_text : (heading : Heading) (trusted : Bool) → heading.allows_styling ≡ trusted → All (IsOwn heading) (shown_text heading)
 own_text heading true is =
     let same : shown_text heading ≡ chars heading.text = rw is refl in
@@ -180,6 +183,7 @@ own_text heading false is =
     let same : shown_text heading ≡ norm (chars heading.text) = rw is refl in
     subst (All (IsOwn heading)) (sym same) (All-weaker IsUnlisted (IsOwn heading) (own_unlisted heading) (norm (chars heading.text)) (norm-free (chars heading.text)))
 
+-- the rows of a heading are free of listed characters but those of its own text
 pub heading_rows-free : (hyperlink : Bool) (style : TitleStyle) (heading : Heading) → All (IsFreeButText heading) (heading_rows hyperlink style heading)
 heading_rows-free hyperlink style heading =
     heading_rows-all (IsOwn heading) (own_unlisted heading) hyperlink style heading (own_text heading heading.allows_styling refl)

@@ -40,6 +40,7 @@ module _ (P : List Cell → Type 0) (layout : OriginLayout) (separator : P (sepa
   opening_rows-each Unicode true = All-cons P (file_row layout First) [] (file First) (All-nil P)
   opening_rows-each Unicode false = All-cons P (file_row layout Later) [] (file Later) (All-nil P)
 
+  -- what holds of the cells of a head's spaces and glyphs holds of the opening head
   pub opening_head-each : (first : Bool) → All P (opening_head layout first)
   opening_head-each first = opening_rows-each layout.decor first
 
@@ -148,5 +149,6 @@ heading_rows-unlinked hyperlink style heading none =
     (λ line. All-append IsUnlinked further (text_cells roles.text line) (indent_unlinked style (label_width heading))
     (drawn_unlinked roles.text line)) (heading_lines heading))
 
+-- no cell of a message's rows has a link where the message has no id
 pub message_rows-unlinked : (hyperlink : Bool) (place : MessageContext) (heading : Heading) → heading.id ≡ None → All (All (λ (cell : Cell). cell.link ≡ None)) (heading_rows hyperlink (Message place) heading)
 message_rows-unlinked hyperlink place heading none = heading_rows-unlinked hyperlink (Message place) heading none

@@ -123,6 +123,7 @@ rest-of p (q ∷ ps) =
           record { chain = here.chain; is = inl here.is; linked = here.linked; long = omega (arith, here.long, raw_depth-some p ps) }
     ]
 
+-- the greatest raw depth is the length of the longest chain
 pub longest-chain : (ps : List LongExtent) → IsLongestChain ps (greatest_raw_depth ps)
 longest-chain [] = record { chain = []; is_chain = refl; long = refl; longest = any-chain-short [] }
 longest-chain (p ∷ ps) =

@@ -63,6 +63,7 @@ pub keeps-last : (source : List ℕ) (a : Annotation) (k : ℕ) → IsSpan sourc
 keeps-last source a k span is =
     second-of-four (eqb k (first_line source a)) (eqb k (last_line source a)) (not (is_marking a.kind)) (has_bar source a k) (touches source a k) (touched source a k (omega (arith, lines-ordered source a span)) (omega arith)) (eq-eqb k (last_line source a) is)
 
+-- an annotation that isn't marked keeps each line that it touches
 pub keeps-unmarked : (source : List ℕ) (a : Annotation) (k : ℕ) → not (is_marking a.kind) ≡ true → touches source a k ≡ true → keeps source k a ≡ true
 keeps-unmarked source a k unmarked there =
     third-of-four (eqb k (first_line source a)) (eqb k (last_line source a)) (not (is_marking a.kind)) (has_bar source a k) (touches source a k) there unmarked

@@ -174,6 +174,7 @@ uncovered_short left placeholder inner =
       | false ↦ omega (arith, length-drop (reaching (width_of placeholder) inner) inner)
     ]
 
+-- a part of a text has no more characters than the text
 pub part_short : (n k : ℕ) (cs rest inner : List ℕ) → rest ≡ drop n cs → inner ≡ take k rest → length inner ≤ length cs
 part_short n k cs rest inner rest_is inner_is =
     omega (arith, ap length rest_is, ap length inner_is, length-take k rest, length-drop n cs)

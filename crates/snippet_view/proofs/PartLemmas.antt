@@ -31,15 +31,18 @@ All-put before Q x [] one all = All-cons Q x [] one (All-nil Q)
 All-put before Q x (y ∷ ys) one all =
     cond_both (before y x) (y ∷ put_in before x ys) (x ∷ y ∷ ys) (All Q) (λ _. All-cons Q y (put_in before x ys) (All-head Q y ys all) (All-put before Q x ys one (All-tail Q y ys all))) (λ _. All-cons Q x (y ∷ ys) one all)
 
+-- what holds of each element holds of each once they are in order
 pub All-order : {X : Type 0} (before : X → X → Bool) (Q : X → Type 0) (xs : List X) → All Q xs → All Q (ordered_by before xs)
 All-order before Q [] all = All-nil Q
 All-order before Q (x ∷ xs) all = All-put before Q x (ordered_by before xs) (All-head Q x xs all) (All-order before Q xs (All-tail Q x xs all))
 
+-- each number of a range is at least its first, and less than its end
 pub All-range : (a n : ℕ) → All (λ k. (a ≤ k) × (k < a + n)) (range_with_len a n)
 All-range a n k d within =
     let below : k < n = omega (arith, length-range_with_len a n) in
     let at : get_or (range_with_len a n) k d ≡ a + k = get_or-range_with_len a n k d below in (omega arith, omega arith)
 
+-- what holds of each element that is made holds of what each was made from
 pub All-unmapped : {X Y : Type 0} (P : Y → Type 0) (f : X → Y) (xs : List X) → All P (map f xs) → All (λ x. P (f x)) xs
 All-unmapped P f [] all = All-nil (λ x. P (f x))
 All-unmapped P f (x ∷ xs) all = All-cons (λ x. P (f x)) x xs (All-head P (f x) (map f xs) all) (All-unmapped P f xs (All-tail P (f x) (map f xs) all))

@@ -10,6 +10,7 @@ use Rattle.snippet_view.specs.Depths.{same_place, share_line, places_of, raw_dep
 same_fields : (a b c d a' b' c' d' : ℕ) → a ≡ a' → b ≡ b' → c ≡ c' → d ≡ d' → ◌≡◌ {A = LongExtent} (record { from = a; to = b; first = c; last = d }) (record { from = a'; to = b'; first = c'; last = d' })
 same_fields a b c d a' b' c' d' e f g h = cc
 
+-- places that the test calls the same are the same
 pub same-true : (p q : LongExtent) → same_place p q ≡ true → p ≡ q
 same-true p q same =
     let abcd = and_parts (eqb p.from q.from) (eqb p.to q.to && (eqb p.first q.first && eqb p.last q.last)) same in
@@ -17,6 +18,7 @@ same-true p q same =
     let cd = and_parts (eqb p.first q.first) (eqb p.last q.last) bcd.1 in
     same_fields p.from p.to p.first p.last q.from q.to q.first q.last (eqb-true p.from q.from abcd.0) (eqb-true p.to q.to bcd.0) (eqb-true p.first q.first cd.0) (eqb-true p.last q.last cd.1)
 
+-- the test calls a place the same as itself
 pub same-refl : (p : LongExtent) → same_place p p ≡ true
 same-refl p =
     and_from (eqb p.from p.from) (eqb p.to p.to && (eqb p.first p.first && eqb p.last p.last)) (eq-eqb p.from p.from refl)
@@ -131,10 +133,12 @@ raw_depth-bound p (q ∷ qs) =
       | inr fails ↦ let e : cond (share_line p q) (raw_depth q qs + 1) 1 ≡ 1 = cond-false (share_line p q) (raw_depth q qs + 1) 1 fails in omega arith
     ]
 
+-- the greatest raw depth is at most the count of places
 pub greatest-bound : (ps : List LongExtent) → greatest_raw_depth ps ≤ length ps
 greatest-bound [] = omega arith
 greatest-bound (p ∷ ps) = omega (arith, raw_depth-bound p ps, greatest-bound ps)
 
+-- no more places are left than there were, once each stands once
 pub places-bound : (ps : List LongExtent) → length (places_of ps) ≤ length ps
 places-bound [] = omega arith
 places-bound (p ∷ ps) =

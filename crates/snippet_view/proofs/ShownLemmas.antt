@@ -20,6 +20,7 @@ use Rattle.snippet_view.specs.Depths.{same_place, share_line}
 use Rattle.snippet_view.proofs.DepthLemmas.{distinct-places}
 use Rattle.snippet_view.proofs.RawDepthLemmas.{same-refl}
 
+-- those that pass among the made elements are made from those whose made ones pass
 pub filter-map : {X Y : Type 0} (p : Y → Bool) (f : X → Y) (xs : List X) → filter p (map f xs) ≡ map f (filter (λ x. p (f x)) xs)
 filter-map p f [] = refl
 filter-map p f (x ∷ xs) =
@@ -56,6 +57,7 @@ ties-line n m = grind (arith, nat_tests)
 pub at-line : ℕ → LineAnnotation
 at-line n = record { start = record { line = n; char = 0; display = 0; byte = 0 }; end = record { line = n; char = 0; display = 0; byte = 0 }; kind = Primary; label = None; annotation_type = Singleline; highlight_source = false }
 
+-- a stable sort by lines leaves the entries of one line in the order in which they were made
 pub stable-on-line : (made sorted : List LineAnnotation) (n : ℕ) → IsStableByKey (λ (e : LineAnnotation). e.start.line) nat_cmp made sorted → filter (λ (p : PartEntry). eqb p.entry.start.line n) (map seen_part sorted) ≡ filter (λ (p : PartEntry). eqb p.entry.start.line n) (map seen_part made)
 unfolding at-line
 stable-on-line made sorted n stable =
@@ -88,6 +90,7 @@ pub same-kept : (number number' : ℕ) (text text' : List ℕ) (parts parts' : L
     (record { number = number'; text = text'; parts = parts'; keep = keep' })
 same-kept number number' text text' parts parts' keep keep' a b c d = cc
 
+-- where lines before a stretch are too low and those after it too high, it doesn't end before it starts
 pub from-to : {X : Type 0} (line : X → ℕ) (none : X) (xs : List X) (n from to : ℕ) → from ≤ length xs → ((j : ℕ) (d : X) → j < from → j < length xs → line (get_or xs j d) < n) → ((j : ℕ) (d : X) → to ≤ j → j < length xs → n < line (get_or xs j d)) → from ≤ to
 from-to line none xs n from to within below after =
     elim (cases_lt to from) [
