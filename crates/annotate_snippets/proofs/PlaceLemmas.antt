@@ -56,6 +56,7 @@ start-location : (m : Source) (start end : ℕ) → (locations_of m start end).0
 unfolding locations_of
 start-location m start end = refl
 
+-- the place of a suggestion is where its first trimmed patch starts
 pub first-place : (p : PreparedSuggestion) (t : TrimmedPatch) (at : Loc × Loc) → IsPrepared p → slice_get p.splice.patches.items 0 ≡ Some t
     → at ≡ locations_of p.map t.span.start t.span.end
     → ◌≡◌ {A = OriginLocation} (record { line = Some at.0.line; column = Some (at.0.char + 1) }) (patch_place p.snippet.now)

@@ -129,6 +129,7 @@ pub place-added : (text new shown : List ℕ) → IsUtf8 text → chars text ≡
 place-added text new shown utf8 is added =
     ap chars added ∙ chars-append text (58 ∷ 32 ∷ []) utf8 ∙ ap (λ cs. cs ++ chars (58 ∷ 32 ∷ [])) is ∙ ap (λ cs. shown ++ cs) (lead-chars true)
 
+-- a place with its colon has room, where its path and its numbers fit
 pub place-short : (anonymized : Bool) (path : List ℕ) (place : OriginLocation) (new : List ℕ) → length path < 2 ^ 56 → PlaceFits place → chars new ≡ origin_text anonymized path place ++ 58 ∷ 32 ∷ [] → length (chars new) < 2 ^ 59
 place-short anonymized path place new short fits is =
     omega (arith, short, ap length is, length-append (origin_text anonymized path place) (58 ∷ 32 ∷ []), origin_text-short anonymized path place fits)
@@ -155,8 +156,10 @@ first_cause-each P (Suggestion s ∷ es) all = first_cause-each P es (All-tail P
 first_cause-each P (Origin o ∷ es) all = first_cause-each P es (All-tail P (Origin o) es all)
 first_cause-each P (Padding p ∷ es) all = first_cause-each P es (All-tail P (Padding p) es all)
 
+-- the first snippet of a group that can be drawn can be drawn
 pub first_cause-drawable : (g : Group) → IsGroupDrawable g → IfSome (first_cause g.elements.items) IsDrawable
 first_cause-drawable g drawable = first_cause-each IsElementDrawable g.elements.items drawable.1
 
+-- the first snippet of a group that can be drawn fits
 pub first_cause-fits : (g : Group) → IsGroupDrawable g → IfSome (first_cause g.elements.items) (SnippetFits AnnotationFits)
 first_cause-fits g drawable = first_cause-each ElementFits g.elements.items drawable.0.1

@@ -55,10 +55,12 @@ cells_replaced_kept rows row start end cells kept =
       | inr past ↦ changed_within_none change row (row + 1) rows (omega arith)
     ]
 
+-- replacing an empty stretch that ends where it starts or earlier changes nothing
 pub cells_replaced_empty : (rows : List (List Cell)) (row start end : ℕ) (cells : List Cell) → end ≤ start → cells_replaced rows row start end cells ≡ rows
 cells_replaced_empty rows row start end cells none =
     cells_replaced_kept rows row start end cells (replaced_empty start end cells (row_at rows row) none)
 
+-- replacing a stretch that ends right of the row changes nothing
 pub cells_replaced_past : (rows : List (List Cell)) (row start end : ℕ) (cells : List Cell) → length (row_at rows row) < end → cells_replaced rows row start end cells ≡ rows
 cells_replaced_past rows row start end cells past =
     cells_replaced_kept rows row start end cells (replaced_past start end cells (row_at rows row) past)

@@ -275,6 +275,7 @@ abbrev pub is_empty : {X : Type 0} → List X → Bool
 is_empty [] = true
 is_empty (x ∷ xs) = false
 
+-- a list with an element isn't empty
 pub nil≢cons : {X : Type 0} {x : X} {xs : List X} → x ∷ xs ≡ [] → ⊥
 nil≢cons h = false≢true (ap is_empty h)
 

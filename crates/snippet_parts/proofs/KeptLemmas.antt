@@ -57,6 +57,7 @@ furthest-push : (xs : List ℕ) (n : ℕ) → furthest (xs ++ n ∷ []) ≡ max 
 furthest-push [] n = refl
 furthest-push (x ∷ xs) n = let h : furthest (xs ++ n ∷ []) ≡ max n (furthest xs) = furthest-push xs n in omega arith
 
+-- the furthest of one number more is the greater of that one and the furthest so far
 pub furthest-more : (xs : List ℕ) (i d : ℕ) → i < length xs → furthest (take (i + 1) xs) ≡ max (get_or xs i d) (furthest (take i xs))
 furthest-more xs i d within = ap furthest (take_more xs i d within) ∙ furthest-push (take i xs) (get_or xs i d)
 
@@ -69,6 +70,7 @@ take-zeros zero n = refl
 take-zeros (suc m) zero = refl
 take-zeros (suc m) (suc n) = let h : furthest (take m (replicate n 0)) ≡ 0 = take-zeros m n in omega arith
 
+-- no line is covered where nothing reaches past one
 pub covered-none : (reach : List ℕ) (n k : ℕ) → reach ≡ replicate n 0 → is_covered reach k ≡ false
 covered-none reach n k is = le-ltb k (furthest (take (k + 1) reach)) (omega (arith, ap (λ xs. furthest (take (k + 1) xs)) is, take-zeros (k + 1) n))
 
@@ -179,9 +181,11 @@ last_bar-is l k m trivial closing b some is one none' next =
       | inr none ↦ lt-leb (l - closing) k (omega (arith, none' none)) ∙ sym none ∙ rest ∙ sym (ap (λ z. z && ltb m k && not (trivial k)) (eq-eqb (k + 1) l next))
     ]
 
+-- only the line right above the last one can have the last bar
 pub last_bar-apart : (l k m : ℕ) (trivial : ℕ → Bool) → (k + 1 ≡ l → ⊥) → (eqb (k + 1) l && ltb m k && not (trivial k)) ≡ false
 last_bar-apart l k m trivial apart = ap (λ z. z && ltb m k && not (trivial k)) (ne_eqb (k + 1) l apart)
 
+-- the order in which three tests are joined doesn't matter
 pub or-assoc : (a b c : Bool) → (a || b || c) ≡ (a || (b || c))
 or-assoc true b c = refl
 or-assoc false b c = refl
@@ -219,6 +223,7 @@ pub line-kept : (p : ℕ → Bool) (i : ℕ) (now new : List ℕ) → p i ≡ tr
 line-kept p i now new passes pushed before =
     pushed ∙ ap (λ ks. ks ++ i ∷ []) before ∙ sym (filter-more p i ∙ ap (λ b. filter p (range_with_len 0 i) ++ cond b (i ∷ []) []) passes)
 
+-- a line that doesn't pass leaves the list as it is
 pub line-left : (p : ℕ → Bool) (i : ℕ) (now : List ℕ) → p i ≡ false → now ≡ filter p (range_with_len 0 i) → now ≡ filter p (range_with_len 0 (i + 1))
 line-left p i now fails before =
     before ∙ sym (filter-more p i ∙ ap (λ b. filter p (range_with_len 0 i) ++ cond b (i ∷ []) []) fails ∙ append-nil (filter p (range_with_len 0 i)))
@@ -234,5 +239,6 @@ kept-all p marks fold i n reach lent all len is so_far =
     ∙ filter_agree (λ k. not fold || is_covered reach k) (λ k. not fold || list_any (p k) marks)
     (λ k. ap (λ b. not fold || b) (so_far k ∙ ap (list_any (p k)) (take_all i marks all))) (range_with_len 0 n)
 
+-- each line that is kept is one of the lines
 pub kept-within : (p : ℕ → Bool) (n : ℕ) → All (λ k. k < n) (filter p (range_with_len 0 n))
 kept-within p n = All-filter p (λ k. k < n) (range_with_len 0 n) (All-weaker (λ k. (0 ≤ k) × (k < 0 + n)) (λ k. k < n) (λ k within. omega (arith, within.1)) (range_with_len 0 n) (All-range 0 n))

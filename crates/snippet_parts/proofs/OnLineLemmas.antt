@@ -265,6 +265,7 @@ module _ (fold : Bool) (s : Source) (marks : List Annotation) (infos : List Anno
   numbers =
       sym (map-map (λ (l : KeptLine). l.number) seen_kept infos) ∙ ap (map (λ (l : KeptLine). l.number)) lines ∙ map-map (λ (l : KeptLine). l.number) (kept_line s marks) (kept_lines fold s.text marks)
 
+  -- the numbers of the lines ascend
   pub lines-ascend : Ascends (numbers_of infos)
   lines-ascend = subst Ascends (sym numbers) (ascends-from s.first (kept_lines fold s.text marks) (kept-ascends fold s.text marks))
 
@@ -273,6 +274,7 @@ module _ (fold : Bool) (s : Source) (marks : List Annotation) (infos : List Anno
   number-among k among =
       subst (λ ns. Contains ns (s.first + k)) (sym numbers) (contains-map (λ n. s.first + n) k (kept_lines fold s.text marks) among)
 
+  -- a line says that it is kept where a span that isn't marked touches it
   pub lines-kept : All (λ info. info.keep ≡ list_any (is_seen s.text (info.line_index - s.first)) marks) infos
   lines-kept =
       each-line (λ info. info.keep ≡ list_any (is_seen s.text (info.line_index - s.first)) marks) s marks (kept_lines fold s.text marks) infos lines (λ i d within info seen. let k : ℕ = get_or (kept_lines fold s.text marks) i d in

@@ -83,6 +83,7 @@ edited_from-earlier source a b [] low apart = drop_split source a b low
 edited_from-earlier source a b (e ∷ es) low apart =
     ap (λ l. l ++ (e.text ++ edited_from source e.end es)) (slice_split source a b e.start low apart.0) ∙ append_assoc (slice_range source a b) (slice_range source b e.start) (e.text ++ edited_from source e.end es)
 
+-- edits that stand apart from a place on stand apart from an earlier one on
 pub AreApart-earlier : (a b : ℕ) (es : List Edit) → a ≤ b → AreApart b es → AreApart a es
 AreApart-earlier a b [] low apart = tt
 AreApart-earlier a b (e ∷ es) low apart = (omega (arith, apart.0), apart.1, apart.2)
