@@ -73,6 +73,7 @@ module _ (layout : Layout) (room : ℕ) (closes : Bool) (es : List LineAnnotatio
       let lower = ap (λ ws. painted ws (above ++ bare)) (strokes-lowered layout n (count + 1) placed order) in
       new_is ∙ by_row ∙ by_count ∙ by_rows ∙ lower ∙ painted-below above strokes bare
 
+  -- the rows of a line are its strokes, painted
   pub painted_added : AddsPainted layout room closes es above source final
   painted_added =
       let many : length own ≡ count + 1 = omega (arith, ap length new_below, length-append above own, long, all_rows) in

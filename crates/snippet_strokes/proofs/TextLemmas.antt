@@ -81,6 +81,7 @@ bytes_some bytes utf8 some = above (length bytes) (ap not (is_empty-chars bytes 
     above : (n : ℕ) → not (n == 0) ≡ true → 0 < n
     above n some = grind (arith, nat_tests)
 
+-- a text without characters has no bytes
 pub bytes_none : (bytes : List ℕ) → IsUtf8 bytes → not (length (chars bytes) == 0) ≡ false → bytes ≡ []
 bytes_none bytes utf8 none = nil_from_length bytes (zero_there (length bytes) (ap not (is_empty-chars bytes utf8) ∙ none))
   where
@@ -95,6 +96,7 @@ label_short e fits = of_label e.label fits
     of_label None fits = omega arith
     of_label (Some label) fits = norm_short label.now fits
 
+-- the labels of entries are short also where these are shifted
 pub labels_short : (dropped : ℕ) (es : List LineAnnotation) → All (λ e. IfSome e.label (λ t. length t.now < 2 ^ 56)) es → All (λ e. length (label_text e) < 2 ^ 60) (map (shifted dropped) es)
 labels_short dropped es fit =
     All-map (λ (e : LineAnnotation). length (label_text e) < 2 ^ 60) (shifted dropped) es (λ k d within. label_short (get_or es k d) (fit k d within))

@@ -96,6 +96,7 @@ put_left gutter role old cs row covers there c inside =
           ]
     ]
 
+-- a glyph that is written beside the gutter leaves a row of strokes
 pub stroke_put : (decor : DecorStyle) (gutter : ℕ) (role : ElementStyle) (glyph : SuggestionGlyph) (old : List ℕ) (row : List Cell)
     → is_sign glyph ≡ false → length old ≤ length (glyph_of decor glyph) → IsStrokeRow decor gutter (beside_gutter gutter old) row
     → IsStrokeRow decor gutter (beside_gutter gutter (glyph_of decor glyph)) (written SPACE row (gutter + 1) (text_cells role (glyph_of decor glyph)))
@@ -111,6 +112,7 @@ spaces_left zero c = refl
 spaces_left (suc n) zero = refl
 spaces_left (suc n) (suc c) = spaces_left n c
 
+-- an empty row is a row of strokes
 pub stroke_none : (decor : DecorStyle) (gutter : ℕ) → IsStrokeRow decor gutter [] []
 stroke_none decor gutter = record { bare = bare_none decor gutter; left_is = λ c inside. refl }
 

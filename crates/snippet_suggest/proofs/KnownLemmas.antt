@@ -32,6 +32,7 @@ known_spans p is =
     let text : cow_str_bytes p.snippet.now.source ≡ p.map.text = sym (ap (λ m. m.text) is.lines) in
     trimmed_spans p.map.text (edits_of p.snippet.now) p.splice.patches.items (edit_spans p is) (is.edits ∙ ap (λ source. trimmed_edits source (edits_of p.snippet.now)) text)
 
+-- the patches of a prepared suggestion stand on spans of its source
 pub known_originals : (p : PreparedSuggestion) → IsPrepared p → All (λ t. IsSpan p.map.text t.original_span.start t.original_span.end) p.splice.patches.items
 known_originals p is =
     original_spans p.map.text (edits_of p.snippet.now) p.splice.patches.items (edit_spans p is) is.originals
@@ -77,13 +78,16 @@ first_end_of (t ∷ ts) (e ∷ es) same =
     let pair : ◌≡◌ {A = ℕ × ℕ} (original_bounds_of t) (bounds_of e) = cc in
     ap (λ b. b.1) pair
 
+-- the first patch of a prepared suggestion starts where its first edit does
 pub known_first_start : (p : PreparedSuggestion) → IsPrepared p → first_original p.splice.patches.items ≡ first_start (in_order (edits_of p.snippet.now))
 known_first_start p is = first_of p.splice.patches.items (in_order (edits_of p.snippet.now)) is.originals
 
+-- the first patch of a prepared suggestion ends where its first edit does
 pub known_first_end : (p : PreparedSuggestion) → IsPrepared p → first_original_end p.splice.patches.items ≡ first_end (in_order (edits_of p.snippet.now))
 known_first_end p is =
     first_end_of p.splice.patches.items (in_order (edits_of p.snippet.now)) is.originals
 
+-- the number of the first line of a prepared suggestion is that of the first that is given
 pub known_first : (p : PreparedSuggestion) → IsPrepared p → p.map.first + (if p.snippet.now.fold then line_of (source_lines p.map.text) (first_original p.splice.patches.items) else 0) ≡ p.snippet.now.line_start + first_given p.snippet.now
 known_first p is =
     let s = p.snippet.now in

@@ -91,6 +91,7 @@ take_range a n zero fits = refl
 take_range a zero (suc k) fits = absurd (omega (arith, fits))
 take_range a (suc n) (suc k) fits = ap (λ ks. a ∷ ks) (take_range (a + 1) n k (omega (arith, fits)))
 
+-- a range without its last where that stays is a shorter range
 pub unless_range : (stays : Bool) (a n : ℕ) → unless_stays stays (range_with_len a n) ≡ range_with_len a (if stays then n - 1 else n)
 unless_range true a n =
     ap (λ (k : ℕ). take (k - 1) (range_with_len a n)) (length-range_with_len a n) ∙ take_range a n (n - 1) (omega arith)

@@ -48,6 +48,7 @@ module _ (start : SuggestionStart) (s : Snippet Patch) where
   pub rows_none_diff : given_lines s ≡ [] → shown_kind s ≡ Diff → rows_of_suggestion start s ≡ Begins start ∷ map (removed_row s) (removed_lines s)
   rows_none_diff none diff = by_case [] true none (ap is_diff diff)
 
+  -- a suggestion that gives no line, and is no diff, has the rows of removed lines alone
   pub rows_none : given_lines s ≡ [] → shown_kind s ≢ Diff → rows_of_suggestion start s ≡ map (removed_row s) (removed_lines s)
   rows_none none other = by_case [] false none (not_diff (shown_kind s) other)
 

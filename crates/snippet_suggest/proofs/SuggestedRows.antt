@@ -83,10 +83,12 @@ unfolding body_cells
 body_none layout start s under rows none is =
     ap (λ (ls : List (List ℕ)). with_left_out layout s ls (cells_over (cells_of layout s) under (rows_of_suggestion start s))) none ∙ ap (cells_over (cells_of layout s) under) is
 
+-- where no line is given, the rows of emptied lines are those of the suggestion
 pub body_emptied : (layout : SuggestionLayout) (start : SuggestionStart) (s : Snippet Patch) (under : List Cell) (i : ℕ) (lines : List (ℕ × List ℕ)) → given_lines s ≡ [] → rows_of_suggestion start s ≡ removed_from i lines → emptied_cells layout lines under ≡ body_cells layout start s under
 body_emptied layout start s under i lines none is =
     sym (body_none layout start s under (removed_from i lines) none is ∙ emptied_over layout s under i lines none)
 
+-- where a diff gives no line, its beginning and the rows of emptied lines are those of the suggestion
 pub body_emptied_diff : (layout : SuggestionLayout) (start : SuggestionStart) (s : Snippet Patch) (under : List Cell) (i : ℕ)
     (lines : List (ℕ × List ℕ)) → given_lines s ≡ [] → rows_of_suggestion start s ≡ Begins start ∷ removed_from i lines
     → begin_cells layout start under ∷ emptied_cells layout lines [] ≡ body_cells layout start s under
@@ -287,6 +289,7 @@ module _ (layout : SuggestionLayout) (s : Snippet Patch) (line : List ℕ) (f : 
       ∙ ap (λ (r : List Cell). taken_cells layout first replaced 0 (unless_stays stays infos) ++ r ∷ []) offered_is in
       sym (body ∙ ap (λ r. r ∷ map (cells_of layout s []) (removed ++ Offers 0 ∷ [])) (begins_is layout s under start) ∙ ap (λ rs. begin ∷ rs) cells)
 
+  -- the rows of a diff are those of the suggestion
   pub body_diff : (start : SuggestionStart) (under : List Cell) (added : List SubstitutionHighlight) → added ≡ new_on s 0
       → rows_of_suggestion start s ≡ Begins start ∷ changed_rows true left removed
       → diff_cells layout first infos replaced line added (begin_cells layout start under) ≡ body_cells layout start s under
@@ -300,6 +303,7 @@ module _ (layout : SuggestionLayout) (s : Snippet Patch) (line : List ℕ) (f : 
 
 -- ---- the last row
 
+-- the last row of an underlined suggestion has its marks
 pub ends_marked : (layout : SuggestionLayout) (s : Snippet Patch) (follows : Bool) → shown_kind s ≡ Underline → with_marks layout (source_of s) [] (trimmed_of s) (end_cells layout follows) ≡ cells_of layout s [] (Ends follows)
 unfolding cells_of
 ends_marked layout s follows marks =
@@ -311,11 +315,13 @@ none_marked Diff es other = refl
 none_marked Plain es other = refl
 none_marked Add es other = refl
 
+-- the last row of a suggestion that isn't underlined has no marks
 pub ends_plain : (layout : SuggestionLayout) (s : Snippet Patch) (follows : Bool) → shown_kind s ≢ Underline → end_cells layout follows ≡ cells_of layout s [] (Ends follows)
 unfolding cells_of with_marks
 ends_plain layout s follows other =
     ap (λ es. with_marks layout (source_of s) [] es (end_cells layout follows)) (sym (none_marked (shown_kind s) (trimmed_of s) other))
 
+-- the body and the last row are all rows of a suggestion
 pub suggestion_is : (layout : SuggestionLayout) (start : SuggestionStart) (follows : Bool) (s : Snippet Patch) (under : List Cell)
     (above before new : List (List Cell)) → before ≡ above ++ body_cells layout start s under
     → new ≡ before ++ cells_of layout s [] (Ends follows) ∷ [] → new ≡ above ++ suggestion_cells layout start follows s under

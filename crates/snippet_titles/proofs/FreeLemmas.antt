@@ -94,6 +94,7 @@ module _ (P : ℕ → Type 0) (free : (c : ℕ) → IsUnlisted c → P c) where
   id-all hidden None = All-nil P
   id-all hidden (Some id) = text-all hidden (option_map cow_str_bytes id.id)
 
+  -- what holds of what a label is made of holds of its characters
   pub label-all : (heading : Heading) → All P (label_text heading)
   label-all heading =
       let hidden : Bool = is_hidden heading.level.name in
@@ -124,6 +125,7 @@ module _ (P : ℕ → Type 0) (free : (c : ℕ) → IsUnlisted c → P c) where
       let sign : List ℕ = note_sign_of place.decor place.followed in
       parts-all (replicate (place.gutter + 1) SPACE) (text_cells LineNumber sign) (spaces-all (place.gutter + 1)) (subst (All P) (sym (row_text-text_cells LineNumber sign)) (note_sign-all place.decor place.followed))
 
+  -- what holds of what an indent is made of holds of its characters
   pub indent-all : (style : TitleStyle) (width : ℕ) → All P (row_text (indent_cells style width))
   indent-all Title width = spaces-all width
   indent-all Short width = spaces-all width
@@ -136,6 +138,7 @@ module _ (P : ℕ → Type 0) (free : (c : ℕ) → IsUnlisted c → P c) where
   row-all cells r before line all =
       subst (All P) (sym (row_text-after cells (row_text cells) r line refl)) (All-append P (row_text cells) line before all)
 
+  -- what holds of what stands before lines and of the lines holds of their rows
   pub lines-all : (first further : List Cell) (r : ElementStyle) (lines : List (List ℕ)) → All P (row_text first) → All P (row_text further) → All (All P) lines → All (λ row. All P (row_text row)) (lines_below first further r lines)
   lines-all first further r [] begun below all = All-nil (λ row. All P (row_text row))
   lines-all first further r (line ∷ lines) begun below all =

@@ -23,10 +23,12 @@ pub row_text-text_cells : (r : ElementStyle) (cs : List ℕ) → row_text (text_
 row_text-text_cells r [] = refl
 row_text-text_cells r (c ∷ cs) = ap (λ ds. c ∷ ds) (row_text-text_cells r cs)
 
+-- the text of blank cells is spaces
 pub row_text-spaces : (n : ℕ) → row_text (replicate n SPACE) ≡ replicate n 32
 row_text-spaces zero = refl
 row_text-spaces (suc n) = ap (λ ds. 32 ∷ ds) (row_text-spaces n)
 
+-- the text of cells one after the other is both texts
 pub row_text-append : (xs ys : List Cell) → row_text (xs ++ ys) ≡ row_text xs ++ row_text ys
 row_text-append xs ys = map-append (λ (cell : Cell). cell.ch) xs ys
 
@@ -55,6 +57,7 @@ row_text-id hyperlink hidden r None = refl
 row_text-id hyperlink hidden r (Some id) =
     row_text-bracketed hidden r (address_of hyperlink id) (option_map cow_str_bytes id.id)
 
+-- the text of a label's cells is the label's text
 pub row_text-label : (hyperlink : Bool) (roles : HeadingRoles) (heading : Heading) → row_text (label_cells hyperlink roles heading) ≡ label_text heading
 unfolding label_cells
 row_text-label hyperlink roles heading =
@@ -73,6 +76,7 @@ further_texts further r [] = refl
 further_texts further r (line ∷ lines) =
     ap (λ t. t ∷ map row_text (map (λ l. further ++ text_cells r l) lines)) (row_text-after further (row_text further) r line refl) ∙ ap (λ ts. (row_text further ++ line) ∷ ts) (further_texts further r lines)
 
+-- the texts of lines below are the lines, each after what stands before it
 pub texts_of_lines : (first further : List Cell) (text : List ℕ) (r : ElementStyle) (lines : List (List ℕ)) → row_text first ≡ text → map row_text (lines_below first further r lines) ≡ texts_below text (row_text further) lines
 texts_of_lines first further text r [] is = refl
 texts_of_lines first further text r (line ∷ lines) is =

@@ -165,6 +165,7 @@ depths-fit s marks ks infos same =
 
 -- ---- lines that no span of several lines touches
 
+-- what passes one test and then another passes both
 pub filter-filter : {X : Type 0} (q p : X → Bool) (xs : List X) → filter q (filter p xs) ≡ filter (λ x. p x && q x) xs
 filter-filter q p [] = refl
 filter-filter q p (x ∷ xs) =

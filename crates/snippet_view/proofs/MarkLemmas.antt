@@ -54,6 +54,7 @@ pub entry_of-line : (s : Source) (a : Annotation) → (entry_of s a).start.line 
 unfolding locations_of start_location location_of place_of
 entry_of-line s a = refl
 
+-- numbers counted from the same first are the same where their distances from it are
 pub eqb-shift : (f m k n : ℕ) → n ≡ f + m → eqb n (f + k) ≡ eqb m k
 eqb-shift f m k n is =
     elim (eqb m k) as (λ b. eqb m k ≡ b → eqb n (f + k) ≡ b) [

@@ -55,6 +55,7 @@ pub record IsBarLine (source : List ℕ) (first last k : ℕ) : Type 0 where
   pub to : k ≤ last
   pub shown : (list_any (λ j. not (is_trivial_line source j)) (range_with_len k (min (first + 4) last - k)) ≡ true) ⊎ ((k + 1 ≡ last) × (ltb (min (first + 4) last) k ≡ true) × (not (is_trivial_line source k) ≡ true))
 
+-- each line of a bar lies where the span's bars may stand
 pub bar-lines : (source : List ℕ) (first last : ℕ) → All (IsBarLine source first last) (bar_lines source first last)
 bar-lines source first last =
     let beginning : ℕ = min (first + 4) last in
@@ -82,6 +83,7 @@ pub record HoldsOfSpan (P : PartEntry → Type 0) (s : Source) (depth : ℕ) (e 
   pub end : P (end_part e (MultilineEnd depth))
   pub again : P (end_part e Singleline)
 
+-- what holds of what a span's parts are made of holds of each part
 pub span-all : (P : PartEntry → Type 0) (s : Source) (depth : ℕ) (again : Bool) (e : Entry) → HoldsOfSpan P s depth e → All P (span_parts s depth again e)
 span-all P s depth true e holds = All-cons P (end_part e Singleline) [] holds.again (All-nil P)
 span-all P s depth false e holds =
