@@ -16,10 +16,6 @@ pub chars-minus : chars (45 ∷ 32 ∷ []) ≡ codes "- "
 unfolding lib.Utf8.encode
 chars-minus = chars-encodes (codes "- ") refl
 
-pub chars-bar : chars (124 ∷ []) ≡ codes "|"
-unfolding lib.Utf8.encode
-chars-bar = chars-encodes (codes "|") refl
-
 pub chars-bar_space : chars (124 ∷ 32 ∷ []) ≡ codes "| "
 unfolding lib.Utf8.encode
 chars-bar_space = chars-encodes (codes "| ") refl

@@ -31,6 +31,7 @@ use Rattle.snippet_suggest.specs.Suggested.{body_cells, cells_of, cells_over, ma
 use Rattle.snippet_suggest.specs.Marks.{with_marks}
 use Rattle.snippet_suggest.proofs.KnownRemoved.{unless_range}
 use Rattle.snippet_suggest.proofs.RowsDrawn.{diff_left, diff_shown}
+use Rattle.snippet_suggest.proofs.OrderLaws.{not_diff}
 
 -- ---- rows one by one
 
@@ -94,12 +95,6 @@ body_emptied_diff layout start s under i lines none is =
     sym (body_none layout start s under (Begins start ∷ removed_from i lines) none is ∙ ap (λ row. row ∷ map (cells_of layout s []) (removed_from i lines)) (begins_is layout s under start) ∙ ap (λ rows. begin_cells layout start under ∷ rows) (emptied_later layout s i lines none))
 
 -- ---- where lines are given, and aren't shown as a diff
-
-not_diff : (kind : DisplaySuggestion) → kind ≢ Diff → is_diff kind ≡ false
-not_diff Underline other = refl
-not_diff Diff other = absurd (other refl)
-not_diff Plain other = refl
-not_diff Add other = refl
 
 -- the rows where no line gives its roles to another row
 body_plain : (layout : SuggestionLayout) (start : SuggestionStart) (s : Snippet Patch) (under : List Cell) (line : List ℕ) (lines : List (List ℕ))
