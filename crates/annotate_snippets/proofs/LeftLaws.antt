@@ -15,9 +15,9 @@ use Rattle.snippet_strokes.specs.Rows.{IsSourceRow, bare_elision_row}
 use Rattle.snippet_strokes.specs.declared.layout.Layout.{Layout}
 use Rattle.snippet_strokes.proofs.BegunLemmas.{same_front}
 use Rattle.snippet_strokes.proofs.RowLemmas.{bare_row_left}
-use Rattle.snippet_titles.proofs.TextLemmas.{row_text-text_cells}
 use Rattle.annotate_snippets.specs.declared.renderer.frame.Frame.{Frame}
 use Rattle.annotate_snippets.specs.Shown.{IsElided, IsRowBelow, cells_left}
+use Rattle.snippet_grid.proofs.RowLemmas.{row_text-text_cells}
 
 module _ (decor : DecorStyle) (gutter : ℕ) (shown : List ℕ) where
   abbrev spaces : List Cell

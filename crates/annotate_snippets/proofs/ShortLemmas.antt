@@ -2,14 +2,12 @@
 use Rattle.std.proofs.Common.{◌≡◌, ◌≢◌, ℕ, ◌+◌, ◌*◌, ◌<◌, ◌≤◌, ◌^◌, ◌==◌, ◌∙◌, Bool, true, false, not, Option, None, Some, Result, Ok, Err, IfSome, List, [], ◌∷◌, ◌++◌, All, chars, cond, filter, get_or, if◌then◌else◌, length, take, suc, arith, ap, refl, sym}
 use Rattle.std.specs.Char.{is_whitespace}
 use Rattle.std.specs.Cow.{cow_str_bytes}
-use Rattle.std.specs.Fmt.{decimal}
 use Rattle.std.specs.List.{filter_map, flat_map, list_all}
 use Rattle.std.specs.Result.{OnOk, is_ok}
 use Rattle.std.specs.Str.{IsAscii, IsUtf8}
 use Rattle.std.specs.declared.alloc.Global.{Global}
 use Rattle.std.specs.declared.borrow.CowStr.{CowStr}
 use Rattle.std.proofs.lemmas.Bool.Decides.{nat_tests}
-use Rattle.std.proofs.lemmas.Fmt.{length-decimal-le}
 use Rattle.std.proofs.lemmas.Grind.{flat_map-append}
 use Rattle.std.proofs.lemmas.List.{append-nil, append_assoc, length-append, take_more}
 use Rattle.std.proofs.lemmas.List.Elements.{All-head, All-tail, filter-append, filter_map-append}
@@ -36,6 +34,7 @@ use Rattle.annotate_snippets.specs.Rows.{place_named}
 use Rattle.annotate_snippets.specs.Short.{first_cause, joined_labels, label_of, place_of_cause, place_of_path, primary_labels}
 use Rattle.snippet_model.specs.AnnotationKind.{is_primary}
 use Rattle.annotate_snippets.specs.declared.renderer.Renderer.{Renderer}
+use Rattle.annotate_snippets.proofs.RoomLemmas.{digits}
 
 -- ---- labels
 
@@ -98,9 +97,6 @@ joined_labels-added labels old sep new label empty text are none led added =
     ∙ sym (joined_labels-last labels (chars label) empty nothing)
 
 -- ---- the place before the title
-
-digits : (n : ℕ) → n < 2 ^ 64 → length (decimal n) ≤ 20
-digits n small = length-decimal-le 20 n (omega arith) (omega (arith, small)) small
 
 -- the numbers of a place fit
 abbrev pub PlaceFits : OriginLocation → Type 0

@@ -2,15 +2,15 @@
 use Rattle.std.proofs.Common.{◌≡◌, ℕ, zero, suc, ◌+◌, ◌-◌, ◌<◌, ◌≤◌, Bool, true, false, ◌&&◌, ◌||◌, cond, not, eqb, leb, ltb, max, List, [], ◌∷◌, ◌++◌, map, length, take, set, get_or, replicate, inl, inr, ◌⊎◌, refl, sym, ap, ◌∙◌, arith}
 use Rattle.std.specs.List.{All, filter, list_any, range_with_len}
 use Rattle.std.proofs.lemmas.Bool.{cases_Bool, cases_lt, cases_eq, and_left, or_from, or_parts, le-leb, lt-leb, lt-ltb, le-ltb, eq-eqb, ne_eqb, or_left, or_right}
-use Rattle.std.proofs.lemmas.List.{append-nil, map-id, take_more, take_all, take-set-le}
+use Rattle.std.proofs.lemmas.List.{append-nil, take_more, take_all, take-set-le}
 use Rattle.std.proofs.lemmas.List.Elements.{All-filter, All-weaker, filter-append, filter_agree}
-use Rattle.std.proofs.lemmas.List.FromFn.{map-range_with_len_more}
 use Rattle.snippet_view.proofs.PartLemmas.{All-range}
 use Rattle.std.proofs.lemmas.List.Folds.{list_any_more}
 use Rattle.snippet_model.specs.declared.snippet.Annotation.{Annotation}
 use Rattle.snippet_parts.specs.declared.kept.Stretch.{Stretch}
 use Rattle.snippet_view.specs.Mark.{is_marking, touches}
 use Rattle.snippet_parts.specs.Stretches.{holds, furthest, is_covered, is_seen}
+use Rattle.snippet_view.proofs.ShownLemmas.{range-more}
 
 -- ---- how far stretches reach
 
@@ -211,9 +211,6 @@ unseen text k (a ∷ marks) none =
     or_from (is_seen text k a) (list_any (is_seen text k) marks) (and_left (not (is_marking a.kind)) (touches text a k) parts.0) (unseen text k marks parts.1)
 
 -- ---- the lines that are kept, in order
-
-range-more : (i : ℕ) → range_with_len 0 (i + 1) ≡ range_with_len 0 i ++ i ∷ []
-range-more i = sym (map-id (range_with_len 0 (i + 1))) ∙ map-range_with_len_more (λ (k : ℕ). k) 0 i i (omega arith) ∙ ap (λ ks. ks ++ i ∷ []) (map-id (range_with_len 0 i))
 
 filter-more : (p : ℕ → Bool) (i : ℕ) → filter p (range_with_len 0 (i + 1)) ≡ filter p (range_with_len 0 i) ++ cond (p i) (i ∷ []) []
 filter-more p i = ap (filter p) (range-more i) ∙ filter-append p (range_with_len 0 i) (i ∷ [])

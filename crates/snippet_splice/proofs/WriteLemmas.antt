@@ -82,6 +82,7 @@ in_text-mono source a b low =
 
 -- ---- what is written
 
+-- the edits so far are written: what is written and what is left make up all
 pub record Writes (source : List ℕ) (from : ℕ) (es : List Edit) (out : List ℕ) (ranges : List LineRange) (feeds end : ℕ) (left : List Edit) : Type 0 where
   pub bytes : out ++ written source end left ≡ written source from es
   pub lines : ranges ++ written_ranges source feeds end left ≡ written_ranges source 0 from es

@@ -24,7 +24,7 @@ use Rattle.snippet_model.specs.Rows.{IsFree}
 use Rattle.snippet_strokes.specs.Rows.{begun_cells, ended_cells, shown_cells, window_cells, with_cells}
 use Rattle.snippet_strokes.proofs.DrawLemmas.{free_drawn}
 use Rattle.snippet_strokes.proofs.RowLemmas.{free_written}
-use Rattle.snippet_strokes.proofs.TextLemmas.{chars_some}
+use Rattle.snippet_grid.proofs.GridShown.{chars_some}
 pub use Rattle.snippet_grid.proofs.RowLemmas.{row_text-text_cells}
 
 -- the cells that are written from a cell on, after those that stand there

@@ -17,10 +17,6 @@ pub chars-minus : chars (45 ∷ 32 ∷ []) ≡ codes "- "
 unfolding lib.Utf8.encode
 chars-minus = chars-encodes (codes "- ") refl
 
-pub chars-bar : chars (124 ∷ []) ≡ codes "|"
-unfolding lib.Utf8.encode
-chars-bar = chars-encodes (codes "|") refl
-
 -- the characters of the bytes that the code writes for `| `
 pub chars-bar_space : chars (124 ∷ 32 ∷ []) ≡ codes "| "
 unfolding lib.Utf8.encode

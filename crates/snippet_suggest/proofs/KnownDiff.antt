@@ -84,6 +84,7 @@ module _ (p : PreparedSuggestion) (line : List ℕ) (infos : List LineInfo) (sta
         reached = sym there ∙ sym (reached source es (known_apart p is.prepared));
       }
 
+  -- the rows of a diff are its beginning, the removed lines and the line that is given
   pub known_diff_rows : (at : SuggestionStart) → let s = p.snippet.now in
       rows_of_suggestion at s ≡ Begins at ∷ changed_rows true (is_left_out Diff (line ∷ []) (last_reached s))
       (removed_from from (counted_from (s.line_start + first_given s) 0 (map text (range_with_len from (shown_count s line count)))))

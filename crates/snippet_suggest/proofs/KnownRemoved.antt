@@ -104,6 +104,7 @@ removes_replaced p is line diff one =
     let s = p.snippet.now in
     ap (λ (ls : List (List ℕ)). removed_of ls (shown_kind s) (emptied_lines s) (replaced_lines s)) one ∙ ap (λ k. removed_of (line ∷ []) k (emptied_lines s) (replaced_lines s)) (sym is.kind ∙ diff)
 
+-- lines are replaced where the given one is touched: those from the first edit to the last, but one that stays
 pub replaced_touched : (p : PreparedSuggestion) → IsPrepared p → (line : List ℕ) → given_lines p.snippet.now ≡ line ∷ []
     → true ≡ is_touched p.snippet.now.fold p.splice.ranges.items 0
     → replaced_lines p.snippet.now ≡ unless_stays (bytes_eq line (last_reached p.snippet.now))

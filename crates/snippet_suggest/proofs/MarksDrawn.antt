@@ -21,6 +21,7 @@ use Rattle.snippet_suggest.specs.Cells.{put}
 use Rattle.std.proofs.lemmas.List.{length-replicate, map-append, places, same_lists, take_more}
 use Rattle.snippet_suggest.specs.Marks.{columns_of, left_of, mark_end, mark_of, mark_start, to_left, to_right, with_mark, with_marks}
 use Rattle.snippet_suggest.specs.Moves.{AreMoves, shift_of}
+use Rattle.snippet_suggest.proofs.PutLemmas.{put_none}
 
 -- ---- what patches move
 
@@ -108,10 +109,6 @@ put_push role (d ∷ cs) c at row =
 
 replicate_push : (n c : ℕ) → replicate n c ++ c ∷ [] ≡ replicate (n + 1) c
 replicate_push n c = same_lists _ _ (grind (arith, places)) (λ k d h. grind (arith, places))
-
-put_none : (role : ElementStyle) (at : ℕ) (row : List Cell) → put role [] at row ≡ row
-unfolding put
-put_none role at row = refl
 
 -- so many marks are there
 pub marks_begun : (mark at n : ℕ) (above : List (List Cell)) (last : List Cell) (now : List (List Cell)) → n ≡ 0 → now ≡ above ++ last ∷ [] → now ≡ above ++ put Addition (replicate n mark) at last ∷ []

@@ -175,6 +175,7 @@ diff_left layout first infos replaced line added last stays is left =
     let rows : List (List Cell) = last ∷ taken_cells layout first replaced 0 (unless_stays real infos) in
     ap Rows is ∙ sym (cond-true (is_left_out Diff (line ∷ []) (last_removed infos)) (Rows real) (rows ++ offered_cells layout Diff 1 first line added ∷ []) left)
 
+-- where the added line isn't left out, a diff is its beginning, the removed lines and the added one
 pub diff_shown : (layout : SuggestionLayout) (first : ℕ) (infos : List LineInfo) (replaced : ℕ → List SubstitutionHighlight) (line : List ℕ)
     (added : List SubstitutionHighlight) (last : List Cell) (stays : Bool) → stays ≡ bytes_eq line (last_removed infos)
     → is_left_out Diff (line ∷ []) (last_removed infos) ≡ false

@@ -31,6 +31,7 @@ use Rattle.snippet_suggest.specs.Suggested.{body_cells, cells_of, cells_over, ma
 use Rattle.snippet_suggest.specs.Marks.{with_marks}
 use Rattle.snippet_suggest.proofs.KnownRemoved.{unless_range}
 use Rattle.snippet_suggest.proofs.RowsDrawn.{diff_left, diff_shown}
+use Rattle.snippet_suggest.proofs.OrderLaws.{not_diff}
 
 -- ---- rows one by one
 
@@ -97,12 +98,6 @@ body_emptied_diff layout start s under i lines none is =
 
 -- ---- where lines are given, and aren't shown as a diff
 
-not_diff : (kind : DisplaySuggestion) → kind ≢ Diff → is_diff kind ≡ false
-not_diff Underline other = refl
-not_diff Diff other = absurd (other refl)
-not_diff Plain other = refl
-not_diff Add other = refl
-
 -- the rows where no line gives its roles to another row
 body_plain : (layout : SuggestionLayout) (start : SuggestionStart) (s : Snippet Patch) (under : List Cell) (line : List ℕ) (lines : List (List ℕ))
     (rows : List SuggestionRow) → given_lines s ≡ line ∷ lines
@@ -113,6 +108,7 @@ body_plain layout start s under line lines rows some stays is =
     let all : List (List Cell) = cells_over (cells_of layout s) under (rows_of_suggestion start s) in
     ap (λ (ls : List (List ℕ)). with_left_out layout s ls all) some ∙ cond-false (is_diff (shown_kind s) && is_touched s.fold (given_ranges s) 0 && is_left_out (shown_kind s) (line ∷ lines) (last_reached s)) _ all stays ∙ ap (cells_over (cells_of layout s) under) is
 
+-- where lines are given, and no diff is shown, the beginning and the rows of the shown lines are the suggestion's
 pub body_shown : (layout : SuggestionLayout) (start : SuggestionStart) (s : Snippet Patch) (under : List Cell) (line : List ℕ) (lines : List (List ℕ))
     (shown : List ShownLine) → given_lines s ≡ line ∷ lines → shown_kind s ≢ Diff → rows_of_suggestion start s ≡ Begins start ∷ map row_of_shown shown
     → begin_cells layout start under ∷ map (shown_cells layout (shown_kind s) (s.line_start + first_given s) (given_lines s) (new_on s))

@@ -16,7 +16,7 @@ use Rattle.snippet_lines.specs.Lines.{Source}
 use Rattle.snippet_lines.specs.Order.{ordered_by}
 use Rattle.snippet_lines.specs.Place.{locations_of}
 use Rattle.snippet_lines.specs.declared.place.Loc.{Loc}
-use Rattle.snippet_lines.proofs.OrderLemmas.{All-put_in, sorted-only, map-ordered_by}
+use Rattle.snippet_lines.proofs.OrderLemmas.{sorted-only, map-ordered_by}
 use Rattle.snippet_model.specs.declared.snippet.Annotation.{Annotation}
 use Rattle.snippet_model.specs.declared.snippet.Snippet.{Snippet}
 use Rattle.snippet_view.specs.Mark.{is_marking}
@@ -24,6 +24,7 @@ use Rattle.snippet_text_form.specs.Cause.{after_place, cause_form, comes_before,
 use Rattle.snippet_text_form.specs.Form.{FormPiece, Break, bare}
 use Rattle.snippet_text_form.specs.Position.{place}
 use Rattle.snippet_text_form.specs.declared.cause.NamedSpan.{NamedSpan}
+use Rattle.snippet_view.proofs.PartLemmas.{All-order}
 
 -- ---- the order
 
@@ -65,15 +66,10 @@ named_spans-is given sorted marks up stable are =
 
 -- ---- what holds of each
 
-All-ordered_by : {X : Type 0} (before : X → X → Bool) (P : X → Type 0) (xs : List X) → All P xs → All P (ordered_by before xs)
-All-ordered_by before P [] all = all
-All-ordered_by before P (x ∷ xs) all =
-    All-put_in before P x (ordered_by before xs) (All-head P x xs all) (All-ordered_by before P xs (All-tail P x xs all))
-
 -- what holds of each annotation holds of each named span
 pub All-named_spans : (P : Annotation → Type 0) (marks : List Annotation) → All P marks → All P (named_spans marks)
 All-named_spans P marks all =
-    All-ordered_by comes_before P (filter (λ a. is_marking a.kind) marks) (All-filter (λ a. is_marking a.kind) P marks all)
+    All-order comes_before P (filter (λ a. is_marking a.kind) marks) (All-filter (λ a. is_marking a.kind) P marks all)
 
 -- what holds of the annotations of spans holds of each span's
 pub All-annotations : (P : Annotation → Type 0) (spans : List NamedSpan) → All P (map annotation_of spans) → All (λ s. P (annotation_of s)) spans
@@ -202,7 +198,3 @@ is_shown-chars (b ∷ bs) utf8 = filled (length bs) ∙ sym (some (chars (b ∷ 
 pub two-spaces : chars (32 ∷ 32 ∷ []) ≡ codes "  "
 unfolding chars
 two-spaces = refl
-
-pub one-space : chars (32 ∷ []) ≡ codes " "
-unfolding chars
-one-space = refl

@@ -39,7 +39,8 @@ use Rattle.snippet_text_form.specs.Suggestion.{added_form, edit_form, edit_inden
 use Rattle.snippet_text_form.specs.declared.heading.HeadingKind.{HeadingKind}
 use Rattle.snippet_text_form.specs.declared.heading.HeadingKind.TheVariants.{Title, Message}
 use Rattle.snippet_text_form.specs.declared.suggestion.SuggestionContext.{SuggestionContext}
-use Rattle.snippet_text_form.proofs.OrderLaws.{plain-append, plain-bare}
+use Rattle.snippet_text_form.proofs.OrderLaws.{plain-append}
+use Rattle.snippet_text_form.proofs.FormSteps.{plain-bare}
 
 -- a fact holds of each plain character of a text form, whatever stands before that
 abbrev pub EachPlain : (ℕ → Type 0) → List FormPiece → Type 0

@@ -1,6 +1,6 @@
 -- A heading's rows hold no listed character but those of a trusted text.
-use Rattle.std.proofs.Common.{◌≡◌, ℕ, ◌==◌, ◌+◌, ◌&&◌, if◌then◌else◌, not, codes, Bool, true, false, List, [], ◌∷◌, ◌++◌, map, replicate, chars, All, Option, None, Some, refl, sym, subst, arith}
-use Rattle.std.specs.List.{slice_split, onto_first, list_any, Contains}
+use Rattle.std.proofs.Common.{◌≡◌, ℕ, ◌==◌, ◌+◌, ◌&&◌, if◌then◌else◌, not, codes, Bool, true, false, List, [], ◌∷◌, ◌++◌, map, replicate, chars, All, Option, None, Some, refl, sym, subst}
+use Rattle.std.specs.List.{slice_split, onto_first, Contains}
 use Rattle.std.proofs.lemmas.List.{get_or_default}
 use Rattle.std.proofs.lemmas.List.Elements.{All-nil, All-cons, All-head, All-tail, All-append, All-from_get_or, All-map, All-replicate, All-weaker}
 use Rattle.std.proofs.lemmas.List.Splits.{slice_split-cons_yes, slice_split-cons_no}
@@ -22,8 +22,9 @@ use Rattle.snippet_titles.specs.declared.style.TitleStyle.{TitleStyle}
 use Rattle.snippet_titles.specs.declared.style.TitleStyle.TheVariants.{Title, Short, Message}
 use Rattle.snippet_titles.specs.Heading.{bracketed_text, closing_of, colon_of, shown_text, heading_lines, heading_rows, id_text, indent_cells, is_set, label_cells, label_text, label_width, lines_below, note_bar_of, note_sign_of, on_top, opening_of, roles_of, sign_cells, trimmed}
 use Rattle.snippet_titles.specs.Shown.{IsFreeButText}
-use Rattle.snippet_titles.proofs.TextLemmas.{row_text-append, row_text-after, row_text-text_cells, row_text-label, row_text-spaces}
+use Rattle.snippet_titles.proofs.TextLemmas.{row_text-append, row_text-after, row_text-label, row_text-spaces}
 use Rattle.snippet_model.proofs.RowLemmas.{each_fails as fails_each}
+use Rattle.snippet_grid.proofs.RowLemmas.{row_text-text_cells}
 
 -- a character that isn't listed
 abbrev pub IsUnlisted : ℕ → Type 0

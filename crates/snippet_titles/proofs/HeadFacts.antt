@@ -31,7 +31,7 @@ use Rattle.snippet_model.specs.Rows.{HasNoNumber, IsFree}
 use Rattle.snippet_titles.proofs.OriginFree.{file_row-free, origin_row-free, separator_row-free}
 use Rattle.snippet_titles.proofs.OriginNumbers.{IsPlain, file_row-unnumbered, origin_row-unnumbered, separator_row-unnumbered}
 use Rattle.snippet_titles.proofs.OriginRowText.{origin_row-after}
-use Rattle.snippet_titles.proofs.TextLemmas.{row_text-text_cells}
+use Rattle.snippet_grid.proofs.RowLemmas.{row_text-text_cells}
 
 -- what holds of separator rows, of those that lead to a file, and of those of paths
 module _ (P : List Cell → Type 0) (layout : OriginLayout) (separator : P (separator_row layout.decor layout.gutter)) (file : (start : FileStart) → P (file_row layout start)) where

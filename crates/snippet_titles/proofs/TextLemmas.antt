@@ -17,11 +17,7 @@ use Rattle.snippet_titles.specs.declared.style.TitleStyle.{TitleStyle}
 use Rattle.snippet_titles.specs.Heading.{address_of, bracketed_cells, bracketed_text, closing_of, colon_of, heading_lines, heading_rows, id_cells, id_text, indent_cells, label_cells, label_text, label_width, lines_below, linked_to, opening_of, roles_of, sign_cells}
 use Rattle.snippet_titles.specs.Shown.{heading_texts, texts_below}
 use Rattle.snippet_titles.proofs.EndLemmas.{refilled, row_at-trimmed}
-
--- the characters of drawn cells, of spaces, and of cells after others
-pub row_text-text_cells : (r : ElementStyle) (cs : List ℕ) → row_text (text_cells r cs) ≡ cs
-row_text-text_cells r [] = refl
-row_text-text_cells r (c ∷ cs) = ap (λ ds. c ∷ ds) (row_text-text_cells r cs)
+use Rattle.snippet_grid.proofs.RowLemmas.{row_text-text_cells}
 
 -- the text of blank cells is spaces
 pub row_text-spaces : (n : ℕ) → row_text (replicate n SPACE) ≡ replicate n 32

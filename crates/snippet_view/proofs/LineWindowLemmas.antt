@@ -108,7 +108,7 @@ fits_all columns cs n at left all so_far =
     omega (arith, so_far.rest, stop)
 
 -- a text that is no wider fits whole
-fitting_all : (n : ℕ) (cs : List ℕ) → width_of cs ≤ n → fitting n cs ≡ length cs
+pub fitting_all : (n : ℕ) (cs : List ℕ) → width_of cs ≤ n → fitting n cs ≡ length cs
 fitting_all n [] fits = refl
 fitting_all n (c ∷ cs) fits =
     let wide = width-cons c cs in

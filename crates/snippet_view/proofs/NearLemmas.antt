@@ -255,6 +255,7 @@ holds_norm room left right skipped line part holds =
       reaches = λ some. omega (arith, holds.reaches (norm_some holds.after some), from, same_columns room left right line, width_of-norm part);
     }
 
+-- the normalised near text is the part of the line that its window needs
 pub part_of_norm : (margin : Margin) (width skipped : ℕ) (line near part : List ℕ) → width ≡ width_of line → part ≡ norm near → HoldsWindow margin.term_width (bounds_of margin).left (bounds_of margin).right line skipped near → IsPartOf margin (norm line) width skipped part
 part_of_norm margin width skipped line near part is_width is_part holds =
     let bounds = bounds_of margin in
