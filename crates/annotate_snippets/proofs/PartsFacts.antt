@@ -24,7 +24,8 @@ use Rattle.snippet_view.specs.declared.entries.LineAnnotationType.TheVariants.{S
 use Rattle.snippet_view.specs.declared.margin.Margin.{Margin}
 use Rattle.snippet_view.specs.Entries.{Ascends, HasDepthWithin, HasRoom}
 use Rattle.snippet_view.proofs.EntryFacts.{depths-fit, each-line, labels-fit, places-fit, texts-fit, untouched-parts, wide-count}
-use Rattle.snippet_view.proofs.MarginLaws.{margin_of_kept, margin_whole}
+use Rattle.snippet_view.proofs.MarginLaws.{margin_of_kept}
+use Rattle.snippet_view.proofs.UncutLaws.{margin_whole}
 use Rattle.snippet_view.proofs.ShownFacts.{first-shown, last-shown, shown-ascends, shown-within}
 use Rattle.snippet_view.specs.Depths.{places_of}
 use Rattle.snippet_view.specs.Annotated.{KeptLine, PartEntry, seen_part, annotated_lines, deepest, is_long, kept_line, long_entry, long_place, long_places, long_spans, parts_on, seen_kept, single_part, stands_before}
