@@ -98,6 +98,7 @@ missing_title Short (g ∷ gs) = if is_none g.title then Some NoTitle else None
 abbrev pub refusal_in : Form → List Group → Option RenderError
 refusal_in form groups = option_or (missing_title form groups) (first_fault groups)
 
+-- the refusal in the form that the renderer is set to
 abbrev pub first_refusal : Renderer → List Group → Option RenderError
 first_refusal r groups = refusal_in (form_of r) groups
 

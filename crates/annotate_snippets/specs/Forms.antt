@@ -93,6 +93,7 @@ ShowsForm Text r groups sheets texts = TextShown r groups sheets texts
 abbrev pub TextsShown : Renderer → List Group → List Stylesheet → List (List ℕ) → Type 0
 TextsShown r groups sheets texts = ShowsForm (form_of r) r groups sheets texts
 
+-- one text shows a report under its sheet
 abbrev pub ShowsReport : Renderer → List Group → Stylesheet → List ℕ → Type 0
 ShowsReport r groups sheet text = TextsShown r groups (sheet ∷ []) (text ∷ [])
 

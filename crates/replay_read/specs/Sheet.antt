@@ -75,6 +75,7 @@ abbrev pub MayBeEffects : Option Data → Effects → Type 0
 MayBeEffects None effects = effects ≡ no_effects
 MayBeEffects (Some d) effects = AreEffectsOf d effects
 
+-- a style: its colours and its effects, each of which may be missing
 pub record IsStyleOf (d : Data) (style : Style) : Type 0 where
   pub fg : MaySayAt IsColorOf (codes "fg") d style.fg
   pub bg : MaySayAt IsColorOf (codes "bg") d style.bg
@@ -108,6 +109,7 @@ abbrev pub IsSheetBy : Option (List ℕ) → Data → Stylesheet → Type 0
 IsSheetBy None d sheet = IsOwnSheetOf d sheet
 IsSheetBy (Some name) d sheet = IsNamedSheet name sheet
 
+-- the same, of any value
 abbrev pub IsSheetOf : Data → Stylesheet → Type 0
 IsSheetOf d sheet = IsSheetBy (as_str d) d sheet
 

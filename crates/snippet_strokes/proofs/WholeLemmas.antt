@@ -13,6 +13,7 @@ use Rattle.snippet_text.specs.Width.{width_of}
 use Rattle.snippet_strokes.specs.Rows.{shown_cells, window_cells}
 use Rattle.snippet_view.proofs.LineWindowLemmas.{reaching-none, fitting_all}
 
+-- a window with no bound on the left begins at column 0
 pub left-none : (text : List ℕ) → window_left 0 text ≡ 0
 left-none text = omega arith
 

@@ -20,6 +20,7 @@ use Rattle.snippet_suggest.proofs.KnownNumbers.{diff_numbers, none_numbers}
 
 -- ---- which rows stand there
 
+-- the test for a diff answers no for each other kind
 pub not_diff : (kind : DisplaySuggestion) → kind ≢ Diff → is_diff kind ≡ false
 not_diff Diff other = absurd (other refl)
 not_diff Underline other = refl

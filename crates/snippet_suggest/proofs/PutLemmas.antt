@@ -32,6 +32,7 @@ chars_some : (b : ℕ) (bs : List ℕ) → IsUtf8 (b ∷ bs) → chars (b ∷ bs
 chars_some b bs text = λ none. let same : encodes (chars (b ∷ bs)) ≡ b ∷ bs = encodes-chars (b ∷ bs) text in
     let empty : encodes (chars (b ∷ bs)) ≡ [] = ap encodes none in cc
 
+-- no characters that are put leave the row as it is
 pub put_none : (role : ElementStyle) (at : ℕ) (row : List Cell) → put role [] at row ≡ row
 unfolding put
 put_none role at row = refl

@@ -28,6 +28,7 @@ pub woven-bare : (sheet : Stylesheet) (begun : Bool) (cs : List ℕ) → flat_ma
 woven-bare sheet begun [] = refl
 woven-bare sheet begun (c ∷ cs) = ap (λ (bs : List ℕ). encode_utf8 c ++ bs) (woven-bare sheet true cs)
 
+-- the characters of a text that is added as it is are the text
 pub plain-bare : (begun : Bool) (cs : List ℕ) → plain_from begun (bare cs) ≡ cs
 plain-bare begun [] = refl
 plain-bare begun (c ∷ cs) = ap (λ (ds : List ℕ). c ∷ ds) (plain-bare true cs)

@@ -242,6 +242,7 @@ untouched-entries s marks k info spans untouched seen = entries-on s marks k inf
 
 -- ---- wide spans
 
+-- as many of the made elements pass as elements whose made ones pass
 pub count-map : {X Y : Type 0} (p : Y → Bool) (f : X → Y) (xs : List X) → count_by p (map f xs) ≡ count_by (λ x. p (f x)) xs
 count-map p f [] = refl
 count-map p f (x ∷ xs) =

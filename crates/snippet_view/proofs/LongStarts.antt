@@ -77,9 +77,11 @@ promoted-kind t choice before e place why at =
       | inr other ↦ absurd (both_ways (is_promoted before e) no (promoted-primary before e place other at))
     ])
 
+-- a span that is promoted starts where it did
 pub promoted-start : (before : List Entry) (e : Entry) → (promoted before e).start ≡ e.start
 promoted-start before e = cond_both (is_promoted before e) (record e { kind = Primary }) e (λ (d : Entry). d.start ≡ e.start) (λ _. refl) (λ _. refl)
 
+-- a span that is promoted ends where it did
 pub promoted-end : (before : List Entry) (e : Entry) → (promoted before e).end ≡ e.end
 promoted-end before e = cond_both (is_promoted before e) (record e { kind = Primary }) e (λ (d : Entry). d.end ≡ e.end) (λ _. refl) (λ _. refl)
 

@@ -73,6 +73,7 @@ stable-on-line made sorted n stable =
 
 -- ---- lines so far
 
+-- a range with one number more ends in that number
 pub range-more : (i : ℕ) → range_with_len 0 (i + 1) ≡ range_with_len 0 i ++ i ∷ []
 range-more i = sym (map-id (range_with_len 0 (i + 1))) ∙ map-range_with_len_more (λ (k : ℕ). k) 0 i i (omega arith) ∙ ap (λ ks. ks ++ i ∷ []) (map-id (range_with_len 0 i))
 
