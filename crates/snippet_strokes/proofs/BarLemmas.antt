@@ -91,7 +91,7 @@ BarsDrawn-more layout old mid new done more =
       free = λ free. more.free (done.free free);
     }
 
--- rows that stay have bars drawn
+-- where rows stay, no bar is drawn, which is a way to draw bars
 pub DrawsBars-none : (layout : Layout) (row : ℕ) (rows : List (List Cell)) → DrawsBars layout row rows rows
 DrawsBars-none layout row rows =
     record {

@@ -34,7 +34,7 @@ pub record IsLeast {X : Type 0} (f : X → ℕ) (xs : List X) (x : X) : Type 0 w
   pub is : least (map f xs) ≡ Some (f x)
   pub lowest : (y : X) → Contains xs y → f x ≤ f y
 
--- of some elements one is the first whose number is least
+-- of some elements one has the least number
 pub least-first : {X : Type 0} (f : X → ℕ) (x : X) (xs : List X) → (y : X) × IsLeast f (x ∷ xs) y
 least-first f x [] = (x, record { among = contains-here x x [] refl; is = refl; lowest = only })
   where

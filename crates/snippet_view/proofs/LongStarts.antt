@@ -24,7 +24,7 @@ use Rattle.snippet_view.proofs.RawDepthLemmas.{same-refl, same-true}
 abbrev pub IsBy : Loc → Loc → Type 0
 IsBy at q = (at.line ≤ q.line) × (at.line ≡ q.line → at.char ≤ q.char)
 
--- a place is by itself
+-- a place isn't after one that is the same
 pub by-same : (at q : Loc) → at ≡ q → IsBy at q
 by-same at q is = (omega (arith, ap (λ (l : Loc). l.line) is), λ _. omega (arith, ap (λ (l : Loc). l.char) is))
 
