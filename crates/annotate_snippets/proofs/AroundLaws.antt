@@ -76,6 +76,7 @@ last_not (d ∷ []) zero is = refl
 last_not (d ∷ x ∷ es) zero is = absurd (omega (arith, is))
 last_not (d ∷ es) (suc k) is = last_not es k (omega (arith, is))
 
+-- after the last element nothing is shared
 pub shares_end : (es : List Element) → shares_before es (length es) ≡ false
 shares_end [] = refl
 shares_end (d ∷ es) =
@@ -113,6 +114,7 @@ next_start true other = refl
 next_start false true = refl
 next_start false false = refl
 
+-- an element begins in the row above where it shares that with the one before
 pub begins_is : (place : GroupPosition) (file : Option (List ℕ)) (es : List Element) (i : ℕ) (e : Element) → slice_get es i ≡ Some e → begins_in_row_above (context_at place file es i e) ≡ shares_before es i
 begins_is place file es i (Message message) is = sym (before_alone es i (Message message) is refl)
 begins_is place file es i (Cause snippet) is = sym (before_alone es i (Cause snippet) is refl)

@@ -104,7 +104,7 @@ module _ (r : Renderer) (frame : Frame) (around : ElementContext) (s : Snippet A
       }
 
 -- code stands right of the gutter, the separator and a space
-code_right : (gutter depth : ℕ) → gutter + 3 ≤ code_after gutter depth
+pub code_right : (gutter depth : ℕ) → gutter + 3 ≤ code_after gutter depth
 code_right gutter depth = either (depth == 0)
   where
     either : (none : Bool) → gutter + 3 ≤ cond none (gutter + 3) (gutter + 3 + depth + 1)

@@ -35,6 +35,7 @@ overlap_from-clear n (e ∷ es) none (suc m) zero low high = absurd (omega arith
 overlap_from-clear n (e ∷ es) none (suc m) (suc k) low high =
     overlap_from-clear (n + 1) es (neither (option_map (λ k. (n, k)) (position_from (overlap e) (n + 1) es)) (first_overlap_from (n + 1) es) none).1 m k (omega arith) (omega arith)
 
+-- edits of which no first overlap is found don't overlap
 pub first_overlap-clear : (es : List Edit) → first_overlap es ≡ None → AreDisjoint es
 unfolding first_overlap
 first_overlap-clear es none = overlap_from-clear 0 es none

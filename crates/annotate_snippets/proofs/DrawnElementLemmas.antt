@@ -34,6 +34,7 @@ pub drawn_read : (ds : List DrawnElement) (i : ℕ) (d : DrawnElement) → i < l
 drawn_read ds i d within is =
     slice_get-map seen ds i ∙ ap (λ (o : Option DrawnElement). option_map seen o) (slice_get_read ds (length ds) i d refl within is)
 
+-- the drawn elements from a place on are seen as what is seen from that place on
 pub drawn_from : (ds : List DrawnElement) (i : ℕ) → map seen (take (length ds - i) (drop i ds)) ≡ drop i (map seen ds)
 drawn_from ds i =
     ap (map seen) (take_all (length ds - i) (drop i ds) (omega (arith, length-drop i ds))) ∙ sym (drop-map seen i ds)

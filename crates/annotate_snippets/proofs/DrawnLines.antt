@@ -47,6 +47,7 @@ module _ (r : Renderer) (frame : Frame) (s : Snippet Annotation) (margin : Margi
   Shows closes open_bars info rows =
       strokes.ShowsLine (layout_in r frame) margin numbers closes open_bars info rows
 
+  -- the rows that show a kept line are its source row and what is drawn below
   pub line_drawn : (closes : Bool) (open_bars : List Bar) (k : ℕ) (info : AnnotatedLineInfo) (rows : List (List Cell))
       → seen_kept info ≡ kept_line (numbered_source s) s.markers.items k → (shows : Shows closes open_bars info rows)
       → IsLineDrawn r frame closes s open_bars k (shows.source ∷ shows.below)

@@ -29,6 +29,7 @@ pub record DrawnSoFar (r : Renderer) (frame : Frame) (place : GroupPosition) (fi
   pub each : (i : ℕ) (e : Element) → i < n → slice_get es i ≡ Some e → IsElementDrawn r frame (context_at place file es i e) e (slice_index_or parts i [])
   pub ends : IsTail r.decor_style frame.gutter (shares_before es n) tail
 
+-- before the first element nothing is drawn
 pub drawn_none : (r : Renderer) (frame : Frame) (place : GroupPosition) (file : Option (List ℕ)) (es : List Element) (old : List (List Cell)) → DrawnSoFar r frame place file es 0 old old
 drawn_none r frame place file es old =
     record {
@@ -102,6 +103,7 @@ turn_item xs n i x turn =
     let is : (i, x) ≡ (0 + n, get_or xs n x) = turn.1 ∙ get_or-enumerate_from 0 xs n (i, x) within in
     (ap (λ p. p.0) is ∙ at, slice_get-get_or xs n x within ∙ ap Some (sym (ap (λ p. p.1) is)))
 
+-- the element at a place of what is made is made from the one at that place
 pub get-mapped : {X Y : Type 0} (f : X → Y) (xs : List X) (n : ℕ) (x : X) → slice_get xs n ≡ Some x → slice_get (map f xs) n ≡ Some (f x)
 get-mapped f [] n x is = absurd (cc)
 get-mapped f (y ∷ xs) zero x is =

@@ -49,6 +49,7 @@ pub titled : (missing fault : Option RenderError) → option_or missing fault �
 titled None fault none = refl
 titled (Some refusal) fault none = cc
 
+-- where nothing is refused there is no fault
 pub unrefused : (missing fault : Option RenderError) → option_or missing fault ≡ None → fault ≡ None
 unrefused None fault none = none
 unrefused (Some refusal) fault none = cc
@@ -58,6 +59,7 @@ pub first-there : (groups : List Group) → missing_title Short groups ≡ None 
 first-there [] given none = cc
 first-there (g ∷ groups) given none = cc
 
+-- in the short form the first group has a title, where none is missing
 pub title-there : (groups : List Group) (g : Group) → missing_title Short groups ≡ None → slice_get groups 0 ≡ Some g → g.title ≡ None → ⊥
 title-there [] g given first none = cc
 title-there (h ∷ groups) g given first none =

@@ -32,9 +32,11 @@ use Rattle.annotate_snippets.proofs.ListLemmas.{from_any}
 abbrev pub IsNoFeed : ℕ → Type 0
 IsNoFeed ch = (ch == 10) ≡ false
 
+-- a cell whose character is no line feed
 abbrev pub HoldsNoFeed : Cell → Type 0
 HoldsNoFeed cell = IsNoFeed cell.ch
 
+-- a row in which no cell is a line feed
 abbrev pub HasNoFeed : List Cell → Type 0
 HasNoFeed row = All HoldsNoFeed row
 
@@ -83,6 +85,7 @@ stroke_cell Unicode cell (inr stroke) = among (stroke_glyphs Unicode) cell.ch re
 
 -- ---- rows left of the code
 
+-- spaces before cells without line feeds add none
 pub after_spaces : (n : ℕ) (cells : List Cell) → HasNoFeed cells → HasNoFeed (replicate n SPACE ++ cells)
 after_spaces n cells all =
     All-append HoldsNoFeed (replicate n SPACE) cells (All-replicate HoldsNoFeed n SPACE refl) all
@@ -90,6 +93,7 @@ after_spaces n cells all =
 one : (cell : Cell) → HoldsNoFeed cell → HasNoFeed (cell ∷ [])
 one cell holds = All-cons HoldsNoFeed cell [] holds (All-nil HoldsNoFeed)
 
+-- a row of strokes before any stroke is drawn holds no line feed
 pub bare_plain : (decor : DecorStyle) (gutter : ℕ) (closes : Bool) → HasNoFeed (bare_row decor gutter closes)
 bare_plain Ascii gutter false = after_spaces (gutter + 1) (text_cells LineNumber (separator_of Ascii ∷ [])) (one (unlinked_cell LineNumber 124) refl)
 bare_plain Unicode gutter false = after_spaces (gutter + 1) (text_cells LineNumber (separator_of Unicode ∷ [])) (one (unlinked_cell LineNumber 0x2502) refl)

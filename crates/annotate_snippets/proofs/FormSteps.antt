@@ -83,6 +83,7 @@ pub title_added : (r : Renderer) (title : Option Title) (t : Title) (old new : L
 title_added r title t old new is added =
     added ∙ ap (λ (x : List FormPiece). old ++ x) (sym (append-nil (heading_form r.hyperlink kind.Title (heading_of_title t)))) ∙ ap (λ (x : Option Title). old ++ title_form r x) (sym is)
 
+-- a group without a title adds nothing for it
 pub no_title_added : (r : Renderer) (title : Option Title) (old new : List FormPiece) → title ≡ None → new ≡ old → new ≡ old ++ title_form r title
 no_title_added r title old new is same =
     same ∙ sym (append-nil old) ∙ ap (λ (x : Option Title). old ++ title_form r x) (sym is)

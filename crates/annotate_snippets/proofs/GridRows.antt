@@ -27,6 +27,7 @@ pub record GridsSoFar (r : Renderer) (groups : List Group) (n : ℕ) (grids : Li
   pub levels : map (λ (grid : GroupGrid). grid.level) grids ≡ map (λ (g : Group). g.level) (take n groups)
   pub each : (i : ℕ) (g : Group) (grid : GroupGrid) → slice_get groups i ≡ Some g → slice_get grids i ≡ Some grid → IsGroupGrid r (frame_of r groups g) (place_at (length groups) i) (file_of_group groups g) g grid.buffer
 
+-- no grid stands for the first none of the groups
 pub grids_none : (r : Renderer) (groups : List Group) (grids : List GroupGrid) → grids ≡ [] → GridsSoFar r groups 0 grids
 grids_none r groups grids none =
     record {

@@ -72,6 +72,7 @@ closing-free : (r : Renderer) (frame : Frame) (closes : Bool) → All IsFree (if
 closing-free r frame true = All-cons IsFree _ [] (closing_row-free r.decor_style frame.gutter) (All-nil IsFree)
 closing-free r frame false = All-nil IsFree
 
+-- the rows of an origin show it
 pub origin_shown : (r : Renderer) (frame : Frame) (around : ElementContext) (origin : the_origin.Origin) (rows : List (List Cell)) → rows ≡ origin_rows r frame around origin → ElementShown r frame around (Origin origin) rows
 origin_shown r frame around origin rows are =
     let path : List ℕ = cow_str_bytes origin.path in

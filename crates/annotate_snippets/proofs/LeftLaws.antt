@@ -15,9 +15,9 @@ use Rattle.snippet_strokes.specs.Rows.{IsSourceRow, bare_elision_row}
 use Rattle.snippet_strokes.specs.declared.layout.Layout.{Layout}
 use Rattle.snippet_strokes.proofs.BegunLemmas.{same_front}
 use Rattle.snippet_strokes.proofs.RowLemmas.{bare_row_left}
-use Rattle.snippet_titles.proofs.TextLemmas.{row_text-text_cells}
 use Rattle.annotate_snippets.specs.declared.renderer.frame.Frame.{Frame}
 use Rattle.annotate_snippets.specs.Shown.{IsElided, IsRowBelow, cells_left}
+use Rattle.snippet_grid.proofs.RowLemmas.{row_text-text_cells}
 
 module _ (decor : DecorStyle) (gutter : ℕ) (shown : List ℕ) where
   abbrev spaces : List Cell
@@ -90,6 +90,7 @@ module _ (layout : Layout) (shown : List ℕ) (cells plain row : List Cell) (fit
         ]
       ]
 
+  -- a source row's first cells are those left of the code for what it shows as its number
   pub left_of_source : take (layout.gutter + 2) row ≡ cells_left layout.decor layout.gutter shown
   left_of_source =
       let all : List Cell = cells_left layout.decor layout.gutter shown in
@@ -116,6 +117,7 @@ bare_unnumbered Ascii gutter (suc (suc (suc c))) left = refl
 bare_unnumbered Unicode gutter c left =
     ap (λ (cell : Cell). is_ascii_alphanumeric cell.ch) (get_or_append_left (replicate (gutter + 1) SPACE) (text_cells LineNumber (elision_of Unicode)) SPACE c (omega (arith, left, length-replicate (gutter + 1) SPACE)) ∙ get_or-replicate (gutter + 1) c SPACE SPACE (omega (arith, left)))
 
+-- the row for lines that are left out has no number
 pub unnumbered_elided : (decor : DecorStyle) (frame : Frame) (row : List Cell) → IsElided decor frame row → HasNoNumber frame.gutter row
 unnumbered_elided decor frame row shown c left =
     ap (λ (cell : Cell). is_ascii_alphanumeric cell.ch) (shown.is.left c (omega (arith, left))) ∙ bare_unnumbered decor frame.gutter c left

@@ -38,7 +38,6 @@ use Rattle.snippet_strokes.specs.Snippet as strokes
 use Rattle.snippet_strokes.specs.Bars.{Bar}
 use Rattle.snippet_strokes.specs.declared.layout.Layout.{Layout}
 use Rattle.snippet_strokes.proofs.SnippetLemmas.{highlighted_left, highlighted_text}
-use Rattle.snippet_titles.proofs.TextLemmas.{row_text-text_cells}
 use Rattle.annotate_snippets.specs.declared.renderer.Renderer.{Renderer}
 use Rattle.annotate_snippets.specs.declared.renderer.frame.Frame.{Frame}
 use Rattle.annotate_snippets.specs.Drawn.{layout_in}
@@ -49,6 +48,7 @@ use Rattle.annotate_snippets.proofs.LeftLaws.{left_of_source, space_of_source}
 use Rattle.annotate_snippets.proofs.MarkLemmas.{span_of_entry, IsEntryOf, mark_of_entries, unmarked_by_entries, entries_after, unlabelled_entries, lone_entry, some_entry, shifted_mark, shifted_unmarked, shifted_after}
 use Rattle.annotate_snippets.proofs.PartsFacts.{stands_left, untouched, wide_on_line}
 use Rattle.annotate_snippets.proofs.WindowLemmas.{dropped-none}
+use Rattle.snippet_grid.proofs.RowLemmas.{row_text-text_cells}
 
 -- a row that is as a bare one left of the bars is a row below a line
 pub row_below : (decor : DecorStyle) (frame : Frame) (closes plain : Bool) (es : List LineAnnotation) (rows : List (List Cell)) (i : ℕ)

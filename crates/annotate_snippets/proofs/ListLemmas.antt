@@ -5,16 +5,20 @@ use Rattle.std.proofs.lemmas.Bool.{cases_Bool}
 use Rattle.std.proofs.lemmas.List.{length-map, get_or-map}
 
 module _ {X : Type 0} where
+  -- a list contains its first element
   pub Contains-head : (x : X) (xs : List X) → Contains (x ∷ xs) x
   Contains-head x xs = (0, omega arith, refl)
 
+  -- what a list contains it contains after one more element is put in front
   pub Contains-tail : (x y : X) (xs : List X) → Contains xs y → Contains (x ∷ xs) y
   Contains-tail x y xs in_xs = (suc in_xs.0, omega (arith, in_xs.1), in_xs.2)
 
+  -- what a list contains is its first element, or the rest contains it
   pub Contains-cons_cases : (x y : X) (xs : List X) → Contains (x ∷ xs) y → (x ≡ y) ⊎ Contains xs y
   Contains-cons_cases x y xs (zero, within, same) = inl same
   Contains-cons_cases x y xs (suc k, within, same) = inr (k, omega arith, same)
 
+  -- the empty list contains nothing
   pub Contains-nil : (x : X) → Contains [] x → ⊥
   Contains-nil x (k, within, same) = absurd (omega arith)
 
@@ -35,6 +39,7 @@ module _ {X : Type 0} where
       later true rest = Contains-tail y x (filter p xs) rest
       later false rest = rest
 
+  -- what is made from an element of a list is among what is made from all
   pub Contains-map : {Y : Type 0} (f : X → Y) (xs : List X) (x : X) → Contains xs x → Contains (map f xs) (f x)
   Contains-map f xs x among =
       (among.0, omega (arith, length-map xs f, among.1), get_or-map f xs among.0 x (f x) among.1 ∙ ap f among.2)

@@ -41,6 +41,7 @@ end_of_other s a other single =
     let here : (s.first + first_line s.text a == s.first + last_line s.text a) ≡ true = eq-eqb _ _ (ap (λ k. s.first + k) (sym same)) in
     rw (other, here) (ap (λ n. max n (start_column s.text a + 1)) (omega arith))
 
+-- the entry of a span on one line ends at the column where the span ends
 pub end_of_entry : (s : Source) (a : Annotation) → is_single_line s.text a ≡ true → (entry_of s a).end.display ≡ end_column s.text a
 end_of_entry s a single =
     elim (cases_Bool (a.span.start == a.span.end)) [

@@ -39,6 +39,7 @@ lines_named-others : (rows : List (List Cell)) (more : List NamedRow) → lines_
 lines_named-others [] more = refl
 lines_named-others (row ∷ rows) more = lines_named-others rows more
 
+-- the cells of rows one after the other are those of both
 pub cells_of-append : (xs ys : List NamedRow) → cells_of (xs ++ ys) ≡ cells_of xs ++ cells_of ys
 cells_of-append xs ys = map-append (λ (row : NamedRow). row.cells) xs ys
 
@@ -196,6 +197,7 @@ module _ (r : Renderer) (frame : Frame) (s : Snippet Annotation)
   none_left ks infos same =
       ap (λ n. n == 0) (sym (length-map ks line_of_snippet) ∙ sym (ap length same) ∙ length-map infos seen_kept)
 
+  -- the rows of kept lines have the names of their lines
   pub named_lines : (open_bars : List Bar) (ks : List ℕ) (infos : List AnnotatedLineInfo) (rows : List (List Cell)) → All (λ k. k < own_lines) ks
       → map seen_kept infos ≡ map line_of_snippet ks → All NumberFits infos
       → strokes.AreLinesShown (layout_in r frame) margin (line_numbers r s.line_numbering) closes open_bars infos rows → AreNamed open_bars ks rows

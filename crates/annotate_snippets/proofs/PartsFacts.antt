@@ -24,7 +24,8 @@ use Rattle.snippet_view.specs.declared.entries.LineAnnotationType.TheVariants.{S
 use Rattle.snippet_view.specs.declared.margin.Margin.{Margin}
 use Rattle.snippet_view.specs.Entries.{Ascends, HasDepthWithin, HasRoom}
 use Rattle.snippet_view.proofs.EntryFacts.{depths-fit, each-line, labels-fit, places-fit, texts-fit, untouched-parts, wide-count}
-use Rattle.snippet_view.proofs.MarginLaws.{margin_of_kept, margin_whole}
+use Rattle.snippet_view.proofs.MarginLaws.{margin_of_kept}
+use Rattle.snippet_view.proofs.UncutLaws.{margin_whole}
 use Rattle.snippet_view.proofs.ShownFacts.{first-shown, last-shown, shown-ascends, shown-within}
 use Rattle.snippet_view.specs.Depths.{places_of}
 use Rattle.snippet_view.specs.Annotated.{KeptLine, PartEntry, seen_part, annotated_lines, deepest, is_long, kept_line, long_entry, long_place, long_places, long_spans, parts_on, seen_kept, single_part, stands_before}
@@ -50,23 +51,29 @@ ascending (j ∷ k ∷ ks) ascends =
     (ascends 0 1 0 (omega arith) (omega arith), ascending (k ∷ ks) (λ i l d less within. ascends (suc i) (suc l) d (omega (arith, less)) (omega (arith, within))))
 
 module _ (s : Source) (marks : List Annotation) (spans : All (λ a. IsSpan s.text a.span.start a.span.end) marks) where
+  -- a line that no span of several lines touches has the parts of the spans that are marked on it
   pub untouched : (k : ℕ) → list_all (λ a. not (is_marking a.kind && touches s.text a k && not (is_single_line s.text a))) marks ≡ true → parts_on s marks k ≡ map (single_part s) (filter (is_marked_on s.text k) marks)
   untouched k none = untouched-parts s marks k spans none
 
+  -- a kept line has as many wide entries as wide spans are marked on it
   pub wide_on_line : (k : ℕ) (info : AnnotatedLineInfo) (room placeholder_width : ℕ) → seen_kept info ≡ kept_line s marks k → count_by (is_wide_entry room placeholder_width) info.annotations.items ≡ count_by (λ a. is_marked_on s.text k a && is_wide room placeholder_width s.text a) marks
   wide_on_line k info room placeholder_width same = wide-count room placeholder_width s marks k info same
 
+  -- each line that is shown is a line of the source
   pub shown_within : (fold : Bool) → All (λ k. k < length (source_lines s.text)) (shown_lines fold s.text marks)
   shown_within fold = shown-within fold s.text marks
 
+  -- the lines that are shown ascend
   pub shown_ascending : (fold : Bool) → IsAscending (shown_lines fold s.text marks)
   shown_ascending fold = ascending (shown_lines fold s.text marks) (shown-ascends fold s.text marks)
 
+  -- the lines on which spans start and end are shown
   pub ends_shown : (fold : Bool) → All (λ a. Contains (shown_lines fold s.text marks) (first_line s.text a) × Contains (shown_lines fold s.text marks) (last_line s.text a)) marks
   ends_shown fold = λ k d within.
       let a : Annotation = get_or marks k d in
       (first-shown fold s.text marks a (Contains-get_or marks k d within) (spans k d within), last-shown fold s.text marks a (Contains-get_or marks k d within) (spans k d within))
 
+  -- where lines stand whole, nothing is cut on the left
   pub stands_left : (room placeholder_width : ℕ) (fold : Bool) (k : ℕ) → stands_whole room placeholder_width fold s.text marks k ≡ true → (margin_of room fold s marks).left ≡ 0
   stands_left room placeholder_width fold k whole = margin_whole room placeholder_width fold s marks k whole
 
@@ -89,17 +96,21 @@ bar_cell layout deepest code part depth = by part depth
 -- ---- what drawing asks of the lines
 
 module _ (s : Source) (marks : List Annotation) (spans : All (λ a. IsSpan s.text a.span.start a.span.end) marks) (ks : List ℕ) (infos : List AnnotatedLineInfo) (same : map seen_kept infos ≡ map (kept_line s marks) ks) where
+  -- the texts of kept lines fit, where the source does
   pub lines_texts : length s.text < 2 ^ 56 → All (λ info. length info.line.now < 2 ^ 56) infos
   lines_texts short = texts-fit s marks ks infos same short
 
+  -- the labels on kept lines fit, where those of the annotations do
   pub lines_labels : All AnnotationFits marks → All (λ info. All (λ e. IfSome e.label (λ t. length t.now < 2 ^ 56)) info.annotations.items) infos
   lines_labels fit = labels-fit s marks ks infos same fit
 
+  -- the entries of kept lines have places, where the source fits
   pub lines_places : length s.text < 2 ^ 56 → All (λ info. All HasPlace info.annotations.items) infos
   lines_places short = All-weaker (λ (info : AnnotatedLineInfo). All HasRoom info.annotations.items) (λ info. All HasPlace info.annotations.items)
       (λ info places. All-weaker HasRoom HasPlace (λ e room. record { ordered = room.0; near = room.1 }) info.annotations.items places)
       infos (places-fit s marks ks infos same short)
 
+  -- the bars on kept lines have cells between the gutter and the code, where the code stands far enough right
   pub lines_bar_cells : (layout : Layout) → code_after layout.gutter (deepest s marks) ≤ layout.code → All (λ info. All (HasBarCell layout) info.annotations.items) infos
   lines_bar_cells layout code =
       let Within : LineAnnotation → Type 0 = λ e. HasDepthWithin (deepest s marks) e.annotation_type in

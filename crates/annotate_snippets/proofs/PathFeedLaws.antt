@@ -36,10 +36,12 @@ use Rattle.snippet_view.specs.Annotated.{annotated_lines}
 
 -- ---- characters
 
+-- either of two texts without line feeds has none
 pub choice : (b : Bool) (xs ys : List ℕ) → All IsNoFeed xs → All IsNoFeed ys → All IsNoFeed (cond b xs ys)
 choice true xs ys one other = one
 choice false xs ys one other = other
 
+-- a text of one character that is no line feed has none
 pub alone : (c : ℕ) → IsNoFeed c → All IsNoFeed (c ∷ [])
 alone c plain = All-cons IsNoFeed c [] plain (All-nil IsNoFeed)
 
@@ -54,6 +56,7 @@ shown_plain c plain =
     (choice (c == 0x200D) _ _ (All-nil IsNoFeed)
     (choice (is_bidirectional_control c) _ _ (alone 0xFFFD refl) (alone c plain)))))
 
+-- normalising adds no line feed
 pub norm_plain : (cs : List ℕ) → All IsNoFeed cs → All IsNoFeed (norm cs)
 unfolding norm
 norm_plain [] plain = All-nil IsNoFeed
@@ -75,6 +78,7 @@ glyphs_plain Secondary Unicode = refl
 
 -- ---- rows
 
+-- the cells of a text without line feeds hold none
 pub cells_plain : (role : ElementStyle) (cs : List ℕ) → All IsNoFeed cs → HasNoFeed (text_cells role cs)
 cells_plain role cs plain = All-text_cells HoldsNoFeed role cs plain
 

@@ -1,5 +1,5 @@
 -- The place at which the first patch of a snippet starts.
-use Rattle.std.proofs.Common.{◌≡◌, ℕ, ◌+◌, ◌<◌, refl, None, Some, List, [], ◌∷◌, All, length, map, sym, ap, ◌∙◌, arith, subst}
+use Rattle.std.proofs.Common.{◌≡◌, ℕ, ◌+◌, ◌<◌, None, Some, List, [], ◌∷◌, All, length, map, sym, ap, ◌∙◌, arith, subst}
 use Rattle.std.specs.Cow.{cow_str_bytes}
 use Rattle.std.specs.List.{slice_get}
 use Rattle.std.proofs.lemmas.List.Elements.{All-map}
@@ -17,6 +17,7 @@ use Rattle.snippet_suggest.proofs.PreparedLemmas.{some-left}
 use Rattle.snippet_suggest.proofs.SpanLemmas.{trimmed_spans}
 use Rattle.snippet_titles.specs.declared.origin.OriginLocation.{OriginLocation}
 use Rattle.annotate_snippets.specs.Rows.{patch_place}
+use Rattle.snippet_lines.proofs.PlaceLemmas.{locations_of-start}
 
 -- the first of some patches starts where the first edit does
 first_start-of : (ts : List TrimmedPatch) (t : TrimmedPatch) → slice_get ts 0 ≡ Some t → t.span.start ≡ first_start (map trimmed_edit_of ts)
@@ -52,13 +53,10 @@ first-span p t h is =
 abbrev place_from : Loc → OriginLocation
 place_from at = record { line = Some at.line; column = Some (at.char + 1) }
 
-start-location : (m : Source) (start end : ℕ) → (locations_of m start end).0 ≡ start_location m start
-unfolding locations_of
-start-location m start end = refl
-
+-- the place of a suggestion is where its first trimmed patch starts
 pub first-place : (p : PreparedSuggestion) (t : TrimmedPatch) (at : Loc × Loc) → IsPrepared p → slice_get p.splice.patches.items 0 ≡ Some t
     → at ≡ locations_of p.map t.span.start t.span.end
     → ◌≡◌ {A = OriginLocation} (record { line = Some at.0.line; column = Some (at.0.char + 1) }) (patch_place p.snippet.now)
 first-place p t at h is located =
     let first : t.span.start ≡ first_start (trimmed_of p.snippet.now) = first_start-of p.splice.patches.items t is ∙ ap first_start h.edits in
-    ap (λ (l : Loc × Loc). place_from l.0) located ∙ ap place_from (start-location p.map t.span.start t.span.end) ∙ ap (λ m. place_from (start_location m t.span.start)) h.lines ∙ ap (λ b. place_from (start_location (source_of p.snippet.now) b)) first
+    ap (λ (l : Loc × Loc). place_from l.0) located ∙ ap place_from (locations_of-start p.map t.span.start t.span.end) ∙ ap (λ m. place_from (start_location m t.span.start)) h.lines ∙ ap (λ b. place_from (start_location (source_of p.snippet.now) b)) first

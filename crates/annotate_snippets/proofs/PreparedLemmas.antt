@@ -48,6 +48,7 @@ All-option : (ps : List PreparedElement) (p : Option PreparedElement) → All Is
 All-option ps None all one = All-same IsElementPrepared (ps ++ []) ps (append-nil ps) all
 All-option ps (Some p) all one = All-push IsElementPrepared ps p all one
 
+-- one more element is prepared where it is drawn, and else nothing is added
 pub AreDrawnPrepared-push : (es : List Element) (i : ℕ) (e : Element) (ps new : List PreparedElement) (p : Option PreparedElement)
     → new ≡ ps ++ option_to_list p → i < length es → e ≡ get_or es i e → option_map element_of p ≡ cond (is_drawn e) (Some e) None
     → IfSome p IsElementPrepared → AreDrawnPrepared (take i es) ps → AreDrawnPrepared (take (i + 1) es) new

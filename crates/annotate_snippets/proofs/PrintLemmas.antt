@@ -8,6 +8,7 @@ use Rattle.annotate_snippets.specs.Page.{PrintsGrids}
 use Rattle.annotate_snippets.specs.declared.renderer.graphic.GroupGrid.{GroupGrid}
 pub use Rattle.snippet_model.proofs.ZipLemmas.{AllZip-last, AllZip-weaker}
 
+-- what holds of pairs so far holds with one more pair of which it holds
 pub AllZip-push : {A B : Type 0} (P : A → B → Type 0) (xs : List A) (i : ℕ) (d : A) → i < length xs → (ys new : List B) (y : B) → new ≡ ys ++ y ∷ [] → AllZip P (take i xs) ys → P (get_or xs i d) y → AllZip P (take (i + 1) xs) new
 AllZip-push P xs i d within ys new y pushed before last =
     subst (λ zs. AllZip P zs new) (sym (take_more xs i d within)) (subst (λ zs. AllZip P (take i xs ++ get_or xs i d ∷ []) zs) (sym pushed) (AllZip-last P (take i xs) ys (get_or xs i d) y before last))

@@ -205,6 +205,7 @@ faultless : {T E : Type 0} (fault : Option E) (r : Result T E) (x : T) → IfSom
 faultless None r x refused given = refl
 faultless (Some e) r x refused given = let never : Err e ≡ Ok x = sym refused ∙ given in cc
 
+-- the groups of a report that fits can be drawn where the answer is no refusal
 pub drawable-from_ok : {T : Type 0} (r : Renderer) (groups : List Group) (answer : Result T RenderError) (x : T) → ReportFits groups → IfSome (first_refusal r groups) (λ refusal. answer ≡ Err refusal) → answer ≡ Ok x → All IsGroupDrawable groups
 drawable-from_ok r groups answer x fits refused given =
     groups-drawable groups fits (unrefused (missing_title (form_of r) groups) (first_fault groups) (faultless (first_refusal r groups) answer x refused given))

@@ -28,6 +28,7 @@ free_more : (few many : List (List ℕ)) (text : List ℕ) → ((c : ℕ) → Co
 free_more few many text more free =
     All-weaker (λ c. is_listed c ≡ true → Contains (flat_map chars few) c) (λ c. is_listed c ≡ true → Contains (flat_map chars many) c) (λ c trusted listed. more c (trusted listed)) text free
 
+-- what is free but for the first group's trusted texts is free but for those of all groups
 pub free_first : (g : Group) (gs : List Group) (text : List ℕ) → IsFreeBut (trusted_texts (g ∷ [])) text → IsFreeBut (trusted_texts (g ∷ gs)) text
 free_first g gs text free =
     free_more (trusted_texts (g ∷ [])) (trusted_texts (g ∷ gs))
@@ -35,6 +36,7 @@ free_first g gs text free =
     (Contains-append_left (flat_map chars (trusted_of g)) (flat_map chars (trusted_texts gs))
     c (subst (λ ts. Contains (flat_map chars ts) c) (append-nil (trusted_of g)) among))) free
 
+-- what is free but for the further groups' trusted texts is free but for those of all groups
 pub free_rest : (g : Group) (gs : List Group) (text : List ℕ) → IsFreeBut (trusted_texts gs) text → IsFreeBut (trusted_texts (g ∷ gs)) text
 free_rest g gs text free =
     free_more (trusted_texts gs) (trusted_texts (g ∷ gs)) text (λ c among. subst (λ cs. Contains cs c) (sym (flat_map-append chars (trusted_of g) (trusted_texts gs))) (Contains-append_right (flat_map chars (trusted_of g)) (flat_map chars (trusted_texts gs)) c among)) free

@@ -85,7 +85,8 @@ counted-suggested s can =
     let there : removed < 2 ^ 64 = omega (arith, can.lines, line_of-within source (first_end (trimmed_of s))) in
     cond_both s.fold (counted_folded (shown_kind s) first removed last) last (λ n. n < 2 ^ 64) (λ _. folded_small (shown_kind s) first removed last (omega (arith, small)) there small) (λ _. small)
 
-digits : (number : ℕ) → number < 2 ^ 64 → length (decimal number) ≤ 20
+-- a number that fits 64 bits has at most 20 digits
+pub digits : (number : ℕ) → number < 2 ^ 64 → length (decimal number) ≤ 20
 digits number small = length-decimal-le 20 number (omega arith) (omega (arith, small)) small
 
 wanted-low : (e : Element) → IsElementDrawable e → width_wanted e ≤ 20

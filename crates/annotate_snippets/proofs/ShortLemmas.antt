@@ -2,14 +2,12 @@
 use Rattle.std.proofs.Common.{◌≡◌, ◌≢◌, ℕ, ◌+◌, ◌*◌, ◌<◌, ◌≤◌, ◌^◌, ◌==◌, ◌∙◌, Bool, true, false, not, Option, None, Some, Result, Ok, Err, IfSome, List, [], ◌∷◌, ◌++◌, All, chars, cond, filter, get_or, if◌then◌else◌, length, take, suc, arith, ap, refl, sym}
 use Rattle.std.specs.Char.{is_whitespace}
 use Rattle.std.specs.Cow.{cow_str_bytes}
-use Rattle.std.specs.Fmt.{decimal}
 use Rattle.std.specs.List.{filter_map, flat_map, list_all}
 use Rattle.std.specs.Result.{OnOk, is_ok}
 use Rattle.std.specs.Str.{IsAscii, IsUtf8}
 use Rattle.std.specs.declared.alloc.Global.{Global}
 use Rattle.std.specs.declared.borrow.CowStr.{CowStr}
 use Rattle.std.proofs.lemmas.Bool.Decides.{nat_tests}
-use Rattle.std.proofs.lemmas.Fmt.{length-decimal-le}
 use Rattle.std.proofs.lemmas.Grind.{flat_map-append}
 use Rattle.std.proofs.lemmas.List.{append-nil, append_assoc, length-append, take_more}
 use Rattle.std.proofs.lemmas.List.Elements.{All-head, All-tail, filter-append, filter_map-append}
@@ -36,6 +34,7 @@ use Rattle.annotate_snippets.specs.Rows.{place_named}
 use Rattle.annotate_snippets.specs.Short.{first_cause, joined_labels, label_of, place_of_cause, place_of_path, primary_labels}
 use Rattle.snippet_model.specs.AnnotationKind.{is_primary}
 use Rattle.annotate_snippets.specs.declared.renderer.Renderer.{Renderer}
+use Rattle.annotate_snippets.proofs.RoomLemmas.{digits}
 
 -- ---- labels
 
@@ -99,9 +98,6 @@ joined_labels-added labels old sep new label empty text are none led added =
 
 -- ---- the place before the title
 
-digits : (n : ℕ) → n < 2 ^ 64 → length (decimal n) ≤ 20
-digits n small = length-decimal-le 20 n (omega arith) (omega (arith, small)) small
-
 -- the numbers of a place fit
 abbrev pub PlaceFits : OriginLocation → Type 0
 PlaceFits place = IfSome place.line (λ n. n < 2 ^ 64) × IfSome place.column (λ n. n < 2 ^ 64)
@@ -129,6 +125,7 @@ pub place-added : (text new shown : List ℕ) → IsUtf8 text → chars text ≡
 place-added text new shown utf8 is added =
     ap chars added ∙ chars-append text (58 ∷ 32 ∷ []) utf8 ∙ ap (λ cs. cs ++ chars (58 ∷ 32 ∷ [])) is ∙ ap (λ cs. shown ++ cs) (lead-chars true)
 
+-- a place with its colon has room, where its path and its numbers fit
 pub place-short : (anonymized : Bool) (path : List ℕ) (place : OriginLocation) (new : List ℕ) → length path < 2 ^ 56 → PlaceFits place → chars new ≡ origin_text anonymized path place ++ 58 ∷ 32 ∷ [] → length (chars new) < 2 ^ 59
 place-short anonymized path place new short fits is =
     omega (arith, short, ap length is, length-append (origin_text anonymized path place) (58 ∷ 32 ∷ []), origin_text-short anonymized path place fits)
@@ -155,8 +152,10 @@ first_cause-each P (Suggestion s ∷ es) all = first_cause-each P es (All-tail P
 first_cause-each P (Origin o ∷ es) all = first_cause-each P es (All-tail P (Origin o) es all)
 first_cause-each P (Padding p ∷ es) all = first_cause-each P es (All-tail P (Padding p) es all)
 
+-- the first snippet of a group that can be drawn can be drawn
 pub first_cause-drawable : (g : Group) → IsGroupDrawable g → IfSome (first_cause g.elements.items) IsDrawable
 first_cause-drawable g drawable = first_cause-each IsElementDrawable g.elements.items drawable.1
 
+-- the first snippet of a group that can be drawn fits
 pub first_cause-fits : (g : Group) → IsGroupDrawable g → IfSome (first_cause g.elements.items) (SnippetFits AnnotationFits)
 first_cause-fits g drawable = first_cause-each ElementFits g.elements.items drawable.0.1

@@ -24,6 +24,7 @@ use Rattle.annotate_snippets.specs.declared.renderer.Renderer.{Renderer}
 use Rattle.annotate_snippets.specs.declared.renderer.frame.Frame.{Frame}
 use Rattle.snippet_suggest.proofs.RisingLemmas.{rising_bound as rising_within}
 
+-- numbers that rise between two bounds ascend
 pub rising_ascends : (from to : ℕ) (ks : List ℕ) → AreRising from to ks → IsAscending ks
 rising_ascends from to [] rising = tt
 rising_ascends from to (j ∷ []) rising = tt
@@ -45,6 +46,7 @@ cells_of-named P s (shows ∷ shown) [] are = absurd are
 cells_of-named P s (shows ∷ shown) (row ∷ part) are =
     ap (λ rows. row ∷ rows) (cells_of-named P s shown part are.1)
 
+-- the names of a suggestion's rows are those of what they show
 pub names_of-named : (P : SuggestionRow → List Cell → Type 0) (s : Snippet Patch) (shown : List SuggestionRow) (part : List (List Cell)) → AllZip P shown part → map (λ row. row.name) (named_rows s shown part) ≡ map (name_of_row s) shown
 names_of-named P s [] [] are = refl
 names_of-named P s [] (row ∷ part) are = absurd are
@@ -65,6 +67,7 @@ lines_offered-named P s (Removes i number text ∷ shown) (row ∷ part) are = l
 lines_offered-named P s (Empty ∷ shown) (row ∷ part) are = lines_offered-named P s shown part are.1
 lines_offered-named P s (Ends follows ∷ shown) (row ∷ part) are = lines_offered-named P s shown part are.1
 
+-- the lines that a suggestion's rows show as removed are those that what they show takes
 pub lines_removed-named : (P : SuggestionRow → List Cell → Type 0) (s : Snippet Patch) (shown : List SuggestionRow) (part : List (List Cell)) → AllZip P shown part → lines_removed (named_rows s shown part) ≡ lines_taken shown
 lines_removed-named P s [] [] are = refl
 lines_removed-named P s [] (row ∷ part) are = absurd are

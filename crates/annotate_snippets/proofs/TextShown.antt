@@ -188,6 +188,7 @@ report_woven : (r : Renderer) (groups : List Group) (sheet : Stylesheet) (text :
 report_woven r groups sheet text is =
     subst (IsWoven sheet text (form_text (text_form r groups))) (groups_links r groups groups ∙ links_of_titles r groups) is.1
 
+-- texts that are woven of the text form, and free but for its sheet's codes, show the report
 pub text-shown : (r : Renderer) (groups : List Group) (sheets : List Stylesheet) (texts : List (List ℕ))
     → AllZip (λ sheet text. (text ≡ form_bytes sheet (text_form r groups))
     × IsWoven sheet text (form_text (text_form r groups)) (form_links (text_form r groups))) sheets texts → TextShown r groups sheets texts

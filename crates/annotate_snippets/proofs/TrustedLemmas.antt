@@ -60,6 +60,7 @@ further_free trusted [] free = All-nil (IsTrusted trusted)
 further_free trusted (row ∷ rows) free =
     All-append (IsTrusted trusted) (10 ∷ row_text row) (further_text rows) (All-cons (IsTrusted trusted) 10 (row_text row) (unlisted trusted 10 refl) (All-head (IsFreeRow trusted) row rows free)) (further_free trusted rows (All-tail (IsFreeRow trusted) row rows free))
 
+-- the text of rows that are free but for trusted texts is free but for them
 pub free_text : (trusted : List (List ℕ)) (rows : List (List Cell)) → All (IsFreeRow trusted) rows → IsFreeBut trusted (plain_text rows)
 free_text trusted [] free = All-nil (IsTrusted trusted)
 free_text trusted (row ∷ rows) free =
@@ -87,6 +88,7 @@ title_among title more styled c is =
     let same : flat_map trusted_of_title (title ∷ []) ++ more ≡ text ∷ more = rw styled refl in
     subst (λ (ts : List (List ℕ)). Contains (flat_map chars ts) c) (sym same) (Contains-append_left (chars text) (flat_map chars more) c is)
 
+-- each character of a trusted message is one of the trusted texts
 pub message_among : (trusted : List (List ℕ)) (message : MessageGiven) → AreTextsAmong trusted (trusted_of_element (Message message)) → (c : ℕ) → Contains (chars (cow_str_bytes message.text)) c → Contains (flat_map chars trusted) c
 message_among trusted message among c is = among c (Contains-append_left (chars (cow_str_bytes message.text)) [] c is)
 

@@ -35,6 +35,7 @@ pub primary_path-first : (g : Group) (es : List Element) (i : ℕ) (e : Element)
 primary_path-first g es i e path same none within is some =
     sym (ap (λ (xs : List Element). option_flatten (slice_get (filter_map file_of_element xs) 0)) (sym same) ∙ ap option_flatten (filter_map-first file_of_element es i e path none within is some))
 
+-- a group has no primary path where none of its elements has one
 pub primary_path-none : (g : Group) (es : List Element) (i : ℕ) → es ≡ g.elements.items → filter_map file_of_element es ≡ filter_map file_of_element (drop i es) → length es ≤ i → None ≡ primary_path g
 primary_path-none g es i same none past =
     sym (ap (λ (xs : List Element). option_flatten (slice_get (filter_map file_of_element xs) 0)) (sym same) ∙ ap option_flatten (filter_map-none file_of_element es i none past))

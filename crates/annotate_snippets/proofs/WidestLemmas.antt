@@ -30,6 +30,7 @@ unnumbered : (b : Bool) (n : ℕ) → cond (b && false) n 0 ≡ 0
 unnumbered true n = refl
 unnumbered false n = refl
 
+-- an element that isn't drawn wants no width
 pub width-undrawn : (e : Element) → is_drawn e ≡ false → width_wanted e ≡ 0
 width-undrawn (Message m) out = refl
 width-undrawn (Cause s) out = cc
@@ -38,6 +39,7 @@ width-undrawn (Suggestion s) out =
 width-undrawn (Origin o) out = refl
 width-undrawn (Padding p) out = refl
 
+-- an element that isn't drawn has no depth
 pub depth-undrawn : (e : Element) → is_drawn e ≡ false → depth_of_element e ≡ 0
 depth-undrawn (Message m) out = refl
 depth-undrawn (Cause s) out = cc

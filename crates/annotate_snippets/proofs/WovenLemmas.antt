@@ -37,6 +37,7 @@ IsWoven-joined sheet a pa la b pb lb first second =
 abbrev pub grid_plain : GroupGrid → List ℕ
 grid_plain grid = plain_text grid.buffer
 
+-- the links of a grid's rows
 abbrev pub grid_links : GroupGrid → List (List ℕ)
 grid_links grid = links_of grid.buffer
 
@@ -58,6 +59,7 @@ IsWoven-from_groups sheet (level ∷ more ∷ levels) (g ∷ other ∷ gs) (part
     (page_links (other ∷ gs)) (IsWoven-from_prints sheet level (group_rows g) part printed.0)
     (IsWoven-from_groups sheet (more ∷ levels) (other ∷ gs) (next ∷ parts) printed.1)
 
+-- what prints a page is woven of its text with its links
 pub IsWoven-from_page : (sheet : Stylesheet) (levels : List LevelInner) (page : Page) (text : List ℕ) → PrintsPage sheet levels page text → IsWoven sheet text (page_text page) (page_links page)
 IsWoven-from_page sheet levels page text prints =
     subst (λ t. IsWoven sheet t (page_text page) (page_links page)) (sym prints.joined) (IsWoven-from_groups sheet levels page prints.parts prints.printed)

@@ -166,6 +166,7 @@ is_next_start start.Opening = false
 is_next_start start.Next = true
 is_next_start start.Path = false
 
+-- the same, of what stands around it
 abbrev pub begins_in_row_above : ElementContext → Bool
 begins_in_row_above around = is_next_start around.start
 

@@ -74,6 +74,7 @@ pub record IsCauseDrawn (r : Renderer) (frame : Frame) (around : ElementContext)
   pub rows_are : rows ≡ cause_head r frame around s ++ (lines ++ rows_after_cause r frame around)
   pub are : AreCauseRows r frame (closes_with around) s lines
 
+-- such rows were added below those that are there
 pub record AddsCause (r : Renderer) (frame : Frame) (around : ElementContext) (s : Snippet Annotation) (old new : List (List Cell)) : Type 0 where
   pub rows : List (List Cell)
   pub added : new ≡ old ++ rows

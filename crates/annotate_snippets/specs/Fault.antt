@@ -63,7 +63,8 @@ abbrev pub element_faults : ℕ → ℕ → Element → List RenderError
 element_faults group element (Cause snippet) =
     faults_from (λ n a. span_faults group element (cow_str_bytes snippet.source) n a.span) 0 snippet.markers.items ++ number_faults group element (number_after_lines snippet.line_start (cow_str_bytes snippet.source))
 element_faults group element (Suggestion snippet) =
-    faults_from (λ n p. span_faults group element (cow_str_bytes snippet.source) n p.span) 0 snippet.markers.items ++ overlap_faults group element snippet.markers.items ++ number_faults group element (number_after_lines snippet.line_start (cow_str_bytes snippet.source) + added_lines snippet.markers.items)
+    faults_from (λ n p. span_faults group element (cow_str_bytes snippet.source) n p.span) 0 snippet.markers.items ++ overlap_faults group element snippet.markers.items
+    ++ number_faults group element (number_after_lines snippet.line_start (cow_str_bytes snippet.source) + added_lines snippet.markers.items)
 element_faults group element (Message message) = []
 element_faults group element (Origin origin) = []
 element_faults group element (Padding padding) = []
@@ -97,6 +98,7 @@ missing_title Short (g ∷ gs) = if is_none g.title then Some NoTitle else None
 abbrev pub refusal_in : Form → List Group → Option RenderError
 refusal_in form groups = option_or (missing_title form groups) (first_fault groups)
 
+-- the refusal in the form that the renderer is set to
 abbrev pub first_refusal : Renderer → List Group → Option RenderError
 first_refusal r groups = refusal_in (form_of r) groups
 

@@ -53,7 +53,8 @@ pub record BeginsWithPlace (r : Renderer) (s : Snippet Annotation) (path : List 
 pub record ShowsShort (r : Renderer) (g : Group) (title : Title) (rows : List (List Cell)) : Type 0 where
   pub rows_are : rows ≡ short_form r g title
   pub texts : (i : ℕ) → row_text (row_at rows i) ≡ slice_index_or (short_texts (before_title r g) (after_title g) (heading_of_title title)) i []
-  pub origin : (s : Snippet Annotation) → first_cause g.elements.items ≡ Some s → (path : List ℕ) → path_bytes s.path ≡ Some path → list_any (λ a. is_marking a.kind) s.markers.items ≡ true → All (λ a. is_long (cow_str_bytes s.source) a ≡ false) s.markers.items → BeginsWithPlace r s path (row_at rows 0)
+  pub origin : (s : Snippet Annotation) → first_cause g.elements.items ≡ Some s → (path : List ℕ) → path_bytes s.path ≡ Some path
+      → list_any (λ a. is_marking a.kind) s.markers.items ≡ true → All (λ a. is_long (cow_str_bytes s.source) a ≡ false) s.markers.items → BeginsWithPlace r s path (row_at rows 0)
   pub free : All (IsFreeButText (heading_of_title title)) rows
 
 -- the addresses that the short form links to: those of the first group
@@ -92,6 +93,7 @@ ShowsForm Text r groups sheets texts = TextShown r groups sheets texts
 abbrev pub TextsShown : Renderer → List Group → List Stylesheet → List (List ℕ) → Type 0
 TextsShown r groups sheets texts = ShowsForm (form_of r) r groups sheets texts
 
+-- one text shows a report under its sheet
 abbrev pub ShowsReport : Renderer → List Group → Stylesheet → List ℕ → Type 0
 ShowsReport r groups sheet text = TextsShown r groups (sheet ∷ []) (text ∷ [])
 

@@ -41,6 +41,7 @@ use Rattle.annotate_snippets.specs.declared.renderer.element_context.ElementCont
 abbrev pub separator_rows : Renderer → Frame → List (List Cell)
 separator_rows r frame = separator_row r.decor_style frame.gutter ∷ []
 
+-- the row that closes, alone
 abbrev pub closing_rows : Renderer → Frame → List (List Cell)
 closing_rows r frame = closing_row r.decor_style frame.gutter ∷ []
 
@@ -63,6 +64,7 @@ abbrev pub message_style : Renderer → Frame → ElementContext → TitleStyle
 message_style r frame around =
     style.Message (record { gutter = frame.gutter; decor = r.decor_style; followed = not (is_end around.next) })
 
+-- the rows of a message
 abbrev pub message_rows : Renderer → Frame → ElementContext → Message → List (List Cell)
 message_rows r frame around message =
     heading_rows r.hyperlink (message_style r frame around) (heading_of_message message)
@@ -120,6 +122,7 @@ suggestion_head_at start.Opening r frame first s = []
 suggestion_head_at start.Next r frame first s = []
 suggestion_head_at start.Path r frame first s = path_row r frame first s (path_bytes s.path)
 
+-- the same, by what stands around the suggestion
 abbrev pub suggestion_head : Renderer → Frame → ElementContext → Snippet Patch → List (List Cell)
 suggestion_head r frame around s = suggestion_head_at around.start r frame around.first s
 

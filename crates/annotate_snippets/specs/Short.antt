@@ -37,6 +37,7 @@ place_of_path r s None = []
 place_of_path r s (Some path) =
     origin_text r.anonymized_origin_line_numbers path (place_named true (annotated_lines s.fold (numbered_source s) s.markers.items)) ++ codes ": "
 
+-- the place of a snippet, if there is one and it has a path
 abbrev pub place_of_cause : Renderer → Option (Snippet Annotation) → List ℕ
 place_of_cause r None = []
 place_of_cause r (Some s) = place_of_path r s (path_bytes s.path)
@@ -55,6 +56,7 @@ abbrev pub joined_labels : List (List ℕ) → List ℕ
 joined_labels [] = []
 joined_labels (label ∷ labels) = codes ": " ++ label ++ flat_map (λ l. codes ", " ++ l) labels
 
+-- the labels of a snippet's primary spans, if there is one
 abbrev pub labels_of_cause : Option (Snippet Annotation) → List ℕ
 labels_of_cause None = []
 labels_of_cause (Some s) = joined_labels (primary_labels s.markers.items)
@@ -63,6 +65,7 @@ labels_of_cause (Some s) = joined_labels (primary_labels s.markers.items)
 abbrev pub before_title : Renderer → Group → List ℕ
 before_title r g = place_of_cause r (first_cause g.elements.items)
 
+-- what stands after the first row of its title
 abbrev pub after_title : Group → List ℕ
 after_title g = labels_of_cause (first_cause g.elements.items)
 

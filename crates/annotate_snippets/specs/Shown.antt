@@ -82,6 +82,7 @@ pub record ShowsTitle (r : Renderer) (frame : Frame) (place : GroupPosition) (fo
   pub rows_are : rows ≡ own ++ rows_after_title r frame place follows title.allows_styling
   pub shows : ShowsHeading r.hyperlink style.Title (heading_of_title title) own
 
+-- the same, where there may be no title: then there are no rows
 abbrev pub ShowsTitlePart : Renderer → Frame → GroupPosition → Next → Option Title → List (List Cell) → Type 0
 ShowsTitlePart r frame place follows None rows = rows ≡ []
 ShowsTitlePart r frame place follows (Some title) rows = ShowsTitle r frame place follows title rows

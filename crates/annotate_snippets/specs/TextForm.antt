@@ -33,6 +33,7 @@ abbrev pub continues : Option PreviousSuggestion → Option (List ℕ) → Bool
 continues None path = false
 continues (Some before) path = is_same_file before.path path
 
+-- the number that a suggestion for this path has
 abbrev pub option_number : Option PreviousSuggestion → Option (List ℕ) → ℕ
 option_number None path = 1
 option_number (Some before) path = if is_same_file before.path path then before.number + 1 else 1

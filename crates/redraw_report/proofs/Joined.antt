@@ -12,6 +12,7 @@ sources-join : (primary : Bool) (order : List ℕ) (ms : List Mark) (m : Mark) �
 sources-join primary order [] m = refl
 sources-join primary order (n ∷ ns) m = sources-join primary (with_source primary order n) ns m
 
+-- with one more mark the sources are those so far with its source
 pub sources-next : (primary : Bool) (start : List ℕ) (ms : List Mark) (i : ℕ) (d : Mark) (old new : List ℕ)
     → old ≡ with_sources primary start (take i ms) → i < length ms → new ≡ with_source primary old (slice_index_or ms i d)
     → new ≡ with_sources primary start (take (i + 1) ms)

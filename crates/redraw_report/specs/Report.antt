@@ -59,6 +59,7 @@ abbrev pub label_rows : Option (Bor (List ℕ)) → List Part
 label_rows None = []
 label_rows (Some label) = Gap ∷ said Note label.now ∷ []
 
+-- what is said of a place, if it is in the source with this index
 abbrev pub label_in : ℕ → Mark → List Part
 label_in source m = if m.source == source then label_rows m.label else []
 
@@ -73,6 +74,7 @@ content_parts marks source path (content.Lines text first_line) =
     Marks (lines_of path text.now first_line true) (flat_map (mark_in source) marks) ∷ []
 content_parts marks source path (content.Nothing line column) = Names path line column ∷ flat_map (label_in source) marks
 
+-- the same of a source as it is shown
 abbrev pub source_parts : List Mark → ℕ → Shown → List Part
 source_parts marks source shown = content_parts marks source shown.path.now shown.content
 
@@ -111,9 +113,11 @@ edits_on offer path (content.Lines text first_line) =
     Edits (lines_of path text.now first_line offer.is_folded) (map edited_of offer.changes.items) ∷ []
 edits_on offer path (content.Nothing line column) = []
 
+-- the same of an offer's source as it is shown
 abbrev pub offer_parts : Offer → Shown → List Part
 offer_parts offer shown = edits_on offer shown.path.now shown.content
 
+-- the same of an offer whose source is among these; else nothing
 abbrev pub offered : List Shown → Offer → List Part
 offered shown offer = option_map_or (offer_parts offer) (slice_get shown offer.source) []
 
@@ -122,6 +126,7 @@ abbrev pub more_text : ℕ → List ℕ
 more_text more =
     codes "and " ++ decimal more ++ (if more == 1 then codes " other candidate" else codes " other candidates")
 
+-- what is said of them, if there are any
 abbrev pub more_parts : ℕ → List Part
 more_parts more = if nat_lt 0 more then Says (level_of Plain) (chars (more_text more)) ∷ [] else []
 

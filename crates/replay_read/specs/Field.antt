@@ -14,9 +14,11 @@ as_whole d = option_and_then as_u64 (as_number d)
 abbrev pub text_at : List ℕ → Data → Option (List ℕ)
 text_at name d = option_and_then as_str (get name d)
 
+-- the whole number under a name
 abbrev pub number_at : List ℕ → Data → Option ℕ
 number_at name d = option_and_then as_whole (get name d)
 
+-- the truth value under a name
 abbrev pub flag_at : List ℕ → Data → Option Bool
 flag_at name d = option_and_then as_bool (get name d)
 

@@ -25,10 +25,12 @@ IsGivenName d Standard = ⊥
 IsGivenName d Hidden = is_some (as_null d) ≡ true
 IsGivenName d (Own name) = as_str d ≡ Some (cow_str_bytes name)
 
+-- the same of a name that may be missing: then it is the standard one
 abbrev pub IsNameOf : Option Data → LevelName → Type 0
 IsNameOf None name = name ≡ Standard
 IsNameOf (Some d) name = IsGivenName d name
 
+-- a level: its kind, and its name
 pub record IsLevelOf (d : Data) (level : Level) : Type 0 where
   pub kind : text_at (codes "kind") d ≡ Some (kind_name level.kind)
   pub name : IsNameOf (get (codes "name") d) level.name
@@ -41,6 +43,7 @@ pub record IsTitleOf (d : Data) (title : Title) : Type 0 where
   pub id : text_at (codes "id") d ≡ option_map cow_str_bytes (option_and_then (λ id. id.id) title.id)
   pub url : text_at (codes "url") d ≡ option_map cow_str_bytes (option_and_then (λ id. id.url) title.id)
 
+-- a message: its level, and its text
 pub record IsMessageOf (d : Data) (message : Message) : Type 0 where
   pub level : SaysAt IsLevelOf (codes "level") d message.level
   pub text : text_at (codes "text") d ≡ Some (cow_str_bytes message.text)
@@ -54,6 +57,7 @@ pub record IsSnippetOf {T : Type 0} (Says : Data → T → Type 0) (markers : Li
   pub fold : snippet.fold ≡ unwrap_or (flag_at (codes "fold") d) true
   pub marked : SaysAt (ListSays Says) markers d snippet.markers.items
 
+-- an annotation: its kind, its span, its label, and whether it colours the source
 pub record IsAnnotationOf (d : Data) (annotation : Annotation) : Type 0 where
   pub kind : text_at (codes "kind") d ≡ Some (mark_name annotation.kind)
   pub start : number_at (codes "start") d ≡ Some annotation.span.start
@@ -61,11 +65,13 @@ pub record IsAnnotationOf (d : Data) (annotation : Annotation) : Type 0 where
   pub label : text_at (codes "label") d ≡ option_map cow_str_bytes annotation.label
   pub highlight_source : annotation.highlight_source ≡ unwrap_or (flag_at (codes "highlight_source") d) false
 
+-- a patch: its span, and the text that it puts there
 pub record IsPatchOf (d : Data) (patch : Patch) : Type 0 where
   pub start : number_at (codes "start") d ≡ Some patch.span.start
   pub end : number_at (codes "end") d ≡ Some patch.span.end
   pub text : text_at (codes "text") d ≡ Some (cow_str_bytes patch.replacement)
 
+-- an origin: its path, and its line and column where they are given
 pub record IsOriginOf (d : Data) (origin : Origin) : Type 0 where
   pub path : text_at (codes "path") d ≡ Some (cow_str_bytes origin.path)
   pub line : origin.line ≡ number_at (codes "line") d
@@ -86,6 +92,7 @@ abbrev pub IsKindOf : Data → Option Title → LevelInner → Type 0
 IsKindOf d None kind = SaysAt (λ e k. text_at (codes "kind") e ≡ Some (kind_name k)) (codes "level") d kind
 IsKindOf d (Some title) kind = kind ≡ title.level.kind
 
+-- a group: its title, its level, and its elements
 pub record IsGroupOf (d : Data) (group : Group) : Type 0 where
   pub title : SaysAt (OrNull IsTitleOf) (codes "title") d group.title
   pub level : IsKindOf d group.title group.level

@@ -1,5 +1,5 @@
 -- The sheets that a value of JSON describes.
-use Rattle.std.specs.Prelude.{◌≡◌, ◌⊎◌, ℕ, ◌||◌, true, false, List, [], ◌∷◌, Option, Some, None, codes, fold}
+use Rattle.std.specs.Prelude.{◌≡◌, ◌⊎◌, ℕ, true, List, [], ◌∷◌, Option, Some, None, codes, fold}
 use Rattle.snippet_style.specs.declared.style.AnsiColor.{AnsiColor}
 use Rattle.snippet_style.specs.declared.style.AnsiColor.TheVariants.{Black, Red, Green, Yellow, Blue, Magenta, Cyan, White, BrightBlack, BrightRed, BrightGreen, BrightYellow, BrightBlue, BrightMagenta, BrightCyan, BrightWhite}
 use Rattle.snippet_style.specs.declared.style.Color.{Color}
@@ -7,43 +7,13 @@ use Rattle.snippet_style.specs.declared.style.Color.TheVariants.{Ansi, Ansi256, 
 use Rattle.snippet_style.specs.declared.style.Effects.{Effects}
 use Rattle.snippet_style.specs.declared.style.Style.{Style}
 use Rattle.snippet_style.specs.declared.stylesheet.Stylesheet.{Stylesheet}
+use Rattle.snippet_style.specs.Style.{joined_effects, no_effects, plain_style}
 use Rattle.snippet_style.specs.Stylesheet.{plain_sheet, default_sheet}
 use Rattle.serde_json.specs.Data.{Data}
 use Rattle.serde_json.specs.Find.{as_str, get}
 use Rattle.replay_read.specs.Field.{SaysAt, MaySayAt, ListSays, as_whole, number_at}
 use Rattle.replay_read.specs.declared.effect.EffectName.{EffectName}
 use Rattle.replay_read.specs.declared.effect.EffectName.TheVariants as effect
-
--- no effect, and a style without colours or effects
-abbrev pub no_effects : Effects
-no_effects =
-    record {
-      bold = false;
-      dimmed = false;
-      italic = false;
-      underline = false;
-      blink = false;
-      invert = false;
-      hidden = false;
-      strikethrough = false;
-    }
-
-abbrev pub plain_style : Style
-plain_style = record { fg = None; bg = None; effects = no_effects }
-
--- the effects of both
-abbrev pub joined_effects : Effects → Effects → Effects
-joined_effects some more =
-    record {
-      bold = some.bold || more.bold;
-      dimmed = some.dimmed || more.dimmed;
-      italic = some.italic || more.italic;
-      underline = some.underline || more.underline;
-      blink = some.blink || more.blink;
-      invert = some.invert || more.invert;
-      hidden = some.hidden || more.hidden;
-      strikethrough = some.strikethrough || more.strikethrough;
-    }
 
 -- the name of a colour of the terminal
 abbrev pub color_name : AnsiColor → List ℕ
@@ -105,6 +75,7 @@ abbrev pub MayBeEffects : Option Data → Effects → Type 0
 MayBeEffects None effects = effects ≡ no_effects
 MayBeEffects (Some d) effects = AreEffectsOf d effects
 
+-- a style: its colours and its effects, each of which may be missing
 pub record IsStyleOf (d : Data) (style : Style) : Type 0 where
   pub fg : MaySayAt IsColorOf (codes "fg") d style.fg
   pub bg : MaySayAt IsColorOf (codes "bg") d style.bg

@@ -19,6 +19,7 @@ not_first : (lines : List (List ℕ)) → first_after false lines ≡ false
 not_first [] = refl
 not_first (line ∷ lines) = refl
 
+-- whether a line is the first is told after two stretches of lines as after both at once
 pub first_twice : (is_first : Bool) (before lines : List (List ℕ)) → first_after is_first (before ++ lines) ≡ first_after (first_after is_first before) lines
 first_twice is_first [] lines = refl
 first_twice is_first (line ∷ before) lines = sym (not_first lines)
@@ -71,6 +72,7 @@ pub record HaveAnswered (form : Form) (is_first still_first : Bool) (held left o
   pub written : Appends old new (concat texts)
   pub still : still_first ≡ first_after is_first lines
 
+-- before any line is read nothing is answered
 pub answered_none : (form : Form) (is_first : Bool) (held left old : Option (List ℕ)) → left ≡ held → HaveAnswered form is_first is_first held left old old
 answered_none form is_first held left old is =
     record {
@@ -97,6 +99,7 @@ answered_more form is_first still_first held left next old mid out new line text
       still = sym (first_twice is_first h.lines (line ∷ []));
     }
 
+-- with one more line that is answered the lines so far are answered
 pub answered_step : {E : Type 0} (form : Form) (is_first still_first : Bool) (held left next old mid out new : Option (List ℕ))
     (r : Option (Result (String Global) E)) (line : Result (String Global) E) → HaveAnswered form is_first still_first held left old mid
     → r ≡ Some line → YieldsKnownPiece string_bytes first_line 10 left r next
@@ -106,6 +109,7 @@ answered_step form is_first still_first held left next old mid out new r (Ok x) 
     answered_more form is_first still_first held left next old mid out new (string_bytes x) answers.0 h (subst (λ item. YieldsKnownPiece string_bytes first_line 10 left item next) is gives) answers.1 answers.2 kept
 answered_step form is_first still_first held left next old mid out new r (Err e) h is gives answers kept = absurd answers
 
+-- once no line is left the reader is answered
 pub answered_all : {E : Type 0} (form : Form) (is_first still_first : Bool) (held left next old new : Option (List ℕ))
     (r : Option (Result (String Global) E)) → HaveAnswered form is_first still_first held left old new → r ≡ None
     → YieldsKnownPiece string_bytes first_line 10 left r next → AnswersReader form is_first still_first held old new

@@ -25,6 +25,7 @@ pub record HaveAnsweredReaders (Reader : Type 0) (bytes : Reader → Option (Lis
   pub all : AnswersReaders Reader bytes form count old new
   pub still : still_first ≡ first_after true (lines_of all.readers)
 
+-- before any reader is read nothing is answered
 pub readers_none : {Reader : Type 0} (bytes : Reader → Option (List ℕ)) (form : Form) (old : Option (List ℕ)) → HaveAnsweredReaders Reader bytes form 0 true old old
 readers_none bytes form old =
     record {
@@ -39,6 +40,7 @@ readers_none bytes form old =
       still = refl;
     }
 
+-- with one more reader that is answered the readers so far are answered
 pub readers_more : {Reader : Type 0} (bytes : Reader → Option (List ℕ)) (form : Form) (count : ℕ) (is_first still_first : Bool)
     (old mid new : Option (List ℕ)) (reader : Reader) → HaveAnsweredReaders Reader bytes form count is_first old mid
     → AnswersReader form is_first still_first (bytes reader) mid new → HaveAnsweredReaders Reader bytes form (count + 1) still_first old new

@@ -14,6 +14,7 @@ use Rattle.replay_run.specs.declared.outcome.Outcome.TheVariants.{Texts, Refused
 view-text : (text : String Global) → view (value.String text) ≡ string (string_bytes text)
 view-text text = search (rules, the_lemmas)
 
+-- the items of texts as values are those of the texts
 pub items_view-texts : (texts : List (String Global)) → items_view (map (λ text. value.String text) texts) ≡ text_items (map string_bytes texts)
 items_view-texts [] = refl
 items_view-texts (text ∷ texts) =
@@ -24,6 +25,7 @@ text_items-whole : (texts : List (List ℕ)) → items_have_float (text_items te
 text_items-whole [] = refl
 text_items-whole (text ∷ texts) = text_items-whole texts
 
+-- an answer holds no number with a fraction
 pub answer_of-whole : (id : List ℕ) (outcome : Outcome) → has_float (answer_of id outcome) ≡ false
 answer_of-whole id (Texts texts) = rw (text_items-whole (map string_bytes texts.items))
 answer_of-whole id (Refused name words span) = refl

@@ -20,6 +20,7 @@ apart a b xs ys differ same e =
 no_file : (name : Word) (ws : List Word) → AreFiles ((codes "--" ++ name) ∷ ws) → ⊥
 no_file name ws files = All-head (λ w. IsOption w → ⊥) (codes "--" ++ name) ws files (name, refl)
 
+-- what `--text` asks for names files
 pub asks_texts : (ws : List Word) (c : Command) → Asks (codes "--text" ∷ ws) c → AreFiles ws
 asks_texts ws (Answer Json files) h = absurd (no_file (codes "text") ws h.1)
 asks_texts ws (Answer Texts files) h =
@@ -31,6 +32,7 @@ asks_texts ws (Repeat times files) h =
     absurd (apart (codes "--text") (codes "--repeat") ws (h.0 ∷ words_at files.now) refl refl h.1)
 asks_texts ws Help h = absurd (apart (codes "--text") (codes "--help") ws [] refl refl h)
 
+-- what `--check` asks for names files in pairs
 pub asks_check : (ws : List Word) (c : Command) → Asks (codes "--check" ∷ ws) c → AreFiles ws × ArePairs ws
 asks_check ws (Answer Json files) h = absurd (no_file (codes "check") ws h.1)
 asks_check ws (Answer Texts files) h =
@@ -42,6 +44,7 @@ asks_check ws (Repeat times files) h =
     absurd (apart (codes "--check") (codes "--repeat") ws (h.0 ∷ words_at files.now) refl refl h.1)
 asks_check ws Help h = absurd (apart (codes "--check") (codes "--help") ws [] refl refl h)
 
+-- what `--repeat` asks for names a number and then files
 pub asks_repeat : (ws : List Word) (c : Command) → Asks (codes "--repeat" ∷ ws) c → (digits : Word) × (files : List Word) × (ws ≡ digits ∷ files) × IsNumber digits × AreFiles files
 asks_repeat ws (Answer Json files) h = absurd (no_file (codes "repeat") ws h.1)
 asks_repeat ws (Answer Texts files) h =
@@ -52,6 +55,7 @@ asks_repeat ws (Repeat times files) h =
     (h.0, words_at files.now, cc h.1, h.3, h.2)
 asks_repeat ws Help h = absurd (apart (codes "--repeat") (codes "--help") ws [] refl refl h)
 
+-- what `--help` asks for is the help alone
 pub asks_help : (ws : List Word) (c : Command) → Asks (codes "--help" ∷ ws) c → (ws ≡ []) × (c ≡ Help)
 asks_help ws (Answer Json files) h = absurd (no_file (codes "help") ws h.1)
 asks_help ws (Answer Texts files) h =

@@ -4,6 +4,7 @@ use Rattle.std.specs.Io.KnownBytes.{Appends, Keeps}
 use Rattle.std.proofs.lemmas.List.{append-nil}
 use Rattle.replay_run.specs.Growth.{Grows}
 
+-- what grows and grows again has grown
 pub grows_twice : (a b c : Option (List ℕ)) → Grows a b → Grows b c → Grows a c
 grows_twice None b c first then = ([], tt)
 grows_twice (Some x) None c first then = absurd first.1
@@ -20,6 +21,7 @@ pub appends_none : (a : Option (List ℕ)) → Appends a a []
 appends_none None = tt
 appends_none (Some x) = sym (append-nil x)
 
+-- two texts added one after the other are both added together
 pub appends_twice : (a b c : Option (List ℕ)) (first then : List ℕ) → Appends a b first → Appends b c then → Appends a c (first ++ then)
 appends_twice None b c first then one two = tt
 appends_twice (Some x) None c first then one two = absurd one
@@ -27,6 +29,7 @@ appends_twice (Some x) (Some y) None first then one two = absurd two
 appends_twice (Some x) (Some y) (Some z) first then one two =
     two ∙ ap (λ (l : List ℕ). l ++ then) one ∙ append_assoc x first then
 
+-- a text that was added is still added where nothing more is
 pub appends_kept : (a b c : Option (List ℕ)) (text : List ℕ) → Appends a b text → Keeps b c → Appends a c text
 appends_kept None b c text one kept = tt
 appends_kept (Some x) None c text one kept = absurd one

@@ -32,6 +32,7 @@ abbrev pub HaveJudgedKnown : (expected cases expected_left cases_left : Option (
 HaveJudgedKnown expected cases expected_left cases_left counts =
     IfSome expected (λ answers. IfSome cases (λ lines. HaveJudged answers lines expected_left cases_left counts))
 
+-- before any case is read none is judged
 pub judged_none : (expected cases expected_left cases_left : Option (List ℕ)) (counts : Counts) → expected_left ≡ expected → cases_left ≡ cases → counts.passed ≡ 0 → counts.failed ≡ 0 → HaveJudgedKnown expected cases expected_left cases_left counts
 judged_none None cases expected_left cases_left counts answers_are lines_are passed failed = tt
 judged_none (Some answers) None expected_left cases_left counts answers_are lines_are passed failed = tt
@@ -80,6 +81,7 @@ judged_more (Some answers) (Some lines) expected_left cases_left expected_next c
       );
     }
 
+-- once no case is left all are counted
 pub judged_all : (expected cases expected_left cases_left : Option (List ℕ)) (counts : Counts) → HaveJudgedKnown expected cases expected_left cases_left counts → IsAtEnd expected_left → IsAtEnd cases_left → CountsLines expected cases counts
 judged_all None cases _ _ _ h answers lines = tt
 judged_all (Some answers) None _ _ _ h no_answers no_lines = tt
@@ -104,6 +106,7 @@ no_files bytes counts passed failed =
 bounded : (a b top sum : ℕ) → a ≡ min sum top → min (a + b) top ≡ min (sum + b) top
 bounded a b top sum is = rw is (omega arith)
 
+-- with one more pair of files that is counted the pairs so far are counted
 pub one_more : {File : Type 0} (bytes : File → Option (List ℕ)) (pairs : ℕ) (counts more all : Counts) (expected cases : File)
     → CountsFiles File bytes pairs counts → CountsLines (bytes expected) (bytes cases) more → all.passed ≡ min (counts.passed + more.passed) most
     → all.failed ≡ min (counts.failed + more.failed) most → CountsFiles File bytes (pairs + 1) all
@@ -125,6 +128,7 @@ pub ended : {E : Type 0} (old new : Option (List ℕ)) (r : Option (Result (Stri
 ended old new r is piece =
     subst (λ next. YieldsKnownPiece string_bytes first_line 10 old next new) is piece
 
+-- with one more case that is judged the cases so far are counted
 pub judged_step : {E F : Type 0} (expected cases expected_left cases_left expected_next cases_next : Option (List ℕ)) (counts more : Counts)
     (a : Option (Result (String Global) E)) (l : Option (Result (String Global) F)) (answer : Result (String Global) E)
     (line : Result (String Global) F) (passes : Bool) → HaveJudgedKnown expected cases expected_left cases_left counts → a ≡ Some answer
@@ -143,6 +147,7 @@ pub passes_if_none : (passes : Bool) (before after : ℕ) → after ≡ before +
 passes_if_none true before after is none = (omega arith, refl)
 passes_if_none false before after is none = absurd (omega arith)
 
+-- a case more counts once, as passed or as failed
 pub passes_counted : (passes : Bool) (p f q h n : ℕ) → q ≡ p + (if passes then 1 else 0) → h ≡ f + (if passes then 0 else 1) → p + f + 1 ≡ n → q + h + 1 ≡ n + 1
 passes_counted true p f q h n passed failed counted = omega arith
 passes_counted false p f q h n passed failed counted = omega arith

@@ -134,6 +134,7 @@ pub record Continues (words rest : List Word) (options : Options) : Type 0 where
 pub continues_none : (words : List Word) → Continues words words no_options
 continues_none words = record { reads = λ line h. (line, h, λ c says. says); form = λ next h. (next, h, λ c says. says) }
 
+-- the options are read on after one more sound setting
 pub continues_more : (words rest after : List Word) (old new : Options) (s : Setting) → Continues words rest old → IsSound s → rest ≡ words_of s ++ after → new ≡ options_with old s → Continues words after new
 continues_more words rest after old new s so_far sound begins set =
     record {

@@ -21,10 +21,12 @@ slice_index_or-changed_within_inside f start end xs k d from before within =
     let same : get_or mid (k - start) d ≡ get_or xs k d = grind (arith, places) in
     read ∙ get_or-map f mid (k - start) d d inside ∙ ap f same
 
+-- an element left of the stretch that is changed stays
 pub slice_index_or-changed_within_before : {X : Type 0} (f : X → X) (start end : ℕ) (xs : List X) (k : ℕ) (d : X) → k < start → slice_index_or (changed_within f start end xs) k d ≡ slice_index_or xs k d
 unfolding changed_within
 slice_index_or-changed_within_before f start end xs k d before = grind (arith, places, length-map, get_or_past)
 
+-- an element right of the stretch that is changed stays
 pub slice_index_or-changed_within_after : {X : Type 0} (f : X → X) (start end : ℕ) (xs : List X) (k : ℕ) (d : X) → end ≤ k → slice_index_or (changed_within f start end xs) k d ≡ slice_index_or xs k d
 unfolding changed_within
 slice_index_or-changed_within_after f start end xs k d after = grind (arith, places, length-map, get_or_past, cases_lt k start)

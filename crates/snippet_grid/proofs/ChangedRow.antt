@@ -114,6 +114,7 @@ put_span now mid new runs_now runs_new part changed row col to change grows are 
       ]
     ]
 
+-- with one more part changed and put, the row is changed up to the part's end
 pub change_next : (old now mid new : List ℕ) (runs_old runs_now runs_new : List Run) (part changed : Run) (row from to : ℕ) (change : Change)
     (col : ℕ) → ChangeSoFar old now runs_old runs_now row from to change col → BeginsWith now mid → BeginsWith mid new
     → IsPartOfRow mid row col to (λ c. shown now runs_now row c) part → IsChanged change part changed → IsPut mid new runs_now runs_new changed

@@ -18,12 +18,15 @@ use Rattle.snippet_grid.specs.declared.runs.Run.{Run}
 abbrev pub is_copied : ℕ → ℕ → ℕ → ℕ → Bool
 is_copied from to at c = nat_le at c && nat_lt c (at + (to - from))
 
+-- a column of the copy is copied to
 pub copied_yes : (from to at c : ℕ) → at ≤ c → c < at + (to - from) → is_copied from to at c ≡ true
 copied_yes from to at c low high = and_from _ _ (le-leb at c low) (lt-ltb c (at + (to - from)) high)
 
+-- a column left of the copy isn't copied to
 pub copied_before : (from to at c : ℕ) → c < at → is_copied from to at c ≡ false
 copied_before from to at c before = and_left _ _ (lt-leb at c before)
 
+-- a column right of the copy isn't copied to
 pub copied_after : (from to at c : ℕ) → at + (to - from) ≤ c → is_copied from to at c ≡ false
 copied_after from to at c after = and_right _ _ (le-ltb c (at + (to - from)) after)
 
@@ -55,6 +58,7 @@ pub record CopySoFar (old now : List ℕ) (out_old out_now runs : List Run) (row
   pub shows : ShowsCopy old now out_old out_now (take n runs) from to at
   pub count : length out_now ≤ length out_old + num_touched from to (take n runs)
 
+-- before any run is copied the row is as it was
 pub copy_start : (old : List ℕ) (out runs : List Run) (row from to at : ℕ) → IsRow old row out → EndsBy at out → CopySoFar old old out out runs row from to at 0
 copy_start old out runs row from to at is ends =
     record {
@@ -134,6 +138,7 @@ shown_more : (text : List ℕ) (runs : List Run) (n r c : ℕ) (d : Run) → n <
 shown_more text runs n r c d within =
     ap (λ (xs : List Run). shown text xs r c) (take_more runs n d within) ∙ painted-append text r c SPACE (take n runs) (get_or runs n d ∷ [])
 
+-- with one more run copied the runs so far are copied
 pub copy_next : (old now new : List ℕ) (out_old out_now out_new runs : List Run) (run part piece : Run) (row from to at n start end : ℕ)
     → n < length runs → run ≡ get_or runs n run → IsRow old row runs → CopySoFar old now out_old out_now runs row from to at n
     → IsPart now run start end part → start ≡ max run.cell from → end ≡ min (run.cell + run.count) to → start < end → piece.row ≡ row

@@ -35,6 +35,7 @@ pub record CutSoFar (count : ℕ) (cs : List ℕ) (n at left : ℕ) : Type 0 whe
   pub bytes : at ≡ bytes_of (take n cs)
   pub left_is : left + n ≡ count
 
+-- a cut moves on past one more character
 pub cut_next : (count : ℕ) (cs : List ℕ) (n m at left c len : ℕ) → IsNext cs n c → m ≡ n + 1 → 0 < left → len ≡ length (encode_utf8 c) → CutSoFar count cs n at left → CutSoFar count cs m (at + len) (left - 1)
 cut_next count cs n m at left c len next one some is_len so_far =
     let front = ap (λ k. take k cs) one ∙ take-next cs n c next in
@@ -43,11 +44,13 @@ cut_next count cs n m at left c len next one some is_len so_far =
       left_is = omega (arith, so_far.left_is);
     }
 
+-- a cut that has no character left to pass stands after the first characters
 pub cut_here : (count : ℕ) (cs : List ℕ) (n at left : ℕ) → left ≡ 0 → CutSoFar count cs n at left → at ≡ bytes_of (take count cs)
 cut_here count cs n at left none so_far =
     let same : n ≡ count = omega (arith, so_far.left_is) in
     so_far.bytes ∙ ap (λ k. bytes_of (take k cs)) same
 
+-- a cut that has passed all characters stands after the first characters
 pub cut_all : (count : ℕ) (cs : List ℕ) (n at left : ℕ) → length cs ≤ n → count ≤ length cs → CutSoFar count cs n at left → at ≡ bytes_of (take count cs)
 cut_all count cs n at left all within so_far =
     let same : n ≡ count = omega (arith, so_far.left_is) in

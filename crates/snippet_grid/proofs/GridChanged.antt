@@ -80,10 +80,12 @@ pub record IsExchanged (old new : List ℕ) (runs now fresh : List Run) (row sta
   pub is_row : IsRow new row fresh
   pub is : now ≡ take start runs ++ fresh ++ drop end runs
 
+-- runs that are put in one row leave each other row as it was
 pub put_elsewhere : (old new : List ℕ) (runs now fresh : List Run) (row start end r c : ℕ) → IsExchanged old new runs now fresh row start end → r ≢ row → shown new now r c ≡ shown old runs r c
 put_elsewhere old new runs now fresh row start end r c put other =
     put_others new runs now fresh row start end r c put.at put.is_row.in_row put.is other ∙ painted-grown old new r c SPACE runs put.grows put.are_runs
 
+-- runs that are put in for others leave a grid, where they fit the widths
 pub IsGrid-put : (old new : List ℕ) (runs now fresh : List Run) (w v : List ℕ) (row start end : ℕ) → IsExchanged old new runs now fresh row start end → FitIn v now → IsGrid new now v
 IsGrid-put old new runs now fresh w v row start end put fit =
     record {
@@ -93,10 +95,12 @@ IsGrid-put old new runs now fresh w v row start end put fit =
       inside = fit;
     }
 
+-- runs that are put in for others fit the widths, where those before did
 pub FitIn-put : (old new : List ℕ) (runs now fresh : List Run) (w : List ℕ) (row start end : ℕ) → IsExchanged old new runs now fresh row start end → FitIn w runs → (EndsBy (get_or w row 0) (stretch runs start end) → EndsBy (get_or w row 0) fresh) → FitIn w now
 FitIn-put old new runs now fresh w row start end put fit ends =
     inside-put w new runs now fresh row start end put.at.ordered put.at.within put.at.inside fit put.is_row ends put.is
 
+-- a grid whose runs show changed cells in a stretch is that grid with its cells changed there
 pub grid_changed : (f : Cell → Cell) (old new : List ℕ) (runs now fresh : List Run) (w : List ℕ) (row start end last from to : ℕ)
     → IsExchanged old new runs now fresh row from to → last ≡ min end (get_or w row 0) → FitIn w runs → FitIn w now
     → ShowsSpan old new (stretch runs from to) fresh row start last (λ c. f (shown old (stretch runs from to) row c))

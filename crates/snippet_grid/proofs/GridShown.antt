@@ -17,10 +17,12 @@ use Rattle.snippet_grid.specs.Runs.{IsRun, BeginsWith, ShowsMore, FitIn, IsGrid,
 use Rattle.snippet_style.specs.declared.role.ElementStyle.{ElementStyle}
 use Rattle.snippet_grid.specs.declared.runs.Run.{Run}
 
+-- a shown grid has a row for each width
 pub count_shown : (text : List ℕ) (runs : List Run) (widths : List ℕ) → length (grid_shown text runs widths) ≡ length widths
 unfolding grid_shown
 count_shown text runs widths = length-map-range_with_len (λ r. map (λ c. shown text runs r c) (range_with_len 0 (get_or widths r 0))) 0 (length widths)
 
+-- a row of a shown grid is its cells, up to the row's width
 pub row_shown : (text : List ℕ) (runs : List Run) (widths : List ℕ) (r : ℕ) → row_at (grid_shown text runs widths) r ≡ map (λ c. shown text runs r c) (range_with_len 0 (get_or widths r 0))
 unfolding grid_shown
 row_shown text runs widths r =
@@ -30,6 +32,7 @@ row_shown text runs widths r =
       | inr past ↦ get_or_past (map line (range_with_len 0 (length widths))) r [] (omega (arith, length-map-range_with_len line 0 (length widths))) ∙ sym (ap (λ n. map (λ c. shown text runs r c) (range_with_len 0 n)) (get_or_past widths r 0 past))
     ]
 
+-- a row of a shown grid is as long as its width says
 pub width_shown : (text : List ℕ) (runs : List Run) (widths : List ℕ) (r : ℕ) → length (row_at (grid_shown text runs widths) r) ≡ get_or widths r 0
 width_shown text runs widths r =
     ap length (row_shown text runs widths r) ∙ length-map-range_with_len (λ c. shown text runs r c) 0 (get_or widths r 0)
@@ -46,6 +49,7 @@ unheld text widths r c d (run ∷ runs) fit past =
     ] in
     ap (λ (cell : Cell). painted text r c cell runs) (pick (run_cell text run c) d no) ∙ rest
 
+-- a cell of a shown grid is what the runs show there
 pub cell_shown : (text : List ℕ) (runs : List Run) (widths : List ℕ) (r c : ℕ) → FitIn widths runs → cell_at (grid_shown text runs widths) r c ≡ shown text runs r c
 cell_shown text runs widths r c fit =
     let line = λ (k : ℕ). shown text runs r k in
@@ -126,6 +130,7 @@ WritesCells-shown old mid new runs now w v run row at role word grows are fit_ol
       count = count_shown new now v ∙ wide.count ∙ ap (λ n. max n (row + 1)) (sym (count_shown old runs w));
     }
 
+-- a grid whose runs show a word put in is that grid with the word's cells written
 pub grid_written : (old mid new : List ℕ) (runs now : List Run) (w v : List ℕ) (run : Run) (row at : ℕ) (role : ElementStyle) (word : List ℕ)
     → BeginsWith old mid → All (λ x. IsRun old x) runs → FitIn w runs → FitIn v now → IsWord mid row at role word run → ShowsMore mid new runs now run
     → IsWidened w v row (at + length (chars word))
@@ -174,6 +179,7 @@ FitIn-widened w v row end runs wide fit =
 pub word_end : (text : List ℕ) (row at : ℕ) (role : ElementStyle) (word : List ℕ) (run : Run) → IsWord text row at role word run → run.cell + run.count ≡ at + length (chars word)
 word_end text row at role word run is = omega (arith, is.cell_is, is.is_run.counted, ap length is.chars_are)
 
+-- widths that are widened are so also where they are called otherwise
 pub IsWidened-to : (old was new : List ℕ) (row m n : ℕ) → old ≡ was → m ≡ n → IsWidened old new row m → IsWidened was new row n
 IsWidened-to old was new row m n same end wide =
     subst (λ (w : List ℕ). IsWidened w new row n) same (subst (λ k. IsWidened old new row k) end wide)
@@ -184,6 +190,7 @@ IsGrid-grown old new runs now w v grows same widths grid =
     let here : IsGrid new runs w = record { are_runs = All-IsRun-grown old new runs grows grid.are_runs; ordered = grid.ordered; apart = grid.apart; inside = grid.inside } in
     subst (λ (l : List Run). IsGrid new l v) (sym same) (subst (λ (x : List ℕ). IsGrid new runs x) (sym widths) here)
 
+-- a text that has grown shows the same grid of the same runs
 pub grid_grown : (old new : List ℕ) (runs now : List Run) (w v : List ℕ) → BeginsWith old new → now ≡ runs → v ≡ w → IsGrid old runs w → grid_shown new now v ≡ grid_shown old runs w
 grid_grown old new runs now w v grows same widths grid =
     ap (λ (l : List Run). grid_shown new l v) same ∙ ap (λ (x : List ℕ). grid_shown new runs x) widths ∙ grid_same old new runs runs w (λ r c. painted-grown old new r c SPACE runs grows grid.are_runs)
@@ -219,6 +226,7 @@ pub IsGrid-read : (t s : List ℕ) (runs now : List Run) (w v : List ℕ) → s 
 IsGrid-read t s runs now w v text same widths grid =
     subst (λ (x : List ℕ). IsGrid x now v) (sym text) (subst (λ (l : List Run). IsGrid t l v) (sym same) (subst (λ (x : List ℕ). IsGrid t runs x) (sym widths) grid))
 
+-- the same text, runs and widths show the same grid
 pub grid_read : (t s : List ℕ) (runs now : List Run) (w v : List ℕ) → s ≡ t → now ≡ runs → v ≡ w → grid_shown s now v ≡ grid_shown t runs w
 grid_read t s runs now w v text same widths =
     ap (λ (x : List ℕ). grid_shown x now v) text ∙ ap (λ (l : List Run). grid_shown t l v) same ∙ ap (λ (x : List ℕ). grid_shown t runs x) widths

@@ -12,6 +12,7 @@ pub on_ok_two : {T E P Q S : Type 0} (r : Result T E) → (P → Q → S) → On
 on_ok_two (Ok x) f p q = f p q
 on_ok_two (Err e) f p q = tt
 
+-- what follows from three facts holds on success where these do
 pub on_ok_three : {T E P Q R S : Type 0} (r : Result T E) → (P → Q → R → S) → OnOk r P → OnOk r Q → OnOk r R → OnOk r S
 on_ok_three (Ok x) f p q s = f p q s
 on_ok_three (Err e) f p q s = tt

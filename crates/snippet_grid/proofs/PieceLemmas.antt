@@ -50,6 +50,7 @@ unheld_after r c runs all =
       | inr other ↦ holds_elsewhere (get_or runs k d) r c other
     ]
 
+-- no runs are a row
 pub IsRow-none : (text : List ℕ) (row : ℕ) → IsRow text row []
 IsRow-none text row =
     record {
@@ -126,6 +127,7 @@ front_first text first runs run left is before cut =
       one = omega arith;
     }
 
+-- the front of the first touched run is what of it stands left of the run that is put in
 pub IsFront-some : (text : List ℕ) (runs : List Run) (run first left : Run) → IsTouched text run runs → 0 < length runs → first ≡ get_or runs 0 first → first.cell < run.cell → IsPart text first first.cell run.cell left → IsFront text runs run (left ∷ [])
 IsFront-some text [] run first left is some read before cut = absurd (omega arith)
 IsFront-some text (x ∷ runs) run first left is some read before cut =

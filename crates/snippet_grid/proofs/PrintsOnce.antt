@@ -112,6 +112,7 @@ pieces_once sheet level ps qs [] a b = a ∙ sym b
 pieces_once sheet level ps qs (row ∷ rows) (first, others, a_is, a, a_below) (first2, others2, b_is, b, b_below) =
     a_is ∙ rows_once sheet level first first2 others others2 row a b (further_once sheet level others others2 rows a_below b_below) ∙ sym b_is
 
+-- rows are printed as one text only
 pub Prints-unique : (sheet : Stylesheet) (level : LevelInner) (rows : List (List Cell)) (text other : List ℕ) → Prints sheet level rows text → Prints sheet level rows other → other ≡ text
 Prints-unique sheet level rows text other a b =
     b.text_is ∙ ap (flat_map piece_text) (pieces_once sheet level b.pieces a.pieces rows b.prints a.prints) ∙ sym a.text_is

@@ -10,9 +10,11 @@ use Rattle.snippet_style.specs.Cell.{Cell, SPACE}
 use Rattle.snippet_grid.specs.Runs.{IsRun, BeginsWith, AddsRun, IsRow, EndsBy, FitIn, Precedes, Differ, run_cell, painted, shown}
 use Rattle.snippet_grid.specs.declared.runs.Run.{Run}
 
+-- runs that stand in order of rows and cells
 abbrev pub AreOrdered : List Run → Type 0
 AreOrdered runs = AllPairs (λ a b. Precedes a b) runs
 
+-- runs of which no two share a cell
 abbrev pub AreApart : List Run → Type 0
 AreApart runs = AllPairs (λ a b. Differ a b) runs
 
@@ -30,6 +32,7 @@ Precedes-trans a b c first second =
 abbrev pub AllFit : List Run → Type 0
 AllFit runs = All (λ x. x.cell + x.count < 2 ^ 64) runs
 
+-- runs of a text fit
 pub fits_all : (text : List ℕ) (runs : List Run) → All (λ x. IsRun text x) runs → AllFit runs
 fits_all text runs are = λ k d within. (are k d within).fits
 
@@ -44,6 +47,7 @@ all_before runs run d some ordered last =
       | inr other ↦ Precedes-trans (get_or runs k e) (get_or runs (length runs - 1) e) run (ordered k (length runs - 1) e (omega arith) (omega arith)) last_e
     ]
 
+-- a later one of ordered runs stands in the same row or in a lower one
 pub rows_rise : (runs : List Run) (i j : ℕ) (d : Run) → AreOrdered runs → i ≤ j → j < length runs → (get_or runs i d).row ≤ (get_or runs j d).row
 rows_rise runs i j d ordered below within =
     elim (cases_eq i j) [
@@ -64,6 +68,7 @@ rows_above runs start end row d e ordered low high some other last =
       | inr differs ↦ omega arith
     ]
 
+-- a row of runs is a row also once the text has grown
 pub IsRow-grown : (old new : List ℕ) (row : ℕ) (runs : List Run) → BeginsWith old new → IsRow old row runs → IsRow new row runs
 IsRow-grown old new row runs grows is =
     record { are_runs = All-IsRun-grown old new runs grows is.are_runs; in_row = is.in_row; ordered = is.ordered; apart = is.apart }
@@ -100,6 +105,7 @@ pub painted_outer : (text : List ℕ) (r c : ℕ) (xs ys zs : List Run) → All 
 painted_outer text r c xs ys zs none =
     painted-append text r c SPACE (xs ++ ys) zs ∙ ap (λ (d : Cell). painted text r c d zs) (painted-append text r c SPACE xs ys ∙ painted_elsewhere text r c (shown text xs r c) ys none)
 
+-- what holds of the pairs of two lists and of each pair across holds of the pairs of both together
 pub AllPairs-append : {X : Type 0} (R : X → X → Type 0) (xs ys : List X) → AllPairs R xs → AllPairs R ys → ((i j : ℕ) (d : X) → i < length xs → j < length ys → R (get_or xs i d) (get_or ys j d)) → AllPairs R (xs ++ ys)
 AllPairs-append R xs ys left right across =
     λ i j d below within.
@@ -139,6 +145,7 @@ are_runs-put old new runs now fresh row start end grows are is_row is =
     let all : All (λ x. IsRun new x) runs = All-IsRun-grown old new runs grows are in
     subst (λ (l : List Run). All (λ x. IsRun new x) l) (sym is) (All-append (λ x. IsRun new x) (take start runs ++ fresh) (drop end runs) (All-append (λ x. IsRun new x) (take start runs) fresh (All-take (λ x. IsRun new x) start runs all) is_row.are_runs) (All-drop (λ x. IsRun new x) end runs all))
 
+-- runs with a row put in between lower and higher rows stand in order
 pub ordered-put : (new : List ℕ) (runs now fresh : List Run) (row start end : ℕ) → start ≤ end → end ≤ length runs
     → ((k : ℕ) (d : Run) → k < start → (get_or runs k d).row < row) → ((k : ℕ) (d : Run) → end ≤ k → k < length runs → row < (get_or runs k d).row)
     → AreOrdered runs → IsRow new row fresh → now ≡ take start runs ++ fresh ++ drop end runs → AreOrdered now
@@ -182,6 +189,7 @@ AllPairs-take R n xs pairs =
     let long : j < length xs = omega (arith, within, length-take n xs) in
     subst (λ z. R (get_or (take n xs) i d) z) (sym (get_or-take n xs j d short)) (subst (λ z. R z (get_or xs j d)) (sym (get_or-take n xs i d (omega arith))) (pairs i j d before long))
 
+-- what holds of the pairs of a list holds of those of its rest
 pub AllPairs-drop : {X : Type 0} (R : X → X → Type 0) (n : ℕ) (xs : List X) → AllPairs R xs → AllPairs R (drop n xs)
 AllPairs-drop R n xs pairs =
     λ i j d before within.
@@ -202,6 +210,7 @@ apart-put new runs now fresh row start end low high above below apart is_row is 
     let front_rows : All (λ x. x.row ≤ row) (xs ++ fresh) = All-append (λ x. x.row ≤ row) xs fresh (λ k d within. omega (arith, xs_rows k d within)) (λ k d within. omega (arith, is_row.in_row k d within)) in
     subst (λ (l : List Run). AreApart l) (sym is) (AllPairs-append (λ a b. Differ a b) (xs ++ fresh) zs front (AllPairs-drop (λ a b. Differ a b) end runs apart) (λ i j d i_within j_within goes. absurd (omega (arith, front_rows i d i_within, zs_rows j d j_within, goes.row))))
 
+-- runs with a row put in fit the widths, where those before did
 pub inside-put : (widths : List ℕ) (new : List ℕ) (runs now fresh : List Run) (row start end : ℕ) → start ≤ end → end ≤ length runs
     → ((k : ℕ) (d : Run) → start ≤ k → k < end → (get_or runs k d).row ≡ row) → FitIn widths runs → IsRow new row fresh
     → (EndsBy (get_or widths row 0) (stretch runs start end) → EndsBy (get_or widths row 0) fresh) → now ≡ take start runs ++ fresh ++ drop end runs

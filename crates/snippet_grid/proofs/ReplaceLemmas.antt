@@ -17,6 +17,7 @@ pub replaced_empty : {X : Type 0} (start end : ℕ) (new xs : List X) → end �
 unfolding replaced_within
 replaced_empty start end new xs none = grind arith
 
+-- a replacement that would end right of the list changes nothing
 pub replaced_past : {X : Type 0} (start end : ℕ) (new xs : List X) → length xs < end → replaced_within start end new xs ≡ xs
 unfolding replaced_within
 replaced_past start end new xs past = grind arith
@@ -54,10 +55,12 @@ cells_replaced_kept rows row start end cells kept =
       | inr past ↦ changed_within_none change row (row + 1) rows (omega arith)
     ]
 
+-- replacing an empty stretch that ends where it starts or earlier changes nothing
 pub cells_replaced_empty : (rows : List (List Cell)) (row start end : ℕ) (cells : List Cell) → end ≤ start → cells_replaced rows row start end cells ≡ rows
 cells_replaced_empty rows row start end cells none =
     cells_replaced_kept rows row start end cells (replaced_empty start end cells (row_at rows row) none)
 
+-- replacing a stretch that ends right of the row changes nothing
 pub cells_replaced_past : (rows : List (List Cell)) (row start end : ℕ) (cells : List Cell) → length (row_at rows row) < end → cells_replaced rows row start end cells ≡ rows
 cells_replaced_past rows row start end cells past =
     cells_replaced_kept rows row start end cells (replaced_past start end cells (row_at rows row) past)

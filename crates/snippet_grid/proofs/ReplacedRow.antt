@@ -104,6 +104,7 @@ ReplacesCells-unique old a b row start end cells some within one two =
       ]
     ]) (λ r other. one.others r other ∙ sym (two.others r other))
 
+-- a grid whose runs show a stretch replaced is that grid with its cells replaced
 pub grid_replaced : (old new : List ℕ) (runs now fresh : List Run) (w v : List ℕ) (row start end from to : ℕ) (cells : List Cell)
     → IsExchanged old new runs now fresh row from to → start < end → end ≤ get_or w row 0 → FitIn w runs → FitIn v now → length v ≡ length w
     → get_or v row 0 + (end - start) ≡ get_or w row 0 + length cells → ((r : ℕ) → r ≢ row → get_or v r 0 ≡ get_or w r 0)

@@ -44,14 +44,17 @@ put_others text runs now fresh row start end r c at in_row is other =
     ∙ sym (ap (λ (l : List Run). shown text l r c) (split_three runs start end at.ordered at.within) ∙ painted_outer text r c (take start
     runs) (stretch runs start end) (drop end runs) (no_middle runs row start end r at other))
 
+-- as many runs are added as are put in, and as many are gone as stood there
 pub put_length : (runs now fresh : List Run) (row start end : ℕ) → RowAt runs row start end → now ≡ take start runs ++ fresh ++ drop end runs → length now + (end - start) ≡ length runs + length fresh
 put_length runs now fresh row start end at is =
     omega (arith, at.ordered, at.within, ap length is, length-append (take start runs ++ fresh) (drop end runs), length-append (take start runs) fresh, length-take start runs, length-drop end runs)
 
+-- the bounds of a row hold of the same runs under another name
 pub RowAt-read : (runs was : List Run) (row start end : ℕ) → was ≡ runs → RowAt was row start end → RowAt runs row start end
 RowAt-read runs was row start end same at =
     subst (λ (l : List Run). RowAt l row start end) same at
 
+-- a row's runs are as many as lie between its bounds
 pub length-stretch : (runs : List Run) (row start end : ℕ) → RowAt runs row start end → length (stretch runs start end) ≡ end - start
 length-stretch runs row start end at =
     omega (arith, at.ordered, at.within, length-take (end - start) (drop start runs), length-drop start runs)

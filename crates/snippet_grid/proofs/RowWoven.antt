@@ -17,6 +17,7 @@ use Rattle.snippet_grid.specs.declared.runs.Run.{Run}
 use Rattle.snippet_style.specs.declared.style.Style.{Style}
 use Rattle.snippet_style.specs.declared.stylesheet.Stylesheet.{Stylesheet}
 
+-- a cell that no run holds is as it was before any is painted
 pub painted_unheld : (text : List ℕ) (r c : ℕ) (d : Cell) (runs : List Run) → All (λ x. holds x r c ≡ false) runs → painted text r c d runs ≡ d
 painted_unheld text r c d [] none = refl
 painted_unheld text r c d (run ∷ runs) none =
@@ -69,6 +70,7 @@ pub record WovenTo (sheet : Stylesheet) (level : LevelInner) (text : List ℕ) (
   pub after : (k : ℕ) (d : Run) → k < n → k < length runs → (get_or runs k d).cell + (get_or runs k d).count ≤ col
   pub ahead : (k : ℕ) (d : Run) → n ≤ k → k < length runs → col ≤ (get_or runs k d).cell
 
+-- before any cell is woven nothing is added
 pub woven_start : (sheet : Stylesheet) (level : LevelInner) (text : List ℕ) (runs : List Run) (row : ℕ) (old : List ℕ) → WovenTo sheet level text runs row 0 0 sheet.none None old old
 woven_start sheet level text runs row old =
     record { goes = λ rest more prints. record { pieces = rest; text_is = refl; prints = prints }; after = λ k d before within. absurd (omega arith); ahead = λ k d follows within. omega arith }

@@ -45,6 +45,7 @@ runs_before rows runs (suc k) d ordered some inside within =
       | inr other ↦ omega (arith, so_far, one, inside k d (omega arith), above_next rows x.row, above_rises rows (suc x.row) y.row (omega (arith, gap.rows, other)))
     ]
 
+-- a grid has no more runs than cells
 pub few_runs : (text : List ℕ) (runs : List Run) (widths : List ℕ) → IsGrid text runs widths → length runs ≤ num_cells (grid_shown text runs widths)
 few_runs text runs widths grid =
     let rows = grid_shown text runs widths in

@@ -13,6 +13,7 @@ use Rattle.snippet_style.specs.declared.role.ElementStyle.TheVariants.{MainHeade
 abbrev pub none : Run
 none = record { row = 0; cell = 0; count = 0; start = 0; end = 0; role = MainHeaderMsg; link = None }
 
+-- a run has the same bytes once the text has grown
 pub run_bytes-grown : (old new : List ℕ) (run : Run) → BeginsWith old new → IsRun old run → run_bytes new run ≡ run_bytes old run
 run_bytes-grown old new run grows is = stretch_grown old new run.start run.end grows is.within
 
@@ -29,13 +30,16 @@ IsRun-grown old new run grows is =
       fits = is.fits;
     }
 
+-- a run starts between two characters
 pub starts_at_boundary : (text : List ℕ) (run : Run) → IsUtf8 text → IsRun text run → IsCharBoundary text run.start
 starts_at_boundary text run whole is =
     boundary text run.start whole (omega (arith, is.ordered, is.within)) is.starts
 
+-- a run ends between two characters
 pub ends_at_boundary : (text : List ℕ) (run : Run) → IsUtf8 text → IsRun text run → IsCharBoundary text run.end
 ends_at_boundary text run whole is = boundary text run.end whole is.within is.ends
 
+-- the bytes of a run are UTF-8
 pub IsUtf8-run_bytes : (text : List ℕ) (run : Run) → IsUtf8 text → IsRun text run → IsUtf8 (run_bytes text run)
 IsUtf8-run_bytes text run whole is =
     IsUtf8-stretch text run.start run.end whole is.ordered is.within is.starts is.ends

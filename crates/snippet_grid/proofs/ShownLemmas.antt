@@ -12,15 +12,18 @@ use Rattle.snippet_style.specs.Cell.{Cell, SPACE}
 use Rattle.snippet_grid.specs.Runs.{IsRun, IsJoined, Continues, BeginsWith, ShowsMore, run_chars, run_cell, holds, painted, shown, Precedes, Differ, AddsRun}
 use Rattle.snippet_grid.specs.declared.runs.Run.{Run}
 
+-- painting two lists of runs is painting one after the other
 pub painted-append : (text : List ℕ) (r c : ℕ) (d : Cell) (xs ys : List Run) → painted text r c d (xs ++ ys) ≡ painted text r c (painted text r c d xs) ys
 painted-append text r c d [] ys = refl
 painted-append text r c d (run ∷ xs) ys =
     painted-append text r c (if holds run r c then run_cell text run c else d) xs ys
 
+-- a run shows the same cells once the text has grown
 pub run_cell-grown : (old new : List ℕ) (run : Run) (c : ℕ) → BeginsWith old new → IsRun old run → run_cell new run c ≡ run_cell old run c
 run_cell-grown old new run c grows is =
     ap (λ (bytes : List ℕ). (let cell : Cell = record { ch = get_or (chars bytes) (c - run.cell) 32; role = run.role; link = option_copied run.link } in cell)) (run_bytes-grown old new run grows is)
 
+-- what holds of each of a list holds of each after the first
 pub All-tail : {X : Type 0} (P : X → Type 0) (x : X) (xs : List X) → All P (x ∷ xs) → All P xs
 All-tail P x xs all = λ k d within. all (suc k) d (omega arith)
 
@@ -30,6 +33,7 @@ painted-grown old new r c d [] grows are = refl
 painted-grown old new r c d (run ∷ runs) grows are =
     ap (λ (cell : Cell). painted new r c (if holds run r c then cell else d) runs) (run_cell-grown old new run c grows (are 0 run (omega arith))) ∙ painted-grown old new r c (if holds run r c then run_cell old run c else d) runs grows (All-tail (λ x. IsRun old x) run runs are)
 
+-- runs of a text are runs of it also once it has grown
 pub All-IsRun-grown : (old new : List ℕ) (runs : List Run) → BeginsWith old new → All (λ run. IsRun old run) runs → All (λ run. IsRun new run) runs
 All-IsRun-grown old new runs grows are = λ k d within. IsRun-grown old new (get_or runs k d) grows (are k d within)
 
@@ -38,18 +42,23 @@ pub holds_inside : (run : Run) (r c : ℕ) → run.row ≡ r → run.cell ≤ c 
 holds_inside run r c row low high =
     and_from _ _ (eq-eqb run.row r row) (and_from _ _ (le-leb run.cell c low) (lt-ltb c (run.cell + run.count) high))
 
+-- a run holds no cell of another row
 pub holds_elsewhere : (run : Run) (r c : ℕ) → (run.row ≡ r → ⊥) → holds run r c ≡ false
 holds_elsewhere run r c other = and_left _ _ (ne_eqb run.row r other)
 
+-- a run holds no cell left of its first
 pub holds_before : (run : Run) (r c : ℕ) → c < run.cell → holds run r c ≡ false
 holds_before run r c before = and_right _ _ (and_left _ _ (lt-leb run.cell c before))
 
+-- a run holds no cell right of its last
 pub holds_after : (run : Run) (r c : ℕ) → run.cell + run.count ≤ c → holds run r c ≡ false
 holds_after run r c after = and_right _ _ (and_right _ _ (le-ltb c (run.cell + run.count) after))
 
+-- a choice by one test is the same by a test that answers the same
 pub pick : {X : Type 0} {b v : Bool} (x y : X) → b ≡ v → (if b then x else y) ≡ (if v then x else y)
 pick x y is = ap (λ (t : Bool). if t then x else y) is
 
+-- cells with the same character, role and link are the same
 pub cell_same : (a b : Cell) → a.ch ≡ b.ch → a.role ≡ b.role → a.link ≡ b.link → a ≡ b
 cell_same a b ch role link =
     ap (λ (x : ℕ). (let cell : Cell = record { ch = x; role = a.role; link = a.link } in cell)) ch ∙ ap (λ x. (let cell : Cell = record { ch = b.ch; role = x; link = a.link } in cell)) role ∙ ap (λ (x : Option (List ℕ)). (let cell : Cell = record { ch = b.ch; role = b.role; link = x } in cell)) link
@@ -169,6 +178,7 @@ differ_all runs run some ordered before differs =
           absurd (omega (arith, gap.cells one, below.cells two, goes.touches, some (length runs - 1) d (omega arith)))
     ]
 
+-- a run that differs from the last one is added as one more
 pub AddsRun-pushed : (runs now : List Run) (run : Run) → All (λ x. 0 < x.count) runs → ((d : Run) → 0 < length runs → Differ (get_or runs (length runs - 1) d) run) → now ≡ runs ++ run ∷ [] → AddsRun runs now run
 AddsRun-pushed runs now run some differs pushed =
     subst (λ (xs : List Run). AddsRun runs xs run) (sym pushed) record {
@@ -184,6 +194,7 @@ AddsRun-pushed runs now run some differs pushed =
       count = omega (arith, length_push runs run);
     }
 
+-- a run that continues the last one is added by joining the two
 pub AddsRun-joined : (old new : List ℕ) (runs : List Run) (i : ℕ) (last run whole : Run) → i + 1 ≡ length runs → last ≡ get_or runs i last → Continues last run → IsJoined old new last run whole → AddsRun runs (set runs i whole) run
 AddsRun-joined old new runs i last run whole is_last read goes joined =
     let within : i < length runs = omega arith in

@@ -13,12 +13,15 @@ use Rattle.snippet_grid.specs.Runs.{run_cell, shown}
 use Rattle.snippet_style.specs.declared.role.ElementStyle.TheVariants.{NoStyle}
 use Rattle.snippet_grid.specs.declared.runs.Run.{Run}
 
+-- a column between two bounds is within them
 pub within_yes : (from to c : ℕ) → from ≤ c → c < to → is_within from to c ≡ true
 within_yes from to c low high = and_from _ _ (le-leb from c low) (lt-ltb c to high)
 
+-- a column left of both bounds isn't within them
 pub within_before : (from to c : ℕ) → c < from → is_within from to c ≡ false
 within_before from to c before = and_left _ _ (lt-leb from c before)
 
+-- a column at the second bound or right of it isn't within them
 pub within_after : (from to c : ℕ) → to ≤ c → is_within from to c ≡ false
 within_after from to c after = and_right _ _ (le-ltb c to after)
 

@@ -18,6 +18,7 @@ pub record Held (run : Run) (r c : ℕ) : Type 0 where
   pub low : run.cell ≤ c
   pub high : c < run.cell + run.count
 
+-- a run holds a cell or it doesn't
 pub cases_held : (run : Run) (r c : ℕ) → Held run r c ⊎ (holds run r c ≡ false)
 cases_held run r c =
     elim (cases_eq run.row r) [

@@ -16,6 +16,7 @@ use Rattle.snippet_style.specs.declared.role.LevelInner.{LevelInner}
 use Rattle.snippet_style.specs.declared.style.Style.{Style}
 use Rattle.snippet_style.specs.declared.stylesheet.Stylesheet.{Stylesheet}
 
+-- the address of a link
 abbrev pub Url : Type 0
 Url = List ℕ
 
@@ -28,9 +29,11 @@ abbrev value_or : {X : Type 0} → X → Option X → X
 value_or d None = d
 value_or d (Some x) = x
 
+-- none is no value that is there
 pub none≢some : {X : Type 0} {x : X} → None ≡ Some x → ⊥
 none≢some h = false≢true (ap is_there h)
 
+-- two values that are there and the same hold the same
 pub some_same : {X : Type 0} {x y : X} → Some x ≡ Some y → x ≡ y
 some_same {X = X} {x = x} h = ap (value_or x) h
 

@@ -127,6 +127,7 @@ cells_ended sheet level style link (LinkTo url ∷ ps) cells (none, _, _, prints
 cells_ended sheet level style link (LinkEnd ∷ ps) cells (there, _, _, prints) =
     (there_is link there, cells_ended sheet level style None ps cells prints)
 
+-- pieces whose links are ended, and further ones that begin outside a link, have their links ended together
 pub ended-append : (inside : Bool) (ps qs : List Piece) → AreLinksEnded inside ps → AreLinksEnded false qs → AreLinksEnded inside (ps ++ qs)
 ended-append inside [] qs none ended = subst (λ (b : Bool). AreLinksEnded b qs) (sym none) ended
 ended-append inside (Char ch ∷ ps) qs front ended = ended-append inside ps qs front ended
@@ -274,6 +275,7 @@ abbrev pub is_empty : {X : Type 0} → List X → Bool
 is_empty [] = true
 is_empty (x ∷ xs) = false
 
+-- a list with an element isn't empty
 pub nil≢cons : {X : Type 0} {x : X} {xs : List X} → x ∷ xs ≡ [] → ⊥
 nil≢cons h = false≢true (ap is_empty h)
 
@@ -302,6 +304,7 @@ row_unlinked [] none = refl
 row_unlinked (cell ∷ row) none =
     ap (λ (l : Option Url). link_begun None l ++ links_after l row) (none 0) ∙ row_unlinked row (λ c. none (suc c))
 
+-- rows of cells without links hold no link
 pub links_of-unlinked : (rows : List (List Cell)) → EachCell (λ cell. cell.link ≡ None) rows → links_of rows ≡ []
 links_of-unlinked [] none = refl
 links_of-unlinked (row ∷ rows) none =

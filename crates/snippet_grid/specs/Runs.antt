@@ -11,6 +11,7 @@ use Rattle.snippet_style.specs.declared.role.ElementStyle.{ElementStyle}
 abbrev pub run_bytes : List ℕ → Run → List ℕ
 run_bytes text run = take (run.end - run.start) (drop run.start text)
 
+-- the characters of a run
 abbrev pub run_chars : List ℕ → Run → List ℕ
 run_chars text run = chars (run_bytes text run)
 

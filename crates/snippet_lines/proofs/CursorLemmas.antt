@@ -41,6 +41,7 @@ no_lf-closed line text b is one =
     let front : take (length line - 1) line ≡ text = ap (λ m. take m line) n ∙ ap (take (length text)) is ∙ take_at text (b ∷ []) (length text) refl in
     subst (All (λ b. b ≢ 10)) front one
 
+-- the front of a text without line feeds has none
 pub no_lf-front : (text front : List ℕ) (b : ℕ) → text ≡ front ++ b ∷ [] → All (λ b. b ≢ 10) text → All (λ b. b ≢ 10) front
 no_lf-front text front b is none =
     let cut : take (length front) text ≡ front = ap (take (length front)) is ∙ take_at front (b ∷ []) (length front) refl in

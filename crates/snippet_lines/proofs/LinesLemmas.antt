@@ -27,6 +27,7 @@ split_last text some =
     let more : take ((length text - 1) + 1) text ≡ take (length text - 1) text ++ last_byte text ∷ [] = take_more text (length text - 1) 0 (omega arith) in
     sym (take_all ((length text - 1) + 1) text (omega arith)) ∙ more
 
+-- the last byte of bytes with one more at the end is that one
 pub last_byte-push : (front : List ℕ) (b : ℕ) → last_byte (front ++ b ∷ []) ≡ b
 last_byte-push [] b = refl
 last_byte-push (a ∷ []) b = refl
@@ -67,6 +68,7 @@ lines_of-line (b ∷ c ∷ text) ending rest no_lf no_cr last =
 
 -- the bytes of a line with a byte in front
 
+-- the bytes of a line with a byte put before it are that byte and the line's bytes
 pub line_bytes-line_with_byte : (b : ℕ) (text : List ℕ) (ending : EndLine) → line_bytes (line_with_byte b text ending) ≡ b ∷ line_bytes (text, ending)
 line_bytes-line_with_byte b [] Lf = cond_both (eqb b 13) ([], Crlf) (b ∷ [], Lf) (λ l. line_bytes l ≡ b ∷ 10 ∷ []) (λ is. ap (λ c. c ∷ 10 ∷ []) (sym (eqb-true b 13 is))) (λ _. refl)
 line_bytes-line_with_byte b [] Eof = refl
@@ -247,10 +249,12 @@ newline_count-open (b ∷ bs) open_end =
 
 -- ---- where lines begin
 
+-- the first line starts at 0
 pub start_of-zero : (ls : List Line) → start_of ls 0 ≡ 0
 unfolding start_of
 start_of-zero ls = refl
 
+-- a line after the first starts as many bytes later as the first line has
 pub start_of-cons : (l : Line) (ls : List Line) (k : ℕ) → start_of (l ∷ ls) (k + 1) ≡ length (line_bytes l) + start_of ls k
 unfolding start_of
 start_of-cons l ls k = rw add-one (length-append (line_bytes l) (joined (take k ls)))
@@ -279,6 +283,7 @@ start_of-mono ls j (suc n) =
     let at : start_of ls ((j + n) + 1) ≡ start_of ls (j + suc n) = ap (start_of ls) same in
     omega (arith, start_of-mono ls j n)
 
+-- a later line starts at the same byte or later
 pub start_of-le : (ls : List Line) (j k : ℕ) → j ≤ k → start_of ls j ≤ start_of ls k
 start_of-le ls j k le =
     let same : j + (k - j) ≡ k = omega arith in

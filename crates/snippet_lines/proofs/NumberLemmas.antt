@@ -43,6 +43,7 @@ styled_decimal-right n (suc k) = let other : (suc k == 0) ≡ false = grind (ari
 pub length-decimal_last : (n : ℕ) → n < 10 → n < 2 ^ 64 → length (decimal n) ≡ 1
 length-decimal_last n one fits = ap length (decimal_digit n one)
 
+-- a number of two digits or more has one digit more than its tenth
 pub length-decimal_more : (n : ℕ) → 10 ≤ n → n < 2 ^ 64 → length (decimal n) ≡ length (decimal (n / 10)) + 1
 length-decimal_more n more fits = ap length (decimal_step n more fits) ∙ length_push (decimal (n / 10)) (48 + n % 10)
 
@@ -79,6 +80,7 @@ shown_number_ascii Anonymized gutter number fits =
     IsAscii-append (replicate (gutter - 2) 32) (76 ∷ 76 ∷ []) (spaces_ascii (gutter - 2)) (IsAscii-from_all (76 ∷ 76 ∷ []) (All-cons P 76 (76 ∷ []) (omega arith) (All-cons P 76 [] (omega arith) (All-nil P))))
 shown_number_ascii Hidden gutter number fits = spaces_ascii gutter
 
+-- the characters of a shown number are its bytes
 pub chars-shown_number : (numbers : LineNumbers) (gutter number : ℕ) → number < 2 ^ 64 → chars (shown_number numbers gutter number) ≡ shown_number numbers gutter number
 chars-shown_number numbers gutter number fits =
     chars-IsAscii (shown_number numbers gutter number) (shown_number_ascii numbers gutter number fits)

@@ -12,6 +12,7 @@ abbrev pub Rises : {X : Type 0} → (X → X → Bool) → List X → Type 0
 Rises lt [] = Unit {0}
 Rises lt (x ∷ xs) = All (λ y. lt y x ≡ false) xs × Rises lt xs
 
+-- where no element passes the test, none is left
 pub filter-none : {X : Type 0} (p : X → Bool) (xs : List X) → All (λ x. p x ≡ false) xs → filter p xs ≡ []
 filter-none p [] none = refl
 filter-none p (x ∷ xs) none =
@@ -65,6 +66,7 @@ same_rise {X} lt o (x ∷ xs) (y ∷ ys) a b same =
 
 -- ---- the list put in order
 
+-- what holds of an element and of a list holds of the list with the element put in
 pub All-put_in : {X : Type 0} (lt : X → X → Bool) (P : X → Type 0) (x : X) (ys : List X) → P x → All P ys → All P (put_in lt x ys)
 All-put_in lt P x [] here all = All-cons P x [] here all
 All-put_in lt P x (y ∷ ys) here all =

@@ -51,6 +51,7 @@ length-source_lines-pos source = omega (arith, length-source_lines source)
 pub HoldsByte-source : (source : List ℕ) (b : ℕ) → HoldsByte (source_lines source) b (line_of (source_lines source) b)
 HoldsByte-source source b = HoldsByte-line_of (source_lines source) b (length-source_lines-pos source)
 
+-- the line of a byte is a line of the source
 pub line_of-within : (source : List ℕ) (b : ℕ) → line_of (source_lines source) b < length (source_lines source)
 line_of-within source b = (HoldsByte-source source b).within
 
@@ -121,16 +122,19 @@ pub place_of-line : (source : List ℕ) (b : ℕ) → (place_of source b).line �
 unfolding place_of
 place_of-line source b = refl
 
+-- the character of a place is how many characters stand before it on its line
 pub place_of-character : (source : List ℕ) (b : ℕ) → (place_of source b).character ≡ length (chars (prefix_at (source_lines source) (line_of (source_lines source) b) b))
 unfolding place_of
 place_of-character source b = refl
 
+-- the column of a place is the width of what stands before it on its line
 pub place_of-column : (source : List ℕ) (b : ℕ) → (place_of source b).column ≡ width_of (chars (prefix_at (source_lines source) (line_of (source_lines source) b) b))
 unfolding place_of
 place_of-column source b = refl
 
 -- ---- the locations of a span
 
+-- a span's first location is that of its start, whatever its end is
 pub locations_of-start : (s : Source) (start end : ℕ) → (locations_of s start end).0 ≡ start_location s start
 unfolding locations_of
 locations_of-start s start end = refl
@@ -146,14 +150,17 @@ unfolding locations_of
 locations_of-end s start end some =
     cond-false (eqb start end) (start_location s start) (end_location s start end) (ne_eqb start end some)
 
+-- the line of a start is counted from the source's first number
 pub start_location-line : (s : Source) (start : ℕ) → (start_location s start).line ≡ s.first + line_of (source_lines s.text) start
 unfolding start_location location_of place_of
 start_location-line s start = refl
 
+-- the column of a start is that of its place
 pub start_location-column : (s : Source) (start : ℕ) → (start_location s start).display ≡ (place_of s.text start).column
 unfolding start_location location_of
 start_location-column s start = refl
 
+-- the line of an end is counted from the source's first number
 pub end_location-line : (s : Source) (start end : ℕ) → (end_location s start end).line ≡ s.first + line_of (source_lines s.text) end
 unfolding end_location location_of place_of
 end_location-line s start end = refl

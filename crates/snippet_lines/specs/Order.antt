@@ -7,6 +7,7 @@ abbrev pub put_in : {X : Type 0} → (X → X → Bool) → X → List X → Lis
 put_in before x [] = x ∷ []
 put_in before x (y ∷ ys) = if before y x then y ∷ put_in before x ys else x ∷ y ∷ ys
 
+-- a list put in order by such a test
 abbrev pub ordered_by : {X : Type 0} → (X → X → Bool) → List X → List X
 ordered_by before [] = []
 ordered_by before (x ∷ xs) = put_in before x (ordered_by before xs)

@@ -7,8 +7,10 @@ use Rattle.snippet_model.specs.Same.{SameAnnotation, SamePatch}
 use Rattle.snippet_model.specs.contracts.snippet.AnnotationClone.TheImpl as annotation
 use Rattle.snippet_model.specs.contracts.snippet.PatchClone.TheImpl as patch
 
+-- an annotation's copy is the same annotation
 pub same_annotation : (a b : Annotation) → (annotation.is_clone-value).it a b → SameAnnotation a b
 same_annotation a b h = grind (arith, common_steps)
 
+-- a patch's copy is the same patch
 pub same_patch : (a b : Patch) → (patch.is_clone-value).it a b → SamePatch a b
 same_patch a b h = search rules

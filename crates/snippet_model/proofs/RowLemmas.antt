@@ -46,6 +46,7 @@ separator_unlisted : (decor : DecorStyle) → list_any is_listed (separator_of d
 separator_unlisted Ascii = refl
 separator_unlisted Unicode = refl
 
+-- a separator row has no listed character and no link
 pub free_separator_row : (decor : DecorStyle) (gutter : ℕ) → IsFree (separator_row decor gutter)
 free_separator_row decor gutter =
     let stroke = separator_of decor ∷ [] in

@@ -10,6 +10,7 @@ use Rattle.snippet_text.specs.Normalized.{is_listed}
 abbrev pub IsFreeCell : Cell → Type 0
 IsFreeCell cell = (is_listed cell.ch ≡ false) × (cell.link ≡ None)
 
+-- a row of such cells
 abbrev pub IsFree : List Cell → Type 0
 IsFree row = All IsFreeCell row
 

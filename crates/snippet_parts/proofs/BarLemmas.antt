@@ -43,6 +43,7 @@ bars-found p i at m k is within none hit =
       | inr upto ↦ le-leb k at upto ∙ sym (any-hit p k (m - k) at upto (omega arith) hit)
     ]
 
+-- where no line after the first passes the test, no line has a bar
 pub bars-none : (p : ℕ → Bool) (i first m k : ℕ) → i ≤ first → first < k → list_any p (range_with_len i (m - i)) ≡ false → leb k first ≡ list_any p (range_with_len k (m - k))
 bars-none p i first m k is past none = lt-leb k first past ∙ sym (any-fewer p i k m (omega arith) none)
 

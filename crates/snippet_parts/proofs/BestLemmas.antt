@@ -92,6 +92,7 @@ answer-mark s marks i line p None result all is bests = rw is tt
 answer-mark s marks i line p (Some best) result all is bests =
     rw is (λ k here. subst (λ marks. IsMarkOf s.text marks k p best.kind) (take_all i marks all) (bests k here).mark)
 
+-- no mark is answered where no span is marked there
 pub answer-none : (s : Source) (marks : List Annotation) (i line p : ℕ) (best : Option Mark) (result : Option AnnotationKind) → length marks ≤ i
     → result ≡ option_map (λ (m : Mark). m.kind) best → ((k : ℕ) → line ≡ s.first + k → BestOf s.text (take i marks) k p best)
     → IfNone result ((k : ℕ) → line ≡ s.first + k → All (λ a. IsMarkedAt s.text k p a → ⊥) marks)
@@ -99,6 +100,7 @@ answer-none s marks i line p None result all is bests =
     rw is (λ k here. subst (λ marks. All (λ a. IsMarkedAt s.text k p a → ⊥) marks) (take_all i marks all) (bests k here))
 answer-none s marks i line p (Some best) result all is bests = rw is tt
 
+-- what holds of a best mark holds of its kind
 pub answer-number : (best : Option Mark) (result : Option AnnotationKind) (P : Type 0) → result ≡ option_map (λ (m : Mark). m.kind) best → IfSome best (λ _. P) → IfSome result (λ _. P)
 answer-number None result P is some = rw is tt
 answer-number (Some best) result P is some = rw is some

@@ -59,6 +59,7 @@ bars-are source first last u m closing from to bars is count =
 
 -- ---- bars that are pushed
 
+-- with one more bar the bars so far are those of the lines up to that one
 pub bars-more : (f : ℕ → PartEntry) (old now new : List LineAnnotation) (e : LineAnnotation) (a line : ℕ) → a ≤ line → new ≡ now ++ e ∷ []
     → seen_part e ≡ f line → map seen_part now ≡ map seen_part old ++ map f (range_with_len a (line - a))
     → map seen_part new ≡ map seen_part old ++ map f (range_with_len a ((line + 1) - a))
@@ -124,6 +125,7 @@ promoted-primary before l b is there =
     c) (list_any-map (λ (d : Entry). is_primary d.kind && same_place (long_place (seen_long l)) (long_place d)) seen_long before) ∙ sym is
     ∙ there))
 
+-- a span that is neither primary nor at the place of a primary one stays as it is
 pub promoted-plain : (before : List LongSpan) (l : LongSpan) (b : Bool) → b ≡ (is_primary l.kind || list_any (λ (o : LongSpan). is_primary o.kind && same_place (long_place (seen_long l)) (long_place (seen_long o))) before) → b ≡ false → seen_long l ≡ promoted (map seen_long before) (seen_long l)
 promoted-plain before l b is none =
     sym (cond-false (is_promoted (map seen_long before) (seen_long l)) (record (seen_long l)
@@ -163,18 +165,21 @@ parts-more s places spans i x now new all depth again e within is pushed deep am
 pub places-are : (places : List LongExtent) (spans : List LongSpan) → places ≡ map (λ (l : LongSpan). long_place (seen_long l)) spans → places ≡ map long_place (map seen_long spans)
 places-are places spans is = is ∙ sym (map-map long_place seen_long spans)
 
+-- the depths of places are those of the spans that stand there
 pub depths-of : (places : List LongExtent) (spans : List LongSpan) (depths : List ℕ) → places ≡ map (λ (l : LongSpan). long_place (seen_long l)) spans
     → depths ≡ map (depth_among places) places
     → depths ≡ map (λ (l : LongSpan). depth_among (map long_place (map seen_long spans)) (long_place (seen_long l))) spans
 depths-of places spans depths is value =
     value ∙ ap (map (depth_among places)) is ∙ map-map (depth_among places) (λ (l : LongSpan). long_place (seen_long l)) spans ∙ ap (λ ps. map (λ (l : LongSpan). depth_among ps (long_place (seen_long l))) spans) (places-are places spans is)
 
+-- the places of spans that are ordered by their first lines are ordered by theirs
 pub places-ordered : (places : List LongExtent) (spans : List LongSpan) (none : LongSpan) → places ≡ map (λ (l : LongSpan). long_place (seen_long l)) spans → IsNonDecreasingBy (λ (l : LongSpan). l.start.line) spans → IsNonDecreasingBy (λ (p : LongExtent). p.first) places
 places-ordered places spans none is ordered i j d le within =
     let len : length places ≡ length spans = ap length is ∙ length-map spans (λ (l : LongSpan). long_place (seen_long l)) in
     let at : (k : ℕ) → k < length spans → get_or places k d ≡ long_place (seen_long (get_or spans k none)) = λ k below. ap (λ ps. get_or ps k d) is ∙ get_or-map (λ (l : LongSpan). long_place (seen_long l)) spans k none d below in
     omega (arith, ap (λ (p : LongExtent). p.first) (at i (omega arith)), ap (λ (p : LongExtent). p.first) (at j (omega arith)), ordered i j none le (omega arith))
 
+-- no place ends above the line on which it starts
 pub places-lines : (s : Source) (places : List LongExtent) (spans : List LongSpan) (none : LongSpan) → places ≡ map (λ (l : LongSpan). long_place (seen_long l)) spans → All (HasFit s) spans → All (λ (p : LongExtent). p.first ≤ p.last) places
 places-lines s places spans none is fit k d within =
     let len : length places ≡ length spans = ap length is ∙ length-map spans (λ (l : LongSpan). long_place (seen_long l)) in
@@ -184,6 +189,7 @@ places-lines s places spans none is fit k d within =
 abbrev pub no_loc : Loc
 no_loc = record { line = 0; char = 0; display = 0; byte = 0 }
 
+-- a span of several lines that stands for none
 abbrev pub no_span : LongSpan
 no_span = record { start = no_loc; end = no_loc; kind = Primary; label = None; highlight_source = false }
 
@@ -200,6 +206,7 @@ any-filtered q p implied (x ∷ xs) =
 same-line : (x o : LongSpan) → same_place (long_place (seen_long x)) (long_place (seen_long o)) ≡ true → eqb o.start.line x.start.line ≡ true
 same-line x o same = eq-eqb o.start.line x.start.line (sym (ap (λ (p : LongExtent). p.first) (same-true (long_place (seen_long x)) (long_place (seen_long o)) same)))
 
+-- whether a place stands again is told by the spans that are near
 pub place-near : (x : LongSpan) (others near : List LongSpan) (b : Bool) → near ≡ filter (λ (o : LongSpan). eqb o.start.line x.start.line) others
     → b ≡ list_any (λ (o : LongSpan). same_place (long_place (seen_long x)) (long_place (seen_long o))) near
     → b ≡ list_any (λ (o : LongSpan). same_place (long_place (seen_long x)) (long_place (seen_long o))) others
@@ -211,6 +218,7 @@ kind-other Primary other = absurd (other refl)
 kind-other Context other = refl
 kind-other Visible other = refl
 
+-- whether a primary span stands at the same place is told by the spans that are near
 pub primary-near : (x : LongSpan) (others near : List LongSpan) (b : Bool) → near ≡ filter (λ (o : LongSpan). eqb o.start.line x.start.line) others
     → b ≡ list_any (λ (o : LongSpan). is_primary o.kind && same_place (long_place (seen_long x)) (long_place (seen_long o))) near
     → (x.kind ≡ Primary → ⊥)

@@ -2,15 +2,15 @@
 use Rattle.std.proofs.Common.{◌≡◌, ℕ, zero, suc, ◌+◌, ◌-◌, ◌<◌, ◌≤◌, Bool, true, false, ◌&&◌, ◌||◌, cond, not, eqb, leb, ltb, max, List, [], ◌∷◌, ◌++◌, map, length, take, set, get_or, replicate, inl, inr, ◌⊎◌, refl, sym, ap, ◌∙◌, arith}
 use Rattle.std.specs.List.{All, filter, list_any, range_with_len}
 use Rattle.std.proofs.lemmas.Bool.{cases_Bool, cases_lt, cases_eq, and_left, or_from, or_parts, le-leb, lt-leb, lt-ltb, le-ltb, eq-eqb, ne_eqb, or_left, or_right}
-use Rattle.std.proofs.lemmas.List.{append-nil, map-id, take_more, take_all, take-set-le}
+use Rattle.std.proofs.lemmas.List.{append-nil, take_more, take_all, take-set-le}
 use Rattle.std.proofs.lemmas.List.Elements.{All-filter, All-weaker, filter-append, filter_agree}
-use Rattle.std.proofs.lemmas.List.FromFn.{map-range_with_len_more}
 use Rattle.snippet_view.proofs.PartLemmas.{All-range}
 use Rattle.std.proofs.lemmas.List.Folds.{list_any_more}
 use Rattle.snippet_model.specs.declared.snippet.Annotation.{Annotation}
 use Rattle.snippet_parts.specs.declared.kept.Stretch.{Stretch}
 use Rattle.snippet_view.specs.Mark.{is_marking, touches}
 use Rattle.snippet_parts.specs.Stretches.{holds, furthest, is_covered, is_seen}
+use Rattle.snippet_view.proofs.ShownLemmas.{range-more}
 
 -- ---- how far stretches reach
 
@@ -57,6 +57,7 @@ furthest-push : (xs : List ℕ) (n : ℕ) → furthest (xs ++ n ∷ []) ≡ max 
 furthest-push [] n = refl
 furthest-push (x ∷ xs) n = let h : furthest (xs ++ n ∷ []) ≡ max n (furthest xs) = furthest-push xs n in omega arith
 
+-- the furthest of one number more is the greater of that one and the furthest so far
 pub furthest-more : (xs : List ℕ) (i d : ℕ) → i < length xs → furthest (take (i + 1) xs) ≡ max (get_or xs i d) (furthest (take i xs))
 furthest-more xs i d within = ap furthest (take_more xs i d within) ∙ furthest-push (take i xs) (get_or xs i d)
 
@@ -69,6 +70,7 @@ take-zeros zero n = refl
 take-zeros (suc m) zero = refl
 take-zeros (suc m) (suc n) = let h : furthest (take m (replicate n 0)) ≡ 0 = take-zeros m n in omega arith
 
+-- no line is covered where nothing reaches past one
 pub covered-none : (reach : List ℕ) (n k : ℕ) → reach ≡ replicate n 0 → is_covered reach k ≡ false
 covered-none reach n k is = le-ltb k (furthest (take (k + 1) reach)) (omega (arith, ap (λ xs. furthest (take (k + 1) xs)) is, take-zeros (k + 1) n))
 
@@ -179,9 +181,11 @@ last_bar-is l k m trivial closing b some is one none' next =
       | inr none ↦ lt-leb (l - closing) k (omega (arith, none' none)) ∙ sym none ∙ rest ∙ sym (ap (λ z. z && ltb m k && not (trivial k)) (eq-eqb (k + 1) l next))
     ]
 
+-- only the line right above the last one can have the last bar
 pub last_bar-apart : (l k m : ℕ) (trivial : ℕ → Bool) → (k + 1 ≡ l → ⊥) → (eqb (k + 1) l && ltb m k && not (trivial k)) ≡ false
 last_bar-apart l k m trivial apart = ap (λ z. z && ltb m k && not (trivial k)) (ne_eqb (k + 1) l apart)
 
+-- the order in which three tests are joined doesn't matter
 pub or-assoc : (a b c : Bool) → (a || b || c) ≡ (a || (b || c))
 or-assoc true b c = refl
 or-assoc false b c = refl
@@ -208,9 +212,6 @@ unseen text k (a ∷ marks) none =
 
 -- ---- the lines that are kept, in order
 
-range-more : (i : ℕ) → range_with_len 0 (i + 1) ≡ range_with_len 0 i ++ i ∷ []
-range-more i = sym (map-id (range_with_len 0 (i + 1))) ∙ map-range_with_len_more (λ (k : ℕ). k) 0 i i (omega arith) ∙ ap (λ ks. ks ++ i ∷ []) (map-id (range_with_len 0 i))
-
 filter-more : (p : ℕ → Bool) (i : ℕ) → filter p (range_with_len 0 (i + 1)) ≡ filter p (range_with_len 0 i) ++ cond (p i) (i ∷ []) []
 filter-more p i = ap (filter p) (range-more i) ∙ filter-append p (range_with_len 0 i) (i ∷ [])
 
@@ -219,6 +220,7 @@ pub line-kept : (p : ℕ → Bool) (i : ℕ) (now new : List ℕ) → p i ≡ tr
 line-kept p i now new passes pushed before =
     pushed ∙ ap (λ ks. ks ++ i ∷ []) before ∙ sym (filter-more p i ∙ ap (λ b. filter p (range_with_len 0 i) ++ cond b (i ∷ []) []) passes)
 
+-- a line that doesn't pass leaves the list as it is
 pub line-left : (p : ℕ → Bool) (i : ℕ) (now : List ℕ) → p i ≡ false → now ≡ filter p (range_with_len 0 i) → now ≡ filter p (range_with_len 0 (i + 1))
 line-left p i now fails before =
     before ∙ sym (filter-more p i ∙ ap (λ b. filter p (range_with_len 0 i) ++ cond b (i ∷ []) []) fails ∙ append-nil (filter p (range_with_len 0 i)))
@@ -234,5 +236,6 @@ kept-all p marks fold i n reach lent all len is so_far =
     ∙ filter_agree (λ k. not fold || is_covered reach k) (λ k. not fold || list_any (p k) marks)
     (λ k. ap (λ b. not fold || b) (so_far k ∙ ap (list_any (p k)) (take_all i marks all))) (range_with_len 0 n)
 
+-- each line that is kept is one of the lines
 pub kept-within : (p : ℕ → Bool) (n : ℕ) → All (λ k. k < n) (filter p (range_with_len 0 n))
 kept-within p n = All-filter p (λ k. k < n) (range_with_len 0 n) (All-weaker (λ k. (0 ≤ k) × (k < 0 + n)) (λ k. k < n) (λ k within. omega (arith, within.1)) (range_with_len 0 n) (All-range 0 n))

@@ -23,6 +23,7 @@ use Rattle.std.proofs.lemmas.List.Sorted.{sorted_far}
 abbrev pub long_before : LongSpan → LongSpan → Bool
 long_before a b = stands_before (seen_long a) (seen_long b)
 
+-- the code's comparison of two pairs is that of the definition
 pub before-tells : (a b c d : ℕ) → is_lt (ordering_then (nat_cmp a c) (nat_cmp d b)) ≡ (ltb a c || eqb a c && ltb d b)
 before-tells a b c d = grind (arith, nat_tests)
 
@@ -32,6 +33,7 @@ one_way a b c d h = grind (arith, nat_tests)
 chained : (a b c d e f : ℕ) → (ltb a c || eqb a c && ltb d b) ≡ false → (ltb c e || eqb c e && ltb f d) ≡ false → (ltb a e || eqb a e && ltb f b) ≡ false
 chained a b c d e f g h = grind (arith, nat_tests)
 
+-- which of two spans of several lines comes first is an order
 pub long_before-order : IsStrictWeakOrder long_before
 long_before-order = record {
   one_way = λ x y h. one_way x.start.line x.end.line y.start.line y.end.line h;
@@ -49,6 +51,7 @@ long-lines s a ordered long =
     below : (m n : ℕ) → m ≤ n → (n ≡ m → ⊥) → m < n
     below m n le apart = elim (cases_lt m n) [ inl less ↦ less | inr more ↦ absurd (apart (omega arith)) ]
 
+-- a span of several lines whose columns are small enough has room
 pub fit-long : (s : Source) (a : Annotation) (l : LongSpan) → a.span.start ≤ a.span.end → seen_long l ≡ long_entry s a → l.start.display < 2 ^ 58 → l.end.display ≤ 2 ^ 58 → l.start.char ≤ 2 ^ 56 → is_long s.text a ≡ true → HasFit s l
 fit-long s a l ordered seen display end char long =
     record {
@@ -67,6 +70,7 @@ fit-long s a l ordered seen display end char long =
 pub long_spans-is : (s : Source) (given sorted : List LongSpan) (marks : List Annotation) → sorted ≡ ordered_by long_before given → map seen_long given ≡ map (long_entry s) (filter (is_long s.text) marks) → map seen_long sorted ≡ long_spans s marks
 long_spans-is s given sorted marks is seen = ap (map seen_long) is ∙ map-ordered_by seen_long stands_before given ∙ ap (ordered_by stands_before) seen
 
+-- spans in their order are ordered by the lines on which they start
 pub long-ordered : (xs : List LongSpan) → IsSortedBy long_before xs → IsNonDecreasingBy (λ (l : LongSpan). l.start.line) xs
 long-ordered xs sorted i j d le within =
     no-less (get_or xs j d).start.line (get_or xs i d).start.line (eqb (get_or xs j d).start.line (get_or xs i d).start.line && ltb (get_or xs i d).end.line (get_or xs j d).end.line) (sorted_far long_before long_before-order xs sorted i j d le within)

@@ -31,6 +31,7 @@ use Rattle.snippet_view.proofs.PartLemmas.{All-order}
 use Rattle.snippet_view.proofs.ShownFacts.{contains-cases, contains-filter, contains-here, contains-there, first-kept, last-kept, span-kept, kept-ascends}
 use Rattle.snippet_lines.proofs.PlaceLemmas.{line_of-within}
 use Rattle.snippet_view.proofs.MarginLaws.{start_byte as start-byte}
+use Rattle.snippet_view.proofs.LongStarts.{promoted-start, promoted-end}
 
 -- ---- elements
 
@@ -96,15 +97,6 @@ same-end : (s : Source) (d e : Entry) → IsPlaced s d → IsPlaced s e → long
 same-end s d e dp ep same = dp.end ∙ ap (λ (p : LongExtent). (locations_of s p.from p.to).1) same ∙ sym ep.end
 
 -- ---- the entries of one span
-
--- as a span is drawn it starts and ends where it did, with its label
-drawn-start : (before : List Entry) (e : Entry) → (promoted before e).start ≡ e.start
-drawn-start before e =
-    cond_both (is_promoted before e) (record e { kind = Primary }) e (λ (d : Entry). d.start ≡ e.start) (λ _. refl) (λ _. refl)
-
-drawn-end : (before : List Entry) (e : Entry) → (promoted before e).end ≡ e.end
-drawn-end before e =
-    cond_both (is_promoted before e) (record e { kind = Primary }) e (λ (d : Entry). d.end ≡ e.end) (λ _. refl) (λ _. refl)
 
 drawn-label : (before : List Entry) (e : Entry) → (promoted before e).label ≡ e.label
 drawn-label before e =
@@ -182,8 +174,8 @@ bounds-among s places before (d ∷ later) e all placed among =
           let last : again ≡ false = ap (λ p. list_any (λ c. same_place p (long_place c)) later) (sym same) ∙ f in
           let here : HasBounds (promoted before d).start (promoted before d).end depth own = span-bounds s depth again (promoted before d) last in
           let d-placed : IsPlaced s d = All-head (IsPlaced s) d later all in
-          let start : (promoted before d).start ≡ e.start = drawn-start before d ∙ same-start s d e d-placed placed (sym same) in
-          let end : (promoted before d).end ≡ e.end = drawn-end before d ∙ same-end s d e d-placed placed (sym same) in
+          let start : (promoted before d).start ≡ e.start = promoted-start before d ∙ same-start s d e d-placed placed (sym same) in
+          let end : (promoted before d).end ≡ e.end = promoted-end before d ∙ same-end s d e d-placed placed (sym same) in
           let deep : depth ≡ depth_among places (long_place e) = ap (depth_among places) (sym same) in
           record {
             begun = (here.begun.0, Contains-append_left own rest here.begun.0 here.begun.1, record { start_is = here.begun.2.start_is ∙ start; part = here.begun.2.part ∙ ap MultilineStart deep });
@@ -204,7 +196,7 @@ says-among s places before (d ∷ later) e among =
     elim (contains-cases e d later among) [
       | inl same ↦
           let here : (p : PartEntry) × Contains own p × SaysOf (promoted before d) (depth_among places (long_place d)) p = span-says s (depth_among places (long_place d)) (stands_among d later) (promoted before d) in
-          let says : SaysOf d (depth_among places (long_place d)) here.0 = record { line = here.2.line ∙ ap (λ (l : Loc). l.line) (drawn-end before d); end_is = here.2.end_is ∙ drawn-end before d; label = here.2.label ∙ drawn-label before d; part = here.2.part } in
+          let says : SaysOf d (depth_among places (long_place d)) here.0 = record { line = here.2.line ∙ ap (λ (l : Loc). l.line) (promoted-end before d); end_is = here.2.end_is ∙ promoted-end before d; label = here.2.label ∙ drawn-label before d; part = here.2.part } in
           (here.0, Contains-append_left own rest here.0 here.1, subst (λ (c : Entry). SaysOf c (depth_among places (long_place c)) here.0) same says)
       | inr further ↦
           let found : (p : PartEntry) × Contains rest p × SaysOf e (depth_among places (long_place e)) p = says-among s places (before ++ d ∷ []) later e further in
@@ -265,6 +257,7 @@ module _ (fold : Bool) (s : Source) (marks : List Annotation) (infos : List Anno
   numbers =
       sym (map-map (λ (l : KeptLine). l.number) seen_kept infos) ∙ ap (map (λ (l : KeptLine). l.number)) lines ∙ map-map (λ (l : KeptLine). l.number) (kept_line s marks) (kept_lines fold s.text marks)
 
+  -- the numbers of the lines ascend
   pub lines-ascend : Ascends (numbers_of infos)
   lines-ascend = subst Ascends (sym numbers) (ascends-from s.first (kept_lines fold s.text marks) (kept-ascends fold s.text marks))
 
@@ -273,6 +266,7 @@ module _ (fold : Bool) (s : Source) (marks : List Annotation) (infos : List Anno
   number-among k among =
       subst (λ ns. Contains ns (s.first + k)) (sym numbers) (contains-map (λ n. s.first + n) k (kept_lines fold s.text marks) among)
 
+  -- a line says that it is kept where a span that isn't marked touches it
   pub lines-kept : All (λ info. info.keep ≡ list_any (is_seen s.text (info.line_index - s.first)) marks) infos
   lines-kept =
       each-line (λ info. info.keep ≡ list_any (is_seen s.text (info.line_index - s.first)) marks) s marks (kept_lines fold s.text marks) infos lines (λ i d within info seen. let k : ℕ = get_or (kept_lines fold s.text marks) i d in

@@ -69,6 +69,7 @@ starts_after-some end p rest starts more left all left_is inside more_is before 
     let here : starts_after end left ≡ (p + 1) ∷ starts_after end rest = ap (starts_after end) left_is ∙ cond-true (ltb (p + 1) end) ((p + 1) ∷ starts_after end rest) (starts_after end rest) (lt-ltb (p + 1) end inside) in
     ap (λ ss. ss ++ starts_after end rest) more_is ∙ append_assoc starts ((p + 1) ∷ []) (starts_after end rest) ∙ sym (ap (λ ss. starts ++ ss) here) ∙ before
 
+-- a line feed that ends the source starts no line after it
 pub starts_after-none : (end p : ℕ) (rest starts left all : List ℕ) → left ≡ p ∷ rest → end ≤ p + 1 → starts ++ starts_after end left ≡ all → starts ++ starts_after end rest ≡ all
 starts_after-none end p rest starts left all left_is outside before =
     let here : starts_after end left ≡ starts_after end rest = ap (starts_after end) left_is ∙ cond-false (ltb (p + 1) end) ((p + 1) ∷ starts_after end rest) (starts_after end rest) (le-ltb (p + 1) end outside) in

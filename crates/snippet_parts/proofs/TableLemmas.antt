@@ -65,15 +65,18 @@ entries-more first ls infos more info i k low more_is entry before =
 abbrev pub IsParted : List ℕ → ℕ → ℕ → Type 0
 IsParted starts byte i = IsPartitionPoint (λ (start : ℕ). leb start byte ≡ true) (λ (start : ℕ). leb start byte ≡ false) starts i
 
+-- at least one line starts at a byte or before it, where the first does
 pub parted-some : (starts : List ℕ) (byte i : ℕ) → 0 < length starts → HoldsAt (λ (start : ℕ). start ≤ byte) starts 0 → IsParted starts byte i → 1 ≤ i
 parted-some [] byte i some first parted = absurd (omega arith)
 parted-some (x ∷ starts) byte zero some first parted =
     absurd (omega (arith, first x, leb-false x byte (parted.1 0 x (omega arith) (omega arith))))
 parted-some (x ∷ starts) byte (suc i) some first parted = omega arith
 
+-- the line before the parting starts at the byte or before it
 pub parted-from : (starts : List ℕ) (byte i : ℕ) → 1 ≤ i → IsParted starts byte i → HoldsAt (λ (start : ℕ). start ≤ byte) starts (i - 1)
 parted-from starts byte i some parted = λ d. leb-true (get_or starts (i - 1) d) byte (parted.0 (i - 1) d (omega arith) (omega arith))
 
+-- the line after that starts right of the byte
 pub parted-to : (starts : List ℕ) (byte i : ℕ) → 1 ≤ i → IsParted starts byte i → (i - 1) + 1 < length starts → HoldsAt (λ (start : ℕ). byte < start) starts ((i - 1) + 1)
 parted-to starts byte i some parted within = λ d. leb-false (get_or starts ((i - 1) + 1) d) byte (parted.1 ((i - 1) + 1) d (omega arith) within)
 
@@ -83,9 +86,11 @@ module _ (source starts : List ℕ) (table : starts ≡ starts_from 0 (source_li
   table-ordered = λ i j d le within.
       omega (arith, table-start source starts table i d (omega arith), table-start source starts table j d within, start_of-le (source_lines source) i j le)
 
+  -- a table has a start
   pub table-some : 0 < length starts
   table-some = omega (arith, length-table source starts table, length-source_lines source)
 
+  -- the first start is at any byte or before it
   pub table-first : (byte : ℕ) → HoldsAt (λ (start : ℕ). start ≤ byte) starts 0
   table-first byte = λ d. omega (arith, table-start source starts table 0 d table-some, start_of-zero (source_lines source))
 
@@ -140,18 +145,22 @@ module _ (s : Source) (byte : ℕ) (info : LineInfo) (entry : entry_of info ≡ 
   located-start : info.start_byte ≡ start_of (source_lines s.text) (line_of (source_lines s.text) byte)
   located-start = ap (λ (e : LineEntry). e.start) entry
 
+  -- the line of a byte starts at the byte or before it
   pub located-ordered : info.start_byte ≤ byte
   located-ordered = omega (arith, located-start, (HoldsByte-source s.text byte).from)
 
+  -- the line of a byte ends within the source
   pub located-end : info.start_byte + length info.line.now ≤ length s.text
   located-end = omega (arith, located-start, ap length located-text, text_at-end s.text (line_of (source_lines s.text) byte) (line_of-within s.text byte))
 
+  -- the border of a span is a border of characters in its line
   pub located-border : IsSpanBorder s.text byte → IsCharBoundary info.line.now (min (byte - info.start_byte) (length info.line.now))
   located-border border =
       let P : List ℕ → ℕ → Type 0 = λ text start. IsCharBoundary text (min (byte - start) (length text)) in
       let k : ℕ = line_of (source_lines s.text) byte in
       subst (λ text. P text info.start_byte) (sym located-text) (subst (λ start. P (text_at (source_lines s.text) k) start) (sym located-start) (IsCharBoundary-prefix s.text byte border))
 
+  -- the location of a byte is made of its line and of what stands before it there
   pub located-is : (location : Loc) → location.line ≡ info.line_index → location.char ≡ length (chars (take (byte - info.start_byte) info.line.now)) → location.display ≡ width_of (chars (take (byte - info.start_byte) info.line.now)) → location.byte ≡ byte → location ≡ location_of s byte
   unfolding location_of place_of
   located-is location line char display at =
@@ -159,6 +168,7 @@ module _ (s : Source) (byte : ℕ) (info : LineInfo) (entry : entry_of info ≡ 
       let before : take (byte - info.start_byte) info.line.now ≡ prefix_at (source_lines s.text) k byte = ap (λ start. take (byte - start) info.line.now) located-start ∙ ap (take (byte - start_of (source_lines s.text) k)) located-text in
       same_location location (s.first + k) (length (chars (prefix_at (source_lines s.text) k byte))) (width_of (chars (prefix_at (source_lines s.text) k byte))) byte (line ∙ located-number) (char ∙ ap (λ bs. length (chars bs)) before) (display ∙ ap (λ bs. width_of (chars bs)) before) at
 
+  -- a byte after a line's text is a step further on
   pub located-steps : (steps : ℕ) → steps ≡ cond (ltb (info.start_byte + length info.line.now) byte) 1 0 → steps ≡ steps_after_text s.text byte
   unfolding steps_after_text
   located-steps steps is =

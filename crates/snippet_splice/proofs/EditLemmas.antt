@@ -62,6 +62,7 @@ shrunk-by source e a m b ordered within h =
       text = h.whole ∙ append_assoc (take a o) m (drop a o) ∙ ap (λ l. l ++ (m ++ drop a o)) before ∙ ap (λ l. slice_range source e.start (e.start + a) ++ (m ++ l)) back;
     }
 
+-- a trimmed edit is the edit made smaller, where that doesn't end before it starts
 pub trimmed_edit-shrunk : (source : List ℕ) (e : Edit) → e.start ≤ e.end → IsShrunk source e (trimmed_edit source e)
 unfolding trimmed_edit
 trimmed_edit-shrunk source e ordered =
@@ -82,6 +83,7 @@ edited_from-earlier source a b [] low apart = drop_split source a b low
 edited_from-earlier source a b (e ∷ es) low apart =
     ap (λ l. l ++ (e.text ++ edited_from source e.end es)) (slice_split source a b e.start low apart.0) ∙ append_assoc (slice_range source a b) (slice_range source b e.start) (e.text ++ edited_from source e.end es)
 
+-- edits that stand apart from a place on stand apart from an earlier one on
 pub AreApart-earlier : (a b : ℕ) (es : List Edit) → a ≤ b → AreApart b es → AreApart a es
 AreApart-earlier a b [] low apart = tt
 AreApart-earlier a b (e ∷ es) low apart = (omega (arith, apart.0), apart.1, apart.2)

@@ -93,6 +93,7 @@ Shortens-cons b bs (c ∷ cs) h = record {
   unclosed = inr (⊎_elim (λ e. absurd (cc)) (λ other e. other (sym (last_byte-cons b c cs) ∙ e)) h.unclosed);
 }
 
+-- a text without its final line feeds is a shorter one
 pub Shortens-final : (xs : List ℕ) → Shortens xs (without_final_line_feeds xs)
 Shortens-final [] = record { tail = []; whole = refl; stops = inl refl; feeds = All-nil (λ b. b ≡ 10); unclosed = inl refl }
 Shortens-final (b ∷ bs) = Shortens-cons b bs (without_final_line_feeds bs) (Shortens-final bs)
@@ -157,6 +158,7 @@ lines-front source k within =
     (λ (some, are). record { closed = closed-joined ls k are within; count = ap length (lines_of-joined (take k ls) (AreLines-take ls k are)) ∙ length-take-le k ls (omega arith) })
     (AreLinesOf-source_lines source).lines)
 
+-- what stands before the shown part is whole lines
 pub shown-front : (fold : Bool) (source : List ℕ) (es : List Edit) → IsLinesFront (slice_range source 0 (shown_start fold source (first_start (in_order es)))) (shown_line fold source es)
 shown-front false source es = record { closed = λ some. absurd (omega arith); count = refl }
 shown-front true source es =
@@ -209,6 +211,7 @@ AreFrom-source [] k [] h =
 AreFrom-source [] k (s ∷ ss) h = absurd (omega (arith, h.within))
 AreFrom-source (b ∷ bs) k some h = h
 
+-- the lines of the shown part are those of the patched source, from the first that is shown on
 pub shown-lines : (fold : Bool) (source : List ℕ) (es : List Edit) → HasNoCr source → All (λ e. HasNoCr e.text) es → (h : IsShownPart fold source es) → AreFrom (shown_line fold source es) (texts_of (lines_of (without_final_line_feeds h.part))) (texts_of (source_lines (patched source es)))
 shown-lines fold source es none texts_none h =
     let d : List ℕ = patched source es in

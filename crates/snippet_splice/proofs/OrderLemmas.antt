@@ -4,12 +4,15 @@ use Rattle.std.proofs.lemmas.Bool.Decides.{nat_tests}
 use Rattle.std.specs.Cmp.{IsStrictWeakOrder}
 use Rattle.std.specs.Ordering.{is_lt, nat_cmp, ordering_then}
 
+-- whether a pair of numbers comes before another: by the first, and then by the second
 abbrev pub pair_lt : ℕ → ℕ → ℕ → ℕ → Bool
 pair_lt a b c d = ltb a c || (eqb a c && ltb b d)
 
+-- the code's comparison of two pairs is that one
 pub pair-tells : (a b c d : ℕ) → is_lt (ordering_then (nat_cmp a c) (nat_cmp b d)) ≡ pair_lt a b c d
 pair-tells a b c d = grind (arith, nat_tests)
 
+-- pairs by their first and then their second number are ordered
 pub pair-order : {X : Type 0} (f g : X → ℕ) → IsStrictWeakOrder (λ x y. pair_lt (f x) (g x) (f y) (g y))
 pair-order f g = record {
   one_way = λ x y h. one_way (f x) (g x) (f y) (g y) h;

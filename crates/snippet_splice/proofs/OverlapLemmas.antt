@@ -13,9 +13,11 @@ use Rattle.snippet_lines.specs.Order.{put_in}
 use Rattle.snippet_splice.proofs.EditLemmas.{trimmed-apart}
 use Rattle.snippet_splice.specs.Overlap.{overlap, overlap_at, no_edit, AreDisjoint, AreOverlapping, IsFirstOverlap, first_overlap_from, first_overlap}
 
+-- the edit at a place is that of the patch there
 pub edit-at : (ps : List Patch) (k : ℕ) (p : Patch) → k < length ps → p ≡ get_or ps k p → get_or (map edit_of ps) k no_edit ≡ edit_of p
 edit-at ps k p within is = get_or-map edit_of ps k p no_edit within ∙ ap edit_of (sym is)
 
+-- two patches overlap where their edits do
 pub overlap-seen : (ps : List Patch) (m n : ℕ) (p q : Patch) → m < length ps → n < length ps → p ≡ get_or ps m p → q ≡ get_or ps n q → overlap_at (map edit_of ps) m n ≡ overlap (edit_of p) (edit_of q)
 overlap-seen ps m n p q low high first second =
     ap (λ d. overlap d (get_or (map edit_of ps) n no_edit)) (edit-at ps m p low first) ∙ ap (overlap (edit_of p)) (edit-at ps n q high second)
@@ -71,6 +73,7 @@ put-apart at e (d ∷ ds) low ordered apart clear =
     subst (AreApart at) (sym (cond-false (precedes d e) (d ∷ put_in precedes e ds) (e ∷ d ∷ ds) f)) (low, ordered, (before, apart.1, apart.2)))
     (cases_Bool (precedes d e))
 
+-- edits that don't overlap stand apart once they are in order
 pub apart-in_order : (es : List Edit) → All (λ e. e.start ≤ e.end) es → AreDisjoint es → AreApart 0 (in_order es)
 apart-in_order [] ordered disjoint = tt
 apart-in_order (e ∷ es) ordered disjoint =
@@ -153,6 +156,7 @@ first_overlap-some : (es : List Edit) (a b : ℕ) → IsFirstOverlap es a b → 
 unfolding first_overlap
 first_overlap-some es a b first = overlap_from-some 0 es a b first ∙ same_pair (0 + a) (0 + b) a b (omega arith) (omega arith)
 
+-- edits that don't overlap have no first overlap
 pub first_overlap-none : (es : List Edit) → AreDisjoint es → first_overlap es ≡ None
 unfolding first_overlap
 first_overlap-none es disjoint = overlap_from-none 0 es disjoint

@@ -31,6 +31,7 @@ between_reversed source from to i j is js none =
       | inr high ↦ absurd (none high)
     ]
 
+-- what stands between a place and itself is UTF-8
 pub between_utf8 : (source : List ℕ) (from : ℕ) → IsUtf8 (between source from from)
 between_utf8 source from = subst IsUtf8 (sym (between_none source from from (omega arith))) IsUtf8-nil
 
@@ -38,6 +39,7 @@ nothing : capped (length (chars (after_last_lf []))) ≡ 0
 unfolding chars
 nothing = refl
 
+-- no character stands between a place and itself
 pub none_before : (source : List ℕ) (from : ℕ) → 0 ≡ characters_before source from from
 none_before source from =
     sym (ap (λ t. capped (length (chars (after_last_lf t)))) (between_none source from from (omega arith)) ∙ nothing)
@@ -47,6 +49,7 @@ between_more : (source : List ℕ) (from at to : ℕ) → from ≤ at → at ≤
 between_more source from at to low high =
     slice_split source (in_text source from) (in_text source at) (in_text source to) (in_text-mono source from at low) (in_text-mono source at to high)
 
+-- UTF-8 up to a place and UTF-8 from there on are UTF-8 together
 pub utf8_more : (source part : List ℕ) (from at to : ℕ) → from ≤ at → at ≤ to → part ≡ between source at to → IsUtf8 (between source from at) → IsUtf8 part → IsUtf8 (between source from to)
 utf8_more source part from at to low high is front utf8 =
     subst IsUtf8 (ap (λ t. between source from at ++ t) is ∙ sym (between_more source from at to low high)) (IsUtf8-append (between source from at) part front utf8)
@@ -78,6 +81,7 @@ unfolding new_stretches
 stretches_are fold source es ts from k xs starts edits is =
     ap (stretches_on k 0 0 0) (is ∙ ap (λ n. extents_from source n n ts) starts ∙ ap (extents_from source (shown_start fold source (first_start (in_order es))) (shown_start fold source (first_start (in_order es)))) edits)
 
+-- the stretches that are replaced on a line are those of the edits' extents
 pub replaced_are : (fold : Bool) (source : List ℕ) (es ts : List Edit) (from k : ℕ) (xs : List Extent) → from ≡ shown_start fold source (first_start (in_order es)) → ts ≡ trimmed_edits source es → xs ≡ extents_from source from from ts → replaced_on k 0 xs ≡ replaced_stretches fold source es k
 unfolding replaced_stretches
 replaced_are fold source es ts from k xs starts edits is =

@@ -24,9 +24,11 @@ use Rattle.snippet_splice.proofs.SpliceLemmas.{AreBeforeFinalLf, copied-same, st
 abbrev pub feeds : List ℕ → ℕ
 feeds bytes = count_by is_lf bytes
 
+-- two texts together have as many line feeds as both
 pub feeds-append : (xs ys : List ℕ) → feeds (xs ++ ys) ≡ feeds xs + feeds ys
 feeds-append xs ys = sum_by-append (λ b. cond (is_lf b) 1 0) xs ys
 
+-- a text without line feeds counts none
 pub feeds-none : (xs : List ℕ) → All (λ b. b ≢ 10) xs → feeds xs ≡ 0
 feeds-none [] none = refl
 feeds-none (x ∷ xs) none =
@@ -61,6 +63,7 @@ front-lines source k =
     let whole : source ≡ joined (take k ls) ++ joined (drop k ls) = sym (joined-source_lines source) ∙ ap joined (sym (take-append-drop k ls)) ∙ flat_map-append line_bytes (take k ls) (drop k ls) in
     ap (take (length (joined (take k ls)))) whole ∙ take_at (joined (take k ls)) (joined (drop k ls)) (length (joined (take k ls))) refl
 
+-- as many line feeds stand before a line as lines do
 pub feeds-front : (source : List ℕ) (k : ℕ) → k < length (source_lines source) → feeds (take (start_of (source_lines source) k) source) ≡ k
 feeds-front source k within =
     let ls : List Line = source_lines source in

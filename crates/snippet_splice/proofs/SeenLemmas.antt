@@ -15,6 +15,7 @@ use Rattle.snippet_lines.proofs.OrderLemmas.{sorted-only, map-ordered_by}
 abbrev pub Seen : Type 0
 Seen = Edit × ℕ × ℕ
 
+-- a trimmed patch as it is seen
 abbrev pub seen : TrimmedPatch → Seen
 seen t = (trimmed_edit_of t, t.original_span.start, t.original_span.end)
 
@@ -28,6 +29,7 @@ pub record AreTrimmed (source : List ℕ) (patches : List Patch) (trimmed : List
   pub spans : All (λ t. IsSpan source t.span.start t.span.end) trimmed
   pub originals : All (λ t. IsSpan source t.original_span.start t.original_span.end) trimmed
 
+-- with one more patch trimmed the patches so far are trimmed
 pub AreTrimmed-more : (source : List ℕ) (patches : List Patch) (trimmed : List TrimmedPatch) (i : ℕ) (d : Patch) (t : TrimmedPatch)
     → i < length patches → AreTrimmed source (take i patches) trimmed → seen t ≡ seen_edit source (edit_of (get_or patches i d))
     → IsSpan source t.span.start t.span.end → IsSpan source t.original_span.start t.original_span.end
@@ -62,11 +64,13 @@ map-map : {X Y Z : Type 0} (f : X → Y) (g : Y → Z) (xs : List X) → map g (
 map-map f g [] = refl
 map-map f g (x ∷ xs) = ap (λ l. g (f x) ∷ l) (map-map f g xs)
 
+-- trimmed patches that are seen as the edits in order are these edits, trimmed
 pub sorted-edits : (source : List ℕ) (patches : List Patch) (sorted : List TrimmedPatch) → map seen sorted ≡ map (seen_edit source) (in_order (map edit_of patches)) → map trimmed_edit_of sorted ≡ trimmed_edits source (map edit_of patches)
 sorted-edits source patches sorted h =
     let first : Seen → Edit = λ s. s.0 in
     sym (map-map seen first sorted) ∙ ap (map first) h ∙ map-map (seen_edit source) first (in_order (map edit_of patches))
 
+-- trimmed patches that are seen as the edits in order have these edits' bounds
 pub sorted-bounds : (source : List ℕ) (patches : List Patch) (sorted : List TrimmedPatch) → map seen sorted ≡ map (seen_edit source) (in_order (map edit_of patches)) → map original_bounds_of sorted ≡ map bounds_of (in_order (map edit_of patches))
 sorted-bounds source patches sorted h =
     let rest : Seen → ℕ × ℕ = λ s. (s.1, s.2) in

@@ -40,6 +40,7 @@ slice-min s a b low =
     (λ inside. let e : min b n - min a n ≡ b - a = omega arith in ap (λ k. take k (drop a s)) e)
     (λ past. take_all (min b n - min a n) (drop a s) (omega (arith, length-drop a s)) ∙ sym (take_all (b - a) (drop a s) (omega (arith, length-drop a s)))) (cases_lt b n)
 
+-- a stretch without carriage returns is copied as it is
 pub copied-same : (source : List ℕ) (a b : ℕ) → HasNoCr source → a ≤ b → IsBeforeFinalLf source b → copied source a b ≡ slice_range source a b
 copied-same source a b none low before =
     let from : in_text source a ≡ min a (length source) = in_text-same source a none (λ e. omega (arith, before e)) in
@@ -91,6 +92,7 @@ prefix-none : (b : ℕ) (bs : List ℕ) → is_lf b ≡ true → before_first is
 prefix-none b bs lf =
     ap (λ n. take n (b ∷ bs)) (cond-false (not (is_lf b)) (1 + position_or_len is_lf bs) 0 (ap not lf))
 
+-- a byte that is no carriage return stands in front of its line's text
 pub line_with_byte-other : (b : ℕ) (text : List ℕ) (ending : EndLine) → b ≢ 13 → (line_with_byte b text ending).0 ≡ b ∷ text
 line_with_byte-other b [] Eof other = refl
 line_with_byte-other b [] Lf other =
@@ -149,6 +151,7 @@ shown-whole fold source es none before apart =
     let after : AreApart s ts = shown-apart fold source es apart in
     sym (edited_from-trimmed source 0 (in_order es) apart) ∙ edited_from-earlier source 0 s ts (omega arith) after ∙ ap (λ l. slice_range source 0 s ++ l) (edited_from-written source s ts none before after)
 
+-- what stands before the shown part is as long as where that starts
 pub front-size : (fold : Bool) (source : List ℕ) (first : ℕ) → length (slice_range source 0 (shown_start fold source first)) ≡ shown_start fold source first
 front-size fold source first =
     let s : ℕ = shown_start fold source first in
@@ -157,6 +160,7 @@ front-size fold source first =
 
 -- ---- how the last text ends
 
+-- the last byte of two texts is a line feed where the second one's is
 pub last_byte-append : (xs ys : List ℕ) → last_byte ys ≡ 10 → last_byte (xs ++ ys) ≡ 10
 last_byte-append xs [] e = absurd (cc)
 last_byte-append [] (y ∷ ys) e = e

@@ -50,10 +50,12 @@ line_set lines i was now x k within is more =
 abbrev pub HoldsNoLf : List ℕ → Type 0
 HoldsNoLf text = (i : ℕ) → i < length text → get_or text i 0 ≢ 10
 
+-- a piece and its line feed come off the front of a text that is split
 pub pieces_cut : (text piece after : List ℕ) → text ≡ piece ++ 10 ∷ after → HoldsNoLf piece → slice_split is_lf text ≡ piece ∷ slice_split is_lf after
 pieces_cut text piece after is none =
     ap (slice_split is_lf) is ∙ slice_split_at is_lf piece 10 after (λ i d within. false_from_ne_true _ (λ t. none i within (get_or_default piece i 0 d within ∙ eqb-true _ 10 t))) refl
 
+-- a text without line feeds is one piece
 pub pieces_whole : (text : List ℕ) → HoldsNoLf text → slice_split is_lf text ≡ text ∷ []
 pieces_whole text none =
     slice_split_none is_lf text (λ i d within. false_from_ne_true _ (λ t. none i within (get_or_default text i 0 d within ∙ eqb-true _ 10 t)))
@@ -96,6 +98,7 @@ pub after_piece : (text piece after : List ℕ) → text ≡ piece ++ 10 ∷ aft
 after_piece text piece after is =
     ap after_last_lf is ∙ after_other piece (10 ∷ after) (one_lf after) ∙ after_some 10 after (one_lf after)
 
+-- a text without line feeds is what stands after its last one
 pub after_whole : (text : List ℕ) → HoldsNoLf text → after_last_lf text ≡ text
 after_whole text none = after_none text (count text none)
   where
@@ -199,6 +202,7 @@ without_cr-push text front is = ap without_cr is ∙ pushed front
         let last : last_byte whole ≡ 13 = grind (arith, places) in
         cond-true (eqb (last_byte whole) 13) (take (length whole - 1) whole) whole (eq-eqb _ 13 last) ∙ same_lists _ _ (grind (arith, places)) (λ k d h. grind (arith, places))
 
+-- a text that doesn't end in a carriage return stays
 pub without_cr-stays : (text : List ℕ) → ((front : List ℕ) → text ≢ front ++ 13 ∷ []) → without_cr text ≡ text
 without_cr-stays text open_end =
     cond-false (eqb (last_byte text) 13) (take (length text - 1) text) text (false_from_ne_true _ (λ t. last_byte-not text 13 (lit< tt) open_end (eqb-true _ 13 t)))

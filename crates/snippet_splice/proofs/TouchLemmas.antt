@@ -233,6 +233,7 @@ pub record IsHeld (ranges : List LineRange) (j : ℕ) : Type 0 where
   pub from : range.first ≤ j
   pub to : j ≤ range.last
 
+-- a line that an edit touches stands in one of the ranges of lines
 pub touched-held : (source : List ℕ) (es : List Edit) (j : ℕ) → IsTouched source es j → IsHeld (line_ranges source es) j
 touched-held source es j touched =
     let ss : List Stand = stands source (trimmed_edits source es) in

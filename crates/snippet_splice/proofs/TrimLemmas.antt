@@ -44,6 +44,7 @@ same_end o r a m b h =
 
 -- ---- the three ways
 
+-- a replacement that begins with the original keeps all of it in front
 pub IsSandwich-begins : (o r rest : List ℕ) → r ≡ o ++ rest → IsSandwich o r (length o) rest 0
 IsSandwich-begins o r rest e =
     let whole : o ++ rest ≡ take (length o) o ++ rest ++ drop (length o) o = rw (take_all (length o) o (le_refl (length o)), drop_all (length o) o (le_refl (length o)), append-nil) refl in
@@ -54,6 +55,7 @@ IsSandwich-begins o r rest e =
       longest = λ some a m b h. h.border.0;
     }
 
+-- a replacement that ends with the original, and doesn't begin with it, keeps all of it at the back
 pub IsSandwich-ends : (o r front : List ℕ) → IsUtf8 o → r ≡ front ++ o → ((rest : List ℕ) → r ≢ o ++ rest) → IsSandwich o r 0 front (length o)
 IsSandwich-ends o r front utf8 e begins =
     record {
@@ -98,6 +100,7 @@ pub IsSandwich-parts : (o r : List ℕ) (n : ℕ) (m rest tail : List ℕ) → I
 IsSandwich-parts o r n m rest tail common begins ends of_o of_r e =
     subst (λ k. IsSandwich o r n m k) (ap length (sym of_o)) (IsSandwich-inside o r n m common begins ends (sym of_r ∙ e ∙ ap (λ l. m ++ l) of_o))
 
+-- no sandwich is made where what the common front leaves doesn't end the replacement
 pub sandwiched-parts : (o r : List ℕ) (n : ℕ) (rest tail : List ℕ) → IsCommonPrefix o r n → rest ≡ drop n o → tail ≡ drop n r → ((front : List ℕ) → tail ≢ front ++ rest) → (a : ℕ) (m : List ℕ) (b : ℕ) → IsSandwiched o r a m b → ⊥
 sandwiched-parts o r n rest tail common of_o of_r none =
     sandwiched-inside o r n common (λ front e. none front (of_r ∙ e ∙ ap (λ l. front ++ l) (sym of_o)))

@@ -22,6 +22,7 @@ with_line_feeds-split (x ∷ xs) ys none =
     let other : (eqb x 13 && eqb (get_or (xs ++ 13 ∷ ys) 0 0) 10) ≡ false = and_left (eqb x 13) (eqb (get_or (xs ++ 13 ∷ ys) 0 0) 10) (ne_eqb x 13 (none 0 (omega arith))) in
     cond-false (eqb x 13 && eqb (get_or (xs ++ 13 ∷ ys) 0 0) 10) (with_line_feeds (xs ++ 13 ∷ ys)) (x ∷ with_line_feeds (xs ++ 13 ∷ ys)) other ∙ ap (λ l. x ∷ l) (with_line_feeds-split xs ys (λ i within. none (suc i) (omega arith)))
 
+-- a text without carriage returns stays
 pub with_line_feeds-none : (xs : List ℕ) → ((i : ℕ) → i < length xs → get_or xs i 0 ≢ 13) → with_line_feeds xs ≡ xs
 with_line_feeds-none [] none = refl
 with_line_feeds-none (x ∷ xs) none =
@@ -45,6 +46,7 @@ utf8-after rest front after b utf8 ascii e =
     let cut : drop (length front + 1) rest ≡ after = ap (drop (length front + 1)) (e ∙ sym (append_assoc front (b ∷ []) after)) ∙ drop_at (front ++ b ∷ []) after (length front + 1) (length_push front b) in
     subst IsUtf8 cut (IsUtf8-drop rest (length front + 1) utf8 (IsCharBoundary-after_ascii rest (length front) utf8 within (omega (arith, at))))
 
+-- what stands before an ASCII byte in UTF-8 is UTF-8
 pub utf8-front : (rest front after : List ℕ) (b : ℕ) → IsUtf8 rest → b < 128 → rest ≡ front ++ b ∷ after → IsUtf8 front
 utf8-front rest front after b utf8 ascii e =
     let at : get_or rest (length front) 0 ≡ b = ap (λ l. get_or l (length front) 0) e ∙ get_or_at front b after 0 (length front) refl in
@@ -65,6 +67,7 @@ count-with_line_feeds (x ∷ xs) =
 
 -- ---- places of a text
 
+-- a later place is at least as far in the text
 pub in_text-mono : (source : List ℕ) (a b : ℕ) → a ≤ b → in_text source a ≤ in_text source b
 in_text-mono source a b low =
     let e : ℕ = text_end source in
@@ -79,6 +82,7 @@ in_text-mono source a b low =
 
 -- ---- what is written
 
+-- the edits so far are written: what is written and what is left make up all
 pub record Writes (source : List ℕ) (from : ℕ) (es : List Edit) (out : List ℕ) (ranges : List LineRange) (feeds end : ℕ) (left : List Edit) : Type 0 where
   pub bytes : out ++ written source end left ≡ written source from es
   pub lines : ranges ++ written_ranges source feeds end left ≡ written_ranges source 0 from es
@@ -87,6 +91,7 @@ pub record Writes (source : List ℕ) (from : ℕ) (es : List Edit) (out : List 
   pub last : end_from end left ≡ end_from from es
   pub border : IsSpanBorder source end
 
+-- with one more edit written the edits so far are written
 pub Writes-more : (source : List ℕ) (from : ℕ) (es : List Edit) (out : List ℕ) (ranges : List LineRange) (feeds end : ℕ) (e : Edit) (left : List Edit)
     (out2 out3 : List ℕ) (between : ℕ) → Writes source from es out ranges feeds end (e ∷ left) → out2 ≡ out ++ copied source end e.start
     → between ≡ count_by is_lf (copied source end e.start) → out3 ≡ out2 ++ e.text → IsSpanBorder source e.end
@@ -110,6 +115,7 @@ Writes-more source from es out ranges feeds end e left out2 out3 between h one n
 
 -- ---- the end of a text
 
+-- the last text of trimmed patches is that of the last one
 pub last_text-at : (ps : List TrimmedPatch) (d : TrimmedPatch) → 0 < length ps → last_text (map trimmed_edit_of ps) ≡ (get_or ps (length ps - 1) d).replacement.now
 last_text-at [] d some = absurd (omega arith)
 last_text-at (p ∷ []) d some = refl
@@ -136,6 +142,7 @@ without_lone-twice b [] stays =
     cond_both (is_lf b) [] (b ∷ []) (λ l. without_final_line_feeds l ≡ l) (λ _. refl) (λ other. cond-false (is_lf b) [] (b ∷ []) other)
 without_lone-twice b (c ∷ cs) stays = ap (unless_lone_line_feed b) stays
 
+-- final line feeds are gone once they are taken off
 pub without_final-twice : (xs : List ℕ) → without_final_line_feeds (without_final_line_feeds xs) ≡ without_final_line_feeds xs
 without_final-twice [] = refl
 without_final-twice (b ∷ bs) = without_lone-twice b (without_final_line_feeds bs) (without_final-twice bs)

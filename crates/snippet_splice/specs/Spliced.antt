@@ -20,6 +20,7 @@ stands_from source at now (e ∷ es) =
     let from = now + length (slice_range source at e.start) in
     record { from = from; to = from + length e.text } ∷ stands_from source e.end (from + length e.text) es
 
+-- the same, from the start of the source on
 abbrev pub stands : List ℕ → List Edit → List Stand
 stands source es = stands_from source 0 0 es
 

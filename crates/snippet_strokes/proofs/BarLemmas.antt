@@ -39,6 +39,7 @@ bar_glyph_known Dotted Ascii false = refl
 bar_glyph_known Dotted Unicode true = refl
 bar_glyph_known Dotted Unicode false = refl
 
+-- the glyph of a bar is no listed character
 pub bar_glyph_free : (stroke : BarStroke) (decor : DecorStyle) (primary : Bool) → is_listed (bar_glyph stroke decor primary) ≡ false
 bar_glyph_free Top Ascii true = refl
 bar_glyph_free Top Ascii false = refl
@@ -58,6 +59,7 @@ space_known : (decor : DecorStyle) → list_any (λ g. 32 == g) (bar_glyphs deco
 space_known Ascii = refl
 space_known Unicode = refl
 
+-- a space without a link is a cell that a bar may have
 pub bar_space : (decor : DecorStyle) (cell : Cell) → cell.ch ≡ 32 → cell.link ≡ None → IsBarCell decor cell
 bar_space decor cell blank unlinked =
     record {
@@ -89,6 +91,7 @@ BarsDrawn-more layout old mid new done more =
       free = λ free. more.free (done.free free);
     }
 
+-- where rows stay, no bar is drawn, which is a way to draw bars
 pub DrawsBars-none : (layout : Layout) (row : ℕ) (rows : List (List Cell)) → DrawsBars layout row rows rows
 DrawsBars-none layout row rows =
     record {
@@ -97,6 +100,7 @@ DrawsBars-none layout row rows =
       count = refl;
     }
 
+-- bars drawn and further ones drawn are bars drawn
 pub DrawsBars-more : (layout : Layout) (row : ℕ) (old mid new : List (List Cell)) → DrawsBars layout row old mid → DrawsBars layout row mid new → DrawsBars layout row old new
 DrawsBars-more layout row old mid new done more =
     record {
@@ -109,6 +113,7 @@ DrawsBars-more layout row old mid new done more =
 abbrev pub no_bar : OpenBar
 no_bar = record { depth = 0; primary = false }
 
+-- the first of some bars stands beside itself
 pub beside_itself : (bars : List OpenBar) (from k : ℕ) (d : OpenBar) → k ≡ from → StandsBeside (get_or bars from d) (k - from) (get_or bars k d)
 beside_itself bars from k d same =
     record {
@@ -154,6 +159,7 @@ BarsDrawn-write layout old new row at cells writes right near bar_cell clean =
       ]));
     }
 
+-- cells of bars that are written between the gutter and the code are bars drawn
 pub DrawsBars-writes : (layout : Layout) (row r at : ℕ) (old new : List (List Cell)) (cells : List Cell) → WritesCells old new r at cells → row ≤ r
     → r < length old → layout.gutter + 3 ≤ at → at + length cells ≤ layout.code → All (IsBarCell layout.decor) cells → All IsFreeCell cells
     → DrawsBars layout row old new

@@ -15,6 +15,7 @@ use Rattle.snippet_strokes.specs.Bars.{ChangesRows, StandsBeside, bar_glyph, bar
 
 -- ---- rows that were changed by a rule
 
+-- rows stay where the end is at the first row or above it
 pub ChangesRows-none : (rule : List Cell → List Cell) (row end : ℕ) (rows : List (List Cell)) → end ≤ row → ChangesRows rule row end rows rows
 ChangesRows-none rule row end rows none =
     record {

@@ -119,6 +119,7 @@ pub record IsBarWrite (layout : Layout) (row count : ℕ) (w : Write) : Type 0 w
   pub one : w.text ≡ ch ∷ []
   pub bar_cell : IsBarCell layout.decor (unlinked_cell w.role ch)
 
+-- writes of bars, painted, draw cells of bars alone
 pub DrawsBarCells-painted : (layout : Layout) (row count : ℕ) (ws : List Write) (old : List (List Cell)) → count ≡ length old → All (IsBarWrite layout row count) ws → DrawsBarCells layout row old (painted ws old)
 DrawsBarCells-painted layout row count [] old is all = DrawsBarCells-none layout row old
 DrawsBarCells-painted layout row count (w ∷ ws) old is all =

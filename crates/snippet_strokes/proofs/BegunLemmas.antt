@@ -123,6 +123,7 @@ plain_entries room decor es plain =
     below : (e : LineAnnotation) → has_column e ≡ true → e.start.display < e.end.display
     below e is = less e.start.display e.end.display is
 
+-- plain entries have no wide one among them
 pub plain_narrow : (room : ℕ) (decor : DecorStyle) (es : List LineAnnotation) → are_plain room decor es ≡ true → wide_entries room decor es ≡ 0
 plain_narrow room decor es plain =
     let single = and_parts (list_all is_single es) (list_all has_column es && wide_entries room decor es == 0) plain in
@@ -141,6 +142,7 @@ pub cut_left : (layout : Layout) (wide : ℕ) (whole row : List Cell) → IsCut 
 cut_left layout wide whole row cut c left =
     sym (get_or-take layout.code row c SPACE left) ∙ ap (λ cells. slice_index_or cells c SPACE) cut.left ∙ get_or-take layout.code whole c SPACE left
 
+-- a row of strokes that is cut is one still
 pub IsStrokeRow-cut : (layout : Layout) (wide : ℕ) (plain : Bool) (es : List LineAnnotation) (closes : Bool) (whole row : List Cell)
     → layout.gutter + 3 ≤ layout.code → (plain ≡ true → wide ≡ 0) → IsStrokeRow layout plain es closes whole → IsCut layout wide whole row
     → IsStrokeRow layout plain es closes row

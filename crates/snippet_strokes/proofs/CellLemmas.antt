@@ -24,7 +24,7 @@ use Rattle.snippet_model.specs.Rows.{IsFree}
 use Rattle.snippet_strokes.specs.Rows.{begun_cells, ended_cells, shown_cells, window_cells, with_cells}
 use Rattle.snippet_strokes.proofs.DrawLemmas.{free_drawn}
 use Rattle.snippet_strokes.proofs.RowLemmas.{free_written}
-use Rattle.snippet_strokes.proofs.TextLemmas.{chars_some}
+use Rattle.snippet_grid.proofs.GridShown.{chars_some}
 pub use Rattle.snippet_grid.proofs.RowLemmas.{row_text-text_cells}
 
 -- the cells that are written from a cell on, after those that stand there
@@ -161,6 +161,7 @@ free_begun decor (Some columns) text free =
       | false ↦ free_written (text_cells LineNumber (placeholder_of decor)) columns (text_cells Quotation text) (free_placeholder decor) (free_drawn Quotation text free)
     ]
 
+-- the cells that show a text without listed characters are free
 pub free_shown : (decor : DecorStyle) (start : Option ℕ) (text : List ℕ) (end : Option ℕ) → All (λ c. is_listed c ≡ false) text → IsFree (shown_cells decor start text end)
 free_shown decor start text None free = free_begun decor start text free
 free_shown decor start text (Some at) free =
@@ -179,6 +180,7 @@ begun_short decor (Some columns) text few short =
       | false ↦ omega (arith, placeholder_short decor, length-written SPACE (text_cells LineNumber (placeholder_of decor)) columns (text_cells Quotation text), length-text_cells Quotation text, few, short)
     ]
 
+-- the cells that show a short text are few
 pub shown_short : (decor : DecorStyle) (start : Option ℕ) (text : List ℕ) (end : Option ℕ) → IfSome start (λ s. s < 2 ^ 59) → length text < 2 ^ 60 → IfSome end (λ at. at < 2 ^ 61) → length (shown_cells decor start text end) < 2 ^ 61 + 4
 shown_short decor start text None few short ends = omega (arith, begun_short decor start text few short)
 shown_short decor start text (Some at) few short ends =

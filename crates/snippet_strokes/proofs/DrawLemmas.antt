@@ -106,6 +106,7 @@ free_bar_glyphs : (decor : DecorStyle) → list_any is_listed (bar_glyphs decor)
 free_bar_glyphs Ascii = refl
 free_bar_glyphs Unicode = refl
 
+-- a cell that a bar may have is free
 pub free_bar : (decor : DecorStyle) (cell : Cell) → IsBarCell decor cell → IsFreeCell cell
 free_bar decor cell is =
     (in_glyphs cell.ch (bar_glyphs decor) (each_fails is_listed (bar_glyphs decor) (free_bar_glyphs decor)) is.glyph, is.link)
@@ -115,6 +116,7 @@ pub bar_space : (decor : DecorStyle) → IsBarCell decor SPACE
 bar_space Ascii = record { glyph = refl; link = refl }
 bar_space Unicode = record { glyph = refl; link = refl }
 
+-- the horizontal stroke of a bar is a cell that a bar may have
 pub bar_horizontal : (decor : DecorStyle) (primary : Bool) (role : ElementStyle) (ch : ℕ) → ch ≡ glyph_of decor primary 95 95 0x2501 0x2500 → IsBarCell decor (unlinked_cell role ch)
 bar_horizontal decor primary role ch is =
     record { glyph = subst (λ x. list_any (λ g. x == g) (bar_glyphs decor) ≡ true) (sym is) (among decor primary); link = refl }
@@ -125,6 +127,7 @@ bar_horizontal decor primary role ch is =
     among Unicode true = refl
     among Unicode false = refl
 
+-- the vertical stroke of a bar is a cell that a bar may have
 pub bar_vertical : (decor : DecorStyle) (primary : Bool) (role : ElementStyle) (ch : ℕ) → ch ≡ glyph_of decor primary 124 124 0x2503 0x2502 → IsBarCell decor (unlinked_cell role ch)
 bar_vertical decor primary role ch is =
     record { glyph = subst (λ x. list_any (λ g. x == g) (bar_glyphs decor) ≡ true) (sym is) (among decor primary); link = refl }
@@ -135,6 +138,7 @@ bar_vertical decor primary role ch is =
     among Unicode true = refl
     among Unicode false = refl
 
+-- the upper corner of a bar is a cell that a bar may have
 pub bar_top : (decor : DecorStyle) (primary : Bool) (role : ElementStyle) (ch : ℕ) → ch ≡ glyph_of decor primary 32 32 0x250F 0x250C → IsBarCell decor (unlinked_cell role ch)
 bar_top decor primary role ch is =
     record { glyph = subst (λ x. list_any (λ g. x == g) (bar_glyphs decor) ≡ true) (sym is) (among decor primary); link = refl }
@@ -145,6 +149,7 @@ bar_top decor primary role ch is =
     among Unicode true = refl
     among Unicode false = refl
 
+-- the lower corner of a bar is a cell that a bar may have
 pub bar_bottom : (decor : DecorStyle) (primary : Bool) (role : ElementStyle) (ch : ℕ) → ch ≡ glyph_of decor primary 124 124 0x2517 0x2514 → IsBarCell decor (unlinked_cell role ch)
 bar_bottom decor primary role ch is =
     record { glyph = subst (λ x. list_any (λ g. x == g) (bar_glyphs decor) ≡ true) (sym is) (among decor primary); link = refl }
@@ -165,6 +170,7 @@ DrawsBarCells-none layout row rows =
       longer = λ r. omega arith;
     }
 
+-- cells of bars drawn and further ones drawn are cells of bars drawn
 pub DrawsBarCells-more : (layout : Layout) (row : ℕ) (old mid new : List (List Cell)) → DrawsBarCells layout row old mid → DrawsBarCells layout row mid new → DrawsBarCells layout row old new
 DrawsBarCells-more layout row old mid new done more =
     record {
@@ -174,6 +180,7 @@ DrawsBarCells-more layout row old mid new done more =
       longer = λ r. omega (arith, done.longer r, more.longer r);
     }
 
+-- a cell of a bar that is written between the gutter and the code is one drawn
 pub DrawsBarCells-writes : (layout : Layout) (row r at : ℕ) (old new : List (List Cell)) (cell : Cell) → WritesCells old new r at (cell ∷ []) → row ≤ r → r < length old → layout.gutter + 3 ≤ at → at < layout.code → IsBarCell layout.decor cell → DrawsBarCells layout row old new
 DrawsBarCells-writes layout row r at old new cell writes lower within right left is =
     let P : Cell → Type 0 = IsFreeCell in

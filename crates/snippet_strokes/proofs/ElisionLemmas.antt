@@ -27,10 +27,12 @@ abbrev pub elision_cell : DecorStyle → ℕ → ℕ
 elision_cell Ascii gutter = 0
 elision_cell Unicode gutter = gutter + 1
 
+-- spaces and the glyph for lines that are left out are its bare row
 pub bare_elision_is : (decor : DecorStyle) (gutter : ℕ) → replicate (elision_cell decor gutter) SPACE ++ text_cells LineNumber (elision_of decor) ≡ bare_elision_row decor gutter
 bare_elision_is Ascii gutter = refl
 bare_elision_is Unicode gutter = refl
 
+-- the glyph for lines that are left out has a character
 pub elision_some : (decor : DecorStyle) → 0 < length (elision_of decor)
 elision_some Ascii = omega arith
 elision_some Unicode = omega arith

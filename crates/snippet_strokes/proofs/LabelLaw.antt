@@ -126,6 +126,7 @@ pub record StandsBelow (e : PlacedEntry) : Type 0 where
   pub row : (label_place e).0 ≡ e.position + 1
   pub column : (label_place e).1 ≡ e.entry.start.display
 
+-- a label stands after its mark or in a row below
 pub label_parts : (e : PlacedEntry) → StandsAfter e ⊎ StandsBelow e
 label_parts e =
     elim (cases_eq e.position 0) [

@@ -21,6 +21,7 @@ use Rattle.snippet_strokes.specs.Strokes.{label_write}
 use Rattle.snippet_strokes.specs.Writes.{Reaches}
 use Rattle.snippet_strokes.proofs.StrokeCells.{BesideLabels}
 use Rattle.snippet_strokes.proofs.LabelLaw.{label_parts, placed_apart}
+use Rattle.snippet_view.proofs.EntryFacts.{count-map}
 
 -- ---- what a rule gives for things in another order
 
@@ -90,11 +91,6 @@ one_passes q (x ∷ xs) apart =
           let here : ◌≡◌ {A = ℕ} (cond (q x) 1 0) 0 = ap (λ b. cond b 1 0) fails in
           omega (arith, sum_by-cons (λ y. cond (q y) 1 0) x xs, here, one_passes q xs (λ i j d d2 before within. apart (suc i) (suc j) d d2 (omega (arith, before)) (omega (arith, within))))
     ]
-
-count-map : {X Y : Type 0} (q : Y → Bool) (f : X → Y) (xs : List X) → count_by q (map f xs) ≡ count_by (λ x. q (f x)) xs
-count-map q f [] = refl
-count-map q f (x ∷ xs) =
-    sum_by-cons (λ y. cond (q y) 1 0) (f x) (map f xs) ∙ ap (λ n. cond (q (f x)) 1 0 + n) (count-map q f xs) ∙ sym (sum_by-cons (λ y. cond (q (f y)) 1 0) x xs)
 
 -- ---- labels
 

@@ -43,6 +43,7 @@ label_unmarked Primary = refl
 label_unmarked Context = refl
 label_unmarked Visible = refl
 
+-- labels, painted, mark no start
 pub labels_unmarked : (layout : Layout) (row : ℕ) (es : List PlacedEntry) (rows : List (List Cell)) → MarksStarts layout.code [] rows (painted (labels_of layout row es) rows)
 labels_unmarked layout row es rows r c _ before =
     let M : Cell → Type 0 = λ cell. has_mark_role cell ≡ false in

@@ -19,6 +19,7 @@ pub mod ShiftLemmas
 pub mod BegunLemmas
 pub mod StrokeCells
 pub mod StrokeLemmas
+pub mod NoStrokes
 pub mod WholeLemmas
 pub mod SnippetLemmas
 pub mod PaintLemmas

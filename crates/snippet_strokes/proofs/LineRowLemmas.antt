@@ -95,6 +95,7 @@ module _ (layout : Layout) (room : ℕ) (closes : Bool) (es : List LineAnnotatio
             cuts_of-narrow layout room order flags none ∙ sym (cuts_of-narrow layout room (painting_order placed) (overlapped placed) (ap (list_any (is_wide_at room layout.decor)) (sym order_is) ∙ none))
       ]
 
+  -- the rows of a line are its strokes, painted, and cut where entries are wide
   pub painted_added : AddsPainted layout room closes es above source final
   painted_added =
       let many : length own ≡ count + 1 = omega (arith, ap length new_below, length-append above own, long, all_rows) in

@@ -47,6 +47,7 @@ painted_one above rows w =
     let cells : List Cell = text_cells w.role w.text in
     ap (λ row. written [] (above ++ rows) (length above + w.row) (written SPACE row w.cell cells ∷ [])) (row_at-below above rows w.row) ∙ written-below above rows w.row (written SPACE (row_at rows w.row) w.cell cells ∷ [])
 
+-- writes that are lowered past some rows leave these, and paint those below
 pub painted-below : (above : List (List Cell)) (ws : List Write) (rows : List (List Cell)) → painted (map (lowered (length above)) ws) (above ++ rows) ≡ above ++ painted ws rows
 painted-below above [] rows = refl
 painted-below above (w ∷ ws) rows =

@@ -73,6 +73,7 @@ painted_upto layout row es d old (suc i) within =
     (Painted-next layout es i d row old mid (painted (f e) mid) inside (painted_upto layout row es d old i (omega (arith, within)))
     (Paints-mark layout row e mid)))
 
+-- the writes of marks paint the marks
 pub Painted-marks : (layout : Layout) (row : ℕ) (es : List PlacedEntry) (old : List (List Cell)) → Painted layout es row old (painted (marks_of layout row es) old)
 Painted-marks layout row [] old = Painted-none layout row old
 Painted-marks layout row (e ∷ es) old =

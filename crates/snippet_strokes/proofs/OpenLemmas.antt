@@ -37,6 +37,7 @@ room_at layout (MultilineEnd depth) primary has =
     All-cons (HasRoom layout) (record { depth = depth; primary = primary }) [] has (All-nil (HasRoom layout))
 room_at layout (MultilineLine depth) primary has = All-nil (HasRoom layout)
 
+-- where each entry's bar has its cell, the bars that end there have room
 pub room_ends : (layout : Layout) (es : List LineAnnotation) → All (HasBarCell layout) es → All (HasRoom layout) (ends_of_bars es)
 room_ends layout [] all = All-nil (HasRoom layout)
 room_ends layout (e ∷ es) all =
@@ -45,10 +46,12 @@ room_ends layout (e ∷ es) all =
     let first : All (HasRoom layout) (ends_of_bars (e ∷ [])) = All-same (HasRoom layout) (ends_of_bars (e ∷ [])) (option_to_list (bar_of e)) (one_end e) (room_at layout e.annotation_type (is_primary e.kind) head) in
     All-same (HasRoom layout) (ends_of_bars (e ∷ es)) (ends_of_bars (e ∷ []) ++ ends_of_bars es) (filter_map-append bar_of (e ∷ []) es) (All-append (HasRoom layout) (ends_of_bars (e ∷ [])) (ends_of_bars es) first (room_ends layout es (All-tail P e es all)))
 
+-- bars that have room have it also without some of them
 pub room_apart : (layout : Layout) (bars others : List OpenBar) → All (HasRoom layout) bars → All (HasRoom layout) (bars_apart bars others)
 room_apart layout bars others all =
     All-filter (λ (b : OpenBar). not (has_depth others b.depth)) (HasRoom layout) bars all
 
+-- the bars that are open below a line have room, where those above it and its entries' bars do
 pub room_below : (layout : Layout) (bars : List OpenBar) (es : List LineAnnotation) → All (HasRoom layout) bars → All (HasBarCell layout) es → All (HasRoom layout) (open_below bars es)
 room_below layout bars es all bar_cells =
     let ends = ends_of_bars es in

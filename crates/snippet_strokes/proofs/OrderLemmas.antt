@@ -197,6 +197,7 @@ paint_order = record {
   chain = λ x y z g h. paint_chain (entry_width x.entry) (entry_width y.entry) (entry_width z.entry) (is_primary x.entry.kind) (is_primary y.entry.kind) (is_primary z.entry.kind) g h;
 }
 
+-- entries that are sorted stably by the code's test stand in the order of painting
 pub painting_order_of_sort : (given sorted : List PlacedEntry) → IsSortedBy paint_less sorted → IsStableBy paint_less given sorted → sorted ≡ painting_order given
 unfolding painted_before
 painting_order_of_sort given sorted up stable =

@@ -102,6 +102,7 @@ first_cell_is layout e first primary role is_kind is_first is_role =
     let here : (layout.code + e.entry.start.display == layout.code + e.entry.start.display) ≡ true = grind (arith, nat_tests) in
     rw (is_role, is_first, is_kind, here) refl
 
+-- the glyph of an underline is the cell of a mark at each column after the first
 pub other_cell_is : (layout : Layout) (e : PlacedEntry) (glyph : ℕ) (primary : Bool) (role : ElementStyle) → primary ≡ is_primary e.entry.kind
     → glyph ≡ glyph_of layout.decor primary 94 45 0x2501 0x2500 → role ≡ underline_role primary → (c : ℕ) → layout.code + e.entry.start.display < c
     → unlinked_cell role glyph ≡ mark_cell layout e c
@@ -133,6 +134,7 @@ stroke_is Unicode Primary false stem = (inl refl, refl)
 stroke_is Unicode Context false stem = (inl refl, refl)
 stroke_is Unicode Visible false stem = (inl refl, refl)
 
+-- the cell of a mark is one that a mark of that kind may have
 pub IsMarkCell-mark_cell : (layout : Layout) (e : PlacedEntry) (c : ℕ) → takes_space e ≡ false → IsMarkCell layout.decor e.entry.kind (mark_cell layout e c)
 IsMarkCell-mark_cell layout e c flat =
     let primary = is_primary e.entry.kind in
@@ -307,6 +309,7 @@ Painted-next layout es i d row old mid new within done paints =
 abbrev pub IsPlainEntry : LineAnnotation → Type 0
 IsPlainEntry e = (is_single e ≡ true) × (e.start.display < e.end.display)
 
+-- a plain entry takes no space
 pub spaceless : (e : PlacedEntry) → IsPlainEntry e.entry → takes_space e ≡ false
 spaceless e plain = by_type e.entry.annotation_type plain.0
   where
@@ -316,6 +319,7 @@ spaceless e plain = by_type e.entry.annotation_type plain.0
     by_type (MultilineEnd depth) is = cc is
     by_type (MultilineLine depth) is = refl
 
+-- the mark of a plain entry ends where the entry does
 pub mark_end_plain : (e : PlacedEntry) → IsPlainEntry e.entry → mark_end e ≡ e.entry.end.display
 mark_end_plain e plain =
     ap (λ b. cond (b && (takes_space e || has_stem e)) (e.entry.end.display + 1) e.entry.end.display) (apart e.entry.start.display e.entry.end.display plain.1)
@@ -323,6 +327,7 @@ mark_end_plain e plain =
     apart : (m n : ℕ) → m < n → (m == n) ≡ false
     apart m n less = grind (arith, nat_tests, less)
 
+-- a column that an entry covers is painted for it
 pub painted_covered : (e : PlacedEntry) (p : ℕ) → EntryCovers e.entry p → IsPaintedAt e p
 painted_covered e p covers =
     (covers.0, omega (arith, covers.1, no_less (e.entry.start.display == e.entry.end.display && (takes_space e || has_stem e)) e.entry.end.display))
@@ -331,5 +336,6 @@ painted_covered e p covers =
     no_less true n = omega arith
     no_less false n = omega arith
 
+-- a column that is painted for a plain entry is covered by it
 pub covered_painted : (e : PlacedEntry) (p : ℕ) → IsPlainEntry e.entry → IsPaintedAt e p → EntryCovers e.entry p
 covered_painted e p plain painted = (painted.0, omega (arith, painted.1, mark_end_plain e plain))

@@ -104,6 +104,7 @@ fold-max_le (e ∷ es) m n low all =
     let here : e.position ≤ n = All-head (λ (f : PlacedEntry). f.position ≤ n) e es all in
     fold-max_le es (max m e.position) n (omega arith) (All-tail (λ (f : PlacedEntry). f.position ≤ n) e es all)
 
+-- the lowest position is within a bound where all positions are
 pub lowest_position_le : (es : List PlacedEntry) (n : ℕ) → All (λ e. e.position ≤ n) es → lowest_position es ≤ n
 lowest_position_le es n all = fold-max_le es 0 n (omega arith) all
 
@@ -134,6 +135,7 @@ label_stands row n e rows place labelled =
           rw (above_zero e.position hung) (omega (arith, rows.label hung labelled))
     ]
 
+-- a label's column isn't left of its entry, and fits
 pub label_column : (e : PlacedEntry) → HasPlace e.entry → (e.entry.start.display ≤ (label_place e).1) × ((label_place e).1 < 2 ^ 61)
 label_column e place =
     elim (cases_eq e.position 0) [
@@ -155,6 +157,7 @@ stemless_bare e bare flat =
     none true = refl
     none false = refl
 
+-- an entry whose label stands beside the marks has no stem
 pub stemless_beside : (e : PlacedEntry) → e.position ≡ 0 → has_stem e ≡ false
 stemless_beside e beside = ap (λ n. nat_lt 0 n && (has_label e || takes_space e)) beside
 
@@ -235,6 +238,7 @@ row_count_one es zero_all =
     let none : lowest_position es ≡ 0 = omega (arith, low) in
     ap (λ n. cond (n == 0) 1 (cond (are_starts es) (n + 1) (n + 2))) none
 
+-- a line's strokes have at least one row
 pub row_count_some : (es : List PlacedEntry) → 0 < row_count es
 row_count_some es = some (lowest_position es) (are_starts es)
   where
@@ -249,6 +253,7 @@ greatest_from (p ∷ ps) m n low all =
     let here : p ≤ n = All-head (λ q. q ≤ n) p ps all in
     greatest_from ps (max m p) n (omega arith) (All-tail (λ q. q ≤ n) p ps all)
 
+-- positions on a line are within a bound where those that are given out are
 pub line_positions_low : (n : ℕ) (es : List PlacedEntry) → All (λ q. q ≤ n) (positions 0 es) → All (λ q. q ≤ n) (line_positions es)
 line_positions_low n es all =
     elim (are_starts es) as (λ b. All (λ q. q ≤ n) (cond b (flipped (positions 0 es)) (positions 0 es))) [
@@ -256,6 +261,7 @@ line_positions_low n es all =
       | false ↦ all
     ]
 
+-- each entry of a line has a position
 pub length-line_positions : (es : List PlacedEntry) → length (line_positions es) ≡ length es
 length-line_positions es =
     elim (are_starts es) as (λ b. length (cond b (flipped (positions 0 es)) (positions 0 es)) ≡ length es) [

@@ -57,10 +57,12 @@ separator_row_blank decor gutter c other =
       | inr right ↦ get_or_past (separator_row decor gutter) c SPACE (omega (arith, length-separator_row decor gutter))
     ]
 
+-- spaces and characters are as many cells as both
 pub length-led : (n : ℕ) (chs : List ℕ) → length (replicate n SPACE ++ text_cells LineNumber chs) ≡ n + length chs
 length-led n chs =
     length-append (replicate n SPACE) (text_cells LineNumber chs) ∙ ap (λ k. k + length (text_cells LineNumber chs)) (length-replicate n SPACE) ∙ ap (λ k. n + k) (length-text_cells LineNumber chs)
 
+-- spaces and characters that aren't listed are free cells
 pub free_led : (n : ℕ) (chs : List ℕ) → All (λ c. is_listed c ≡ false) chs → IsFree (replicate n SPACE ++ text_cells LineNumber chs)
 free_led n chs free =
     let P : Cell → Type 0 = IsFreeCell in
@@ -81,15 +83,18 @@ pub bare_row_short : (decor : DecorStyle) (gutter : ℕ) (closes : Bool) → len
 bare_row_short decor gutter true = omega (arith, length-led (gutter + 1) (closing_of decor), closing_short decor)
 bare_row_short decor gutter false = omega (arith, length-separator_row decor gutter)
 
+-- a row of strokes before any stroke is drawn is blank as far as the gutter reaches
 pub bare_row_left : (decor : DecorStyle) (gutter : ℕ) (closes : Bool) (c : ℕ) → c ≤ gutter → slice_index_or (bare_row decor gutter closes) c SPACE ≡ SPACE
 bare_row_left decor gutter true c left =
     led_before (gutter + 1) c (text_cells LineNumber (closing_of decor)) (omega (arith, left))
 bare_row_left decor gutter false c left = separator_row_blank decor gutter c (λ same. omega (arith, same, left))
 
+-- a row of strokes before any stroke is drawn is blank where the code stands
 pub bare_row_right : (decor : DecorStyle) (gutter : ℕ) (closes : Bool) (c : ℕ) → gutter + 3 ≤ c → slice_index_or (bare_row decor gutter closes) c SPACE ≡ SPACE
 bare_row_right decor gutter closes c right =
     get_or_past (bare_row decor gutter closes) c SPACE (omega (arith, bare_row_short decor gutter closes, right))
 
+-- a row of strokes before any stroke is drawn is free
 pub free_bare_row : (decor : DecorStyle) (gutter : ℕ) (closes : Bool) → IsFree (bare_row decor gutter closes)
 free_bare_row decor gutter true = free_led (gutter + 1) (closing_of decor) (free_closing decor)
 free_bare_row decor gutter false = free_separator_row decor gutter

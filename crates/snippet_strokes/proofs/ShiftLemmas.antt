@@ -15,6 +15,7 @@ pub shifted_places : (dropped : ℕ) (es : List LineAnnotation) → All HasPlace
 shifted_places dropped es places =
     All-map HasPlace (shifted dropped) es (λ k d within. record { ordered = omega (arith, (places k d within).ordered); near = omega (arith, (places k d within).near) })
 
+-- bars have their cells also where entries are shifted
 pub shifted_bars : (layout : Layout) (dropped : ℕ) (es : List LineAnnotation) → All (HasBarCell layout) es → All (HasBarCell layout) (map (shifted dropped) es)
 shifted_bars layout dropped es bar_cells = All-map (HasBarCell layout) (shifted dropped) es bar_cells
 

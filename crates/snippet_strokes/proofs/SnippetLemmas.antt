@@ -95,6 +95,7 @@ role_left code dropped c left es role =
     let any : list_any (highlights code dropped c) es ≡ false = list_any_none _ es (λ k d within. unasked (get_or es k d)) in
     rw (primary, any)
 
+-- highlighting changes no cell left of the code
 pub highlighted_left : (code dropped : ℕ) (es : List LineAnnotation) (plain row : List Cell) → IsHighlighted code dropped es plain row → (c : ℕ) → c < code → slice_index_or row c SPACE ≡ slice_index_or plain c SPACE
 highlighted_left code dropped es plain row is c left =
     elim (cases_lt c (length plain)) [
@@ -157,7 +158,10 @@ pub line_added : (layout : Layout) (margin : Margin) (numbers : LineNumbers) (cl
     → All (λ e. is_bar e.annotation_type ≡ false → dropped ≤ e.start.display) info.annotations.items
     → IsHighlighted layout.code dropped (filter (λ e. not (is_end_part e.annotation_type)) info.annotations.items) (row_at mid row) (row_at high row)
     → ((r : ℕ) → r ≢ row → row_at high r ≡ row_at mid r) → length high ≡ length mid
-    → ((above : List (List Cell)) (plain : List Cell) → high ≡ above ++ plain ∷ [] → HasNoBars layout plain → AddsStrokes layout margin.term_width (map (shifted dropped) info.annotations.items) closes above plain done) → DrawsBars layout row done new → ((above : List (List Cell)) (bright : List Cell) → high ≡ above ++ bright ∷ [] → AddsOwnRows layout margin.term_width closes (norm (chars info.line.now)) dropped info.annotations.items above bright done) → bars ≡ bars_apart open_bars (ends_of_bars info.annotations.items) → new ≡ barred layout Solid bars row done → AddsLine layout margin numbers closes open_bars info old new
+    → ((above : List (List Cell)) (plain : List Cell) → high ≡ above ++ plain ∷ [] → HasNoBars layout plain → AddsStrokes layout margin.term_width (map (shifted dropped) info.annotations.items) closes above plain done)
+    → DrawsBars layout row done new
+    → ((above : List (List Cell)) (bright : List Cell) → high ≡ above ++ bright ∷ [] → AddsOwnRows layout margin.term_width closes (norm (chars info.line.now)) dropped info.annotations.items above bright done)
+    → bars ≡ bars_apart open_bars (ends_of_bars info.annotations.items) → new ≡ barred layout Solid bars row done → AddsLine layout margin numbers closes open_bars info old new
 line_added layout margin numbers closes open_bars bars info dropped old mid high done new row short source last dropped_is clear highlights others count strokes draws own bars_are value =
     let shown = shown_number numbers layout.gutter info.line_index in
     let text = norm (chars info.line.now) in

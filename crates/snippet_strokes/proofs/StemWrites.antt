@@ -56,6 +56,7 @@ stem_within layout row count from e rows stand =
     either true foot stem is_foot is_stem = is_foot
     either false foot stem is_foot is_stem = is_stem
 
+-- the writes of stems stay within the rows, and right of the columns before their entries
 pub stems_within : (layout : Layout) (row count from : ℕ) (es : List PlacedEntry) → All (HasRows row count) es → All (λ e. StandsFrom layout.code from e.entry) es → All (IsWithin row count from) (stems_of layout row es)
 stems_within layout row count from es rows stand =
     All-stems_of (IsWithin row count from) layout row es (λ k d within. stem_within layout row count from (get_or es k d) (rows k d within) (stand k d within))
@@ -71,6 +72,7 @@ pub stems_next : (layout : Layout) (row : ℕ) (e : PlacedEntry) (later : List P
 stems_next layout row e later old new shown drawn_now =
     ap (painted (stems_of layout row later)) drawn_now ∙ sym (painted-append (stem_of layout row e) (stems_of layout row later) old) ∙ sym (ap (λ b. painted (cond b [] (stem_of layout row e) ++ stems_of layout row later) old) shown)
 
+-- an entry that is hidden by a later one adds no stem
 pub stems_skip : (layout : Layout) (row : ℕ) (e : PlacedEntry) (later : List PlacedEntry) (rows : List (List Cell)) → is_hidden e later ≡ true → painted (stems_of layout row later) rows ≡ painted (stems_of layout row (e ∷ later)) rows
 stems_skip layout row e later rows hidden =
     sym (ap (λ b. painted (cond b [] (stem_of layout row e) ++ stems_of layout row later) rows) hidden)

@@ -1,24 +1,24 @@
 -- The normalised text of a line: how long it gets, and that it holds no listed character.
-use Rattle.std.proofs.Common.{◌≡◌, ◌==◌, Bool, true, false, not, refl, sym, ap, ◌∙◌, ℕ, zero, suc, ◌+◌, ◌-◌, ◌*◌, ◌<◌, ◌≤◌, ◌^◌, List, [], ◌∷◌, length, map, get_or, arith, All, IfSome, Option, Some, None, inl, inr, Bor, IsUtf8, encode_utf8_all}
-use Rattle.std.proofs.lemmas.Str.{chars-nil, encodes-chars}
+use Rattle.std.proofs.Common.{◌≡◌, ◌==◌, Bool, true, false, not, refl, sym, ap, ◌∙◌, ℕ, ◌-◌, ◌<◌, ◌^◌, List, [], length, map, get_or, arith, All, IfSome, Option, Some, None, inl, inr, Bor, IsUtf8}
+use Rattle.std.proofs.lemmas.Str.{chars-nil}
 use Rattle.snippet_view.specs.declared.entries.LineAnnotation.{LineAnnotation}
 use Rattle.snippet_view.specs.declared.entries.LineAnnotationType.{LineAnnotationType}
 use Rattle.snippet_view.specs.declared.entries.LineAnnotationType.TheVariants.{Singleline, MultilineStart, MultilineEnd, MultilineLine}
 use Rattle.snippet_strokes.specs.Painting.{foot_of}
 use Rattle.snippet_text.proofs.NormLemmas.{list_any-norm, length-norm}
 use Rattle.snippet_strokes.specs.Entries.{label_chars, label_text, shifted}
-use Rattle.std.specs.List.{list_any}
-use Rattle.std.specs.Str.{chars, chars_after, continuation_len, lead_bits}
+use Rattle.std.specs.Str.{chars}
 use Rattle.std.proofs.lemmas.Bool.Decides.{nat_tests}
 use Rattle.std.proofs.lemmas.Bool.{cases_lt}
 use Rattle.std.proofs.lemmas.List.{nil_from_length}
-use Rattle.std.proofs.lemmas.List.Elements.{All-nil, All-cons, All-map}
+use Rattle.std.proofs.lemmas.List.Elements.{All-nil, All-map}
 use Rattle.snippet_style.specs.Glyphs.{glyph_of}
 use Rattle.snippet_style.specs.declared.glyphs.DecorStyle.{DecorStyle}
 use Rattle.snippet_style.specs.declared.glyphs.DecorStyle.TheVariants.{Ascii, Unicode}
 use Rattle.snippet_text.specs.Normalized.{is_listed, norm}
 use Rattle.snippet_style.proofs.CellLemmas.{length-chars_le as length-chars}
 use Rattle.snippet_model.proofs.RowLemmas.{each_fails}
+use Rattle.snippet_grid.proofs.GridShown.{chars_some}
 
 -- a text that fits is short once it is normalised
 pub norm_short : (bytes : List ℕ) → length bytes < 2 ^ 56 → length (norm (chars bytes)) < 2 ^ 60
@@ -44,14 +44,6 @@ free_foot (MultilineEnd depth) Unicode true true = refl
 free_foot (MultilineEnd depth) Unicode false true = refl
 free_foot (MultilineEnd depth) decor primary false = free_stem decor primary
 free_foot (MultilineLine depth) decor primary labelled = free_stem decor primary
-
--- a text that has a byte has a character
-pub chars_some : (bytes : List ℕ) → IsUtf8 bytes → 0 < length bytes → 0 < length (chars bytes)
-chars_some bytes utf8 some = by_chars (chars bytes) (encodes-chars bytes utf8)
-  where
-    by_chars : (cs : List ℕ) → encode_utf8_all cs ≡ bytes → 0 < length cs
-    by_chars [] same = absurd (omega (arith, some, ap length same))
-    by_chars (c ∷ cs) same = omega arith
 
 -- a text has no character where it has no byte
 pub is_empty-chars : (bytes : List ℕ) → IsUtf8 bytes → (length bytes == 0) ≡ (length (chars bytes) == 0)
@@ -81,6 +73,7 @@ bytes_some bytes utf8 some = above (length bytes) (ap not (is_empty-chars bytes 
     above : (n : ℕ) → not (n == 0) ≡ true → 0 < n
     above n some = grind (arith, nat_tests)
 
+-- a text without characters has no bytes
 pub bytes_none : (bytes : List ℕ) → IsUtf8 bytes → not (length (chars bytes) == 0) ≡ false → bytes ≡ []
 bytes_none bytes utf8 none = nil_from_length bytes (zero_there (length bytes) (ap not (is_empty-chars bytes utf8) ∙ none))
   where
@@ -95,6 +88,7 @@ label_short e fits = of_label e.label fits
     of_label None fits = omega arith
     of_label (Some label) fits = norm_short label.now fits
 
+-- the labels of entries are short also where these are shifted
 pub labels_short : (dropped : ℕ) (es : List LineAnnotation) → All (λ e. IfSome e.label (λ t. length t.now < 2 ^ 56)) es → All (λ e. length (label_text e) < 2 ^ 60) (map (shifted dropped) es)
 labels_short dropped es fit =
     All-map (λ (e : LineAnnotation). length (label_text e) < 2 ^ 60) (shifted dropped) es (λ k d within. label_short (get_or es k d) (fit k d within))

@@ -1,31 +1,20 @@
 -- A line that fits the room is shown as it is, where lines aren't cut on the left.
-use Rattle.std.proofs.Common.{◌≡◌, ℕ, ◌+◌, ◌-◌, ◌≤◌, min, cond, leb, ltb, true, false, None, Some, List, [], ◌∷◌, length, refl, ap, ◌∙◌, arith, unwrap_or}
+use Rattle.std.proofs.Common.{◌≡◌, ℕ, ◌+◌, ◌-◌, ◌≤◌, min, cond, ltb, false, None, Some, List, length, ap, ◌∙◌, arith, unwrap_or}
 use Rattle.std.proofs.lemmas.Bool.{le-leb}
 use Rattle.std.proofs.lemmas.List.{take_all}
 use Rattle.snippet_view.specs.declared.margin.Margin.{Margin}
 use Rattle.snippet_view.specs.Margin.{bounds_of}
-use Rattle.snippet_view.specs.Window.{reaching, fitting, reaching_last, window_left, window_right, inner_part, covered_columns, uncovered_part, covered_end}
+use Rattle.snippet_view.specs.Window.{reaching_last, window_left, window_right, inner_part, covered_columns, uncovered_part, covered_end}
 use Rattle.snippet_style.specs.declared.glyphs.DecorStyle.{DecorStyle}
 use Rattle.snippet_style.specs.declared.role.ElementStyle.TheVariants.{Quotation}
 use Rattle.snippet_style.specs.Glyphs.{placeholder_of}
 use Rattle.snippet_style.specs.Cell.{Cell, text_cells}
-use Rattle.snippet_text.specs.Width.{char_width, width_of}
+use Rattle.snippet_text.specs.Width.{width_of}
 use Rattle.snippet_strokes.specs.Rows.{shown_cells, window_cells}
-use Rattle.snippet_view.proofs.LineWindowLemmas.{width-cons}
+use Rattle.snippet_view.proofs.LineWindowLemmas.{reaching-none, fitting_all}
 
-reaching-none : (text : List ℕ) → reaching 0 text ≡ 0
-reaching-none [] = refl
-reaching-none (c ∷ cs) = refl
-
--- a text fits in as many columns as it has
-fitting-all : (columns : ℕ) (text : List ℕ) → width_of text ≤ columns → fitting columns text ≡ length text
-fitting-all columns [] wide = refl
-fitting-all columns (c ∷ cs) wide =
-    let fits : leb (char_width c) columns ≡ true = le-leb (char_width c) columns (omega (arith, width-cons c cs, wide)) in
-    let rest : fitting (columns - char_width c) cs ≡ length cs = fitting-all (columns - char_width c) cs (omega (arith, width-cons c cs, wide)) in
-    rw (fits, rest) (omega arith)
-
-left-none : (text : List ℕ) → window_left 0 text ≡ 0
+-- a window with no bound on the left begins at column 0
+pub left-none : (text : List ℕ) → window_left 0 text ≡ 0
 left-none text = omega arith
 
 right-whole : (room right : ℕ) (text : List ℕ) → width_of text ≤ room → window_right room 0 right text ≡ width_of text
@@ -34,7 +23,7 @@ right-whole room right text fits =
 
 inner-whole : (room right : ℕ) (text : List ℕ) → width_of text ≤ room → inner_part room 0 right text ≡ text
 inner-whole room right text fits =
-    rw (right-whole room right text fits, left-none text, reaching-none text, fitting-all (width_of text - 0) text (omega arith)) (take_all (length text) text (omega arith))
+    rw (right-whole room right text fits, left-none text, reaching-none text, fitting_all (width_of text - 0) text (omega arith)) (take_all (length text) text (omega arith))
 
 not_less : (n : ℕ) → ltb n n ≡ false
 not_less n = grind arith
@@ -56,6 +45,7 @@ unfolding cells_between
 whole_between decor room right text fits =
     ap (λ e. shown_cells decor None (inner_part room 0 right text) e) (end-none room right (placeholder_of decor) text fits) ∙ ap (text_cells Quotation) (inner-whole room right text fits)
 
+-- a text that fits the room, of which nothing is cut on the left, is shown whole
 pub window_cells-whole : (decor : DecorStyle) (margin : Margin) (text : List ℕ) → (bounds_of margin).left ≡ 0 → width_of text ≤ margin.term_width → window_cells decor margin text ≡ text_cells Quotation text
 unfolding cells_between
 window_cells-whole decor margin text uncut fits =

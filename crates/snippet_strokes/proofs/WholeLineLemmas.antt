@@ -108,6 +108,7 @@ IsBeside-same layout wide plain bare =
       free = λ free. free;
     }
 
+-- the strokes of a whole line, and the bars beside, are rows added below it
 pub whole_added : (layout : Layout) (text : List ℕ) (room dropped : ℕ) (closes : Bool) (es : List LineAnnotation) (above : List (List Cell))
     (plain : List Cell) (old new : List (List Cell)) (row : ℕ) → is_whole_line text es ≡ true → length old ≡ row + 1 → DrawsBars layout row old new
     → old ≡ above ++ plain ∷ [] → HasNoBars layout plain → AddsStrokes layout room (map (shifted dropped) es) closes above plain new
@@ -158,6 +159,7 @@ pub beside_first : (text : List ℕ) (e : LineAnnotation) → is_beside_first (p
 beside_first text e =
     ap (λ b. is_bar e.annotation_type || is_start_part e.annotation_type && b) (blank_before text e.start.display)
 
+-- whether entries stand for the whole line is told by the first character that is no white space
 pub whole_line_is : (text : List ℕ) (first : Option ℕ) (es : List LineAnnotation) → 0 < length es → first ≡ position (λ c. not (is_whitespace c)) text → list_all (is_beside_first first) es ≡ is_whole_line text es
 whole_line_is text first [] some is = absurd (omega (arith, some))
 whole_line_is text first (e ∷ es) some is =

@@ -93,6 +93,7 @@ All-flat_map P f [] all = All-nil P
 All-flat_map P f (x ∷ xs) all =
     All-append P (f x) (flat_map f xs) (All-head (λ y. All P (f y)) x xs all) (All-flat_map P f xs (All-tail (λ y. All P (f y)) x xs all))
 
+-- where no element has writes there are none
 pub flat_map-none : {X : Type 0} (f : X → List Write) (xs : List X) → All (λ x. f x ≡ []) xs → flat_map f xs ≡ []
 flat_map-none f [] none = refl
 flat_map-none f (x ∷ xs) none =

@@ -70,6 +70,7 @@ stem_drawn layout row e n foot stem glyph role old mid new is_glyph is_foot is_s
 
 -- ---- stretches, columns and marks
 
+-- the test answers yes for a lesser number
 pub less : (a b : ℕ) → a < b → nat_lt a b ≡ true
 less a b is = grind (arith, nat_tests, is)
 

@@ -30,6 +30,7 @@ bar_at (MultilineStart depth) primary = Some (record { depth = depth; primary = 
 bar_at (MultilineEnd depth) primary = Some (record { depth = depth; primary = primary })
 bar_at (MultilineLine depth) primary = None
 
+-- the bar that an entry opens or closes
 abbrev pub bar_of : LineAnnotation → Option OpenBar
 bar_of e = bar_at e.annotation_type (is_primary e.kind)
 

@@ -39,6 +39,7 @@ HasBarCellAt layout (MultilineStart depth) = (0 < depth) × (layout.gutter + 3 +
 HasBarCellAt layout (MultilineEnd depth) = (0 < depth) × (layout.gutter + 3 + depth < layout.code)
 HasBarCellAt layout (MultilineLine depth) = (0 < depth) × (layout.gutter + 3 + depth < layout.code)
 
+-- there is one for the bar of this entry
 abbrev pub HasBarCell : Layout → LineAnnotation → Type 0
 HasBarCell layout e = HasBarCellAt layout e.annotation_type
 
@@ -96,6 +97,7 @@ abbrev pub label_chars : Option (Bor (List ℕ)) → List ℕ
 label_chars None = []
 label_chars (Some label) = norm (chars label.now)
 
+-- the characters that the label of an entry shows
 abbrev pub label_text : LineAnnotation → List ℕ
 label_text e = label_chars e.label
 

@@ -40,6 +40,7 @@ abbrev pub ended_cells : DecorStyle → Option ℕ → List Cell → List Cell
 ended_cells decor None cells = cells
 ended_cells decor (Some at) cells = written SPACE cells at (text_cells LineNumber (placeholder_of decor))
 
+-- the cells of a text that may be cut on the left and on the right
 abbrev pub shown_cells : DecorStyle → Option ℕ → List ℕ → Option ℕ → List Cell
 shown_cells decor start text end = ended_cells decor end (begun_cells decor start text)
 

@@ -30,6 +30,7 @@ abbrev pub label_write : Layout → ℕ → PlacedEntry → Write
 label_write layout row e =
     record { row = row + (label_place e).0; cell = layout.code + (label_place e).1; text = label_text e.entry; role = label_role e.entry.kind }
 
+-- the label as a list: empty where the entry has none
 abbrev pub label_of : Layout → ℕ → PlacedEntry → List Write
 label_of layout row e = if has_label e then label_write layout row e ∷ [] else []
 
@@ -87,9 +88,11 @@ connector_by layout row e (MultilineStart depth) = line_to layout row e depth
 connector_by layout row e (MultilineEnd depth) = line_to layout row e depth
 connector_by layout row e (MultilineLine depth) = []
 
+-- the line to the bar of an entry
 abbrev pub connector_of : Layout → ℕ → PlacedEntry → List Write
 connector_of layout row e = connector_by layout row e e.entry.annotation_type
 
+-- the lines to the bars of some entries
 abbrev pub connectors_of : Layout → ℕ → List PlacedEntry → List Write
 connectors_of layout row placed = flat_map (connector_of layout row) placed
 
@@ -124,9 +127,11 @@ corner_by layout row count e (MultilineStart depth) = top_of layout row count e 
 corner_by layout row count e (MultilineEnd depth) = bottom_of layout row e depth
 corner_by layout row count e (MultilineLine depth) = []
 
+-- the bar of an entry, with its corner
 abbrev pub corner_of : Layout → ℕ → ℕ → PlacedEntry → List Write
 corner_of layout row count e = corner_by layout row count e e.entry.annotation_type
 
+-- the bars of some entries, with their corners
 abbrev pub corners_of : Layout → ℕ → ℕ → List PlacedEntry → List Write
 corners_of layout row count placed = flat_map (corner_of layout row count) placed
 

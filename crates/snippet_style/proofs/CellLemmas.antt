@@ -15,6 +15,7 @@ length-chars_after zero c (b ∷ bs) =
 length-chars_after (suc n) c [] = omega arith
 length-chars_after (suc n) c (b ∷ bs) = omega (arith, length-chars_after n (c * 64 + (b - 128)) bs)
 
+-- a text has no more characters than bytes
 pub length-chars_le : (bs : List ℕ) → length (chars bs) ≤ length bs
 unfolding chars
 length-chars_le [] = omega arith
@@ -46,10 +47,12 @@ pub slice_index_or-written_before : {X : Type 0} (blank : X) (xs : List X) (at :
 unfolding written
 slice_index_or-written_before blank xs at new k before = grind (arith, places)
 
+-- a cell that is written over holds what is written there
 pub slice_index_or-written_inside : {X : Type 0} (blank : X) (xs : List X) (at : ℕ) (new : List X) (k : ℕ) (d : X) → k < length new → slice_index_or (written blank xs at new) (at + k) d ≡ slice_index_or new k d
 unfolding written
 slice_index_or-written_inside blank xs at new k d inside = grind (arith, places)
 
+-- a cell right of what is written is as it was
 pub slice_index_or-written_after : {X : Type 0} (blank : X) (xs : List X) (at : ℕ) (new : List X) (k : ℕ) (d : X) → at + length new ≤ k → slice_index_or (written blank xs at new) k d ≡ slice_index_or xs k d
 unfolding written
 slice_index_or-written_after blank xs at new k d after = grind (arith, places)

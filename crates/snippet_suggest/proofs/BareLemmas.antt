@@ -61,6 +61,7 @@ led_text : (n : ℕ) (role : ElementStyle) (cs : List ℕ) → row_text (replica
 led_text zero role cs = row_text-text_cells role cs
 led_text (suc n) role cs = ap (λ t. 32 ∷ t) (led_text n role cs)
 
+-- spaces and then the characters of strokes, no wider than a bare row, are a row of strokes
 pub stroke_led : (decor : DecorStyle) (gutter at : ℕ) (role : ElementStyle) (cs : List ℕ) → at + length cs ≤ gutter + 3 → list_all (is_stroke decor) cs ≡ true → list_any is_listed cs ≡ false → IsStrokeRow decor gutter (replicate at 32 ++ cs) (replicate at SPACE ++ text_cells role cs)
 stroke_led decor gutter at role cs short strokes free =
     record {
@@ -95,6 +96,7 @@ put_left gutter role old cs row covers there c inside =
           ]
     ]
 
+-- a glyph that is written beside the gutter leaves a row of strokes
 pub stroke_put : (decor : DecorStyle) (gutter : ℕ) (role : ElementStyle) (glyph : SuggestionGlyph) (old : List ℕ) (row : List Cell)
     → is_sign glyph ≡ false → length old ≤ length (glyph_of decor glyph) → IsStrokeRow decor gutter (beside_gutter gutter old) row
     → IsStrokeRow decor gutter (beside_gutter gutter (glyph_of decor glyph)) (written SPACE row (gutter + 1) (text_cells role (glyph_of decor glyph)))
@@ -110,6 +112,7 @@ spaces_left zero c = refl
 spaces_left (suc n) zero = refl
 spaces_left (suc n) (suc c) = spaces_left n c
 
+-- an empty row is a row of strokes
 pub stroke_none : (decor : DecorStyle) (gutter : ℕ) → IsStrokeRow decor gutter [] []
 stroke_none decor gutter = record { bare = bare_none decor gutter; left_is = λ c inside. refl }
 

@@ -26,6 +26,7 @@ use Rattle.snippet_suggest.specs.Marks.{with_mark, with_marks}
 use Rattle.snippet_suggest.specs.Suggested.{body_cells, cells_of, suggestion_cells}
 use Rattle.snippet_suggest.proofs.Examples.{deleted_line, first_line_deleted, one_word, text_put_in, third_unfolded, two_lines}
 
+-- suggestions in ASCII, with a gutter of one digit
 abbrev pub ascii : SuggestionLayout
 ascii = record { gutter = 1; numbers = Shown; decor = Ascii }
 

@@ -50,6 +50,7 @@ shown_zip layout first lines (line ∷ shown) [] are = elim are [ ]
 shown_zip layout first lines (Line k ∷ shown) (row ∷ rows) are = (are.0, shown_zip layout first lines shown rows are.1)
 shown_zip layout first lines (Gap ∷ shown) (row ∷ rows) are = (are.0, shown_zip layout first lines shown rows are.1)
 
+-- shown lines that are added are rows of the suggestion that are added
 pub rows_shown : (layout : SuggestionLayout) (first : ℕ) (lines : List (List ℕ)) (shown : List ShownLine) (above new : List (List Cell)) → AddsShown layout first lines shown above new → AddsRows layout first lines (map row_of_shown shown) above new
 rows_shown layout first lines shown above new adds =
     record {
@@ -62,6 +63,7 @@ rows_shown layout first lines shown above new adds =
 pub number_first : (first : ℕ) → first < 2 ^ 64 → number_after first 0 ≡ first
 number_first first small = omega arith
 
+-- the first number fits the gutter where that of the first line does
 pub first_fits : (layout : SuggestionLayout) (first : ℕ) → first < 2 ^ 64 → NumberFits layout first (Line 0) → length (shown_number layout.numbers layout.gutter first) ≤ layout.gutter + 1
 first_fits layout first small fits =
     subst (λ (n : ℕ). length (shown_number layout.numbers layout.gutter n) ≤ layout.gutter + 1) (number_first first small) fits

@@ -27,6 +27,7 @@ shown_more layout first lines shown now line old mid new more adds row =
       are = zip_push (IsShownRow layout first lines) shown adds.rows line row.row adds.are row.is;
     })
 
+-- with one more shown line added the shown lines so far are added
 pub shown_next : (layout : SuggestionLayout) (first : ℕ) (lines : List (List ℕ)) (shown : List ShownLine) (i : ℕ) (d : ShownLine)
     (old mid new : List (List Cell)) → i < length shown → AddsShown layout first lines (take i shown) old mid
     → AddsRow (IsShownRow layout first lines (get_or shown i d)) mid new → AddsShown layout first lines (take (i + 1) shown) old new

@@ -56,6 +56,7 @@ pub record Gives (s : Snippet Patch) (kind : DisplaySuggestion) (lines : List (L
 abbrev pub one_word : Vec Patch Global → Snippet Patch
 one_word v = snippet v true (codes "foo") (patch 0 3 (codes "bar") ∷ []) (omega arith)
 
+-- one word in place of another is a diff: it removes the line, and offers the one with the new word
 pub one_word_gives : (v : Vec Patch Global) → Gives (one_word v) Diff (codes "bar" ∷ []) (0 ∷ []) (0 ∷ []) 1 (Begins Opening ∷ Removes 0 1 (codes "foo") ∷ Offers 0 ∷ [])
 unfolding shown_text trimmed_edit sandwich kept_before start_of line_of chars last_line_reached newline_count trim_start trim_end lib.Utf8.encode
 one_word_gives v = record { kind_is = refl; lines_are = refl; offered_are = refl; removed_are = refl; counted_is = refl; rows_are = refl }

@@ -12,42 +12,47 @@ use Rattle.snippet_suggest.specs.Glyphs.{glyph_of, is_sign}
 use Rattle.snippet_suggest.specs.Rows.{IsSign, is_stroke}
 pub use Rattle.snippet_style.proofs.GlyphLemmas.{chars-end}
 
+-- the characters of the bytes that the code writes for `- `
 pub chars-minus : chars (45 ∷ 32 ∷ []) ≡ codes "- "
 unfolding lib.Utf8.encode
 chars-minus = chars-encodes (codes "- ") refl
 
-pub chars-bar : chars (124 ∷ []) ≡ codes "|"
-unfolding lib.Utf8.encode
-chars-bar = chars-encodes (codes "|") refl
-
+-- the characters of the bytes that the code writes for `| `
 pub chars-bar_space : chars (124 ∷ 32 ∷ []) ≡ codes "| "
 unfolding lib.Utf8.encode
 chars-bar_space = chars-encodes (codes "| ") refl
 
+-- the characters of the bytes that the code writes for `~ `
 pub chars-tilde : chars (126 ∷ 32 ∷ []) ≡ codes "~ "
 unfolding lib.Utf8.encode
 chars-tilde = chars-encodes (codes "~ ") refl
 
+-- the characters of the bytes that the code writes for `+ `
 pub chars-plus : chars (43 ∷ 32 ∷ []) ≡ codes "+ "
 unfolding lib.Utf8.encode
 chars-plus = chars-encodes (codes "+ ") refl
 
+-- the characters of the bytes that the code writes for `╭╴`
 pub chars-corner : chars (226 ∷ 149 ∷ 173 ∷ 226 ∷ 149 ∷ 180 ∷ []) ≡ codes "╭╴"
 unfolding lib.Utf8.encode
 chars-corner = chars-encodes (codes "╭╴") refl
 
+-- the characters of the bytes that the code writes for `├╴`
 pub chars-branch : chars (226 ∷ 148 ∷ 156 ∷ 226 ∷ 149 ∷ 180 ∷ []) ≡ codes "├╴"
 unfolding lib.Utf8.encode
 chars-branch = chars-encodes (codes "├╴") refl
 
+-- the characters of the bytes that the code writes for `│`
 pub chars-stroke : chars (226 ∷ 148 ∷ 130 ∷ []) ≡ codes "│"
 unfolding lib.Utf8.encode
 chars-stroke = chars-encodes (codes "│") refl
 
+-- the characters of the bytes that the code writes for `│ `
 pub chars-stroke_space : chars (226 ∷ 148 ∷ 130 ∷ 32 ∷ []) ≡ codes "│ "
 unfolding lib.Utf8.encode
 chars-stroke_space = chars-encodes (codes "│ ") refl
 
+-- the characters of the bytes that the code writes for `± `
 pub chars-plus_minus : chars (194 ∷ 177 ∷ 32 ∷ []) ≡ codes "± "
 unfolding lib.Utf8.encode
 chars-plus_minus = chars-encodes (codes "± ") refl
@@ -147,6 +152,7 @@ sign_first Unicode Alone is = inl refl
 sign_first Unicode Changed is = inr (inl refl)
 sign_first Unicode Added is = inr (inr refl)
 
+-- the second character of a sign is a space
 pub sign_second : (decor : DecorStyle) (glyph : SuggestionGlyph) → is_sign glyph ≡ true → slice_index_or (glyph_of decor glyph) 1 32 ≡ 32
 sign_second Ascii Opening is = absurd (cc)
 sign_second Ascii Next is = absurd (cc)

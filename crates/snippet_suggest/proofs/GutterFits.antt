@@ -59,6 +59,7 @@ folded_fits Diff first removed last k one before within = omega (arith, one refl
 folded_fits Plain first removed last k one before within = within
 folded_fits Add first removed last k one before within = within
 
+-- the number that is counted of a folded suggestion fits 64 bits where its lines do
 pub folded_small : (kind : DisplaySuggestion) (first removed last : ℕ) → first < 2 ^ 64 → removed < 2 ^ 64 → last < 2 ^ 64 → counted_folded kind first removed last < 2 ^ 64
 folded_small Underline first removed last a b c = a
 folded_small Diff first removed last a b c = b

@@ -67,6 +67,7 @@ module _ (p : PreparedSuggestion) (line : List ℕ) (infos : List LineInfo) (sta
       let s : Source = record { text = source; first = p.snippet.now.line_start } in
       touched_numbered p.map infos start end is.are ∙ ap (λ m. Lines m start end) is.prepared.lines ∙ ap (λ n. Lines s n end) (is.starts ∙ ap first_start is.prepared.edits) ∙ ap (Lines s (first_start (trimmed_of p.snippet.now))) (is.ends ∙ ap (end_from 0) is.prepared.edits)
 
+  -- the lines that a diff removes stand one after another in the source
   pub known_diff : AreReplaced p.snippet.now line text from count infos
   known_diff =
       let some : 0 < length infos = touched_some p.map infos start end is.ordered is.are in
@@ -83,6 +84,7 @@ module _ (p : PreparedSuggestion) (line : List ℕ) (infos : List LineInfo) (sta
         reached = sym there ∙ sym (reached source es (known_apart p is.prepared));
       }
 
+  -- the rows of a diff are its beginning, the removed lines and the line that is given
   pub known_diff_rows : (at : SuggestionStart) → let s = p.snippet.now in
       rows_of_suggestion at s ≡ Begins at ∷ changed_rows true (is_left_out Diff (line ∷ []) (last_reached s))
       (removed_from from (counted_from (s.line_start + first_given s) 0 (map text (range_with_len from (shown_count s line count)))))

@@ -19,6 +19,7 @@ use Rattle.snippet_suggest.specs.Given.{edits_of, first_end, first_given, first_
 use Rattle.snippet_suggest.proofs.ReachLemmas.{reached, touched_last}
 use Rattle.snippet_suggest.specs.Prepared.{IsPrepared}
 use Rattle.snippet_suggest.proofs.SpanLemmas.{original_spans, trimmed_spans}
+use Rattle.snippet_suggest.proofs.PreparedLemmas.{first-original}
 
 -- the spans of its edits are taken
 edit_spans : (p : PreparedSuggestion) → IsPrepared p → All (λ e. IsSpan p.map.text e.start e.end) (edits_of p.snippet.now)
@@ -32,6 +33,7 @@ known_spans p is =
     let text : cow_str_bytes p.snippet.now.source ≡ p.map.text = sym (ap (λ m. m.text) is.lines) in
     trimmed_spans p.map.text (edits_of p.snippet.now) p.splice.patches.items (edit_spans p is) (is.edits ∙ ap (λ source. trimmed_edits source (edits_of p.snippet.now)) text)
 
+-- the patches of a prepared suggestion stand on spans of its source
 pub known_originals : (p : PreparedSuggestion) → IsPrepared p → All (λ t. IsSpan p.map.text t.original_span.start t.original_span.end) p.splice.patches.items
 known_originals p is =
     original_spans p.map.text (edits_of p.snippet.now) p.splice.patches.items (edit_spans p is) is.originals
@@ -60,15 +62,6 @@ known_reached p is infos start end ordered ends are =
     ∙ ap (λ n. text_at (source_lines source) (line_of (source_lines source) n)) (ends ∙ ap (end_from 0) is.edits)
     ∙ ap (text_at (source_lines source)) (sym (reached source es (known_apart p is)))
 
--- the number of its first line
-first_of : (ts : List TrimmedPatch) (es : List Edit) → map original_bounds_of ts ≡ map bounds_of es → first_original ts ≡ first_start es
-first_of [] [] same = refl
-first_of [] (e ∷ es) same = absurd (cc)
-first_of (t ∷ ts) [] same = absurd (cc)
-first_of (t ∷ ts) (e ∷ es) same =
-    let pair : ◌≡◌ {A = ℕ × ℕ} (original_bounds_of t) (bounds_of e) = cc in
-    ap (λ b. b.0) pair
-
 first_end_of : (ts : List TrimmedPatch) (es : List Edit) → map original_bounds_of ts ≡ map bounds_of es → first_original_end ts ≡ first_end es
 first_end_of [] [] same = refl
 first_end_of [] (e ∷ es) same = absurd (cc)
@@ -77,14 +70,17 @@ first_end_of (t ∷ ts) (e ∷ es) same =
     let pair : ◌≡◌ {A = ℕ × ℕ} (original_bounds_of t) (bounds_of e) = cc in
     ap (λ b. b.1) pair
 
+-- the first patch of a prepared suggestion starts where its first edit does
 pub known_first_start : (p : PreparedSuggestion) → IsPrepared p → first_original p.splice.patches.items ≡ first_start (in_order (edits_of p.snippet.now))
-known_first_start p is = first_of p.splice.patches.items (in_order (edits_of p.snippet.now)) is.originals
+known_first_start p is = first-original p.splice.patches.items (in_order (edits_of p.snippet.now)) is.originals
 
+-- the first patch of a prepared suggestion ends where its first edit does
 pub known_first_end : (p : PreparedSuggestion) → IsPrepared p → first_original_end p.splice.patches.items ≡ first_end (in_order (edits_of p.snippet.now))
 known_first_end p is =
     first_end_of p.splice.patches.items (in_order (edits_of p.snippet.now)) is.originals
 
+-- the number of the first line of a prepared suggestion is that of the first that is given
 pub known_first : (p : PreparedSuggestion) → IsPrepared p → p.map.first + (if p.snippet.now.fold then line_of (source_lines p.map.text) (first_original p.splice.patches.items) else 0) ≡ p.snippet.now.line_start + first_given p.snippet.now
 known_first p is =
     let s = p.snippet.now in
-    ap (λ m. m.first + (if s.fold then line_of (source_lines m.text) (first_original p.splice.patches.items) else 0)) is.lines ∙ ap (λ b. s.line_start + (if s.fold then line_of (source_lines (cow_str_bytes s.source)) b else 0)) (first_of p.splice.patches.items (in_order (edits_of s)) is.originals)
+    ap (λ m. m.first + (if s.fold then line_of (source_lines m.text) (first_original p.splice.patches.items) else 0)) is.lines ∙ ap (λ b. s.line_start + (if s.fold then line_of (source_lines (cow_str_bytes s.source)) b else 0)) (first-original p.splice.patches.items (in_order (edits_of s)) is.originals)

@@ -29,6 +29,7 @@ diff_numbers folds ranges line last false is =
 pub none_numbers : (kind : DisplaySuggestion) (folds : Bool) (ranges : List LineRange) (last : List ℕ) → numbers_of kind folds ranges [] last ≡ []
 none_numbers kind folds ranges last = cond_same (is_left_out kind [] last)
 
+-- no texts are made of no lines
 pub lines_none : {X : Type 0} (text_of : X → List ℕ) (lines : List X) (texts : List (List ℕ)) → slice_get lines 0 ≡ None → map text_of lines ≡ texts → texts ≡ []
 lines_none text_of [] texts none are = sym are
 lines_none text_of (l ∷ ls) texts none are = absurd (cc)
@@ -47,6 +48,7 @@ known_few p is diff =
     let kind : shown_kind s ≡ Diff = sym is.kind ∙ diff in
     omega (arith, one_given (cow_str_bytes s.source) (trimmed_of s) (given_text s) (ap (λ k. counted_folded k 0 0 1) kind), length-map (lines_of (given_text s)) (λ l. l.0))
 
+-- a suggestion shown as a diff that gives a line gives that one alone
 pub known_one : {X : Type 0} (p : PreparedSuggestion) → IsPrepared p → p.kind ≡ Diff → (text_of : X → List ℕ) (lines : List X) (line : X) → slice_get lines 0 ≡ Some line → map text_of lines ≡ given_lines p.snippet.now → given_lines p.snippet.now ≡ text_of line ∷ []
 known_one p is diff text_of [] line some are = absurd (cc)
 known_one p is diff text_of (l ∷ []) line some are = let same : l ≡ line = cc in sym are ∙ ap (λ x. text_of x ∷ []) same

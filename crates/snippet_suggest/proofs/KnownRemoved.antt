@@ -91,6 +91,7 @@ take_range a n zero fits = refl
 take_range a zero (suc k) fits = absurd (omega (arith, fits))
 take_range a (suc n) (suc k) fits = ap (λ ks. a ∷ ks) (take_range (a + 1) n k (omega (arith, fits)))
 
+-- a range without its last where that stays is a shorter range
 pub unless_range : (stays : Bool) (a n : ℕ) → unless_stays stays (range_with_len a n) ≡ range_with_len a (if stays then n - 1 else n)
 unless_range true a n =
     ap (λ (k : ℕ). take (k - 1) (range_with_len a n)) (length-range_with_len a n) ∙ take_range a n (n - 1) (omega arith)
@@ -103,6 +104,7 @@ removes_replaced p is line diff one =
     let s = p.snippet.now in
     ap (λ (ls : List (List ℕ)). removed_of ls (shown_kind s) (emptied_lines s) (replaced_lines s)) one ∙ ap (λ k. removed_of (line ∷ []) k (emptied_lines s) (replaced_lines s)) (sym is.kind ∙ diff)
 
+-- lines are replaced where the given one is touched: those from the first edit to the last, but one that stays
 pub replaced_touched : (p : PreparedSuggestion) → IsPrepared p → (line : List ℕ) → given_lines p.snippet.now ≡ line ∷ []
     → true ≡ is_touched p.snippet.now.fold p.splice.ranges.items 0
     → replaced_lines p.snippet.now ≡ unless_stays (bytes_eq line (last_reached p.snippet.now))

@@ -40,6 +40,7 @@ number_left decor Anonymized gutter number fits =
     inr (omega (arith, length-append {A = ℕ} (replicate (gutter - 2) 32) letters, length-replicate {A = ℕ} (gutter - 2) 32))
 number_left decor Hidden gutter number fits = inr (omega (arith, length-replicate {A = ℕ} gutter 32))
 
+-- the characters of a number are such as stand before a sign
 pub number_before : (decor : DecorStyle) (numbers : LineNumbers) (gutter number : ℕ) → number < 2 ^ 64 → All (IsBeforeSign numbers decor) (shown_number numbers gutter number)
 number_before decor Shown gutter number fits =
     let P : ℕ → Type 0 = IsBeforeSign Shown decor in

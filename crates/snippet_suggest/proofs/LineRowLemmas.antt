@@ -84,6 +84,7 @@ line_row_offers decor glyph gutter sign_role number_role line_role number text i
           (free_drawn number_role (chars number) free_number)) (free_drawn line_role (chars text) (All-from_none is_listed (chars text) free_text));
     }
 
+-- a number, a sign and a text are the row of a line
 pub line_row_is : (decor : DecorStyle) (glyph : SuggestionGlyph) (gutter : ℕ) (sign_role number_role line_role : ElementStyle)
     (sign number shown text norm_text : List ℕ) → is_sign glyph ≡ true → sign ≡ glyph_of decor glyph → chars number ≡ shown
     → length shown ≤ gutter + 1 → All (λ c. is_listed c ≡ false) shown → chars text ≡ norm_text → list_any is_listed norm_text ≡ false

@@ -21,6 +21,7 @@ use Rattle.snippet_suggest.specs.Cells.{put}
 use Rattle.std.proofs.lemmas.List.{length-replicate, map-append, places, same_lists, take_more}
 use Rattle.snippet_suggest.specs.Marks.{columns_of, left_of, mark_end, mark_of, mark_start, to_left, to_right, with_mark, with_marks}
 use Rattle.snippet_suggest.specs.Moves.{AreMoves, shift_of}
+use Rattle.snippet_suggest.proofs.PutLemmas.{put_none}
 
 -- ---- what patches move
 
@@ -71,10 +72,12 @@ left_no start (d ∷ cs) c high =
       | inr other ↦ grind (arith, nat_tests)
     ]
 
+-- one more text that ends at the start or left of it is one more of those left of it
 pub left_next : (start : ℕ) (cs : List PatchColumns) (i : ℕ) (d : PatchColumns) → i < length cs → (get_or cs i d).end ≤ start → left_of start (take (i + 1) cs) ≡ left_of start (take i cs) ++ get_or cs i d ∷ []
 left_next start cs i d within low =
     ap (left_of start) (take_more cs i d within) ∙ left_yes start (take i cs) (get_or cs i d) low
 
+-- a text that ends right of the start adds none to those left of it
 pub left_passed : (start : ℕ) (cs : List PatchColumns) (i : ℕ) (d : PatchColumns) → i < length cs → start < (get_or cs i d).end → left_of start (take (i + 1) cs) ≡ left_of start (take i cs)
 left_passed start cs i d within high =
     ap (left_of start) (take_more cs i d within) ∙ left_no start (take i cs) (get_or cs i d) high
@@ -107,15 +110,12 @@ put_push role (d ∷ cs) c at row =
 replicate_push : (n c : ℕ) → replicate n c ++ c ∷ [] ≡ replicate (n + 1) c
 replicate_push n c = same_lists _ _ (grind (arith, places)) (λ k d h. grind (arith, places))
 
-put_none : (role : ElementStyle) (at : ℕ) (row : List Cell) → put role [] at row ≡ row
-unfolding put
-put_none role at row = refl
-
 -- so many marks are there
 pub marks_begun : (mark at n : ℕ) (above : List (List Cell)) (last : List Cell) (now : List (List Cell)) → n ≡ 0 → now ≡ above ++ last ∷ [] → now ≡ above ++ put Addition (replicate n mark) at last ∷ []
 marks_begun mark at n above last now none is =
     is ∙ ap (λ (row : List Cell). above ++ row ∷ []) (sym (ap (λ k. put Addition (replicate k mark) at last) none ∙ put_none Addition at last))
 
+-- with one more cell written the marks are one more
 pub marks_next : (mark at cell n m r : ℕ) (above : List (List Cell)) (last : List Cell) (now new : List (List Cell)) → r ≡ length above
     → cell ≡ at + n → m ≡ n + 1 → now ≡ above ++ put Addition (replicate n mark) at last ∷ []
     → new ≡ cells_written now r cell (text_cells Addition (mark ∷ [])) → new ≡ above ++ put Addition (replicate m mark) at last ∷ []
@@ -129,6 +129,7 @@ marks_next mark at cell n m r above last now new here cell_is m_is is writes =
     (put_push Addition (replicate n mark) mark at last
     ∙ ap (λ cs. put Addition cs at last) (replicate_push n mark ∙ ap (λ k. replicate k mark) (sym m_is)))
 
+-- once as many marks stand as the text has columns, the row has its marks
 pub marks_done : (layout : SuggestionLayout) (mark start end n : ℕ) (above : List (List Cell)) (last : List Cell) (now : List (List Cell))
     → n ≡ min end (2 ^ 60) - start → now ≡ above ++ put Addition (replicate n mark) (layout.gutter + 3 + start) last ∷ []
     → now ≡ above ++ with_mark layout mark start end last ∷ []
@@ -154,6 +155,7 @@ marks-nil : (layout : SuggestionLayout) (s : Source) (earlier : List PatchColumn
 unfolding with_marks
 marks-nil layout s earlier row = refl
 
+-- with one more edit marked the edits so far are marked
 pub marked_next : (layout : SuggestionLayout) (s : Source) (earlier later : List PatchColumns) (e : Edit) (left es : List Edit) (all : List Cell)
     (above now new : List (List Cell)) (mark start end : ℕ) (so_far : Marked layout s earlier left all above now) → left ≡ e ∷ es
     → later ≡ earlier ++ columns_of s e ∷ [] → mark ≡ mark_of layout.decor s.text e → start ≡ mark_start earlier (columns_of s e) e.text
@@ -172,6 +174,7 @@ marked_next layout s earlier later e left es all above now new mark start end so
       whole = ap (λ cs. with_marks layout s cs es (Drawn mark start end)) more ∙ ap (with_marks layout s (earlier ++ c ∷ []) es) row_is ∙ sym (marks-cons layout s earlier e es row) ∙ ap (λ ds. with_marks layout s earlier ds row) (sym first) ∙ so_far.whole;
     }
 
+-- once no edit is left the row has all marks
 pub marked_done : (layout : SuggestionLayout) (s : Source) (earlier : List PatchColumns) (left : List Edit) (all : List Cell) (above now : List (List Cell)) → left ≡ [] → Marked layout s earlier left all above now → now ≡ above ++ all ∷ []
 marked_done layout s earlier left all above now none drawn =
     drawn.is ∙ ap (λ (row : List Cell). above ++ row ∷ []) (sym (marks-nil layout s earlier drawn.row) ∙ ap (λ ds. with_marks layout s earlier ds drawn.row) (sym none) ∙ drawn.whole)

@@ -41,6 +41,7 @@ given-from s spans disjoint some offerable =
     let part : IsShownPart s.fold source (edits_of s) = given-part s spans disjoint some offerable in
     subst (λ t. AreFrom (first_given s) (texts_of (lines_of t)) (texts_of (source_lines (patched source (edits_of s))))) (sym part.text) (shown-lines s.fold source (edits_of s) offerable.no_cr offerable.no_cr_in part)
 
+-- a line that is given is the line of the patched source at the same place
 pub given-is-patched : (s : Snippet Patch) → HaveSpans s → AreDisjoint (edits_of s) → s.markers.items ≢ [] → IsOfferable s → (k : ℕ)
     → k < length (given_lines s) → (first_given s + k < length (source_lines (patched (cow_str_bytes s.source) (edits_of s))))
     × (slice_index_or (given_lines s) k [] ≡ text_at (source_lines (patched (cow_str_bytes s.source) (edits_of s))) (first_given s + k))
@@ -55,6 +56,7 @@ numbers-ascend : (left_out : Bool) (touched : ℕ → Bool) (count : ℕ) → Ar
 numbers-ascend true touched count = omega arith
 numbers-ascend false touched count = rising_shown touched count
 
+-- the lines that are offered ascend, from the first that is given up to the last
 pub offered-ascends : (s : Snippet Patch) → AreRising (first_given s) (first_given s + length (given_lines s)) (offered_lines s)
 offered-ascends s =
     let base : first_given s + 0 ≡ first_given s = omega arith in

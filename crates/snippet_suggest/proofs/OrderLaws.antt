@@ -20,7 +20,8 @@ use Rattle.snippet_suggest.proofs.KnownNumbers.{diff_numbers, none_numbers}
 
 -- ---- which rows stand there
 
-not_diff : (kind : DisplaySuggestion) → kind ≢ Diff → is_diff kind ≡ false
+-- the test for a diff answers no for each other kind
+pub not_diff : (kind : DisplaySuggestion) → kind ≢ Diff → is_diff kind ≡ false
 not_diff Diff other = absurd (other refl)
 not_diff Underline other = refl
 not_diff Plain other = refl
@@ -48,6 +49,7 @@ module _ (start : SuggestionStart) (s : Snippet Patch) where
   pub rows_none_diff : given_lines s ≡ [] → shown_kind s ≡ Diff → rows_of_suggestion start s ≡ Begins start ∷ map (removed_row s) (removed_lines s)
   rows_none_diff none diff = by_case [] true none (ap is_diff diff)
 
+  -- a suggestion that gives no line, and is no diff, has the rows of removed lines alone
   pub rows_none : given_lines s ≡ [] → shown_kind s ≢ Diff → rows_of_suggestion start s ≡ map (removed_row s) (removed_lines s)
   rows_none none other = by_case [] false none (not_diff (shown_kind s) other)
 
@@ -118,6 +120,7 @@ few_in_diff : (s : Snippet Patch) → shown_kind s ≡ Diff → length (given_li
 few_in_diff s diff =
     omega (arith, one_given (cow_str_bytes s.source) (trimmed_of s) (given_text s) (ap (λ k. counted_folded k 0 0 1) diff), length-map (lines_of (given_text s)) (λ l. l.0))
 
+-- the rows of a suggestion offer the numbers that are given, in order
 pub rows-offer : (start : SuggestionStart) (s : Snippet Patch) → numbers_offered (rows_of_suggestion start s) ≡ numbers_given s
 rows-offer start s =
     offered_where (shown_kind s) (given_lines s) s.fold (given_ranges s) (last_reached s) start (map (removed_row s) (removed_lines s)) (removed_offer s (removed_lines s)) (few_in_diff s)
@@ -142,6 +145,7 @@ none_untouched : (touched : Bool) (ks : List ℕ) → touched ≡ false → ◌�
 none_untouched true ks untouched = absurd (cc)
 none_untouched false ks untouched = refl
 
+-- the rows of a suggestion show as removed the lines that are removed, in order
 pub rows-take : (start : SuggestionStart) (s : Snippet Patch) → lines_taken (rows_of_suggestion start s) ≡ removed_lines s
 rows-take start s =
     let touched : Bool = is_touched s.fold (given_ranges s) 0 in
@@ -180,6 +184,7 @@ own_where s [] false start removed changed shown r c o = r
 own_where s (line ∷ lines) true start removed changed shown r c o = All-cons (IsRowOf s) (Begins start) changed tt c
 own_where s (line ∷ lines) false start removed changed shown r c o = All-cons (IsRowOf s) (Begins start) shown tt o
 
+-- each row of a suggestion is one that a row of it may be
 pub rows-own : (start : SuggestionStart) (s : Snippet Patch) → All (IsRowOf s) (rows_of_suggestion start s)
 rows-own start s =
     let touched : ℕ → Bool = is_touched s.fold (given_ranges s) in

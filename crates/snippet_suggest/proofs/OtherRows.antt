@@ -21,6 +21,7 @@ pub record AddsOthers (layout : SuggestionLayout) (first : ℕ) (lines : List (L
   pub last : AddsRow (Shows layout first lines end) (above ++ before) new
   pub shown_are : shown ≡ front ++ end ∷ []
 
+-- the row that begins a suggestion is the first of its other rows
 pub others_begun : (layout : SuggestionLayout) (first : ℕ) (lines : List (List ℕ)) (begin : SuggestionRow) (above new : List (List Cell)) (row : List Cell) → new ≡ above ++ row ∷ [] → Shows layout first lines begin row → AddsOthers layout first lines (begin ∷ []) above new
 others_begun layout first lines begin above new row added is =
     record {

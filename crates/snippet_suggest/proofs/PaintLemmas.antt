@@ -23,6 +23,7 @@ restyled_same role (cell ∷ cells) = ap (λ (t : List (ℕ × Option (List ℕ)
 parts_whole : (xs : List Cell) (start end : ℕ) → take start xs ++ take (end - start) (drop start xs) ++ drop (max start end) xs ≡ xs
 parts_whole xs start end = same_lists _ _ (grind (arith, places)) (λ k d h. grind (arith, places))
 
+-- restyled cells are the same but for their role
 pub changed_same : (role : ElementStyle) (xs : List Cell) (start end : ℕ) → map without_role (changed_within (restyled role true) start end xs) ≡ map without_role xs
 unfolding changed_within
 changed_same role xs start end =
@@ -53,6 +54,7 @@ repaint_none above last new is =
       same = refl;
     }
 
+-- a row that is repainted once more is repainted
 pub repaint_more : (above : List (List Cell)) (last : List Cell) (mid new : List (List Cell)) (row start end : ℕ) (role : ElementStyle) → row ≡ length above → IsRepainted above last mid → new ≡ cells_restyled mid row start end role true → IsRepainted above last new
 repaint_more above last mid new row start end role here painted paints =
     let f : List Cell → List Cell = changed_within (restyled role true) start end in
@@ -86,6 +88,7 @@ seen_free xs ys same free k d within =
 seen_take : (n : ℕ) (xs ys : List Cell) → map without_role xs ≡ map without_role ys → map without_role (take n xs) ≡ map without_role (take n ys)
 seen_take n xs ys same = sym (take-map without_role n xs) ∙ ap (take n) same ∙ take-map without_role n ys
 
+-- rows that are the same but for roles have the same characters
 pub seen_ch : (c : ℕ) (xs ys : List Cell) → map without_role xs ≡ map without_role ys → (slice_index_or xs c SPACE).ch ≡ (slice_index_or ys c SPACE).ch
 seen_ch c xs ys same = ch_at xs c ∙ ap (λ t. slice_index_or t c 32) (seen_text xs ys same) ∙ sym (ch_at ys c)
 

@@ -35,6 +35,7 @@ first_original-of (s ∷ ts) t is =
     let same : s ≡ t = cc in
     ap (λ (u : TrimmedPatch). u.original_span.start) (sym same)
 
+-- the first of some trimmed patches ends where the first of their edits does
 pub first_end-of : (ts : List TrimmedPatch) (t : TrimmedPatch) → slice_get ts 0 ≡ Some t → t.span.end ≡ first_end (map trimmed_edit_of ts)
 first_end-of [] t is = absurd (cc)
 first_end-of (s ∷ ts) t is =

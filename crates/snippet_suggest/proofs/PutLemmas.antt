@@ -32,7 +32,8 @@ chars_some : (b : ℕ) (bs : List ℕ) → IsUtf8 (b ∷ bs) → chars (b ∷ bs
 chars_some b bs text = λ none. let same : encodes (chars (b ∷ bs)) ≡ b ∷ bs = encodes-chars (b ∷ bs) text in
     let empty : encodes (chars (b ∷ bs)) ≡ [] = ap encodes none in cc
 
-put_none : (role : ElementStyle) (at : ℕ) (row : List Cell) → put role [] at row ≡ row
+-- no characters that are put leave the row as it is
+pub put_none : (role : ElementStyle) (at : ℕ) (row : List Cell) → put role [] at row ≡ row
 unfolding put
 put_none role at row = refl
 
@@ -183,6 +184,7 @@ glyph_below role decor glyph cs at r skipped old new is here writes =
     ∙ ap (λ (row : List Cell). (old ++ replicate skipped []) ++ row ∷ [])
     (sym (put_some role (glyph_of decor glyph) at [] (glyph_some decor glyph)))
 
+-- a glyph that is written over the first row below is put there
 pub glyph_over : (role : ElementStyle) (decor : DecorStyle) (glyph : SuggestionGlyph) (cs : List ℕ) (at r : ℕ) (above tail old new : List (List Cell))
     → cs ≡ glyph_of decor glyph → r ≡ length above → old ≡ above ++ tail → length tail ≤ 1 → new ≡ cells_written old r at (text_cells role cs)
     → new ≡ above ++ put role (glyph_of decor glyph) at (row_at tail 0) ∷ []
@@ -194,16 +196,19 @@ pub begin_opening : (layout : SuggestionLayout) (under : List Cell) → put Line
 unfolding begin_cells
 begin_opening layout under = refl
 
+-- the glyph of a next suggestion makes the row that begins it
 pub begin_next : (layout : SuggestionLayout) (under : List Cell) → put LineNumber (glyph_of layout.decor sign.Next) (layout.gutter + 1) under ≡ begin_cells layout Next under
 unfolding begin_cells
 begin_next layout under = refl
 
+-- a suggestion below a path begins in the path's row
 pub begin_path : (layout : SuggestionLayout) (above tail old : List (List Cell)) → old ≡ above ++ tail → length tail ≡ 1 → old ≡ above ++ begin_cells layout Path (row_at tail 0) ∷ []
 unfolding begin_cells
 begin_path layout above [] old is one = absurd (omega (arith, one))
 begin_path layout above (row ∷ []) old is one = is
 begin_path layout above (row ∷ next ∷ rows) old is one = absurd (omega (arith, one))
 
+-- the glyph of the end makes the row that ends a suggestion
 pub end_is : (layout : SuggestionLayout) (follows : Bool) → put LineNumber (end_glyph layout.decor follows) (layout.gutter + 1) [] ≡ end_cells layout follows
 unfolding end_cells
 end_is layout follows = refl
@@ -213,6 +218,7 @@ diff_sign : (line : List ℕ) (ss : List SubstitutionHighlight) → sign.Added �
 unfolding sign_of
 diff_sign line ss = refl
 
+-- an added line of a diff, with its stretches, is the row of that offered line
 pub diff_offered : (layout : SuggestionLayout) (number : ℕ) (line : List ℕ) (ss : List SubstitutionHighlight) → with_stretches Addition layout.gutter (chars line) ss (line_cells layout sign.Added number line) ≡ offered_cells layout Diff 1 number line ss
 diff_offered layout number line ss =
     offered_is layout Diff sign.Added 1 1 number number line line ss ss (diff_sign line ss) refl refl refl refl

@@ -19,6 +19,7 @@ use Rattle.snippet_suggest.specs.Order.{numbered_at}
 
 -- ---- the end of the last edit
 
+-- the last of some patches ends where the edits end
 pub last_end : (at : ℕ) (ps : List TrimmedPatch) (d : TrimmedPatch) → 0 < length ps → (get_or ps (length ps - 1) d).span.end ≡ end_from at (map trimmed_edit_of ps)
 last_end at [] d some = absurd (omega (arith, some))
 last_end at (p ∷ []) d some = refl
@@ -26,6 +27,7 @@ last_end at (p ∷ q ∷ ps) d some =
     let here : suc (suc (length ps)) - 1 ≡ suc (suc (length ps) - 1) = omega arith in
     ap (λ n. (get_or (p ∷ q ∷ ps) n d).span.end) here ∙ last_end p.span.end (q ∷ ps) d (omega arith)
 
+-- an only patch ends where the edits end
 pub only_end : (at : ℕ) (ps : List TrimmedPatch) (d : TrimmedPatch) → 0 < length ps → length ps < 2 → (get_or ps 0 d).span.end ≡ end_from at (map trimmed_edit_of ps)
 only_end at [] d some one = absurd (omega (arith, some))
 only_end at (p ∷ []) d some one = refl
@@ -45,6 +47,7 @@ begin_before : (es : List Edit) → AreApart 0 es → first_start es ≤ end_fro
 begin_before [] apart = omega arith
 begin_before (e ∷ es) apart = omega (arith, end_after e.end es apart.2, apart.1)
 
+-- patches that stand apart begin at the first one's start
 pub least_begin : (ps : List TrimmedPatch) (d : TrimmedPatch) → 0 < length ps → AreApart 0 (map trimmed_edit_of ps) → min (get_or ps 0 d).span.start (get_or ps (length ps - 1) d).span.end ≡ first_start (map trimmed_edit_of ps)
 least_begin ps d some apart =
     omega (arith, first_begin ps d some, last_end 0 ps d some, begin_before (map trimmed_edit_of ps) apart)
@@ -56,6 +59,7 @@ greatest_end at (e ∷ es) apart =
     let greater : max at e.end ≡ e.end = omega (arith, apart.0, apart.1) in
     ap (λ n. fold max n (map (λ d. d.end) es)) greater ∙ greatest_end e.end es apart.2
 
+-- the last line that edits reach is the one where the last of them ends
 pub reached : (source : List ℕ) (es : List Edit) → AreApart 0 (trimmed_edits source es) → last_line_reached source es ≡ line_of (source_lines source) (end_from 0 (trimmed_edits source es))
 unfolding last_line_reached
 reached source es apart = ap (line_of (source_lines source)) (greatest_end 0 (trimmed_edits source es) apart)

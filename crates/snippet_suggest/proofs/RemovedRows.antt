@@ -17,6 +17,7 @@ removed_zip layout first lines i [] (row ∷ rows) are = elim are [ ]
 removed_zip layout first lines i (line ∷ removed) [] are = elim are [ ]
 removed_zip layout first lines i (line ∷ removed) (row ∷ rows) are = (are.0, removed_zip layout first lines (i + 1) removed rows are.1)
 
+-- removed lines that are added are rows of the suggestion that are added
 pub removed_rows : (layout : SuggestionLayout) (first : ℕ) (lines : List (List ℕ)) (i : ℕ) (removed : List (ℕ × List ℕ)) (above new : List (List Cell)) → AddsRemoved layout removed above new → AddsRows layout first lines (removed_from i removed) above new
 removed_rows layout first lines i removed above new adds =
     record {
@@ -53,6 +54,7 @@ counted_next first infos i d within =
     ∙ ap (λ (n : ℕ). counted_from first 0 (take i texts) ++ (number_after first n, get_or texts i []) ∷ []) count
     ∙ sym (counted_push first 0 (take i texts) (get_or texts i [])) ∙ ap (counted_from first 0) (sym (take_more texts i [] inside))
 
+-- with one more removed line added the removed lines so far are added
 pub removed_more : (layout : SuggestionLayout) (first number : ℕ) (infos : List LineInfo) (i : ℕ) (d : LineInfo) (old mid new : List (List Cell))
     → i < length infos → number ≡ number_after first i → AddsRemoved layout (counted_from first 0 (take i (texts_at infos))) old mid
     → AddsRow (IsRowOfRemoved layout (number, (get_or infos i d).line.now)) mid new
@@ -72,6 +74,7 @@ all_texts : (infos : List LineInfo) (i : ℕ) → length infos ≤ i → take i 
 all_texts infos i all =
     take_all i (texts_at infos) (omega (arith, length-map infos (λ (info : LineInfo). info.line.now)))
 
+-- once no removed line is left all are added
 pub removed_all : (layout : SuggestionLayout) (first : ℕ) (infos : List LineInfo) (i : ℕ) (old new : List (List Cell)) → length infos ≤ i → AddsRemoved layout (counted_from first 0 (take i (texts_at infos))) old new → AddsRemoved layout (counted_from first 0 (texts_at infos)) old new
 removed_all layout first infos i old new all adds =
     subst (λ ts. AddsRemoved layout (counted_from first 0 ts) old new) (all_texts infos i all) adds
@@ -100,6 +103,7 @@ pub record RemovesAt (layout : SuggestionLayout) (above : List (List Cell)) (inf
   pub tail_is : IsTail layout.decor layout.gutter shares tail
   pub after : 0 < count → tail ≡ []
 
+-- before any removed line is added the rows are those above and their tail
 pub removes_begun : (layout : SuggestionLayout) (above tail : List (List Cell)) (shares : Bool) (infos : List LineInfo) (at : ℕ) (now : List (List Cell)) → at ≡ length above → now ≡ above ++ tail → IsTail layout.decor layout.gutter shares tail → RemovesAt layout above infos at 0 now
 removes_begun layout above tail shares infos at now here stands is =
     record {
@@ -113,6 +117,7 @@ removes_begun layout above tail shares infos at now here stands is =
       after = λ none. absurd (omega arith);
     }
 
+-- with one more removed line drawn the next one stands below it
 pub removes_more : (layout : SuggestionLayout) (above : List (List Cell)) (infos : List LineInfo) (d : LineInfo) (at count next : ℕ)
     (now new : List (List Cell)) (drawn : RemovesAt layout above infos at count now) → count < length infos
     → AddsRow (IsRowOfRemoved layout ((get_or infos count d).line_index, (get_or infos count d).line.now)) (above ++ drawn.rows) new
@@ -131,6 +136,7 @@ removes_more layout above infos d at count next now new drawn within adds below 
       after = λ some. refl;
     }
 
+-- once no removed line is left all are added with their numbers
 pub removes_done : (layout : SuggestionLayout) (above : List (List Cell)) (infos : List LineInfo) (at count : ℕ) (now : List (List Cell)) → 0 < count → length infos ≤ count → RemovesAt layout above infos at count now → AddsRemoved layout (numbered_at infos) above now
 removes_done layout above infos at count now some all drawn =
     record {

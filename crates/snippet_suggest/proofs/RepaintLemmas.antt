@@ -117,13 +117,16 @@ row_repainted P stays old mid new adds painted =
       is = stays painted.now adds.row painted.same adds.is;
     }
 
+-- the row of a removed line that is repainted is its row still
 pub removed_repainted : (layout : SuggestionLayout) (line : ℕ × List ℕ) (old mid new : List (List Cell)) (adds : AddsRow (IsRowOfRemoved layout line) old mid) → IsRepainted old adds.row new → AddsRow (IsRowOfRemoved layout line) old new
 removed_repainted layout line old mid new adds painted =
     let number : List ℕ = shown_number layout.numbers layout.gutter line.0 in
     row_repainted (IsRowOfRemoved layout line) (same_removed layout.numbers layout.decor layout.gutter number (norm (chars line.1))) old mid new adds painted
 
+-- a row of a suggestion that is repainted shows the same still
 pub shows_repainted : (layout : SuggestionLayout) (first : ℕ) (lines : List (List ℕ)) (shown : SuggestionRow) (old mid new : List (List Cell)) (adds : AddsRow (Shows layout first lines shown) old mid) → IsRepainted old adds.row new → AddsRow (Shows layout first lines shown) old new
 shows_repainted layout first lines shown old mid new adds painted = row_repainted (Shows layout first lines shown) (same_shows layout first lines shown) old mid new adds painted
 
+-- the row of a line that is repainted is its row still
 pub line_repainted : (decor : DecorStyle) (gutter : ℕ) (number text : List ℕ) (old mid new : List (List Cell)) (adds : AddsRow (IsLineRow decor gutter number text) old mid) → IsRepainted old adds.row new → AddsRow (IsLineRow decor gutter number text) old new
 line_repainted decor gutter number text old mid new adds painted = row_repainted (IsLineRow decor gutter number text) (same_line decor gutter number text) old mid new adds painted

@@ -54,6 +54,7 @@ rising_from touched from k (suc left) ordered =
     let same : k + 1 + left ≡ k + suc left = omega arith in
     subst (λ (to : ℕ). AreRising from to (numbers_shown (shown_from touched from k (suc left)))) same (rising_from_by touched from k left (touched k) ordered (rising_from touched (k + 1) (k + 1) left (omega arith)) (rising_from touched from (k + 1) left (omega (arith, ordered))))
 
+-- the numbers of shown lines rise
 pub rising_shown : (touched : ℕ → Bool) (count : ℕ) → AreRising 0 count (numbers_shown (shown_lines touched count))
 rising_shown touched count =
     let same : 0 + count ≡ count = omega arith in
@@ -67,6 +68,7 @@ rooms_of layout first low count (Line k ∷ shown) rising rooms =
 rooms_of layout first low count (Gap ∷ shown) rising rooms =
     All-cons (NumberFits layout first) Gap shown tt (rooms_of layout first low count shown rising rooms)
 
+-- the numbers of shown lines fit the gutter where those of all lines do
 pub rooms_shown : (layout : SuggestionLayout) (first count : ℕ) (touched : ℕ → Bool) → ((k : ℕ) → k < count → NumberFits layout first (Line k)) → All (NumberFits layout first) (shown_lines touched count)
 rooms_shown layout first count touched rooms =
     rooms_of layout first 0 count (shown_lines touched count) (rising_shown touched count) rooms
@@ -102,5 +104,6 @@ touched_from touched from k zero j low high holds = absurd (omega (arith, low, h
 touched_from touched from k (suc left) j low high holds =
     touched_from_by touched from k left j (touched k) refl low high holds (λ next more. touched_from touched next (k + 1) left j more (omega (arith, high)) holds)
 
+-- a line that is touched is shown
 pub touched_shown : (touched : ℕ → Bool) (count j : ℕ) → j < count → touched j ≡ true → Contains (numbers_shown (shown_lines touched count)) j
 touched_shown touched count j below holds = touched_from touched 0 0 count j (omega arith) (omega (arith, below)) holds

@@ -18,6 +18,7 @@ pub use Rattle.snippet_style.proofs.RowLemmas.{written-nil, led_before}
 pub use Rattle.snippet_grid.proofs.RowLemmas.{begun_by, texted, text_put, row_text-text_cells}
 pub use Rattle.snippet_model.proofs.RowLemmas.{each_fails as All-from_none, free_drawn, free_written, free_led}
 
+-- a free row with free cells written is free
 pub free_texted : (bytes : List ℕ) (row : List Cell) (at : ℕ) (cells : List Cell) → IsFree row → IsFree cells → IsFree (texted bytes row at cells)
 free_texted [] row at cells free_row free_cells = free_row
 free_texted (b ∷ bs) row at cells free_row free_cells = free_written row at cells free_row free_cells
@@ -63,6 +64,7 @@ pub kept_after : (bytes : List ℕ) (row : List Cell) (at c : ℕ) (cells : List
 kept_after [] row at c cells left = refl
 kept_after (b ∷ bs) row at c cells left = slice_index_or-written_before SPACE row at cells c left
 
+-- a cell right of a text that is written stays
 pub left_after : (bytes : List ℕ) (row : List Cell) (at c : ℕ) (cells : List Cell) → at + length cells ≤ c → slice_index_or (texted bytes row at cells) c SPACE ≡ slice_index_or row c SPACE
 left_after [] row at c cells past = refl
 left_after (b ∷ bs) row at c cells past = slice_index_or-written_after SPACE row at cells c SPACE past

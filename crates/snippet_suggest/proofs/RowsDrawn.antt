@@ -37,6 +37,7 @@ pub record Emptied (layout : SuggestionLayout) (above : List (List Cell)) (under
   pub whole : rows ++ emptied_cells layout (drop count lines) (row_at tail 0) ≡ emptied_cells layout lines under
   pub after : 0 < count → tail ≡ []
 
+-- before any emptied line is added the rows are those above and their tail
 pub emptied_begun : (layout : SuggestionLayout) (above tail : List (List Cell)) (lines : List (ℕ × List ℕ)) (at : ℕ) (now : List (List Cell)) → at ≡ length above → now ≡ above ++ tail → length tail ≤ 1 → Emptied layout above (row_at tail 0) lines at 0 now
 emptied_begun layout above tail lines at now here is few =
     record {
@@ -89,11 +90,13 @@ emptied_next layout above under infos d at count next now new drawn within adds 
     let here : count < length (numbered_at infos) = omega (arith, within, length-map infos f) in
     emptied_more layout above under (numbered_at infos) (f d) at count next now new drawn here (adds ∙ ap (λ (l : ℕ × List ℕ). (above ++ drawn.rows) ++ removed_cells layout Removal l.0 l.1 (row_at drawn.tail 0) ∷ []) (sym line)) below
 
+-- no more lines are numbered than there are
 pub numbered_all : (infos : List LineInfo) (count : ℕ) → length infos ≤ count → length (numbered_at infos) ≤ count
 numbered_all infos count all =
     let f : LineInfo → ℕ × List ℕ = λ info. (info.line_index, info.line.now) in
     omega (arith, all, length-map infos f)
 
+-- once no emptied line is left all are added
 pub emptied_done : (layout : SuggestionLayout) (above : List (List Cell)) (under : List Cell) (lines : List (ℕ × List ℕ)) (at count : ℕ) (now : List (List Cell)) → 0 < count → length lines ≤ count → Emptied layout above under lines at count now → now ≡ above ++ emptied_cells layout lines under
 emptied_done layout above under lines at count now some all drawn =
     let none : emptied_cells layout (drop count lines) (row_at drawn.tail 0) ≡ [] = ap (λ ls. emptied_cells layout ls (row_at drawn.tail 0)) (drop_all count lines all) ∙ emptied-nil layout (row_at drawn.tail 0) in
@@ -116,6 +119,7 @@ taken-append layout first replaced k (one ∷ infos) info =
     let top : List Cell = with_stretches Removal layout.gutter (chars one.line.now) (replaced (one.line_index - first)) (removed_cells layout NoStyle (number_after first k) one.line.now []) in
     ap (λ rows. top ∷ rows) (taken-append layout first replaced (k + 1) infos info) ∙ ap (λ n. top ∷ (taken_cells layout first replaced (k + 1) infos ++ Row n ∷ [])) here
 
+-- before any removed line is taken no row is added
 pub taken_none : (layout : SuggestionLayout) (first : ℕ) (replaced : ℕ → List SubstitutionHighlight) (infos : List LineInfo) (old : List (List Cell)) → old ≡ old ++ taken_cells layout first replaced 0 (take 0 infos)
 unfolding taken_cells
 taken_none layout first replaced infos old = sym (append-nil old)
@@ -145,6 +149,7 @@ pub record LastOf (rows : List (List Cell)) : Type 0 where
   pub is : rows ≡ front ++ end ∷ []
   pub changed : (f : List Cell → List Cell) → on_last f rows ≡ front ++ f end ∷ []
 
+-- rows of which one is there have a last one
 pub last_of : (row : List Cell) (rows : List (List Cell)) → LastOf (row ∷ rows)
 unfolding on_last
 last_of row [] = record { front = []; end = row; is = refl; changed = λ f. refl }
@@ -170,6 +175,7 @@ diff_left layout first infos replaced line added last stays is left =
     let rows : List (List Cell) = last ∷ taken_cells layout first replaced 0 (unless_stays real infos) in
     ap Rows is ∙ sym (cond-true (is_left_out Diff (line ∷ []) (last_removed infos)) (Rows real) (rows ++ offered_cells layout Diff 1 first line added ∷ []) left)
 
+-- where the added line isn't left out, a diff is its beginning, the removed lines and the added one
 pub diff_shown : (layout : SuggestionLayout) (first : ℕ) (infos : List LineInfo) (replaced : ℕ → List SubstitutionHighlight) (line : List ℕ)
     (added : List SubstitutionHighlight) (last : List Cell) (stays : Bool) → stays ≡ bytes_eq line (last_removed infos)
     → is_left_out Diff (line ∷ []) (last_removed infos) ≡ false

@@ -22,6 +22,7 @@ touched_step touched done mid new all after line count below holds run pushed is
     ∙ sym (ap (λ b. done ++ (if b then shown_run after line ++ (Line line ∷ rest) else shown_from touched after (line + 1) (count - (line + 1))))
     holds) ∙ sym (ap (λ n. done ++ shown_from touched after line n) left) ∙ is
 
+-- a line that isn't touched adds no shown line
 pub untouched_step : (touched : ℕ → Bool) (done all : List ShownLine) (after line count : ℕ) → line < count → touched line ≡ false → done ++ shown_from touched after line (count - line) ≡ all → done ++ shown_from touched after (line + 1) (count - (line + 1)) ≡ all
 untouched_step touched done all after line count below holds is =
     let left : count - line ≡ suc (count - (line + 1)) = omega arith in

@@ -87,6 +87,7 @@ trimmed_spans source es ps all same =
     let trimmed : All P (trimmed_edits source es) = All-map P (trimmed_edit source) (in_order es) (λ k d within. edit_span source (get_or (in_order es) k d) (given k d within)) in
     All-unmapped P trimmed_edit_of ps (subst (All P) (sym same) trimmed)
 
+-- the patches of edits on spans stand on spans
 pub original_spans : (source : List ℕ) (es : List Edit) (ps : List TrimmedPatch) → All (λ e. IsSpan source e.start e.end) es → map original_bounds_of ps ≡ map bounds_of (in_order es) → All (λ p. IsSpan source p.original_span.start p.original_span.end) ps
 original_spans source es ps all same =
     let P : ℕ × ℕ → Type 0 = λ b. IsSpan source b.0 b.1 in

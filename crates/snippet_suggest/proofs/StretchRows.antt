@@ -56,6 +56,7 @@ one_more cs n c tabs more now within at counted adds sums =
           sums ∙ omega (arith, counted, none, all)
     ]
 
+-- a cursor that passes one more character counts it where it is a tab
 pub cursor_next : (t now : TabCursor) (c more : ℕ) → IsCursor t → now.line.now ≡ t.line.now → chars_rest t.rest ≡ encode_utf8 c ++ chars_rest now.rest → now.passed ≡ t.passed + 1 → more ≡ bool_byte (eqb c 9) → now.tabs ≡ min (t.tabs + more) (2 ^ 64 - 1) → IsCursor now
 cursor_next t now c more at line rest passed adds sums =
     let cs : List ℕ = chars t.line.now in
@@ -75,6 +76,7 @@ pub cursor_there : (t : TabCursor) (k : ℕ) → IsCursor t → t.passed ≡ k �
 cursor_there t k at there =
     at.counted ∙ ap (λ n. capped (count_by (λ c. eqb c 9) (take n (chars t.line.now)))) there
 
+-- a cursor at the end has counted all tabs
 pub cursor_ended : (t : TabCursor) (k : ℕ) → IsCursor t → t.passed ≤ k → length (chars_rest t.rest) ≡ 0 → t.tabs ≡ capped (count_by (λ c. eqb c 9) (take k (chars t.line.now)))
 cursor_ended t k at few ended =
     let cs : List ℕ = chars t.line.now in
@@ -90,6 +92,7 @@ cursor_ended t k at few ended =
 
 -- ---- the stretches
 
+-- a row without stretches stays
 pub with_none : (role : ElementStyle) (gutter : ℕ) (cs : List ℕ) (row : List Cell) → with_stretches role gutter cs [] row ≡ row
 unfolding with_stretches
 with_none role gutter cs row = refl
@@ -112,6 +115,7 @@ pub painted_begun : (role : ElementStyle) (gutter : ℕ) (cs : List ℕ) (ss : L
 painted_begun role gutter cs ss above last now is =
     is ∙ ap (λ (row : List Cell). above ++ row ∷ []) (sym (with_none role gutter cs last))
 
+-- with one more stretch painted the stretches so far are painted
 pub painted_next : (role : ElementStyle) (gutter : ℕ) (cs : List ℕ) (ss : List SubstitutionHighlight) (i : ℕ) (d : SubstitutionHighlight)
     (above : List (List Cell)) (last : List Cell) (now new : List (List Cell)) (row start end : ℕ) → i < length ss → row ≡ length above
     → now ≡ above ++ with_stretches role gutter cs (take i ss) last ∷ [] → start ≡ stretch_cell gutter cs (get_or ss i d).start
@@ -127,6 +131,7 @@ painted_next role gutter cs ss i d above last now new row start end within here 
     ∙ ap (λ (r : List Cell). above ++ r ∷ []) (sym (with_append role gutter cs (take i ss) s last))
     ∙ ap (λ (t : List SubstitutionHighlight). above ++ with_stretches role gutter cs t last ∷ []) (sym (take_more ss i d within))
 
+-- an empty stretch is passed, and paints nothing
 pub passed_next : (role : ElementStyle) (gutter : ℕ) (cs : List ℕ) (ss : List SubstitutionHighlight) (i : ℕ) (d : SubstitutionHighlight)
     (above : List (List Cell)) (last : List Cell) (now : List (List Cell)) → i < length ss
     → now ≡ above ++ with_stretches role gutter cs (take i ss) last ∷ [] → (get_or ss i d).start ≡ (get_or ss i d).end

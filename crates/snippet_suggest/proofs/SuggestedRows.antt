@@ -31,6 +31,7 @@ use Rattle.snippet_suggest.specs.Suggested.{body_cells, cells_of, cells_over, ma
 use Rattle.snippet_suggest.specs.Marks.{with_marks}
 use Rattle.snippet_suggest.proofs.KnownRemoved.{unless_range}
 use Rattle.snippet_suggest.proofs.RowsDrawn.{diff_left, diff_shown}
+use Rattle.snippet_suggest.proofs.OrderLaws.{not_diff}
 
 -- ---- rows one by one
 
@@ -83,10 +84,12 @@ unfolding body_cells
 body_none layout start s under rows none is =
     ap (λ (ls : List (List ℕ)). with_left_out layout s ls (cells_over (cells_of layout s) under (rows_of_suggestion start s))) none ∙ ap (cells_over (cells_of layout s) under) is
 
+-- where no line is given, the rows of emptied lines are those of the suggestion
 pub body_emptied : (layout : SuggestionLayout) (start : SuggestionStart) (s : Snippet Patch) (under : List Cell) (i : ℕ) (lines : List (ℕ × List ℕ)) → given_lines s ≡ [] → rows_of_suggestion start s ≡ removed_from i lines → emptied_cells layout lines under ≡ body_cells layout start s under
 body_emptied layout start s under i lines none is =
     sym (body_none layout start s under (removed_from i lines) none is ∙ emptied_over layout s under i lines none)
 
+-- where a diff gives no line, its beginning and the rows of emptied lines are those of the suggestion
 pub body_emptied_diff : (layout : SuggestionLayout) (start : SuggestionStart) (s : Snippet Patch) (under : List Cell) (i : ℕ)
     (lines : List (ℕ × List ℕ)) → given_lines s ≡ [] → rows_of_suggestion start s ≡ Begins start ∷ removed_from i lines
     → begin_cells layout start under ∷ emptied_cells layout lines [] ≡ body_cells layout start s under
@@ -94,12 +97,6 @@ body_emptied_diff layout start s under i lines none is =
     sym (body_none layout start s under (Begins start ∷ removed_from i lines) none is ∙ ap (λ row. row ∷ map (cells_of layout s []) (removed_from i lines)) (begins_is layout s under start) ∙ ap (λ rows. begin_cells layout start under ∷ rows) (emptied_later layout s i lines none))
 
 -- ---- where lines are given, and aren't shown as a diff
-
-not_diff : (kind : DisplaySuggestion) → kind ≢ Diff → is_diff kind ≡ false
-not_diff Underline other = refl
-not_diff Diff other = absurd (other refl)
-not_diff Plain other = refl
-not_diff Add other = refl
 
 -- the rows where no line gives its roles to another row
 body_plain : (layout : SuggestionLayout) (start : SuggestionStart) (s : Snippet Patch) (under : List Cell) (line : List ℕ) (lines : List (List ℕ))
@@ -111,6 +108,7 @@ body_plain layout start s under line lines rows some stays is =
     let all : List (List Cell) = cells_over (cells_of layout s) under (rows_of_suggestion start s) in
     ap (λ (ls : List (List ℕ)). with_left_out layout s ls all) some ∙ cond-false (is_diff (shown_kind s) && is_touched s.fold (given_ranges s) 0 && is_left_out (shown_kind s) (line ∷ lines) (last_reached s)) _ all stays ∙ ap (cells_over (cells_of layout s) under) is
 
+-- where lines are given, and no diff is shown, the beginning and the rows of the shown lines are the suggestion's
 pub body_shown : (layout : SuggestionLayout) (start : SuggestionStart) (s : Snippet Patch) (under : List Cell) (line : List ℕ) (lines : List (List ℕ))
     (shown : List ShownLine) → given_lines s ≡ line ∷ lines → shown_kind s ≢ Diff → rows_of_suggestion start s ≡ Begins start ∷ map row_of_shown shown
     → begin_cells layout start under ∷ map (shown_cells layout (shown_kind s) (s.line_start + first_given s) (given_lines s) (new_on s))
@@ -287,6 +285,7 @@ module _ (layout : SuggestionLayout) (s : Snippet Patch) (line : List ℕ) (f : 
       ∙ ap (λ (r : List Cell). taken_cells layout first replaced 0 (unless_stays stays infos) ++ r ∷ []) offered_is in
       sym (body ∙ ap (λ r. r ∷ map (cells_of layout s []) (removed ++ Offers 0 ∷ [])) (begins_is layout s under start) ∙ ap (λ rs. begin ∷ rs) cells)
 
+  -- the rows of a diff are those of the suggestion
   pub body_diff : (start : SuggestionStart) (under : List Cell) (added : List SubstitutionHighlight) → added ≡ new_on s 0
       → rows_of_suggestion start s ≡ Begins start ∷ changed_rows true left removed
       → diff_cells layout first infos replaced line added (begin_cells layout start under) ≡ body_cells layout start s under
@@ -300,6 +299,7 @@ module _ (layout : SuggestionLayout) (s : Snippet Patch) (line : List ℕ) (f : 
 
 -- ---- the last row
 
+-- the last row of an underlined suggestion has its marks
 pub ends_marked : (layout : SuggestionLayout) (s : Snippet Patch) (follows : Bool) → shown_kind s ≡ Underline → with_marks layout (source_of s) [] (trimmed_of s) (end_cells layout follows) ≡ cells_of layout s [] (Ends follows)
 unfolding cells_of
 ends_marked layout s follows marks =
@@ -311,11 +311,13 @@ none_marked Diff es other = refl
 none_marked Plain es other = refl
 none_marked Add es other = refl
 
+-- the last row of a suggestion that isn't underlined has no marks
 pub ends_plain : (layout : SuggestionLayout) (s : Snippet Patch) (follows : Bool) → shown_kind s ≢ Underline → end_cells layout follows ≡ cells_of layout s [] (Ends follows)
 unfolding cells_of with_marks
 ends_plain layout s follows other =
     ap (λ es. with_marks layout (source_of s) [] es (end_cells layout follows)) (sym (none_marked (shown_kind s) (trimmed_of s) other))
 
+-- the body and the last row are all rows of a suggestion
 pub suggestion_is : (layout : SuggestionLayout) (start : SuggestionStart) (follows : Bool) (s : Snippet Patch) (under : List Cell)
     (above before new : List (List Cell)) → before ≡ above ++ body_cells layout start s under
     → new ≡ before ++ cells_of layout s [] (Ends follows) ∷ [] → new ≡ above ++ suggestion_cells layout start follows s under

@@ -48,6 +48,7 @@ lead_glyph : (decor : DecorStyle) → begin_glyph decor Path ≡ end_glyph decor
 lead_glyph Ascii = refl
 lead_glyph Unicode = refl
 
+-- the start of a suggestion is a tail of the rows above
 pub start_tail : (layout : SuggestionLayout) (start : SuggestionStart) (tail : List (List Cell)) → IsStart layout start tail → IsTail layout.decor layout.gutter (begins_in_last start) tail
 start_tail layout Opening tail none = none
 start_tail layout Next tail shared = shared
@@ -106,6 +107,7 @@ tail_stroke layout false glyph tail is none =
     let Is : List (List Cell) → Type 0 = λ rs. IsStrokeRow layout.decor layout.gutter (beside_gutter layout.gutter (glyph_of layout.decor glyph)) (written SPACE (tail_row rs) (layout.gutter + 1) (text_cells LineNumber (glyph_of layout.decor glyph))) in
     subst Is (sym none) (stroke_signed layout.decor layout.gutter LineNumber glyph (begin_other glyph is))
 
+-- a glyph that is drawn over the tail is one row of strokes more
 pub glyph_added : (layout : SuggestionLayout) (shares : Bool) (glyph : SuggestionGlyph) (above tail old new : List (List Cell)) (row : ℕ)
     (text : List ℕ) → is_begin glyph ≡ true → chars text ≡ glyph_of layout.decor glyph
     → new ≡ cells_written old row (layout.gutter + 1) (text_cells LineNumber (chars text)) → row ≡ length above → old ≡ above ++ tail

@@ -48,6 +48,7 @@ line_taken (Ends follows) = None
 abbrev pub numbers_offered : List SuggestionRow → List ℕ
 numbers_offered shown = filter_map number_offered shown
 
+-- the lines of the source that some rows show as removed
 abbrev pub lines_taken : List SuggestionRow → List ℕ
 lines_taken shown = filter_map line_taken shown
 

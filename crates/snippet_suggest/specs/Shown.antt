@@ -38,6 +38,7 @@ abbrev pub number_of : ShownLine → Option ℕ
 number_of (Line k) = Some k
 number_of Gap = None
 
+-- the numbers of some lines that are shown
 abbrev pub numbers_shown : List ShownLine → List ℕ
 numbers_shown shown = filter_map number_of shown
 

@@ -39,6 +39,7 @@ width_of-norm (c ∷ cs) = sum_by-append char_width (shown c) (flat_map shown cs
 length-shown : (c : ℕ) → length (shown c) ≤ 4
 length-shown c = grind (arith, nat_tests)
 
+-- a normalised text is at most four times as long
 pub length-norm : (cs : List ℕ) → length (norm cs) ≤ 4 * length cs
 unfolding norm
 length-norm [] = omega arith

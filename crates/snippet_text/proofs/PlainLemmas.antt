@@ -33,6 +33,7 @@ width_of-all_plain (c ∷ cs) all =
     let rest : width_of cs ≡ length cs = width_of-all_plain cs (All-tail IsPlain c cs all) in
     omega (arith, one, rest, sum_by-cons char_width c cs)
 
+-- a plain text is as wide as it is long
 pub width_of-plain : (bs : List ℕ) → All IsPlain bs → length bs ≡ width_of (chars bs)
 width_of-plain bs all = rw (chars-plain bs all, width_of-all_plain bs all) refl
 

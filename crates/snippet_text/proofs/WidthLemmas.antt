@@ -13,6 +13,7 @@ pub width_of-opening : width_of (codes "[") ≡ 1
 unfolding char_width unicode_width
 width_of-opening = refl
 
+-- a closing bracket is one column wide
 pub width_of-closing : width_of (codes "]") ≡ 1
 unfolding char_width unicode_width
 width_of-closing = refl

@@ -11,6 +11,7 @@ use Rattle.std.specs.List.{list_all}
 abbrev pub blank_to : List ℕ → ℕ → Bool
 blank_to cs left = list_all is_whitespace (take left cs)
 
+-- a text is blank up to its start
 pub blank_to-none : (cs : List ℕ) (left : ℕ) → left ≡ 0 → blank_to cs left ≡ true
 blank_to-none cs left none = ap (blank_to cs) none
 
@@ -25,14 +26,17 @@ first-to cs c (suc left) blank some is =
     let fewer : suc left - 1 ≡ left = omega arith in
     ap (λ b. b && blank_to cs left) is ∙ ap (λ n. blank && blank_to cs n) (sym fewer)
 
+-- a character that is no white space, left of the place, ends what is blank
 pub blank_to-stop : (cs : List ℕ) (n c left : ℕ) → (n < length cs) × (c ≡ get_or cs n c) → (left ≡ 0 → ⊥) → is_whitespace c ≡ false → blank_to (drop n cs) left ≡ false
 blank_to-stop cs n c left at some visible =
     to-here cs n c left at ∙ first-to (drop (n + 1) cs) c left false some visible
 
+-- white space left of the place is passed
 pub blank_to-step : (cs : List ℕ) (n c left : ℕ) → (n < length cs) × (c ≡ get_or cs n c) → (left ≡ 0 → ⊥) → is_whitespace c ≡ true → blank_to (drop (n + 1) cs) (left - 1) ≡ blank_to (drop n cs) left
 blank_to-step cs n c left at some blank =
     sym (to-here cs n c left at ∙ first-to (drop (n + 1) cs) c left true some blank)
 
+-- a text that has ended is blank
 pub blank_to-end : (cs : List ℕ) (n left : ℕ) → length cs ≡ n → blank_to (drop n cs) left ≡ true
 blank_to-end cs n left all = ap (λ l. blank_to l left) (drop_all n cs (omega arith)) ∙ of_none left
   where
@@ -68,12 +72,15 @@ from-here : (cs : List ℕ) (n c left : ℕ) → (n < length cs) × (c ≡ get_o
 from-here cs n c left at =
     at_drop_more (λ l. blank_from l left) cs n c at.0 ∙ ap (λ d. blank_from (d ∷ drop (n + 1) cs) left) (sym at.1)
 
+-- a character that is no white space, at the place or right of it, ends what is blank
 pub blank_from-stop : (cs : List ℕ) (n c left : ℕ) → (n < length cs) × (c ≡ get_or cs n c) → (eqb left 0 && not (is_whitespace c)) ≡ true → blank_from (drop n cs) left ≡ false
 blank_from-stop cs n c left at visible = from-here cs n c left at ∙ stopped (drop (n + 1) cs) c left visible
 
+-- a character left of the place, or white space, is passed
 pub blank_from-step : (cs : List ℕ) (n c left fewer : ℕ) → (n < length cs) × (c ≡ get_or cs n c) → (eqb left 0 && not (is_whitespace c)) ≡ false → fewer ≡ left - 1 → blank_from (drop (n + 1) cs) fewer ≡ blank_from (drop n cs) left
 blank_from-step cs n c left fewer at hidden less =
     ap (blank_from (drop (n + 1) cs)) less ∙ sym (from-here cs n c left at ∙ passed (drop (n + 1) cs) c left hidden)
 
+-- a text that has ended is blank from the place on where that is reached
 pub blank_from-end : (cs : List ℕ) (n left : ℕ) → length cs ≡ n → blank_from (drop n cs) left ≡ eqb left 0
 blank_from-end cs n left all = ap (λ l. blank_from l left) (drop_all n cs (omega arith)) ∙ ended left

@@ -16,7 +16,7 @@ use Rattle.snippet_lines.specs.Lines.{Source}
 use Rattle.snippet_lines.specs.Order.{ordered_by}
 use Rattle.snippet_lines.specs.Place.{locations_of}
 use Rattle.snippet_lines.specs.declared.place.Loc.{Loc}
-use Rattle.snippet_lines.proofs.OrderLemmas.{All-put_in, sorted-only, map-ordered_by}
+use Rattle.snippet_lines.proofs.OrderLemmas.{sorted-only, map-ordered_by}
 use Rattle.snippet_model.specs.declared.snippet.Annotation.{Annotation}
 use Rattle.snippet_model.specs.declared.snippet.Snippet.{Snippet}
 use Rattle.snippet_view.specs.Mark.{is_marking}
@@ -24,9 +24,11 @@ use Rattle.snippet_text_form.specs.Cause.{after_place, cause_form, comes_before,
 use Rattle.snippet_text_form.specs.Form.{FormPiece, Break, bare}
 use Rattle.snippet_text_form.specs.Position.{place}
 use Rattle.snippet_text_form.specs.declared.cause.NamedSpan.{NamedSpan}
+use Rattle.snippet_view.proofs.PartLemmas.{All-order}
 
 -- ---- the order
 
+-- the code's comparison of two pairs is that of the definition
 pub compare-tells : (a b c d : ℕ) → is_lt (ordering_then (nat_cmp a c) (nat_cmp b d)) ≡ cond (eqb a c) (ltb b d) (ltb a c)
 compare-tells a b c d = grind (arith, nat_tests)
 
@@ -42,6 +44,7 @@ comes_before-order = record {
   chain = λ x y z h k. chained (kind_rank x.kind) x.span.start (kind_rank y.kind) y.span.start (kind_rank z.kind) z.span.start h k;
 }
 
+-- the annotation of a named span
 abbrev pub annotation_of : NamedSpan → Annotation
 annotation_of s = s.annotation.now
 
@@ -49,6 +52,7 @@ annotation_of s = s.annotation.now
 abbrev pub span_before : NamedSpan → NamedSpan → Bool
 span_before a b = comes_before (annotation_of a) (annotation_of b)
 
+-- which of two named spans comes first is an order
 pub span_before-order : IsStrictWeakOrder span_before
 span_before-order = record {
   one_way = λ x y h. comes_before-order.one_way (annotation_of x) (annotation_of y) h;
@@ -62,15 +66,12 @@ named_spans-is given sorted marks up stable are =
 
 -- ---- what holds of each
 
-All-ordered_by : {X : Type 0} (before : X → X → Bool) (P : X → Type 0) (xs : List X) → All P xs → All P (ordered_by before xs)
-All-ordered_by before P [] all = all
-All-ordered_by before P (x ∷ xs) all =
-    All-put_in before P x (ordered_by before xs) (All-head P x xs all) (All-ordered_by before P xs (All-tail P x xs all))
-
+-- what holds of each annotation holds of each named span
 pub All-named_spans : (P : Annotation → Type 0) (marks : List Annotation) → All P marks → All P (named_spans marks)
 All-named_spans P marks all =
-    All-ordered_by comes_before P (filter (λ a. is_marking a.kind) marks) (All-filter (λ a. is_marking a.kind) P marks all)
+    All-order comes_before P (filter (λ a. is_marking a.kind) marks) (All-filter (λ a. is_marking a.kind) P marks all)
 
+-- what holds of the annotations of spans holds of each span's
 pub All-annotations : (P : Annotation → Type 0) (spans : List NamedSpan) → All P (map annotation_of spans) → All (λ s. P (annotation_of s)) spans
 All-annotations P [] all = All-nil (λ s. P (annotation_of s))
 All-annotations P (s ∷ spans) all =
@@ -86,6 +87,7 @@ bare-four old one two three four a b c d first second third fourth =
     joined : (((old ++ bare a) ++ bare b) ++ bare c) ++ bare d ≡ old ++ bare (a ++ b ++ c ++ d)
     joined = simp (append_assoc, map-append)
 
+-- three texts that are added one after the other are added as one
 pub bare-three : (old one two three : List FormPiece) (a b c : List ℕ) → one ≡ old ++ bare a → two ≡ one ++ bare b → three ≡ two ++ bare c → three ≡ old ++ bare (a ++ b ++ c)
 bare-three old one two three a b c first second third =
     third ∙ ap (λ l. l ++ bare c) (second ∙ ap (λ l. l ++ bare b) first) ∙ joined
@@ -140,10 +142,12 @@ span-labelled anonymized source indent path a at old one two three four five is 
 
 -- ---- spans after the first
 
+-- a span without a label adds nothing
 pub further-none : (form : Annotation → List FormPiece) (old : List FormPiece) (a : Annotation) → has_label a ≡ false → old ≡ old ++ flat_map form (filter has_label (a ∷ []))
 further-none form old a none =
     sym (ap (λ l. old ++ flat_map form l) (cond-false (has_label a) (a ∷ []) [] none) ∙ append-nil old)
 
+-- a span with a label adds its form
 pub further-one : (form : Annotation → List FormPiece) (old new : List FormPiece) (a : Annotation) → has_label a ≡ true → new ≡ old ++ form a → new ≡ old ++ flat_map form (filter has_label (a ∷ []))
 further-one form old new a some added =
     added ∙ ap (λ l. old ++ l) (sym (ap (flat_map form) (cond-true (has_label a) (a ∷ []) [] some) ∙ append-nil (form a)))
@@ -190,10 +194,7 @@ is_shown-chars (b ∷ bs) utf8 = filled (length bs) ∙ sym (some (chars (b ∷ 
     some [] same = absurd (cc)
     some (c ∷ cs) same = grind (arith, nat_tests)
 
+-- the characters of the bytes that the code writes for two spaces
 pub two-spaces : chars (32 ∷ 32 ∷ []) ≡ codes "  "
 unfolding chars
 two-spaces = refl
-
-pub one-space : chars (32 ∷ []) ≡ codes " "
-unfolding chars
-one-space = refl

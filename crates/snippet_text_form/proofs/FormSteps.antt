@@ -28,6 +28,7 @@ pub woven-bare : (sheet : Stylesheet) (begun : Bool) (cs : List ℕ) → flat_ma
 woven-bare sheet begun [] = refl
 woven-bare sheet begun (c ∷ cs) = ap (λ (bs : List ℕ). encode_utf8 c ++ bs) (woven-bare sheet true cs)
 
+-- the characters of a text that is added as it is are the text
 pub plain-bare : (begun : Bool) (cs : List ℕ) → plain_from begun (bare cs) ≡ cs
 plain-bare begun [] = refl
 plain-bare begun (c ∷ cs) = ap (λ (ds : List ℕ). c ∷ ds) (plain-bare true cs)
@@ -47,10 +48,12 @@ woven-ascii : (sheet : Stylesheet) (begun : Bool) (cs : List ℕ) → All (λ c.
 woven-ascii sheet begun cs ascii =
     sym (encodes-IsAscii cs (IsAscii-from_all cs ascii)) ∙ sym (woven-bare sheet begun cs)
 
+-- the digits of a number are woven as they are
 pub woven-number : (sheet : Stylesheet) (begun : Bool) (n : ℕ) → decimal n ≡ flat_map piece_text (woven_from sheet begun (bare (decimal n)))
 woven-number sheet begun n =
     woven-ascii sheet begun (decimal n) (All-weaker IsDigit (λ c. c < 128) (λ c is. omega (arith, is.1)) (decimal n) (decimal-all n))
 
+-- spaces are woven as they are
 pub woven-spaces : (sheet : Stylesheet) (begun : Bool) (n : ℕ) → replicate n 32 ≡ flat_map piece_text (woven_from sheet begun (bare (replicate n 32)))
 woven-spaces sheet begun n =
     woven-ascii sheet begun (replicate n 32) (All-replicate (λ c. c < 128) n 32 (omega arith))
@@ -148,14 +151,17 @@ some-chars : (cs bytes : List ℕ) → encode_utf8_all cs ≡ bytes → not (len
 some-chars [] bytes is = ap (λ (bs : List ℕ). not (length bs == 0)) (sym is)
 some-chars (c ∷ cs) bytes is = grind (arith, nat_tests, length-le-encodes (c ∷ cs), is)
 
+-- a text has begun a line where it isn't empty
 pub begun-chars : (empty : Bool) (bytes text : List ℕ) → IsUtf8 bytes → bytes ≡ text → empty ≡ (length bytes == 0) → not empty ≡ begun_after false (chars text)
 begun-chars empty bytes text utf8 same is =
     ap not is ∙ some-chars (chars bytes) bytes (encodes-chars bytes utf8) ∙ ap (λ (bs : List ℕ). begun_after false (chars bs)) same
 
+-- a text that is added has begun a line where it isn't empty
 pub begun-text : (empty : Bool) (bytes text : List ℕ) → IsUtf8 bytes → bytes ≡ text → empty ≡ (length bytes == 0) → not empty ≡ begun_after false (plain_from false (bare (chars text)))
 begun-text empty bytes text utf8 same is =
     begun-chars empty bytes text utf8 same is ∙ ap (begun_after false) (sym (plain-bare false (chars text)))
 
+-- a styled text has begun a line where it isn't empty
 pub begun-styled : (empty : Bool) (bytes text : List ℕ) → IsUtf8 bytes → bytes ≡ text → empty ≡ (length bytes == 0) → not empty ≡ begun_after false (chars text ++ [])
 begun-styled empty bytes text utf8 same is =
     begun-chars empty bytes text utf8 same is ∙ ap (begun_after false) (sym (append-nil (chars text)))
@@ -175,6 +181,7 @@ unfolding digits
 decimal-some n =
     digits-step 63 n [] (n / 10 == 0) refl (digits-some 63 (n / 10) (digit_glyph false (n % 10) ∷ []) (omega arith))
 
+-- a number has begun a line
 pub begun-number : (n : ℕ) → true ≡ begun_after false (plain_from false (bare (decimal n)))
 begun-number n =
     sym (lt-ltb 0 (length (decimal n)) (decimal-some n)) ∙ ap (begun_after false) (sym (plain-bare false (decimal n)))
@@ -186,6 +193,7 @@ pub record IsRendered (sheet : Stylesheet) (parts : List TextPart) (text : List 
   pub text_is : text ≡ form_bytes sheet (flat_map pieces_of parts)
   pub begun_is : begun ≡ begun_past false (flat_map pieces_of parts)
 
+-- an empty text renders no pieces
 pub IsRendered-none : (sheet : Stylesheet) (text : List ℕ) → text ≡ [] → IsRendered sheet [] text false
 IsRendered-none sheet text none = record { text_is = none; begun_is = refl }
 

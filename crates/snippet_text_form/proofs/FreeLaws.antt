@@ -39,7 +39,8 @@ use Rattle.snippet_text_form.specs.Suggestion.{added_form, edit_form, edit_inden
 use Rattle.snippet_text_form.specs.declared.heading.HeadingKind.{HeadingKind}
 use Rattle.snippet_text_form.specs.declared.heading.HeadingKind.TheVariants.{Title, Message}
 use Rattle.snippet_text_form.specs.declared.suggestion.SuggestionContext.{SuggestionContext}
-use Rattle.snippet_text_form.proofs.OrderLaws.{plain-append, plain-bare}
+use Rattle.snippet_text_form.proofs.OrderLaws.{plain-append}
+use Rattle.snippet_text_form.proofs.FormSteps.{plain-bare}
 
 -- a fact holds of each plain character of a text form, whatever stands before that
 abbrev pub EachPlain : (ℕ → Type 0) → List FormPiece → Type 0
@@ -288,6 +289,7 @@ suggestion-free begun anonymized at s =
     let edits : Edit → List FormPiece = edit_form anonymized source (edit_indent at.option) path in
     each-append IsUnlisted refl (option_form at.option) (flat_map edits (given.trimmed_of s)) (option-free at.option) (each-flat_map IsUnlisted refl edits (edit-free anonymized source (edit_indent at.option) path (edit_indent-free at.option)) (given.trimmed_of s)) begun
 
+-- the text form of an origin holds no listed character
 pub origin-free : (begun anonymized : Bool) (o : Origin) → All (λ c. is_listed c ≡ false) (plain_from begun (origin_form anonymized o))
 unfolding origin_form
 origin-free begun anonymized o =
@@ -369,6 +371,7 @@ module _ (P : ℕ → Type 0) (free : (c : ℕ) → IsUnlisted c → P c) where
       let lines : List FormPiece = lines_form roles.text width (heading_lines heading) in
       each-break P (free 10 refl) (label ++ lines) (each-append P (free 10 refl) label lines (label-all hyperlink kind roles heading) (lines-all roles.text width (heading_lines heading) (All-slice_split P (λ c. c == 10) (shown_text heading) all)))
 
+-- a listed character in the text form of a heading is of its own text, and that may be styled
 pub heading-free : (begun hyperlink : Bool) (kind : HeadingKind) (heading : Heading) → All (λ c. is_listed c ≡ true → (heading.allows_styling ≡ true) × Contains (chars heading.text) c) (plain_from begun (heading_form hyperlink kind heading))
 heading-free begun hyperlink kind heading =
     heading-all (IsOwn heading) (own_unlisted heading) hyperlink kind heading (own_text heading heading.allows_styling refl) begun

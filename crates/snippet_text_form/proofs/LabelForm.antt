@@ -25,9 +25,11 @@ use Rattle.snippet_text_form.proofs.FormSteps.{begun-chars}
 
 -- ---- the colon
 
+-- a label that isn't hidden has its colon
 pub colon-named : (role : ElementStyle) (hidden : Bool) (id : Option Id) → hidden ≡ false → styled role (chars (58 ∷ 32 ∷ [])) ≡ colon_form role hidden id
 colon-named role hidden id is = rw is (ap (styled role) chars-colon)
 
+-- a label with an id has its colon
 pub colon-set : (role : ElementStyle) (hidden : Bool) (id : Option Id) → is_set id ≡ true → styled role (chars (58 ∷ 32 ∷ [])) ≡ colon_form role hidden id
 colon-set role true id set = rw set (ap (styled role) chars-colon)
 colon-set role false id set = ap (styled role) chars-colon
@@ -41,6 +43,7 @@ link-known true bytes own text address given utf8 same is spelled none some =
 link-known false bytes own text address given utf8 same is spelled none some =
     some refl ∙ ap (λ (b : Bool). if b then address else None) (begun-chars false bytes own utf8 same is ∙ ap (λ (cs : List ℕ). nat_lt 0 (length cs)) spelled)
 
+-- the bracket and the id, with its link, are the form of an id, on success
 pub id-added : {T E : Type 0} (r : Result T E) (old one new : List FormPiece) (hyperlink hidden : Bool) (role : ElementStyle) (id : Id)
     (text before shown : List ℕ) (address : Option (List ℕ)) → option_map cow_str_bytes id.id ≡ Some text → before ≡ before_id hidden
     → shown ≡ norm (chars text) → address ≡ link_for (address_of hyperlink id) (norm (chars text)) → one ≡ old ++ bare before
@@ -59,11 +62,13 @@ id-added r old one new hyperlink hidden role id text before shown address is led
 width_of-two : (xs ys : List ℕ) → width_of (xs ++ ys) ≡ width_of xs + width_of ys
 width_of-two xs ys = sum_by-append char_width xs ys
 
+-- a name that isn't hidden is as wide as what stands before it and itself
 pub name-width : (hidden : Bool) (before text : List ℕ) (one two : ℕ) → hidden ≡ false → one ≡ width_of before → two ≡ width_of text → one + two ≡ (if hidden then 0 else width_of (before ++ norm text))
 name-width true before text one two is first second = cc
 name-width false before text one two is first second =
     omega (arith, first, second, width_of-two before (norm text), width_of-norm text)
 
+-- an id is as wide as what stands before it and itself
 pub id-width : (hidden : Bool) (id : Id) (before text : List ℕ) (one two : ℕ) → option_map cow_str_bytes id.id ≡ Some text → before ≡ before_id hidden → one ≡ width_of before → two ≡ width_of (chars text) → one + two ≡ width_of (label_of_id hidden (Some id))
 id-width hidden id before text one two is led first second =
     let whole : width_of (before_id hidden ++ norm (chars text)) ≡ width_of (label_of_id hidden (Some id)) = ap (λ t. width_of (id_label hidden t)) (sym is) in
@@ -74,6 +79,7 @@ width_of-shown_if : (hidden : Bool) (name : List ℕ) → (if hidden then 0 else
 width_of-shown_if true name = refl
 width_of-shown_if false name = refl
 
+-- a label is as wide as its name, its id and its colon
 pub label-width : (kind : HeadingKind) (known level : Level) (hidden : Bool) (owned id set : Option Id) (name shown colon : ℕ) (colons : List ℕ)
     → level ≡ known → hidden ≡ is_hidden known.name → id ≡ owned → set ≡ owned
     → name ≡ (if is_hidden level.name then 0 else width_of (before_name kind ++ norm (chars (name_of level))))
@@ -91,6 +97,7 @@ label-width kind known level hidden owned id set name shown colon colons leveled
 
 -- ---- the whole heading
 
+-- a label and its lines are the form of a heading, on success
 pub heading-added : {T E : Type 0} (r : Result T E) (old one two new : List FormPiece) (hyperlink : Bool) (kind : HeadingKind) (heading : Heading)
     (level : Level) (trusted : Bool) (roles : HeadingRoles) (width : ℕ) → level ≡ heading.level → trusted ≡ heading.allows_styling
     → roles ≡ roles_of kind level.kind trusted → width ≡ width_of (label_text kind heading) → one ≡ old ++ Break ∷ []

@@ -128,6 +128,7 @@ spans-links anonymized source path (a ∷ marks) =
     let further : Annotation → List FormPiece = span_form anonymized source (further_indent path) None in
     links-after first (flat_map further (filter has_label marks)) (bare-links (span_text anonymized source (codes " ") path a)) ∙ each-links further (λ b. bare-links (span_text anonymized source (further_indent path) None b)) (filter has_label marks)
 
+-- the text form of a snippet has no link
 pub cause-links : (anonymized : Bool) (s : Snippet Annotation) → form_links (cause_form anonymized s) ≡ []
 unfolding cause_form
 cause-links anonymized s =
@@ -154,6 +155,7 @@ edit-links anonymized source indent path e =
     let front : List ℕ = indent ++ edit_place anonymized source path e at.0 at.1 in
     links-after (bare front) (added_form source.text e) (bare-links front) ∙ added-links source.text e
 
+-- the text form of a suggestion has no link
 pub suggestion-links : (anonymized : Bool) (at : SuggestionContext) (s : Snippet Patch) → form_links (suggestion_form anonymized at s) ≡ []
 unfolding suggestion_form
 suggestion-links anonymized at s =
@@ -162,6 +164,7 @@ suggestion-links anonymized at s =
     let edits : Edit → List FormPiece = edit_form anonymized source (edit_indent at.option) path in
     links-after (option_form at.option) (flat_map edits (given.trimmed_of s)) (option-links at.option) ∙ each-links edits (edit-links anonymized source (edit_indent at.option) path) (given.trimmed_of s)
 
+-- the text form of an origin has no link
 pub origin-links : (anonymized : Bool) (o : Origin) → form_links (origin_form anonymized o) ≡ []
 unfolding origin_form
 origin-links anonymized o =

@@ -20,6 +20,7 @@ use Rattle.snippet_text_form.specs.Form.{FormPiece, Char, Break, Styled, bare, b
 use Rattle.snippet_text_form.specs.Heading.{heading_form, label_form, label_text, lines_form, roles_of}
 use Rattle.snippet_text_form.specs.Order.{StandInOrder}
 use Rattle.snippet_text_form.specs.declared.heading.HeadingKind.{HeadingKind}
+use Rattle.snippet_text_form.proofs.FormSteps.{plain-bare}
 
 -- text that stands before another, or before nothing
 begun-cons : (begun : Bool) (c : ℕ) (cs : List ℕ) → begun_after begun (c ∷ cs) ≡ true
@@ -47,10 +48,6 @@ plain-append begun (Styled role link text ∷ a) b =
     let now : Bool = begun_after begun text in
     let front : List ℕ = plain_from now a in
     ap (λ cs. text ++ cs) (plain-append now a b) ∙ sym (append_assoc text front (plain_from (begun_after now front) b)) ∙ ap (λ t. (text ++ front) ++ plain_from t b) (sym (begun-append begun text front))
-
-pub plain-bare : (begun : Bool) (text : List ℕ) → plain_from begun (bare text) ≡ text
-plain-bare begun [] = refl
-plain-bare begun (c ∷ cs) = ap (λ ds. c ∷ ds) (plain-bare true cs)
 
 -- texts that stand in one stand there after more text too
 pub stand-after : (bs : List (List ℕ)) (p q : List ℕ) → StandInOrder bs q → StandInOrder bs (p ++ q)

@@ -69,6 +69,7 @@ shown_lines-numbered trusted n [] = refl
 shown_lines-numbered trusted n (line ∷ lines) =
     ap (λ (ls : List (List ℕ)). line_shown trusted (chars line) ∷ ls) (shown_lines-numbered trusted (n + 1) lines)
 
+-- the lines that are shown are those of the heading's text
 pub shown_lines-all : (styling trusted : Bool) (own text : List ℕ) (numbered : List (ℕ × Bor (List ℕ))) → trusted ≡ styling → IsUtf8 text → text ≡ own
     → map (λ (p : ℕ × Bor (List ℕ)). (p.0, p.1.now)) numbered ≡ enumerate_from 0 (lines_at text)
     → shown_lines trusted numbered ≡ lines_at (if styling then chars own else norm (chars own))
@@ -88,10 +89,12 @@ lines_form-push role width (first ∷ lines) line =
 abbrev pub with_lines : List FormPiece → ElementStyle → ℕ → Bool → List (ℕ × Bor (List ℕ)) → List FormPiece
 with_lines old role width trusted numbered = old ++ lines_form role width (shown_lines trusted numbered)
 
+-- once all lines are added the form is that of them all
 pub all_added : (old form : List FormPiece) (role : ElementStyle) (width : ℕ) (trusted : Bool) (numbered : List (ℕ × Bor (List ℕ))) (lines : List (List ℕ)) → form ≡ with_lines old role width trusted numbered → shown_lines trusted numbered ≡ lines → form ≡ old ++ lines_form role width lines
 all_added old form role width trusted numbered lines so_far all =
     so_far ∙ ap (λ (ls : List (List ℕ)). old ++ lines_form role width ls) all
 
+-- with one more line added the lines so far are added
 pub line_added : (old form one new : List FormPiece) (role : ElementStyle) (width index : ℕ) (trusted : Bool) (numbered : List (ℕ × Bor (List ℕ)))
     (line : Bor (List ℕ)) (text : List ℕ) → index ≡ length numbered → form ≡ with_lines old role width trusted numbered
     → one ≡ form ++ bare (before_line width index) → new ≡ one ++ styled role text → text ≡ line_shown trusted (chars line.now)

@@ -41,6 +41,7 @@ replaced_place anonymized source path e start end over given =
     (place anonymized path start.line (column_unless (is_whole_line source start end e) start))
     (and_from (overwrites source.text e) (not (is_blank e.text)) over (ap not given))
 
+-- the place of an edit that doesn't replace text is where it starts
 pub other_place : (anonymized : Bool) (source : Source) (path : Option (List ℕ)) (e : Edit) (start end : Loc) → replaces source.text e ≡ false → edit_place anonymized source path e start end ≡ place anonymized path start.line (column_unless (is_whole_line source start end e) start)
 other_place anonymized source path e start end other =
     cond-false (replaces source.text e) (place anonymized path start.line (Some (start.char + 1)) ++ replaced_to anonymized start end) (place anonymized path start.line (column_unless (is_whole_line source start end e) start)) other

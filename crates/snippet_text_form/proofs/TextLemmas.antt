@@ -2,10 +2,12 @@
 use Rattle.std.proofs.Common.{◌≡◌, ◌∷◌, [], codes, chars, refl}
 use Rattle.std.proofs.lemmas.Str.{chars-encodes}
 
+-- the characters of the bytes that the code writes for a space
 pub chars-space : chars (32 ∷ []) ≡ codes " "
 unfolding lib.Utf8.encode
 chars-space = chars-encodes (codes " ") refl
 
+-- the characters of the bytes that the code writes for a line feed
 pub chars-feed : chars (10 ∷ []) ≡ 10 ∷ []
 unfolding lib.Utf8.encode
 chars-feed = chars-encodes (10 ∷ []) refl
@@ -15,14 +17,17 @@ pub chars-at : chars (97 ∷ 116 ∷ 32 ∷ []) ≡ codes "at "
 unfolding lib.Utf8.encode
 chars-at = chars-encodes (codes "at ") refl
 
+-- the characters of the bytes that the code writes for `:`
 pub chars-after : chars (58 ∷ []) ≡ codes ":"
 unfolding lib.Utf8.encode
 chars-after = chars-encodes (codes ":") refl
 
+-- the characters of the bytes that the code writes for `on line `
 pub chars-on_line : chars (111 ∷ 110 ∷ 32 ∷ 108 ∷ 105 ∷ 110 ∷ 101 ∷ 32 ∷ []) ≡ codes "on line "
 unfolding lib.Utf8.encode
 chars-on_line = chars-encodes (codes "on line ") refl
 
+-- the characters of the bytes that the code writes for `, column `
 pub chars-column : chars (44 ∷ 32 ∷ 99 ∷ 111 ∷ 108 ∷ 117 ∷ 109 ∷ 110 ∷ 32 ∷ []) ≡ codes ", column "
 unfolding lib.Utf8.encode
 chars-column = chars-encodes (codes ", column ") refl

@@ -40,6 +40,7 @@ abbrev pub label_chars : Option (List ℕ) → List ℕ
 label_chars None = []
 label_chars (Some text) = norm (chars text)
 
+-- the characters of an annotation's label
 abbrev pub label_of : Annotation → List ℕ
 label_of a = label_chars (option_map cow_str_bytes a.label)
 

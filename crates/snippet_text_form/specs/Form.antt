@@ -58,6 +58,7 @@ piece_links (Char ch) = []
 piece_links Break = []
 piece_links (Styled role link text) = option_to_list link
 
+-- those that a whole form links to
 abbrev pub form_links : List FormPiece → List (List ℕ)
 form_links form = flat_map piece_links form
 

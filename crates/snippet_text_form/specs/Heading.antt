@@ -78,6 +78,7 @@ abbrev pub label_of_id : Bool → Option Id → List ℕ
 label_of_id hidden None = []
 label_of_id hidden (Some id) = id_label hidden (option_map cow_str_bytes id.id)
 
+-- the characters of a whole label
 abbrev pub label_text : HeadingKind → Heading → List ℕ
 label_text kind heading =
     let hidden = is_hidden heading.level.name in

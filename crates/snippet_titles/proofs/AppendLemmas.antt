@@ -116,6 +116,7 @@ linked_row rows row end (cell ∷ cells) url within =
     ∙ ap (λ (r : List Cell). written [] rows row (r ∷ [])) (changed_after (linked url) end xs (cell ∷ cells) within)
     ∙ sym (appended-is rows row (map (linked url) (cell ∷ cells)) (omega arith))
 
+-- cells that are appended and then linked are linked cells appended
 pub linked_from-appended : (rows : List (List Cell)) (row from : ℕ) (address : Option (List ℕ)) (cells : List Cell) → length (row_at rows row) ≡ from → from + length cells < 2 ^ 64 → linked_from address row from (appended rows row cells) ≡ appended rows row (linked_to address cells)
 linked_from-appended rows row from None cells size within = refl
 linked_from-appended rows row from (Some url) cells size within =

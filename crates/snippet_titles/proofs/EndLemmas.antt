@@ -41,6 +41,7 @@ on_top-refilled (cell ∷ cells) rows all is within =
     let more : suc (length all) - suc (length rows) ≡ length all - length rows = omega arith in
     (ap (λ n. (cell ∷ cells) ∷ (rows ++ replicate n none)) more ∙ ap (λ (rs : List (List Cell)). (cell ∷ cells) ∷ rs) is, omega (arith, within))
 
+-- rows that are trimmed are the same once empty ones are added below
 pub refilled : (rows : List (List Cell)) → (trimmed rows ++ replicate (length rows - length (trimmed rows)) [] ≡ rows) × (length (trimmed rows) ≤ length rows)
 refilled [] = (refl, omega arith)
 refilled (row ∷ rows) =
@@ -63,6 +64,7 @@ past_rows xs n k =
       | inr further ↦ (let size : length (xs ++ replicate n []) ≡ length xs + n = grind (arith, places) in get_or_past (xs ++ replicate n []) k [] (omega (arith, size, further, past)) ∙ sym none)
     ]
 
+-- trimming changes no row
 pub row_at-trimmed : (rows : List (List Cell)) (k : ℕ) → row_at (trimmed rows) k ≡ row_at rows k
 row_at-trimmed rows k =
     sym (past_rows (trimmed rows) (length rows - length (trimmed rows)) k) ∙ ap (λ rs. row_at rs k) (refilled rows).0
@@ -72,6 +74,7 @@ pub written_past : {X : Type 0} (blank : X) (xs new : List X) (at : ℕ) → len
 written_past blank xs new at past =
     same_lists _ _ (unfold written in grind (arith, places)) (λ k d h. unfold written in grind (arith, places))
 
+-- cells that are appended in a row below those so far are one more row
 pub appended-further : (base done : List (List Cell)) (row : ℕ) (cells : List Cell) → row ≡ length base + length done → appended (base ++ trimmed done) row cells ≡ base ++ trimmed (done ++ cells ∷ [])
 appended-further base done row [] at = ap (λ rs. base ++ rs) (sym (trimmed-empty done))
 appended-further base done row (cell ∷ cells) at =
@@ -119,6 +122,7 @@ pub IsAtEnd-more : (rows new : List (List Cell)) (row : ℕ) (cells : List Cell)
 IsAtEnd-more rows new row cells end is =
     IsAtEnd-is (take row rows) new row (row_at rows row ++ cells) (omega (arith, length-take row rows, end.within)) (is ∙ appended-last rows row cells end)
 
+-- cells that are appended in the first row below stand there, at the end
 pub IsAtEnd-begun : (rows new : List (List Cell)) (row : ℕ) (cells : List Cell) → row ≡ length rows → new ≡ appended rows row cells → (take row new ≡ rows) × (row_at new row ≡ cells) × IsAtEnd row new
 IsAtEnd-begun rows new row cells at is =
     IsAtEnd-is rows new row cells at (is ∙ appended_below rows row cells at)

@@ -26,10 +26,12 @@ pub chars-alone : chars (32 ∷ 226 ∷ 148 ∷ 128 ∷ 226 ∷ 150 ∷ 184 ∷ 
 unfolding lib.Utf8.encode
 chars-alone = chars-encodes (codes " ─▸ ") refl
 
+-- the characters of the bytes that the code writes for `::: `
 pub chars-colons : chars (58 ∷ 58 ∷ 58 ∷ 32 ∷ []) ≡ codes "::: "
 unfolding lib.Utf8.encode
 chars-colons = chars-encodes (codes "::: ") refl
 
+-- the characters of the bytes that the code writes for ` ⸬  `
 pub chars-dots : chars (32 ∷ 226 ∷ 184 ∷ 172 ∷ 32 ∷ 32 ∷ []) ≡ codes " ⸬  "
 unfolding lib.Utf8.encode
 chars-dots = chars-encodes (codes " ⸬  ") refl

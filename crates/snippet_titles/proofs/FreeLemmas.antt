@@ -1,6 +1,6 @@
 -- A heading's rows hold no listed character but those of a trusted text.
-use Rattle.std.proofs.Common.{◌≡◌, ℕ, ◌==◌, ◌+◌, ◌&&◌, if◌then◌else◌, not, codes, Bool, true, false, List, [], ◌∷◌, ◌++◌, map, replicate, chars, All, Option, None, Some, refl, sym, subst, arith}
-use Rattle.std.specs.List.{slice_split, onto_first, list_any, Contains}
+use Rattle.std.proofs.Common.{◌≡◌, ℕ, ◌==◌, ◌+◌, ◌&&◌, if◌then◌else◌, not, codes, Bool, true, false, List, [], ◌∷◌, ◌++◌, map, replicate, chars, All, Option, None, Some, refl, sym, subst}
+use Rattle.std.specs.List.{slice_split, onto_first, Contains}
 use Rattle.std.proofs.lemmas.List.{get_or_default}
 use Rattle.std.proofs.lemmas.List.Elements.{All-nil, All-cons, All-head, All-tail, All-append, All-from_get_or, All-map, All-replicate, All-weaker}
 use Rattle.std.proofs.lemmas.List.Splits.{slice_split-cons_yes, slice_split-cons_no}
@@ -22,8 +22,9 @@ use Rattle.snippet_titles.specs.declared.style.TitleStyle.{TitleStyle}
 use Rattle.snippet_titles.specs.declared.style.TitleStyle.TheVariants.{Title, Short, Message}
 use Rattle.snippet_titles.specs.Heading.{bracketed_text, closing_of, colon_of, shown_text, heading_lines, heading_rows, id_text, indent_cells, is_set, label_cells, label_text, label_width, lines_below, note_bar_of, note_sign_of, on_top, opening_of, roles_of, sign_cells, trimmed}
 use Rattle.snippet_titles.specs.Shown.{IsFreeButText}
-use Rattle.snippet_titles.proofs.TextLemmas.{row_text-append, row_text-after, row_text-text_cells, row_text-label, row_text-spaces}
+use Rattle.snippet_titles.proofs.TextLemmas.{row_text-append, row_text-after, row_text-label, row_text-spaces}
 use Rattle.snippet_model.proofs.RowLemmas.{each_fails as fails_each}
+use Rattle.snippet_grid.proofs.RowLemmas.{row_text-text_cells}
 
 -- a character that isn't listed
 abbrev pub IsUnlisted : ℕ → Type 0
@@ -58,6 +59,7 @@ module _ (P : List Cell → Type 0) where
   All-on_top [] (r ∷ rows) one all = All-cons P [] (r ∷ rows) one all
   All-on_top (cell ∷ cells) rows one all = All-cons P (cell ∷ cells) rows one all
 
+  -- what holds of each row holds of each row once rows are trimmed
   pub All-trimmed : (rows : List (List Cell)) → All P rows → All P (trimmed rows)
   All-trimmed [] all = All-nil P
   All-trimmed (row ∷ rows) all =
@@ -93,6 +95,7 @@ module _ (P : ℕ → Type 0) (free : (c : ℕ) → IsUnlisted c → P c) where
   id-all hidden None = All-nil P
   id-all hidden (Some id) = text-all hidden (option_map cow_str_bytes id.id)
 
+  -- what holds of what a label is made of holds of its characters
   pub label-all : (heading : Heading) → All P (label_text heading)
   label-all heading =
       let hidden : Bool = is_hidden heading.level.name in
@@ -123,6 +126,7 @@ module _ (P : ℕ → Type 0) (free : (c : ℕ) → IsUnlisted c → P c) where
       let sign : List ℕ = note_sign_of place.decor place.followed in
       parts-all (replicate (place.gutter + 1) SPACE) (text_cells LineNumber sign) (spaces-all (place.gutter + 1)) (subst (All P) (sym (row_text-text_cells LineNumber sign)) (note_sign-all place.decor place.followed))
 
+  -- what holds of what an indent is made of holds of its characters
   pub indent-all : (style : TitleStyle) (width : ℕ) → All P (row_text (indent_cells style width))
   indent-all Title width = spaces-all width
   indent-all Short width = spaces-all width
@@ -135,6 +139,7 @@ module _ (P : ℕ → Type 0) (free : (c : ℕ) → IsUnlisted c → P c) where
   row-all cells r before line all =
       subst (All P) (sym (row_text-after cells (row_text cells) r line refl)) (All-append P (row_text cells) line before all)
 
+  -- what holds of what stands before lines and of the lines holds of their rows
   pub lines-all : (first further : List Cell) (r : ElementStyle) (lines : List (List ℕ)) → All P (row_text first) → All P (row_text further) → All (All P) lines → All (λ row. All P (row_text row)) (lines_below first further r lines)
   lines-all first further r [] begun below all = All-nil (λ row. All P (row_text row))
   lines-all first further r (line ∷ lines) begun below all =
@@ -169,9 +174,11 @@ heading_rows-untrusted hyperlink style heading untrusted =
 abbrev pub IsOwn : Heading → ℕ → Type 0
 IsOwn heading c = is_listed c ≡ true → (heading.allows_styling ≡ true) × Contains (chars heading.text) c
 
+-- a character that isn't listed is allowed in a heading's rows
 pub own_unlisted : (heading : Heading) (c : ℕ) → IsUnlisted c → IsOwn heading c
 own_unlisted heading c unlisted listed = cc
 
+-- each character that a heading's text shows is allowed in its rows
 pub own_text : (heading : Heading) (trusted : Bool) → heading.allows_styling ≡ trusted → All (IsOwn heading) (shown_text heading)
 own_text heading true is =
     let same : shown_text heading ≡ chars heading.text = rw is refl in
@@ -180,6 +187,7 @@ own_text heading false is =
     let same : shown_text heading ≡ norm (chars heading.text) = rw is refl in
     subst (All (IsOwn heading)) (sym same) (All-weaker IsUnlisted (IsOwn heading) (own_unlisted heading) (norm (chars heading.text)) (norm-free (chars heading.text)))
 
+-- the rows of a heading are free of listed characters but those of its own text
 pub heading_rows-free : (hyperlink : Bool) (style : TitleStyle) (heading : Heading) → All (IsFreeButText heading) (heading_rows hyperlink style heading)
 heading_rows-free hyperlink style heading =
     heading_rows-all (IsOwn heading) (own_unlisted heading) hyperlink style heading (own_text heading heading.allows_styling refl)

@@ -31,7 +31,7 @@ use Rattle.snippet_model.specs.Rows.{HasNoNumber, IsFree}
 use Rattle.snippet_titles.proofs.OriginFree.{file_row-free, origin_row-free, separator_row-free}
 use Rattle.snippet_titles.proofs.OriginNumbers.{IsPlain, file_row-unnumbered, origin_row-unnumbered, separator_row-unnumbered}
 use Rattle.snippet_titles.proofs.OriginRowText.{origin_row-after}
-use Rattle.snippet_titles.proofs.TextLemmas.{row_text-text_cells}
+use Rattle.snippet_grid.proofs.RowLemmas.{row_text-text_cells}
 
 -- what holds of separator rows, of those that lead to a file, and of those of paths
 module _ (P : List Cell → Type 0) (layout : OriginLayout) (separator : P (separator_row layout.decor layout.gutter)) (file : (start : FileStart) → P (file_row layout start)) where
@@ -40,6 +40,7 @@ module _ (P : List Cell → Type 0) (layout : OriginLayout) (separator : P (sepa
   opening_rows-each Unicode true = All-cons P (file_row layout First) [] (file First) (All-nil P)
   opening_rows-each Unicode false = All-cons P (file_row layout Later) [] (file Later) (All-nil P)
 
+  -- what holds of the cells of a head's spaces and glyphs holds of the opening head
   pub opening_head-each : (first : Bool) → All P (opening_head layout first)
   opening_head-each first = opening_rows-each layout.decor first
 
@@ -148,5 +149,6 @@ heading_rows-unlinked hyperlink style heading none =
     (λ line. All-append IsUnlinked further (text_cells roles.text line) (indent_unlinked style (label_width heading))
     (drawn_unlinked roles.text line)) (heading_lines heading))
 
+-- no cell of a message's rows has a link where the message has no id
 pub message_rows-unlinked : (hyperlink : Bool) (place : MessageContext) (heading : Heading) → heading.id ≡ None → All (All (λ (cell : Cell). cell.link ≡ None)) (heading_rows hyperlink (Message place) heading)
 message_rows-unlinked hyperlink place heading none = heading_rows-unlinked hyperlink (Message place) heading none

@@ -64,6 +64,7 @@ name_start old one row start count role name size is counted =
 width_of-three : (a b c : List ℕ) → width_of (a ++ b ++ c) ≡ width_of a + width_of b + width_of c
 width_of-three a b c = sum_by-append char_width (a ++ b) c ∙ ap (λ n. n + width_of c) (sum_by-append char_width a b)
 
+-- a label is as wide as its name, its id and its colon
 pub label_width-parts : (known level : Level) (hidden : Bool) (owned id set : Option Id) (name shown colon : ℕ) (colons : List ℕ) → level ≡ known
     → hidden ≡ is_hidden known.name → id ≡ owned → set ≡ owned → name ≡ width_of (chars (name_of level)) → shown ≡ width_of (id_text hidden id)
     → colons ≡ colon_of hidden set → colon ≡ width_of colons
@@ -80,10 +81,12 @@ pub width_of-id : (hidden : Bool) (id : Id) (text : List ℕ) → option_map cow
 width_of-id hidden id text is =
     ap (λ t. width_of (bracketed_text hidden t)) is ∙ width_of-three (opening_of hidden) (norm (chars text)) (closing_of hidden) ∙ ap (λ n. width_of (opening_of hidden) + n + width_of (closing_of hidden)) (width_of-norm (chars text))
 
+-- an id without brackets is as wide as its text
 pub width_of-bare : (hidden : Bool) (id : Id) (text : List ℕ) (width : ℕ) → hidden ≡ true → option_map cow_str_bytes id.id ≡ Some text → width ≡ width_of (chars text) → width ≡ width_of (id_text hidden (Some id))
 width_of-bare true id text width hides is measured = omega (arith, width_of-id true id text is, measured)
 width_of-bare false id text width hides is measured = cc
 
+-- an id in brackets is two columns wider than its text
 pub width_of-bracketed : (hidden : Bool) (id : Id) (text : List ℕ) (width : ℕ) → hidden ≡ false → option_map cow_str_bytes id.id ≡ Some text → width ≡ width_of (chars text) → width + 2 ≡ width_of (id_text hidden (Some id))
 width_of-bracketed true id text width hides is measured = cc
 width_of-bracketed false id text width hides is measured =

@@ -37,6 +37,7 @@ one_line old new row further role text end one is =
 abbrev pub line_of : (ℕ × Bor (List ℕ)) → List ℕ
 line_of numbered = chars numbered.1.now
 
+-- the rows of further lines
 abbrev pub further_rows : List Cell → ElementStyle → List (ℕ × Bor (List ℕ)) → List (List Cell)
 further_rows further role numbered = map (λ l. further ++ text_cells role l) (map line_of numbered)
 

@@ -29,6 +29,7 @@ use Rattle.snippet_titles.specs.Title.{id_links, text_links, title_rows}
 abbrev pub IsUnlinked : Cell → Type 0
 IsUnlinked cell = cell.link ≡ None
 
+-- the cells of a text have no link
 pub drawn_unlinked : (r : ElementStyle) (cs : List ℕ) → All IsUnlinked (text_cells r cs)
 drawn_unlinked r [] = All-nil IsUnlinked
 drawn_unlinked r (c ∷ cs) = All-cons IsUnlinked _ (text_cells r cs) refl (drawn_unlinked r cs)
@@ -38,6 +39,7 @@ bar_unlinked Ascii followed = refl
 bar_unlinked Unicode true = refl
 bar_unlinked Unicode false = refl
 
+-- the cells of a sign have no link
 pub sign_unlinked : (style : TitleStyle) → All IsUnlinked (sign_cells style)
 sign_unlinked Title = All-nil IsUnlinked
 sign_unlinked Short = All-nil IsUnlinked
@@ -45,6 +47,7 @@ sign_unlinked (Message place) =
     let sign : List Cell = text_cells LineNumber (note_sign_of place.decor place.followed) in
     All-append IsUnlinked (replicate (place.gutter + 1) SPACE) sign (All-replicate IsUnlinked (place.gutter + 1) SPACE refl) (drawn_unlinked LineNumber (note_sign_of place.decor place.followed))
 
+-- the cells of an indent have no link
 pub indent_unlinked : (style : TitleStyle) (width : ℕ) → All IsUnlinked (indent_cells style width)
 indent_unlinked Title width = All-replicate IsUnlinked width SPACE refl
 indent_unlinked Short width = All-replicate IsUnlinked width SPACE refl
@@ -62,6 +65,7 @@ links-after last [] (y ∷ ys) none =
 links-after last (x ∷ xs) ys none =
     ap (λ (urls : List (List ℕ)). link_begun last x.link ++ urls) (links-after x.link xs ys none)
 
+-- cells without links in front add no link
 pub links-before : (xs ys : List Cell) → All IsUnlinked xs → links_after None (xs ++ ys) ≡ links_after None ys
 links-before [] ys none = refl
 links-before (x ∷ xs) ys none =
@@ -120,6 +124,7 @@ further-links further r [] none = refl
 further-links further r (line ∷ lines) none =
     ap (λ (urls : List (List ℕ)). urls ++ links_of (map (λ l. further ++ text_cells r l) lines)) (unlinked_row further r line none) ∙ further-links further r lines none
 
+-- the links of lines are those of what stands before the first
 pub lines-links : (first further : List Cell) (r : ElementStyle) (lines : List (List ℕ)) → 0 < length lines → All IsUnlinked further → links_of (lines_below first further r lines) ≡ links_after None first
 lines-links first further r [] some none = absurd (omega (arith, some))
 lines-links first further r (line ∷ lines) some none =
@@ -131,6 +136,7 @@ on_top-links [] [] = refl
 on_top-links [] (r ∷ rows) = refl
 on_top-links (cell ∷ cells) rows = refl
 
+-- trimming rows leaves their links
 pub trimmed-links : (rows : List (List Cell)) → links_of (trimmed rows) ≡ links_of rows
 trimmed-links [] = refl
 trimmed-links (row ∷ rows) =

@@ -43,10 +43,12 @@ after_spaces-free : (n : ℕ) (role : ElementStyle) (cs : List ℕ) → list_any
 after_spaces-free n role cs none =
     All-append IsFreeCell (replicate n SPACE) (text_cells role cs) (All-replicate IsFreeCell n SPACE (refl, refl)) (text_cells-free role cs (each-fails is_listed cs none))
 
+-- a closing row has no listed character and no link
 pub closing_row-free : (decor : DecorStyle) (gutter : ℕ) → IsFree (closing_row decor gutter)
 closing_row-free decor gutter =
     after_spaces-free (gutter + 1) LineNumber (closing_of decor) (closing-unlisted decor)
 
+-- a row of padding has no listed character and no link
 pub padding_row-free : (decor : DecorStyle) (gutter : ℕ) (last : Bool) → IsFree (padding_row decor gutter last)
 padding_row-free decor gutter true = closing_row-free decor gutter
 padding_row-free decor gutter false = separator_row-free decor gutter
@@ -57,6 +59,7 @@ unfolding file_row
 file_row-free layout start =
     after_spaces-free layout.gutter LineNumber (file_glyph start layout.decor) (glyphs-unlisted start layout.decor)
 
+-- a digit is no listed character
 pub digit-unlisted : (c : ℕ) → IsDigit c → is_listed c ≡ false
 digit-unlisted c is = grind (arith, nat_tests)
 
@@ -66,6 +69,7 @@ origin_text-free anonymized path place =
     let P : ℕ → Type 0 = λ c. is_listed c ≡ false in
     All-append P (norm (chars path)) (place_text anonymized place) (each-fails is_listed (norm (chars path)) (list_any-norm (chars path))) (place_text-each P digit-unlisted refl refl anonymized place)
 
+-- the row of an origin has no listed character and no link
 pub origin_row-free : (layout : OriginLayout) (start : FileStart) (path : List ℕ) (place : OriginLocation) → IsFree (origin_row layout start path place)
 unfolding origin_row
 origin_row-free layout start path place =

@@ -49,6 +49,7 @@ after_spaces-unnumbered : (gutter : ℕ) (others : List Cell) → HasNoNumber gu
 after_spaces-unnumbered gutter others =
     front-unnumbered gutter (replicate (gutter + 1) SPACE) others (omega (arith, length-replicate (gutter + 1) SPACE)) (spaces-plain (gutter + 1))
 
+-- a separator row has no number
 pub separator_row-unnumbered : (decor : DecorStyle) (gutter : ℕ) → HasNoNumber gutter (separator_row decor gutter)
 separator_row-unnumbered decor gutter =
     after_spaces-unnumbered gutter (text_cells LineNumber (separator_of decor ∷ []))
@@ -74,11 +75,13 @@ file_row-plain layout start =
     let glyph : List ℕ = file_glyph start layout.decor in
     All-append IsPlain (replicate layout.gutter SPACE) (text_cells LineNumber glyph) (spaces-plain layout.gutter) (All-text_cells IsPlain LineNumber glyph (each-fails is_ascii_alphanumeric glyph (glyphs-unnumbered start layout.decor)))
 
+-- the row of an origin has no number
 pub origin_row-unnumbered : (layout : OriginLayout) (start : FileStart) (path : List ℕ) (place : OriginLocation) → HasNoNumber layout.gutter (origin_row layout start path place)
 unfolding origin_row
 origin_row-unnumbered layout start path place =
     front-unnumbered layout.gutter (file_row layout start) (text_cells LineAndColumn (origin_text layout.anonymized path place)) (file_row-long layout start) (file_row-plain layout start)
 
+-- the row of a file has no number
 pub file_row-unnumbered : (layout : OriginLayout) (start : FileStart) → HasNoNumber layout.gutter (file_row layout start)
 file_row-unnumbered layout start c within =
     All-get_or IsPlain (file_row layout start) c SPACE (omega (arith, within, file_row-long layout start)) (file_row-plain layout start)

@@ -12,7 +12,8 @@ use Rattle.snippet_titles.specs.declared.origin.FileStart.{FileStart}
 use Rattle.snippet_titles.specs.declared.origin.OriginLocation.{OriginLocation}
 use Rattle.snippet_titles.specs.declared.origin.OriginLayout.{OriginLayout}
 use Rattle.snippet_titles.specs.Origin.{line_name, file_glyph, file_row, origin_row, origin_text}
-use Rattle.snippet_titles.proofs.TextLemmas.{row_text-append, row_text-text_cells, row_text-spaces}
+use Rattle.snippet_titles.proofs.TextLemmas.{row_text-append, row_text-spaces}
+use Rattle.snippet_grid.proofs.RowLemmas.{row_text-text_cells}
 
 -- what leads to the path: spaces and a glyph
 abbrev pub front_text : OriginLayout → FileStart → List ℕ

@@ -28,6 +28,7 @@ module _ (P : ℕ → Type 0) (digit : (c : ℕ) → IsDigit c → P c) (colon :
   line_text-each anonymized (Some line) column =
       All-append P (codes ":" ++ line_name anonymized line) (column_text column) (All-cons P 58 (line_name anonymized line) colon (line_name-each anonymized line)) (column_text-each column)
 
+  -- what holds of what a place is made of holds of its text
   pub place_text-each : (anonymized : Bool) (place : OriginLocation) → All P (place_text anonymized place)
   place_text-each anonymized place = line_text-each anonymized place.line place.column
 

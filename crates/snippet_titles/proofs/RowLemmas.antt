@@ -55,6 +55,7 @@ pub appended-two : (old one new : List (List Cell)) (row : ℕ) (xs ys : List Ce
 appended-two old one new row xs ys first second =
     second ∙ ap (λ rs. appended rs row ys) first ∙ appended-appended old row xs ys
 
+-- cells that are appended in three steps are appended at once
 pub appended-three : (old one two new : List (List Cell)) (row : ℕ) (xs ys zs : List Cell) → one ≡ appended old row xs → two ≡ appended one row ys → new ≡ appended two row zs → new ≡ appended old row (xs ++ ys ++ zs)
 appended-three old one two new row xs ys zs first second third =
     appended-two old two new row (xs ++ ys) zs (appended-two old one two row xs ys first second) third

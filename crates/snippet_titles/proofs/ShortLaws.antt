@@ -20,7 +20,8 @@ use Rattle.snippet_titles.specs.Title.{id_links}
 use Rattle.snippet_titles.proofs.EndLemmas.{row_at-trimmed}
 use Rattle.snippet_titles.proofs.FreeLemmas.{All-slice_split, All-trimmed, IsUnlisted, IsOwn, from_free, indent-all, label-all, lines-all, own_text, own_unlisted, row-all}
 use Rattle.snippet_titles.proofs.LinkLemmas.{IsUnlinked, drawn_unlinked, indent_unlinked, label-links, lines-links, links-before, links-after, trimmed-links}
-use Rattle.snippet_titles.proofs.TextLemmas.{row_text-append, row_text-after, row_text-text_cells, row_text-label, text_at, texts_of_lines}
+use Rattle.snippet_titles.proofs.TextLemmas.{row_text-append, row_text-after, row_text-label, text_at, texts_of_lines}
+use Rattle.snippet_grid.proofs.RowLemmas.{row_text-text_cells}
 
 -- the row that a text and a label begin
 first_text : (hyperlink : Bool) (roles : HeadingRoles) (before : List ℕ) (heading : Heading) → row_text (text_cells LineAndColumn before ++ label_cells hyperlink roles heading) ≡ before ++ label_text heading

@@ -17,16 +17,14 @@ use Rattle.snippet_titles.specs.declared.style.TitleStyle.{TitleStyle}
 use Rattle.snippet_titles.specs.Heading.{address_of, bracketed_cells, bracketed_text, closing_of, colon_of, heading_lines, heading_rows, id_cells, id_text, indent_cells, label_cells, label_text, label_width, lines_below, linked_to, opening_of, roles_of, sign_cells}
 use Rattle.snippet_titles.specs.Shown.{heading_texts, texts_below}
 use Rattle.snippet_titles.proofs.EndLemmas.{refilled, row_at-trimmed}
+use Rattle.snippet_grid.proofs.RowLemmas.{row_text-text_cells}
 
--- the characters of drawn cells, of spaces, and of cells after others
-pub row_text-text_cells : (r : ElementStyle) (cs : List ℕ) → row_text (text_cells r cs) ≡ cs
-row_text-text_cells r [] = refl
-row_text-text_cells r (c ∷ cs) = ap (λ ds. c ∷ ds) (row_text-text_cells r cs)
-
+-- the text of blank cells is spaces
 pub row_text-spaces : (n : ℕ) → row_text (replicate n SPACE) ≡ replicate n 32
 row_text-spaces zero = refl
 row_text-spaces (suc n) = ap (λ ds. 32 ∷ ds) (row_text-spaces n)
 
+-- the text of cells one after the other is both texts
 pub row_text-append : (xs ys : List Cell) → row_text (xs ++ ys) ≡ row_text xs ++ row_text ys
 row_text-append xs ys = map-append (λ (cell : Cell). cell.ch) xs ys
 
@@ -55,6 +53,7 @@ row_text-id hyperlink hidden r None = refl
 row_text-id hyperlink hidden r (Some id) =
     row_text-bracketed hidden r (address_of hyperlink id) (option_map cow_str_bytes id.id)
 
+-- the text of a label's cells is the label's text
 pub row_text-label : (hyperlink : Bool) (roles : HeadingRoles) (heading : Heading) → row_text (label_cells hyperlink roles heading) ≡ label_text heading
 unfolding label_cells
 row_text-label hyperlink roles heading =
@@ -73,6 +72,7 @@ further_texts further r [] = refl
 further_texts further r (line ∷ lines) =
     ap (λ t. t ∷ map row_text (map (λ l. further ++ text_cells r l) lines)) (row_text-after further (row_text further) r line refl) ∙ ap (λ ts. (row_text further ++ line) ∷ ts) (further_texts further r lines)
 
+-- the texts of lines below are the lines, each after what stands before it
 pub texts_of_lines : (first further : List Cell) (text : List ℕ) (r : ElementStyle) (lines : List (List ℕ)) → row_text first ≡ text → map row_text (lines_below first further r lines) ≡ texts_below text (row_text further) lines
 texts_of_lines first further text r [] is = refl
 texts_of_lines first further text r (line ∷ lines) is =

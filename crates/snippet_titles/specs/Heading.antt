@@ -75,6 +75,7 @@ abbrev pub id_text : Bool → Option Id → List ℕ
 id_text hidden None = []
 id_text hidden (Some id) = bracketed_text hidden (option_map cow_str_bytes id.id)
 
+-- the characters of a whole label
 abbrev pub label_text : Heading → List ℕ
 label_text heading =
     let hidden = is_hidden heading.level.name in

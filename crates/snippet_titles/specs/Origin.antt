@@ -28,6 +28,7 @@ abbrev pub line_text : Bool → Option ℕ → Option ℕ → List ℕ
 line_text anonymized None column = []
 line_text anonymized (Some line) column = codes ":" ++ line_name anonymized line ++ column_text column
 
+-- the same of a place
 abbrev pub place_text : Bool → OriginLocation → List ℕ
 place_text anonymized place = line_text anonymized place.line place.column
 

@@ -20,31 +20,37 @@ all_among P (y ∷ ys) x all (inr later) = all_among P ys x (All-tail P y ys all
 
 -- ---- lists that are made of others
 
+-- what is among the first of two lists is among both together
 pub among_left : {X : Type 0} (xs ys : List X) (x : X) → Among xs x → Among (xs ++ ys) x
 among_left [] ys x here = absurd here
 among_left (z ∷ zs) ys x (inl same) = inl same
 among_left (z ∷ zs) ys x (inr later) = inr (among_left zs ys x later)
 
+-- what is among the second of two lists is among both together
 pub among_right : {X : Type 0} (xs ys : List X) (x : X) → Among ys x → Among (xs ++ ys) x
 among_right [] ys x here = here
 among_right (z ∷ zs) ys x here = inr (among_right zs ys x here)
 
+-- what is among two lists together is among one of them
 pub append_cases : {X : Type 0} (xs ys : List X) (x : X) → Among (xs ++ ys) x → Among xs x ⊎ Among ys x
 append_cases [] ys x here = inr here
 append_cases (z ∷ zs) ys x (inl same) = inl (inl same)
 append_cases (z ∷ zs) ys x (inr later) =
     elim (append_cases zs ys x later) [ inl left ↦ inl (inr left) | inr right ↦ inr right ]
 
+-- what is made from an element is among what is made from all
 pub among_map : {X Y : Type 0} (f : X → Y) (xs : List X) (x : X) → Among xs x → Among (map f xs) (f x)
 among_map f [] x here = here
 among_map f (z ∷ zs) x (inl same) = inl (ap f same)
 among_map f (z ∷ zs) x (inr later) = inr (among_map f zs x later)
 
+-- what is among the made elements is made from one
 pub map_cases : {X Y : Type 0} (f : X → Y) (xs : List X) (y : Y) → Among (map f xs) y → (x : X) × Among xs x × (f x ≡ y)
 map_cases f [] y here = absurd here
 map_cases f (z ∷ zs) y (inl same) = (z, inl refl, same)
 map_cases f (z ∷ zs) y (inr later) = let more = map_cases f zs y later in (more.0, inr more.1, more.2)
 
+-- an element that passes is among those that pass
 pub among_filter : {X : Type 0} (p : X → Bool) (xs : List X) (x : X) → Among xs x → p x ≡ true → Among (filter p xs) x
 among_filter p [] x here passes = here
 among_filter p (z ∷ zs) x (inl same) passes =
@@ -55,6 +61,7 @@ among_filter p (z ∷ zs) x (inr later) passes =
       | inr left ↦ subst (λ ys. Among ys x) (sym (cond-false (p z) (z ∷ filter p zs) (filter p zs) left)) (among_filter p zs x later passes)
     ]
 
+-- what is among those that pass is an element, and passes
 pub filter_cases : {X : Type 0} (p : X → Bool) (xs : List X) (x : X) → Among (filter p xs) x → Among xs x × (p x ≡ true)
 filter_cases p [] x here = absurd here
 filter_cases p (z ∷ zs) x here =
@@ -67,12 +74,14 @@ filter_cases p (z ∷ zs) x here =
     split taken rest (inl same) = (inl same, ap p (sym same) ∙ taken)
     split taken rest (inr later) = let more = rest later in (inr more.0, more.1)
 
+-- what is among what one element gives is among what all give
 pub among_flat_map : {X Y : Type 0} (f : X → List Y) (xs : List X) (x : X) (y : Y) → Among xs x → Among (f x) y → Among (flat_map f xs) y
 among_flat_map f [] x y here inside = absurd here
 among_flat_map f (z ∷ zs) x y (inl same) inside =
     among_left (f z) (flat_map f zs) y (subst (λ w. Among (f w) y) (sym same) inside)
 among_flat_map f (z ∷ zs) x y (inr later) inside = among_right (f z) (flat_map f zs) y (among_flat_map f zs x y later inside)
 
+-- what is among what all elements give is among what one gives
 pub flat_map_cases : {X Y : Type 0} (f : X → List Y) (xs : List X) (y : Y) → Among (flat_map f xs) y → (x : X) × Among xs x × Among (f x) y
 flat_map_cases f [] y here = absurd here
 flat_map_cases f (z ∷ zs) y here =
@@ -111,11 +120,13 @@ put_cases before y (z ∷ zs) x here =
     passed rest (inl same) = inr (inl same)
     passed rest (inr later) = moved (rest later)
 
+-- an element is among those in order
 pub among_in_order : {X : Type 0} (before : X → X → Bool) (xs : List X) (x : X) → Among xs x → Among (ordered_by before xs) x
 among_in_order before [] x here = here
 among_in_order before (y ∷ ys) x (inl same) = among_put before y (ordered_by before ys) x (inl same)
 among_in_order before (y ∷ ys) x (inr later) = among_put before y (ordered_by before ys) x (inr (among_in_order before ys x later))
 
+-- what is among those in order is an element
 pub in_order_cases : {X : Type 0} (before : X → X → Bool) (xs : List X) (x : X) → Among (ordered_by before xs) x → Among xs x
 in_order_cases before [] x here = here
 in_order_cases before (y ∷ ys) x here =
@@ -136,6 +147,7 @@ any_among p [] x here passes = absurd here
 any_among p (z ∷ zs) x (inl same) passes = or_left (p z) (list_any p zs) (ap p same ∙ passes)
 any_among p (z ∷ zs) x (inr later) passes = or_right (p z) (list_any p zs) (any_among p zs x later passes)
 
+-- where any element passes there is one that does
 pub any_cases : {X : Type 0} (p : X → Bool) (xs : List X) → list_any p xs ≡ true → (x : X) × Among xs x × (p x ≡ true)
 any_cases p [] any = absurd cc
 any_cases p (z ∷ zs) any =
@@ -164,6 +176,7 @@ among_filter_map h (z ∷ zs) x y (inr later) is =
 
 -- ---- the least and the greatest number of a list
 
+-- the least of some numbers is one of them
 pub least_among : (n : ℕ) (ns : List ℕ) → Among (n ∷ ns) (unwrap_or (least (n ∷ ns)) 0)
 least_among n [] = inl refl
 least_among n (m ∷ ns) =
@@ -222,6 +235,7 @@ greatest_le ns ms there =
       | inr here ↦ top_above 0 ms (greatest ns) (there (greatest ns) here)
     ]
 
+-- lists of the same numbers have the same greatest
 pub greatest_same : (ns ms : List ℕ) → ((c : ℕ) → Among ns c → Among ms c) → ((c : ℕ) → Among ms c → Among ns c) → greatest ns ≡ greatest ms
 greatest_same ns ms there back = omega (arith, greatest_le ns ms there, greatest_le ms ns back)
 

@@ -23,6 +23,7 @@ abbrev pub rest_between : ℕ → List ℕ → List ℕ
 rest_between j [] = []
 rest_between j (k ∷ ks) = cond (eqb k (j + 2)) ((j + 1) ∷ k ∷ rest_between k ks) (k ∷ rest_between k ks)
 
+-- numbers with those between begin with the first
 pub between-rest : (j : ℕ) (ks : List ℕ) → with_between (j ∷ ks) ≡ j ∷ rest_between j ks
 between-rest j [] = refl
 between-rest j (k ∷ ks) = ap (λ ls. cond (eqb k (j + 2)) (j ∷ (j + 1) ∷ ls) (j ∷ ls)) (between-rest k ks) ∙ both (eqb k (j + 2))

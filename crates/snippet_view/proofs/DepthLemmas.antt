@@ -11,12 +11,15 @@ use Rattle.std.proofs.lemmas.Simd.{map-map}
 
 -- ---- depths
 
+-- depths that are counted from the greatest raw one are those of the places
 pub depths-are : (ps : List LongExtent) → map (λ raw. greatest_depth ps - raw + 1) (raw_depths ps) ≡ map (depth_among ps) ps
 depths-are ps = ap (map (λ raw. greatest_depth ps - raw + 1)) (raw_depths-are ps) ∙ map-map (λ raw. greatest_depth ps - raw + 1) (raw_depth_among (places_of ps)) ps
 
+-- the greatest depth is at most the count of places
 pub greatest-depth-bound : (ps : List LongExtent) → greatest_depth ps ≤ length ps
 greatest-depth-bound ps = omega (arith, greatest-bound (places_of ps), places-bound ps)
 
+-- the greatest of the raw depths is the greatest depth
 pub greatest-fold : (ps : List LongExtent) (raws : List ℕ) → raws ≡ raw_depths ps → fold max 0 raws ≡ greatest_depth ps
 greatest-fold ps raws is = let e : fold max 0 raws ≡ max 0 (max_of raws) = fold-max 0 raws in omega (arith, e, ap max_of is, greatest-is ps)
 
@@ -35,6 +38,7 @@ among-some (q ∷ ps) p stands =
     here true b any none = refl
     here false b any none = absurd (both_ways b none any)
 
+-- each depth is at least 1 and at most the greatest
 pub depths-within : (ps : List LongExtent) → All (λ n. (1 ≤ n) × (n ≤ greatest_depth ps)) (map (depth_among ps) ps)
 depths-within ps k d below =
     let len : length (map (depth_among ps) ps) ≡ length ps = length-map ps (depth_among ps) in
@@ -79,6 +83,7 @@ any-contains ps p among = subst (λ (q : LongExtent). list_any (same_place q) ps
 pub distinct-places : (ps : List LongExtent) (p q : LongExtent) → list_any (same_place p) ps ≡ true → list_any (same_place q) ps ≡ true → share_line p q ≡ true → depth_among ps p ≡ depth_among ps q → p ≡ q
 distinct-places ps p q in-p in-q share same = raw-apart ps p q in-p in-q share (omega (arith, same, among-most (places_of ps) p, among-most (places_of ps) q))
 
+-- places that share a line and have the same depth are the same
 pub depths-distinct : (ps : List LongExtent) (p q : LongExtent) → Contains ps p → Contains ps q → share_line p q ≡ true → depth_among ps p ≡ depth_among ps q → p ≡ q
 depths-distinct ps p q among-p among-q share same =
     raw-apart ps p q (any-contains ps p among-p) (any-contains ps q among-q) share (omega (arith, same, among-most (places_of ps) p, among-most (places_of ps) q))
@@ -123,6 +128,7 @@ rest-of p (q ∷ ps) =
           record { chain = here.chain; is = inl here.is; linked = here.linked; long = omega (arith, here.long, raw_depth-some p ps) }
     ]
 
+-- the greatest raw depth is the length of the longest chain
 pub longest-chain : (ps : List LongExtent) → IsLongestChain ps (greatest_raw_depth ps)
 longest-chain [] = record { chain = []; is_chain = refl; long = refl; longest = any-chain-short [] }
 longest-chain (p ∷ ps) =
@@ -145,9 +151,11 @@ turn-step f [] i within = absurd (omega arith)
 turn-step f (x ∷ old) zero within = refl
 turn-step f (x ∷ old) (suc i) within = ap (λ xs. f x ∷ xs) (turn-step f old i (omega arith))
 
+-- a number that isn't turned yet is as it was
 pub turn-read : (f : ℕ → ℕ) (old now : List ℕ) (i : ℕ) → now ≡ map f (take i old) ++ drop i old → i < length old → get_or now i 0 ≡ get_or old i 0
 turn-read f old now i is within = ap (λ xs. get_or xs i 0) is ∙ turn-at f old i within
 
+-- with one more number turned the numbers so far are turned
 pub turn-more : (f : ℕ → ℕ) (old now : List ℕ) (i : ℕ) → now ≡ map f (take i old) ++ drop i old → i < length old → set now i (f (get_or now i 0)) ≡ map f (take (i + 1) old) ++ drop (i + 1) old
 turn-more f old now i is within =
     ap (λ n. set now i (f n)) (turn-read f old now i is within) ∙ ap (λ xs. set xs i (f (get_or old i 0))) is ∙ turn-step f old i within ∙ ap (λ n. map f (take n old) ++ drop n old) (sym (add-one i))
@@ -158,6 +166,7 @@ mapped f xs lent now n is value len =
     let e : length now ≡ n = ap length value ∙ length-map lent f ∙ ap length is ∙ sym len in
     take_at now (drop (length now) xs) n e ∙ value ∙ ap (map f) is
 
+-- no raw depth is greater than the greatest depth
 pub raw-most : (ps : List LongExtent) → All (λ raw. raw ≤ greatest_depth ps) (raw_depths ps)
 raw-most ps k d below =
     let len : length (raw_depths ps) ≡ length ps = length-raw_depths ps in

@@ -21,6 +21,7 @@ pub near_max : LongExtent → List LongExtent → ℕ
 near_max p [] = 0
 near_max p (q ∷ ps) = max (cond (share_line p q) (raw_depth_among (places_of (q ∷ ps)) q) 0) (near_max p ps)
 
+-- a later place that shares a line is no deeper than the deepest near one
 pub near_max-after : (p q : LongExtent) (ps : List LongExtent) → share_line p q ≡ true → list_any (same_place q) ps ≡ true → raw_depth_among (places_of ps) q ≤ near_max p ps
 unfolding near_max
 near_max-after p q [] share again = cc
@@ -41,10 +42,12 @@ near_max-after p q (r ∷ ps) share again =
     here true b any fails = refl
     here false b any fails = absurd (both_ways b fails any)
 
+-- a raw depth is at least 1
 pub raw_depth-some : (p : LongExtent) (qs : List LongExtent) → 1 ≤ raw_depth p qs
 raw_depth-some p [] = omega arith
 raw_depth-some p (q ∷ qs) = let h : 1 ≤ raw_depth p qs = raw_depth-some p qs in omega arith
 
+-- a raw depth is one more than the deepest near one
 pub raw_depth-near : (p : LongExtent) (ps : List LongExtent) → raw_depth p (places_of ps) ≡ near_max p ps + 1
 unfolding near_max
 raw_depth-near p [] = omega arith
@@ -196,9 +199,11 @@ search-done deepest p ns = refl
 
 -- ---- the search in the first `near` of some places
 
+-- a place that stands for none
 abbrev pub no_place : LongExtent
 no_place = record { from = 0; to = 0; first = 0; last = 0 }
 
+-- a place that stands again has the raw depth that is found there
 pub found_at : (p : LongExtent) (later : List LongExtent) (raws : List ℕ) (near i deepest : ℕ) → raws ≡ raw_depths later → near ≤ length later
     → i < near → p.first ≤ p.last → IsNearUpTo p near later
     → search_from deepest p (drop i (take near later)) (drop i raws) ≡ search_from 0 p (take near later) raws
@@ -208,6 +213,7 @@ found_at p later raws near i deepest is within below own up_to before same =
     sym (search-found deepest p (take near later) raws i no_place (get_or raws i 0) (omega (arith, length-take-le near later within)) (omega arith) (get_or_default raws i 0 (get_or raws i 0) (omega arith)) (ap (same_place p) (get_or-take near later i no_place below) ∙ same))
     ∙ before ∙ ap (search_from 0 p (take near later)) is ∙ search-is p near later own up_to
 
+-- another place is passed, with its raw depth where it is deeper
 pub passed_at : (p : LongExtent) (later : List LongExtent) (raws : List ℕ) (near i deepest : ℕ) → raws ≡ raw_depths later → near ≤ length later
     → i < near → search_from deepest p (drop i (take near later)) (drop i raws) ≡ search_from 0 p (take near later) raws
     → same_place p (get_or later i no_place) ≡ false
@@ -217,6 +223,7 @@ passed_at p later raws near i deepest is within below before other =
     sym (search-more deepest p (take near later) raws i no_place (get_or raws i 0) (omega (arith, length-take-le near later within)) (omega arith) (get_or_default raws i 0 (get_or raws i 0) (omega arith)) (ap (same_place p) (get_or-take near later i no_place below) ∙ other))
     ∙ before
 
+-- a place that doesn't stand again is one deeper than the deepest passed
 pub found_none : (p : LongExtent) (later : List LongExtent) (raws : List ℕ) (near i deepest : ℕ) → raws ≡ raw_depths later → near ≤ length later
     → near ≤ i → p.first ≤ p.last → IsNearUpTo p near later
     → search_from deepest p (drop i (take near later)) (drop i raws) ≡ search_from 0 p (take near later) raws
@@ -227,6 +234,7 @@ found_none p later raws near i deepest is within all own up_to before =
 
 -- ---- all raw depths, from the last on
 
+-- places after one in order start on its first line or below
 pub after_in : (ps : List LongExtent) (i m : ℕ) → IsNonDecreasingBy (λ p. p.first) ps → i < length ps → m ≡ i + 1 → All (λ q. (get_or ps i no_place).first ≤ q.first) (take (length ps - m) (drop m ps))
 after_in ps i m ordered within is k d below =
     let e : take (length ps - m) (drop m ps) ≡ drop m ps = take_rest ps m in
@@ -235,6 +243,7 @@ after_in ps i m ordered within is k d below =
     let len : length (take (length ps - m) (drop m ps)) ≡ length ps - m = ap length e ∙ length-drop m ps in
     omega (arith, ap (λ (q : LongExtent). q.first) f, ap (λ (q : LongExtent). q.first) g, ordered i (m + k) d (omega arith) (omega arith))
 
+-- with one more raw depth set, those from there on are the raw depths of the places from there on
 pub filled : (ps : List LongExtent) (raws : List ℕ) (j m r : ℕ) → j < length ps → length raws ≡ length ps → m ≡ j + 1
     → drop m raws ≡ raw_depths (drop m ps) → r ≡ raw_depth_among (places_of (get_or ps j no_place ∷ take (length ps - m) (drop m ps)))
     (get_or ps j no_place) → drop j (set raws j r) ≡ raw_depths (drop j ps)

@@ -64,6 +64,7 @@ each-entry P s marks ks infos same all =
 
 -- ---- places
 
+-- the entries of kept lines have room for their places, where the source fits
 pub places-fit : (s : Source) (marks : List Annotation) (ks : List ℕ) (infos : List AnnotatedLineInfo) → map seen_kept infos ≡ map (kept_line s marks) ks → length s.text < 2 ^ 56 → AllEntries HasRoom infos
 places-fit s marks ks infos same fits =
     each-entry Room s marks ks infos same (made-all Room s marks (λ a among is. short a) (λ a among is kind. long a kind))
@@ -100,6 +101,7 @@ characters-fit s marks ks infos same fits =
 
 -- ---- texts and numbers
 
+-- the texts of kept lines fit, where the source does
 pub texts-fit : (s : Source) (marks : List Annotation) (ks : List ℕ) (infos : List AnnotatedLineInfo) → map seen_kept infos ≡ map (kept_line s marks) ks → length s.text < 2 ^ 56 → All (λ info. length info.line.now < 2 ^ 56) infos
 texts-fit s marks ks infos same fits =
     each-line (λ info. length info.line.now < 2 ^ 56) s marks ks infos same (λ i d within info seen. omega (arith, ap (λ (l : KeptLine). length l.text) seen, length-text_at-source s.text (get_or ks i d)))
@@ -113,6 +115,7 @@ numbers-within s marks ks infos same all =
 
 -- ---- labels
 
+-- the labels of the entries of kept lines are short, where the annotations fit
 pub labels-fit : (s : Source) (marks : List Annotation) (ks : List ℕ) (infos : List AnnotatedLineInfo) → map seen_kept infos ≡ map (kept_line s marks) ks → All AnnotationFits marks → AllEntries HasShortLabel infos
 labels-fit s marks ks infos same fit =
     All-weaker (λ info. All (λ e. Short (seen_part e)) info.annotations.items) (λ info. All HasShortLabel info.annotations.items) (λ info all. All-weaker (λ e. Short (seen_part e)) HasShortLabel (λ e short. copied e.label short) info.annotations.items all) infos
@@ -150,6 +153,7 @@ pub depth-within : (s : Source) (marks : List Annotation) (a : Annotation) → C
 depth-within s marks a among long =
     place-holds (depth_among (long_places s marks)) (λ n. (1 ≤ n) × (n ≤ greatest_depth (long_places s marks))) (long_place (long_entry s a)) (long_places s marks) (place-among s marks a among long) (depths-within (long_places s marks))
 
+-- no entry of a kept line stands deeper than the deepest span
 pub depths-fit : (s : Source) (marks : List Annotation) (ks : List ℕ) (infos : List AnnotatedLineInfo) → map seen_kept infos ≡ map (kept_line s marks) ks → AllEntries (λ e. HasDepthWithin (deepest s marks) e.annotation_type) infos
 depths-fit s marks ks infos same =
     each-entry (λ p. HasDepthWithin (deepest s marks) p.part) s marks ks infos same (made-all (λ p. HasDepthWithin (deepest s marks) p.part) s marks (λ a among is. tt) (λ a among is kind. long a among is kind))
@@ -161,6 +165,7 @@ depths-fit s marks ks infos same =
 
 -- ---- lines that no span of several lines touches
 
+-- what passes one test and then another passes both
 pub filter-filter : {X : Type 0} (q p : X → Bool) (xs : List X) → filter q (filter p xs) ≡ filter (λ x. p x && q x) xs
 filter-filter q p [] = refl
 filter-filter q p (x ∷ xs) =
@@ -185,6 +190,7 @@ singles-on s marks k =
     is_short s.text a && eqb (entry_of s a).start.line (s.first + k)) (is_marked_on s.text k)
     (λ a. ap (λ b. is_short s.text a && b) (eqb-shift s.first (first_line s.text a) k (entry_of s a).start.line (entry_of-line s a))) marks)
 
+-- no part of a span of several lines stands on a line that no span touches
 pub longs-off : (s : Source) (marks : List Annotation) (k : ℕ) → All (λ a. IsSpan s.text a.span.start a.span.end) marks → is_untouched s.text marks k ≡ true → filter (λ (p : PartEntry). eqb p.entry.start.line (s.first + k)) (long_parts s (long_places s marks) [] (long_spans s marks)) ≡ []
 longs-off s marks k spans untouched =
     filter-none (λ (p : PartEntry). eqb p.entry.start.line (s.first + k)) (long_parts s (long_places s marks) [] (long_spans s marks)) (longs-all Off s marks long)
@@ -236,7 +242,8 @@ untouched-entries s marks k info spans untouched seen = entries-on s marks k inf
 
 -- ---- wide spans
 
-count-map : {X Y : Type 0} (p : Y → Bool) (f : X → Y) (xs : List X) → count_by p (map f xs) ≡ count_by (λ x. p (f x)) xs
+-- as many of the made elements pass as elements whose made ones pass
+pub count-map : {X Y : Type 0} (p : Y → Bool) (f : X → Y) (xs : List X) → count_by p (map f xs) ≡ count_by (λ x. p (f x)) xs
 count-map p f [] = refl
 count-map p f (x ∷ xs) =
     sum_by-cons (λ y. cond (p y) 1 0) (f x) (map f xs) ∙ ap (λ n. cond (p (f x)) 1 0 + n) (count-map p f xs) ∙ sym (sum_by-cons (λ x. cond (p (f x)) 1 0) x xs)

@@ -51,6 +51,7 @@ ends_of-push es e not_bar =
 with_columns-push_bar : (es : List LineAnnotation) (e : LineAnnotation) → is_bar e.annotation_type ≡ true → with_columns (es ++ e ∷ []) ≡ with_columns es
 with_columns-push_bar es e bar = with_columns-push es e true bar ∙ append-nil (with_columns es)
 
+-- a bar more doesn't change how far entries reach
 pub bar_added : (es : List LineAnnotation) (e : LineAnnotation) (x : Extent) → is_bar e.annotation_type ≡ true → ReachesEntries es x → ReachesEntries (es ++ e ∷ []) x
 bar_added es e x bar reaches =
     let same = sym (with_columns-push_bar es e bar) in

@@ -8,6 +8,7 @@ pub mod ExtentLemmas
 pub mod KeptPartLemmas
 pub mod LineWindowLemmas
 pub mod MarginLaws
+pub mod UncutLaws
 pub mod MarkLemmas
 pub mod PartLemmas
 pub mod PlaceBounds

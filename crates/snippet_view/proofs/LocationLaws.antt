@@ -34,6 +34,7 @@ pub record IsLeast {X : Type 0} (f : X → ℕ) (xs : List X) (x : X) : Type 0 w
   pub is : least (map f xs) ≡ Some (f x)
   pub lowest : (y : X) → Contains xs y → f x ≤ f y
 
+-- of some elements one has the least number
 pub least-first : {X : Type 0} (f : X → ℕ) (x : X) (xs : List X) → (y : X) × IsLeast f (x ∷ xs) y
 least-first f x [] = (x, record { among = contains-here x x [] refl; is = refl; lowest = only })
   where
@@ -82,9 +83,11 @@ filter-agree p q (x ∷ xs) same =
 
 -- ---- the first line that has a place
 
+-- numbers that ascend do so after the first too
 pub ascends-tail : (k : ℕ) (ks : List ℕ) → Ascends (k ∷ ks) → Ascends ks
 ascends-tail k ks rises i j d less within = rises (suc i) (suc j) d (omega arith) (omega arith)
 
+-- the first of numbers that ascend is less than each further one
 pub ascends-head : (k : ℕ) (ks : List ℕ) (j : ℕ) → Ascends (k ∷ ks) → Contains ks j → k < j
 ascends-head k ks j rises found = omega (arith, rises 0 (suc found.0) j (omega arith) (omega (arith, found.1)), found.2)
 

@@ -57,6 +57,7 @@ column-pushed parts more p is =
 parts-more : (es : List LineAnnotation) (i : ℕ) (d : LineAnnotation) → i < length es → map seen_part (take (i + 1) es) ≡ map seen_part (take i es) ++ seen_part (get_or es i d) ∷ []
 parts-more es i d within = map_more seen_part es i d within
 
+-- the least start column with one more entry is the lesser of that one and the least so far
 pub column-more : (es : List LineAnnotation) (i : ℕ) (d : LineAnnotation) (before : Option ℕ) → i < length es
     → before ≡ least (start_columns (map seen_part (take i es)))
     → Some (option_map_or (λ n. min n ((get_or es i d).start.char + 1)) before ((get_or es i d).start.char + 1))
@@ -70,6 +71,7 @@ primary-more : (es : List LineAnnotation) (i : ℕ) (d : LineAnnotation) → i <
 primary-more es i d within =
     ap primary_parts (parts-more es i d within) ∙ filter-append (λ (p : PartEntry). is_primary p.entry.kind) (map seen_part (take i es)) (seen_part (get_or es i d) ∷ [])
 
+-- the least primary start column with one more primary entry is the lesser of that one and the least so far
 pub primary_column-more : (es : List LineAnnotation) (i : ℕ) (d : LineAnnotation) (before : Option ℕ) → i < length es
     → is_primary (get_or es i d).kind ≡ true → before ≡ least (start_columns (primary_parts (map seen_part (take i es))))
     → Some (option_map_or (λ n. min n ((get_or es i d).start.char + 1)) before ((get_or es i d).start.char + 1))
@@ -79,6 +81,7 @@ primary_column-more es i d before within primary known =
     ap (λ o. Some (option_map_or (λ n. min n (e.start.char + 1)) o (e.start.char + 1))) known
     ∙ sym (column-pushed (primary_parts (map seen_part (take i es))) (primary_parts (map seen_part (take (i + 1) es))) (seen_part e) (primary-more es i d within ∙ ap (λ ps. primary_parts (map seen_part (take i es)) ++ ps) (cond-true (is_primary e.kind) (seen_part e ∷ []) [] primary)))
 
+-- the least primary start column stays with an entry that isn't primary
 pub primary_column-same : (es : List LineAnnotation) (i : ℕ) (d : LineAnnotation) (before : Option ℕ) → i < length es
     → is_primary (get_or es i d).kind ≡ false → before ≡ least (start_columns (primary_parts (map seen_part (take i es))))
     → before ≡ least (start_columns (primary_parts (map seen_part (take (i + 1) es))))
@@ -103,6 +106,7 @@ start-more test marks i a before within is passes known =
     ap (λ o. Some (option_map_or (λ n. min n a.span.start) o a.span.start)) known
     ∙ sym (ap (λ xs. least (map start xs)) (filter-more test marks i a within is ∙ ap (λ xs. so_far ++ xs) (cond-true (test a) (a ∷ []) [] passes)) ∙ ap least (map_push start so_far a) ∙ least-push (map start so_far) a.span.start)
 
+-- the least start of those that pass stays with one that doesn't
 pub start-same : (test : Annotation → Bool) (marks : List Annotation) (i : ℕ) (a : Annotation) (before : Option ℕ) → i < length marks
     → a ≡ get_or marks i a → test a ≡ false → before ≡ least (map (λ (b : Annotation). b.span.start) (filter test (take i marks)))
     → before ≡ least (map (λ (b : Annotation). b.span.start) (filter test (take (i + 1) marks)))

@@ -24,6 +24,7 @@ use Rattle.snippet_view.proofs.RawDepthLemmas.{same-refl, same-true}
 abbrev pub IsBy : Loc → Loc → Type 0
 IsBy at q = (at.line ≤ q.line) × (at.line ≡ q.line → at.char ≤ q.char)
 
+-- a place isn't after one that is the same
 pub by-same : (at q : Loc) → at ≡ q → IsBy at q
 by-same at q is = (omega (arith, ap (λ (l : Loc). l.line) is), λ _. omega (arith, ap (λ (l : Loc). l.char) is))
 
@@ -45,6 +46,7 @@ pub record IsSeen (s : Source) (e : Entry) : Type 0 where
   pub start : e.start ≡ start_location s e.start.byte
   pub later : e.start.line < e.end.line
 
+-- spans at the same place start at the same location
 pub same-start : (s : Source) (d e : Entry) → IsSeen s d → IsSeen s e → long_place d ≡ long_place e → d.start ≡ e.start
 same-start s d e seen other same = seen.start ∙ ap (λ (p : LongExtent). start_location s p.from) same ∙ sym other.start
 
@@ -75,10 +77,12 @@ promoted-kind t choice before e place why at =
       | inr other ↦ absurd (both_ways (is_promoted before e) no (promoted-primary before e place other at))
     ])
 
-promoted-start : (before : List Entry) (e : Entry) → (promoted before e).start ≡ e.start
+-- a span that is promoted starts where it did
+pub promoted-start : (before : List Entry) (e : Entry) → (promoted before e).start ≡ e.start
 promoted-start before e = cond_both (is_promoted before e) (record e { kind = Primary }) e (λ (d : Entry). d.start ≡ e.start) (λ _. refl) (λ _. refl)
 
-promoted-end : (before : List Entry) (e : Entry) → (promoted before e).end ≡ e.end
+-- a span that is promoted ends where it did
+pub promoted-end : (before : List Entry) (e : Entry) → (promoted before e).end ≡ e.end
 promoted-end before e = cond_both (is_promoted before e) (record e { kind = Primary }) e (λ (d : Entry). d.end ≡ e.end) (λ _. refl) (λ _. refl)
 
 -- ---- where a span starts an entry stands
@@ -125,6 +129,7 @@ last-started t choice s depth before e later others place last why at =
       };
     }
 
+-- where a span of the chosen kind stands at a place, a part that starts it does
 pub started : (t : AnnotationKind → Bool) → IsChoice t
     → (s : Source) (places : List LongExtent) (before later : List Entry) (place : LongExtent) (e : Entry) → Among later e → long_place e ≡ place
     → (t e.kind ≡ true) ⊎ HasPrimary before place → IsStarted t (long_parts s places before later) later place
@@ -217,6 +222,7 @@ span-reached t choice s depth before e later seen here =
         let from = drawn-as t choice s before e later seen here passes in
         record { span = from.span; among = from.among; passes = from.passes; by = by from }
 
+-- a part of the chosen kind is reached from a span of that kind
 pub reached : (t : AnnotationKind → Bool) → IsChoice t → (s : Source) (places : List LongExtent) (before later : List Entry)
     → ((d : Entry) → Among before d → IsSeen s d) → ((d : Entry) → Among later d → IsSeen s d)
     → All (λ p. t p.entry.kind ≡ true → IsReached t before later p) (long_parts s places before later)

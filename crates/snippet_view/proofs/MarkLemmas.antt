@@ -27,10 +27,12 @@ end-column s start end one =
     (λ same. start_location-column s start ∙ ap (λ b. (place_of s.text b).column) (eqb-true start end same))
     (λ _. end_location-column s start end one)
 
+-- the line on which a span starts is counted from the source's first number
 pub start-line : (s : Source) (start end : ℕ) → (locations_of s start end).0.line ≡ s.first + line_of (source_lines s.text) start
 unfolding locations_of
 start-line s start end = start_location-line s start
 
+-- the column where a span's first location stands is that of its start
 pub start_column-from : (s : Source) (a : Annotation) (at : Loc × Loc) → at ≡ locations_of s a.span.start a.span.end → at.0.display ≡ (place_of s.text a.span.start).column
 unfolding locations_of
 start_column-from s a at is = ap (λ (l : Loc × Loc). l.0.display) is ∙ start_location-column s a.span.start
@@ -42,6 +44,7 @@ first-from s a at is = ap (λ (l : Loc × Loc). l.0.line) is ∙ start-line s a.
 last-from : (s : Source) (a : Annotation) (at : Loc × Loc) → at ≡ locations_of s a.span.start a.span.end → at.1.line ≡ s.first + last_line s.text a
 last-from s a at is = ap (λ (l : Loc × Loc). l.1.line) is ∙ end-line s a.span.start a.span.end
 
+-- the column where a span of one line ends is that of its end
 pub end_column-from : (s : Source) (a : Annotation) (at : Loc × Loc) (line : ℕ) → at ≡ locations_of s a.span.start a.span.end → at.0.line ≡ line → at.1.line ≡ line → at.1.display ≡ (place_of s.text a.span.end).column
 end_column-from s a at line is first last =
     ap (λ (l : Loc × Loc). l.1.display) is ∙ end-column s a.span.start a.span.end (omega (arith, first, last, first-from s a at is, last-from s a at is))
@@ -51,6 +54,7 @@ pub entry_of-line : (s : Source) (a : Annotation) → (entry_of s a).start.line 
 unfolding locations_of start_location location_of place_of
 entry_of-line s a = refl
 
+-- numbers counted from the same first are the same where their distances from it are
 pub eqb-shift : (f m k n : ℕ) → n ≡ f + m → eqb n (f + k) ≡ eqb m k
 eqb-shift f m k n is =
     elim (eqb m k) as (λ b. eqb m k ≡ b → eqb n (f + k) ≡ b) [
@@ -69,12 +73,14 @@ pub record IsOnLine (s : Source) (a : Annotation) (at : Loc × Loc) (line : ℕ)
   pub first : at.0.line ≡ line
   pub last : at.1.line ≡ line
 
+-- an annotation whose locations put it on a line is marked on that line
 pub marked-from : (s : Source) (a : Annotation) (at : Loc × Loc) (line k : ℕ) → at ≡ locations_of s a.span.start a.span.end → line ≡ s.first + k → IsOnLine s a at line → is_marked_on s.text k a ≡ true
 marked-from s a at line k is here on =
     let single = eq-eqb (last_line s.text a) (first_line s.text a) (omega (arith, on.first, on.last, first-from s a at is, last-from s a at is)) in
     let there = eq-eqb (first_line s.text a) k (omega (arith, on.first, first-from s a at is)) in
     and_from (is_marking a.kind && eqb (last_line s.text a) (first_line s.text a)) (eqb (first_line s.text a) k) (and_from (is_marking a.kind) (eqb (last_line s.text a) (first_line s.text a)) on.marking single) there
 
+-- an annotation whose locations don't put it on a line isn't marked on that line
 pub unmarked-from : (s : Source) (a : Annotation) (at : Loc × Loc) (line k : ℕ) → at ≡ locations_of s a.span.start a.span.end → line ≡ s.first + k → (IsOnLine s a at line → ⊥) → is_marked_on s.text k a ≡ false
 unmarked-from s a at line k is here off =
     false_from_ne_true (is_marked_on s.text k a) (λ marked.

@@ -412,6 +412,7 @@ start-border test source marks spans = by (filter test marks) refl
         let given = filter_cases test marks low.0 (subst (λ xs. Among xs low.0) (sym are) (contains-among (a ∷ others) low.0 low.1.among)) in
         subst (λ xs. IfSome (least (map (λ (b : Annotation). b.span.start) xs)) (λ b. IsSpan source b b)) (sym are) (subst (λ o. IfSome o (λ b. IsSpan source b b)) (sym low.1.is) (empty low.0 (spans low.0 given.0)))
 
+-- the start that names a snippet is a border of characters
 pub naming-border : (marks : List Annotation) (start : Option ℕ) → start ≡ naming_start marks → (source : List ℕ) → All (λ a. IsSpan source a.span.start a.span.end) marks → IfSome start (λ b. IsSpan source b b)
 naming-border marks start is source all =
     subst (λ o. IfSome o (λ b. IsSpan source b b)) (sym is) (either (least (primary_starts marks)) (least (marked_starts marks)) (start-border (λ a. is_primary a.kind) source marks spans) (start-border (λ a. is_marking a.kind) source marks spans))

@@ -91,6 +91,7 @@ fitting_length n (c ∷ cs) =
       | inr fits ↦ omega (arith, fitting-cons n c cs fits, fitting_length (n - char_width c) cs)
     ]
 
+-- the characters that fit are no wider than the columns
 pub fitting_width : (n : ℕ) (cs : List ℕ) → width_of (take (fitting n cs) cs) ≤ n
 fitting_width n [] = omega arith
 fitting_width n (c ∷ cs) =
@@ -99,6 +100,7 @@ fitting_width n (c ∷ cs) =
       | inr fits ↦ omega (arith, ap (λ k. width_of (take k (c ∷ cs))) (fitting-cons n c cs fits), ap width_of (take-cons (fitting (n - char_width c) cs) c cs), width-cons c (take (fitting (n - char_width c) cs) cs), fitting_width (n - char_width c) cs)
     ]
 
+-- what falls short of some columns fits one column less
 pub falling_short-some : (n : ℕ) (cs : List ℕ) → 0 < n → falling_short n cs ≡ fitting (n - 1) cs
 falling_short-some n cs some = grind (arith, nat_tests, some)
 
@@ -191,6 +193,7 @@ window_dropped room left right skipped l line part holds is =
     let found = ap (λ xs. width_of (take (reaching from xs) xs)) holds.text_is ∙ near_dropped from skipped holds.before part holds.after holds.skipped_is holds.starts (λ some. omega (arith, holds.reaches some)) in
     ap (λ k. skipped + width_of (take (reaching (k - skipped) part) part)) is ∙ sym found
 
+-- the inner part of the near text is that of the line
 pub window_inner : (room left right skipped l n : ℕ) (line part rest inner : List ℕ) → HoldsWindow room left right line skipped part
     → l ≡ window_left left line → n ≡ window_columns room left right line → width_of (take (reaching (l - skipped) part) part) < (l - skipped) + 4
     → rest ≡ drop (reaching (l - skipped) part) part → inner ≡ take (fitting n rest) rest → inner ≡ inner_part room left right line
@@ -215,6 +218,7 @@ end_some room left right end start placeholder line inner shown is_inner cut is_
     let value = is_end ∙ ap (λ (s : Option ℕ). (unwrap_or s 0 + length shown) - reaching_last (width_of placeholder) inner) is_start ∙ ap (λ t. (unwrap_or (covered_columns left placeholder inner) 0 + length t) - reaching_last (width_of placeholder) inner) is_shown ∙ ap at is_inner in
     ap Some value ∙ sym (ap (λ b. cond b (Some (at (inner_part room left right line))) None) cut_off)
 
+-- a line that ends within the window isn't covered at its end
 pub end_none : (room left right : ℕ) (placeholder line : List ℕ) → width_of line ≤ window_right room left right line → None ≡ covered_end room left right placeholder line
 end_none room left right placeholder line uncut =
     let at : List ℕ → ℕ = λ i. (unwrap_or (covered_columns left placeholder i) 0 + length (uncovered_part left placeholder i)) - reaching_last (width_of placeholder) i in
@@ -251,6 +255,7 @@ holds_norm room left right skipped line part holds =
       reaches = λ some. omega (arith, holds.reaches (norm_some holds.after some), from, same_columns room left right line, width_of-norm part);
     }
 
+-- the normalised near text is the part of the line that its window needs
 pub part_of_norm : (margin : Margin) (width skipped : ℕ) (line near part : List ℕ) → width ≡ width_of line → part ≡ norm near → HoldsWindow margin.term_width (bounds_of margin).left (bounds_of margin).right line skipped near → IsPartOf margin (norm line) width skipped part
 part_of_norm margin width skipped line near part is_width is_part holds =
     let bounds = bounds_of margin in

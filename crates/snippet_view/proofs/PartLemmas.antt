@@ -10,11 +10,12 @@ use Rattle.snippet_model.specs.declared.snippet.AnnotationKind.TheVariants.{Prim
 use Rattle.snippet_view.specs.declared.depths.LongExtent.{LongExtent}
 use Rattle.snippet_view.specs.declared.entries.LineAnnotationType.TheVariants.{Singleline, MultilineEnd}
 use Rattle.snippet_view.specs.Annotated.{PartEntry, is_short, is_long, long_entry, long_place, long_places, long_spans, stands_before, depth_of, single_part, start_part, bar_part, end_part, bar_lines, span_parts, long_parts, made_parts, promoted, is_promoted}
-use Rattle.snippet_lines.specs.Order.{put_in, ordered_by}
+use Rattle.snippet_lines.specs.Order.{ordered_by}
 use Rattle.snippet_view.specs.Depths.{depth_among, same_place}
 use Rattle.snippet_view.specs.Kept.{is_trivial_line}
 use Rattle.snippet_lines.specs.Lines.{Source}
 use Rattle.snippet_view.specs.Marked.{Entry}
+use Rattle.snippet_lines.proofs.OrderLemmas.{All-put_in}
 pub use Rattle.snippet_lines.proofs.OrderLemmas.{filter-none}
 
 -- ---- lists
@@ -26,20 +27,18 @@ All-filtered p Q (x ∷ xs) all =
     let rest : All Q (filter p xs) = All-filtered p Q xs (All-tail (λ x. p x ≡ true → Q x) x xs all) in
     cond_both (p x) (x ∷ filter p xs) (filter p xs) (All Q) (λ t. All-cons Q x (filter p xs) (All-head (λ x. p x ≡ true → Q x) x xs all t) rest) (λ _. rest)
 
-All-put : {X : Type 0} (before : X → X → Bool) (Q : X → Type 0) (x : X) (ys : List X) → Q x → All Q ys → All Q (put_in before x ys)
-All-put before Q x [] one all = All-cons Q x [] one (All-nil Q)
-All-put before Q x (y ∷ ys) one all =
-    cond_both (before y x) (y ∷ put_in before x ys) (x ∷ y ∷ ys) (All Q) (λ _. All-cons Q y (put_in before x ys) (All-head Q y ys all) (All-put before Q x ys one (All-tail Q y ys all))) (λ _. All-cons Q x (y ∷ ys) one all)
-
+-- what holds of each element holds of each once they are in order
 pub All-order : {X : Type 0} (before : X → X → Bool) (Q : X → Type 0) (xs : List X) → All Q xs → All Q (ordered_by before xs)
 All-order before Q [] all = All-nil Q
-All-order before Q (x ∷ xs) all = All-put before Q x (ordered_by before xs) (All-head Q x xs all) (All-order before Q xs (All-tail Q x xs all))
+All-order before Q (x ∷ xs) all = All-put_in before Q x (ordered_by before xs) (All-head Q x xs all) (All-order before Q xs (All-tail Q x xs all))
 
+-- each number of a range is at least its first, and less than its end
 pub All-range : (a n : ℕ) → All (λ k. (a ≤ k) × (k < a + n)) (range_with_len a n)
 All-range a n k d within =
     let below : k < n = omega (arith, length-range_with_len a n) in
     let at : get_or (range_with_len a n) k d ≡ a + k = get_or-range_with_len a n k d below in (omega arith, omega arith)
 
+-- what holds of each element that is made holds of what each was made from
 pub All-unmapped : {X Y : Type 0} (P : Y → Type 0) (f : X → Y) (xs : List X) → All P (map f xs) → All (λ x. P (f x)) xs
 All-unmapped P f [] all = All-nil (λ x. P (f x))
 All-unmapped P f (x ∷ xs) all = All-cons (λ x. P (f x)) x xs (All-head P (f x) (map f xs) all) (All-unmapped P f xs (All-tail P (f x) (map f xs) all))
@@ -52,6 +51,7 @@ pub record IsBarLine (source : List ℕ) (first last k : ℕ) : Type 0 where
   pub to : k ≤ last
   pub shown : (list_any (λ j. not (is_trivial_line source j)) (range_with_len k (min (first + 4) last - k)) ≡ true) ⊎ ((k + 1 ≡ last) × (ltb (min (first + 4) last) k ≡ true) × (not (is_trivial_line source k) ≡ true))
 
+-- each line of a bar lies where the span's bars may stand
 pub bar-lines : (source : List ℕ) (first last : ℕ) → All (IsBarLine source first last) (bar_lines source first last)
 bar-lines source first last =
     let beginning : ℕ = min (first + 4) last in
@@ -79,6 +79,7 @@ pub record HoldsOfSpan (P : PartEntry → Type 0) (s : Source) (depth : ℕ) (e 
   pub end : P (end_part e (MultilineEnd depth))
   pub again : P (end_part e Singleline)
 
+-- what holds of what a span's parts are made of holds of each part
 pub span-all : (P : PartEntry → Type 0) (s : Source) (depth : ℕ) (again : Bool) (e : Entry) → HoldsOfSpan P s depth e → All P (span_parts s depth again e)
 span-all P s depth true e holds = All-cons P (end_part e Singleline) [] holds.again (All-nil P)
 span-all P s depth false e holds =

@@ -33,10 +33,12 @@ end-location-column s start end =
     let one : more ≤ 1 = cond_both (eqb (location_of s start).line (location_of s end).line) 0 (steps_after_text s.text end) (λ n. n ≤ 1) (λ _. omega arith) (λ _. steps-bound s.text end) in
     omega (arith, location-column s end, one)
 
+-- the column of a start is at most four times the source's length
 pub start-column-bound : (s : Source) (start end : ℕ) → (locations_of s start end).0.display ≤ 4 * length s.text
 unfolding locations_of
 start-column-bound s start end = omega (arith, start_location-column s start, place-column s.text start)
 
+-- the column of an end is at most one more than four times the source's length
 pub end-column-bound : (s : Source) (start end : ℕ) → (locations_of s start end).1.display ≤ 4 * length s.text + 1
 unfolding locations_of
 end-column-bound s start end =
@@ -61,10 +63,12 @@ end-location-character s start end =
     let one : more ≤ 1 = cond_both (eqb (location_of s start).line (location_of s end).line) 0 (steps_after_text s.text end) (λ n. n ≤ 1) (λ _. omega arith) (λ _. steps-bound s.text end) in
     omega (arith, place-character s.text end, one)
 
+-- the character of a start is at most one more than the source's length
 pub start-character-bound : (s : Source) (start end : ℕ) → (locations_of s start end).0.char ≤ length s.text + 1
 unfolding locations_of
 start-character-bound s start end = start-location-character s start
 
+-- the character of an end is at most one more than the source's length
 pub end-character-bound : (s : Source) (start end : ℕ) → (locations_of s start end).1.char ≤ length s.text + 1
 unfolding locations_of
 end-character-bound s start end =

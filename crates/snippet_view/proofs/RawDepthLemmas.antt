@@ -10,6 +10,7 @@ use Rattle.snippet_view.specs.Depths.{same_place, share_line, places_of, raw_dep
 same_fields : (a b c d a' b' c' d' : ℕ) → a ≡ a' → b ≡ b' → c ≡ c' → d ≡ d' → ◌≡◌ {A = LongExtent} (record { from = a; to = b; first = c; last = d }) (record { from = a'; to = b'; first = c'; last = d' })
 same_fields a b c d a' b' c' d' e f g h = cc
 
+-- places that the test calls the same are the same
 pub same-true : (p q : LongExtent) → same_place p q ≡ true → p ≡ q
 same-true p q same =
     let abcd = and_parts (eqb p.from q.from) (eqb p.to q.to && (eqb p.first q.first && eqb p.last q.last)) same in
@@ -17,6 +18,7 @@ same-true p q same =
     let cd = and_parts (eqb p.first q.first) (eqb p.last q.last) bcd.1 in
     same_fields p.from p.to p.first p.last q.from q.to q.first q.last (eqb-true p.from q.from abcd.0) (eqb-true p.to q.to bcd.0) (eqb-true p.first q.first cd.0) (eqb-true p.last q.last cd.1)
 
+-- the test calls a place the same as itself
 pub same-refl : (p : LongExtent) → same_place p p ≡ true
 same-refl p =
     and_from (eqb p.from p.from) (eqb p.to p.to && (eqb p.first p.first && eqb p.last p.last)) (eq-eqb p.from p.from refl)
@@ -27,6 +29,7 @@ same-refl p =
 pub places-again : (p : LongExtent) (ps : List LongExtent) → list_any (same_place p) ps ≡ true → places_of (p ∷ ps) ≡ places_of ps
 places-again p ps holds = cond-true (list_any (same_place p) ps) (places_of ps) (p ∷ places_of ps) holds
 
+-- a place that doesn't stand again is one more place
 pub places-new : (p : LongExtent) (ps : List LongExtent) → list_any (same_place p) ps ≡ false → places_of (p ∷ ps) ≡ p ∷ places_of ps
 places-new p ps fails = cond-false (list_any (same_place p) ps) (places_of ps) (p ∷ places_of ps) fails
 
@@ -44,6 +47,7 @@ among-after q p ps again =
       | inr fails ↦ ap (λ qs. raw_depth_among qs p) (places-new q ps fails) ∙ among-past p q (places_of ps) (false_from_ne_true (same_place p q) (λ same. both_ways (list_any (same_place q) ps) fails (subst (λ (r : LongExtent). list_any (same_place r) ps ≡ true) (same-true p q same) again)))
     ]
 
+-- a place that doesn't stand again has the raw depth that the later places give it
 pub among-new : (p : LongExtent) (ps : List LongExtent) → list_any (same_place p) ps ≡ false → raw_depth_among (places_of (p ∷ ps)) p ≡ raw_depth p (places_of ps)
 among-new p ps fails = ap (λ qs. raw_depth_among qs p) (places-new p ps fails) ∙ among-here p (places_of ps)
 
@@ -54,11 +58,13 @@ pub max_of : List ℕ → ℕ
 max_of [] = 0
 max_of (n ∷ ns) = max n (max_of ns)
 
+-- the greatest from a number on is the greater of that and the greatest
 pub fold-max : (m : ℕ) (ns : List ℕ) → fold max m ns ≡ max m (max_of ns)
 unfolding max_of
 fold-max m [] = omega arith
 fold-max m (n ∷ ns) = let h : fold max (max m n) ns ≡ max (max m n) (max_of ns) = fold-max (max m n) ns in omega arith
 
+-- no place is deeper than the greatest raw depth
 pub among-most : (ps : List LongExtent) (p : LongExtent) → raw_depth_among ps p ≤ greatest_raw_depth ps
 among-most [] p = omega arith
 among-most (q ∷ ps) p =
@@ -99,6 +105,7 @@ map-agree f g (x ∷ xs) same =
     let t : map f xs ≡ map g xs = map-agree f g xs (λ k d within. same (suc k) d (omega arith)) in
     cc
 
+-- a place of the list stands in it
 pub any-at : (ps : List LongExtent) (k : ℕ) (d : LongExtent) → k < length ps → list_any (same_place (get_or ps k d)) ps ≡ true
 any-at [] k d within = absurd (omega arith)
 any-at (p ∷ ps) zero d within = or_left (same_place p p) (list_any (same_place p) ps) (same-refl p)
@@ -110,6 +117,7 @@ raw_depths-are [] = refl
 raw_depths-are (p ∷ ps) =
     ap (λ ns. raw_depth_among (places_of (p ∷ ps)) p ∷ ns) (raw_depths-are ps ∙ map-agree (raw_depth_among (places_of ps)) (raw_depth_among (places_of (p ∷ ps))) ps (λ k d within. sym (among-after p (get_or ps k d) ps (any-at ps k d within))))
 
+-- each place has a raw depth
 pub length-raw_depths : (ps : List LongExtent) → length (raw_depths ps) ≡ length ps
 length-raw_depths [] = refl
 length-raw_depths (p ∷ ps) = ap (λ n. suc n) (length-raw_depths ps)
@@ -131,10 +139,12 @@ raw_depth-bound p (q ∷ qs) =
       | inr fails ↦ let e : cond (share_line p q) (raw_depth q qs + 1) 1 ≡ 1 = cond-false (share_line p q) (raw_depth q qs + 1) 1 fails in omega arith
     ]
 
+-- the greatest raw depth is at most the count of places
 pub greatest-bound : (ps : List LongExtent) → greatest_raw_depth ps ≤ length ps
 greatest-bound [] = omega arith
 greatest-bound (p ∷ ps) = omega (arith, raw_depth-bound p ps, greatest-bound ps)
 
+-- no more places are left than there were, once each stands once
 pub places-bound : (ps : List LongExtent) → length (places_of ps) ≤ length ps
 places-bound [] = omega arith
 places-bound (p ∷ ps) =
@@ -144,6 +154,7 @@ places-bound (p ∷ ps) =
       | inr fails ↦ rw (places-new p ps fails) (omega arith)
     ]
 
+-- no raw depth is greater than the count of places
 pub raw_depths-bound : (ps : List LongExtent) (i d : ℕ) → i < length ps → get_or (raw_depths ps) i d ≤ length ps
 raw_depths-bound [] i d within = absurd (omega arith)
 raw_depths-bound (p ∷ ps) zero d within = omega (arith, among-most (places_of (p ∷ ps)) p, greatest-bound (places_of (p ∷ ps)), places-bound (p ∷ ps))

@@ -78,17 +78,21 @@ kept-within fold source marks i d within = (rises-at 0 (length (source_lines sou
 pub shown-ascends : (fold : Bool) (source : List ℕ) (marks : List Annotation) → Ascends (shown_lines fold source marks)
 shown-ascends fold source marks = rises-pairs 0 (length (source_lines source)) (shown_lines fold source marks) (shown-rises fold source marks)
 
+-- each line that is shown is a line of the source
 pub shown-within : (fold : Bool) (source : List ℕ) (marks : List Annotation) → All (λ k. k < length (source_lines source)) (shown_lines fold source marks)
 shown-within fold source marks i d within = (rises-at 0 (length (source_lines source)) (shown_lines fold source marks) i d (shown-rises fold source marks) within).1
 
 -- ---- which lines are among them
 
+-- a list contains its first element
 pub contains-here : {X : Type 0} (x y : X) (xs : List X) → y ≡ x → Contains (y ∷ xs) x
 contains-here x y xs same = (0, omega arith, same)
 
+-- what a list contains it contains after one more element is put in front
 pub contains-there : {X : Type 0} (x y : X) (xs : List X) → Contains xs x → Contains (y ∷ xs) x
 contains-there x y xs among = (suc among.0, omega (arith, among.1), among.2)
 
+-- what a list contains is its first element, or the rest contains it
 pub contains-cases : {X : Type 0} (x y : X) (xs : List X) → Contains (y ∷ xs) x → (y ≡ x) ⊎ Contains xs x
 contains-cases {X} x y xs among = at among.0 among.1 among.2
   where
@@ -96,6 +100,7 @@ contains-cases {X} x y xs among = at among.0 among.1 among.2
     at zero within same = inl same
     at (suc i) within same = inr (i, omega arith, same)
 
+-- what a list contains and passes the test is among those that pass it
 pub contains-filter : {X : Type 0} (p : X → Bool) (x : X) (xs : List X) → p x ≡ true → Contains xs x → Contains (filter p xs) x
 contains-filter p x [] passes among = absurd (omega (arith, among.1))
 contains-filter p x (y ∷ xs) passes among =
@@ -141,6 +146,7 @@ pub first-kept : (fold : Bool) (source : List ℕ) (marks : List Annotation) (a 
 first-kept fold source marks a among span =
     span-kept fold source marks a (first_line source a) among (line_of-within source a.span.start) (keeps-first source a (first_line source a) span refl)
 
+-- the line on which a span ends is kept
 pub last-kept : (fold : Bool) (source : List ℕ) (marks : List Annotation) (a : Annotation) → Contains marks a → IsSpan source a.span.start a.span.end → Contains (kept_lines fold source marks) (last_line source a)
 last-kept fold source marks a among span =
     span-kept fold source marks a (last_line source a) among (line_of-within source a.span.end) (keeps-last source a (last_line source a) span refl)
@@ -149,5 +155,6 @@ last-kept fold source marks a among span =
 pub first-shown : (fold : Bool) (source : List ℕ) (marks : List Annotation) (a : Annotation) → Contains marks a → IsSpan source a.span.start a.span.end → Contains (shown_lines fold source marks) (first_line source a)
 first-shown fold source marks a among span = kept-shown fold source marks (first_line source a) (first-kept fold source marks a among span)
 
+-- the line on which a span ends is shown
 pub last-shown : (fold : Bool) (source : List ℕ) (marks : List Annotation) (a : Annotation) → Contains marks a → IsSpan source a.span.start a.span.end → Contains (shown_lines fold source marks) (last_line source a)
 last-shown fold source marks a among span = kept-shown fold source marks (last_line source a) (last-kept fold source marks a among span)

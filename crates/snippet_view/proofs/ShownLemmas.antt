@@ -19,7 +19,9 @@ use Rattle.snippet_lines.specs.Lines.{Source}
 use Rattle.snippet_view.specs.Depths.{same_place, share_line}
 use Rattle.snippet_view.proofs.DepthLemmas.{distinct-places}
 use Rattle.snippet_view.proofs.RawDepthLemmas.{same-refl}
+use Rattle.snippet_view.proofs.PartLemmas.{list_any-map}
 
+-- those that pass among the made elements are made from those whose made ones pass
 pub filter-map : {X Y : Type 0} (p : Y → Bool) (f : X → Y) (xs : List X) → filter p (map f xs) ≡ map f (filter (λ x. p (f x)) xs)
 filter-map p f [] = refl
 filter-map p f (x ∷ xs) =
@@ -30,6 +32,7 @@ filter-map p f (x ∷ xs) =
 
 -- ---- entries of a line in a sorted list
 
+-- the entries between those above a line and those below it are those of the line
 pub on-line : {X : Type 0} (line : X → ℕ) (xs : List X) (n from to m : ℕ) → to ≡ from + m
     → ((j : ℕ) (d : X) → j < from → j < length xs → line (get_or xs j d) < n)
     → ((j : ℕ) (d : X) → from ≤ j → j < length xs → n ≤ line (get_or xs j d)) → ((j : ℕ) (d : X) → j < to → j < length xs → line (get_or xs j d) ≤ n)
@@ -53,9 +56,11 @@ on-line line (x ∷ xs) n zero to zero is below from' upto after =
 ties-line : (n m : ℕ) → (not (is_lt (nat_cmp n m)) && not (is_lt (nat_cmp m n))) ≡ eqb m n
 ties-line n m = grind (arith, nat_tests)
 
+-- an entry at the start of a line
 pub at-line : ℕ → LineAnnotation
 at-line n = record { start = record { line = n; char = 0; display = 0; byte = 0 }; end = record { line = n; char = 0; display = 0; byte = 0 }; kind = Primary; label = None; annotation_type = Singleline; highlight_source = false }
 
+-- a stable sort by lines leaves the entries of one line in the order in which they were made
 pub stable-on-line : (made sorted : List LineAnnotation) (n : ℕ) → IsStableByKey (λ (e : LineAnnotation). e.start.line) nat_cmp made sorted → filter (λ (p : PartEntry). eqb p.entry.start.line n) (map seen_part sorted) ≡ filter (λ (p : PartEntry). eqb p.entry.start.line n) (map seen_part made)
 unfolding at-line
 stable-on-line made sorted n stable =
@@ -68,7 +73,8 @@ stable-on-line made sorted n stable =
 
 -- ---- lines so far
 
-range-more : (i : ℕ) → range_with_len 0 (i + 1) ≡ range_with_len 0 i ++ i ∷ []
+-- a range with one number more ends in that number
+pub range-more : (i : ℕ) → range_with_len 0 (i + 1) ≡ range_with_len 0 i ++ i ∷ []
 range-more i = sym (map-id (range_with_len 0 (i + 1))) ∙ map-range_with_len_more (λ (k : ℕ). k) 0 i i (omega arith) ∙ ap (λ ks. ks ++ i ∷ []) (map-id (range_with_len 0 i))
 
 pub lines-shown : (p : ℕ → Bool) (f : ℕ → KeptLine) (i : ℕ) (now new : List AnnotatedLineInfo) (info : AnnotatedLineInfo) → p i ≡ true
@@ -88,6 +94,7 @@ pub same-kept : (number number' : ℕ) (text text' : List ℕ) (parts parts' : L
     (record { number = number'; text = text'; parts = parts'; keep = keep' })
 same-kept number number' text text' parts parts' keep keep' a b c d = cc
 
+-- where lines before a stretch are too low and those after it too high, it doesn't end before it starts
 pub from-to : {X : Type 0} (line : X → ℕ) (none : X) (xs : List X) (n from to : ℕ) → from ≤ length xs → ((j : ℕ) (d : X) → j < from → j < length xs → line (get_or xs j d) < n) → ((j : ℕ) (d : X) → to ≤ j → j < length xs → n < line (get_or xs j d)) → from ≤ to
 from-to line none xs n from to within below after =
     elim (cases_lt to from) [
@@ -115,10 +122,6 @@ any-order : {X : Type 0} (before : X → X → Bool) (q : X → Bool) (xs : List
 any-order before q [] = refl
 any-order before q (x ∷ xs) = any-put before q x (ordered_by before xs) ∙ ap (λ b. q x || b) (any-order before q xs)
 
-any-map : {X Y : Type 0} (q : Y → Bool) (f : X → Y) (xs : List X) → list_any q (map f xs) ≡ list_any (λ x. q (f x)) xs
-any-map q f [] = refl
-any-map q f (x ∷ xs) = ap (λ b. q (f x) || b) (any-map q f xs)
-
 any-filter : {X : Type 0} (q p : X → Bool) (xs : List X) (k : ℕ) (d : X) → k < length xs → p (get_or xs k d) ≡ true → q (get_or xs k d) ≡ true → list_any q (filter p xs) ≡ true
 any-filter q p [] k d within pass hit = absurd (omega arith)
 any-filter q p (x ∷ xs) zero d within pass hit = ap (list_any q) (cond-true (p x) (x ∷ filter p xs) (filter p xs) pass) ∙ or_left (q x) (list_any q (filter p xs)) hit
@@ -131,9 +134,9 @@ any-filter q p (x ∷ xs) (suc k) d within pass hit =
 -- the place of a span of several lines stands among the places
 pub place-among : (s : Source) (marks : List Annotation) (a : Annotation) → Contains marks a → is_long s.text a ≡ true → list_any (same_place (long_place (long_entry s a))) (long_places s marks) ≡ true
 place-among s marks a among long =
-    any-map (same_place (long_place (long_entry s a))) long_place (long_spans s marks)
+    list_any-map (same_place (long_place (long_entry s a))) long_place (long_spans s marks)
     ∙ any-order stands_before (λ e. same_place (long_place (long_entry s a)) (long_place e)) (map (long_entry s) (filter (is_long s.text) marks))
-    ∙ any-map (λ e. same_place (long_place (long_entry s a)) (long_place e)) (long_entry s) (filter (is_long s.text) marks)
+    ∙ list_any-map (λ e. same_place (long_place (long_entry s a)) (long_place e)) (long_entry s) (filter (is_long s.text) marks)
     ∙ any-filter (λ b. same_place (long_place (long_entry s a)) (long_place (long_entry s b))) (is_long s.text)
     marks among.0 a among.1 (ap (is_long s.text) among.2 ∙ long)
     (ap (λ b. same_place (long_place (long_entry s a)) (long_place (long_entry s b))) among.2 ∙ same-refl (long_place (long_entry s a)))

@@ -48,9 +48,11 @@ is_long source a = is_marking a.kind && not (is_single_line source a)
 abbrev pub stands_before : Entry → Entry → Bool
 stands_before d e = comes_before (long_place d) (long_place e)
 
+-- the spans of several lines of a source, in their order
 abbrev pub long_spans : Source → List Annotation → List Entry
 long_spans s marks = ordered_by stands_before (map (long_entry s) (filter (is_long s.text) marks))
 
+-- the places of those, in the same order
 abbrev pub long_places : Source → List Annotation → List LongExtent
 long_places s marks = map long_place (long_spans s marks)
 
@@ -105,6 +107,7 @@ abbrev pub is_promoted : List Entry → Entry → Bool
 is_promoted before e =
     is_primary e.kind || list_any (λ d. is_primary d.kind && same_place (long_place e) (long_place d)) before
 
+-- the span with the kind with which it is drawn
 abbrev pub promoted : List Entry → Entry → Entry
 promoted before e = if is_promoted before e then record e { kind = Primary } else e
 

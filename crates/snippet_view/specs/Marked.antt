@@ -24,6 +24,7 @@ pub record Entry : Type 0 where
   pub label : Option (List ℕ)
   pub highlight_source : Bool
 
+-- the code's entry as it is seen
 abbrev pub seen_entry : LineAnnotation → Entry
 seen_entry e = record { start = e.start; end = e.end; kind = e.kind; label = option_copied e.label; highlight_source = e.highlight_source }
 

@@ -5,6 +5,7 @@ use Rattle.std.specs.Iterator.{Drains}
 use Rattle.std.specs.Array.Iter.{array_into_iter_items, array_steps}
 use Rattle.std.specs.declared.array.IntoIter.{IntoIter}
 
+-- what is drained from an array's iterator is its items
 pub array-drained : {A : Type 0} → {n : ℕ} → (xs : List A) → (it : IntoIter A n) → Drains array_steps it xs → xs ≡ array_into_iter_items it
 array-drained [] it (u, (t, here, none)) = sym (nil_from_length (array_into_iter_items it) (ap (λ s. length (array_into_iter_items s)) here ∙ none.0))
 array-drained (x ∷ xs) it (u, (t, (j, first, rest), none)) = ap (λ l. x ∷ l) (array-drained xs j (u, (t, rest, none))) ∙ sym first

@@ -75,6 +75,7 @@ end-none source i ended =
       | inr (so, is) ↦ end-elsewhere source i is
     ]
 
+-- a source that is empty or ends in a line feed misses none at its end
 pub end-ended : (source : List ℕ) → (from : ℕ) → (length source ≡ 0) ⊎ (slice_index_or source (length source - 1) 0 ≡ 10)
     → first_from missing_end_at source from ≡ None
 end-ended source from ended = first-none missing_end_at source from (λ i after. end-none source i ended)

@@ -24,9 +24,11 @@ pub record ReachesTo (source : List ℕ) (found : List Finding) (from : ℕ) : T
   pub inside : AreInside source 0 found
   pub reach : reached 0 found ≡ from
 
+-- before any finding the start is reached
 pub reaches-none-yet : (source : List ℕ) → ReachesTo source [] 0
 reaches-none-yet source = record { inside = tt; reach = refl }
 
+-- with one more finding its end is reached
 pub reaches-next : (source : List ℕ) → (found : List Finding) → (from : ℕ) → (f : Finding) → ReachesTo source found from → IsFinding source from f
     → ReachesTo source (found ++ f ∷ []) f.end
 reaches-next source found from f so_far is =

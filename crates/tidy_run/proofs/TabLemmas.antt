@@ -13,9 +13,11 @@ use Rattle.tidy_run.proofs.FirstLemmas.{first-none}
 abbrev pub tab : ℕ → Finding
 tab at = record { start = at; end = at + 1; text = codes "    " }
 
+-- a tab is found where one stands
 pub tab-here : (source : List ℕ) → (at : ℕ) → slice_index_or source at 0 ≡ 9 → tab_at source at ≡ Some (tab at)
 tab-here source at is = ap (λ b. if b then Some (tab at) else None) (eq-eqb (slice_index_or source at 0) 9 is)
 
+-- no tab is found where another byte stands
 pub tab-none : (source : List ℕ) → (at : ℕ) → slice_index_or source at 0 ≢ 9 → tab_at source at ≡ None
 tab-none source at other =
     elim (eqb_tells (slice_index_or source at 0) 9) [
@@ -23,6 +25,7 @@ tab-none source at other =
       | inr (so, is) ↦ ap (λ b. if b then Some (tab at) else None) so
     ]
 
+-- a tab within the source is a finding
 pub tab-finding : (source : List ℕ) → (from at : ℕ) → IsUtf8 source → from ≤ at → at < length source
     → slice_index_or source at 0 ≡ 9 → IsFinding source from (tab at)
 tab-finding source from at utf8 after within is =

@@ -36,6 +36,7 @@ few-from : (find : ℕ → Option Finding) → (n from : ℕ) → length (findin
 few-from find zero from = omega arith
 few-from find (suc n) from = few-more (findings_from find n) n (few-from find n) (find from)
 
+-- no more findings are there than one more than the source's length
 pub few-findings : (find : ℕ → Option Finding) → (source : List ℕ) → length (findings_of find source) ≤ length source + 1
 unfolding findings_of
 few-findings find source = few-from find (length source + 1) 0

@@ -3,7 +3,8 @@ use Rattle.std.specs.Prelude.{fold}
 use Rattle.std.proofs.lemmas.List.Sums.{fold_push}
 use Rattle.serde_json.specs.Find.{as_str}
 use Rattle.serde_json.specs.View.{view}
-use Rattle.replay_read.specs.Sheet.{effect_name, effect_of, joined_effects, no_effects}
+use Rattle.snippet_style.specs.Style.{joined_effects, no_effects}
+use Rattle.replay_read.specs.Sheet.{effect_name, effect_of}
 use Rattle.replay_read.proofs.Listing.{items_more}
 use Rattle.replay_read.proofs.sheet.effects_of.Goals as goal
 

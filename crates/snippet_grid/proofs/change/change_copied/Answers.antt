@@ -31,7 +31,9 @@ change_row-requires-clause-runs c =
     let text = string_bytes c.args.text.now in
     let copied = c.in_ok-extend_from_slice.ensures.items ∙ ap (λ (l : List Run). l ++ stretch c.as_slice-old.result.now c.row_bounds-from.result.0 c.row_bounds-from.result.1) c.clear.ensures.items in
     subst (λ (l : List Run). IsRow text c.args.row l) (sym copied)
-    (IsRow-stretch text c.args.row c.as_slice-old.result.now c.row_bounds-from.result.0 c.row_bounds-from.result.1 c.row_bounds-from.ensures.bounds.0 c.row_bounds-from.ensures.bounds.1 (subst (λ (l : List Run). All (λ x. IsRun text x) l) (sym is) c.requires.grid.are_runs) (subst (λ (l : List Run). AreOrdered l) (sym is) c.requires.grid.ordered) (subst (λ (l : List Run). AreApart l) (sym is) c.requires.grid.apart) c.row_bounds-from.ensures.inside)
+    (IsRow-stretch text c.args.row c.as_slice-old.result.now c.row_bounds-from.result.0 c.row_bounds-from.result.1 c.row_bounds-from.ensures.bounds.0 c.row_bounds-from.ensures.bounds.1
+    (subst (λ (l : List Run). All (λ x. IsRun text x) l) (sym is) c.requires.grid.are_runs)
+    (subst (λ (l : List Run). AreOrdered l) (sym is) c.requires.grid.ordered) (subst (λ (l : List Run). AreApart l) (sym is) c.requires.grid.apart) c.row_bounds-from.ensures.inside)
 
 pub returns-in_err-change_row-clause-grid : goal.returns-in_err-change_row-clause-grid
 returns-in_err-change_row-clause-grid c =

@@ -17,7 +17,8 @@ use Rattle.snippet_strokes.specs.Rows.{bare_row}
 use Rattle.snippet_style.specs.Separators.{separator_row}
 use Rattle.snippet_strokes.proofs.PositionLemmas.{entries_all, row_count_some, positions_of_placed}
 use Rattle.snippet_strokes.proofs.BegunLemmas.{rows_begun, rows_ready, wide_entries-permutation}
-use Rattle.snippet_strokes.proofs.StrokeLemmas.{strokes_drawn, strokes_none}
+use Rattle.snippet_strokes.proofs.StrokeLemmas.{strokes_drawn}
+use Rattle.snippet_strokes.proofs.NoStrokes.{strokes_none}
 use Rattle.snippet_strokes.proofs.TextLemmas.{labels_short}
 use Rattle.snippet_style.specs.Cell.{Cell}
 use Rattle.snippet_strokes.specs.Positions.{ArePlaced}

@@ -1,11 +1,12 @@
 use Rattle.std.proofs.Common.{sym, ap, ◌∙◌}
 use Rattle.std.specs.Option.{option_copied}
 use Rattle.snippet_text_form.specs.Cause.{further_indent}
-use Rattle.snippet_text_form.proofs.CauseLemmas.{one-space, two-spaces}
+use Rattle.snippet_text_form.proofs.CauseLemmas.{two-spaces}
+use Rattle.snippet_text_form.proofs.TextLemmas.{chars-space}
 use Rattle.snippet_text_form.proofs.cause.further_indent.Goals as goal
 
 pub returns-in-Some : goal.returns-in-Some
 returns-in-Some c = record { value = two-spaces ∙ sym (ap (λ path. further_indent (option_copied path)) c.in-Some.is) }
 
 pub returns-in-None : goal.returns-in-None
-returns-in-None c = record { value = one-space ∙ sym (ap (λ path. further_indent (option_copied path)) c.in-None.is) }
+returns-in-None c = record { value = chars-space ∙ sym (ap (λ path. further_indent (option_copied path)) c.in-None.is) }

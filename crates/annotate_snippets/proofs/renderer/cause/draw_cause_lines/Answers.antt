@@ -1,5 +1,4 @@
-use Rattle.std.proofs.Common.{◌≡◌, ◌∙◌, ◌+◌, ◌-◌, ◌≤◌, ◌==◌, ℕ, cond, [], All, Bool, List, ap, arith, inl, inr, length, map, refl, subst, sym}
-use Rattle.std.proofs.lemmas.Bool.{cases_Bool}
+use Rattle.std.proofs.Common.{◌≡◌, ◌∙◌, ◌+◌, ◌-◌, ◌≤◌, [], All, Bool, List, ap, arith, length, map, refl, subst, sym}
 use Rattle.std.proofs.lemmas.Result.{on_ok_weaker}
 use Rattle.std.specs.Cow.{cow_str_bytes}
 use Rattle.snippet_model.specs.declared.snippet.Annotation.{Annotation}
@@ -14,13 +13,14 @@ use Rattle.snippet_view.specs.Margin.{bounds_of}
 use Rattle.snippet_view.specs.Measures.{margin_of}
 use Rattle.snippet_strokes.specs.Snippet.{AreLinesShown}
 use Rattle.annotate_snippets.specs.Drawn.{layout_in}
-use Rattle.annotate_snippets.specs.Gutter.{code_after, numbered_source}
+use Rattle.annotate_snippets.specs.Gutter.{numbered_source}
 use Rattle.annotate_snippets.specs.Prepared.{IsCausePrepared}
 use Rattle.annotate_snippets.specs.declared.renderer.preprocess.PreparedCause.{PreparedCause}
 use Rattle.annotate_snippets.proofs.GutterLemmas.{numbers_fit}
 use Rattle.annotate_snippets.proofs.PartsFacts.{lines_labels, lines_places, lines_bar_cells, lines_texts, bounds_of_kept, shown_clear}
 use Rattle.annotate_snippets.proofs.renderer.cause.draw_cause_lines.Goals as goal
 use Rattle.annotate_snippets.proofs.renderer.cause.draw_cause_lines.Goals.{After-deref, After-deref-2}
+use Rattle.annotate_snippets.proofs.CauseShown.{code_right}
 
 -- the lines that are kept
 kept_is : (c : After-deref) → map seen_kept c.deref.result.now ≡ annotated_lines c.args.cause.snippet.now.fold (numbered_source c.args.cause.snippet.now) c.args.cause.snippet.now.markers.items
@@ -56,18 +56,10 @@ shown_is : (c : After-deref-2) → map seen_kept c.deref-2.result.now ≡ map (k
 shown_is c =
     shown_of c.args.cause c.requires.prepared c.args.cause.map refl c.in_ok-lines.lines.items c.deref-2.result.now c.deref-2.ensures.value c.in_ok-lines.ensures.value
 
--- the code stands at least three cells after the gutter
-code_at_least : (gutter depth : ℕ) → gutter + 3 ≤ code_after gutter depth
-code_at_least gutter depth =
-    elim (cases_Bool (depth == 0)) [
-      | inl none ↦ omega (arith, ap (λ b. cond b (gutter + 3) (gutter + 3 + depth + 1)) none)
-      | inr some ↦ omega (arith, ap (λ b. cond b (gutter + 3) (gutter + 3 + depth + 1)) some)
-    ]
-
 pub draw_snippet-requires-clause-place : goal.draw_snippet-requires-clause-place
 draw_snippet-requires-clause-place c =
     let s = c.args.cause.snippet.now in
-    omega (arith, code_at_least c.args.frame.gutter (deepest (numbered_source s) s.markers.items), c.requires.room.bars)
+    omega (arith, code_right c.args.frame.gutter (deepest (numbered_source s) s.markers.items), c.requires.room.bars)
 
 pub draw_snippet-requires-clause-numbers : goal.draw_snippet-requires-clause-numbers
 draw_snippet-requires-clause-numbers c =

@@ -1,7 +1,8 @@
 use Rattle.std.proofs.Common.{◌∙◌, sym, ap}
 use Rattle.snippet_style.specs.declared.glyphs.DecorStyle.TheVariants.{Ascii}
 use Rattle.snippet_suggest.specs.Glyphs.{glyph_of}
-use Rattle.snippet_suggest.proofs.GlyphLemmas.{chars-bar, chars-bar_space, chars-plus, chars-tilde}
+use Rattle.snippet_suggest.proofs.GlyphLemmas.{chars-bar_space, chars-plus, chars-tilde}
+use Rattle.snippet_style.proofs.GlyphLemmas.{chars-bar}
 use Rattle.snippet_suggest.proofs.glyphs.SuggestionGlyph.ascii.Goals as goal
 
 pub returns-in-Opening-clause-value : goal.returns-in-Opening-clause-value
