@@ -55,7 +55,7 @@ IsLineBelow Other cells = HasNoFeed cells
 -- ---- cells
 
 -- a cell of a row, or a space after its end
-at_any : (row : List Cell) → HasNoFeed row → (c : ℕ) → HoldsNoFeed (get_or row c SPACE)
+pub at_any : (row : List Cell) → HasNoFeed row → (c : ℕ) → HoldsNoFeed (get_or row c SPACE)
 at_any row all c =
     elim (cases_lt c (length row)) [
       | inl within ↦ All-get_or HoldsNoFeed row c SPACE within all
@@ -74,7 +74,7 @@ among gs ch none some =
     negated true is = cc
     negated false is = refl
 
-bar_cell : (decor : DecorStyle) (cell : Cell) → IsBarCell decor cell → HoldsNoFeed cell
+pub bar_cell : (decor : DecorStyle) (cell : Cell) → IsBarCell decor cell → HoldsNoFeed cell
 bar_cell Ascii cell is = among (bar_glyphs Ascii) cell.ch refl is.glyph
 bar_cell Unicode cell is = among (bar_glyphs Unicode) cell.ch refl is.glyph
 

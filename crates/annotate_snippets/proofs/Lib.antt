@@ -40,6 +40,7 @@ pub mod ReportTexts
 pub mod RoomLemmas
 pub mod ShortLemmas
 pub mod ShortShown
+pub mod SourceFeedLaws
 pub mod SuggestionLemmas
 pub mod SuggestionShown
 pub mod ContextLemmas

@@ -63,7 +63,7 @@ norm_plain [] plain = All-nil IsNoFeed
 norm_plain (c ∷ cs) plain =
     subst (All IsNoFeed) (sym (flat_map-cons shown c cs)) (All-append IsNoFeed (shown c) (flat_map shown cs) (shown_plain c (All-head IsNoFeed c cs plain)) (norm_plain cs (All-tail IsNoFeed c cs plain)))
 
-digit_plain : (c : ℕ) → IsDigit c → IsNoFeed c
+pub digit_plain : (c : ℕ) → IsDigit c → IsNoFeed c
 digit_plain c is = grind (arith, nat_tests)
 
 glyphs_plain : (start : FileStart) (decor : DecorStyle) → list_any (λ c. c == 10) (file_glyph start decor) ≡ false

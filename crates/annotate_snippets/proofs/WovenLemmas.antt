@@ -1,12 +1,12 @@
 -- Woven texts that are joined by line feeds are woven.
-use Rattle.std.proofs.Common.{◌≡◌, ℕ, Bool, true, false, List, [], ◌∷◌, ◌++◌, lit<, refl, sym, ap, ◌∙◌, subst}
+use Rattle.std.proofs.Common.{◌≡◌, ℕ, false, List, [], ◌∷◌, ◌++◌, lit<, refl, sym, ap, ◌∙◌, subst}
 use Rattle.std.specs.List.{flat_map, join_with_byte}
 use Rattle.std.proofs.lemmas.List.{append-nil}
 use Rattle.std.proofs.lemmas.List.Elements.{All-nil, All-append, All-cons}
 use Rattle.std.proofs.lemmas.Grind.{flat_map-append}
 use Rattle.std.proofs.lemmas.Str.{encode_ascii}
 use Rattle.snippet_grid.specs.Print.{plain_text}
-use Rattle.snippet_grid.specs.Woven.{Piece, Char, Opening, Reset, LinkTo, LinkEnd, piece_text, plain_piece, piece_link, AreLinksEnded, IsOfSheet, IsWoven, links_of}
+use Rattle.snippet_grid.specs.Woven.{Piece, Char, piece_text, plain_piece, piece_link, IsOfSheet, IsWoven, links_of}
 use Rattle.snippet_style.specs.declared.role.LevelInner.{LevelInner}
 use Rattle.snippet_style.specs.declared.stylesheet.Stylesheet.{Stylesheet}
 use Rattle.snippet_grid.proofs.WovenLemmas.{IsWoven-from_prints}

@@ -1,0 +1,141 @@
+-- A source row is a line of the text: it holds no line feed, whatever its source is, and whether it is cut or not.
+use Rattle.std.proofs.Common.{◌≡◌, ℕ, zero, suc, ◌+◌, ◌-◌, ◌<◌, ◌≤◌, ◌==◌, Bool, true, false, cond, Option, None, Some, List, [], ◌∷◌, ◌++◌, All, codes, length, take, drop, get_or, replicate, refl, sym, ap, subst, ◌∙◌, arith, inl, inr}
+use Rattle.std.specs.Cow.{cow_str_bytes}
+use Rattle.std.specs.Fmt.{decimal}
+use Rattle.std.proofs.lemmas.Bool.{cases_lt}
+use Rattle.std.proofs.lemmas.List.{get_or-drop, get_or-map, get_or-take, length-drop, length-map}
+use Rattle.std.proofs.lemmas.List.Elements.{All-append, All-cons, All-drop, All-from_get_or, All-head, All-nil, All-replicate, All-tail, All-take, All-weaker}
+use Rattle.snippet_grid.specs.Print.{row_text}
+use Rattle.snippet_style.specs.Cell.{Cell, SPACE, text_cells, written}
+use Rattle.snippet_style.specs.Glyphs.{placeholder_of, separator_of}
+use Rattle.snippet_style.specs.declared.glyphs.DecorStyle.{DecorStyle}
+use Rattle.snippet_style.specs.declared.glyphs.DecorStyle.TheVariants.{Ascii, Unicode}
+use Rattle.snippet_style.specs.declared.role.ElementStyle.TheVariants.{LineNumber}
+use Rattle.snippet_text.specs.Normalized.{norm}
+use Rattle.snippet_titles.proofs.DigitLemmas.{IsDigit, decimal-all}
+use Rattle.snippet_view.specs.Window.{AreReplaced, IsReplaced, begun_with, chars_at, covered_columns, covered_end, ended_with, inner_part, reaching, uncovered_part, window}
+use Rattle.snippet_lines.specs.Number.{shown_number}
+use Rattle.snippet_lines.specs.declared.number.LineNumbers.{LineNumbers}
+use Rattle.snippet_lines.specs.declared.number.LineNumbers.TheVariants.{Anonymized, Hidden, Shown}
+use Rattle.snippet_model.specs.declared.snippet.Annotation.{Annotation}
+use Rattle.snippet_model.specs.declared.snippet.Snippet.{Snippet}
+use Rattle.annotate_snippets.specs.declared.renderer.Renderer.{Renderer}
+use Rattle.annotate_snippets.specs.declared.renderer.frame.Frame.{Frame}
+use Rattle.annotate_snippets.specs.Gutter.{line_numbers, number_text}
+use Rattle.annotate_snippets.specs.Shown.{ShowsSourceLine, bounds_in, cells_left, room_of, wide_spans}
+use Rattle.annotate_snippets.proofs.FeedLaws.{HasNoFeed, HoldsNoFeed, IsNoFeed, at_any, bar_cell}
+use Rattle.annotate_snippets.proofs.PathFeedLaws.{alone, cells_plain, digit_plain, norm_plain}
+
+-- ---- windows
+
+placeholder_plain : (decor : DecorStyle) → All IsNoFeed (placeholder_of decor)
+placeholder_plain Ascii = All-cons IsNoFeed 46 (46 ∷ 46 ∷ []) refl (All-cons IsNoFeed 46 (46 ∷ []) refl (alone 46 refl))
+placeholder_plain Unicode = alone 0x2026 refl
+
+written_plain : (xs : List ℕ) (at : ℕ) (new : List ℕ) → All IsNoFeed xs → All IsNoFeed new → All IsNoFeed (written 32 xs at new)
+unfolding written
+written_plain xs at new plain own =
+    let blanks : List ℕ = replicate (at - length xs) 32 in
+    let before : All IsNoFeed (take at (xs ++ blanks)) = All-take IsNoFeed at (xs ++ blanks) (All-append IsNoFeed xs blanks plain (All-replicate IsNoFeed (at - length xs) 32 refl)) in
+    All-append IsNoFeed (take at (xs ++ blanks) ++ new) (drop (at + length new) xs) (All-append IsNoFeed (take at (xs ++ blanks)) new before own) (All-drop IsNoFeed (at + length new) xs plain)
+
+begun_plain : (placeholder : List ℕ) (columns : Option ℕ) (text : List ℕ) → All IsNoFeed placeholder → All IsNoFeed text → All IsNoFeed (begun_with placeholder columns text)
+begun_plain placeholder None text own plain = plain
+begun_plain placeholder (Some columns) text own plain =
+    either (length text == 0) placeholder (written 32 placeholder columns text) own (written_plain placeholder columns text own plain)
+  where
+    either : (b : Bool) (xs ys : List ℕ) → All IsNoFeed xs → All IsNoFeed ys → All IsNoFeed (cond b xs ys)
+    either true xs ys one other = one
+    either false xs ys one other = other
+
+ended_plain : (placeholder : List ℕ) (at : Option ℕ) (text : List ℕ) → All IsNoFeed placeholder → All IsNoFeed text → All IsNoFeed (ended_with placeholder at text)
+ended_plain placeholder None text own plain = plain
+ended_plain placeholder (Some at) text own plain = written_plain text at placeholder plain own
+
+uncovered_plain : (left : ℕ) (placeholder inner : List ℕ) → All IsNoFeed inner → All IsNoFeed (uncovered_part left placeholder inner)
+uncovered_plain left placeholder inner plain =
+    either (left == 0) inner (drop (reaching _ inner) inner) plain (All-drop IsNoFeed _ inner plain)
+  where
+    either : (b : Bool) (xs ys : List ℕ) → All IsNoFeed xs → All IsNoFeed ys → All IsNoFeed (cond b xs ys)
+    either true xs ys one other = one
+    either false xs ys one other = other
+
+-- the window of a text that holds no line feed holds none
+pub window_plain : (placeholder : List ℕ) (room left right : ℕ) (text : List ℕ) → All IsNoFeed placeholder → All IsNoFeed text → All IsNoFeed (window placeholder room left right text)
+window_plain placeholder room left right text own plain =
+    let inner : List ℕ = inner_part room left right text in
+    let kept : All IsNoFeed inner = All-take IsNoFeed _ _ (All-drop IsNoFeed _ text plain) in
+    ended_plain placeholder (covered_end room left right placeholder text) _ own (begun_plain placeholder (covered_columns left placeholder inner) _ own (uncovered_plain left placeholder inner kept))
+
+-- and neither does one of which stretches gave their place to a placeholder
+pub replaced_plain : (placeholder : List ℕ) (n : ℕ) (before after : List ℕ) → All IsNoFeed placeholder → AreReplaced placeholder n before after → All IsNoFeed before → All IsNoFeed after
+replaced_plain placeholder zero before after own is plain = subst (All IsNoFeed) (sym is) plain
+replaced_plain placeholder (suc n) before after own (inl same) plain = subst (All IsNoFeed) (sym same) plain
+replaced_plain placeholder (suc n) before after own (inr replaced) plain =
+    let cut : IsReplaced placeholder before replaced.0 = replaced.1 in
+    let whole : All IsNoFeed (cut.front ++ cut.stretch ++ cut.back) = subst (All IsNoFeed) cut.before_is plain in
+    let front : All IsNoFeed cut.front = left_of cut.front cut.stretch (left_of (cut.front ++ cut.stretch) cut.back whole) in
+    let back : All IsNoFeed cut.back = right_of (cut.front ++ cut.stretch) cut.back whole in
+    let now : All IsNoFeed replaced.0 = subst (All IsNoFeed) (sym cut.after_is) (All-append IsNoFeed (cut.front ++ placeholder) cut.back (All-append IsNoFeed cut.front placeholder front own) back) in
+    replaced_plain placeholder n replaced.0 after own replaced.2 now
+  where
+    left_of : (xs ys : List ℕ) → All IsNoFeed (xs ++ ys) → All IsNoFeed xs
+    left_of [] ys all = All-nil IsNoFeed
+    left_of (x ∷ xs) ys all = All-cons IsNoFeed x xs (All-head IsNoFeed x (xs ++ ys) all) (left_of xs ys (All-tail IsNoFeed x (xs ++ ys) all))
+
+    right_of : (xs ys : List ℕ) → All IsNoFeed (xs ++ ys) → All IsNoFeed ys
+    right_of [] ys all = all
+    right_of (x ∷ xs) ys all = right_of xs ys (All-tail IsNoFeed x (xs ++ ys) all)
+
+-- ---- the row
+
+number_plain : (numbers : LineNumbers) (gutter n : ℕ) → All IsNoFeed (shown_number numbers gutter n)
+number_plain Shown gutter n =
+    All-append IsNoFeed (replicate (gutter - length (decimal n)) 32) (decimal n) (All-replicate IsNoFeed (gutter - length (decimal n)) 32 refl) (All-weaker IsDigit IsNoFeed digit_plain (decimal n) (decimal-all n))
+number_plain Anonymized gutter n =
+    All-append IsNoFeed (replicate (gutter - 2) 32) (codes "LL") (All-replicate IsNoFeed (gutter - 2) 32 refl) (All-cons IsNoFeed 76 (76 ∷ []) refl (alone 76 refl))
+number_plain Hidden gutter n = All-replicate IsNoFeed gutter 32 refl
+
+separator_plain : (decor : DecorStyle) → All IsNoFeed (separator_of decor ∷ [])
+separator_plain Ascii = alone 124 refl
+separator_plain Unicode = alone 0x2502 refl
+
+left_plain : (decor : DecorStyle) (gutter : ℕ) (shown : List ℕ) → All IsNoFeed shown → HasNoFeed (cells_left decor gutter shown)
+left_plain decor gutter shown plain =
+    let spaces : List Cell = replicate (gutter + 1 - length shown) SPACE in
+    let end : List Cell = text_cells LineNumber (separator_of decor ∷ []) in
+    All-append HoldsNoFeed (text_cells LineNumber shown) (spaces ++ end) (cells_plain LineNumber shown plain) (All-append HoldsNoFeed spaces end (All-replicate HoldsNoFeed (gutter + 1 - length shown) SPACE refl) (cells_plain LineNumber (separator_of decor ∷ []) (separator_plain decor)))
+
+-- a row whose characters from a cell on hold none has none there
+code_plain : (code : ℕ) (row : List Cell) → All IsNoFeed (row_text (drop code row)) → (c : ℕ) → code ≤ c → c < length row → HoldsNoFeed (get_or row c SPACE)
+code_plain code row plain c right within =
+    let n : ℕ = c - code in
+    let inside : n < length (drop code row) = omega (arith, within, right, length-drop code row) in
+    let Ch : Cell → ℕ = λ cell. cell.ch in
+    let holds : IsNoFeed (get_or (row_text (drop code row)) n 32) = plain n 32 (omega (arith, inside, length-map (drop code row) Ch)) in
+    let same : get_or (row_text (drop code row)) n 32 ≡ Ch (get_or (drop code row) n SPACE) = get_or-map Ch (drop code row) n SPACE 32 inside in
+    let there : get_or (drop code row) n SPACE ≡ get_or row (code + n) SPACE = get_or-drop code row n SPACE in
+    let at : code + n ≡ c = omega (arith, right) in
+    subst IsNoFeed (same ∙ ap Ch (there ∙ ap (λ i. get_or row i SPACE) at)) holds
+
+-- a source row holds no line feed where the characters of its line hold none, and that is so where stretches gave their place to a
+-- placeholder too
+pub source_one_line : (r : Renderer) (frame : Frame) (s : Snippet Annotation) (k dropped : ℕ) (row : List Cell) → ShowsSourceLine r frame s k dropped row → All IsNoFeed (chars_at (cow_str_bytes s.source) k) → HasNoFeed row
+source_one_line r frame s k dropped row shows plain =
+    let own : All IsNoFeed (placeholder_of r.decor_style) = placeholder_plain r.decor_style in
+    let text : All IsNoFeed (row_text (drop frame.code row)) = replaced_plain (placeholder_of r.decor_style) (wide_spans (room_of r frame) (length (placeholder_of r.decor_style)) s k) (window (placeholder_of r.decor_style) (room_of r frame) (bounds_in r frame s).left (bounds_in r frame s).right (norm (chars_at (cow_str_bytes s.source) k))) (row_text (drop frame.code row)) own shows.window.shown_is (window_plain (placeholder_of r.decor_style) (room_of r frame) (bounds_in r frame s).left (bounds_in r frame s).right (norm (chars_at (cow_str_bytes s.source) k)) own (norm_plain (chars_at (cow_str_bytes s.source) k) plain)) in
+    let number : List ℕ = number_text r s.line_numbering frame.gutter (s.line_start + k) in
+    let left : HasNoFeed (cells_left r.decor_style frame.gutter number) = left_plain r.decor_style frame.gutter number (number_plain (line_numbers r s.line_numbering) frame.gutter (s.line_start + k)) in
+    All-from_get_or HoldsNoFeed row SPACE (λ c within. elim (cases_lt c (frame.gutter + 2)) [
+      | inl before ↦ subst HoldsNoFeed (ap (λ cells. get_or cells c SPACE) (sym shows.left) ∙ get_or-take (frame.gutter + 2) row c SPACE before) (at_any (cells_left r.decor_style frame.gutter number) left c)
+      | inr after ↦ elim (cases_lt c frame.code) [
+        | inr right ↦ code_plain frame.code row text c (omega (arith, right)) within
+        | inl bars ↦ elim (cases_lt c (frame.gutter + 3)) [
+          | inl gap ↦ subst HoldsNoFeed (sym (ap (λ n. get_or row n SPACE) (at_gap c (omega (arith, after)) gap) ∙ shows.space)) refl
+          | inr past ↦ bar_cell r.decor_style (get_or row c SPACE) (shows.bars c (omega (arith, past)) bars)
+        ]
+      ]
+    ])
+  where
+    at_gap : (c : ℕ) → frame.gutter + 2 ≤ c → c < frame.gutter + 3 → c ≡ frame.gutter + 2
+    at_gap c from to = omega (arith, from, to)
