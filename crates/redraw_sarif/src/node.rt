@@ -210,3 +210,8 @@ impl<'v> Node<'v, '_> {
         }
     }
 }
+
+/// The text in the field of this name, if one stands there; where there is none, nothing is reported.
+pub fn text_field<'v>(object: &'v Value, name: &str) -> Option<&'v str> {
+    object.get(name)?.as_str()
+}
