@@ -114,11 +114,11 @@ impl<'v> Node<'v, '_> {
 
     /// Whether the value is an object.
     pub fn is_object(&self, troubles: &mut Troubles) -> bool {
-        let is_object = self.value.is_object();
-        if !is_object {
-            self.tell(troubles, Expectation::Object);
+        if self.value.is_object() {
+            return true;
         }
-        is_object
+        self.tell(troubles, Expectation::Object);
+        false
     }
 
     /// The object in the field of this name, which has to be there.

@@ -54,8 +54,8 @@ pub fn rule_of<'v>(run: &'v Value, reported: &Node<'v, '_>, troubles: &mut Troub
         None => own,
     };
     let component = component_of(run, reported.value);
-    let rules: &'v [Value] = match rules_of(component) {
-        Some(rules) => rules.as_slice(),
+    let rules: &'v [Value] = match component {
+        Some(component) => rules_of(component),
         None => &[],
     };
     let rule = match index {
@@ -83,8 +83,11 @@ fn extension_of(reported: &Value) -> Option<u64> {
 }
 
 /// The rules of a component.
-fn rules_of<'v>(component: Option<&'v Value>) -> Option<&'v Vec<Value>> {
-    component?.get("rules")?.as_array()
+fn rules_of(component: &Value) -> &[Value] {
+    match component.get("rules") {
+        Some(Value::Array(rules)) => rules.as_slice(),
+        _ => &[],
+    }
 }
 
 /// The id of the rule as a result has it.
