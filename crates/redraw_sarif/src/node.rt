@@ -114,11 +114,11 @@ impl<'v> Node<'v, '_> {
 
     /// Whether the value is an object.
     pub fn is_object(&self, troubles: &mut Troubles) -> bool {
-        let is_object = self.value.is_object();
-        if !is_object {
-            self.tell(troubles, Expectation::Object);
+        if self.value.is_object() {
+            return true;
         }
-        is_object
+        self.tell(troubles, Expectation::Object);
+        false
     }
 
     /// The object in the field of this name, which has to be there.
@@ -209,4 +209,9 @@ impl<'v> Node<'v, '_> {
             }
         }
     }
+}
+
+/// The text in the field of this name, if one stands there; where there is none, nothing is reported.
+pub fn text_field<'v>(object: &'v Value, name: &str) -> Option<&'v str> {
+    object.get(name)?.as_str()
 }

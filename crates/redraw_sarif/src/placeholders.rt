@@ -67,10 +67,15 @@ fn start(out: &mut String, c: char) -> Result<Pending, AllocError> {
 
 /// Writes the argument with this number; the placeholder itself where there is none.
 fn write_argument(out: &mut String, number: usize, arguments: &[Value]) -> Result<(), AllocError> {
-    match arguments.get(number).and_then(Value::as_str) {
+    match argument_at(arguments, number) {
         Some(argument) => out.push_str(argument),
         None => write!(out, "{{{number}}}"),
     }
+}
+
+/// The argument with this number, if there is one that is a text.
+fn argument_at(arguments: &[Value], number: usize) -> Option<&str> {
+    arguments.get(number)?.as_str()
 }
 
 /// Writes what was no placeholder.

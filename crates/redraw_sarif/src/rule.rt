@@ -1,7 +1,7 @@
 //! The rule that a result breaks, and how severe that is.
 
 use crate::expectation::Expectation;
-use crate::node::{Node, Troubles};
+use crate::node::{Node, Troubles, text_field};
 use redraw_report::diagnostic::{Code, Severity};
 use serde_json::Value;
 use std::alloc::{AllocError, Global};
@@ -18,7 +18,7 @@ pub struct Rule<'v> {
 impl<'v> Rule<'v> {
     /// A text of the rule by its name.
     fn text(&self, name: &str) -> Option<&'v str> {
-        self.rule?.get(name)?.as_str()
+        text_field(self.rule?, name)
     }
 
     /// The text of the rule's, or else of the component's, message strings by this name.
@@ -31,19 +31,19 @@ impl<'v> Rule<'v> {
 
     /// What the rule says of itself in short.
     pub fn description(&self) -> Option<&'v str> {
-        self.rule?.get("shortDescription")?.get("text")?.as_str()
+        text_field(self.rule?.get("shortDescription")?, "text")
     }
 
     /// The severity of results that don't say theirs.
     fn severity(&self) -> Option<Severity> {
         let configuration = self.rule?.get("defaultConfiguration")?;
-        severity_by_name(configuration.get("level")?.as_str()?)
+        severity_by_name(text_field(configuration, "level")?)
     }
 }
 
 /// The text of the message string of this id in an object's strings.
 fn text_of_string<'v>(object: Option<&'v Value>, strings: &str, id: &str) -> Option<&'v str> {
-    object?.get(strings)?.get(id)?.get("text")?.as_str()
+    text_field(object?.get(strings)?.get(id)?, "text")
 }
 
 /// The rule of a result: by its number, or else by its id. Where it is the number of no rule, that is reported.
@@ -54,7 +54,10 @@ pub fn rule_of<'v>(run: &'v Value, reported: &Node<'v, '_>, troubles: &mut Troub
         None => own,
     };
     let component = component_of(run, reported.value);
-    let rules = rules_of(component).unwrap_or(&[]);
+    let rules: &'v [Value] = match component {
+        Some(component) => rules_of(component),
+        None => &[],
+    };
     let rule = match index {
         Some(index) => rules.get(index),
         None => rule_by_id(rules, id_of(reported.value).unwrap_or("")),
@@ -76,23 +79,22 @@ fn component_of<'v>(run: &'v Value, reported: &Value) -> Option<&'v Value> {
 
 /// The number of the extension that a result names.
 fn extension_of(reported: &Value) -> Option<u64> {
-    reported
-        .get("rule")?
-        .get("toolComponent")?
-        .get("index")?
-        .as_u64()
+    reported.pointer("/rule/toolComponent/index")?.as_u64()
 }
 
 /// The rules of a component.
-fn rules_of<'v>(component: Option<&'v Value>) -> Option<&'v [Value]> {
-    Some(component?.get("rules")?.as_array()?.as_slice())
+fn rules_of(component: &Value) -> &[Value] {
+    match component.get("rules") {
+        Some(Value::Array(rules)) => rules.as_slice(),
+        _ => &[],
+    }
 }
 
 /// The id of the rule as a result has it.
 fn id_of(reported: &Value) -> Option<&str> {
     match reported.get("ruleId") {
         Some(id) => id.as_str(),
-        None => reported.get("rule")?.get("id")?.as_str(),
+        None => text_field(reported.get("rule")?, "id"),
     }
 }
 
@@ -113,7 +115,7 @@ fn rule_by_id<'v>(rules: &'v [Value], id: &str) -> Option<&'v Value> {
 
 /// How long the id of a rule is, if it is this id or the part of it before a slash.
 fn length_of_part(rule: &Value, id: &str) -> Option<usize> {
-    let own = rule.get("id")?.as_str()?;
+    let own = text_field(rule, "id")?;
     let rest = id.strip_prefix(own)?;
     if rest.is_empty() || rest.starts_with('/') {
         Some(own.len())

@@ -5,7 +5,7 @@ use crate::fixes::children_of;
 use crate::location::{Context, add_spans};
 use crate::message::text_in;
 use crate::node::{List, Node, Place, Troubles};
-use crate::rule::{code_of, rule_of, severity_of};
+use crate::rule::{Rule, code_of, rule_of, severity_of};
 use redraw_report::diagnostic::{Diagnostic, FileSpan, Unit};
 use serde_json::Value;
 use std::alloc::{AllocError, Global};
@@ -102,10 +102,15 @@ fn message_of(
 ) -> Result<String, AllocError> {
     match text_in(context.alloc, reported, "message", &context.rule, troubles)? {
         Some(text) => Ok(text),
-        None => {
-            let text = context.rule.description().unwrap_or(NO_MESSAGE);
-            String::from_str(context.alloc, text)
-        }
+        None => String::from_str(context.alloc, description_of(&context.rule)),
+    }
+}
+
+/// What a rule says of itself, or that there is no message.
+fn description_of<'v>(rule: &Rule<'v>) -> &'v str {
+    match rule.description() {
+        Some(text) => text,
+        None => NO_MESSAGE,
     }
 }
 

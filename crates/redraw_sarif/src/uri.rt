@@ -1,13 +1,16 @@
 //! The files that a log names by addresses.
 
 use crate::expectation::Expectation;
-use crate::node::{Node, Troubles};
+use crate::node::{Node, Troubles, text_field};
 use percent_encoding::percent_decode;
 use serde_json::Value;
 use std::alloc::{AllocError, Global};
 
 /// How many bases may stand on one another. A log whose bases go in a circle has no end of them.
 const BASES: usize = 16;
+
+/// The field of a location that names the base that it is relative to.
+const BASE: &str = "uriBaseId";
 
 /// An address, and the base that it is relative to.
 #[derive(Clone, Copy)]
@@ -47,14 +50,9 @@ fn address_of<'v>(run: &'v Value, location: &'v Value) -> Option<Address<'v>> {
         }
     };
     Some(Address {
-        uri: named.get("uri")?.as_str()?,
-        base: base_of(named),
+        uri: text_field(named, "uri")?,
+        base: text_field(named, BASE),
     })
-}
-
-/// The name of the base that a location is relative to.
-fn base_of(location: &Value) -> Option<&str> {
-    location.get("uriBaseId")?.as_str()
 }
 
 /// The path that an address names, after its base, which may have a base itself. A base without an address adds nothing.
@@ -65,10 +63,10 @@ fn path_at(alloc: Global, run: &Value, address: Address<'_>) -> Result<String, A
         let Some(location) = base_location(run, base) else {
             break;
         };
-        if let Some(before) = uri_of(location) {
+        if let Some(before) = text_field(location, "uri") {
             whole = joined(alloc, before, whole.as_str())?;
         }
-        base = base_of(location);
+        base = text_field(location, BASE);
     }
     decoded(alloc, local(whole.as_str()))
 }
@@ -76,11 +74,6 @@ fn path_at(alloc: Global, run: &Value, address: Address<'_>) -> Result<String, A
 /// The location of the base of this name.
 fn base_location<'v>(run: &'v Value, id: Option<&str>) -> Option<&'v Value> {
     run.get("originalUriBaseIds")?.get(id?)
-}
-
-/// The address of a location.
-fn uri_of(location: &Value) -> Option<&str> {
-    location.get("uri")?.as_str()
 }
 
 /// An address below another one.
