@@ -1,15 +1,19 @@
 -- The definitions, computed on small inputs.
-use Rattle.std.proofs.Common.{◌≡◌, ℕ, ◌==◌, true, false, None, [], ◌∷◌, refl}
+use Rattle.std.proofs.Common.{◌≡◌, ℕ, ◌==◌, true, false, None, [], ◌∷◌, ◌++◌, refl}
 use Rattle.std.specs.List.{list_any}
 use Rattle.std.specs.declared.alloc.Global.{Global}
 use Rattle.std.specs.declared.borrow.CowStr.{CowStr}
 use Rattle.snippet_lines.specs.Order.{ordered_by}
 use Rattle.snippet_model.specs.declared.snippet.AnnotationKind.{AnnotationKind}
 use Rattle.snippet_model.specs.declared.snippet.AnnotationKind.TheVariants.{Primary, Context}
+use Rattle.snippet_grid.specs.Grid.{replaced_within}
+use Rattle.snippet_style.specs.Cell.{text_cells}
 use Rattle.snippet_style.specs.declared.glyphs.DecorStyle.TheVariants.{Ascii, Unicode}
+use Rattle.snippet_style.specs.declared.role.ElementStyle.TheVariants.{LineNumber, Quotation}
 use Rattle.snippet_view.specs.declared.entries.LineAnnotation.{LineAnnotation}
 use Rattle.snippet_view.specs.declared.entries.LineAnnotationType.TheVariants.{Singleline}
 use Rattle.snippet_strokes.specs.declared.positions.PlacedEntry.{PlacedEntry}
+use Rattle.snippet_strokes.specs.Cuts.{cut_row, end_columns, overlapped_by}
 use Rattle.snippet_strokes.specs.Labels.{stroke_glyphs}
 use Rattle.snippet_strokes.specs.Painting.{painting_order}
 use Rattle.snippet_strokes.specs.Positions.{is_placed_before}
@@ -42,3 +46,31 @@ stem_of_strokes = refl
 
 letter_of_none : list_any (λ g. 120 == g) (stroke_glyphs Ascii) ≡ false
 letter_of_none = refl
+
+-- of three marks, from right to left, where all are looked at for each: the two farthest right count for no one, and the third overlaps itself
+-- `          ^^^^^`
+-- `        -----`
+-- `  ^^^`
+two_do_not_count : (label : CowStr Global) → let marks = placed label Primary 10 15 ∷ placed label Context 8 13 ∷ placed label Primary 2 5 ∷ [] in overlapped_by marks (3 ∷ 3 ∷ 3 ∷ []) 0 marks ≡ false ∷ false ∷ true ∷ []
+two_do_not_count label = refl
+
+-- but where the place of no label is sought beyond the mark before it, the third isn't looked at
+looked_at_no_more : (label : CowStr Global) → let marks = placed label Primary 10 15 ∷ placed label Context 8 13 ∷ placed label Primary 2 5 ∷ [] in overlapped_by marks (2 ∷ 2 ∷ 2 ∷ []) 0 marks ≡ false ∷ false ∷ false ∷ []
+looked_at_no_more label = refl
+
+-- a third of the room stays at each end of what is cut, and five columns at least
+third_stays : end_columns 24 ≡ 8
+third_stays = refl
+
+five_stay : end_columns 9 ≡ 5
+five_stay = refl
+
+-- the placeholder stands in place of the cells that are cut: `ab...gh` for `abcdefgh`
+cut_in_the_middle : cut_row Ascii (record { from = 2; to = 6 } ∷ []) (text_cells Quotation (97 ∷ 98 ∷ 99 ∷ 100 ∷ 101 ∷ 102 ∷ 103 ∷ 104 ∷ [])) ≡ text_cells Quotation (97 ∷ 98 ∷ []) ++ text_cells LineNumber (46 ∷ 46 ∷ 46 ∷ []) ++ text_cells Quotation (103 ∷ 104 ∷ [])
+unfolding replaced_within
+cut_in_the_middle = refl
+
+-- a stretch that the row doesn't hold stays
+cut_past_the_end : cut_row Ascii (record { from = 1; to = 3 } ∷ []) (text_cells Quotation (97 ∷ 98 ∷ [])) ≡ text_cells Quotation (97 ∷ 98 ∷ [])
+unfolding replaced_within
+cut_past_the_end = refl
