@@ -191,13 +191,13 @@ or-assoc true b c = refl
 or-assoc false b c = refl
 
 -- one more span
-pub covered-more : (p : ℕ → Annotation → Bool) (marks : List Annotation) (i : ℕ) (d : Annotation) (before after : List ℕ) → i < length marks
+pub covered-more : {A : Type 0} (p : ℕ → A → Bool) (marks : List A) (i : ℕ) (d : A) (before after : List ℕ) → i < length marks
     → ((k : ℕ) → is_covered after k ≡ (is_covered before k || p k (get_or marks i d)))
     → ((k : ℕ) → is_covered before k ≡ list_any (p k) (take i marks)) → (k : ℕ) → is_covered after k ≡ list_any (p k) (take (i + 1) marks)
 covered-more p marks i d before after within more so_far k = more k ∙ ap (λ b. b || p k (get_or marks i d)) (so_far k) ∙ sym (list_any_more (p k) marks i d within)
 
 -- all spans
-pub covered-all : (p : ℕ → Annotation → Bool) (marks : List Annotation) (i n : ℕ) (reach : List ℕ) (lent : List ℕ) → length marks ≤ i
+pub covered-all : {A : Type 0} (p : ℕ → A → Bool) (marks : List A) (i n : ℕ) (reach : List ℕ) (lent : List ℕ) → length marks ≤ i
     → length reach ≡ n → lent ≡ reach → ((k : ℕ) → is_covered reach k ≡ list_any (p k) (take i marks))
     → map (is_covered lent) (range_with_len 0 (length lent)) ≡ map (λ k. list_any (p k) marks) (range_with_len 0 n)
 covered-all p marks i n reach lent all len is so_far =
@@ -226,7 +226,7 @@ line-left p i now fails before =
     before ∙ sym (filter-more p i ∙ ap (λ b. filter p (range_with_len 0 i) ++ cond b (i ∷ []) []) fails ∙ append-nil (filter p (range_with_len 0 i)))
 
 -- with all spans
-pub kept-all : (p : ℕ → Annotation → Bool) (marks : List Annotation) (fold : Bool) (i n : ℕ) (reach lent : List ℕ) → length marks ≤ i
+pub kept-all : {A : Type 0} (p : ℕ → A → Bool) (marks : List A) (fold : Bool) (i n : ℕ) (reach lent : List ℕ) → length marks ≤ i
     → length reach ≡ n → lent ≡ reach → ((k : ℕ) → is_covered reach k ≡ list_any (p k) (take i marks))
     → filter (λ k. not fold || is_covered lent k) (range_with_len 0 (length lent)) ≡ filter (λ k. not fold || list_any (p k) marks)
     (range_with_len 0 n)

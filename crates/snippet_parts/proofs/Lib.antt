@@ -2,6 +2,7 @@ pub mod BarLemmas
 pub mod BestLemmas
 pub mod EntryLemmas
 pub mod KeptLemmas
+pub mod LocatedLemmas
 pub mod LongLemmas
 pub mod OnLineLemmas
 pub mod StartLemmas

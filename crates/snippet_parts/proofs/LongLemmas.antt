@@ -67,8 +67,8 @@ fit-long s a l ordered seen display end char long =
     }
 
 -- the order of the code's spans is that of what is seen of them
-pub long_spans-is : (s : Source) (given sorted : List LongSpan) (marks : List Annotation) → sorted ≡ ordered_by long_before given → map seen_long given ≡ map (long_entry s) (filter (is_long s.text) marks) → map seen_long sorted ≡ long_spans s marks
-long_spans-is s given sorted marks is seen = ap (map seen_long) is ∙ map-ordered_by seen_long stands_before given ∙ ap (ordered_by stands_before) seen
+pub long_spans-is : (given sorted : List LongSpan) (es : List Entry) → sorted ≡ ordered_by long_before given → map seen_long given ≡ es → map seen_long sorted ≡ ordered_by stands_before es
+long_spans-is given sorted es is seen = ap (map seen_long) is ∙ map-ordered_by seen_long stands_before given ∙ ap (ordered_by stands_before) seen
 
 -- spans in their order are ordered by the lines on which they start
 pub long-ordered : (xs : List LongSpan) → IsSortedBy long_before xs → IsNonDecreasingBy (λ (l : LongSpan). l.start.line) xs

@@ -1,3 +1,4 @@
 pub mod LineTable
+pub mod Located
 pub mod LongSpans
 pub mod Stretches

@@ -7,12 +7,13 @@ ghost use Rattle.snippet_view.specs.Annotated as spec;
 ghost use Rattle.snippet_view.specs.Annotated.{seen_part};
 ghost use Rattle.snippet_view.specs.Depths.{depth_among, same_place};
 ghost use Rattle.snippet_parts.specs.LongSpans.{seen_long, HasFit};
-ghost use Rattle.snippet_lines.specs.Span.{IsSpan};
+ghost use Rattle.snippet_parts.specs.Located.{IsLocated, annotations_of};
 
+use crate::located::LocatedSpan;
 use crate::long_spans::{LongSpan, long_spans, places, starting_on};
 use crate::made_entries::{push_span_entries, single_entries};
 use crate::source_map::SourceMap;
-use snippet_model::snippet::{Annotation, AnnotationKind};
+use snippet_model::snippet::AnnotationKind;
 use snippet_view::LineAnnotation;
 use snippet_view::depths::depths;
 use std::alloc::{AllocError, Global};
@@ -24,14 +25,14 @@ use std::alloc::{AllocError, Global};
 pub(crate) fn made_entries<'a>(
     alloc: Global,
     source: &SourceMap<'a>,
-    annotations: &'a [Annotation<'a>],
+    located: &[LocatedSpan<'a>],
 ) -> Result<(usize, Vec<LineAnnotation<'a>>), AllocError>
-    requires spans { All (λ a. IsSpan source.now.text a.span.start a.span.end) annotations.now }
-    ensures deepest { IfOk result (λ made. made.0 ≡ spec.deepest source.now annotations.now) }
-    ensures value { IfOk result (λ made. map seen_part made.1.items ≡ spec.made_parts source.now annotations.now) }
+    requires located { All (IsLocated source.now) located.now }
+    ensures deepest { IfOk result (λ made. made.0 ≡ spec.deepest source.now (annotations_of located.now)) }
+    ensures value { IfOk result (λ made. map seen_part made.1.items ≡ spec.made_parts source.now (annotations_of located.now)) }
 {
-    let mut entries = single_entries(alloc, source, annotations)?;
-    let spans = long_spans(alloc, source, annotations)?;
+    let mut entries = single_entries(alloc, located)?;
+    let spans = long_spans(alloc, located)?;
     let places = places(alloc, &spans)?;
     let (greatest, depths) = depths(alloc, &places)?;
     push_long_entries(&mut entries, source, &spans, &depths)?;

@@ -5,9 +5,11 @@ ghost use Rattle.snippet_view.specs.Annotated as spec;
 ghost use Rattle.snippet_view.specs.Annotated.{seen_part, seen_kept};
 ghost use Rattle.snippet_lines.specs.Lines.{source_lines, text_at};
 ghost use Rattle.snippet_lines.specs.Span.{IsSpan};
+ghost use Rattle.snippet_parts.specs.Located.{IsLocated, annotations_of};
 
 use crate::all_entries::made_entries;
 use crate::kept::{kept_lines, seen};
+use crate::located::{LocatedSpan, located_spans};
 use crate::source_map::SourceMap;
 use snippet_model::snippet::Annotation;
 use snippet_view::{AnnotatedLineInfo, LineAnnotation};
@@ -26,9 +28,24 @@ pub(crate) fn annotated_lines<'a>(
     ensures deepest { IfOk result (λ drawn. drawn.0 ≡ spec.deepest source.now annotations.now) }
     ensures lines { IfOk result (λ drawn. map seen_kept drawn.1.items ≡ spec.annotated_lines fold source.now annotations.now) }
 {
-    let (greatest, entries) = sorted_entries(alloc, source, annotations)?;
-    let kept = kept_lines(alloc, source, annotations, fold)?;
-    let keep = seen(alloc, source, annotations)?;
+    let located = located_spans(alloc, source, annotations)?;
+    located_lines(alloc, source, &located, fold)
+}
+
+/// The same of spans whose places are known.
+fn located_lines<'a>(
+    alloc: Global,
+    source: &SourceMap<'a>,
+    located: &[LocatedSpan<'a>],
+    fold: bool,
+) -> Result<(usize, Vec<AnnotatedLineInfo<'a>>), AllocError>
+    requires located { All (IsLocated source.now) located.now }
+    ensures deepest { IfOk result (λ drawn. drawn.0 ≡ spec.deepest source.now (annotations_of located.now)) }
+    ensures lines { IfOk result (λ drawn. map seen_kept drawn.1.items ≡ spec.annotated_lines fold source.now (annotations_of located.now)) }
+{
+    let (greatest, entries) = sorted_entries(alloc, source, located)?;
+    let kept = kept_lines(alloc, source, located, fold)?;
+    let keep = seen(alloc, source, located)?;
     let mut lines = Vec::with_capacity(alloc, kept.len())?;
     for line in &kept {
         let index = *line;
@@ -51,15 +68,15 @@ fn flag_at(flags: &[bool], index: usize) -> bool
 fn sorted_entries<'a>(
     alloc: Global,
     source: &SourceMap<'a>,
-    annotations: &'a [Annotation<'a>],
+    located: &[LocatedSpan<'a>],
 ) -> Result<(usize, Vec<LineAnnotation<'a>>), AllocError>
-    requires spans { All (λ a. IsSpan source.now.text a.span.start a.span.end) annotations.now }
-    ensures deepest { IfOk result (λ made. made.0 ≡ spec.deepest source.now annotations.now) }
+    requires located { All (IsLocated source.now) located.now }
+    ensures deepest { IfOk result (λ made. made.0 ≡ spec.deepest source.now (annotations_of located.now)) }
     ensures sorted { IfOk result (λ made. IsNonDecreasingBy (λ e. e.start.line) made.1.items) }
     ensures value { IfOk result (λ made. (k : ℕ) → filter (λ p. p.entry.start.line == source.now.first + k) (map seen_part made.1.items)
-        ≡ spec.parts_on source.now annotations.now k) }
+        ≡ spec.parts_on source.now (annotations_of located.now) k) }
 {
-    let (greatest, mut entries) = made_entries(alloc, source, annotations)?;
+    let (greatest, mut entries) = made_entries(alloc, source, located)?;
     entries.sort_by_key(|entry| entry.start.line)?;
     Ok((greatest, entries))
 }

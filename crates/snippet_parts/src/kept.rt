@@ -6,13 +6,13 @@ ghost use Rattle.snippet_view.specs.Kept.{keeps};
 ghost use Rattle.snippet_view.specs.Mark as spec;
 ghost use Rattle.snippet_lines.specs.Lines.{source_lines};
 ghost use Rattle.snippet_view.specs.Marked.{first_line, last_line};
-ghost use Rattle.snippet_lines.specs.Span.{IsSpan};
+ghost use Rattle.snippet_parts.specs.Located.{IsLocated, annotations_of};
 ghost use Rattle.snippet_parts.specs.Stretches.{holds, is_covered, is_seen};
 
 use crate::bars::{bars_end, has_closing_bar};
+use crate::located::LocatedSpan;
 use crate::mark::is_marking;
 use crate::source_map::SourceMap;
-use snippet_model::snippet::Annotation;
 use std::alloc::{AllocError, Global};
 
 /// Lines from the first to the last, both counted.
@@ -28,16 +28,16 @@ struct Stretch {
 pub(crate) fn kept_lines(
     alloc: Global,
     source: &SourceMap<'_>,
-    annotations: &[Annotation<'_>],
+    located: &[LocatedSpan<'_>],
     fold: bool,
 ) -> Result<Vec<usize>, AllocError>
-    requires spans { All (λ a. IsSpan source.now.text a.span.start a.span.end) annotations.now }
-    ensures value { IfOk result (λ lines. lines.items ≡ kept.kept_lines fold source.now.text annotations.now) }
+    requires located { All (IsLocated source.now) located.now }
+    ensures value { IfOk result (λ lines. lines.items ≡ kept.kept_lines fold source.now.text (annotations_of located.now)) }
     ensures within { IfOk result (λ lines. All (λ k. k < length (source_lines source.now.text)) lines.items) }
 {
     let mut reach = vec![in alloc; 0; source.line_count()]?;
-    for annotation in annotations {
-        reach_over_kept(&mut reach, source, annotation);
+    for span in located {
+        reach_over_kept(&mut reach, source, span);
     }
     covered_lines(alloc, &reach, fold)
 }
@@ -48,26 +48,26 @@ pub(crate) fn kept_lines(
 pub(crate) fn seen(
     alloc: Global,
     source: &SourceMap<'_>,
-    annotations: &[Annotation<'_>],
+    located: &[LocatedSpan<'_>],
 ) -> Result<Vec<bool>, AllocError>
-    requires spans { All (λ a. IsSpan source.now.text a.span.start a.span.end) annotations.now }
+    requires located { All (IsLocated source.now) located.now }
     ensures value { IfOk result (λ seen. (k : ℕ) → k < length (source_lines source.now.text)
-        → slice_index_or seen.items k false ≡ list_any (is_seen source.now.text k) annotations.now) }
+        → slice_index_or seen.items k false ≡ list_any (λ l. is_seen source.now.text k l.annotation.now) located.now) }
 {
-    if has_unmarked(annotations) {
-        touched_lines(alloc, source, annotations)
+    if has_unmarked(located) {
+        touched_lines(alloc, source, located)
     } else {
         Ok(Vec::new(alloc))
     }
 }
 
 /// Whether one of some spans isn't marked.
-fn has_unmarked(annotations: &[Annotation<'_>]) -> bool
-    ensures value { result ≡ list_any (λ a. not (spec.is_marking a.kind)) annotations.now }
+fn has_unmarked(located: &[LocatedSpan<'_>]) -> bool
+    ensures value { result ≡ list_any (λ l. not (spec.is_marking l.annotation.now.kind)) located.now }
 {
-    annotations
+    located
         .iter()
-        .any(|annotation| !is_marking(annotation.kind))
+        .any(|span| !is_marking(span.annotation.kind))
 }
 
 /// Of each line of a source, whether a span that isn't marked touches it.
@@ -76,52 +76,52 @@ fn has_unmarked(annotations: &[Annotation<'_>]) -> bool
 fn touched_lines(
     alloc: Global,
     source: &SourceMap<'_>,
-    annotations: &[Annotation<'_>],
+    located: &[LocatedSpan<'_>],
 ) -> Result<Vec<bool>, AllocError>
-    requires spans { All (λ a. IsSpan source.now.text a.span.start a.span.end) annotations.now }
+    requires located { All (IsLocated source.now) located.now }
     ensures value { IfOk result (λ seen. seen.items ≡ map
-        (λ k. list_any (is_seen source.now.text k) annotations.now) (range_with_len 0 (length (source_lines source.now.text)))) }
+        (λ k. list_any (λ l. is_seen source.now.text k l.annotation.now) located.now) (range_with_len 0 (length (source_lines source.now.text)))) }
 {
     let mut reach = vec![in alloc; 0; source.line_count()]?;
-    for annotation in annotations {
-        reach_over_seen(&mut reach, source, annotation);
+    for span in located {
+        reach_over_seen(&mut reach, source, span);
     }
     covered(alloc, &reach)
 }
 
 /// Reaches over the lines that a span keeps.
-fn reach_over_kept(reach: &mut [usize], source: &SourceMap<'_>, annotation: &Annotation<'_>)
-    requires span { IsSpan source.now.text annotation.now.span.start annotation.now.span.end }
+fn reach_over_kept(reach: &mut [usize], source: &SourceMap<'_>, span: &LocatedSpan<'_>)
+    requires located { IsLocated source.now span.now }
     requires lines { length reach.old ≡ length (source_lines source.now.text) }
-    ensures covered { (k : ℕ) → is_covered reach.new k ≡ (is_covered reach.old k || keeps source.now.text k annotation.now) }
+    ensures covered { (k : ℕ) → is_covered reach.new k ≡ (is_covered reach.old k || keeps source.now.text k span.now.annotation.now) }
 {
-    let (head, tail) = kept_stretches(source, annotation);
+    let (head, tail) = kept_stretches(source, span);
     reach_over(reach, head);
     reach_over(reach, tail);
 }
 
 /// Reaches over the lines of a span that isn't marked.
-fn reach_over_seen(reach: &mut [usize], source: &SourceMap<'_>, annotation: &Annotation<'_>)
-    requires span { IsSpan source.now.text annotation.now.span.start annotation.now.span.end }
+fn reach_over_seen(reach: &mut [usize], source: &SourceMap<'_>, span: &LocatedSpan<'_>)
+    requires located { IsLocated source.now span.now }
     requires lines { length reach.old ≡ length (source_lines source.now.text) }
-    ensures covered { (k : ℕ) → is_covered reach.new k ≡ (is_covered reach.old k || is_seen source.now.text k annotation.now) }
+    ensures covered { (k : ℕ) → is_covered reach.new k ≡ (is_covered reach.old k || is_seen source.now.text k span.now.annotation.now) }
 {
-    if !is_marking(annotation.kind) {
-        reach_over(reach, touched(source, annotation));
+    if !is_marking(span.annotation.kind) {
+        reach_over(reach, touched(span));
     }
 }
 
 /// The lines that a span keeps: those of its beginning, and those of its end.
-fn kept_stretches(source: &SourceMap<'_>, annotation: &Annotation<'_>) -> (Stretch, Stretch)
-    requires span { IsSpan source.now.text annotation.now.span.start annotation.now.span.end }
-    ensures value { (k : ℕ) → (holds result.0 k || holds result.1 k) ≡ keeps source.now.text k annotation.now }
+fn kept_stretches(source: &SourceMap<'_>, span: &LocatedSpan<'_>) -> (Stretch, Stretch)
+    requires located { IsLocated source.now span.now }
+    ensures value { (k : ℕ) → (holds result.0 k || holds result.1 k) ≡ keeps source.now.text k span.now.annotation.now }
     ensures head { result.0.first < length (source_lines source.now.text) }
     ensures tail { result.1.first < length (source_lines source.now.text) }
     ensures head_last { result.0.last < length (source_lines source.now.text) }
     ensures tail_last { result.1.last < length (source_lines source.now.text) }
 {
-    let all = touched(source, annotation);
-    if all.first == all.last || !is_marking(annotation.kind) {
+    let all = touched(span);
+    if all.first == all.last || !is_marking(span.annotation.kind) {
         return (all, all);
     }
     let head = Stretch {
@@ -137,16 +137,13 @@ fn kept_stretches(source: &SourceMap<'_>, annotation: &Annotation<'_>) -> (Stret
 }
 
 /// The lines that a span touches.
-fn touched(source: &SourceMap<'_>, annotation: &Annotation<'_>) -> Stretch
-    requires span { IsSpan source.now.text annotation.now.span.start annotation.now.span.end }
-    ensures first { result.first ≡ first_line source.now.text annotation.now }
-    ensures last { result.last ≡ last_line source.now.text annotation.now }
-    ensures ordered { result.first ≤ result.last }
-    ensures within { result.last < length (source_lines source.now.text) }
+fn touched(span: &LocatedSpan<'_>) -> Stretch
+    ensures first { result.first ≡ span.now.first }
+    ensures last { result.last ≡ span.now.last }
 {
     Stretch {
-        first: source.line_index_of(annotation.span.start),
-        last: source.line_index_of(annotation.span.end),
+        first: span.first,
+        last: span.last,
     }
 }
 

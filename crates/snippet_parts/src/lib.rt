@@ -6,6 +6,7 @@ mod annotated_lines;
 mod bars;
 pub mod between;
 mod kept;
+mod located;
 mod long_spans;
 mod made_entries;
 pub mod mark;

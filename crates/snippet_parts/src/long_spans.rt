@@ -4,12 +4,14 @@ ghost use Rattle.std.specs.Prelude.{◌≡◌, ◌==◌, ◌-◌, ◌≤◌, tru
 ghost use Rattle.std.specs.List.Sorted.{IsNonDecreasingBy};
 ghost use Rattle.snippet_view.specs.Annotated as spec;
 ghost use Rattle.snippet_parts.specs.LongSpans.{seen_long, HasFit};
-ghost use Rattle.snippet_lines.specs.Span.{IsSpan};
+ghost use Rattle.snippet_parts.specs.Located.{IsLocated, is_long_span, span_entry};
+ghost use Rattle.snippet_lines.specs.Lines.{Source};
+ghost use Rattle.snippet_lines.specs.Order.{ordered_by};
 
+use crate::located::LocatedSpan;
 use crate::mark::is_marking;
-use crate::source_map::SourceMap;
 use snippet_lines::place::Loc;
-use snippet_model::snippet::{Annotation, AnnotationKind};
+use snippet_model::snippet::AnnotationKind;
 use snippet_view::depths::LongExtent;
 use std::alloc::{AllocError, Global};
 
@@ -43,15 +45,14 @@ impl LongSpan<'_> {
 /// The one error is that memory ran out.
 pub(crate) fn long_spans<'a>(
     alloc: Global,
-    source: &SourceMap<'a>,
-    annotations: &'a [Annotation<'a>],
+    located: &[LocatedSpan<'a>],
 ) -> Result<Vec<LongSpan<'a>>, AllocError>
-    requires spans { All (λ a. IsSpan source.now.text a.span.start a.span.end) annotations.now }
-    ensures value { IfOk result (λ spans. map seen_long spans.items ≡ spec.long_spans source.now annotations.now) }
+    ensures value { IfOk result (λ spans. map seen_long spans.items
+        ≡ ordered_by spec.stands_before (map span_entry (filter is_long_span located.now))) }
     ensures ordered { IfOk result (λ spans. IsNonDecreasingBy (λ l. l.start.line) spans.items) }
-    ensures fit { IfOk result (λ spans. All (HasFit source.now) spans.items) }
+    ensures fit { IfOk result (λ spans. (s : Source) → All (IsLocated s) located.now → All (HasFit s) spans.items) }
 {
-    let mut spans = given_long_spans(alloc, source, annotations)?;
+    let mut spans = given_long_spans(alloc, located)?;
     spans.sort_by(|a, b| {
         a.start
             .line
@@ -64,44 +65,36 @@ pub(crate) fn long_spans<'a>(
 /// The same as given.
 fn given_long_spans<'a>(
     alloc: Global,
-    source: &SourceMap<'a>,
-    annotations: &'a [Annotation<'a>],
+    located: &[LocatedSpan<'a>],
 ) -> Result<Vec<LongSpan<'a>>, AllocError>
-    requires spans { All (λ a. IsSpan source.now.text a.span.start a.span.end) annotations.now }
-    ensures value { IfOk result (λ spans. map seen_long spans.items
-        ≡ map (spec.long_entry source.now) (filter (spec.is_long source.now.text) annotations.now)) }
-    ensures fit { IfOk result (λ spans. All (HasFit source.now) spans.items) }
+    ensures value { IfOk result (λ spans. map seen_long spans.items ≡ map span_entry (filter is_long_span located.now)) }
 {
     let mut spans = Vec::new(alloc);
-    for annotation in annotations {
-        if is_long(source, annotation) {
-            spans.push(long_span(source, annotation))?;
+    for span in located {
+        if is_long(span) {
+            spans.push(long_span(span))?;
         }
     }
     Ok(spans)
 }
 
-/// Whether an annotation is a span of several lines of a kind that is marked.
-pub(crate) fn is_long(source: &SourceMap<'_>, annotation: &Annotation<'_>) -> bool
-    ensures value { result ≡ spec.is_long source.now.text annotation.now }
+/// Whether a span stands on several lines, and is of a kind that is marked.
+fn is_long(span: &LocatedSpan<'_>) -> bool
+    ensures value { result ≡ is_long_span span.now }
 {
-    is_marking(annotation.kind)
-        && source.line_index_of(annotation.span.end) != source.line_index_of(annotation.span.start)
+    is_marking(span.annotation.kind) && span.last != span.first
 }
 
 /// A span, from its start to its end.
-fn long_span<'a>(source: &SourceMap<'a>, annotation: &'a Annotation<'a>) -> LongSpan<'a>
-    requires span { IsSpan source.now.text annotation.now.span.start annotation.now.span.end }
-    ensures value { seen_long result ≡ spec.long_entry source.now annotation.now }
-    ensures fit { spec.is_long source.now.text annotation.now ≡ true → HasFit source.now result }
+fn long_span<'a>(span: &LocatedSpan<'a>) -> LongSpan<'a>
+    ensures value { seen_long result ≡ span_entry span.now }
 {
-    let (start, end) = source.span_to_locations(annotation.span.start..annotation.span.end);
     LongSpan {
-        start,
-        end,
-        kind: annotation.kind,
-        label: annotation.label.as_ref().map(|label| label.as_str()),
-        highlight_source: annotation.highlight_source,
+        start: span.start,
+        end: span.end,
+        kind: span.annotation.kind,
+        label: span.annotation.label.as_ref().map(|label| label.as_str()),
+        highlight_source: span.annotation.highlight_source,
     }
 }
 

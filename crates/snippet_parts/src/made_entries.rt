@@ -3,59 +3,56 @@ ghost use Rattle.std.specs.Prelude.{◌≡◌, ◌+◌, ◌-◌, ◌<◌, ◌^�
 ghost use Rattle.snippet_view.specs.Annotated as spec;
 ghost use Rattle.snippet_view.specs.Annotated.{seen_part};
 ghost use Rattle.snippet_parts.specs.LongSpans.{seen_long, HasFit};
-ghost use Rattle.snippet_lines.specs.Span.{IsSpan};
+ghost use Rattle.snippet_parts.specs.Located.{is_short_span, short_part};
 
 use crate::bars::{bars_end, has_closing_bar};
+use crate::located::LocatedSpan;
 use crate::long_spans::LongSpan;
 use crate::mark::is_marking;
 use crate::source_map::SourceMap;
 use snippet_lines::place::Loc;
-use snippet_model::snippet::Annotation;
 use snippet_view::{LineAnnotation, LineAnnotationType};
 use std::alloc::{AllocError, Global};
 
 /// The entries of the spans that are marked on one line, as given.
 pub(crate) fn single_entries<'a>(
     alloc: Global,
-    source: &SourceMap<'a>,
-    annotations: &'a [Annotation<'a>],
+    located: &[LocatedSpan<'a>],
 ) -> Result<Vec<LineAnnotation<'a>>, AllocError>
-    requires spans { All (λ a. IsSpan source.now.text a.span.start a.span.end) annotations.now }
-    ensures value { IfOk result (λ entries. map seen_part entries.items
-        ≡ map (spec.single_part source.now) (filter (spec.is_short source.now.text) annotations.now)) }
+    requires display { All (λ l. l.start.display < 2 ^ 58) located.now }
+    ensures value { IfOk result (λ entries. map seen_part entries.items ≡ map short_part (filter is_short_span located.now)) }
 {
-    let mut entries = Vec::with_capacity(alloc, annotations.len())?;
-    for annotation in annotations {
-        if is_short(source, annotation) {
-            entries.push(entry(source, annotation))?;
+    let mut entries = Vec::with_capacity(alloc, located.len())?;
+    for span in located {
+        if is_short(span) {
+            entries.push(entry(span))?;
         }
     }
     Ok(entries)
 }
 
-/// The entry of an annotation that stands on one line: at least one column wide.
-fn entry<'a>(source: &SourceMap<'a>, annotation: &'a Annotation<'a>) -> LineAnnotation<'a>
-    requires span { IsSpan source.now.text annotation.now.span.start annotation.now.span.end }
-    ensures value { seen_part result ≡ spec.single_part source.now annotation.now }
+/// The entry of a span that stands on one line: at least one column wide.
+fn entry<'a>(span: &LocatedSpan<'a>) -> LineAnnotation<'a>
+    requires display { span.now.start.display < 2 ^ 58 }
+    ensures value { seen_part result ≡ short_part span.now }
 {
-    let (start, mut end) = source.span_to_locations(annotation.span.start..annotation.span.end);
-    end.display = end.display.max(start.display + 1);
+    let mut end = span.end;
+    end.display = end.display.max(span.start.display + 1);
     LineAnnotation {
-        start,
+        start: span.start,
         end,
-        kind: annotation.kind,
-        label: annotation.label.as_ref().map(|label| label.as_str()),
+        kind: span.annotation.kind,
+        label: span.annotation.label.as_ref().map(|label| label.as_str()),
         annotation_type: LineAnnotationType::Singleline,
-        highlight_source: annotation.highlight_source,
+        highlight_source: span.annotation.highlight_source,
     }
 }
 
-/// Whether an annotation is a span on one line of a kind that is marked.
-fn is_short(source: &SourceMap<'_>, annotation: &Annotation<'_>) -> bool
-    ensures value { result ≡ spec.is_short source.now.text annotation.now }
+/// Whether a span stands on one line, and is of a kind that is marked.
+fn is_short(span: &LocatedSpan<'_>) -> bool
+    ensures value { result ≡ is_short_span span.now }
 {
-    is_marking(annotation.kind)
-        && source.line_index_of(annotation.span.end) == source.line_index_of(annotation.span.start)
+    is_marking(span.annotation.kind) && span.last == span.first
 }
 
 /// Adds the entries of a span of several lines: where it stands again, the one at its end alone.

@@ -3,6 +3,7 @@ use Rattle.snippet_parts.specs.declared.long_spans.LongSpan.{LongSpan}
 use Rattle.snippet_view.specs.Annotated.{long_place}
 use Rattle.snippet_view.specs.Depths.{greatest_depth}
 use Rattle.snippet_parts.specs.LongSpans.{seen_long}
+use Rattle.snippet_parts.proofs.LocatedLemmas.{short-parts, long-are}
 use Rattle.snippet_parts.proofs.EntryLemmas.{places-ordered, places-lines, places-are, depths-of, no_span}
 use Rattle.snippet_parts.proofs.all_entries.made_entries.Goals as goal
 
@@ -12,7 +13,7 @@ depths-requires-clause-ordered c =
 
 pub depths-requires-clause-lines : goal.depths-requires-clause-lines
 depths-requires-clause-lines c =
-    places-lines c.args.source.now c.deref-2.result.now c.in_ok-spans.spans.items no_span (c.deref-2.ensures.value ∙ c.in_ok-places.ensures.value ∙ ap (map (λ (l : LongSpan). long_place (seen_long l))) c.deref.ensures.value) c.in_ok-spans.ensures.fit
+    places-lines c.args.source.now c.deref-2.result.now c.in_ok-spans.spans.items no_span (c.deref-2.ensures.value ∙ c.in_ok-places.ensures.value ∙ ap (map (λ (l : LongSpan). long_place (seen_long l))) c.deref.ensures.value) (c.in_ok-spans.ensures.fit c.args.source.now c.requires.located)
 
 pub push_long_entries-requires-clause-depths : goal.push_long_entries-requires-clause-depths
 push_long_entries-requires-clause-depths c =
@@ -23,4 +24,10 @@ push_long_entries-requires-clause-depths c =
 pub returns-clause-deepest : goal.returns-clause-deepest
 returns-clause-deepest c =
     c.in_ok-greatest.ensures.greatest ∙ ap greatest_depth
-    (places-are c.deref-2.result.now c.in_ok-spans.spans.items (c.deref-2.ensures.value ∙ c.in_ok-places.ensures.value ∙ ap (map (λ (l : LongSpan). long_place (seen_long l))) c.deref.ensures.value) ∙ ap (map long_place) c.in_ok-spans.ensures.value)
+    (places-are c.deref-2.result.now c.in_ok-spans.spans.items (c.deref-2.ensures.value ∙ c.in_ok-places.ensures.value ∙ ap (map (λ (l : LongSpan). long_place (seen_long l))) c.deref.ensures.value) ∙ ap (map long_place) (c.in_ok-spans.ensures.value ∙ long-are c.args.source.now c.args.located.now c.requires.located))
+
+pub push_long_entries-requires-clause-fit : goal.push_long_entries-requires-clause-fit
+push_long_entries-requires-clause-fit c = ?
+
+pub returns-clause-value : goal.returns-clause-value
+returns-clause-value c = ?

@@ -20,7 +20,7 @@ one-at-most false n is = omega (arith, is)
 pub returns-clause-value : goal.returns-clause-value
 returns-clause-value c k =
     let source = c.args.source.now.text in
-    let a = c.args.annotation.now in
+    let a = c.args.span.now.annotation.now in
     let f : ℕ = c.touched-all.result.first in
     let l : ℕ = c.touched-all.result.last in
     let m : ℕ = min (f + 4) l in
@@ -35,4 +35,5 @@ returns-clause-value c k =
     c.has_closing_bar.ensures.value (λ e. c.from-closing.ensures ∙ ap bool_byte e) (λ e. c.from-closing.ensures ∙ ap bool_byte e))
     (last_bar-apart l k m (is_trivial_line source)) (omega arith)
     (omega (arith, one-at-most c.has_closing_bar.result c.from-closing.result c.from-closing.ensures)) in
-    main ∙ ap (λ n. keeps_by source a k n l) c.touched-all.ensures.first ∙ ap (λ n. keeps_by source a k (first_line source a) n) c.touched-all.ensures.last
+    main ∙ ap (λ n. keeps_by source a k n l) (c.touched-all.ensures.first ∙ c.requires.located.first)
+    ∙ ap (λ n. keeps_by source a k (first_line source a) n) (c.touched-all.ensures.last ∙ c.requires.located.last)

@@ -1,0 +1,98 @@
+-- Spans with their places: what is known of the annotations that they are.
+use Rattle.std.proofs.Common.{◌≡◌, ℕ, ◌<◌, ◌≤◌, ◌^◌, Bool, true, false, ◌&&◌, not, cond, eqb, List, [], ◌∷◌, map, length, refl, sym, ap, ◌∙◌, subst, arith}
+use Rattle.std.specs.List.{All, filter}
+use Rattle.std.specs.Option.{option_map}
+use Rattle.std.specs.Cow.{cow_str_bytes}
+use Rattle.std.proofs.lemmas.List.Elements.{All-weaker}
+use Rattle.snippet_lines.specs.Lines.{Source, source_lines}
+use Rattle.snippet_lines.proofs.PlaceLemmas.{line_of-mono, line_of-within}
+use Rattle.snippet_lines.specs.Order.{ordered_by}
+use Rattle.snippet_lines.specs.declared.place.Loc.{Loc}
+use Rattle.snippet_model.specs.declared.snippet.Annotation.{Annotation}
+use Rattle.snippet_view.specs.declared.entries.LineAnnotationType.TheVariants.{Singleline}
+use Rattle.snippet_view.specs.Annotated.{PartEntry, single_part, long_entry, is_short, is_long, stands_before, long_spans}
+use Rattle.snippet_view.specs.Mark.{is_marking}
+use Rattle.snippet_view.specs.Marked.{Entry, first_line, last_line, widened}
+use Rattle.snippet_view.proofs.PartLemmas.{All-unmapped}
+use Rattle.snippet_parts.specs.declared.located.LocatedSpan.{LocatedSpan}
+use Rattle.snippet_parts.specs.declared.long_spans.LongSpan.{LongSpan}
+use Rattle.snippet_parts.specs.Located.{IsLocated, annotations_of, is_short_span, is_long_span, span_entry, short_part}
+use Rattle.snippet_parts.specs.LongSpans.{seen_long, HasFit}
+use Rattle.snippet_parts.proofs.LongLemmas.{fit-long}
+
+-- ---- one span
+
+short-is : (s : Source) (l : LocatedSpan) → IsLocated s l → is_short_span l ≡ is_short s.text l.annotation.now
+short-is s l at = ap (λ n. is_marking l.annotation.now.kind && eqb n l.first) at.last ∙ ap (λ n. is_marking l.annotation.now.kind && eqb (last_line s.text l.annotation.now) n) at.first
+
+long-is : (s : Source) (l : LocatedSpan) → IsLocated s l → is_long_span l ≡ is_long s.text l.annotation.now
+long-is s l at = ap (λ n. is_marking l.annotation.now.kind && not (eqb n l.first)) at.last ∙ ap (λ n. is_marking l.annotation.now.kind && not (eqb (last_line s.text l.annotation.now) n)) at.first
+
+-- its lines are in order, and lines of the source
+pub located-ordered : (s : Source) (l : LocatedSpan) → IsLocated s l → l.first ≤ l.last
+located-ordered s l at =
+    omega (
+      arith,
+      at.first,
+      at.last,
+      line_of-within s.text 0,
+      line_of-mono (source_lines s.text) l.annotation.now.span.start l.annotation.now.span.end (omega (arith, line_of-within s.text 0)) at.span.ordered,
+    )
+
+pub located-within : (s : Source) (l : LocatedSpan) → IsLocated s l → l.last < length (source_lines s.text)
+located-within s l at = omega (arith, at.last, line_of-within s.text l.annotation.now.span.end)
+
+-- an annotation as it is seen at two locations
+seen_at : Annotation → Loc × Loc → Entry
+seen_at a at = record { start = at.0; end = at.1; kind = a.kind; label = option_map cow_str_bytes a.label; highlight_source = a.highlight_source }
+
+part_at : Annotation → Loc × Loc → PartEntry
+part_at a at = record { entry = record (seen_at a at) { end = widened at.0 at.1 }; part = Singleline }
+
+entry-is : (s : Source) (l : LocatedSpan) → IsLocated s l → span_entry l ≡ long_entry s l.annotation.now
+entry-is s l at = ap (seen_at l.annotation.now) at.locations
+
+part-is : (s : Source) (l : LocatedSpan) → IsLocated s l → short_part l ≡ single_part s l.annotation.now
+part-is s l at = ap (part_at l.annotation.now) at.locations
+
+-- ---- all spans
+
+-- two tests and two functions that agree on elements and what they are
+chosen : {A B C : Type 0} (P : A → Type 0) (g : A → B) (p : A → Bool) (q : B → Bool) (f : A → C) (h : B → C) → ((x : A) → P x → p x ≡ q (g x)) → ((x : A) → P x → f x ≡ h (g x)) → (xs : List A) → All P xs → map f (filter p xs) ≡ map h (filter q (map g xs))
+chosen P g p q f h same is [] all = refl
+chosen P g p q f h same is (x ∷ xs) all =
+    ap (λ b. map f (cond b (x ∷ filter p xs) (filter p xs))) (same x all.0) ∙ pick (q (g x))
+  where
+    pick : (b : Bool) → map f (cond b (x ∷ filter p xs) (filter p xs)) ≡ map h (cond b (g x ∷ filter q (map g xs)) (filter q (map g xs)))
+    pick true = ap (λ c. c ∷ map f (filter p xs)) (is x all.0) ∙ ap (λ cs. h (g x) ∷ cs) (chosen P g p q f h same is xs all.1)
+    pick false = chosen P g p q f h same is xs all.1
+
+-- the entries of spans on one line
+pub short-parts : (s : Source) (ls : List LocatedSpan) → All (IsLocated s) ls → map short_part (filter is_short_span ls) ≡ map (single_part s) (filter (is_short s.text) (annotations_of ls))
+short-parts s ls all = chosen (IsLocated s) (λ (l : LocatedSpan). l.annotation.now) is_short_span (is_short s.text) short_part (single_part s) (short-is s) (part-is s) ls all
+
+-- spans of several lines, in their order
+pub long-are : (s : Source) (ls : List LocatedSpan) → All (IsLocated s) ls → ordered_by stands_before (map span_entry (filter is_long_span ls)) ≡ long_spans s (annotations_of ls)
+long-are s ls all = ap (ordered_by stands_before) (chosen (IsLocated s) (λ (l : LocatedSpan). l.annotation.now) is_long_span (is_long s.text) span_entry (long_entry s) (long-is s) (entry-is s) ls all)
+
+-- a span of several lines has room where what is seen of it has
+abbrev Fits : Source → Entry → Type 0
+Fits s e = (l : LongSpan) → seen_long l ≡ e → HasFit s l
+
+fits : (s : Source) (x : LocatedSpan) → IsLocated s x → is_long_span x ≡ true → Fits s (span_entry x)
+fits s x at long l seen =
+    fit-long s x.annotation.now l at.span.ordered (seen ∙ entry-is s x at)
+    (subst (λ (n : ℕ). n < 2 ^ 58) (sym (ap (λ (e : Entry). e.start.display) seen)) at.start_display)
+    (omega (arith, ap (λ (e : Entry). e.end.display) seen, at.end_display))
+    (omega (arith, ap (λ (e : Entry). e.start.char) seen, at.start_char)) (sym (long-is s x at) ∙ long)
+
+all-fit : (s : Source) (ls : List LocatedSpan) → All (IsLocated s) ls → All (Fits s) (map span_entry (filter is_long_span ls))
+all-fit s [] all = all
+all-fit s (x ∷ ls) all = pick (is_long_span x) refl
+  where
+    pick : (b : Bool) → is_long_span x ≡ b → All (Fits s) (map span_entry (cond b (x ∷ filter is_long_span ls) (filter is_long_span ls)))
+    pick true long = (fits s x all.0 long, all-fit s ls all.1)
+    pick false long = all-fit s ls all.1
+
+pub given-fit : (s : Source) (ls : List LocatedSpan) (spans : List LongSpan) → map seen_long spans ≡ map span_entry (filter is_long_span ls) → All (IsLocated s) ls → All (HasFit s) spans
+given-fit s ls spans is all = All-weaker (λ (l : LongSpan). Fits s (seen_long l)) (HasFit s) (λ l fit. fit l refl) spans (All-unmapped (Fits s) seen_long spans (subst (All (Fits s)) (sym is) (all-fit s ls all)))

@@ -1,0 +1,9 @@
+use Rattle.std.proofs.Common.{◌≡◌, take}
+use Rattle.std.specs.List.{All}
+use Rattle.snippet_parts.specs.Located.{IsLocated, annotations_of}
+use Rattle.snippet_parts.proofs.located.located_spans.Given as goal
+
+-- the spans so far
+abbrev pub invariant-loop-annotation : goal.invariant-loop-annotation
+invariant-loop-annotation l =
+    (annotations_of l.located.items ≡ take l.annotation-index l.annotations) × All (IsLocated l.source) l.located.items

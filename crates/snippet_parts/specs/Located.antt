@@ -1,0 +1,44 @@
+-- Spans, each with its place in a source.
+use Rattle.std.specs.Prelude.{◌≡◌, ℕ, ◌^◌, ◌<◌, ◌≤◌, ◌==◌, ◌&&◌, Bool, not, List, map}
+use Rattle.std.specs.Option.{option_map}
+use Rattle.std.specs.Cow.{cow_str_bytes}
+use Rattle.snippet_model.specs.declared.snippet.Annotation.{Annotation}
+use Rattle.snippet_parts.specs.declared.located.LocatedSpan.{LocatedSpan}
+use Rattle.snippet_lines.specs.Lines.{Source}
+use Rattle.snippet_lines.specs.Place.{locations_of}
+use Rattle.snippet_lines.specs.Span.{IsSpan}
+use Rattle.snippet_view.specs.declared.entries.LineAnnotationType.TheVariants.{Singleline}
+use Rattle.snippet_view.specs.Annotated.{PartEntry}
+use Rattle.snippet_view.specs.Mark.{is_marking}
+use Rattle.snippet_view.specs.Marked.{Entry, first_line, last_line, widened}
+
+-- a span with its place in a source: its lines from 0 and its locations, which leave room for one more column and
+-- character
+pub record IsLocated (s : Source) (l : LocatedSpan) : Type 0 where
+  pub span : IsSpan s.text l.annotation.now.span.start l.annotation.now.span.end
+  pub first : l.first ≡ first_line s.text l.annotation.now
+  pub last : l.last ≡ last_line s.text l.annotation.now
+  pub locations : (l.start, l.end) ≡ locations_of s l.annotation.now.span.start l.annotation.now.span.end
+  pub start_display : l.start.display < 2 ^ 58
+  pub end_display : l.end.display ≤ 2 ^ 58
+  pub start_char : l.start.char ≤ 2 ^ 56
+
+-- the annotations of such spans
+abbrev pub annotations_of : List LocatedSpan → List Annotation
+annotations_of located = map (λ l. l.annotation.now) located
+
+-- whether such a span is of a kind that is marked, and stands on one line, or on several
+abbrev pub is_short_span : LocatedSpan → Bool
+is_short_span l = is_marking l.annotation.now.kind && l.last == l.first
+
+abbrev pub is_long_span : LocatedSpan → Bool
+is_long_span l = is_marking l.annotation.now.kind && not (l.last == l.first)
+
+-- such a span as it is seen: from its start to its end
+abbrev pub span_entry : LocatedSpan → Entry
+span_entry l =
+    record { start = l.start; end = l.end; kind = l.annotation.now.kind; label = option_map cow_str_bytes l.annotation.now.label; highlight_source = l.annotation.now.highlight_source }
+
+-- the entry of one that stands on one line
+abbrev pub short_part : LocatedSpan → PartEntry
+short_part l = record { entry = record (span_entry l) { end = widened l.start l.end }; part = Singleline }

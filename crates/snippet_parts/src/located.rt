@@ -1,0 +1,56 @@
+//! Spans, each with its place in a source, which is looked for once.
+ghost use Rattle.std.specs.Prelude.{◌≡◌, All, IfOk};
+ghost use Rattle.snippet_lines.specs.Span.{IsSpan};
+ghost use Rattle.snippet_parts.specs.Located.{IsLocated, annotations_of};
+
+use crate::source_map::SourceMap;
+use snippet_lines::place::Loc;
+use snippet_model::snippet::Annotation;
+use std::alloc::{AllocError, Global};
+
+/// A span, and where it stands.
+#[derive(Clone, Copy, Debug)]
+pub(crate) struct LocatedSpan<'a> {
+    pub(crate) annotation: &'a Annotation<'a>,
+    /// The line on which it starts, from 0.
+    pub(crate) first: usize,
+    /// The line on which it ends, from 0.
+    pub(crate) last: usize,
+    pub(crate) start: Loc,
+    pub(crate) end: Loc,
+}
+
+/// The spans of annotations, as given, each with its place.
+///
+/// The one error is that memory ran out.
+pub(crate) fn located_spans<'a>(
+    alloc: Global,
+    source: &SourceMap<'a>,
+    annotations: &'a [Annotation<'a>],
+) -> Result<Vec<LocatedSpan<'a>>, AllocError>
+    requires spans { All (λ a. IsSpan source.now.text a.span.start a.span.end) annotations.now }
+    ensures annotations { IfOk result (λ located. annotations_of located.items ≡ annotations.now) }
+    ensures located { IfOk result (λ located. All (IsLocated source.now) located.items) }
+{
+    let mut located = Vec::with_capacity(alloc, annotations.len())?;
+    for annotation in annotations {
+        located.push(located_span(source, annotation))?;
+    }
+    Ok(located)
+}
+
+/// The span of an annotation, with its place.
+fn located_span<'a>(source: &SourceMap<'a>, annotation: &'a Annotation<'a>) -> LocatedSpan<'a>
+    requires span { IsSpan source.now.text annotation.now.span.start annotation.now.span.end }
+    ensures annotation { result.annotation.now ≡ annotation.now }
+    ensures located { IsLocated source.now result }
+{
+    let (start, end) = source.span_to_locations(annotation.span.start..annotation.span.end);
+    LocatedSpan {
+        annotation,
+        first: start.line - source.line_start(),
+        last: end.line - source.line_start(),
+        start,
+        end,
+    }
+}
