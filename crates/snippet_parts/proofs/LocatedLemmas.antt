@@ -3,7 +3,7 @@ use Rattle.std.proofs.Common.{◌≡◌, ℕ, ◌<◌, ◌≤◌, ◌^◌, Bool,
 use Rattle.std.specs.List.{All, filter}
 use Rattle.std.specs.Option.{option_map}
 use Rattle.std.specs.Cow.{cow_str_bytes}
-use Rattle.std.proofs.lemmas.List.Elements.{All-weaker}
+use Rattle.std.proofs.lemmas.List.Elements.{All-weaker, All-head, All-tail, All-nil, All-cons}
 use Rattle.snippet_lines.specs.Lines.{Source, source_lines}
 use Rattle.snippet_lines.proofs.PlaceLemmas.{line_of-mono, line_of-within}
 use Rattle.snippet_lines.specs.Order.{ordered_by}
@@ -43,10 +43,10 @@ pub located-within : (s : Source) (l : LocatedSpan) → IsLocated s l → l.last
 located-within s l at = omega (arith, at.last, line_of-within s.text l.annotation.now.span.end)
 
 -- an annotation as it is seen at two locations
-seen_at : Annotation → Loc × Loc → Entry
+abbrev seen_at : Annotation → Loc × Loc → Entry
 seen_at a at = record { start = at.0; end = at.1; kind = a.kind; label = option_map cow_str_bytes a.label; highlight_source = a.highlight_source }
 
-part_at : Annotation → Loc × Loc → PartEntry
+abbrev part_at : Annotation → Loc × Loc → PartEntry
 part_at a at = record { entry = record (seen_at a at) { end = widened at.0 at.1 }; part = Singleline }
 
 entry-is : (s : Source) (l : LocatedSpan) → IsLocated s l → span_entry l ≡ long_entry s l.annotation.now
@@ -61,11 +61,11 @@ part-is s l at = ap (part_at l.annotation.now) at.locations
 chosen : {A B C : Type 0} (P : A → Type 0) (g : A → B) (p : A → Bool) (q : B → Bool) (f : A → C) (h : B → C) → ((x : A) → P x → p x ≡ q (g x)) → ((x : A) → P x → f x ≡ h (g x)) → (xs : List A) → All P xs → map f (filter p xs) ≡ map h (filter q (map g xs))
 chosen P g p q f h same is [] all = refl
 chosen P g p q f h same is (x ∷ xs) all =
-    ap (λ b. map f (cond b (x ∷ filter p xs) (filter p xs))) (same x all.0) ∙ pick (q (g x))
+    ap (λ b. map f (cond b (x ∷ filter p xs) (filter p xs))) (same x (All-head P x xs all)) ∙ pick (q (g x)) (chosen P g p q f h same is xs (All-tail P x xs all))
   where
-    pick : (b : Bool) → map f (cond b (x ∷ filter p xs) (filter p xs)) ≡ map h (cond b (g x ∷ filter q (map g xs)) (filter q (map g xs)))
-    pick true = ap (λ c. c ∷ map f (filter p xs)) (is x all.0) ∙ ap (λ cs. h (g x) ∷ cs) (chosen P g p q f h same is xs all.1)
-    pick false = chosen P g p q f h same is xs all.1
+    pick : (b : Bool) → map f (filter p xs) ≡ map h (filter q (map g xs)) → map f (cond b (x ∷ filter p xs) (filter p xs)) ≡ map h (cond b (g x ∷ filter q (map g xs)) (filter q (map g xs)))
+    pick true rest = ap (λ c. c ∷ map f (filter p xs)) (is x (All-head P x xs all)) ∙ ap (λ cs. h (g x) ∷ cs) rest
+    pick false rest = rest
 
 -- the entries of spans on one line
 pub short-parts : (s : Source) (ls : List LocatedSpan) → All (IsLocated s) ls → map short_part (filter is_short_span ls) ≡ map (single_part s) (filter (is_short s.text) (annotations_of ls))
@@ -87,12 +87,12 @@ fits s x at long l seen =
     (omega (arith, ap (λ (e : Entry). e.start.char) seen, at.start_char)) (sym (long-is s x at) ∙ long)
 
 all-fit : (s : Source) (ls : List LocatedSpan) → All (IsLocated s) ls → All (Fits s) (map span_entry (filter is_long_span ls))
-all-fit s [] all = all
-all-fit s (x ∷ ls) all = pick (is_long_span x) refl
+all-fit s [] all = All-nil (Fits s)
+all-fit s (x ∷ ls) all = pick (is_long_span x) refl (all-fit s ls (All-tail (IsLocated s) x ls all))
   where
-    pick : (b : Bool) → is_long_span x ≡ b → All (Fits s) (map span_entry (cond b (x ∷ filter is_long_span ls) (filter is_long_span ls)))
-    pick true long = (fits s x all.0 long, all-fit s ls all.1)
-    pick false long = all-fit s ls all.1
+    pick : (b : Bool) → is_long_span x ≡ b → All (Fits s) (map span_entry (filter is_long_span ls)) → All (Fits s) (map span_entry (cond b (x ∷ filter is_long_span ls) (filter is_long_span ls)))
+    pick true long rest = All-cons (Fits s) (span_entry x) (map span_entry (filter is_long_span ls)) (fits s x (All-head (IsLocated s) x ls all) long) rest
+    pick false long rest = rest
 
 pub given-fit : (s : Source) (ls : List LocatedSpan) (spans : List LongSpan) → map seen_long spans ≡ map span_entry (filter is_long_span ls) → All (IsLocated s) ls → All (HasFit s) spans
 given-fit s ls spans is all = All-weaker (λ (l : LongSpan). Fits s (seen_long l)) (HasFit s) (λ l fit. fit l refl) spans (All-unmapped (Fits s) seen_long spans (subst (All (Fits s)) (sym is) (all-fit s ls all)))

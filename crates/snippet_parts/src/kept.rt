@@ -65,9 +65,7 @@ pub(crate) fn seen(
 fn has_unmarked(located: &[LocatedSpan<'_>]) -> bool
     ensures value { result ≡ list_any (λ l. not (spec.is_marking l.annotation.now.kind)) located.now }
 {
-    located
-        .iter()
-        .any(|span| !is_marking(span.annotation.kind))
+    located.iter().any(|span| !is_marking(span.annotation.kind))
 }
 
 /// Of each line of a source, whether a span that isn't marked touches it.

@@ -1,8 +1,10 @@
-use Rattle.std.proofs.Common.{map, ap, sym, ◌∙◌}
+use Rattle.std.proofs.Common.{◌≡◌, ◌++◌, [], filter, map, ap, sym, ◌∙◌}
 use Rattle.snippet_parts.specs.declared.long_spans.LongSpan.{LongSpan}
-use Rattle.snippet_view.specs.Annotated.{long_place}
+use Rattle.snippet_view.specs.Annotated.{is_short, long_parts, long_place, long_spans, single_part}
+use Rattle.snippet_parts.specs.Located.{annotations_of}
 use Rattle.snippet_view.specs.Depths.{greatest_depth}
-use Rattle.snippet_parts.specs.LongSpans.{seen_long}
+use Rattle.std.proofs.lemmas.List.Elements.{All-same}
+use Rattle.snippet_parts.specs.LongSpans.{seen_long, HasFit}
 use Rattle.snippet_parts.proofs.LocatedLemmas.{short-parts, long-are}
 use Rattle.snippet_parts.proofs.EntryLemmas.{places-ordered, places-lines, places-are, depths-of, no_span}
 use Rattle.snippet_parts.proofs.all_entries.made_entries.Goals as goal
@@ -27,7 +29,14 @@ returns-clause-deepest c =
     (places-are c.deref-2.result.now c.in_ok-spans.spans.items (c.deref-2.ensures.value ∙ c.in_ok-places.ensures.value ∙ ap (map (λ (l : LongSpan). long_place (seen_long l))) c.deref.ensures.value) ∙ ap (map long_place) (c.in_ok-spans.ensures.value ∙ long-are c.args.source.now c.args.located.now c.requires.located))
 
 pub push_long_entries-requires-clause-fit : goal.push_long_entries-requires-clause-fit
-push_long_entries-requires-clause-fit c = ?
+push_long_entries-requires-clause-fit c =
+    All-same (HasFit c.args.source.now) c.deref-3.result.now c.in_ok-spans.spans.items c.deref-3.ensures.value (c.in_ok-spans.ensures.fit c.args.source.now c.requires.located)
 
 pub returns-clause-value : goal.returns-clause-value
-returns-clause-value c = ?
+returns-clause-value c =
+    let s = c.args.source.now in
+    let ls = c.args.located.now in
+    let spans : map seen_long c.deref-3.result.now ≡ long_spans s (annotations_of ls) = ap (map seen_long) c.deref-3.ensures.value ∙ c.in_ok-spans.ensures.value ∙ long-are s ls c.requires.located in
+    c.in_ok-push_long_entries.ensures.value
+    ∙ ap (λ ps. ps ++ long_parts s (map long_place (map seen_long c.deref-3.result.now)) [] (map seen_long c.deref-3.result.now)) (c.in_ok-entries.ensures.value ∙ short-parts s ls c.requires.located)
+    ∙ ap (λ es. map (single_part s) (filter (is_short s.text) (annotations_of ls)) ++ long_parts s (map long_place es) [] es) spans

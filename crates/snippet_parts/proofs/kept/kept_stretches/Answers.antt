@@ -5,6 +5,7 @@ use Rattle.snippet_model.specs.declared.snippet.Annotation.{Annotation}
 use Rattle.snippet_view.specs.Kept.{is_trivial_line}
 use Rattle.snippet_view.specs.Mark.{is_marking}
 use Rattle.snippet_view.specs.Marked.{first_line}
+use Rattle.snippet_parts.proofs.LocatedLemmas.{located-ordered, located-within}
 use Rattle.snippet_parts.proofs.KeptLemmas.{keeps-ends, last_bar-is, last_bar-apart}
 use Rattle.snippet_parts.proofs.kept.kept_stretches.Goals as goal
 
@@ -37,3 +38,36 @@ returns-clause-value c k =
     (omega (arith, one-at-most c.has_closing_bar.result c.from-closing.result c.from-closing.ensures)) in
     main ∙ ap (λ n. keeps_by source a k n l) (c.touched-all.ensures.first ∙ c.requires.located.first)
     ∙ ap (λ n. keeps_by source a k (first_line source a) n) (c.touched-all.ensures.last ∙ c.requires.located.last)
+
+pub returns-then-all-clause-head : goal.returns-then-all-clause-head
+returns-then-all-clause-head c = omega (arith, c.touched-all.ensures.first, c.touched-all.ensures.last, located-ordered c.args.source.now c.args.span.now c.requires.located, located-within c.args.source.now c.args.span.now c.requires.located)
+
+pub returns-then-all-clause-tail : goal.returns-then-all-clause-tail
+returns-then-all-clause-tail c = omega (arith, c.touched-all.ensures.first, c.touched-all.ensures.last, located-ordered c.args.source.now c.args.span.now c.requires.located, located-within c.args.source.now c.args.span.now c.requires.located)
+
+pub returns-then-all-clause-head_last : goal.returns-then-all-clause-head_last
+returns-then-all-clause-head_last c = omega (arith, c.touched-all.ensures.first, c.touched-all.ensures.last, located-ordered c.args.source.now c.args.span.now c.requires.located, located-within c.args.source.now c.args.span.now c.requires.located)
+
+pub returns-then-all-clause-tail_last : goal.returns-then-all-clause-tail_last
+returns-then-all-clause-tail_last c = omega (arith, c.touched-all.ensures.first, c.touched-all.ensures.last, located-ordered c.args.source.now c.args.span.now c.requires.located, located-within c.args.source.now c.args.span.now c.requires.located)
+
+pub bars_end-requires-clause-ordered : goal.bars_end-requires-clause-ordered
+bars_end-requires-clause-ordered c = omega (arith, c.touched-all.ensures.first, c.touched-all.ensures.last, located-ordered c.args.source.now c.args.span.now c.requires.located)
+
+pub bars_end-requires-clause-within : goal.bars_end-requires-clause-within
+bars_end-requires-clause-within c = omega (arith, c.touched-all.ensures.first, c.touched-all.ensures.last, located-ordered c.args.source.now c.args.span.now c.requires.located, located-within c.args.source.now c.args.span.now c.requires.located)
+
+pub has_closing_bar-requires-clause-within : goal.has_closing_bar-requires-clause-within
+has_closing_bar-requires-clause-within c = omega (arith, c.touched-all.ensures.first, c.touched-all.ensures.last, located-ordered c.args.source.now c.args.span.now c.requires.located, located-within c.args.source.now c.args.span.now c.requires.located)
+
+pub returns-clause-head : goal.returns-clause-head
+returns-clause-head c = omega (arith, c.touched-all.ensures.first, c.touched-all.ensures.last, located-ordered c.args.source.now c.args.span.now c.requires.located, located-within c.args.source.now c.args.span.now c.requires.located)
+
+pub returns-clause-tail : goal.returns-clause-tail
+returns-clause-tail c = omega (arith, c.touched-all.ensures.first, c.touched-all.ensures.last, located-ordered c.args.source.now c.args.span.now c.requires.located, located-within c.args.source.now c.args.span.now c.requires.located)
+
+pub returns-clause-head_last : goal.returns-clause-head_last
+returns-clause-head_last c = omega (arith, c.touched-all.ensures.first, c.touched-all.ensures.last, located-ordered c.args.source.now c.args.span.now c.requires.located, located-within c.args.source.now c.args.span.now c.requires.located, c.bars_end.ensures.to)
+
+pub returns-clause-tail_last : goal.returns-clause-tail_last
+returns-clause-tail_last c = omega (arith, c.touched-all.ensures.first, c.touched-all.ensures.last, located-ordered c.args.source.now c.args.span.now c.requires.located, located-within c.args.source.now c.args.span.now c.requires.located)

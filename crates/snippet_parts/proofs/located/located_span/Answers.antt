@@ -1,7 +1,15 @@
-use Rattle.std.proofs.Common.{ap, arith, ◌∙◌}
+use Rattle.std.proofs.Common.{◌≡◌, ◌+◌, ap, arith, ◌∙◌}
 use Rattle.snippet_lines.specs.declared.place.Loc.{Loc}
-use Rattle.snippet_view.proofs.MarkLemmas.{first-from, last-from}
+use Rattle.snippet_lines.specs.Lines.{Source}
+use Rattle.snippet_lines.specs.Place.{locations_of}
+use Rattle.snippet_model.specs.declared.snippet.Annotation.{Annotation}
+use Rattle.snippet_view.specs.Marked.{last_line}
+use Rattle.snippet_view.proofs.MarkLemmas.{first-from, end-line}
 use Rattle.snippet_parts.proofs.located.located_span.Goals as goal
+
+-- the line on which an annotation's locations end
+last-from : (s : Source) (a : Annotation) (at : Loc × Loc) → at ≡ locations_of s a.span.start a.span.end → at.1.line ≡ s.first + last_line s.text a
+last-from s a at is = ap (λ (l : Loc × Loc). l.1.line) is ∙ end-line s a.span.start a.span.end
 
 pub overflow_sub-result : goal.overflow_sub-result
 overflow_sub-result c =
