@@ -177,7 +177,7 @@ pub cuts_of-more : (layout : Layout) (room : ℕ) (placed : List PlacedEntry) (f
     → cuts_of layout room (drop k placed) (drop k flags) ≡ cut_of layout room (get_or placed k e, get_or flags k flag) ++ cuts_of layout room (drop (k + 1) placed) (drop (k + 1) flags)
 cuts_of-more layout room placed flags k e flag within there =
     ap (λ es. cuts_of layout room es (drop k flags)) (drop_more placed k e within)
-        ∙ ap (cuts_of layout room (get_or placed k e ∷ drop (k + 1) placed)) (drop_more flags k flag there)
+    ∙ ap (cuts_of layout room (get_or placed k e ∷ drop (k + 1) placed)) (drop_more flags k flag there)
 
 -- nothing is cut after the last entry
 pub cuts_of-none : (layout : Layout) (room k : ℕ) (placed : List PlacedEntry) (flags : List Bool) → length placed ≤ k → cuts_of layout room (drop k placed) (drop k flags) ≡ []
@@ -204,7 +204,7 @@ cut_rows-here layout row (cut ∷ cuts) above source marks below here =
     let placeholder = text_cells LineNumber (placeholder_of layout.decor) in
     let change = replaced_within cut.from cut.to placeholder in
     ap (cut_rows layout.decor row cuts) (replaced_here layout row cut.from cut.to above source marks below here)
-        ∙ cut_rows-here layout row cuts above (change source) (change marks) below here
+    ∙ cut_rows-here layout row cuts above (change source) (change marks) below here
 
 -- nothing is cut where no entry is wide
 pub cuts_of-narrow : (layout : Layout) (room : ℕ) (placed : List PlacedEntry) (flags : List Bool) → list_any (is_wide_at room layout.decor) placed ≡ false → cuts_of layout room placed flags ≡ []
@@ -213,4 +213,4 @@ cuts_of-narrow layout room (e ∷ es) [] narrow = refl
 cuts_of-narrow layout room (e ∷ es) (flag ∷ flags) narrow =
     let parts = or_parts (is_wide_at room layout.decor e) (list_any (is_wide_at room layout.decor) es) narrow in
     ap (λ wide. cond (wide && not flag) (middle_of layout room e.entry ∷ []) [] ++ cuts_of layout room es flags) parts.0
-        ∙ cuts_of-narrow layout room es flags parts.1
+    ∙ cuts_of-narrow layout room es flags parts.1

@@ -16,6 +16,6 @@ returns-clause-cut c =
     let wide : is_wide_entry c.args.room (length (placeholder_of layout.decor)) entry ≡ true = sym c.is_wide.ensures.value ∙ c.if-not-is_wide.false in
     let one : 1 ≡ 0 + cond (is_wide_entry c.args.room (length (placeholder_of layout.decor)) entry) 1 0 = sym (ap (λ b. 0 + cond b 1 0) wide) in
     on_ok_weaker c.cut_stretch.result
-          (λ is above source marks below here was. subst (λ n. CutsRows layout n above source marks below c.cut_stretch.new.buffer)
-          one (CutsRows-replaced layout c.args.row start end above source marks below c.args.buffer.now c.cut_stretch.new.buffer (omega arith)
-          here was is)) c.cut_stretch.ensures.ok
+    (λ is above source marks below here was. subst (λ n. CutsRows layout n above source marks below c.cut_stretch.new.buffer)
+    one (CutsRows-replaced layout c.args.row start end above source marks below c.args.buffer.now c.cut_stretch.new.buffer (omega arith)
+    here was is)) c.cut_stretch.ensures.ok
