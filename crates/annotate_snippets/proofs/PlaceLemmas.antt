@@ -11,7 +11,8 @@ use Rattle.snippet_splice.specs.declared.patches.TrimmedPatch.{TrimmedPatch}
 use Rattle.snippet_splice.specs.Edits.{edit_of, trimmed_edit_of}
 use Rattle.snippet_splice.specs.Shown.{first_start}
 use Rattle.snippet_suggest.specs.declared.PreparedSuggestion.{PreparedSuggestion}
-use Rattle.snippet_suggest.specs.Given.{edits_of, source_of, trimmed_of}
+use Rattle.snippet_suggest.specs.Given.{edits_of, trimmed_of}
+use Rattle.snippet_view.specs.Numbered.{numbered_source}
 use Rattle.snippet_suggest.specs.Prepared.{IsPrepared}
 use Rattle.snippet_suggest.proofs.PreparedLemmas.{some-left}
 use Rattle.snippet_suggest.proofs.SpanLemmas.{trimmed_spans}
@@ -59,4 +60,4 @@ pub first-place : (p : PreparedSuggestion) (t : TrimmedPatch) (at : Loc × Loc) 
     → ◌≡◌ {A = OriginLocation} (record { line = Some at.0.line; column = Some (at.0.char + 1) }) (patch_place p.snippet.now)
 first-place p t at h is located =
     let first : t.span.start ≡ first_start (trimmed_of p.snippet.now) = first_start-of p.splice.patches.items t is ∙ ap first_start h.edits in
-    ap (λ (l : Loc × Loc). place_from l.0) located ∙ ap place_from (locations_of-start p.map t.span.start t.span.end) ∙ ap (λ m. place_from (start_location m t.span.start)) h.lines ∙ ap (λ b. place_from (start_location (source_of p.snippet.now) b)) first
+    ap (λ (l : Loc × Loc). place_from l.0) located ∙ ap place_from (locations_of-start p.map t.span.start t.span.end) ∙ ap (λ m. place_from (start_location m t.span.start)) h.lines ∙ ap (λ b. place_from (start_location (numbered_source p.snippet.now) b)) first

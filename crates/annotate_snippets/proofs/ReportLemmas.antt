@@ -2,6 +2,7 @@
 use Rattle.std.proofs.Common.{◌≡◌, ℕ, zero, suc, ◌+◌, arith, drop, true, List, [], ◌∷◌, ◌++◌, All, Option, Some, None, Result, Ok, Err, IfSome, length, map, chars, refl, sym, ap, subst, ◌∙◌, encode_utf8_all}
 use Rattle.std.specs.List.{AllZip, Contains, flat_map, join_with_byte, slice_get}
 use Rattle.std.specs.Result.{IfOk, MatchResult, IsErrAnd}
+use Rattle.std.proofs.Math.Nat.{zero-add}
 use Rattle.std.proofs.lemmas.List.Elements.{All-nil, All-cons, All-append, All-get_or}
 use Rattle.std.proofs.lemmas.Option.{get_or_from_slice_get, slice_get_within}
 use Rattle.snippet_grid.specs.Print.{plain_text}
@@ -42,8 +43,6 @@ free_joined trusted a b first second =
 none_more : (n : ℕ) → n + 0 ≡ n
 none_more n = omega arith
 
-none_before : (i : ℕ) → 0 + i ≡ i
-none_before i = omega arith
 
 one_more : (n i : ℕ) → suc n + i ≡ n + suc i
 one_more n i = omega arith
@@ -133,7 +132,7 @@ module _ (r : Renderer) (groups : List Group) (grids : List GroupGrid) (drawable
   report_page : PageOf r groups 0 groups grids
   report_page =
       PageOf-grids r groups 0 groups grids are.levels
-      (λ i g grid at there. subst (λ k. IsGridShown r groups k g grid) (sym (none_before i))
+      (λ i g grid at there. subst (λ k. IsGridShown r groups k g grid) (sym (zero-add i))
       (group_shown r (frame_of r groups g) (place_at (length groups) i) (file_of_group groups g) g grid.buffer (All-in i g at)
       (room_in_report r groups drawable i g at) (are.each i g grid at there)))
     where
@@ -144,7 +143,7 @@ module _ (r : Renderer) (groups : List Group) (grids : List GroupGrid) (drawable
   -- it shows each group
   page_shows : AreGroupsShown r groups report_page.page
   page_shows =
-      record { count = report_page.count; each = λ i g part at there. subst (λ k. IsShownAt r groups k g part) (none_before i) (report_page.each i g part at there) }
+      record { count = report_page.count; each = λ i g part at there. subst (λ k. IsShownAt r groups k g part) (zero-add i) (report_page.each i g part at there) }
 
   -- its characters are those of the grids
   text_of_page : page_text report_page.page ≡ join_with_byte 10 (map grid_plain grids)

@@ -3,6 +3,7 @@ use Rattle.std.specs.Prelude.{◌≡◌, ℕ, ◌+◌, ◌^◌, List, [], ◌∷
 use Rattle.std.specs.Option.{option_map, option_or, option_to_list}
 use Rattle.std.specs.Cow.{cow_str_bytes}
 use Rattle.std.specs.declared.ops.Range.{Range}
+pub use Rattle.snippet_suggest.specs.Given.{added_lines}
 use Rattle.snippet_model.specs.declared.snippet.Group.{Group}
 use Rattle.snippet_model.specs.declared.snippet.Patch.{Patch}
 use Rattle.snippet_model.specs.declared.snippet.Element.{Element}
@@ -48,10 +49,6 @@ end_faults group element end = if is_some end then [] else LineNumberTooLarge gr
 -- the number after that of a source's last line
 abbrev pub number_after_lines : ℕ → List ℕ → ℕ
 number_after_lines line_start source = line_start + length (source_lines source)
-
--- how many lines some patches may add: the line feeds of their replacements
-abbrev pub added_lines : List Patch → ℕ
-added_lines patches = sum_by (λ p. count_by (λ b. b == 10) (cow_str_bytes p.replacement)) patches
 
 -- the refusal of patches of which two overlap, which names the first such pair: one, or none
 abbrev pub overlap_faults : ℕ → ℕ → List Patch → List RenderError

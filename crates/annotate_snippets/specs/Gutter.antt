@@ -2,6 +2,7 @@
 use Rattle.std.specs.Prelude.{ℕ, ◌+◌, ◌==◌, ◌&&◌, max, not, Bool, List, length, fold, if◌then◌else◌}
 use Rattle.std.specs.List.{flat_map}
 use Rattle.std.specs.Fmt.{decimal}
+pub use Rattle.snippet_view.specs.Numbered.{numbered_source}
 use Rattle.snippet_model.specs.declared.snippet.Group.{Group}
 use Rattle.snippet_model.specs.declared.snippet.Snippet.{Snippet}
 use Rattle.snippet_model.specs.declared.snippet.Annotation.{Annotation}
@@ -53,10 +54,6 @@ line_numbers r numbered =
 -- what stands in the gutter beside a line of this number: the number, `LL` in its place, or spaces
 abbrev pub number_text : Renderer → Bool → ℕ → ℕ → List ℕ
 number_text r numbered gutter number = shown_number (line_numbers r numbered) gutter number
-
--- a snippet's source, with the number of its first line
-abbrev pub numbered_source : Snippet Annotation → Source
-numbered_source s = record { text = cow_str_bytes s.source; first = s.line_start }
 
 -- how many bars stand side by side left of an element's code: the greatest depth of its spans of several lines
 abbrev pub depth_of_element : Element → ℕ

@@ -16,7 +16,8 @@ use Rattle.snippet_view.specs.Annotated.{KeptLine, annotated_lines}
 use Rattle.snippet_view.specs.Location.{primary_place, secondary_place}
 use Rattle.snippet_view.specs.declared.location.Location.{Location}
 use Rattle.snippet_splice.specs.Shown.{first_start}
-use Rattle.snippet_suggest.specs.Given.{source_of, trimmed_of}
+use Rattle.snippet_suggest.specs.Given.{trimmed_of}
+use Rattle.snippet_view.specs.Numbered.{numbered_source}
 use Rattle.snippet_suggest.specs.declared.SuggestionStart.{SuggestionStart}
 use Rattle.snippet_suggest.specs.declared.SuggestionStart.TheVariants as start
 use Rattle.snippet_titles.specs.Heading.{heading_rows}
@@ -106,7 +107,7 @@ cause_head r frame around s =
 -- the place at which the first patch of a snippet starts, trimmed as it is
 abbrev pub patch_place : Snippet Patch → OriginLocation
 patch_place s =
-    let at = start_location (source_of s) (first_start (trimmed_of s)) in
+    let at = start_location (numbered_source s) (first_start (trimmed_of s)) in
     record { line = Some at.line; column = Some (at.char + 1) }
 
 -- the row of a suggestion's path

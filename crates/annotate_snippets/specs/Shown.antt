@@ -12,6 +12,7 @@ use Rattle.snippet_grid.specs.Print.{row_text}
 use Rattle.snippet_style.specs.declared.glyphs.DecorStyle.{DecorStyle}
 use Rattle.snippet_style.specs.declared.role.LevelInner.{LevelInner}
 use Rattle.snippet_style.specs.declared.stylesheet.Stylesheet.{Stylesheet}
+pub use Rattle.snippet_text.specs.Normalized.{normalized_chars}
 use Rattle.snippet_text.specs.Normalized.{is_listed, norm}
 use Rattle.snippet_model.specs.Heading.{Heading, heading_of_message, heading_of_title}
 use Rattle.snippet_model.specs.Trusted.{trusted_texts}
@@ -110,11 +111,6 @@ bounds_in r frame s = margin_of (room_of r frame) s.fold (numbered_source s) s.m
 abbrev pub wide_spans : ℕ → ℕ → Snippet Annotation → ℕ → ℕ
 wide_spans room placeholder_width s k =
     count_by (λ a. is_marked_on (cow_str_bytes s.source) k a && is_wide room placeholder_width (cow_str_bytes s.source) a) s.markers.items
-
--- the characters that a text shows where there is one
-abbrev pub normalized_chars : Option (List ℕ) → List ℕ
-normalized_chars None = []
-normalized_chars (Some text) = norm (chars text)
 
 -- the characters that a span's label shows, which are none where it has no label
 abbrev pub shown_label : Annotation → List ℕ

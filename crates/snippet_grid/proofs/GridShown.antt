@@ -1,6 +1,6 @@
 -- The rows of cells that runs show, and what a run over others writes there.
 use Rattle.std.proofs.Common.{◌≡◌, ◌^◌, ℕ, ◌+◌, ◌-◌, ◌<◌, ◌≤◌, max, List, [], ◌∷◌, ◌++◌, length, map, take, get_or, refl, sym, ap, ◌∙◌, arith, false, inl, inr, subst, All, None, Result, Ok, Err, OnErr, encode_utf8, encode_utf8_all}
-use Rattle.std.proofs.lemmas.List.{append-nil, same_lists, get_or_default, get_or_past}
+use Rattle.std.proofs.lemmas.List.{append-nil, same_lists, get_or_default, get_or_past, nil_from_length}
 use Rattle.std.proofs.lemmas.List.FromFn.{length-map-range_with_len, get_or-map-range_with_len}
 use Rattle.std.proofs.lemmas.Bool.{cases_lt, cases_eq}
 use Rattle.std.proofs.lemmas.Str.{encodes-chars, chars_from_encodes}
@@ -206,10 +206,6 @@ unfolding grid_shown
 grid_none text runs widths none =
     ap (λ (w : List ℕ). map (λ r. map (λ c. shown text runs r c) (range_with_len 0 (get_or w r 0))) (range_with_len 0 (length w))) none
 
-take_none : (cs : List ℕ) → length cs ≤ 0 → cs ≡ []
-take_none [] none = refl
-take_none (c ∷ cs) none = absurd (omega arith)
-
 -- a text that has a byte has a character
 pub chars_some : (text : List ℕ) → IsUtf8 text → 0 < length text → 0 < length (chars text)
 chars_some text utf8 some =
@@ -217,7 +213,7 @@ chars_some text utf8 some =
     elim (cases_lt 0 (length (chars text))) [
       | inl h ↦ h
       | inr none ↦
-          let empty : chars text ≡ [] = take_none (chars text) none in
+          let empty : chars text ≡ [] = nil_from_length (chars text) (omega (arith, none)) in
           absurd (omega (arith, ap length (sym whole ∙ ap encode_utf8_all empty)))
     ]
 

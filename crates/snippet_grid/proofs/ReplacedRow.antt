@@ -1,6 +1,6 @@
 -- A row in which a text took the place of some cells.
 use Rattle.std.proofs.Common.{◌≡◌, ◌≢◌, ℕ, ◌+◌, ◌-◌, ◌<◌, ◌≤◌, ◌^◌, List, [], ◌∷◌, ◌++◌, length, take, drop, get_or, refl, sym, ap, ◌∙◌, arith, inl, inr, subst, All, None}
-use Rattle.std.proofs.lemmas.List.{get_or_default, get_or-take, get_or-drop, length-drop}
+use Rattle.std.proofs.lemmas.List.{get_or_default, get_or-take, get_or-drop, length-drop, nil_from_length}
 use Rattle.std.proofs.lemmas.List.Elements.{All-append}
 use Rattle.std.proofs.lemmas.Bool.{cases_lt}
 use Rattle.std.proofs.lemmas.Str.{chars-nil}
@@ -21,15 +21,11 @@ use Rattle.snippet_grid.specs.Runs.{IsRun, IsRow, IsWord, BeginsWith, EndsBy, Fi
 use Rattle.snippet_style.specs.declared.role.ElementStyle.{ElementStyle}
 use Rattle.snippet_grid.specs.declared.runs.Run.{Run}
 
-is_nil : (cs : List ℕ) → length cs ≤ 0 → cs ≡ []
-is_nil [] none = refl
-is_nil (c ∷ cs) none = absurd (omega arith)
-
 -- a text with no byte shows nothing
 pub span_empty : (text : List ℕ) (out : List Run) (row at : ℕ) (word : List ℕ) (g : ℕ → Cell) → length word ≤ 0 → ShowsSpan text text out out row at (at + length (chars word)) g
 span_empty text out row at word g none =
     λ c.
-    let no_char : length (chars word) ≡ 0 = ap (λ (w : List ℕ). length (chars w)) (is_nil word none) ∙ ap length chars-nil in
+    let no_char : length (chars word) ≡ 0 = ap (λ (w : List ℕ). length (chars w)) (nil_from_length word (omega (arith, none))) ∙ ap length chars-nil in
     sym (elim (cases_lt c at) [
       | inl before ↦ pick (g c) (shown text out row c) (within_before at (at + length (chars word)) c before)
       | inr low ↦ pick (g c) (shown text out row c) (within_after at (at + length (chars word)) c (omega arith))

@@ -1,7 +1,10 @@
 -- Laws of the line that holds a byte, and of the place of a byte.
-use Rattle.std.proofs.Common.{◌≡◌, ◌≢◌, ℕ, zero, suc, ◌+◌, ◌-◌, ◌<◌, ◌≤◌, true, eqb, ltb, min, List, [], ◌∷◌, length, drop, get_or, refl, ap, ◌∙◌, ⊎_elim, arith, add-zero}
-use Rattle.std.specs.Str.{IsCharBoundary, chars}
-use Rattle.std.proofs.lemmas.List.{get_or-take, get_or-drop}
+use Rattle.std.proofs.Common.{◌≡◌, ◌≢◌, ℕ, zero, suc, ◌+◌, ◌-◌, ◌<◌, ◌≤◌, true, eqb, ltb, min, List, [], ◌∷◌, ◌++◌, length, take, drop, get_or, refl, sym, ap, subst, ◌∙◌, ⊎_elim, arith, add-zero}
+use Rattle.std.specs.List.{slice_range}
+use Rattle.std.specs.Str.{IsCharBoundary, IsUtf8, chars}
+use Rattle.std.proofs.Math.Seq.{take-add}
+use Rattle.std.proofs.lemmas.List.{get_or-take, get_or-drop, take_min}
+use Rattle.std.proofs.lemmas.Str.{IsUtf8-take, chars-append}
 use Rattle.std.proofs.lemmas.Bool.{cases_lt, cases_order, cond_both, ltb-true, ltb-false, cond-true, cond-false, eq-eqb, ne_eqb}
 use Rattle.snippet_lines.specs.declared.lines.EndLine.{EndLine}
 use Rattle.snippet_lines.specs.declared.lines.EndLine.TheVariants.{Eof, Lf, Crlf}
@@ -189,3 +192,16 @@ worked-start = refl
 worked-span : locations_of (record { text = 9 ∷ 13 ∷ 10 ∷ 9 ∷ []; first = 7 }) 0 5 ≡ (record { line = 7; char = 0; display = 0; byte = 0 }, record { line = 8; char = 2; display = 5; byte = 5 })
 unfolding locations_of start_location end_location location_of steps_after_text place_of line_of start_of chars char_width
 worked-span = refl
+
+-- the characters before a byte of a line are those before an earlier one, and those between the two
+pub chars-later : (text between : List ℕ) (a b from to : ℕ) → IsUtf8 text → IsCharBoundary text (min a (length text)) → a ≤ b → from ≡ min a (length text) → to ≡ min b (length text) → between ≡ slice_range text from to
+    → chars (take b text) ≡ chars (take a text) ++ chars between
+chars-later text between a b from to utf8 border order from_is to_is is =
+    let ahead : from + (to - from) ≡ to = grind (arith, from_is, to_is) in
+    let first : IsUtf8 (take from text) = IsUtf8-take text from utf8 (subst (IsCharBoundary text) (sym from_is) border) in
+    let whole : take b text ≡ take to text = sym (take_min b text) ∙ ap (λ n. take n text) (sym to_is) in
+    let parts : take to text ≡ take from text ++ take (to - from) (drop from text) = ap (λ n. take n text) (sym ahead) ∙ take-add from (to - from) text in
+    ap chars (whole ∙ parts)
+    ∙ chars-append (take from text) (take (to - from) (drop from text)) first
+    ∙ ap (λ bytes. chars bytes ++ chars (take (to - from) (drop from text))) (ap (λ n. take n text) from_is ∙ take_min a text)
+    ∙ ap (λ bytes. chars (take a text) ++ chars bytes) (sym is)

@@ -42,4 +42,33 @@ impl Loc {
             byte,
         }
     }
+
+    /// The place of a later byte of the same line: of the line's text, and the byte at which it starts.
+    ///
+    /// Only what lies between the two is walked. A byte after the text stands at its end.
+    pub fn later_on_line(self, text: &str, start: usize, byte: usize) -> Loc
+        requires fits { length text.now < 2 ^ 56 }
+        requires here_char { self.char ≡ length (chars (take (self.byte - start) text.now)) }
+        requires here_display { self.display ≡ width_of (chars (take (self.byte - start) text.now)) }
+        requires here_border { IsCharBoundary text.now (min (self.byte - start) (length text.now)) }
+        requires border { IsCharBoundary text.now (min (byte - start) (length text.now)) }
+        requires started { start ≤ self.byte }
+        requires later { self.byte ≤ byte }
+        ensures line { result.line ≡ self.line }
+        ensures char { result.char ≡ length (chars (take (byte - start) text.now)) }
+        ensures display { result.display ≡ width_of (chars (take (byte - start) text.now)) }
+        ensures byte { result.byte ≡ byte }
+        ensures char_bound { result.char ≤ length text.now }
+        ensures display_bound { result.display ≤ 4 * length text.now }
+    {
+        let from = (self.byte - start).min(text.len());
+        let to = (byte - start).min(text.len());
+        let between = &text[from..to];
+        Loc {
+            line: self.line,
+            char: self.char + char_count(between),
+            display: self.display + str_width(between),
+            byte,
+        }
+    }
 }

@@ -9,38 +9,43 @@ use Rattle.std.proofs.lemmas.List.Folds.{list_any_more}
 use Rattle.snippet_model.specs.declared.snippet.Annotation.{Annotation}
 use Rattle.snippet_parts.specs.declared.kept.Stretch.{Stretch}
 use Rattle.snippet_view.specs.Mark.{is_marking, touches}
-use Rattle.snippet_parts.specs.Stretches.{holds, furthest, is_covered, is_seen}
+use Rattle.snippet_view.specs.Measures.{greatest}
+use Rattle.snippet_parts.specs.Stretches.{holds, is_covered, is_seen}
+use Rattle.snippet_view.proofs.ExtentLemmas.{greatest-push}
+use Rattle.snippet_view.proofs.RawDepthLemmas.{greatest-cons}
 use Rattle.snippet_view.proofs.ShownLemmas.{range-more}
 
 -- ---- how far stretches reach
 
-reach-below : (xs : List ℕ) (f n v : ℕ) → f < length xs → f < n → get_or xs f 0 ≤ v → furthest (take n (set xs f v)) ≡ max (furthest (take n xs)) v
+reach-below : (xs : List ℕ) (f n v : ℕ) → f < length xs → f < n → get_or xs f 0 ≤ v → greatest (take n (set xs f v)) ≡ max (greatest (take n xs)) v
 reach-below [] f n v within below more = absurd (omega arith)
 reach-below (x ∷ xs) f zero v within below more = absurd (omega arith)
-reach-below (x ∷ xs) zero (suc n) v within below more = omega arith
-reach-below (x ∷ xs) (suc f) (suc n) v within below more = let h : furthest (take n (set xs f v)) ≡ max (furthest (take n xs)) v = reach-below xs f n v (omega arith) (omega arith) more in omega arith
+reach-below (x ∷ xs) zero (suc n) v within below more = omega (arith, greatest-cons x (take n xs), greatest-cons v (take n xs))
+reach-below (x ∷ xs) (suc f) (suc n) v within below more =
+    let h : greatest (take n (set xs f v)) ≡ max (greatest (take n xs)) v = reach-below xs f n v (omega arith) (omega arith) more in
+    omega (arith, h, greatest-cons x (take n (set xs f v)), greatest-cons x (take n xs))
 
 -- a stretch that is noted covers its lines
 pub covered-set : (reach : List ℕ) (s : Stretch) (k v : ℕ) → s.first < length reach → v ≡ max (get_or reach s.first 0) (s.last + 1) → is_covered (set reach s.first v) k ≡ (is_covered reach k || holds s k)
 covered-set reach s k v within is =
     elim (cases_lt k s.first) [
       | inl before ↦
-          ap (λ xs. ltb k (furthest xs)) (take-set-le (k + 1) reach s.first v (omega arith)) ∙ sym (ap (λ b. is_covered reach k || (b && leb k s.last)) (lt-leb s.first k before) ∙ plain (is_covered reach k))
+          ap (λ xs. ltb k (greatest xs)) (take-set-le (k + 1) reach s.first v (omega arith)) ∙ sym (ap (λ b. is_covered reach k || (b && leb k s.last)) (lt-leb s.first k before) ∙ plain (is_covered reach k))
       | inr after ↦
-          ap (λ n. ltb k n) (reach-below reach s.first (k + 1) v within (omega arith) (omega arith) ∙ old after) ∙ both (furthest (take (k + 1) reach)) k s.last ∙ sym (ap (λ b. is_covered reach k || (b && leb k s.last)) (le-leb s.first k after))
+          ap (λ n. ltb k n) (reach-below reach s.first (k + 1) v within (omega arith) (omega arith) ∙ old after) ∙ both (greatest (take (k + 1) reach)) k s.last ∙ sym (ap (λ b. is_covered reach k || (b && leb k s.last)) (le-leb s.first k after))
     ]
   where
     plain : (b : Bool) → (b || false) ≡ b
     plain true = refl
     plain false = refl
 
-    at-most : (xs : List ℕ) (f n : ℕ) → f < length xs → f < n → get_or xs f 0 ≤ furthest (take n xs)
+    at-most : (xs : List ℕ) (f n : ℕ) → f < length xs → f < n → get_or xs f 0 ≤ greatest (take n xs)
     at-most [] f n a b = absurd (omega arith)
     at-most (x ∷ xs) f zero a b = absurd (omega arith)
-    at-most (x ∷ xs) zero (suc n) a b = omega arith
-    at-most (x ∷ xs) (suc f) (suc n) a b = let h : get_or xs f 0 ≤ furthest (take n xs) = at-most xs f n (omega arith) (omega arith) in omega arith
+    at-most (x ∷ xs) zero (suc n) a b = omega (arith, greatest-cons x (take n xs))
+    at-most (x ∷ xs) (suc f) (suc n) a b = omega (arith, at-most xs f n (omega arith) (omega arith), greatest-cons x (take n xs))
 
-    old : s.first ≤ k → max (furthest (take (k + 1) reach)) v ≡ max (furthest (take (k + 1) reach)) (s.last + 1)
+    old : s.first ≤ k → max (greatest (take (k + 1) reach)) v ≡ max (greatest (take (k + 1) reach)) (s.last + 1)
     old after = omega (arith, at-most reach s.first (k + 1) within (omega arith))
 
     both : (a k l : ℕ) → ltb k (max a (l + 1)) ≡ (ltb k a || leb k l)
@@ -53,26 +58,22 @@ covered-set reach s k v within is =
           ]
         ]
 
-furthest-push : (xs : List ℕ) (n : ℕ) → furthest (xs ++ n ∷ []) ≡ max n (furthest xs)
-furthest-push [] n = refl
-furthest-push (x ∷ xs) n = let h : furthest (xs ++ n ∷ []) ≡ max n (furthest xs) = furthest-push xs n in omega arith
+-- the greatest of one number more is the greater of that one and the greatest so far
+pub greatest-more : (xs : List ℕ) (i d : ℕ) → i < length xs → greatest (take (i + 1) xs) ≡ max (greatest (take i xs)) (get_or xs i d)
+greatest-more xs i d within = ap greatest (take_more xs i d within) ∙ greatest-push (take i xs) (get_or xs i d)
 
--- the furthest of one number more is the greater of that one and the furthest so far
-pub furthest-more : (xs : List ℕ) (i d : ℕ) → i < length xs → furthest (take (i + 1) xs) ≡ max (get_or xs i d) (furthest (take i xs))
-furthest-more xs i d within = ap furthest (take_more xs i d within) ∙ furthest-push (take i xs) (get_or xs i d)
+greatest-zeros : (n : ℕ) → greatest (replicate n 0) ≡ 0
+greatest-zeros zero = refl
+greatest-zeros (suc n) = omega (arith, greatest-zeros n, greatest-cons 0 (replicate n 0))
 
-furthest-zeros : (n : ℕ) → furthest (replicate n 0) ≡ 0
-furthest-zeros zero = refl
-furthest-zeros (suc n) = let h : furthest (replicate n 0) ≡ 0 = furthest-zeros n in omega arith
-
-take-zeros : (m n : ℕ) → furthest (take m (replicate n 0)) ≡ 0
+take-zeros : (m n : ℕ) → greatest (take m (replicate n 0)) ≡ 0
 take-zeros zero n = refl
 take-zeros (suc m) zero = refl
-take-zeros (suc m) (suc n) = let h : furthest (take m (replicate n 0)) ≡ 0 = take-zeros m n in omega arith
+take-zeros (suc m) (suc n) = omega (arith, take-zeros m n, greatest-cons 0 (take m (replicate n 0)))
 
 -- no line is covered where nothing reaches past one
 pub covered-none : (reach : List ℕ) (n k : ℕ) → reach ≡ replicate n 0 → is_covered reach k ≡ false
-covered-none reach n k is = le-ltb k (furthest (take (k + 1) reach)) (omega (arith, ap (λ xs. furthest (take (k + 1) xs)) is, take-zeros (k + 1) n))
+covered-none reach n k is = le-ltb k (greatest (take (k + 1) reach)) (omega (arith, ap (λ xs. greatest (take (k + 1) xs)) is, take-zeros (k + 1) n))
 
 -- two tests that agree on lines
 pub map-range-agree : {X : Type 0} (f g : ℕ → X) (from n : ℕ) → ((k : ℕ) → f k ≡ g k) → map f (range_with_len from n) ≡ map g (range_with_len from n)

@@ -5,5 +5,6 @@ pub mod KeptLemmas
 pub mod LocatedLemmas
 pub mod LongLemmas
 pub mod OnLineLemmas
+pub mod SpanPlaces
 pub mod StartLemmas
 pub mod TableLemmas

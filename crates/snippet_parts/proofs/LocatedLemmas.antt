@@ -12,7 +12,7 @@ use Rattle.snippet_model.specs.declared.snippet.Annotation.{Annotation}
 use Rattle.snippet_view.specs.declared.entries.LineAnnotationType.TheVariants.{Singleline}
 use Rattle.snippet_view.specs.Annotated.{PartEntry, single_part, long_entry, is_short, is_long, stands_before, long_spans}
 use Rattle.snippet_view.specs.Mark.{is_marking}
-use Rattle.snippet_view.specs.Marked.{Entry, first_line, last_line, widened}
+use Rattle.snippet_view.specs.Marked.{Entry, last_line, widened}
 use Rattle.snippet_view.proofs.PartLemmas.{All-unmapped}
 use Rattle.snippet_parts.specs.declared.located.LocatedSpan.{LocatedSpan}
 use Rattle.snippet_parts.specs.declared.long_spans.LongSpan.{LongSpan}

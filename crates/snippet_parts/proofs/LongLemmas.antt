@@ -1,12 +1,11 @@
 -- Spans of several lines, in their order.
 use Rattle.std.proofs.Common.{◌≡◌, ℕ, ◌^◌, ◌<◌, ◌≤◌, Bool, true, false, ◌&&◌, ◌||◌, not, eqb, ltb, List, map, get_or, inl, inr, ap, ◌∙◌, arith}
 use Rattle.std.specs.Cmp.{IsStrictWeakOrder}
-use Rattle.std.specs.List.{filter}
 use Rattle.std.specs.List.Sorted.{IsNonDecreasingBy, IsSortedBy}
 use Rattle.std.specs.Ordering.{is_lt, ordering_then, nat_cmp}
 use Rattle.std.proofs.lemmas.Bool.Decides.{nat_tests}
 use Rattle.snippet_parts.specs.declared.long_spans.LongSpan.{LongSpan}
-use Rattle.snippet_view.specs.Annotated.{long_entry, is_long, stands_before, long_spans}
+use Rattle.snippet_view.specs.Annotated.{long_entry, is_long, stands_before}
 use Rattle.snippet_lines.specs.Order.{ordered_by}
 use Rattle.snippet_parts.specs.LongSpans.{seen_long, HasFit}
 use Rattle.snippet_lines.specs.Lines.{Source, source_lines}

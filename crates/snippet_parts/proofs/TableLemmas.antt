@@ -1,6 +1,6 @@
 -- What the table of a source's lines says of each of them.
 use Rattle.std.proofs.Common.{◌≡◌, ℕ, zero, suc, ◌+◌, ◌-◌, ◌<◌, ◌≤◌, true, false, ◌&&◌, cond, leb, ltb, min, take, Some, None, List, [], ◌∷◌, ◌++◌, map, length, get_or, refl, sym, ap, subst, ◌∙◌, arith}
-use Rattle.std.proofs.lemmas.List.{append_assoc, get_or-map, length-map, map_push}
+use Rattle.std.proofs.lemmas.List.{map_push}
 use Rattle.std.proofs.lemmas.Bool.{leb-true, leb-false, le-leb, lt-ltb, le-ltb, and_from, and_right, cond-true, cond-false}
 use Rattle.std.specs.List.{HoldsAt, range_with_len}
 use Rattle.std.proofs.lemmas.List.FromFn.{map-range_with_len_more}
@@ -160,13 +160,36 @@ module _ (s : Source) (byte : ℕ) (info : LineInfo) (entry : entry_of info ≡ 
       let k : ℕ = line_of (source_lines s.text) byte in
       subst (λ text. P text info.start_byte) (sym located-text) (subst (λ start. P (text_at (source_lines s.text) k) start) (sym located-start) (IsCharBoundary-prefix s.text byte border))
 
+  -- what stands before the byte in its line
+  before-byte : take (byte - info.start_byte) info.line.now ≡ prefix_at (source_lines s.text) (line_of (source_lines s.text) byte) byte
+  before-byte =
+      ap (λ start. take (byte - start) info.line.now) located-start
+      ∙ ap (take (byte - start_of (source_lines s.text) (line_of (source_lines s.text) byte))) located-text
+
+  -- the line, the character and the column of its location
+  pub located-line : (location : Loc) → location ≡ location_of s byte → location.line ≡ info.line_index
+  unfolding location_of place_of
+  located-line location is = ap (λ (l : Loc). l.line) is ∙ sym located-number
+
+  pub located-char : (location : Loc) → location ≡ location_of s byte → location.char ≡ length (chars (take (byte - info.start_byte) info.line.now))
+  unfolding location_of place_of
+  located-char location is = ap (λ (l : Loc). l.char) is ∙ ap (λ bs. length (chars bs)) (sym before-byte)
+
+  pub located-display : (location : Loc) → location ≡ location_of s byte → location.display ≡ width_of (chars (take (byte - info.start_byte) info.line.now))
+  unfolding location_of place_of
+  located-display location is = ap (λ (l : Loc). l.display) is ∙ ap (λ bs. width_of (chars bs)) (sym before-byte)
+
   -- the location of a byte is made of its line and of what stands before it there
   pub located-is : (location : Loc) → location.line ≡ info.line_index → location.char ≡ length (chars (take (byte - info.start_byte) info.line.now)) → location.display ≡ width_of (chars (take (byte - info.start_byte) info.line.now)) → location.byte ≡ byte → location ≡ location_of s byte
   unfolding location_of place_of
   located-is location line char display at =
       let k : ℕ = line_of (source_lines s.text) byte in
-      let before : take (byte - info.start_byte) info.line.now ≡ prefix_at (source_lines s.text) k byte = ap (λ start. take (byte - start) info.line.now) located-start ∙ ap (take (byte - start_of (source_lines s.text) k)) located-text in
-      same_location location (s.first + k) (length (chars (prefix_at (source_lines s.text) k byte))) (width_of (chars (prefix_at (source_lines s.text) k byte))) byte (line ∙ located-number) (char ∙ ap (λ bs. length (chars bs)) before) (display ∙ ap (λ bs. width_of (chars bs)) before) at
+      let before : List ℕ = chars (prefix_at (source_lines s.text) k byte) in
+      same_location location (s.first + k) (length before) (width_of before) byte
+      (line ∙ located-number)
+      (char ∙ ap (λ bs. length (chars bs)) before-byte)
+      (display ∙ ap (λ bs. width_of (chars bs)) before-byte)
+      at
 
   -- a byte after a line's text is a step further on
   pub located-steps : (steps : ℕ) → steps ≡ cond (ltb (info.start_byte + length info.line.now) byte) 1 0 → steps ≡ steps_after_text s.text byte

@@ -1,22 +1,18 @@
 -- Which lines are covered by stretches of lines.
-use Rattle.std.specs.Prelude.{ℕ, ◌+◌, ◌&&◌, nat_lt, nat_le, max, Bool, not, List, [], ◌∷◌, take}
+use Rattle.std.specs.Prelude.{ℕ, ◌+◌, ◌&&◌, nat_lt, nat_le, Bool, not, List, take}
 use Rattle.snippet_model.specs.declared.snippet.Annotation.{Annotation}
 use Rattle.snippet_parts.specs.declared.kept.Stretch.{Stretch}
+use Rattle.snippet_view.specs.Measures.{greatest}
 use Rattle.snippet_view.specs.Mark.{is_marking, touches}
 
 -- whether a stretch holds line k
 abbrev pub holds : Stretch → ℕ → Bool
 holds s k = nat_le s.first k && nat_le k s.last
 
--- the greatest of some numbers, 0 where there are none
-abbrev pub furthest : List ℕ → ℕ
-furthest [] = 0
-furthest (n ∷ ns) = max n (furthest ns)
-
 -- whether line k is covered, where it is known of each line how far stretches from it reach, the line after the last:
 -- one from it or from a line above reaches past it
 abbrev pub is_covered : List ℕ → ℕ → Bool
-is_covered reach k = nat_lt k (furthest (take (k + 1) reach))
+is_covered reach k = nat_lt k (greatest (take (k + 1) reach))
 
 -- whether a span that isn't marked touches line k
 abbrev pub is_seen : List ℕ → ℕ → Annotation → Bool

@@ -11,8 +11,8 @@ ghost use Rattle.snippet_parts.specs.Stretches.{holds, is_covered, is_seen};
 
 use crate::bars::{bars_end, has_closing_bar};
 use crate::located::LocatedSpan;
-use crate::mark::is_marking;
 use crate::source_map::SourceMap;
+use snippet_view::is_marking;
 use std::alloc::{AllocError, Global};
 
 /// Lines from the first to the last, both counted.

@@ -13,14 +13,14 @@ pub mod mark;
 pub mod source_map;
 
 pub use between::with_lines_between;
-pub use mark::{is_marking, mark_of};
+pub use mark::mark_of;
 pub use snippet_lines::{
     CursorLines, EndLine, Loc, SpanFault, check_span, counts, line_feed_count, lines,
     newline_count, newline_count_before, place, span,
 };
 pub use snippet_view::{
     AnnotatedLineInfo, LineAnnotation, LineAnnotationType, LineWindow, Location, Margin, NearPart,
-    counted_number, leading_whitespace, margin_for, naming_start, near_part, primary_place,
+    counted_number, is_marking, leading_whitespace, margin_for, naming_start, near_part, primary_place,
     secondary_place, window_of,
 };
 pub use source_map::{LineInfo, SourceMap};

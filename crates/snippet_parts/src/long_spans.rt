@@ -9,10 +9,10 @@ ghost use Rattle.snippet_lines.specs.Lines.{Source};
 ghost use Rattle.snippet_lines.specs.Order.{ordered_by};
 
 use crate::located::LocatedSpan;
-use crate::mark::is_marking;
 use snippet_lines::place::Loc;
 use snippet_model::snippet::AnnotationKind;
 use snippet_view::depths::LongExtent;
+use snippet_view::is_marking;
 use std::alloc::{AllocError, Global};
 
 /// A span of several lines.

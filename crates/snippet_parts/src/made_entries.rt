@@ -8,10 +8,9 @@ ghost use Rattle.snippet_parts.specs.Located.{is_short_span, short_part};
 use crate::bars::{bars_end, has_closing_bar};
 use crate::located::LocatedSpan;
 use crate::long_spans::LongSpan;
-use crate::mark::is_marking;
 use crate::source_map::SourceMap;
 use snippet_lines::place::Loc;
-use snippet_view::{LineAnnotation, LineAnnotationType};
+use snippet_view::{LineAnnotation, LineAnnotationType, is_marking};
 use std::alloc::{AllocError, Global};
 
 /// The entries of the spans that are marked on one line, as given.

@@ -7,6 +7,7 @@ ghost use Rattle.snippet_lines.specs.Span.{IsSpan};
 
 use crate::source_map::SourceMap;
 use snippet_model::snippet::{Annotation, AnnotationKind};
+use snippet_view::is_marking;
 use std::cmp::Ordering;
 use std::ops::Range;
 
@@ -111,11 +112,4 @@ fn marked_columns(
         return None;
     }
     Some(start.display..end.display.max(start.display + 1))
-}
-
-/// Whether spans of this kind are marked, and don't just keep their lines.
-pub fn is_marking(kind: AnnotationKind) -> bool
-    ensures value { result ≡ is_marking kind }
-{
-    matches!(kind, AnnotationKind::Primary | AnnotationKind::Context)
 }

@@ -169,7 +169,6 @@ impl<'a> SourceMap<'a> {
     /// The end of an empty span is its start. A start after the end of its line's text, at the line end, counts one
     /// character more than the text has; such an end does too, and one column more, if the span started on an earlier
     /// line.
-    #[tactic(auto, unfolding(snippet_lines::specs::Place::locations_of, snippet_lines::specs::Place::start_location, snippet_lines::specs::Place::end_location))]
     pub fn span_to_locations(&self, span: Range<usize>) -> (Loc, Loc)
         requires span { IsSpan self.now.text span.start span.end }
         ensures value { result ≡ locations_of self.now span.start span.end }
@@ -178,16 +177,26 @@ impl<'a> SourceMap<'a> {
         ensures start_char { result.0.char ≤ 2 ^ 56 }
         ensures end_char { result.1.char ≤ 2 ^ 56 }
     {
-        let (mut start, start_steps) = self.locate(span.start);
-        start.char += start_steps;
+        let line = self.line_holding(span.start);
+        let at = self.locate(&line, span.start);
+        let start = Loc {
+            char: at.char + self.steps_after_text(&line, span.start),
+            ..at
+        };
         if span.start == span.end {
             return (start, start);
         }
-        let (mut end, end_steps) = self.locate(span.end);
-        if start.line != end.line {
-            end.char += end_steps;
-            end.display += end_steps;
+        let last = self.line_holding(span.end);
+        if last.line_index == line.line_index {
+            return (start, self.locate_later(&line, at, span.end));
         }
+        let end = self.locate(&last, span.end);
+        let steps = self.steps_after_text(&last, span.end);
+        let end = Loc {
+            char: end.char + steps,
+            display: end.display + steps,
+            ..end
+        };
         (start, end)
     }
 
@@ -226,19 +235,47 @@ impl<'a> SourceMap<'a> {
         spliced_lines(*self.starts.allocator(), self.source(), patches, fold)
     }
 
-    /// The location of a byte, and 1 if the byte lies after the end of its line's text, else 0.
-    fn locate(&self, byte: usize) -> (Loc, usize)
+    /// The location of a byte of this line.
+    fn locate(&self, line: &LineInfo<'_>, byte: usize) -> Loc
         requires border { IsSpanBorder self.now.text byte }
-        ensures location { result.0 ≡ location_of self.now byte }
-        ensures steps { result.1 ≡ steps_after_text self.now.text byte }
-        ensures char_bound { result.0.char < 2 ^ 56 }
-        ensures display_bound { result.0.display < 2 ^ 58 }
-        ensures step_bound { result.1 ≤ 1 }
+        requires line { let ls = source_lines self.now.text in
+            entry_of line.now ≡ entry_at self.now.first ls (line_of ls byte) }
+        requires short { length self.now.text < 2 ^ 56 }
+        ensures location { result ≡ location_of self.now byte }
+        ensures byte { result.byte ≡ byte }
+        ensures char_bound { result.char < 2 ^ 56 }
+        ensures display_bound { result.display < 2 ^ 58 }
     {
-        let info = self.line_holding(byte);
-        let location = Loc::on_line(info.line, info.line_index, info.start_byte, byte);
-        let steps = usize::from(info.start_byte + info.line.len() < byte);
-        (location, steps)
+        Loc::on_line(line.line, line.line_index, line.start_byte, byte)
+    }
+
+    /// The location of a byte of this line that stands after one whose location is known.
+    fn locate_later(&self, line: &LineInfo<'_>, known: Loc, byte: usize) -> Loc
+        requires known_border { IsSpanBorder self.now.text known.byte }
+        requires border { IsSpanBorder self.now.text byte }
+        requires known { known ≡ location_of self.now known.byte }
+        requires known_line { let ls = source_lines self.now.text in
+            entry_of line.now ≡ entry_at self.now.first ls (line_of ls known.byte) }
+        requires line { let ls = source_lines self.now.text in
+            entry_of line.now ≡ entry_at self.now.first ls (line_of ls byte) }
+        requires later { known.byte ≤ byte }
+        requires short { length self.now.text < 2 ^ 56 }
+        ensures location { result ≡ location_of self.now byte }
+        ensures char_bound { result.char < 2 ^ 56 }
+        ensures display_bound { result.display < 2 ^ 58 }
+    {
+        known.later_on_line(line.line, line.start_byte, byte)
+    }
+
+    /// 1 if a byte of this line lies after the end of the line's text, else 0.
+    fn steps_after_text(&self, line: &LineInfo<'_>, byte: usize) -> usize
+        requires line { let ls = source_lines self.now.text in
+            entry_of line.now ≡ entry_at self.now.first ls (line_of ls byte) }
+        requires short { length self.now.text < 2 ^ 56 }
+        ensures value { result ≡ steps_after_text self.now.text byte }
+        ensures bound { result ≤ 1 }
+    {
+        usize::from(line.start_byte + line.line.len() < byte)
     }
 
     /// The line that holds a byte, from 0.

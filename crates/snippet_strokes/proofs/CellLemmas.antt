@@ -80,8 +80,9 @@ placeholder_some : (decor : DecorStyle) (cells : List Cell) (k : ℕ) → put k 
 placeholder_some Ascii cells k = refl
 placeholder_some Unicode cells k = refl
 
-not_zero : (n : ℕ) → 0 < n → (n == 0) ≡ false
-not_zero n some = grind (arith, nat_tests, some)
+-- a number above zero isn't zero
+pub above_zero : (n : ℕ) → 0 < n → (n == 0) ≡ false
+above_zero n some = grind (arith, nat_tests, some)
 
 pub put_begun : (decor : DecorStyle) (columns : ℕ) (cs : List ℕ) → put columns (put 0 [] (text_cells LineNumber (placeholder_of decor))) (text_cells Quotation cs) ≡ begun_cells decor (Some columns) cs
 put_begun decor columns [] = put_alone LineNumber (placeholder_of decor)
@@ -89,7 +90,7 @@ put_begun decor columns (c ∷ cs) =
     ap (λ cells. written SPACE cells columns (text_cells Quotation (c ∷ cs))) (put_alone LineNumber (placeholder_of decor))
     ∙ ap (λ b. cond b (text_cells LineNumber (placeholder_of decor))
     (written SPACE (text_cells LineNumber (placeholder_of decor)) columns (text_cells Quotation (c ∷ cs))))
-    (sym (not_zero (length (c ∷ cs)) (omega arith)))
+    (sym (above_zero (length (c ∷ cs)) (omega arith)))
 
 pub put_ended : (decor : DecorStyle) (at : ℕ) (cells : List Cell) → put at cells (text_cells LineNumber (placeholder_of decor)) ≡ ended_cells decor (Some at) cells
 put_ended decor at cells = placeholder_some decor cells at

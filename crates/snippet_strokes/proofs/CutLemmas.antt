@@ -198,7 +198,8 @@ replaced_here layout row start end above source marks below here =
     ap (λ rows. cells_replaced rows (row + 1) start end placeholder) (first ∙ apart) ∙ second ∙ append_assoc above (change source ∷ []) (change marks ∷ below)
 
 -- rows that are cut are the two of them, each cut
-pub cut_rows-here : (layout : Layout) (row : ℕ) (cuts : List Stretch) (above : List (List Cell)) (source marks : List Cell) (below : List (List Cell)) → length above ≡ row → cut_rows layout.decor row cuts (above ++ source ∷ marks ∷ below) ≡ above ++ cut_row layout.decor cuts source ∷ cut_row layout.decor cuts marks ∷ below
+pub cut_rows-here : (layout : Layout) (row : ℕ) (cuts : List Stretch) (above : List (List Cell)) (source marks : List Cell) (below : List (List Cell)) → length above ≡ row
+    → cut_rows layout.decor row cuts (above ++ source ∷ marks ∷ below) ≡ above ++ cut_row layout.decor cuts source ∷ cut_row layout.decor cuts marks ∷ below
 cut_rows-here layout row [] above source marks below here = refl
 cut_rows-here layout row (cut ∷ cuts) above source marks below here =
     let placeholder = text_cells LineNumber (placeholder_of layout.decor) in

@@ -107,7 +107,10 @@ module _ (layout : Layout) (room : ℕ) (closes : Bool) (es : List LineAnnotatio
       let cut : CutsRows layout wide above top marks lower final = cuts above top marks lower (sym row_is) (new_below ∙ ap (λ rs. above ++ rs) parts) in
       let exact : CutsRows layout (wide_entries room layout.decor es) above top marks lower final = subst (λ w. CutsRows layout w above top marks lower final) wide_is cut in
       let stretches : List Stretch = cuts_of layout room (painting_order placed) (overlapped placed) in
-      let by_row : final ≡ above ++ cut_row layout.decor stretches top ∷ cut_row layout.decor stretches marks ∷ lower = final_is ∙ ap (λ cs. cut_rows layout.decor row cs new) cuts_are ∙ ap (cut_rows layout.decor row stretches) (new_below ∙ ap (λ rs. above ++ rs) parts) ∙ cut_rows-here layout row stretches above top marks lower (sym row_is) in
+      let change : List Cell → List Cell = cut_row layout.decor stretches in
+      let of_stretches = final_is ∙ ap (λ cs. cut_rows layout.decor row cs new) cuts_are in
+      let of_parts = ap (cut_rows layout.decor row stretches) (new_below ∙ ap (λ rs. above ++ rs) parts) in
+      let by_row : final ≡ above ++ change top ∷ change marks ∷ lower = of_stretches ∙ of_parts ∙ cut_rows-here layout row stretches above top marks lower (sym row_is) in
       record {
         rows = exact.source_now ∷ exact.marks_now ∷ lower;
         added = exact.new_is;

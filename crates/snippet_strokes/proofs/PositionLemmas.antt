@@ -19,6 +19,7 @@ use Rattle.snippet_strokes.specs.Painting.{HasRows}
 use Rattle.snippet_view.specs.Measures.{greatest}
 use Rattle.snippet_strokes.specs.Entries.{HasPlace}
 use Rattle.snippet_view.proofs.PartLemmas.{list_any-map}
+use Rattle.snippet_strokes.proofs.CellLemmas.{above_zero}
 
 -- one more position is known
 pub positions_more : (ps : List ℕ) (es : List PlacedEntry) (all : List ℕ) (i reached : ℕ) (d : PlacedEntry) → i < length es
@@ -121,9 +122,6 @@ placed_more es first ps i e within within_ps so_far is =
     map-push : (xs : List PlacedEntry) (x : PlacedEntry) → map (λ (y : PlacedEntry). y.position) (xs ++ x ∷ []) ≡ map (λ (y : PlacedEntry). y.position) xs ++ x.position ∷ []
     map-push [] x = refl
     map-push (y ∷ ys) x = ap (λ zs. y.position ∷ zs) (map-push ys x)
-
-above_zero : (n : ℕ) → 0 < n → (n == 0) ≡ false
-above_zero n some = grind (arith, nat_tests)
 
 -- where a label begins: in a row that is there, and not left of its entry
 pub label_stands : (row n : ℕ) (e : PlacedEntry) → HasRows row n e → HasPlace e.entry → has_label e ≡ true → row + (label_place e).0 < n

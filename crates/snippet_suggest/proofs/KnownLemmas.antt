@@ -83,4 +83,6 @@ known_first_end p is =
 pub known_first : (p : PreparedSuggestion) → IsPrepared p → p.map.first + (if p.snippet.now.fold then line_of (source_lines p.map.text) (first_original p.splice.patches.items) else 0) ≡ p.snippet.now.line_start + first_given p.snippet.now
 known_first p is =
     let s = p.snippet.now in
-    ap (λ m. m.first + (if s.fold then line_of (source_lines m.text) (first_original p.splice.patches.items) else 0)) is.lines ∙ ap (λ b. s.line_start + (if s.fold then line_of (source_lines (cow_str_bytes s.source)) b else 0)) (first-original p.splice.patches.items (in_order (edits_of s)) is.originals)
+    let trimmed = p.splice.patches.items in
+    ap (λ m. m.first + (if s.fold then line_of (source_lines m.text) (first_original trimmed) else 0)) is.lines
+    ∙ ap (λ b. s.line_start + (if s.fold then line_of (source_lines (cow_str_bytes s.source)) b else 0)) (first-original trimmed (in_order (edits_of s)) is.originals)

@@ -10,14 +10,10 @@ use Rattle.snippet_lines.specs.Lines.{lines_of, source_lines}
 use Rattle.snippet_splice.specs.Edits.{edit_of}
 use Rattle.snippet_splice.specs.Overlap.{AreDisjoint}
 use Rattle.snippet_splice.proofs.FeedLemmas.{shown-bound, text_feeds}
-use Rattle.snippet_suggest.specs.Given.{edits_of, first_given, given_lines, given_text}
+use Rattle.snippet_suggest.specs.Given.{added_lines, edits_of, first_given, given_lines, given_text}
 use Rattle.snippet_suggest.proofs.OfferLaws.{HaveSpans, edits-apart}
 
--- how many LF the replacements of some patches have
-abbrev pub replacement_feeds : List Patch → ℕ
-replacement_feeds ps = sum_by (λ p. count_by (λ b. b == 10) (cow_str_bytes p.replacement)) ps
-
-edits-feeds : (ps : List Patch) → text_feeds (map edit_of ps) ≡ replacement_feeds ps
+edits-feeds : (ps : List Patch) → text_feeds (map edit_of ps) ≡ added_lines ps
 edits-feeds [] = refl
 edits-feeds (p ∷ ps) =
     sum_by-cons (λ e. count_by (λ b. b == 10) e.text) (edit_of p) (map edit_of ps) ∙ ap (λ n. count_by (λ b. b == 10) (cow_str_bytes p.replacement) + n) (edits-feeds ps) ∙ sym (sum_by-cons (λ q. count_by (λ b. b == 10) (cow_str_bytes q.replacement)) p ps)

@@ -16,7 +16,8 @@ use Rattle.snippet_splice.specs.Shown.{first_start}
 use Rattle.snippet_splice.specs.Spliced.{texts_of}
 use Rattle.snippet_splice.proofs.ShownLemmas.{none-given}
 use Rattle.snippet_suggest.specs.declared.kind.DisplaySuggestion.{DisplaySuggestion}
-use Rattle.snippet_suggest.specs.Given.{counted_folded, counted_line, edits_of, first_end, first_given, first_original, given_text, shown_kind, source_of, trimmed_of}
+use Rattle.snippet_suggest.specs.Given.{counted_folded, counted_line, edits_of, first_end, first_given, first_original, given_text, shown_kind, trimmed_of}
+use Rattle.snippet_view.specs.Numbered.{numbered_source}
 use Rattle.snippet_suggest.specs.Prepared.{IsSuggestible}
 
 -- the first of the trimmed patches started where the first edit does
@@ -71,7 +72,7 @@ counted_from source fold text kind start end =
 
 -- it is that of the snippet
 pub counted-is : (s : Snippet Patch) (source : Source) (ps : List TrimmedPatch) (text : List ℕ) (kind : DisplaySuggestion) (count : ℕ)
-    → IsSuggestible s → source ≡ source_of s → text ≡ given_text s → map trimmed_edit_of ps ≡ trimmed_of s
+    → IsSuggestible s → source ≡ numbered_source s → text ≡ given_text s → map trimmed_edit_of ps ≡ trimmed_of s
     → map original_bounds_of ps ≡ map bounds_of (in_order (edits_of s)) → kind ≡ shown_kind s
     → (source.first + (if s.fold then line_of (source_lines source.text) (first_original ps) else 0) + newline_count text < 2 ^ 64
     → count ≡ counted_from source s.fold text kind (first_original ps) (first_end (map trimmed_edit_of ps))) → count ≡ counted_line s
@@ -84,7 +85,7 @@ counted-is s source ps text kind count h of given edits originals shown counted 
     ∙ ap (λ at. s.line_start + (if s.fold then line_of (source_lines (cow_str_bytes s.source)) at else 0)) begin in
     let small : source.first + (if s.fold then line_of (source_lines source.text) start else 0) + newline_count text < 2 ^ 64 = omega (arith, first, ap newline_count given, last-fits s h) in
     counted small ∙ ap (λ (m : Source). counted_from m s.fold text kind start end) of
-    ∙ ap (λ t. counted_from (source_of s) s.fold t kind start end) given
-    ∙ ap (λ k. counted_from (source_of s) s.fold (given_text s) k start end) shown
-    ∙ ap (λ at. counted_from (source_of s) s.fold (given_text s) (shown_kind s) at end) begin
-    ∙ ap (λ ts. counted_from (source_of s) s.fold (given_text s) (shown_kind s) (first_start (in_order (edits_of s))) (first_end ts)) edits
+    ∙ ap (λ t. counted_from (numbered_source s) s.fold t kind start end) given
+    ∙ ap (λ k. counted_from (numbered_source s) s.fold (given_text s) k start end) shown
+    ∙ ap (λ at. counted_from (numbered_source s) s.fold (given_text s) (shown_kind s) at end) begin
+    ∙ ap (λ ts. counted_from (numbered_source s) s.fold (given_text s) (shown_kind s) (first_start (in_order (edits_of s))) (first_end ts)) edits

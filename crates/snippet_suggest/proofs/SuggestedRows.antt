@@ -23,7 +23,8 @@ use Rattle.snippet_suggest.specs.declared.layout.SuggestionStart.TheVariants.{Ne
 use Rattle.snippet_suggest.specs.declared.shown.ShownLine.{ShownLine}
 use Rattle.snippet_suggest.specs.declared.shown.ShownLine.TheVariants.{Gap, Line}
 use Rattle.snippet_suggest.specs.Cells.{begin_cells, diff_cells, emptied_cells, end_cells, gone_of, left_out_cells, offered_cells, on_last, removed_cells, shown_cells, taken_cells, with_stretches}
-use Rattle.snippet_suggest.specs.Given.{edits_of, first_given, given_lines, given_ranges, is_left_out, last_reached, last_removed, shown_kind, source_of, trimmed_of, unless_stays}
+use Rattle.snippet_suggest.specs.Given.{edits_of, first_given, given_lines, given_ranges, is_left_out, last_reached, last_removed, shown_kind, trimmed_of, unless_stays}
+use Rattle.snippet_view.specs.Numbered.{numbered_source}
 use Rattle.snippet_suggest.specs.Order.{Begins, Empty, Ends, Offers, Removes, SuggestionRow, changed_rows, counted_from, is_diff, number_after, numbered_at, removed_from, row_of_shown, rows_of_suggestion}
 use Rattle.snippet_suggest.specs.Rows.{rows_shared}
 use Rattle.snippet_suggest.specs.Shown.{is_touched}
@@ -300,10 +301,10 @@ module _ (layout : SuggestionLayout) (s : Snippet Patch) (line : List ℕ) (f : 
 -- ---- the last row
 
 -- the last row of an underlined suggestion has its marks
-pub ends_marked : (layout : SuggestionLayout) (s : Snippet Patch) (follows : Bool) → shown_kind s ≡ Underline → with_marks layout (source_of s) [] (trimmed_of s) (end_cells layout follows) ≡ cells_of layout s [] (Ends follows)
+pub ends_marked : (layout : SuggestionLayout) (s : Snippet Patch) (follows : Bool) → shown_kind s ≡ Underline → with_marks layout (numbered_source s) [] (trimmed_of s) (end_cells layout follows) ≡ cells_of layout s [] (Ends follows)
 unfolding cells_of
 ends_marked layout s follows marks =
-    ap (λ k. with_marks layout (source_of s) [] (marked_edits k (trimmed_of s)) (end_cells layout follows)) (sym marks)
+    ap (λ k. with_marks layout (numbered_source s) [] (marked_edits k (trimmed_of s)) (end_cells layout follows)) (sym marks)
 
 none_marked : (kind : DisplaySuggestion) (es : List Edit) → kind ≢ Underline → marked_edits kind es ≡ []
 none_marked Underline es other = absurd (other refl)
@@ -315,7 +316,7 @@ none_marked Add es other = refl
 pub ends_plain : (layout : SuggestionLayout) (s : Snippet Patch) (follows : Bool) → shown_kind s ≢ Underline → end_cells layout follows ≡ cells_of layout s [] (Ends follows)
 unfolding cells_of with_marks
 ends_plain layout s follows other =
-    ap (λ es. with_marks layout (source_of s) [] es (end_cells layout follows)) (sym (none_marked (shown_kind s) (trimmed_of s) other))
+    ap (λ es. with_marks layout (numbered_source s) [] es (end_cells layout follows)) (sym (none_marked (shown_kind s) (trimmed_of s) other))
 
 -- the body and the last row are all rows of a suggestion
 pub suggestion_is : (layout : SuggestionLayout) (start : SuggestionStart) (follows : Bool) (s : Snippet Patch) (under : List Cell)

@@ -20,9 +20,9 @@ use Rattle.snippet_suggest.specs.declared.kind.DisplaySuggestion.TheVariants.{Un
 use Rattle.snippet_suggest.specs.Kind.{is_blank, kind_of}
 use Rattle.snippet_suggest.specs.Shown.{is_touched, numbers_shown, shown_lines}
 
--- the source of a snippet, with the number of its first line
-abbrev pub source_of : Snippet Patch → Source
-source_of s = record { text = cow_str_bytes s.source; first = s.line_start }
+-- how many lines some patches may add: the line feeds of their replacements
+abbrev pub added_lines : List Patch → ℕ
+added_lines patches = sum_by (λ p. count_by (λ b. b == 10) (cow_str_bytes p.replacement)) patches
 
 -- the edits that its patches stand for, as they are given, and trimmed
 abbrev pub edits_of : Snippet Patch → List Edit

@@ -2,6 +2,7 @@
 use Rattle.std.specs.Prelude.{ℕ, ◌+◌, ◌-◌, ◌^◌, min, Bool, true, false, Option, Some, None, List, [], ◌∷◌, ◌++◌, length, map, if◌then◌else◌}
 use Rattle.std.specs.Cow.{cow_str_bytes}
 use Rattle.std.specs.List.{filter_map}
+use Rattle.snippet_view.specs.Margin.{capped_sum}
 use Rattle.snippet_model.specs.declared.snippet.Snippet.{Snippet}
 use Rattle.snippet_model.specs.declared.snippet.Patch.{Patch}
 use Rattle.snippet_parts.specs.declared.source_map.LineInfo.{LineInfo}
@@ -54,7 +55,7 @@ lines_taken shown = filter_map line_taken shown
 
 -- the number of the line so many lines after one, as far as there are numbers
 abbrev pub number_after : ℕ → ℕ → ℕ
-number_after first lines = min (first + lines) (2 ^ 64 - 1)
+number_after first lines = capped_sum first lines
 
 -- the number beside a line that is removed: its own where no line is given in place of those that are removed, else one that is
 -- counted

@@ -10,7 +10,8 @@ use Rattle.snippet_splice.specs.Edits.{bounds_of, in_order, original_bounds_of, 
 use Rattle.snippet_splice.specs.Overlap.{AreDisjoint}
 use Rattle.snippet_splice.specs.Stretches.{line_stretches, new_stretches, replaced_stretches}
 use Rattle.snippet_suggest.specs.declared.prepared.PreparedSuggestion.{PreparedSuggestion}
-use Rattle.snippet_suggest.specs.Given.{counted_line, edits_of, first_given, given_lines, given_ranges, given_text, shown_kind, source_of, trimmed_of}
+use Rattle.snippet_suggest.specs.Given.{counted_line, edits_of, first_given, given_lines, given_ranges, given_text, shown_kind, trimmed_of}
+use Rattle.snippet_view.specs.Numbered.{numbered_source}
 
 -- what preparing a snippet of patches asks of it: that its source fits, that each patch has a span, that no two of them
 -- overlap, and that there are numbers for the lines that it gives
@@ -25,7 +26,7 @@ pub record IsSuggestible (s : Snippet Patch) : Type 0 where
 pub record IsPrepared (p : PreparedSuggestion) : Type 0 where
   pub suggestible : IsSuggestible p.snippet.now
   pub some : p.snippet.now.markers.items ≢ []
-  pub lines : p.map ≡ source_of p.snippet.now
+  pub lines : p.map ≡ numbered_source p.snippet.now
   pub text : string_bytes p.splice.complete ≡ given_text p.snippet.now
   pub edits : map trimmed_edit_of p.splice.patches.items ≡ trimmed_of p.snippet.now
   pub originals : map original_bounds_of p.splice.patches.items ≡ map bounds_of (in_order (edits_of p.snippet.now))

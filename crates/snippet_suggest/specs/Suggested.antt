@@ -19,7 +19,8 @@ use Rattle.snippet_suggest.specs.declared.shown.ShownLine.TheVariants.{Line}
 use Rattle.snippet_suggest.specs.Cells.{begin_cells, end_cells, gap_cells, left_out_cells, on_last, removed_cells, shown_cells, sign_of, with_stretches}
 use Rattle.snippet_suggest.specs.Glyphs.{glyph_of}
 use Rattle.snippet_suggest.specs.Rows.{NumberFits}
-use Rattle.snippet_suggest.specs.Given.{edits_of, first_given, given_lines, given_ranges, is_left_out, last_reached, shown_kind, source_of, trimmed_of}
+use Rattle.snippet_suggest.specs.Given.{edits_of, first_given, given_lines, given_ranges, is_left_out, last_reached, shown_kind, trimmed_of}
+use Rattle.snippet_view.specs.Numbered.{numbered_source}
 use Rattle.snippet_suggest.specs.Marks.{with_marks}
 use Rattle.snippet_suggest.specs.Order.{Begins, Empty, Ends, Offers, Removes, Skips, SuggestionRow, is_diff, rows_of_suggestion}
 use Rattle.snippet_suggest.specs.Shown.{is_touched}
@@ -55,7 +56,7 @@ cells_of layout s under (Removes i number text) =
     removed_in layout (given_lines s) (replaced_on s (i - first_given s)) number text under
 cells_of layout s under Empty = []
 cells_of layout s under (Ends follows) =
-    with_marks layout (source_of s) [] (marked_edits (shown_kind s) (trimmed_of s)) (end_cells layout follows)
+    with_marks layout (numbered_source s) [] (marked_edits (shown_kind s) (trimmed_of s)) (end_cells layout follows)
 
 -- what rows hold one below the other, the first of them over a row that is there or has no cells
 abbrev pub cells_over : (List Cell → SuggestionRow → List Cell) → List Cell → List SuggestionRow → List (List Cell)

@@ -1,5 +1,5 @@
 -- The listed characters, and the text that is shown in place of each.
-use Rattle.std.specs.Prelude.{ℕ, ◌+◌, Bool, ◌==◌, ◌||◌, List, [], ◌∷◌, if◌then◌else◌}
+use Rattle.std.specs.Prelude.{ℕ, ◌+◌, Bool, ◌==◌, ◌||◌, List, [], ◌∷◌, Option, None, Some, chars, if◌then◌else◌}
 use Rattle.std.specs.List.{flat_map}
 use Rattle.std.specs.Int.{is_in_range}
 
@@ -30,3 +30,8 @@ shown c =
 -- the normalised text: what is shown for each of its characters, in order
 unfoldable pub norm : List ℕ → List ℕ
 norm cs = flat_map shown cs
+
+-- the characters that a text shows, none where there is no text
+abbrev pub normalized_chars : Option (List ℕ) → List ℕ
+normalized_chars None = []
+normalized_chars (Some text) = norm (chars text)

@@ -20,7 +20,8 @@ use Rattle.snippet_lines.proofs.OrderLemmas.{sorted-only, map-ordered_by}
 use Rattle.snippet_model.specs.declared.snippet.Annotation.{Annotation}
 use Rattle.snippet_model.specs.declared.snippet.Snippet.{Snippet}
 use Rattle.snippet_view.specs.Mark.{is_marking}
-use Rattle.snippet_text_form.specs.Cause.{after_place, cause_form, comes_before, further_indent, has_label, kind_rank, label_of, named_spans, source_of, span_form, span_place, spans_form}
+use Rattle.snippet_text_form.specs.Cause.{after_place, cause_form, comes_before, further_indent, has_label, kind_rank, label_of, named_spans, span_form, span_place, spans_form}
+use Rattle.snippet_view.specs.Numbered.{numbered_source}
 use Rattle.snippet_text_form.specs.Form.{FormPiece, Break, bare}
 use Rattle.snippet_text_form.specs.Position.{place}
 use Rattle.snippet_text_form.specs.declared.cause.NamedSpan.{NamedSpan}
@@ -174,11 +175,11 @@ no_span-added anonymized source path old one two three spans line number first s
 
 -- the whole snippet
 pub cause-added : (anonymized : Bool) (source : Source) (path : Option (List ℕ)) (spans : List Annotation) (s : Snippet Annotation)
-    (old new : List FormPiece) → source ≡ source_of s → path ≡ option_map cow_str_bytes s.path → spans ≡ named_spans s.markers.items
+    (old new : List FormPiece) → source ≡ numbered_source s → path ≡ option_map cow_str_bytes s.path → spans ≡ named_spans s.markers.items
     → new ≡ old ++ spans_form anonymized source path spans → new ≡ old ++ cause_form anonymized s
 unfolding cause_form
 cause-added anonymized source path spans s old new its by are added =
-    added ∙ ap (λ (given : Source). old ++ spans_form anonymized given path spans) its ∙ ap (λ p. old ++ spans_form anonymized (source_of s) p spans) by ∙ ap (λ marks. old ++ spans_form anonymized (source_of s) (option_map cow_str_bytes s.path) marks) are
+    added ∙ ap (λ (given : Source). old ++ spans_form anonymized given path spans) its ∙ ap (λ p. old ++ spans_form anonymized (numbered_source s) p spans) by ∙ ap (λ marks. old ++ spans_form anonymized (numbered_source s) (option_map cow_str_bytes s.path) marks) are
 
 -- ---- texts of labels
 

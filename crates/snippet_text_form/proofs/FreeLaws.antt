@@ -23,7 +23,7 @@ use Rattle.snippet_style.specs.declared.role.ElementStyle.{ElementStyle}
 use Rattle.snippet_style.specs.declared.role.ElementStyle.TheVariants.{Addition}
 use Rattle.snippet_suggest.specs.Given as given
 use Rattle.snippet_suggest.specs.Kind.{is_blank}
-use Rattle.snippet_text.specs.Normalized.{norm, is_listed}
+use Rattle.snippet_text.specs.Normalized.{is_listed, norm, normalized_chars}
 use Rattle.snippet_text.specs.Width.{width_of}
 use Rattle.snippet_titles.specs.Heading.{address_of, shown_text, heading_lines, is_set}
 use Rattle.snippet_titles.specs.Origin.{column_text, line_name}
@@ -31,7 +31,8 @@ use Rattle.snippet_titles.specs.declared.style.HeadingRoles.{HeadingRoles}
 use Rattle.snippet_titles.proofs.DigitLemmas.{IsDigit, decimal-all}
 use Rattle.snippet_titles.proofs.FreeLemmas.{IsUnlisted, IsOwn, norm-free, own_text, own_unlisted, All-slice_split}
 use Rattle.snippet_titles.proofs.OriginFree.{each-fails}
-use Rattle.snippet_text_form.specs.Cause.{after_place, cause_form, column_unless, end_in_file, end_on_line, has_label, is_blank_before, is_blank_after, label_chars, label_of, named_spans, further_indent, source_of, span_form, span_place, span_text, spans_form}
+use Rattle.snippet_text_form.specs.Cause.{after_place, cause_form, column_unless, end_in_file, end_on_line, has_label, is_blank_before, is_blank_after, label_of, named_spans, further_indent, span_form, span_place, span_text, spans_form}
+use Rattle.snippet_view.specs.Numbered.{numbered_source}
 use Rattle.snippet_text_form.specs.Form.{FormPiece, Break, Styled, bare, begun_after, plain_from, styled}
 use Rattle.snippet_text_form.specs.Heading.{before_id, before_name, colon_form, further_line, heading_form, id_form, id_text_form, label_form, label_text, link_for, linking, lines_form, name_form, roles_of}
 use Rattle.snippet_text_form.specs.Position.{after_path, column_words, place, place_in_file, place_on_line}
@@ -161,9 +162,9 @@ span_place-free anonymized source (Some path) start end =
     free-append (place_in_file anonymized path (Some start.line) (Some (start.char + 1))) (end_in_file anonymized start end) (place_in_file-free anonymized path (Some start.line) (Some (start.char + 1))) (end_in_file-free anonymized start end)
 
 -- nor does a label, nor an annotation's line
-label_chars-free : (label : Option (List ℕ)) → AreFree (label_chars label)
-label_chars-free None = All-nil IsUnlisted
-label_chars-free (Some text) = norm-free (chars text)
+normalized-free : (label : Option (List ℕ)) → AreFree (normalized_chars label)
+normalized-free None = All-nil IsUnlisted
+normalized-free (Some text) = norm-free (chars text)
 
 after_place-free : (label : List ℕ) → AreFree label → AreFree (after_place label)
 after_place-free label free = of_shown (nat_lt 0 (length label))
@@ -176,7 +177,7 @@ span_text-free : (anonymized : Bool) (source : Source) (indent : List ℕ) (path
 span_text-free anonymized source indent path a free =
     let at = locations_of source a.span.start a.span.end in
     let place : List ℕ = span_place anonymized source path at.0 at.1 in
-    free-append (indent ++ place) (after_place (label_of a)) (free-append indent place free (span_place-free anonymized source path at.0 at.1)) (after_place-free (label_of a) (label_chars-free (option_map cow_str_bytes a.label)))
+    free-append (indent ++ place) (after_place (label_of a)) (free-append indent place free (span_place-free anonymized source path at.0 at.1)) (after_place-free (label_of a) (normalized-free (option_map cow_str_bytes a.label)))
 
 further_indent-free : (path : Option (List ℕ)) → AreFree (further_indent path)
 further_indent-free None = each-fails is_listed (codes " ") refl
@@ -206,7 +207,7 @@ spans-free anonymized source path (a ∷ marks) =
 pub cause-free : (begun anonymized : Bool) (s : Snippet Annotation) → All (λ c. is_listed c ≡ false) (plain_from begun (cause_form anonymized s))
 unfolding cause_form
 cause-free begun anonymized s =
-    spans-free anonymized (source_of s) (option_map cow_str_bytes s.path) (named_spans s.markers.items) begun
+    spans-free anonymized (numbered_source s) (option_map cow_str_bytes s.path) (named_spans s.markers.items) begun
 
 -- nor does where an edit stands
 replaced_to-free : (anonymized : Bool) (start end : Loc) → AreFree (replaced_to anonymized start end)
@@ -284,7 +285,7 @@ edit_indent-free (Some number) = each-fails is_listed (codes "  ") refl
 pub suggestion-free : (begun anonymized : Bool) (at : SuggestionContext) (s : Snippet Patch) → All (λ c. is_listed c ≡ false) (plain_from begun (suggestion_form anonymized at s))
 unfolding suggestion_form
 suggestion-free begun anonymized at s =
-    let source : Source = given.source_of s in
+    let source : Source = numbered_source s in
     let path : Option (List ℕ) = named_path at.names_path (option_map cow_str_bytes s.path) in
     let edits : Edit → List FormPiece = edit_form anonymized source (edit_indent at.option) path in
     each-append IsUnlisted refl (option_form at.option) (flat_map edits (given.trimmed_of s)) (option-free at.option) (each-flat_map IsUnlisted refl edits (edit-free anonymized source (edit_indent at.option) path (edit_indent-free at.option)) (given.trimmed_of s)) begun

@@ -29,7 +29,8 @@ use Rattle.snippet_text.specs.Width.{width_of}
 use Rattle.snippet_titles.specs.Heading.{address_of, heading_lines, is_set}
 use Rattle.snippet_titles.specs.Title.{id_links, text_links}
 use Rattle.snippet_titles.specs.declared.style.HeadingRoles.{HeadingRoles}
-use Rattle.snippet_text_form.specs.Cause.{cause_form, has_label, named_spans, further_indent, source_of, span_form, span_text, spans_form}
+use Rattle.snippet_text_form.specs.Cause.{cause_form, has_label, named_spans, further_indent, span_form, span_text, spans_form}
+use Rattle.snippet_view.specs.Numbered.{numbered_source}
 use Rattle.snippet_text_form.specs.Form.{FormPiece, bare, form_links, styled}
 use Rattle.snippet_text_form.specs.Heading.{before_id, before_name, colon_form, further_line, heading_form, id_form, id_text_form, label_form, label_text, link_for, linking, lines_form, name_form, roles_of}
 use Rattle.snippet_text_form.specs.Position.{place, place_in_file}
@@ -132,7 +133,7 @@ spans-links anonymized source path (a ∷ marks) =
 pub cause-links : (anonymized : Bool) (s : Snippet Annotation) → form_links (cause_form anonymized s) ≡ []
 unfolding cause_form
 cause-links anonymized s =
-    spans-links anonymized (source_of s) (option_map cow_str_bytes s.path) (named_spans s.markers.items)
+    spans-links anonymized (numbered_source s) (option_map cow_str_bytes s.path) (named_spans s.markers.items)
 
 option-links : (option : Option ℕ) → form_links (option_form option) ≡ []
 option-links None = refl
@@ -159,7 +160,7 @@ edit-links anonymized source indent path e =
 pub suggestion-links : (anonymized : Bool) (at : SuggestionContext) (s : Snippet Patch) → form_links (suggestion_form anonymized at s) ≡ []
 unfolding suggestion_form
 suggestion-links anonymized at s =
-    let source : Source = given.source_of s in
+    let source : Source = numbered_source s in
     let path : Option (List ℕ) = named_path at.names_path (option_map cow_str_bytes s.path) in
     let edits : Edit → List FormPiece = edit_form anonymized source (edit_indent at.option) path in
     links-after (option_form at.option) (flat_map edits (given.trimmed_of s)) (option-links at.option) ∙ each-links edits (edit-links anonymized source (edit_indent at.option) path) (given.trimmed_of s)

@@ -15,7 +15,8 @@ use Rattle.snippet_titles.specs.Heading.{shown_text, heading_lines}
 use Rattle.snippet_text.specs.Width.{width_of}
 use Rattle.snippet_titles.specs.declared.style.HeadingRoles.{HeadingRoles}
 use Rattle.snippet_titles.proofs.OriginFree.{each-fails}
-use Rattle.snippet_text_form.specs.Cause.{after_place, cause_form, has_label, label_of, named_spans, further_indent, source_of, span_form, span_place, spans_form}
+use Rattle.snippet_text_form.specs.Cause.{after_place, cause_form, has_label, label_of, named_spans, further_indent, span_form, span_place, spans_form}
+use Rattle.snippet_view.specs.Numbered.{numbered_source}
 use Rattle.snippet_text_form.specs.Form.{FormPiece, Char, Break, Styled, bare, begun_after, plain_from}
 use Rattle.snippet_text_form.specs.Heading.{heading_form, label_form, label_text, lines_form, roles_of}
 use Rattle.snippet_text_form.specs.Order.{StandInOrder}
@@ -141,4 +142,4 @@ spans-hold anonymized source path (a ∷ marks) begun =
 pub cause-holds : (begun anonymized : Bool) (s : Snippet Annotation) → StandInOrder (map label_of (named_spans s.markers.items)) (plain_from begun (cause_form anonymized s))
 unfolding cause_form
 cause-holds begun anonymized s =
-    spans-hold anonymized (source_of s) (option_map cow_str_bytes s.path) (named_spans s.markers.items) begun
+    spans-hold anonymized (numbered_source s) (option_map cow_str_bytes s.path) (named_spans s.markers.items) begun

@@ -12,7 +12,8 @@ use Rattle.snippet_model.specs.declared.snippet.Patch.{Patch}
 use Rattle.snippet_model.specs.declared.snippet.Snippet.{Snippet}
 use Rattle.snippet_splice.specs.Edits.{Edit, trimmed_edit_of}
 use Rattle.snippet_splice.specs.declared.patches.TrimmedPatch.{TrimmedPatch}
-use Rattle.snippet_suggest.specs.Given.{source_of, trimmed_of}
+use Rattle.snippet_suggest.specs.Given.{trimmed_of}
+use Rattle.snippet_view.specs.Numbered.{numbered_source}
 use Rattle.snippet_suggest.specs.Kind.{is_blank}
 use Rattle.snippet_suggest.specs.Prepared.{IsPrepared}
 use Rattle.snippet_suggest.specs.declared.PreparedSuggestion.{PreparedSuggestion}
@@ -65,9 +66,9 @@ suggestion_added anonymized at p indent path old mid new is indents names first 
     let s : Snippet Patch = p.snippet.now in
     let edits : List Edit = map trimmed_edit_of p.splice.patches.items in
     let named : Option (List ℕ) = named_path at.names_path (option_map cow_str_bytes s.path) in
-    let forms : flat_map (edit_form anonymized p.map indent path) edits ≡ flat_map (edit_form anonymized (source_of s) (edit_indent at.option) named)
+    let forms : flat_map (edit_form anonymized p.map indent path) edits ≡ flat_map (edit_form anonymized (numbered_source s) (edit_indent at.option) named)
     (trimmed_of s) = ap (λ source. flat_map (edit_form anonymized source indent path) edits) is.lines
-    ∙ ap (λ text. flat_map (edit_form anonymized (source_of s) text path) edits) indents
-    ∙ ap (λ to. flat_map (edit_form anonymized (source_of s) (edit_indent at.option) to) edits) names
-    ∙ ap (λ es. flat_map (edit_form anonymized (source_of s) (edit_indent at.option) named) es) is.edits in
+    ∙ ap (λ text. flat_map (edit_form anonymized (numbered_source s) text path) edits) indents
+    ∙ ap (λ to. flat_map (edit_form anonymized (numbered_source s) (edit_indent at.option) to) edits) names
+    ∙ ap (λ es. flat_map (edit_form anonymized (numbered_source s) (edit_indent at.option) named) es) is.edits in
     added-two old mid new (option_form at.option) (flat_map (edit_form anonymized p.map indent path) edits) first last ∙ ap (λ form. old ++ (option_form at.option ++ form)) forms

@@ -5,6 +5,7 @@ use Rattle.std.specs.Cow.{cow_str_bytes}
 use Rattle.std.specs.Fmt.{decimal}
 use Rattle.std.specs.List.{flat_map, list_all}
 use Rattle.std.specs.Option.{option_map}
+use Rattle.snippet_view.specs.Numbered.{numbered_source}
 use Rattle.snippet_lines.specs.Lines.{Source, line_at}
 use Rattle.snippet_lines.specs.Order.{ordered_by}
 use Rattle.snippet_lines.specs.Place.{locations_of}
@@ -14,7 +15,7 @@ use Rattle.snippet_model.specs.declared.snippet.AnnotationKind.{AnnotationKind}
 use Rattle.snippet_model.specs.declared.snippet.AnnotationKind.TheVariants.{Primary, Context, Visible}
 use Rattle.snippet_model.specs.declared.snippet.Snippet.{Snippet}
 use Rattle.snippet_view.specs.Mark.{is_marking}
-use Rattle.snippet_text.specs.Normalized.{norm}
+use Rattle.snippet_text.specs.Normalized.{normalized_chars}
 use Rattle.snippet_titles.specs.Origin.{line_name}
 use Rattle.snippet_text_form.specs.Form.{FormPiece, Break, bare}
 use Rattle.snippet_text_form.specs.Position.{column_words, place, place_in_file, place_on_line}
@@ -35,14 +36,9 @@ comes_before a b =
 abbrev pub named_spans : List Annotation → List Annotation
 named_spans marks = ordered_by comes_before (filter (λ a. is_marking a.kind) marks)
 
--- the characters of a label, normalised; none where there is no label
-abbrev pub label_chars : Option (List ℕ) → List ℕ
-label_chars None = []
-label_chars (Some text) = norm (chars text)
-
--- the characters of an annotation's label
+-- the characters of an annotation's label, normalised; none where there is no label
 abbrev pub label_of : Annotation → List ℕ
-label_of a = label_chars (option_map cow_str_bytes a.label)
+label_of a = normalized_chars (option_map cow_str_bytes a.label)
 
 -- whether an annotation has a label that shows anything
 abbrev pub has_label : Annotation → Bool
@@ -105,11 +101,7 @@ spans_form anonymized source path [] =
 spans_form anonymized source path (a ∷ others) =
     span_form anonymized source (codes " ") path a ++ flat_map (span_form anonymized source (further_indent path) None) (filter has_label others)
 
--- the source of an annotated snippet, with the number of its first line
-abbrev pub source_of : Snippet Annotation → Source
-source_of s = record { text = cow_str_bytes s.source; first = s.line_start }
-
 -- an annotated snippet: its annotations, in order
 unfoldable pub cause_form : Bool → Snippet Annotation → List FormPiece
 cause_form anonymized s =
-    spans_form anonymized (source_of s) (option_map cow_str_bytes s.path) (named_spans s.markers.items)
+    spans_form anonymized (numbered_source s) (option_map cow_str_bytes s.path) (named_spans s.markers.items)

@@ -14,7 +14,8 @@ use Rattle.snippet_model.specs.declared.snippet.Snippet.{Snippet}
 use Rattle.snippet_splice.specs.Edits.{Edit}
 use Rattle.snippet_splice.specs.Shown.{without_final_line_feeds}
 use Rattle.snippet_style.specs.declared.role.ElementStyle.TheVariants.{Addition}
-use Rattle.snippet_suggest.specs.Given.{source_of, trimmed_of}
+use Rattle.snippet_suggest.specs.Given.{trimmed_of}
+use Rattle.snippet_view.specs.Numbered.{numbered_source}
 use Rattle.snippet_suggest.specs.Kind.{is_blank, is_under_text, text_under}
 use Rattle.snippet_text.specs.Normalized.{norm}
 use Rattle.snippet_titles.specs.Origin.{line_name}
@@ -89,7 +90,7 @@ named_path names path = if names then path else None
 -- a suggestion: its number, where it is one of several for one file, and its trimmed edits, in order
 unfoldable pub suggestion_form : Bool → SuggestionContext → Snippet Patch → List FormPiece
 suggestion_form anonymized at s =
-    option_form at.option ++ flat_map (edit_form anonymized (source_of s) (edit_indent at.option) (named_path at.names_path (option_map cow_str_bytes s.path))) (trimmed_of s)
+    option_form at.option ++ flat_map (edit_form anonymized (numbered_source s) (edit_indent at.option) (named_path at.names_path (option_map cow_str_bytes s.path))) (trimmed_of s)
 
 -- a place without source, on a line of its own
 unfoldable pub origin_form : Bool → Origin → List FormPiece

@@ -6,7 +6,8 @@ ghost use Rattle.std.specs.Cow.{cow_str_bytes};
 ghost use Rattle.std.specs.Option.{option_copied, option_map};
 ghost use Rattle.std.specs.Ordering.{nat_cmp, ordering_then};
 ghost use Rattle.snippet_lines.specs.Span.{IsSpan};
-ghost use Rattle.snippet_text_form.specs.Cause.{cause_form, end_in_file, end_on_line, has_label, kind_rank, source_of, span_form, span_place, spans_form};
+ghost use Rattle.snippet_text_form.specs.Cause.{cause_form, end_in_file, end_on_line, has_label, kind_rank, span_form, span_place, spans_form};
+ghost use Rattle.snippet_view.specs.Numbered.{numbered_source};
 ghost use Rattle.snippet_text_form.specs.Cause as spec;
 ghost use Rattle.snippet_text_form.specs.Form.{bare};
 
@@ -35,7 +36,7 @@ pub fn add_cause<'a>(
     snippet: &'a Snippet<'a, Annotation<'a>>,
     map: &SourceMap<'a>,
 ) -> Result<(), AllocError>
-    requires map { map.now ≡ source_of snippet.now }
+    requires map { map.now ≡ numbered_source snippet.now }
     requires spans { All (λ a. IsSpan map.now.text a.span.start a.span.end) snippet.now.markers.items }
     ensures added { OnOk result (form.new ≡ form.old ++ cause_form anonymized snippet.now) }
 {

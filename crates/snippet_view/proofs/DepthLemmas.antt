@@ -3,9 +3,10 @@ use Rattle.std.proofs.Common.{◌≡◌, ℕ, zero, suc, ◌+◌, ◌-◌, ◌<�
 use Rattle.std.specs.List.{All, Contains, list_any}
 use Rattle.std.proofs.lemmas.Bool.{cases_Bool, cases_lt, and_from, and_parts, cond-true, cond-false, both_ways}
 use Rattle.std.proofs.lemmas.List.{take_at, length-map, get_or-map}
+use Rattle.snippet_view.specs.Measures.{greatest}
 use Rattle.snippet_view.specs.declared.depths.LongExtent.{LongExtent}
 use Rattle.snippet_view.specs.Depths.{same_place, share_line, places_of, raw_depth, raw_depth_among, greatest_raw_depth, greatest_depth, depth_among, SharesWithFirst, IsChainOf, IsLongestChain, raw_depths}
-use Rattle.snippet_view.proofs.RawDepthLemmas.{among-after, among-most, among-new, any-at, fold-max, greatest-bound, greatest-is, length-raw_depths, max_of, places-bound, raw_depths-are, same-true}
+use Rattle.snippet_view.proofs.RawDepthLemmas.{among-after, among-most, among-new, any-at, fold-max, greatest-bound, greatest-is, length-raw_depths, places-bound, raw_depths-are, same-true}
 use Rattle.snippet_view.proofs.DepthSearchLemmas.{near_max-after, no_place, raw_depth-near, raw_depth-some}
 use Rattle.std.proofs.lemmas.Simd.{map-map}
 
@@ -21,7 +22,7 @@ greatest-depth-bound ps = omega (arith, greatest-bound (places_of ps), places-bo
 
 -- the greatest of the raw depths is the greatest depth
 pub greatest-fold : (ps : List LongExtent) (raws : List ℕ) → raws ≡ raw_depths ps → fold max 0 raws ≡ greatest_depth ps
-greatest-fold ps raws is = let e : fold max 0 raws ≡ max 0 (max_of raws) = fold-max 0 raws in omega (arith, e, ap max_of is, greatest-is ps)
+greatest-fold ps raws is = let e : fold max 0 raws ≡ max 0 (greatest raws) = fold-max 0 raws in omega (arith, e, ap greatest is, greatest-is ps)
 
 among-some : (ps : List LongExtent) (p : LongExtent) → list_any (same_place p) ps ≡ true → 1 ≤ raw_depth_among (places_of ps) p
 among-some [] p stands = cc

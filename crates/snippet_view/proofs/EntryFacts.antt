@@ -3,6 +3,7 @@ use Rattle.std.proofs.Common.{◌≡◌, ℕ, ◌+◌, ◌-◌, ◌*◌, ◌^◌
 use Rattle.std.specs.List.{All, Contains, count_by, filter, list_all, list_any}
 use Rattle.std.specs.Option.{IfSome, option_copied, option_map}
 use Rattle.std.specs.Cow.{cow_str_bytes}
+use Rattle.std.proofs.Math.Nat.{zero-add}
 use Rattle.std.proofs.lemmas.Bool.{cases_Bool, cond-true, cond-false, or_cases, and_parts, and_from, and_right, le-leb, eqb-true, le-ltb, ne_eqb, not-true, both_ways}
 use Rattle.std.proofs.lemmas.List.{append-nil}
 use Rattle.std.proofs.lemmas.List.Elements.{All-nil, All-cons, All-head, All-tail, All-same, All-weaker, All-filter, All-contains, filter-append, filter_agree}
@@ -248,9 +249,6 @@ count-map p f [] = refl
 count-map p f (x ∷ xs) =
     sum_by-cons (λ y. cond (p y) 1 0) (f x) (map f xs) ∙ ap (λ n. cond (p (f x)) 1 0 + n) (count-map p f xs) ∙ sym (sum_by-cons (λ x. cond (p (f x)) 1 0) x xs)
 
-none-more : (n : ℕ) → 0 + n ≡ n
-none-more n = omega arith
-
 count-filter : {X : Type 0} (q p : X → Bool) (xs : List X) → count_by q (filter p xs) ≡ count_by (λ x. p x && q x) xs
 count-filter q p [] = refl
 count-filter q p (x ∷ xs) =
@@ -258,7 +256,7 @@ count-filter q p (x ∷ xs) =
       | inl t ↦ ap (count_by q) (cond-true (p x) (x ∷ filter p xs) (filter p xs) t) ∙ sum_by-cons (λ y. cond (q y) 1 0) x (filter p xs)
           ∙ ap (λ n. cond (q x) 1 0 + n) (count-filter q p xs)
           ∙ sym (sum_by-cons (λ y. cond (p y && q y) 1 0) x xs ∙ ap (λ b. cond (b && q x) 1 0 + count_by (λ y. p y && q y) xs) t)
-      | inr f ↦ ap (count_by q) (cond-false (p x) (x ∷ filter p xs) (filter p xs) f) ∙ count-filter q p xs ∙ sym (sum_by-cons (λ y. cond (p y && q y) 1 0) x xs ∙ ap (λ b. cond (b && q x) 1 0 + count_by (λ y. p y && q y) xs) f ∙ none-more (count_by (λ y. p y && q y) xs))
+      | inr f ↦ ap (count_by q) (cond-false (p x) (x ∷ filter p xs) (filter p xs) f) ∙ count-filter q p xs ∙ sym (sum_by-cons (λ y. cond (p y && q y) 1 0) x xs ∙ ap (λ b. cond (b && q x) 1 0 + count_by (λ y. p y && q y) xs) f ∙ zero-add (count_by (λ y. p y && q y) xs))
     ]
 
 count-agree : {X : Type 0} (p q : X → Bool) → ((x : X) → p x ≡ q x) → (xs : List X) → count_by p xs ≡ count_by q xs
@@ -269,7 +267,7 @@ count-agree p q same (x ∷ xs) =
 count-none : {X : Type 0} (p : X → Bool) (xs : List X) → All (λ x. p x ≡ false) xs → count_by p xs ≡ 0
 count-none p [] all = refl
 count-none p (x ∷ xs) all =
-    sum_by-cons (λ y. cond (p y) 1 0) x xs ∙ ap (λ b. cond b 1 0 + count_by p xs) (All-head (λ x. p x ≡ false) x xs all) ∙ none-more (count_by p xs) ∙ count-none p xs (All-tail (λ x. p x ≡ false) x xs all)
+    sum_by-cons (λ y. cond (p y) 1 0) x xs ∙ ap (λ b. cond b 1 0 + count_by p xs) (All-head (λ x. p x ≡ false) x xs all) ∙ zero-add (count_by p xs) ∙ count-none p xs (All-tail (λ x. p x ≡ false) x xs all)
 
 -- whether an entry that is made stands for a whole span that is wide
 is_wide_part : ℕ → ℕ → PartEntry → Bool

@@ -2,6 +2,7 @@
 use Rattle.std.proofs.Common.{◌≡◌, ℕ, zero, suc, ◌+◌, ◌<◌, ◌≤◌, true, false, ◌&&◌, cond, eqb, max, fold, drop, List, [], ◌∷◌, map, length, get_or, inl, inr, refl, sym, ap, subst, ◌∙◌, arith}
 use Rattle.std.specs.List.{list_any}
 use Rattle.std.proofs.lemmas.Bool.{cases_Bool, eqb-true, eq-eqb, and_from, and_parts, or_left, or_right, cond-true, cond-false, both_ways, false_from_ne_true}
+use Rattle.snippet_view.specs.Measures.{greatest}
 use Rattle.snippet_view.specs.declared.depths.LongExtent.{LongExtent}
 use Rattle.snippet_view.specs.Depths.{same_place, share_line, places_of, raw_depth, raw_depth_among, greatest_raw_depth, greatest_depth, raw_depths}
 
@@ -53,16 +54,17 @@ among-new p ps fails = ap (λ qs. raw_depth_among qs p) (places-new p ps fails) 
 
 -- ---- raw depths
 
--- the greatest of some numbers, from the first on
-pub max_of : List ℕ → ℕ
-max_of [] = 0
-max_of (n ∷ ns) = max n (max_of ns)
-
 -- the greatest from a number on is the greater of that and the greatest
-pub fold-max : (m : ℕ) (ns : List ℕ) → fold max m ns ≡ max m (max_of ns)
-unfolding max_of
+pub fold-max : (m : ℕ) (ns : List ℕ) → fold max m ns ≡ max m (greatest ns)
 fold-max m [] = omega arith
-fold-max m (n ∷ ns) = let h : fold max (max m n) ns ≡ max (max m n) (max_of ns) = fold-max (max m n) ns in omega arith
+fold-max m (n ∷ ns) =
+    let here : fold max (max m n) ns ≡ max (max m n) (greatest ns) = fold-max (max m n) ns in
+    let from_none : fold max (max 0 n) ns ≡ max (max 0 n) (greatest ns) = fold-max (max 0 n) ns in
+    omega (arith, here, from_none)
+
+-- the greatest is the first or the greatest of the others
+pub greatest-cons : (n : ℕ) (ns : List ℕ) → greatest (n ∷ ns) ≡ max n (greatest ns)
+greatest-cons n ns = let e : fold max (max 0 n) ns ≡ max (max 0 n) (greatest ns) = fold-max (max 0 n) ns in omega (arith, e)
 
 -- no place is deeper than the greatest raw depth
 pub among-most : (ps : List LongExtent) (p : LongExtent) → raw_depth_among ps p ≤ greatest_raw_depth ps
@@ -75,20 +77,20 @@ among-most (q ∷ ps) p =
     ]
 
 -- the greatest raw depth of places is that of the spans
-pub greatest-is : (ps : List LongExtent) → greatest_depth ps ≡ max_of (raw_depths ps)
-unfolding max_of
+pub greatest-is : (ps : List LongExtent) → greatest_depth ps ≡ greatest (raw_depths ps)
 greatest-is [] = refl
 greatest-is (p ∷ ps) =
-    let h : greatest_depth ps ≡ max_of (raw_depths ps) = greatest-is ps in
+    let h : greatest_depth ps ≡ greatest (raw_depths ps) = greatest-is ps in
+    let own : ℕ = raw_depth_among (places_of (p ∷ ps)) p in
     elim (cases_Bool (list_any (same_place p) ps)) [
       | inl holds ↦
           let e : greatest_depth (p ∷ ps) ≡ greatest_depth ps = ap greatest_raw_depth (places-again p ps holds) in
           let f : raw_depth_among (places_of (p ∷ ps)) p ≡ raw_depth_among (places_of ps) p = ap (λ qs. raw_depth_among qs p) (places-again p ps holds) in
           let g : raw_depth_among (places_of ps) p ≤ greatest_depth ps = among-most (places_of ps) p in
-          e ∙ join (greatest_depth ps) (raw_depth_among (places_of (p ∷ ps)) p) (max_of (raw_depths ps)) h (omega arith)
+          e ∙ join (greatest_depth ps) own (greatest (raw_depths ps)) h (omega arith) ∙ sym (greatest-cons own (raw_depths ps))
       | inr fails ↦
           let e : greatest_depth (p ∷ ps) ≡ max (raw_depth p (places_of ps)) (greatest_depth ps) = ap greatest_raw_depth (places-new p ps fails) in
-          e ∙ both (raw_depth p (places_of ps)) (raw_depth_among (places_of (p ∷ ps)) p) (greatest_depth ps) (max_of (raw_depths ps)) (sym (among-new p ps fails)) h
+          e ∙ both (raw_depth p (places_of ps)) (raw_depth_among (places_of (p ∷ ps)) p) (greatest_depth ps) (greatest (raw_depths ps)) (sym (among-new p ps fails)) h ∙ sym (greatest-cons own (raw_depths ps))
     ]
   where
     join : (a b c : ℕ) → a ≡ c → b ≤ a → a ≡ max b c

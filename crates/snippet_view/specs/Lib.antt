@@ -10,6 +10,7 @@ pub mod Marked
 pub mod Measures
 pub mod Location
 pub mod NearPart
+pub mod Numbered
 pub mod OnLine
 pub mod Prepare
 pub mod Trivial

@@ -15,7 +15,7 @@ pub mod window;
 pub use entries::{AnnotatedLineInfo, LineAnnotation, LineAnnotationType};
 pub use extent::margin_for;
 pub use line_window::{LineWindow, window_of};
-pub use location::{Location, naming_start, primary_place, secondary_place};
+pub use location::{Location, is_marking, naming_start, primary_place, secondary_place};
 pub use margin::Margin;
 pub use near::{NearPart, near_part};
 pub use prepare::counted_number;

@@ -114,15 +114,15 @@ fn first_marked(annotations: &[Annotation<'_>]) -> Option<usize>
 {
     let mut least = None;
     for annotation in annotations {
-        if is_marked(annotation.kind) {
+        if is_marking(annotation.kind) {
             least = lesser(least, annotation.span.start);
         }
     }
     least
 }
 
-/// Whether spans of a kind are marked.
-fn is_marked(kind: AnnotationKind) -> bool
+/// Whether spans of this kind are marked, and don't just keep their lines.
+pub fn is_marking(kind: AnnotationKind) -> bool
     ensures value { result ≡ is_marking kind }
 {
     matches!(kind, AnnotationKind::Primary | AnnotationKind::Context)

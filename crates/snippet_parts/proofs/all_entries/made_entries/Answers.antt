@@ -3,6 +3,7 @@ use Rattle.snippet_parts.specs.declared.long_spans.LongSpan.{LongSpan}
 use Rattle.snippet_view.specs.Annotated.{is_short, long_parts, long_place, long_spans, single_part}
 use Rattle.snippet_parts.specs.Located.{annotations_of}
 use Rattle.snippet_view.specs.Depths.{greatest_depth}
+use Rattle.snippet_view.specs.declared.depths.LongExtent.{LongExtent}
 use Rattle.std.proofs.lemmas.List.Elements.{All-same}
 use Rattle.snippet_parts.specs.LongSpans.{seen_long, HasFit}
 use Rattle.snippet_parts.proofs.LocatedLemmas.{short-parts, long-are}
@@ -25,8 +26,11 @@ push_long_entries-requires-clause-depths c =
 
 pub returns-clause-deepest : goal.returns-clause-deepest
 returns-clause-deepest c =
-    c.in_ok-greatest.ensures.greatest ∙ ap greatest_depth
-    (places-are c.deref-2.result.now c.in_ok-spans.spans.items (c.deref-2.ensures.value ∙ c.in_ok-places.ensures.value ∙ ap (map (λ (l : LongSpan). long_place (seen_long l))) c.deref.ensures.value) ∙ ap (map long_place) (c.in_ok-spans.ensures.value ∙ long-are c.args.source.now c.args.located.now c.requires.located))
+    let place : LongSpan → LongExtent = λ l. long_place (seen_long l) in
+    let read = c.deref-2.ensures.value ∙ c.in_ok-places.ensures.value ∙ ap (map place) c.deref.ensures.value in
+    let spans = c.in_ok-spans.ensures.value ∙ long-are c.args.source.now c.args.located.now c.requires.located in
+    c.in_ok-greatest.ensures.greatest
+    ∙ ap greatest_depth (places-are c.deref-2.result.now c.in_ok-spans.spans.items read ∙ ap (map long_place) spans)
 
 pub push_long_entries-requires-clause-fit : goal.push_long_entries-requires-clause-fit
 push_long_entries-requires-clause-fit c =

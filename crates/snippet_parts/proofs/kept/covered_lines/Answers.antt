@@ -1,6 +1,7 @@
 use Rattle.std.proofs.Common.{◌≡◌, ◌+◌, ◌||◌, ℕ, not, ltb, take, ap, sym, ◌∙◌, arith}
-use Rattle.snippet_parts.specs.Stretches.{furthest, is_covered}
-use Rattle.snippet_parts.proofs.KeptLemmas.{furthest-more, line-kept, line-left}
+use Rattle.snippet_view.specs.Measures.{greatest}
+use Rattle.snippet_parts.specs.Stretches.{is_covered}
+use Rattle.snippet_parts.proofs.KeptLemmas.{greatest-more, line-kept, line-left}
 use Rattle.snippet_parts.proofs.kept.covered_lines.Goals as goal
 use Rattle.snippet_parts.proofs.kept.covered_lines.Goals.{then-is_shown+in_ok-push, else-is_shown}
 
@@ -8,7 +9,7 @@ pub loop-line-preserved : goal.loop-line-preserved
 loop-line-preserved c =
     let i : ℕ = c.loop-line.line in
     let p = λ (k : ℕ). not c.args.fold || is_covered c.args.reach.now k in
-    let end : c.max-end.result ≡ furthest (take (i + 1) c.args.reach.now) = omega (arith, c.max-end.ensures, c.loop-line.invariant.0, furthest-more c.args.reach.now i 0 (omega arith)) in
+    let end : c.max-end.result ≡ greatest (take (i + 1) c.args.reach.now) = omega (arith, c.max-end.ensures, c.loop-line.invariant.0, greatest-more c.args.reach.now i 0 (omega arith)) in
     let shown : c.is_shown.result ≡ p i = c.is_shown.ensures.value ∙ ap (λ n. not c.args.fold || ltb i n) end in (
       end,
       elim c.if-is_shown.branch [

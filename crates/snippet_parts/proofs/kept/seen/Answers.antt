@@ -1,6 +1,6 @@
-use Rattle.std.proofs.Common.{◌≡◌, ◌<◌, ℕ, false, not, map, length, get_or, ap, sym, ◌∙◌, arith}
+use Rattle.std.proofs.Common.{◌≡◌, ◌<◌, ℕ, Bool, false, not, map, length, get_or, ap, sym, ◌∙◌, arith}
 use Rattle.std.proofs.lemmas.Result.{IfOk-weaker}
-use Rattle.std.specs.List.{list_any}
+use Rattle.std.specs.List.{list_any, range_with_len}
 use Rattle.std.proofs.lemmas.List.FromFn.{get_or-map-range_with_len}
 use Rattle.snippet_lines.specs.Lines.{source_lines}
 use Rattle.snippet_model.specs.declared.snippet.Annotation.{Annotation}
@@ -15,7 +15,9 @@ pub returns-then-has_unmarked : goal.returns-then-has_unmarked
 returns-then-has_unmarked c =
     let text = c.args.source.now.text in
     let marks = c.args.located.now in
-    record { value = IfOk-weaker c.touched_lines.result _ _ (λ lines is k within. ap (λ bs. get_or bs k false) is ∙ get_or-map-range_with_len (λ j. list_any (λ (l : LocatedSpan). is_seen text j l.annotation.now) marks) 0 (length (source_lines text)) k k false within (omega arith)) c.touched_lines.ensures.value }
+    let touches : ℕ → Bool = λ j. list_any (λ (l : LocatedSpan). is_seen text j l.annotation.now) marks in
+    let touched : (k : ℕ) → k < length (source_lines text) → get_or (map touches (range_with_len 0 (length (source_lines text)))) k false ≡ touches k = λ k within. get_or-map-range_with_len touches 0 (length (source_lines text)) k k false within (omega arith) in
+    record { value = IfOk-weaker c.touched_lines.result _ _ (λ lines is k within. ap (λ bs. get_or bs k false) is ∙ touched k within) c.touched_lines.ensures.value }
 
 pub returns-else-has_unmarked : goal.returns-else-has_unmarked
 returns-else-has_unmarked c =

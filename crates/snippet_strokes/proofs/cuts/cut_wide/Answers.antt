@@ -24,13 +24,15 @@ loop-k-preserved c =
     let read : x.entry ≡ get_or es k x.entry = ap entry c.index-placed-k.is ∙ sym (get_or-map entry placed k x x.entry within) in
     let count = count_by_more (is_wide_entry c.args.room (length (placeholder_of layout.decor))) es k x.entry (omega (arith, length-map placed entry)) read in
     let row = c.args.row in
+    let wide : List LineAnnotation → ℕ = wide_entries c.args.room layout.decor in
     let of : PlacedEntry → List Stretch = λ y. cut_of layout c.args.room (y, get_or flags k flag) in
     let rest = cuts_of layout c.args.room (drop (k + 1) placed) (drop (k + 1) flags) in
     let more = cuts_of-more layout c.args.room placed flags k x flag within (omega (arith, within, c.requires.count)) in (
       λ above source marks below here was.
           let done = c.loop-k.invariant.0 above source marks below here was in
           let then = c.in_ok-cut_entry.ensures.cut above done.source_now done.marks_now below here done.new_is in
-          subst (λ n. CutsRows layout n above source marks below c.cut_entry.new.buffer) (sym count) (CutsRows-more layout (wide_entries c.args.room layout.decor (take k es)) (wide_entries c.args.room layout.decor (x.entry ∷ [])) above source marks below c.loop-k.buffer c.cut_entry.new.buffer done then),
+          let both = CutsRows-more layout (wide (take k es)) (wide (x.entry ∷ [])) above source marks below c.loop-k.buffer c.cut_entry.new.buffer done then in
+          subst (λ n. CutsRows layout n above source marks below c.cut_entry.new.buffer) (sym count) both,
       ap (cut_rows layout.decor row rest) c.in_ok-cut_entry.ensures.value
           ∙ ap (λ y. cut_rows layout.decor row rest (cut_rows layout.decor row (of y) c.loop-k.buffer)) c.index-placed-k.is
           ∙ sym (cut_rows-append layout.decor row (of (get_or placed k x)) rest c.loop-k.buffer)

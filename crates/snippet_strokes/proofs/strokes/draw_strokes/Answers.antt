@@ -272,5 +272,8 @@ returns c =
           let flags = c.in_ok-overlapped.overlapped.items in
           let is_wide : PlacedEntry → Bool = is_wide_at c.args.room layout.decor in
           let flags_are : list_any is_wide placed ≡ true → flags ≡ overlapped placed = λ some_wide. c.in_ok-overlapped.ensures.value (ap (list_any is_wide) c.deref.ensures.value ∙ some_wide) ∙ ap overlapped c.deref.ensures.value in
-          painted_added layout c.args.room c.args.closes es placed after flags above plain c.args.buffer.now new c.cut_wide.new.buffer c.args.row wide_count c.in_ok-placed.ensures.placed marked.order old_is last_row all_rows new_is wide marked.same flags_are (value ∙ ap (λ ps. cut_rows layout.decor c.args.row (cuts_of layout c.args.room ps c.deref-8.result.now) new) c.deref-7.ensures.value ∙ ap (λ fs. cut_rows layout.decor c.args.row (cuts_of layout c.args.room after fs) new) c.deref-8.ensures.value) cut) c.cut_wide.ensures.cut c.cut_wide.ensures.value;
+          let cut_to : List PlacedEntry → List Bool → List (List Cell) = λ ps fs. cut_rows layout.decor c.args.row (cuts_of layout c.args.room ps fs) new in
+          let final_is = value ∙ ap (λ ps. cut_to ps c.deref-8.result.now) c.deref-7.ensures.value ∙ ap (cut_to after) c.deref-8.ensures.value in
+          painted_added layout c.args.room c.args.closes es placed after flags above plain c.args.buffer.now new c.cut_wide.new.buffer c.args.row wide_count
+          c.in_ok-placed.ensures.placed marked.order old_is last_row all_rows new_is wide marked.same flags_are final_is cut) c.cut_wide.ensures.cut c.cut_wide.ensures.value;
     }

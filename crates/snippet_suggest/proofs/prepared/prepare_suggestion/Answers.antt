@@ -11,7 +11,8 @@ use Rattle.snippet_splice.specs.Edits.{Edit, bounds_of, edit_of, in_order, origi
 use Rattle.snippet_splice.specs.Splice.{IsSplice}
 use Rattle.snippet_splice.specs.Shown.{first_start, shown_start, shown_text}
 use Rattle.snippet_splice.specs.Stretches.{new_stretches, replaced_stretches}
-use Rattle.snippet_suggest.specs.Given.{edits_of, given_ranges, given_text, shown_kind, source_of, trimmed_of}
+use Rattle.snippet_suggest.specs.Given.{edits_of, given_ranges, given_text, shown_kind, trimmed_of}
+use Rattle.snippet_view.specs.Numbered.{numbered_source}
 use Rattle.snippet_suggest.specs.Kind.{kind_of}
 use Rattle.snippet_suggest.proofs.PreparedLemmas.{counted-is, some-left}
 use Rattle.snippet_suggest.proofs.prepared.prepare_suggestion.Goals as goal
@@ -32,7 +33,7 @@ returns-clause-prepared c =
     let s : Snippet Patch = c.args.snippet.now in
     let source : List ℕ = cow_str_bytes s.source in
     let ps : List TrimmedPatch = c.in-Some.splice.patches.items in
-    let lines : c.in_ok-map.map ≡ source_of s = c.in_ok-map.ensures.ok ∙ ap (λ (t : List ℕ). record { text = t; first = s.line_start }) c.as_str.ensures.value in
+    let lines : c.in_ok-map.map ≡ numbered_source s = c.in_ok-map.ensures.ok ∙ ap (λ (t : List ℕ). record { text = t; first = s.line_start }) c.as_str.ensures.value in
     let of : c.in_ok-map.map.text ≡ source = ap (λ (m : Source). m.text) lines in
     let given : c.deref.result.now ≡ s.markers.items = c.deref.ensures.value in
     let none = rw c.in-Some.is at c.in_ok-splice.ensures.none in

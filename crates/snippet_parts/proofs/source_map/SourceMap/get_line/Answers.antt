@@ -1,4 +1,4 @@
-use Rattle.std.proofs.Common.{◌≡◌, ◌<◌, ◌≤◌, ◌-◌, Some, ap, ◌∙◌, ℕ, length, arith}
+use Rattle.std.proofs.Common.{◌≡◌, ◌-◌, Some, ap, ◌∙◌, length, arith}
 use Rattle.snippet_lines.specs.Lines.{Source, StandsAt, line_at, source_lines, start_of}
 use Rattle.snippet_parts.proofs.TableLemmas.{length-table, line_at-some, line_at-none}
 use Rattle.snippet_parts.proofs.source_map.SourceMap.get_line.Goals as goal

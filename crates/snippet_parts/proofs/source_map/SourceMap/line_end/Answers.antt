@@ -1,4 +1,4 @@
-use Rattle.std.proofs.Common.{◌≡◌, ◌<◌, ◌≤◌, ◌+◌, ap, sym, ◌∙◌, length, get_or, arith}
+use Rattle.std.proofs.Common.{◌<◌, ◌≤◌, ◌+◌, ap, sym, ◌∙◌, length, get_or, arith}
 use Rattle.std.proofs.lemmas.Bool.{ltb-true, ltb-false}
 use Rattle.snippet_lines.specs.Lines.{Source, source_lines, start_of}
 use Rattle.snippet_parts.proofs.TableLemmas.{table-start, table-end}

@@ -1,0 +1,58 @@
+use Rattle.std.proofs.Common.{◌≡◌, ◌+◌, ◌-◌, ◌*◌, ◌≤◌, ◌++◌, ℕ, List, length, take, chars, ap, ◌∙◌, arith}
+use Rattle.std.proofs.lemmas.Grind.{common_steps}
+use Rattle.std.proofs.lemmas.List.{length-append, length-take}
+use Rattle.std.proofs.lemmas.List.Sums.{sum_by-append}
+use Rattle.snippet_text.proofs.WidthBounds.{width_of-chars}
+use Rattle.snippet_text.specs.Width.{char_width, width_of}
+use Rattle.snippet_style.proofs.CellLemmas.{length-chars_le}
+use Rattle.snippet_lines.proofs.PlaceLemmas.{chars-later}
+use Rattle.snippet_lines.proofs.place.Loc.later_on_line.Goals as goal
+
+-- what stands before the byte is what stands before the earlier one, and what is walked
+walked : (c : goal.After-struct_known-3-1) → chars (take (c.args.byte - c.args.start) c.args.text.now) ≡ chars (take (c.args.self.byte - c.args.start) c.args.text.now) ++ chars c.range-between.result.now
+walked c =
+    let order : c.args.self.byte - c.args.start ≤ c.args.byte - c.args.start = omega (arith, c.requires.later) in
+    chars-later c.args.text.now c.range-between.result.now (c.args.self.byte - c.args.start) (c.args.byte - c.args.start) c.min-from.result c.min-to.result c.utf8.text c.requires.here_border order c.min-from.ensures c.min-to.ensures c.range-between.ensures.value
+
+characters : (c : goal.After-struct_known-3-1) → c.args.self.char + c.char_count.result ≡ length (chars (take (c.args.byte - c.args.start) c.args.text.now))
+characters c =
+    let before : List ℕ = chars (take (c.args.self.byte - c.args.start) c.args.text.now) in
+    let both = ap length (walked c) ∙ length-append before (chars c.range-between.result.now) in
+    omega (arith, c.requires.here_char, c.char_count.ensures.value, both)
+
+columns : (c : goal.After-struct_known-3-1) → c.args.self.display + c.str_width.result ≡ width_of (chars (take (c.args.byte - c.args.start) c.args.text.now))
+columns c =
+    let before : List ℕ = chars (take (c.args.self.byte - c.args.start) c.args.text.now) in
+    let both = ap width_of (walked c) ∙ sum_by-append char_width before (chars c.range-between.result.now) in
+    omega (arith, c.requires.here_display, c.str_width.ensures.value, both)
+
+-- what stands before a byte of a text has no more characters than the text has bytes, and at most four columns for each
+short : (n : ℕ) (text : List ℕ) → length (chars (take n text)) ≤ length text
+short n text = omega (arith, length-chars_le (take n text), length-take n text)
+
+narrow : (n : ℕ) (text : List ℕ) → width_of (chars (take n text)) ≤ 4 * length text
+narrow n text = omega (arith, width_of-chars (take n text), length-take n text)
+
+pub overflow_add-result : goal.overflow_add-result
+overflow_add-result c =
+    let few : length c.range-between.result.now ≤ length c.args.text.now = grind (arith, common_steps) in
+    omega (arith, c.requires.fits, c.requires.here_char, c.char_count.ensures.value, short (c.args.self.byte - c.args.start) c.args.text.now, length-chars_le c.range-between.result.now, few)
+
+pub overflow_add-result-2 : goal.overflow_add-result-2
+overflow_add-result-2 c =
+    let few : length c.range-between.result.now ≤ length c.args.text.now = grind (arith, common_steps) in
+    omega (arith, c.requires.fits, c.requires.here_display, c.str_width.ensures.bound, narrow (c.args.self.byte - c.args.start) c.args.text.now, few)
+
+pub returns-clause-char : goal.returns-clause-char
+returns-clause-char c = characters c
+
+pub returns-clause-display : goal.returns-clause-display
+returns-clause-display c = columns c
+
+pub returns-clause-char_bound : goal.returns-clause-char_bound
+returns-clause-char_bound c =
+    omega (arith, characters c, short (c.args.byte - c.args.start) c.args.text.now)
+
+pub returns-clause-display_bound : goal.returns-clause-display_bound
+returns-clause-display_bound c =
+    omega (arith, columns c, narrow (c.args.byte - c.args.start) c.args.text.now)
