@@ -3,7 +3,7 @@ use Rattle.std.proofs.Common.{◌≡◌, ◌≢◌, ℕ, ◌+◌, ◌-◌, ◌<�
 use Rattle.std.specs.List.{slice_index_or}
 use Rattle.std.proofs.lemmas.Bool.{cases_lt}
 use Rattle.std.proofs.lemmas.List.{places, same_lists, append-nil, length-replicate, length-append, get_or_at, get_or_append_left, get_or-replicate, get_or_past, take_at, take-take, take-append-le, drop_all}
-use Rattle.std.proofs.lemmas.List.Elements.{All-append, All-take, All-drop, All-replicate, All-cons, All-nil}
+use Rattle.std.proofs.lemmas.List.Elements.{All-append, All-replicate, All-cons, All-nil}
 use Rattle.std.proofs.lemmas.Str.{chars-nil}
 use Rattle.snippet_style.specs.declared.glyphs.DecorStyle.{DecorStyle}
 use Rattle.snippet_style.specs.declared.glyphs.DecorStyle.TheVariants.{Ascii, Unicode}
@@ -11,8 +11,7 @@ use Rattle.snippet_style.specs.declared.role.ElementStyle.TheVariants.{LineNumbe
 use Rattle.snippet_style.specs.Glyphs.{separator_of, closing_of}
 use Rattle.snippet_grid.specs.Grid.{cells_written}
 use Rattle.snippet_style.specs.Cell.{Cell, SPACE, text_cells, unlinked_cell, written}
-use Rattle.snippet_grid.proofs.GridLemmas.{cells_written_below, cells_written_last}
-use Rattle.snippet_style.proofs.CellLemmas.{length-chars_le, length-text_cells, length-written, drop-written, take-written_past, slice_index_or-written_before, slice_index_or-written_after}
+use Rattle.snippet_style.proofs.CellLemmas.{length-text_cells, length-written, drop-written, take-written_past, slice_index_or-written_before, slice_index_or-written_after}
 use Rattle.snippet_text.specs.Normalized.{is_listed}
 use Rattle.snippet_model.specs.Rows.{IsFreeCell}
 use Rattle.snippet_strokes.proofs.DrawLemmas.{free_drawn}

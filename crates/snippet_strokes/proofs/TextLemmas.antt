@@ -1,5 +1,5 @@
 -- The normalised text of a line: how long it gets, and that it holds no listed character.
-use Rattle.std.proofs.Common.{◌≡◌, ◌==◌, Bool, true, false, not, refl, sym, ap, ◌∙◌, ℕ, ◌-◌, ◌<◌, ◌^◌, List, [], length, map, get_or, arith, All, IfSome, Option, Some, None, inl, inr, Bor, IsUtf8}
+use Rattle.std.proofs.Common.{◌≡◌, ◌==◌, Bool, true, false, not, refl, sym, ap, ◌∙◌, ℕ, ◌<◌, ◌^◌, List, [], length, map, get_or, arith, All, IfSome, Option, Some, None, inl, inr, Bor, IsUtf8}
 use Rattle.std.proofs.lemmas.Str.{chars-nil}
 use Rattle.snippet_view.specs.declared.entries.LineAnnotation.{LineAnnotation}
 use Rattle.snippet_view.specs.declared.entries.LineAnnotationType.{LineAnnotationType}

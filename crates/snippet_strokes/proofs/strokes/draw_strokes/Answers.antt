@@ -23,8 +23,8 @@ use Rattle.snippet_strokes.proofs.TextLemmas.{labels_short}
 use Rattle.snippet_style.specs.Cell.{Cell}
 use Rattle.snippet_strokes.specs.Positions.{ArePlaced}
 use Rattle.snippet_strokes.specs.Labels.{IsStrokeCell, StandsWhole}
-use Rattle.snippet_strokes.specs.Strokes.{connectors_of, corners_of, label_write, labels_of, stems_of, strokes_of}
-use Rattle.snippet_strokes.specs.Writes.{Reaches, painted}
+use Rattle.snippet_strokes.specs.Strokes.{connectors_of, corners_of, labels_of, stems_of, strokes_of}
+use Rattle.snippet_strokes.specs.Writes.{painted}
 use Rattle.snippet_strokes.proofs.StrokeCells.{BesideLabels, cell_of_strokes}
 use Rattle.snippet_strokes.proofs.WriteLemmas.{strokes_painted}
 use Rattle.snippet_strokes.proofs.LineRowLemmas.{painted_added}
