@@ -1,18 +1,14 @@
 -- What the writes of a row make of it.
-use Rattle.std.proofs.Common.{◌≡◌, ℕ, zero, suc, ◌+◌, ◌-◌, ◌<◌, ◌≤◌, Bool, false, List, [], ◌∷◌, ◌++◌, length, take, drop, replicate, refl, sym, ap, ◌∙◌, arith, inl, inr, subst, All, chars}
-use Rattle.std.specs.List.{slice_index_or, list_any}
+use Rattle.std.proofs.Common.{◌≡◌, ℕ, zero, suc, ◌+◌, ◌-◌, ◌<◌, ◌≤◌, List, [], ◌∷◌, ◌++◌, length, take, drop, replicate, refl, sym, ap, ◌∙◌, arith, inl, inr, subst, All, chars}
+use Rattle.std.specs.List.{slice_index_or}
 use Rattle.std.proofs.lemmas.Bool.{cases_lt}
-use Rattle.std.proofs.lemmas.List.{places, same_lists, append-nil, length-replicate, get_or-append_right, get_or_append_left, get_or-replicate, get_or_past, drop_all, take_at}
-use Rattle.std.proofs.lemmas.List.Elements.{All-append, All-take, All-drop, All-replicate, All-cons, All-nil, All-weaker}
+use Rattle.std.proofs.lemmas.List.{places, same_lists, append-nil, length-replicate, get_or-append_right, get_or_past, drop_all, take_at}
 use Rattle.std.proofs.lemmas.Str.{chars-nil}
 use Rattle.snippet_style.specs.declared.role.ElementStyle.{ElementStyle}
-use Rattle.snippet_grid.specs.Grid.{cells_written}
-use Rattle.snippet_style.specs.Cell.{Cell, SPACE, text_cells, unlinked_cell, written}
+use Rattle.snippet_style.specs.Cell.{Cell, SPACE, text_cells, written}
 use Rattle.snippet_grid.specs.Print.{row_text}
-use Rattle.snippet_grid.proofs.GridLemmas.{cells_written_below, cells_written_last}
-use Rattle.snippet_style.proofs.CellLemmas.{All-text_cells, length-text_cells, length-written, drop-written, slice_index_or-written_before, slice_index_or-written_after, slice_index_or-written_inside}
-use Rattle.snippet_text.specs.Normalized.{is_listed}
-use Rattle.snippet_model.specs.Rows.{IsFreeCell, IsFree}
+use Rattle.snippet_style.proofs.CellLemmas.{length-text_cells, length-written, drop-written, slice_index_or-written_before, slice_index_or-written_after, slice_index_or-written_inside}
+use Rattle.snippet_model.specs.Rows.{IsFree}
 use Rattle.snippet_suggest.specs.Rows.{HoldsText}
 pub use Rattle.snippet_style.proofs.RowLemmas.{written-nil, led_before}
 pub use Rattle.snippet_grid.proofs.RowLemmas.{begun_by, texted, text_put, row_text-text_cells}

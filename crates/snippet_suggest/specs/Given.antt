@@ -1,13 +1,13 @@
 -- What a snippet of patches gives: the lines that are shown of the patched source, which of them a suggestion offers, and the
 -- number that it counts for the gutter's width.
-use Rattle.std.specs.Prelude.{◌≡◌, ℕ, ◌+◌, ◌-◌, ◌||◌, Bool, false, List, [], ◌∷◌, All, length, map, take, if◌then◌else◌}
+use Rattle.std.specs.Prelude.{◌≡◌, ℕ, ◌+◌, ◌-◌, ◌==◌, ◌||◌, Bool, false, List, [], ◌∷◌, All, count_by, length, map, sum_by, take, if◌then◌else◌}
 use Rattle.std.specs.Cow.{cow_str_bytes}
 use Rattle.std.specs.List.{range_with_len, slice_index_or}
 use Rattle.std.specs.Str.{bytes_eq}
 use Rattle.snippet_model.specs.declared.snippet.Snippet.{Snippet}
 use Rattle.snippet_model.specs.declared.snippet.Patch.{Patch}
 use Rattle.snippet_parts.specs.declared.source_map.LineInfo.{LineInfo}
-use Rattle.snippet_lines.specs.Lines.{Source, lines_of, source_lines, text_at, newline_count}
+use Rattle.snippet_lines.specs.Lines.{lines_of, source_lines, text_at, newline_count}
 use Rattle.snippet_lines.specs.Place.{line_of}
 use Rattle.snippet_splice.specs.declared.patches.TrimmedPatch.{TrimmedPatch}
 use Rattle.snippet_splice.specs.declared.splice.LineRange.{LineRange}
