@@ -1,10 +1,9 @@
 -- A text cut after its first characters.
-use Rattle.std.proofs.Common.{◌≡◌, ℕ, ◌+◌, ◌-◌, ◌<◌, ◌≤◌, true, List, [], ◌∷◌, ◌++◌, length, take, drop, get_or, refl, sym, ap, ◌∙◌, subst, arith, chars, encode_utf8, encode_utf8_all, IsUtf8}
-use Rattle.std.proofs.Math.Utf8.{scalars}
-use Rattle.std.specs.Str.{IsCharBoundary, is_utf8}
+use Rattle.std.proofs.Common.{◌≡◌, ℕ, ◌+◌, ◌-◌, ◌<◌, ◌≤◌, true, List, ◌++◌, length, take, drop, sym, ap, ◌∙◌, subst, arith, chars, encode_utf8, encode_utf8_all, IsUtf8}
+use Rattle.std.specs.Str.{is_utf8}
 use Rattle.std.specs.Option.{option_copied}
-use Rattle.std.proofs.lemmas.Str.{encodes-chars, encodes-append, length-le-encodes, scalars-chars, chars-encodes, IsCharBoundary-at_seam, IsUtf8-take, IsUtf8-append, IsUtf8-from_is_utf8, is_utf8-from_IsUtf8}
-use Rattle.std.proofs.lemmas.List.{places, same_lists, at_drop_more, take-append-drop, take_at, drop_at, drop-take, take-take, length-append, length-take-le, length-drop, take_more, append-nil}
+use Rattle.std.proofs.lemmas.Str.{encodes-chars, encodes-append, length-le-encodes, IsUtf8-take, IsUtf8-append, IsUtf8-from_is_utf8, is_utf8-from_IsUtf8}
+use Rattle.std.proofs.lemmas.List.{places, same_lists, take-append-drop, drop-take, take-take, length-append, length-take-le, length-drop}
 use Rattle.snippet_grid.proofs.StretchLemmas.{stretch, length-stretch_of}
 use Rattle.snippet_grid.proofs.RunLemmas.{IsUtf8-run_bytes}
 use Rattle.snippet_grid.specs.Runs.{IsRun, IsPart, run_bytes, run_chars}

@@ -1,4 +1,5 @@
 pub mod Changes
+pub mod Codes
 pub mod Grid
 pub mod Print
 pub mod Runs

@@ -13,6 +13,7 @@ ghost use Rattle.snippet_style.specs.Stylesheet.{is_plain_sheet};
 ghost use Rattle.snippet_grid.specs.Woven.{AddsRows, Prints, IsWoven, links_of};
 
 use crate::change::{Change, change_cells};
+use crate::codes::SheetCodes;
 use crate::put::Spare;
 use crate::replace::replace_cells;
 use crate::runs::Run;
@@ -311,10 +312,11 @@ impl<'a> StyledBuffer<'a> {
         ensures plain { IfOk result (λ t. is_plain_sheet sheet.now ≡ true → links_of self.now ≡ []
             → string_bytes t ≡ encode_utf8_all (spec.plain_text self.now)) }
     {
-        self.render_after(String::new(self.alloc), level, sheet)
+        let codes = SheetCodes::new(self.alloc, sheet)?;
+        self.render_after(String::new(self.alloc), level, &codes)
     }
 
-    /// The text that `render` gives, after one that is there.
+    /// The text that `render` gives under the sheet of these codes, after one that is there.
     ///
     /// # Errors
     ///
@@ -323,9 +325,9 @@ impl<'a> StyledBuffer<'a> {
         &self,
         before: String,
         level: LevelInner,
-        sheet: &Stylesheet,
+        codes: &SheetCodes,
     ) -> Result<String, AllocError>
-        ensures added { IfOk result (λ text. AddsRows sheet.now level self.now (string_bytes before) (string_bytes text)) }
+        ensures added { IfOk result (λ text. AddsRows codes.now level self.now (string_bytes before) (string_bytes text)) }
     {
         let mut text = before;
         // Codes take about as much as the text itself.
@@ -336,7 +338,7 @@ impl<'a> StyledBuffer<'a> {
             &self.runs,
             &self.widths,
             level,
-            sheet,
+            codes,
         )?;
         Ok(text)
     }

@@ -2,6 +2,7 @@
 #![tactic(auto)]
 
 mod change;
+pub mod codes;
 pub mod grid;
 mod put;
 mod replace;
@@ -10,4 +11,5 @@ mod spaces;
 mod weave;
 mod words;
 
+pub use codes::SheetCodes;
 pub use grid::StyledBuffer;

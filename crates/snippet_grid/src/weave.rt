@@ -10,14 +10,16 @@ ghost use Rattle.std.specs.Prelude.{◌≡◌, ◌≢◌, ◌<◌, ◌≤◌, �
 ghost use Rattle.std.specs.Option.{option_copied};
 ghost use Rattle.std.specs.Str.{chars};
 ghost use Rattle.std.specs.List.{AllPairs, flat_map, slice_index_or};
+ghost use Rattle.snippet_grid.specs.Codes.{opening_bytes};
 ghost use Rattle.snippet_grid.specs.Runs.{IsGrid, IsRow, EndsBy, Precedes, cells_to, grid_shown};
 ghost use Rattle.snippet_grid.specs.declared.runs.Run.{Run};
 ghost use Rattle.snippet_grid.specs.Stretch.{PrintsStretch};
 ghost use Rattle.snippet_grid.specs.Woven.{Opening, Reset, LinkTo, LinkEnd, piece_text, AddsRow, AddsRows};
 
+use crate::codes::SheetCodes;
 use crate::runs::Run;
 use crate::spaces::push_spaces;
-use snippet_style::{ElementStyle, LevelInner, Style, Stylesheet, reset_code, write_opening};
+use snippet_style::{ElementStyle, LevelInner, Style, reset_code};
 use std::alloc::AllocError;
 
 /// Adds the rows to a text, one below another.
@@ -27,10 +29,10 @@ pub(crate) fn weave_rows(
     runs: &[Run<'_>],
     widths: &[usize],
     level: LevelInner,
-    sheet: &Stylesheet,
+    codes: &SheetCodes,
 ) -> Result<(), AllocError>
     requires grid { IsGrid text.now runs.now widths.now }
-    ensures text { OnOk result (AddsRows sheet.now level (grid_shown text.now runs.now widths.now) (string_bytes out.old) (string_bytes out.new)) }
+    ensures text { OnOk result (AddsRows codes.now level (grid_shown text.now runs.now widths.now) (string_bytes out.old) (string_bytes out.new)) }
 {
     let mut from = 0;
     for row in 0..widths.len() {
@@ -38,7 +40,7 @@ pub(crate) fn weave_rows(
             out.push('\n')?;
         }
         let to = row_end(runs, from, row);
-        weave_row(out, text, &runs[from..to], row, widths[row], level, sheet)?;
+        weave_row(out, text, &runs[from..to], row, widths[row], level, codes)?;
         from = to;
     }
     Ok(())
@@ -68,30 +70,33 @@ fn weave_row(
     row: usize,
     width: usize,
     level: LevelInner,
-    sheet: &Stylesheet,
+    codes: &SheetCodes,
 ) -> Result<(), AllocError>
     requires runs { IsRow text.now row runs.now }
     requires ends { EndsBy width runs.now }
-    ensures text { OnOk result (AddsRow sheet.now level (cells_to text.now runs.now row width) (string_bytes out.old) (string_bytes out.new)) }
+    ensures text { OnOk result (AddsRow codes.now level (cells_to text.now runs.now row width) (string_bytes out.old) (string_bytes out.new)) }
 {
-    let space = sheet.style_of(level, ElementStyle::NoStyle);
-    let mut style = sheet.none;
+    let space = codes.style_of(level, ElementStyle::NoStyle);
+    let opening = codes.opening_of(level, ElementStyle::NoStyle);
+    let mut style = space;
     let mut link = None;
     let mut col = 0;
     for run in runs {
         if col < run.cell {
-            weave_gap(out, run.cell - col, style, space, link)?;
+            weave_gap(out, run.cell - col, style, space, opening, link)?;
             style = space;
             link = None;
         }
-        let next = sheet.style_of(level, run.role);
-        weave_stretch(out, &text[run.start..run.end], style, next, link, run.link)?;
+        let next = codes.style_of(level, run.role);
+        let word = &text[run.start..run.end];
+        let code = codes.opening_of(level, run.role);
+        weave_stretch(out, word, style, next, code, link, run.link)?;
         style = next;
         link = run.link;
         col = run.cell + run.count;
     }
     if col < width {
-        weave_gap(out, width - col, style, space, link)?;
+        weave_gap(out, width - col, style, space, opening, link)?;
         style = space;
         link = None;
     }
@@ -99,36 +104,40 @@ fn weave_row(
     out.push_str(reset_code(style))
 }
 
-/// Adds a text in a style and with a link, after what was printed in another style and with another link.
+/// Adds a text in a style, which this code opens, and with a link, after what was printed in another style and with another link.
 fn weave_stretch(
     out: &mut String,
     word: &str,
     last: Style,
     next: Style,
+    opening: &str,
     last_link: Option<&str>,
     next_link: Option<&str>,
 ) -> Result<(), AllocError>
+    requires opening { opening.now ≡ opening_bytes next }
     requires some { 0 < length (chars word.now) }
     ensures text { OnOk result (PrintsStretch (chars word.now) last next (option_copied last_link.entry) (option_copied next_link.entry) (string_bytes out.old) (string_bytes out.new)) }
 {
     end_link(out, last_link, next_link)?;
-    change_style(out, last, next)?;
+    change_style(out, last, next, opening)?;
     begin_link(out, last_link, next_link)?;
     out.push_str(word)
 }
 
-/// Adds unstyled spaces after what was printed in a style and with a link.
+/// Adds unstyled spaces, whose style this code opens, after what was printed in a style and with a link.
 fn weave_gap(
     out: &mut String,
     count: usize,
     last: Style,
     next: Style,
+    opening: &str,
     last_link: Option<&str>,
 ) -> Result<(), AllocError>
+    requires opening { opening.now ≡ opening_bytes next }
     ensures text { OnOk result (PrintsStretch (replicate count 32) last next (option_copied last_link.entry) None (string_bytes out.old) (string_bytes out.new)) }
 {
     end_link(out, last_link, None)?;
-    change_style(out, last, next)?;
+    change_style(out, last, next, opening)?;
     push_spaces(out, count)
 }
 
@@ -144,14 +153,15 @@ fn end_link(out: &mut String, last: Option<&str>, next: Option<&str>) -> Result<
     Ok(())
 }
 
-/// Resets the style that is open and opens the next one, unless they are the same.
-fn change_style(out: &mut String, last: Style, next: Style) -> Result<(), AllocError>
+/// Resets the style that is open and opens the next one by its code, unless they are the same.
+fn change_style(out: &mut String, last: Style, next: Style, opening: &str) -> Result<(), AllocError>
+    requires opening { opening.now ≡ opening_bytes next }
     ensures kept { OnOk result (last ≡ next → string_bytes out.new ≡ string_bytes out.old) }
     ensures changed { OnOk result (last ≢ next → string_bytes out.new ≡ string_bytes out.old ++ flat_map piece_text (Reset last ∷ Opening next ∷ [])) }
 {
     if last != next {
         out.push_str(reset_code(last))?;
-        write_opening(out, next)?;
+        out.push_str(opening)?;
     }
     Ok(())
 }

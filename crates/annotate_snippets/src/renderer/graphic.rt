@@ -20,7 +20,7 @@ use crate::renderer::gutter::gutter_of;
 use crate::renderer::paths::{primary_path, report_file};
 use crate::renderer::preprocess::{PreparedGroup, prepare_groups};
 use crate::renderer::title::draw_title;
-use snippet_grid::StyledBuffer;
+use snippet_grid::{SheetCodes, StyledBuffer};
 use snippet_model::snippet::Group;
 use snippet_style::{LevelInner, Stylesheet};
 use std::alloc::{AllocError, Global};
@@ -107,12 +107,13 @@ pub fn printed(
 ) -> Result<String, AllocError>
     ensures printed { IfOk result (λ text. PrintsGrids sheet.now grids.now (string_bytes text)) }
 {
+    let codes = SheetCodes::new(alloc, sheet)?;
     let mut text = String::new(alloc);
     for (i, grid) in grids.iter().enumerate() {
         if i > 0 {
             text.push('\n')?;
         }
-        text = grid.buffer.render_after(text, grid.level, sheet)?;
+        text = grid.buffer.render_after(text, grid.level, &codes)?;
     }
     Ok(text)
 }

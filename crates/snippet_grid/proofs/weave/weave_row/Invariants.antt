@@ -7,6 +7,6 @@ use Rattle.snippet_grid.proofs.weave.weave_row.Given as goal
 abbrev pub invariant-loop-run : goal.invariant-loop-run
 invariant-loop-run l =
     record {
-      woven : WovenTo l.sheet l.level l.text l.runs l.row l.run-index l.col l.style (option_copied l.link) (string_bytes l.initial.out) (string_bytes l.out);
+      woven : WovenTo l.codes l.level l.text l.runs l.row l.run-index l.col l.style (option_copied l.link) (string_bytes l.initial.out) (string_bytes l.out);
       inside : l.col ≤ l.width;
     }

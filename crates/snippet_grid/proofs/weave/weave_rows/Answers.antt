@@ -41,11 +41,11 @@ loop-row-preserved c =
       | then-row-gt0+in_ok-push w ↦ rw (w.out-is) w.in_ok-push.ensures.bytes
       | else-row-gt0 w ↦ absurd (omega (arith, some, w.if-row-gt0.false))
     ] in
-    rows_next c.args.sheet.now c.args.level c.args.text.now c.args.runs.now c.args.widths.now c.loop-row.row c.loop-row.from c.row_end-to.result
+    rows_next c.args.codes.now c.args.level c.args.text.now c.args.runs.now c.args.widths.now c.loop-row.row c.loop-row.from c.row_end-to.result
     (string_bytes c.args.out.now) (string_bytes c.loop-row.out) (string_bytes c.if-row-gt0.out) (string_bytes c.weave_row.new.out)
     c.loop-row-test.true c.row_end-to.ensures.bounds.0 c.row_end-to.ensures.bounds.1 c.row_end-to.ensures.inside c.row_end-to.ensures.below first
     further c.in_ok-weave_row.ensures.text c.loop-row.invariant
 
 pub returns : goal.returns
 returns c =
-    record { text = rows_all c.args.sheet.now c.args.level c.args.text.now c.args.runs.now c.args.widths.now c.loop-row.row c.loop-row.from (string_bytes c.args.out.now) (string_bytes c.loop-row.out) (omega (arith, c.loop-row-test.false, c.loop-row.auto.row-end)) c.loop-row.invariant }
+    record { text = rows_all c.args.codes.now c.args.level c.args.text.now c.args.runs.now c.args.widths.now c.loop-row.row c.loop-row.from (string_bytes c.args.out.now) (string_bytes c.loop-row.out) (omega (arith, c.loop-row-test.false, c.loop-row.auto.row-end)) c.loop-row.invariant }

@@ -5,4 +5,4 @@ use Rattle.snippet_grid.proofs.weave.weave_rows.Given as goal
 
 abbrev pub invariant-loop-row : goal.invariant-loop-row
 invariant-loop-row l =
-    RowsTo l.sheet l.level l.text l.runs l.widths l.row l.from (string_bytes l.initial.out) (string_bytes l.out)
+    RowsTo l.codes l.level l.text l.runs l.widths l.row l.from (string_bytes l.initial.out) (string_bytes l.out)

@@ -1,5 +1,4 @@
-use Rattle.std.proofs.Common.{ℕ, List, String, refl, string_bytes}
-use Rattle.std.specs.declared.alloc.Global.{Global}
+use Rattle.std.proofs.Common.{ℕ, List, refl, subst, string_bytes}
 use Rattle.snippet_grid.specs.Print.{plain_text}
 use Rattle.snippet_grid.specs.Woven.{AddsRows, Prints, links_of}
 use Rattle.snippet_grid.proofs.OutcomeLemmas.{if_ok_weaker}
@@ -8,8 +7,10 @@ use Rattle.snippet_grid.proofs.WovenLemmas.{Prints-from_adds, IsWoven-from_print
 use Rattle.snippet_grid.proofs.grid.StyledBuffer.render.Goals as goal
 
 -- what is added to no text prints the rows
-printed : (c : goal.After-render_after) (new : List ℕ) → AddsRows c.args.sheet.now c.args.level c.args.self.now (string_bytes c.new.result) new → Prints c.args.sheet.now c.args.level c.args.self.now new
-printed c new adds = Prints-from_adds c.args.sheet.now c.args.level c.args.self.now _ _ _ refl c.new.ensures.bytes adds
+printed : (c : goal.After-drop-codes-inside) (new : List ℕ) → AddsRows c.in_ok-codes.codes c.args.level c.args.self.now (string_bytes c.new-2.result) new → Prints c.args.sheet.now c.args.level c.args.self.now new
+printed c new adds =
+    let under : AddsRows c.args.sheet.now c.args.level c.args.self.now (string_bytes c.new-2.result) new = subst (λ sheet. AddsRows sheet c.args.level c.args.self.now (string_bytes c.new-2.result) new) c.in_ok-codes.ensures.sheet adds in
+    Prints-from_adds c.args.sheet.now c.args.level c.args.self.now _ _ _ refl c.new-2.ensures.bytes under
 
 pub returns-clause-prints : goal.returns-clause-prints
 returns-clause-prints c = if_ok_weaker c.render_after.result (λ t adds. printed c (string_bytes t) adds) c.render_after.ensures.added

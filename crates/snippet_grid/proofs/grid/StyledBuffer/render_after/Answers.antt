@@ -1,5 +1,4 @@
 use Rattle.std.proofs.Common.{◌∙◌, string_bytes}
-use Rattle.std.proofs.lemmas.Result.{on_ok_weaker}
 use Rattle.snippet_grid.proofs.GridShown.{IsGrid-read, grid_read}
 use Rattle.snippet_grid.proofs.WovenLemmas.{AddsRows-same}
 use Rattle.snippet_grid.proofs.grid.StyledBuffer.render_after.Goals as goal
@@ -11,4 +10,4 @@ weave_rows-requires c =
 pub returns : goal.returns
 returns c =
     let shown = grid_read (string_bytes c.self.inside.text) c.as_str.result.now c.self.inside.runs.items c.deref.result.now c.self.inside.widths.items c.deref-2.result.now c.as_str.ensures.value c.deref.ensures.value c.deref-2.ensures.value ∙ c.self.view_is in
-    record { added = AddsRows-same c.args.sheet.now c.args.level c.args.self.now _ _ _ _ shown c.in_ok-reserve.ensures.bytes c.in_ok-weave_rows.ensures.text }
+    record { added = AddsRows-same c.args.codes.now c.args.level c.args.self.now _ _ _ _ shown c.in_ok-reserve.ensures.bytes c.in_ok-weave_rows.ensures.text }
