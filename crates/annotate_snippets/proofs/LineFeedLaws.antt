@@ -1,5 +1,5 @@
 -- The rows of an annotated snippet's lines hold a line feed only where a label does, whatever is cut of them.
-use Rattle.std.proofs.Common.{◌≡◌, ◌≢◌, ℕ, zero, suc, ◌+◌, ◌-◌, ◌<◌, ◌≤◌, ◌==◌, ◌&&◌, nat_le, nat_lt, Bool, true, false, cond, Option, None, Some, List, [], ◌∷◌, ◌++◌, All, chars, take, drop, map, length, get_or, replicate, refl, sym, ap, subst, ◌∙◌, arith, inl, inr}
+use Rattle.std.proofs.Common.{◌≡◌, ◌≢◌, ℕ, zero, suc, ◌+◌, ◌-◌, ◌<◌, ◌≤◌, ◌==◌, ◌&&◌, nat_le, nat_lt, Bool, true, false, cond, Option, None, Some, List, [], ◌∷◌, ◌++◌, All, chars, take, drop, map, length, fold, get_or, replicate, refl, sym, ap, subst, ◌∙◌, arith, inl, inr}
 use Rattle.std.specs.Cow.{cow_str_bytes}
 use Rattle.std.specs.List.{Contains, range_with_len, slice_split}
 use Rattle.std.specs.Option.{option_map}
@@ -19,7 +19,7 @@ use Rattle.snippet_model.specs.AnnotationKind.{is_primary}
 use Rattle.snippet_model.specs.declared.snippet.Annotation.{Annotation}
 use Rattle.snippet_model.specs.declared.snippet.Snippet.{Snippet}
 use Rattle.snippet_style.specs.Cell.{Cell, SPACE, text_cells, unlinked_cell, written}
-use Rattle.snippet_style.specs.Glyphs.{glyph_of, placeholder_of}
+use Rattle.snippet_style.specs.Glyphs.{glyph_of, placeholder_of, underline_role}
 use Rattle.snippet_style.specs.Separators.{closing_row, separator_row}
 use Rattle.snippet_style.specs.declared.glyphs.DecorStyle.{DecorStyle}
 use Rattle.snippet_style.specs.declared.glyphs.DecorStyle.TheVariants.{Ascii, Unicode}
@@ -32,19 +32,16 @@ use Rattle.snippet_view.specs.declared.entries.LineAnnotation.{LineAnnotation}
 use Rattle.snippet_view.specs.declared.entries.LineAnnotationType.{LineAnnotationType}
 use Rattle.snippet_view.specs.declared.entries.LineAnnotationType.TheVariants.{Singleline, MultilineStart, MultilineEnd, MultilineLine}
 use Rattle.snippet_view.proofs.PartLemmas.{made-all}
-use Rattle.snippet_strokes.specs.Bars.{Bar, bar_glyph, bar_part, bars_apart, ends_of_bars, is_whole_line, with_bar, with_bars}
+use Rattle.snippet_strokes.specs.Bars.{Bar, bars_apart, ends_of_bars, is_whole_line}
 use Rattle.snippet_strokes.specs.Cuts.{Stretch, cut_row, cuts_of, overlapped}
 use Rattle.snippet_strokes.specs.Entries.{label_text, shifted}
 use Rattle.snippet_strokes.specs.LineRows.{AreLineRows, AreOwnRows}
-use Rattle.snippet_strokes.specs.Painting.{first_glyph, foot_glyph, foot_of, mark_end, painting_order, takes_space}
-use Rattle.snippet_strokes.specs.Positions.{has_label, has_stem, row_count}
+use Rattle.snippet_strokes.specs.Painting.{first_glyph, foot_glyph, foot_of, mark_end, painting_order}
+use Rattle.snippet_strokes.specs.Positions.{has_label, has_stem, row_count, takes_space}
 use Rattle.snippet_strokes.specs.Rows.{bare_row}
-use Rattle.snippet_strokes.specs.Strokes.{StrokesPainted, bar_cell as bar_column, bar_of, begun_rows, connector_of, connectors_of, corner_by, corner_of, corners_of, label_of, labels_of, line_to, mark_of, marks_of, stems_of, stroke_role, strokes_of}
+use Rattle.snippet_strokes.specs.Strokes.{StrokesPainted, bar_cell as bar_column, bar_of, begun_rows, connector_of, connectors_of, corner_by, corner_of, corners_of, label_of, label_write, labels_of, mark_of, marks_of, stem_write, stems_of, stroke_role, strokes_of}
 use Rattle.snippet_strokes.specs.Writes.{Write, column_of, glyph_at, painted, stretch_of}
-use Rattle.snippet_strokes.specs.declared.bars.BarStroke.{BarStroke}
-use Rattle.snippet_strokes.specs.declared.bars.BarStroke.TheVariants.{Dotted, Solid, Top}
 use Rattle.snippet_strokes.specs.declared.layout.Layout.{Layout}
-use Rattle.snippet_strokes.specs.declared.positions.PlacedEntry.{PlacedEntry}
 use Rattle.snippet_strokes.proofs.BarWrites.{All-connector_of, All-stretch_of}
 use Rattle.snippet_strokes.proofs.LabelWrites.{All-label_of}
 use Rattle.snippet_strokes.proofs.PositionLemmas.{entries_all}
@@ -105,17 +102,12 @@ either_plain : (b : Bool) (x y : ℕ) → IsNoFeed x → IsNoFeed y → IsNoFeed
 either_plain true x y one other = one
 either_plain false x y one other = other
 
-first_plain : (decor : DecorStyle) (e : PlacedEntry) → IsNoFeed (first_glyph decor e)
+first_plain : (decor : DecorStyle) (e : _) → IsNoFeed (first_glyph decor e)
 first_plain decor e =
     let primary : Bool = is_primary e.entry.kind in
     either_plain (takes_space e) _ _
     (either_plain (has_stem e) _ _ (glyph_plain decor primary 94 45 0x257F 0x2502 refl refl refl refl) (glyph_plain decor primary 94 45 0x251B 0x2518 refl refl refl refl))
     (either_plain (has_stem e) _ _ (glyph_plain decor primary 94 45 0x252F 0x252C refl refl refl refl) (glyph_plain decor primary 94 45 0x2501 0x2500 refl refl refl refl))
-
-stroke_plain : (stroke : BarStroke) (decor : DecorStyle) (primary : Bool) → IsNoFeed (bar_glyph stroke decor primary)
-stroke_plain Top decor primary = glyph_plain decor primary 47 47 0x250F 0x250C refl refl refl refl
-stroke_plain Solid decor primary = glyph_plain decor primary 124 124 0x2503 0x2502 refl refl refl refl
-stroke_plain Dotted decor primary = glyph_plain decor primary 124 124 0x2507 0x2506 refl refl refl refl
 
 -- ---- what is written
 
@@ -132,23 +124,23 @@ column_plain start end cell glyph role plain =
     All-map IsPlainWrite (λ row. glyph_at row cell glyph role) (range_with_len start (end - start)) (λ k d within. alone glyph plain)
 
 module _ (layout : Layout) where
-  connectors_plain : (row : ℕ) (es : List PlacedEntry) → All IsPlainWrite (connectors_of layout row es)
+  connectors_plain : (row : ℕ) (es : _) → All IsPlainWrite (connectors_of layout row es)
   connectors_plain row es =
       All-flat_map IsPlainWrite (connector_of layout row) es (λ k d within. of_entry (get_or es k d))
     where
-      of_entry : (e : PlacedEntry) → All IsPlainWrite (connector_of layout row e)
+      of_entry : (e : _) → All IsPlainWrite (connector_of layout row e)
       of_entry e =
           All-connector_of IsPlainWrite layout row e (λ depth. stretch_plain (row + e.position) (layout.gutter + 3 + depth) (layout.code + e.entry.start.display) _ (stroke_role e) (glyph_plain layout.decor (is_primary e.entry.kind) 95 95 0x2501 0x2500 refl refl refl refl))
 
-  corners_plain : (row count : ℕ) (es : List PlacedEntry) → All IsPlainWrite (corners_of layout row count es)
+  corners_plain : (row count : ℕ) (es : _) → All IsPlainWrite (corners_of layout row count es)
   corners_plain row count es =
       All-flat_map IsPlainWrite (corner_of layout row count) es (λ k d within. by_part (get_or es k d) (get_or es k d).entry.annotation_type)
     where
-      bar : (e : PlacedEntry) (depth start end : ℕ) → All IsPlainWrite (bar_of layout e depth start end)
+      bar : (e : _) (depth start end : ℕ) → All IsPlainWrite (bar_of layout e depth start end)
       bar e depth start end =
           column_plain start end (bar_column layout depth) _ (stroke_role e) (glyph_plain layout.decor (is_primary e.entry.kind) 124 124 0x2503 0x2502 refl refl refl refl)
 
-      by_part : (e : PlacedEntry) (part : LineAnnotationType) → All IsPlainWrite (corner_by layout row count e part)
+      by_part : (e : _) (part : LineAnnotationType) → All IsPlainWrite (corner_by layout row count e part)
       by_part e Singleline = All-nil IsPlainWrite
       by_part e (MultilineStart depth) =
           let at : ℕ = row + 1 + e.position in
@@ -163,23 +155,24 @@ module _ (layout : Layout) where
           All-append IsPlainWrite (bar_of layout e depth row at) (last ∷ []) (bar e depth row at) one
       by_part e (MultilineLine depth) = All-nil IsPlainWrite
 
-  stems_plain : (row : ℕ) (es : List PlacedEntry) → All IsPlainWrite (stems_of layout row es)
+  stems_plain : (row : ℕ) (es : _) → All IsPlainWrite (stems_of layout row es)
   stems_plain row es =
-      All-stems_of IsPlainWrite layout row es (λ k d within. All-stem_of IsPlainWrite layout row (get_or es k d) (λ below low. alone _ (of_entry (get_or es k d) below)))
+      All-stems_of IsPlainWrite layout row es (λ k d within. All-stem_of IsPlainWrite layout row (get_or es k d) (λ below low. of_entry (get_or es k d) below))
     where
-      of_entry : (e : PlacedEntry) (below : ℕ) → IsNoFeed (cond (below == e.position) (foot_glyph layout.decor e) (glyph_of layout.decor (is_primary e.entry.kind) 124 124 0x2502 0x2502))
+      of_entry : (e : _) (below : ℕ) → IsPlainWrite (stem_write layout row e below)
       of_entry e below =
-          either_plain (below == e.position) _ _ (foot_plain e.entry.annotation_type layout.decor (is_primary e.entry.kind) (has_label e)) (glyph_plain layout.decor (is_primary e.entry.kind) 124 124 0x2502 0x2502 refl refl refl refl)
+          let primary : Bool = is_primary e.entry.kind in
+          alone _ (either_plain (below == e.position) _ _ (foot_plain e.entry.annotation_type layout.decor primary (has_label e)) (glyph_plain layout.decor primary 124 124 0x2502 0x2502 refl refl refl refl))
 
-  labels_plain : (row : ℕ) (es : List PlacedEntry) → All (λ e. All IsNoFeed (label_text e.entry)) es → All IsPlainWrite (labels_of layout row es)
+  labels_plain : (row : ℕ) (es : _) → ((k : ℕ) (d : _) → k < length es → IsPlainWrite (label_write layout row (get_or es k d))) → All IsPlainWrite (labels_of layout row es)
   labels_plain row es plain =
       All-flat_map IsPlainWrite (label_of layout row) es (λ k d within. All-label_of IsPlainWrite layout row (get_or es k d) (λ has. plain k d within))
 
-  marks_plain : (row : ℕ) (es : List PlacedEntry) → All IsPlainWrite (marks_of layout row es)
+  marks_plain : (row : ℕ) (es : _) → All IsPlainWrite (marks_of layout row es)
   marks_plain row es =
       All-flat_map IsPlainWrite (mark_of layout row) es (λ k d within. of_entry (get_or es k d))
     where
-      of_entry : (e : PlacedEntry) → All IsPlainWrite (mark_of layout row e)
+      of_entry : (e : _) → All IsPlainWrite (mark_of layout row e)
       of_entry e =
           let from : ℕ = layout.code + e.entry.start.display in
           let to : ℕ = layout.code + mark_end e in
@@ -192,7 +185,9 @@ module _ (layout : Layout) where
           ]
 
   -- no stroke of a line is a line feed, where no label holds one
-  strokes_plain : (row count : ℕ) (placed order : List PlacedEntry) → All (λ e. All IsNoFeed (label_text e.entry)) placed → All IsPlainWrite (strokes_of layout row count placed order)
+  strokes_plain : (row count : ℕ) (placed order : _)
+      → ((k : ℕ) (d : _) → k < length placed → IsPlainWrite (label_write layout (row + 1) (get_or placed k d)))
+      → All IsPlainWrite (strokes_of layout row count placed order)
   strokes_plain row count placed order plain =
       let connectors : List Write = connectors_of layout (row + 1) placed in
       let corners : List Write = corners_of layout row count placed in
@@ -235,12 +230,22 @@ row_cut decor (cut ∷ cuts) row plain =
     let placeholder : List Cell = text_cells LineNumber (placeholder_of decor) in
     row_cut decor cuts (replaced_within cut.from cut.to placeholder row) (row_replaced cut.from cut.to placeholder row plain (cells_plain LineNumber (placeholder_of decor) (placeholder_plain decor)))
 
-row_barred : (layout : Layout) (stroke : BarStroke) (bars : List Bar) (row : List Cell) → HasNoFeed row → HasNoFeed (with_bars layout stroke bars row)
-row_barred layout stroke [] row plain = plain
-row_barred layout stroke (bar ∷ bars) row plain =
-    let part : Cell = bar_part layout stroke bar in
-    let one : HasNoFeed (part ∷ []) = All-cons HoldsNoFeed part [] (stroke_plain stroke layout.decor bar.primary) (All-nil HoldsNoFeed) in
-    row_barred layout stroke bars (with_bar layout stroke row bar) (row_written row (layout.gutter + 2 + bar.depth) (part ∷ []) plain one)
+-- the bar of a span that goes on past a line, and a row with such bars
+abbrev bar_beside : Layout → Bar → Cell
+bar_beside layout bar =
+    unlinked_cell (underline_role bar.primary) (glyph_of layout.decor bar.primary 124 124 0x2503 0x2502)
+
+abbrev barred : Layout → List Bar → List Cell → List Cell
+barred layout bars row =
+    fold (λ cells bar. written SPACE cells (layout.gutter + 2 + bar.depth) (bar_beside layout bar ∷ [])) row bars
+
+row_barred : (layout : Layout) (bars : List Bar) (row : List Cell) → HasNoFeed row → HasNoFeed (barred layout bars row)
+row_barred layout [] row plain = plain
+row_barred layout (bar ∷ bars) row plain =
+    let at : ℕ = layout.gutter + 2 + bar.depth in
+    let part : Cell = bar_beside layout bar in
+    let one : HasNoFeed (part ∷ []) = All-cons HoldsNoFeed part [] (glyph_plain layout.decor bar.primary 124 124 0x2503 0x2502 refl refl refl refl) (All-nil HoldsNoFeed) in
+    row_barred layout bars (written SPACE row at (part ∷ [])) (row_written row at (part ∷ []) plain one)
 
 -- a cell of rows without line feeds, or a space beside them
 in_rows : (rows : List (List Cell)) → All HasNoFeed rows → (r c : ℕ) → HoldsNoFeed (cell_at rows r c)
@@ -268,7 +273,7 @@ module _ (layout : Layout) (room : ℕ) (closes : Bool) where
   -- nor after that
   drawn_plain : (es : List LineAnnotation) (source : List Cell) (rows : List (List Cell)) (strokes : StrokesPainted layout room closes es source rows) → All (λ e. All IsNoFeed (label_text e)) es → All HasNoFeed (strokes.marks ∷ strokes.lower)
   drawn_plain es source rows strokes plain =
-      let placed : List PlacedEntry = strokes.placed in
+      let placed = strokes.placed in
       let ws : List Write = strokes_of layout 0 (row_count placed + 1) placed (painting_order placed) in
       let begun : List (List Cell) = begun_rows layout closes (row_count placed) source in
       let own = entries_all (λ e. All IsNoFeed (label_text e)) es placed strokes.are.same plain in
@@ -306,13 +311,14 @@ module _ (layout : Layout) (room : ℕ) (closes : Bool) where
   below_plain text dropped open_bars es source row below are plain = of are.own are.are are.rows_are
     where
       rule : List Cell → List Cell
-      rule = with_bars layout Solid (bars_apart open_bars (ends_of_bars es))
+      rule = barred layout (bars_apart open_bars (ends_of_bars es))
 
       of : (own : List (List Cell)) → AreOwnRows layout room closes text dropped es source own → row ∷ below ≡ map rule own → All HasNoFeed below
       of [] own_are same = cc
       of (first ∷ later) own_are same =
-          let plain_later : All HasNoFeed later = own_plain text dropped es source first later own_are plain in
-          subst (All HasNoFeed) (sym (tail_same row (rule first) below (map rule later) same)) (All-map HasNoFeed rule later (λ k d within. row_barred layout Solid (bars_apart open_bars (ends_of_bars es)) (get_or later k d) (plain_later k d within)))
+          let later_plain : All HasNoFeed later = own_plain text dropped es source first later own_are plain in
+          let each : All (λ x. HasNoFeed (rule x)) later = λ k d within. row_barred layout (bars_apart open_bars (ends_of_bars es)) (get_or later k d) (later_plain k d within) in
+          subst (All HasNoFeed) (sym (tail_same row (rule first) below (map rule later) same)) (All-map HasNoFeed rule later each)
 
 -- ---- labels
 

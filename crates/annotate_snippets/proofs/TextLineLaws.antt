@@ -15,21 +15,18 @@ onto_front : (c : ℕ) (lines more : List (List ℕ)) → 0 < length lines → o
 onto_front c [] more some = absurd (omega (arith, some))
 onto_front c (line ∷ lines) more some = refl
 
+one_more : (c : ℕ) (xs ys : List ℕ) (feed : Bool) → (c == 10) ≡ feed → text_lines (xs ++ 10 ∷ ys) ≡ text_lines xs ++ text_lines ys → text_lines (c ∷ (xs ++ 10 ∷ ys)) ≡ text_lines (c ∷ xs) ++ text_lines ys
+one_more c xs ys true is later =
+    slice_split-cons_yes (λ x. x == 10) c (xs ++ 10 ∷ ys) is ∙ ap (λ lines. [] ∷ lines) later ∙ ap (λ lines. lines ++ text_lines ys) (sym (slice_split-cons_yes (λ x. x == 10) c xs is))
+one_more c xs ys false is later =
+    slice_split-cons_no (λ x. x == 10) c (xs ++ 10 ∷ ys) is ∙ ap (onto_first c) later
+    ∙ onto_front c (text_lines xs) (text_lines ys) (omega (arith, length-slice_split (λ x. x == 10) xs))
+    ∙ ap (λ lines. lines ++ text_lines ys) (sym (slice_split-cons_no (λ x. x == 10) c xs is))
+
 -- have the lines of both
 lines_joined : (xs ys : List ℕ) → text_lines (xs ++ 10 ∷ ys) ≡ text_lines xs ++ text_lines ys
 lines_joined [] ys = refl
-lines_joined (c ∷ xs) ys = by (c == 10) refl
-  where
-    feed : ℕ → Bool
-    feed x = x == 10
-
-    by : (b : Bool) → (c == 10) ≡ b → text_lines (c ∷ xs ++ 10 ∷ ys) ≡ text_lines (c ∷ xs) ++ text_lines ys
-    by true is =
-        slice_split-cons_yes feed c (xs ++ 10 ∷ ys) is ∙ ap (λ lines. [] ∷ lines) (lines_joined xs ys) ∙ ap (λ lines. lines ++ text_lines ys) (sym (slice_split-cons_yes feed c xs is))
-    by false is =
-        slice_split-cons_no feed c (xs ++ 10 ∷ ys) is ∙ ap (onto_first c) (lines_joined xs ys)
-        ∙ onto_front c (text_lines xs) (text_lines ys) (omega (arith, length-slice_split feed xs))
-        ∙ ap (λ lines. lines ++ text_lines ys) (sym (slice_split-cons_no feed c xs is))
+lines_joined (c ∷ xs) ys = one_more c xs ys (c == 10) refl (lines_joined xs ys)
 
 -- ---- rows
 
@@ -64,5 +61,5 @@ lines_of_page (g ∷ h ∷ page) all =
     let later : Page = h ∷ page in
     lines_joined (plain_text (group_rows g)) (page_text later)
     ∙ ap (λ lines. lines ++ text_lines (page_text later)) (lines_of_rows (group_rows g) (All-head IsOneLinePart g later all))
-    ∙ ap (λ lines. group_lines g ++ lines) (lines_of_page later (All-tail IsOneLinePart g later all) ∙ some_lines (map row_text (group_rows h)) (flat_map group_lines page))
+    ∙ ap (λ lines. group_lines g ++ lines) (lines_of_page (h ∷ page) (All-tail IsOneLinePart g later all) ∙ some_lines (map row_text (group_rows h)) (flat_map group_lines page))
     ∙ sym (some_lines (map row_text (group_rows g)) (flat_map group_lines later))
