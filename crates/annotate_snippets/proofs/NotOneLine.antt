@@ -17,7 +17,7 @@ use Rattle.annotate_snippets.specs.Page.{GroupPage, group_rows}
 use Rattle.annotate_snippets.specs.Shown.{SheetsShown}
 
 -- the row of the marks of `let x = 1;` with a label that is `here`, a line feed, and what looks like a second line
-forged_row : List Cell
+abbrev pub forged_row : List Cell
 forged_row =
     separator_row Ascii 1 ++ SPACE ∷ SPACE ∷ SPACE ∷ SPACE ∷ SPACE ∷ text_cells UnderlinePrimary (codes "^") ++ SPACE ∷ text_cells LabelPrimary (codes "here\n2 | let y = 666;")
 
