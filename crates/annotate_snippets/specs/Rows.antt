@@ -17,7 +17,6 @@ use Rattle.snippet_view.specs.Location.{primary_place, secondary_place}
 use Rattle.snippet_view.specs.declared.location.Location.{Location}
 use Rattle.snippet_splice.specs.Shown.{first_start}
 use Rattle.snippet_suggest.specs.Given.{trimmed_of}
-use Rattle.snippet_view.specs.Numbered.{numbered_source}
 use Rattle.snippet_suggest.specs.declared.SuggestionStart.{SuggestionStart}
 use Rattle.snippet_suggest.specs.declared.SuggestionStart.TheVariants as start
 use Rattle.snippet_titles.specs.Heading.{heading_rows}
