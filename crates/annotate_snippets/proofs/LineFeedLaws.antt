@@ -1,7 +1,7 @@
 -- The rows of an annotated snippet's lines hold a line feed only where a label does, whatever is cut of them.
-use Rattle.std.proofs.Common.{◌≡◌, ◌≢◌, ℕ, zero, suc, ◌+◌, ◌-◌, ◌<◌, ◌≤◌, ◌==◌, ◌&&◌, nat_le, nat_lt, Bool, true, false, cond, Option, None, Some, List, [], ◌∷◌, ◌++◌, All, chars, take, drop, map, length, fold, get_or, replicate, refl, sym, ap, subst, ◌∙◌, arith, inl, inr}
+use Rattle.std.proofs.Common.{◌≡◌, ◌≢◌, ℕ, suc, ◌+◌, ◌-◌, ◌<◌, ◌==◌, ◌&&◌, nat_le, nat_lt, Bool, true, false, cond, Option, None, Some, List, [], ◌∷◌, ◌++◌, All, chars, take, drop, map, length, fold, get_or, replicate, refl, sym, ap, subst, ◌∙◌, arith, inl, inr}
 use Rattle.std.specs.Cow.{cow_str_bytes}
-use Rattle.std.specs.List.{Contains, range_with_len, slice_split}
+use Rattle.std.specs.List.{Contains, range_with_len}
 use Rattle.std.specs.Option.{option_map}
 use Rattle.std.specs.Str.{IsUtf8}
 use Rattle.std.proofs.lemmas.Bool.{cases_Bool, cases_lt}
@@ -27,7 +27,7 @@ use Rattle.snippet_style.specs.declared.role.ElementStyle.{ElementStyle}
 use Rattle.snippet_style.specs.declared.role.ElementStyle.TheVariants.{LineNumber}
 use Rattle.snippet_text.specs.OneLine.{IsOneLine}
 use Rattle.snippet_titles.proofs.SplitLemmas.{lines_at, lines_at-chars}
-use Rattle.snippet_view.specs.Annotated.{PartEntry, made_parts, parts_on, seen_part}
+use Rattle.snippet_view.specs.Annotated.{PartEntry, made_parts, seen_part}
 use Rattle.snippet_view.specs.declared.entries.LineAnnotation.{LineAnnotation}
 use Rattle.snippet_view.specs.declared.entries.LineAnnotationType.{LineAnnotationType}
 use Rattle.snippet_view.specs.declared.entries.LineAnnotationType.TheVariants.{Singleline, MultilineStart, MultilineEnd, MultilineLine}
@@ -36,7 +36,7 @@ use Rattle.snippet_strokes.specs.Bars.{Bar, bars_apart, ends_of_bars, is_whole_l
 use Rattle.snippet_strokes.specs.Cuts.{Stretch, cut_row, cuts_of, overlapped}
 use Rattle.snippet_strokes.specs.Entries.{label_text, shifted}
 use Rattle.snippet_strokes.specs.LineRows.{AreLineRows, AreOwnRows}
-use Rattle.snippet_strokes.specs.Painting.{first_glyph, foot_glyph, foot_of, mark_end, painting_order}
+use Rattle.snippet_strokes.specs.Painting.{first_glyph, foot_of, mark_end, painting_order}
 use Rattle.snippet_strokes.specs.Positions.{has_label, has_stem, row_count, takes_space}
 use Rattle.snippet_strokes.specs.Rows.{bare_row}
 use Rattle.snippet_strokes.specs.Strokes.{StrokesPainted, bar_cell as bar_column, bar_of, begun_rows, connector_of, connectors_of, corner_by, corner_of, corners_of, label_of, label_write, labels_of, mark_of, marks_of, stem_write, stems_of, stroke_role, strokes_of}

@@ -1,14 +1,14 @@
 -- The rows of a suggestion hold a line feed only where its path does.
-use Rattle.std.proofs.Common.{◌≡◌, ℕ, zero, suc, ◌+◌, ◌-◌, ◌<◌, ◌≤◌, ◌==◌, ◌&&◌, max, Bool, true, false, cond, not, Option, None, Some, List, [], ◌∷◌, ◌++◌, All, chars, codes, take, drop, map, length, get_or, refl, sym, ap, subst, ◌∙◌, arith, inl, inr}
+use Rattle.std.proofs.Common.{◌≡◌, ℕ, zero, suc, ◌+◌, ◌-◌, ◌<◌, ◌≤◌, ◌==◌, ◌&&◌, max, Bool, true, false, cond, not, Option, None, Some, List, [], ◌∷◌, ◌++◌, All, chars, take, drop, map, length, get_or, refl, sym, ap, subst, ◌∙◌, arith, inl, inr}
 use Rattle.std.specs.Cow.{cow_str_bytes}
 use Rattle.std.specs.List.{AllZip, list_any, slice_index_or}
 use Rattle.std.specs.Str.{IsUtf8, bytes_eq}
 use Rattle.std.proofs.lemmas.Bool.{cases_Bool, cases_eq, cases_lt, eqb-true, false≢true}
 use Rattle.std.proofs.lemmas.Bool.Decides.{nat_tests}
-use Rattle.std.proofs.lemmas.List.{append-nil, get_or-drop, get_or-take}
+use Rattle.std.proofs.lemmas.List.{get_or-drop, get_or-take}
 use Rattle.std.proofs.lemmas.List.Elements.{All-append, All-cons, All-drop, All-from_get_or, All-head, All-map, All-nil, All-tail, All-take}
 use Rattle.snippet_grid.specs.Grid.{changed_within, restyled}
-use Rattle.snippet_lines.specs.Lines.{Line, lines_of, source_lines, text_at}
+use Rattle.snippet_lines.specs.Lines.{Line, lines_of, text_at}
 use Rattle.snippet_lines.specs.Number.{shown_number}
 use Rattle.snippet_lines.specs.declared.number.LineNumbers.{LineNumbers}
 use Rattle.snippet_lines.specs.declared.number.LineNumbers.TheVariants.{Anonymized, Hidden, Shown}
@@ -27,7 +27,7 @@ use Rattle.snippet_titles.proofs.OriginFree.{each-fails}
 use Rattle.snippet_view.proofs.PartLemmas.{All-unmapped}
 use Rattle.snippet_suggest.specs.Cells.{left_out_cells, line_cells, offered_cells, on_last, put, sign_of, stretch_cell, with_stretches}
 use Rattle.snippet_suggest.specs.Given.{edits_of, first_given, given_lines, given_ranges, given_text, is_left_out, last_reached, shown_kind}
-use Rattle.snippet_suggest.specs.Glyphs.{changed_mark_of, glyph_of, role_of}
+use Rattle.snippet_suggest.specs.Glyphs.{glyph_of, role_of}
 use Rattle.snippet_suggest.specs.Order.{Begins, Empty, Ends, Offers, Removes, Skips, SuggestionRow, is_diff, number_after, rows_of_suggestion}
 use Rattle.snippet_suggest.specs.Rows.{IsBareRow, IsBeforeSign, IsLeftOver, IsMarkOrSpace, IsRemovedRow, Shows, is_stroke}
 use Rattle.snippet_suggest.specs.Shown.{is_touched}
@@ -48,7 +48,7 @@ use Rattle.annotate_snippets.specs.Feeds.{HasNoFeed, HoldsNoFeed, IsNoFeed, IsOn
 use Rattle.annotate_snippets.specs.Rows.{origin_layout, patch_place, path_row, suggestion_head, suggestion_head_at}
 use Rattle.annotate_snippets.proofs.FeedLaws.{at_any}
 use Rattle.annotate_snippets.proofs.LineFeedLaws.{line_plain, row_written}
-use Rattle.annotate_snippets.proofs.PathFeedLaws.{alone, cells_plain, norm_plain, row_plain}
+use Rattle.annotate_snippets.proofs.PathFeedLaws.{cells_plain, norm_plain, row_plain}
 use Rattle.annotate_snippets.proofs.SourceFeedLaws.{number_plain}
 
 -- ---- characters

@@ -1,12 +1,12 @@
 -- The lines of a page's text are its rows, where no row holds a line feed.
-use Rattle.std.proofs.Common.{◌≡◌, ℕ, ◌+◌, ◌<◌, ◌==◌, Bool, true, false, List, [], ◌∷◌, ◌++◌, All, length, map, refl, sym, ap, ◌∙◌, arith}
+use Rattle.std.proofs.Common.{◌≡◌, ℕ, ◌<◌, ◌==◌, Bool, true, false, List, [], ◌∷◌, ◌++◌, All, length, map, refl, sym, ap, ◌∙◌, arith}
 use Rattle.std.specs.List.{flat_map, onto_first}
 use Rattle.std.proofs.lemmas.List.{append-nil}
 use Rattle.std.proofs.lemmas.List.Elements.{All-head, All-map, All-tail}
 use Rattle.std.proofs.lemmas.List.Splits.{length-slice_split, slice_split-cons_no, slice_split-cons_yes, slice_split_at, slice_split_none}
 use Rattle.snippet_grid.specs.Print.{further_text, plain_text, row_text}
 use Rattle.snippet_style.specs.Cell.{Cell}
-use Rattle.annotate_snippets.specs.Feeds.{HasNoFeed, HoldsNoFeed, IsNoFeed, group_lines, or_empty_line, page_lines, text_lines}
+use Rattle.annotate_snippets.specs.Feeds.{HasNoFeed, IsNoFeed, group_lines, or_empty_line, page_lines, text_lines}
 use Rattle.annotate_snippets.specs.Page.{GroupPage, Page, group_rows, page_text}
 
 -- ---- two texts with a line feed between them
