@@ -1,6 +1,6 @@
 //! The parts that reports are drawn with, public so that their contracts can be read.
 
-pub use snippet_grid::StyledBuffer;
+pub use snippet_grid::{SheetCodes, StyledBuffer};
 pub use snippet_parts::{
     AnnotatedLineInfo, CursorLines, EndLine, LineAnnotation, LineAnnotationType, LineInfo, Loc,
     Margin, SourceMap, SpanFault, check_span, newline_count,
