@@ -57,7 +57,11 @@ fn kind_of(value: &Value) -> Option<Kind> {
     if value.get("message").is_some() && value.get("spans").is_some() {
         return Some(Kind::Rustc);
     }
-    value.get("$message_type").map(|_| Kind::Other)
+    if value.get("$message_type").is_some() {
+        Some(Kind::Other)
+    } else {
+        None
+    }
 }
 
 impl Reading {

@@ -19,8 +19,11 @@ pub enum Misuse<'a> {
     NotFile(&'a str),
 }
 
-/// What is wrong with a word that begins as an option does and gives none, where this word is next.
-pub fn misuse_of<'a>(word: &'a str, next: Option<&'a str>) -> Misuse<'a> {
+/// What is wrong with a word that begins as an option does and gives none. It stands after a file, or this word is next.
+pub fn misuse_of<'a>(is_after_file: bool, word: &'a str, next: Option<&'a str>) -> Misuse<'a> {
+    if is_after_file {
+        return Misuse::NotFile(word);
+    }
     match (word, next) {
         ("--width", Some(digits)) => Misuse::NotNumber(digits),
         ("--width", None) => Misuse::NoNumber,
@@ -39,7 +42,10 @@ impl fmt::Display for Misuse<'_> {
             Misuse::NoFolder => f.write_str("expected a folder after --root"),
             Misuse::NotAlone => f.write_str("expected --help without other words"),
             Misuse::NotFile(word) => {
-                write!(f, "expected a file, found {word}: options stand before files")
+                write!(
+                    f,
+                    "expected a file, found {word}: options stand before files"
+                )
             }
         }
     }

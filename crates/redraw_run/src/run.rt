@@ -144,7 +144,7 @@ fn draw_file<R: Files + AllocGlobal, S: Shelf + Drop, W: Write, V: Write>(
 }
 
 /// The same of an input that could be opened or not.
-fn draw_opened<B: BufRead + Drop, S: Shelf + Drop, W: Write, V: Write>(
+pub fn draw_opened<B: BufRead + Drop, S: Shelf + Drop, W: Write, V: Write>(
     input: io::Result<B>,
     drawing: &mut Drawing<'_, '_, S, W, V>,
 ) -> bool {

@@ -99,17 +99,22 @@ fn root_in<'a>(words: &[&'a str], options: Options) -> Option<&'a str> {
 
 /// The files that the words from this number on name, or what is wrong with the first of these words that is no file.
 fn files_from<'w, 'a>(words: &'w [&'a str], at: usize) -> Result<&'w [&'a str], Misuse<'a>> {
-    let files = words.get(at..).unwrap_or(&[]);
-    for (index, word) in files.iter().enumerate() {
-        if is_option(word) {
-            return Err(if index == 0 {
-                misuse_of(*word, second_of(files))
-            } else {
-                Misuse::NotFile(*word)
-            });
-        }
+    match words.get(at..) {
+        Some(files) => checked_files(files),
+        None => Ok(words),
     }
-    Ok(files)
+}
+
+/// These words, if each of them names a file.
+fn checked_files<'w, 'a>(words: &'w [&'a str]) -> Result<&'w [&'a str], Misuse<'a>> {
+    let mut is_after_file = false;
+    for word in words {
+        if is_option(word) {
+            return Err(misuse_of(is_after_file, *word, second_of(words)));
+        }
+        is_after_file = true;
+    }
+    Ok(words)
 }
 
 /// The second of these words.

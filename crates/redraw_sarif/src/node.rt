@@ -16,12 +16,21 @@ pub enum Place<'p> {
     Item(&'p Place<'p>, usize),
 }
 
+impl Place<'_> {
+    /// Whether this is the document's object itself.
+    fn is_document(&self) -> bool {
+        matches!(self, Place::Document)
+    }
+}
+
 impl fmt::Display for Place<'_> {
     fn fmt<W: fmt::Write>(&self, f: &mut fmt::Formatter<W>) -> fmt::Result {
         match self {
             Place::Document => f.write_str("the document"),
-            Place::Field(Place::Document, name) => f.write_str(name),
             Place::Field(object, name) => {
+                if object.is_document() {
+                    return f.write_str(name);
+                }
                 (*object).fmt(f)?;
                 write!(f, ".{name}")
             }
