@@ -42,10 +42,12 @@ pub fn shown_place(span: &Value) -> &Value {
     if has_text(span) {
         return span;
     }
-    match outermost(span).and_then(|expansion| expansion.get("span")) {
-        Some(call) => call,
-        None => span,
-    }
+    outermost_call(span).unwrap_or(span)
+}
+
+/// Where the outermost macro around a place was called.
+fn outermost_call(span: &Value) -> Option<&Value> {
+    outermost(span)?.get("span")
 }
 
 /// The call around a place that is shown beside it, and how: none where the place is shown in it.
@@ -170,11 +172,13 @@ fn macro_name(expansion: &Value) -> Option<(&'static str, &str)> {
         return Some(("macro", name));
     }
     let inner = name.strip_prefix("#[")?.strip_suffix(']')?;
-    match inner
-        .strip_prefix("derive(")
-        .and_then(|name| name.strip_suffix(')'))
-    {
+    match derived_name(inner) {
         Some(name) => Some(("derive macro", name)),
         None => Some(("attribute macro", inner)),
     }
+}
+
+/// The name of the trait that an attribute derives, if it derives one.
+fn derived_name(attribute: &str) -> Option<&str> {
+    attribute.strip_prefix("derive(")?.strip_suffix(')')
 }

@@ -22,20 +22,6 @@ pub fn given_text<'v>(node: &Node<'v, '_>, name: &str) -> Result<Option<&'v str>
     }
 }
 
-/// A copy of the text in the field of this name, if there is one.
-pub fn given_string(node: &Node<'_, '_>, name: &str) -> Result<Option<String>, Fault> {
-    match given_text(node, name)? {
-        Some(text) => Ok(Some(owned(node.alloc, text)?)),
-        None => Ok(None),
-    }
-}
-
-/// A copy of the text in the field of this name, which has to be there.
-pub fn string(node: &Node<'_, '_>, name: &str) -> Result<String, Fault> {
-    let text = node.text(name)?;
-    Ok(owned(node.alloc, text)?)
-}
-
 /// A copy of a text.
 pub fn owned(alloc: Global, text: &str) -> Result<String, AllocError> {
     String::from_str(alloc, text)

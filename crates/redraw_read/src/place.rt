@@ -121,7 +121,7 @@ impl<'a> Placing<'a> {
                 source: spot.source,
                 start: spot.start,
                 end: spot.end,
-                label: span.label.as_ref().map(|label| label.as_str()),
+                label: label_of(span),
                 is_primary: span.is_primary,
             })?;
         }
@@ -152,38 +152,32 @@ impl<'a> Placing<'a> {
 
     /// The offer of an attribute, which is shown with the line that it stands above.
     fn attribute_offer(&mut self, spot: Spot, edit: &'a Edit) -> Result<Offer<'a>, AllocError> {
-        let mut changes = Vec::new(self.alloc);
-        if let (Some(shown), Region::Lines(region)) = (self.shown.get(spot.source), edit.region) {
-            if let Some((start, line)) = line_around(shown, spot.start) {
-                let content = Content::Lines {
-                    text: line,
-                    first_line: region.start_line,
-                };
-                let path = shown.path;
-                let source = self.index_of(Shown { path, content }, false)?;
-                let at = spot.start.saturating_sub(start);
-                changes.push(Change {
-                    start: at,
-                    end: at,
-                    text: edit.replacement.as_str(),
-                })?;
-                return Ok(Offer {
-                    source,
-                    changes,
-                    is_folded: false,
-                });
-            }
-        }
-        changes.push(Change {
-            start: spot.start,
-            end: spot.end,
-            text: edit.replacement.as_str(),
-        })?;
-        Ok(Offer {
-            source: spot.source,
-            changes,
-            is_folded: true,
-        })
+        let text = edit.replacement.as_str();
+        let Some((start, line)) = self.line_at(spot, edit.region) else {
+            return offer_of(self.alloc, spot, text, true);
+        };
+        let at = spot.start.saturating_sub(start);
+        let spot = Spot {
+            source: self.index_of(line, false)?,
+            start: at,
+            end: at,
+        };
+        offer_of(self.alloc, spot, text, false)
+    }
+
+    /// The line around a place as a source of its own, and the byte where it starts.
+    fn line_at(&self, spot: Spot, region: Region) -> Option<(usize, Shown<'a>)> {
+        let Region::Lines(region) = region else {
+            return None;
+        };
+        let shown = self.shown.get(spot.source)?;
+        let (start, text) = line_around(shown, spot.start)?;
+        let content = Content::Lines {
+            text,
+            first_line: region.start_line,
+        };
+        let path = shown.path;
+        Some((start, Shown { path, content }))
     }
 
     /// Whether lines of the source with this index are at hand.
@@ -329,21 +323,37 @@ pub fn is_attribute(text: &str) -> bool {
     text.starts_with("#[") && text.trim_end().ends_with(']') && text.contains("]\n")
 }
 
+/// What is said of a place.
+fn label_of(span: &FileSpan) -> Option<&str> {
+    match &span.label {
+        Some(label) => Some(label.as_str()),
+        None => None,
+    }
+}
+
 /// The line of a source around a byte, and the byte where it starts.
 fn line_around<'a>(shown: &Shown<'a>, at: usize) -> Option<(usize, &'a str)> {
     let Content::Lines { text, .. } = shown.content else {
         return None;
     };
-    let start = match text.get(..at)?.rfind('\n') {
+    let start = last_start(text.get(..at)?);
+    Some((start, first_line(text.get(start..)?)))
+}
+
+/// The byte of a text where its last line starts.
+fn last_start(text: &str) -> usize {
+    match text.rfind('\n') {
         Some(feed) => feed + 1,
         None => 0,
-    };
-    let rest = text.get(start..)?;
-    let line = match rest.find('\n') {
-        Some(feed) => rest.get(..feed)?,
-        None => rest,
-    };
-    Some((start, line))
+    }
+}
+
+/// The first line of a text, without the line feed.
+fn first_line(text: &str) -> &str {
+    match text.split_once('\n') {
+        Some((line, _)) => line,
+        None => text,
+    }
 }
 
 /// Adds an edit of a source to the last offer, if that is of the same source and not one of the first `had`; else as an
@@ -355,25 +365,39 @@ fn add_change<'a>(
     text: &'a str,
     offers: &mut Vec<Offer<'a>>,
 ) -> Result<(), AllocError> {
-    let change = Change {
-        start: spot.start,
-        end: spot.end,
-        text,
-    };
     if offers.len() > had {
         if let Some(last) = offers.last_mut() {
             if last.source == spot.source {
-                last.changes.push(change)?;
+                last.changes.push(change_of(spot, text))?;
                 return Ok(());
             }
         }
     }
+    offers.push(offer_of(alloc, spot, text, true)?)?;
+    Ok(())
+}
+
+/// The offer of one edit.
+fn offer_of<'a>(
+    alloc: Global,
+    spot: Spot,
+    text: &'a str,
+    is_folded: bool,
+) -> Result<Offer<'a>, AllocError> {
     let mut changes = Vec::new(alloc);
-    changes.push(change)?;
-    offers.push(Offer {
+    changes.push(change_of(spot, text))?;
+    Ok(Offer {
         source: spot.source,
         changes,
-        is_folded: true,
-    })?;
-    Ok(())
+        is_folded,
+    })
+}
+
+/// The edit that puts a text into a place.
+fn change_of<'a>(spot: Spot, text: &'a str) -> Change<'a> {
+    Change {
+        start: spot.start,
+        end: spot.end,
+        text,
+    }
 }

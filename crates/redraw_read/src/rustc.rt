@@ -1,7 +1,9 @@
 //! What rustc writes with `--error-format=json`, a diagnostic a line.
 
+ghost use Rattle.std.specs.Prelude.{◌≤◌, length};
+
 use crate::expansion::{Macros, shown_place, told_call};
-use crate::json::{given, given_string, given_text, listed, owned, string};
+use crate::json::{given, given_text, listed, owned, values_of};
 use crate::place::is_attribute;
 use redraw_report::diagnostic::{
     Carried, Child, Code, Diagnostic, Edit, FileSpan, LineRegion, Region, Severity, Unit,
@@ -16,14 +18,7 @@ use std::alloc::{AllocError, Global};
 pub fn diagnostic_of(node: &Node<'_, '_>) -> Result<Diagnostic, Fault> {
     let (severity, message) = heading_of(node)?;
     let spans = spans_of(node)?;
-    let mut children = Vec::new(node.alloc);
-    let mut macros = Macros::new().with_places(node.value);
-    let field = node.needed("children", Expectation::List)?;
-    for (index, value) in listed(node, "children")?.iter().enumerate() {
-        children.push(child_of(&field.item(index, value))?)?;
-        macros = macros.with_places(value);
-    }
-    add_macro_note(node, macros, &mut children)?;
+    let children = children_of(node)?;
     Ok(Diagnostic {
         severity,
         message,
@@ -31,6 +26,20 @@ pub fn diagnostic_of(node: &Node<'_, '_>) -> Result<Diagnostic, Fault> {
         spans,
         children,
     })
+}
+
+/// The children of a diagnostic, with a note on the macros that it originates in.
+fn children_of(node: &Node<'_, '_>) -> Result<Vec<Child>, Fault> {
+    let field = node.needed("children", Expectation::List)?;
+    let values = listed(node, "children")?;
+    let mut children = Vec::new(node.alloc);
+    let mut macros = Macros::new().with_places(node.value);
+    for (index, value) in values.iter().enumerate() {
+        children.push(child_of(&field.item(index, value))?)?;
+        macros = macros.with_places(value);
+    }
+    add_macro_note(node, macros, &mut children)?;
+    Ok(children)
 }
 
 /// Adds the notes on the macros that a diagnostic originates in, before the edits that are suggested.
@@ -42,10 +51,7 @@ fn add_macro_note(
     let Some(message) = macros.note(node.alloc, node.text("level")?)? else {
         return Ok(());
     };
-    let at = children
-        .iter()
-        .position(|child| !child.alternatives.is_empty())
-        .unwrap_or(children.len());
+    let at = count_before_edits(children);
     children.insert(
         at,
         Child {
@@ -56,6 +62,18 @@ fn add_macro_note(
         },
     )?;
     Ok(())
+}
+
+/// How many children stand before the first that suggests an edit.
+fn count_before_edits(children: &[Child]) -> usize
+    ensures within { result ≤ length children.now }
+{
+    for (index, child) in children.iter().enumerate() {
+        if !child.alternatives.is_empty() {
+            return index;
+        }
+    }
+    children.len()
 }
 
 /// The places of a diagnostic, and the calls of macros that are shown beside them.
@@ -86,20 +104,22 @@ fn add_call(node: &Node<'_, '_>, spans: &mut Vec<FileSpan>) -> Result<(), Fault>
         place: node.place,
     };
     let region = region_of(&place)?;
-    if spans
-        .iter()
-        .any(|span| span.region == region && has_label(span, label))
-    {
+    if is_said(spans, Region::Lines(region), label) {
         return Ok(());
     }
-    spans.push(FileSpan {
-        file: string(&place, "file_name")?,
-        region,
-        label: Some(owned(node.alloc, label)?),
-        is_primary: false,
-        carried: carried_of(&place)?,
-    })?;
+    let file = place.text("file_name")?;
+    spans.push(file_span(&place, file, region, Some(label), false)?)?;
     Ok(())
+}
+
+/// Whether this is said of one of these places, in this region.
+fn is_said(spans: &[FileSpan], region: Region, label: &str) -> bool {
+    for span in spans {
+        if span.region == region && has_label(span, label) {
+            return true;
+        }
+    }
+    false
 }
 
 /// Whether this is said of a place.
@@ -114,25 +134,40 @@ fn has_label(span: &FileSpan, label: &str) -> bool {
 fn heading_of(node: &Node<'_, '_>) -> Result<(Severity, String), Fault> {
     let message = node.text("message")?;
     let level = node.needed("level", Expectation::LevelKind)?;
-    let severity = match level.value.as_str() {
-        Some("error") => Severity::Error,
-        Some("warning") => Severity::Warning,
-        Some("note") => Severity::Note,
-        Some("help") => Severity::Help,
-        Some("failure-note") => Severity::Plain,
-        Some("error: internal compiler error") => {
-            let text = format!(in node.alloc; "internal compiler error: {message}")?;
-            return Ok((Severity::Error, text));
-        }
-        _ => return Err(level.unexpected(Expectation::LevelKind)),
+    let Some(severity) = severity_of(level.value) else {
+        return Err(level.unexpected(Expectation::LevelKind));
     };
-    Ok((severity, owned(node.alloc, message)?))
+    Ok((severity, message_of(level.alloc, level.value, message)?))
+}
+
+/// How severe a diagnostic of this level is.
+fn severity_of(level: &Value) -> Option<Severity> {
+    match level.as_str()? {
+        "error" | INTERNAL => Some(Severity::Error),
+        "warning" => Some(Severity::Warning),
+        "note" => Some(Severity::Note),
+        "help" => Some(Severity::Help),
+        "failure-note" => Some(Severity::Plain),
+        _ => None,
+    }
+}
+
+/// The level of an internal compiler error, which its message is to say.
+const INTERNAL: &str = "error: internal compiler error";
+
+/// The message of a diagnostic of this level.
+fn message_of(alloc: Global, level: &Value, message: &str) -> Result<String, AllocError> {
+    if level.as_str() == Some(INTERNAL) {
+        format!(in alloc; "internal compiler error: {message}")
+    } else {
+        owned(alloc, message)
+    }
 }
 
 /// Whether a code is that of an error, `E` and digits; others are the names of lints.
 fn is_error_code(code: &str) -> bool {
     match code.as_bytes() {
-        [b'E', digits @ ..] => !digits.is_empty() && digits.iter().all(|b| b.is_ascii_digit()),
+        [b'E', digits @ ..] => !digits.is_empty() && digits.iter().all(u8::is_ascii_digit),
         _ => false,
     }
 }
@@ -185,84 +220,143 @@ fn edits_of(node: &Node<'_, '_>) -> Result<Vec<Edit>, Fault> {
 
 /// A place. One in the source of a macro that isn't at hand is shown where the macro is called.
 fn span_of(node: &Node<'_, '_>) -> Result<FileSpan, Fault> {
-    let label = given_string(node, "label")?;
+    let label = given_text(node, "label")?;
     let is_primary = node.flag("is_primary")?;
     let place = Node {
         alloc: node.alloc,
         value: shown_place(node.value),
         place: node.place,
     };
+    labelled(&place, label, is_primary)
+}
+
+/// A place of which this is said.
+fn labelled(
+    place: &Node<'_, '_>,
+    label: Option<&str>,
+    is_primary: bool,
+) -> Result<FileSpan, Fault> {
+    let file = place.text("file_name")?;
+    let region = region_of(place)?;
+    file_span(place, file, region, label, is_primary)
+}
+
+/// A place in this file and region, with the lines that it has with it.
+fn file_span(
+    place: &Node<'_, '_>,
+    file: &str,
+    region: LineRegion,
+    label: Option<&str>,
+    is_primary: bool,
+) -> Result<FileSpan, Fault> {
+    let carried = carried_of(place, region)?;
+    let label = owned_label(place.alloc, label)?;
     Ok(FileSpan {
-        file: string(&place, "file_name")?,
-        region: region_of(&place)?,
+        file: owned(place.alloc, file)?,
+        region: Region::Lines(region),
         label,
         is_primary,
-        carried: carried_of(&place)?,
+        carried,
     })
+}
+
+/// A copy of a label, where there is one.
+fn owned_label(alloc: Global, label: Option<&str>) -> Result<Option<String>, AllocError> {
+    match label {
+        Some(label) => Ok(Some(owned(alloc, label)?)),
+        None => Ok(None),
+    }
 }
 
 /// An edit: a place, and what is to stand there.
 fn edit_of(node: &Node<'_, '_>, replacement: &str) -> Result<Edit, Fault> {
     let region = region_of(node)?;
-    let mut replacement = owned(node.alloc, replacement)?;
-    if is_attribute(replacement.as_str()) {
-        replacement.push_str(indentation_in(node, region))?;
-    }
+    let file = node.text("file_name")?;
+    let carried = carried_of(node, region)?;
+    let replacement = replacement_in(node, region, replacement)?;
     Ok(Edit {
-        file: string(node, "file_name")?,
-        region,
+        file: owned(node.alloc, file)?,
+        region: Region::Lines(region),
         replacement,
-        carried: carried_of(node)?,
+        carried,
     })
 }
 
-/// What stands before a place in its line, if that is blank: an attribute above the line is to stand as far right as it.
-fn indentation_in<'v>(node: &Node<'v, '_>, region: Region) -> &'v str {
-    let Region::Lines(lines) = region else {
-        return "";
-    };
-    let before = lines.start_column.unwrap_or(1).saturating_sub(1);
-    match first_line(node.value).and_then(|line| line.get(..before)) {
+/// The text that is to stand in a place. An attribute above a line is to stand as far right as the line: so what stands before
+/// the place in its line comes after it.
+fn replacement_in(
+    node: &Node<'_, '_>,
+    region: LineRegion,
+    replacement: &str,
+) -> Result<String, AllocError> {
+    let mut text = owned(node.alloc, replacement)?;
+    if is_attribute(replacement) {
+        text.push_str(indentation_in(node, region))?;
+    }
+    Ok(text)
+}
+
+/// What stands before a place in its line, if that is blank.
+fn indentation_in<'v>(node: &Node<'v, '_>, region: LineRegion) -> &'v str {
+    match text_before(node.value, region) {
         Some(blank) if blank.trim().is_empty() => blank,
         _ => "",
     }
 }
 
-/// The first of the lines that a place has with it.
-fn first_line(span: &Value) -> Option<&str> {
-    span.get("text")?.get(0usize)?.get("text")?.as_str()
+/// What stands before a place in the first of the lines that it has with it.
+fn text_before(span: &Value, region: LineRegion) -> Option<&str> {
+    let before = region.start_column?.checked_sub(1)?;
+    span.pointer("/text/0/text")?.as_str()?.get(..before)
 }
 
 /// The lines and columns of a place.
-fn region_of(node: &Node<'_, '_>) -> Result<Region, Fault> {
-    Ok(Region::Lines(LineRegion {
-        start_line: node.number("line_start")?,
-        start_column: Some(node.number("column_start")?),
-        end_line: node.number("line_end")?,
-        end_column: Some(node.number("column_end")?),
+fn region_of(node: &Node<'_, '_>) -> Result<LineRegion, Fault> {
+    let (start_line, start_column) = numbers_of(node, "line_start", "column_start")?;
+    let (end_line, end_column) = numbers_of(node, "line_end", "column_end")?;
+    Ok(LineRegion {
+        start_line,
+        start_column: Some(start_column),
+        end_line,
+        end_column: Some(end_column),
         unit: Unit::CodePoints,
-    }))
+    })
 }
 
-/// The lines that a place has with it, where it has some.
-fn carried_of(node: &Node<'_, '_>) -> Result<Option<Carried>, Fault> {
-    let lines = listed(node, "text")?;
+/// The line and the column in the fields of these names.
+fn numbers_of(node: &Node<'_, '_>, line: &str, column: &str) -> Result<(usize, usize), Fault> {
+    let line = node.number(line)?;
+    let column = node.number(column)?;
+    Ok((line, column))
+}
+
+/// The lines that a place in this region has with it, where it has some.
+fn carried_of(node: &Node<'_, '_>, region: LineRegion) -> Result<Option<Carried>, Fault> {
+    let Some(field) = given(node, "text") else {
+        return Ok(None);
+    };
+    let lines = values_of(&field)?;
     if lines.is_empty() {
         return Ok(None);
     }
-    let field = node.needed("text", Expectation::List)?;
-    let mut text = String::new(node.alloc);
-    for (index, value) in lines.iter().enumerate() {
-        if index > 0 {
-            text.push_str("\n")?;
-        }
-        text.push_str(field.item(index, value).text("text")?)?;
-    }
     Ok(Some(Carried {
-        first_line: node.number("line_start")?,
-        text,
+        first_line: region.start_line,
+        text: text_of_lines(&field, lines)?,
         is_whole: true,
     }))
+}
+
+/// The lines of this list, with line feeds between them.
+fn text_of_lines<'v>(list: &Node<'v, '_>, lines: &'v [Value]) -> Result<String, Fault> {
+    let mut text = String::new(list.alloc);
+    for (index, value) in lines.iter().enumerate() {
+        let line = list.item(index, value).text("text")?;
+        if index > 0 {
+            text.push('\n')?;
+        }
+        text.push_str(line)?;
+    }
+    Ok(text)
 }
 
 /// Edits as the alternatives that they are. rustc writes these one after another, and none of them has edits that overlap: so
@@ -271,7 +365,7 @@ fn alternatives_of(alloc: Global, edits: Vec<Edit>) -> Result<Vec<Vec<Edit>>, Al
     let mut alternatives = Vec::new(alloc);
     let mut current: Vec<Edit> = Vec::new(alloc);
     for edit in edits {
-        if current.iter().any(|other| !are_apart(other, &edit)) {
+        if overlaps_one(&edit, &current) {
             alternatives.push(current)?;
             current = Vec::new(alloc);
         }
@@ -281,6 +375,16 @@ fn alternatives_of(alloc: Global, edits: Vec<Edit>) -> Result<Vec<Vec<Edit>>, Al
         alternatives.push(current)?;
     }
     Ok(alternatives)
+}
+
+/// Whether an edit overlaps with one of these.
+fn overlaps_one(edit: &Edit, others: &[Edit]) -> bool {
+    for other in others {
+        if !are_apart(other, edit) {
+            return true;
+        }
+    }
+    false
 }
 
 /// Whether two edits can be made together: they are of one file, and one ends where the other starts, or before it.

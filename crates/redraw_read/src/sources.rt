@@ -10,7 +10,7 @@ pub trait Shelf {
 }
 
 /// A text, and where its lines start.
-#[derive(Debug, Drop)]
+#[derive(Drop)]
 pub struct Source {
     pub text: String,
     pub starts: Vec<usize>,
@@ -18,8 +18,9 @@ pub struct Source {
 
 impl Source {
     /// The source that this text is.
-    pub fn new(alloc: Global, text: String) -> Result<Source, AllocError> {
-        let starts = line_starts(alloc, text.as_str())?;
+    pub fn new(alloc: Global, text: &str) -> Result<Source, AllocError> {
+        let starts = line_starts(alloc, text)?;
+        let text = String::from_str(alloc, text)?;
         Ok(Source { text, starts })
     }
 
@@ -43,7 +44,7 @@ impl Source {
 }
 
 /// A file that was asked for, and what it holds; nothing where it couldn't be read as text.
-#[derive(Debug, Drop)]
+#[derive(Drop)]
 struct File {
     name: String,
     source: Option<Source>,
@@ -69,7 +70,7 @@ impl<S: Shelf + Drop> Sources<S> {
 
     /// Reads the file of this name, unless it was asked for before.
     pub fn load(&mut self, name: &str) -> Result<(), AllocError> {
-        if self.files.iter().any(|file| file.name.as_str() == name) {
+        if self.index_of(name).is_some() {
             return Ok(());
         }
         let source = match self.shelf.bytes(name)? {
@@ -83,9 +84,15 @@ impl<S: Shelf + Drop> Sources<S> {
 
     /// What the file of this name holds, if it was read.
     pub fn get(&self, name: &str) -> Option<&Source> {
-        for file in &self.files {
+        let file = self.files.get(self.index_of(name)?)?;
+        file.source.as_ref()
+    }
+
+    /// The index of the file of this name, if it was asked for.
+    fn index_of(&self, name: &str) -> Option<usize> {
+        for (index, file) in self.files.iter().enumerate() {
             if file.name.as_str() == name {
-                return file.source.as_ref();
+                return Some(index);
             }
         }
         None
@@ -98,6 +105,5 @@ fn source_of(alloc: Global, bytes: Vec<u8>) -> Result<Option<Source>, AllocError
         return Ok(None);
     };
     let text = text.strip_prefix('\u{feff}').unwrap_or(text);
-    let text = String::from_str(alloc, text)?;
     Ok(Some(Source::new(alloc, text)?))
 }

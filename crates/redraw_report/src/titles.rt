@@ -15,13 +15,23 @@ use std::alloc::{AllocError, Global};
 pub fn level_of<'a>(severity: Severity) -> Level<'a>
     ensures value { result ≡ spec.level_of severity }
 {
+    let level = Level::standard(kind_of(severity));
     match severity {
-        Severity::Error => Level::standard(LevelInner::Error),
-        Severity::Warning => Level::standard(LevelInner::Warning),
-        Severity::Info => Level::standard(LevelInner::Info),
-        Severity::Note => Level::standard(LevelInner::Note),
-        Severity::Help => Level::standard(LevelInner::Help),
-        Severity::Plain => Level::standard(LevelInner::Note).no_name(),
+        Severity::Plain => level.no_name(),
+        _ => level,
+    }
+}
+
+/// The kind of the level that a severity is drawn by.
+fn kind_of(severity: Severity) -> LevelInner
+    ensures value { result ≡ (spec.level_of severity).kind }
+{
+    match severity {
+        Severity::Error => LevelInner::Error,
+        Severity::Warning => LevelInner::Warning,
+        Severity::Info => LevelInner::Info,
+        Severity::Note | Severity::Plain => LevelInner::Note,
+        Severity::Help => LevelInner::Help,
     }
 }
 

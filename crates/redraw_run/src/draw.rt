@@ -15,7 +15,7 @@ use std::fmt;
 use std::io::Write;
 
 /// How many findings were drawn, and what became of the rest.
-#[derive(Clone, Copy, Debug, Default, PartialEq, Eq)]
+#[derive(Clone, Copy, Default)]
 pub struct Tally {
     /// Those that were drawn.
     pub drawn: u64,
@@ -87,26 +87,29 @@ impl<S: Shelf + Drop, W: Write, V: Write> Drawing<'_, '_, S, W, V> {
         self.tally.wrong = self.tally.wrong.saturating_add(1);
     }
 
-    /// Tells something of what is read, with nothing in it that could change how a terminal shows it.
+    /// Tells something of what is read.
     pub fn tell<D: fmt::Display + Drop>(&mut self, what: D) {
         let (input, line) = (self.input, self.line);
-        let message = if line == 0 {
-            format!(in self.alloc; "redraw: {input}: {what}")
+        if line == 0 {
+            tell(self.alloc, format_args!("{input}: {what}"), self.err);
         } else {
-            format!(in self.alloc; "redraw: {input}:{line}: {what}")
-        };
-        let shown = match message {
-            Ok(message) => normalize_untrusted_str(self.alloc, message.as_str()),
-            Err(error) => Err(error),
-        };
-        match shown {
-            Ok(text) => {
-                let _ = self.err.writeln(text.as_str());
-            }
-            Err(AllocError) => {
-                let _ = self.err.writeln("redraw: out of memory");
-            }
+            tell(self.alloc, format_args!("{input}:{line}: {what}"), self.err);
         }
+    }
+
+    /// Tells where something that begins on this line isn't JSON, and leaves it out.
+    pub fn not_json(&mut self, begins: u64, error: &serde_json::Error) {
+        self.leave_out();
+        let input = self.input;
+        let line = begins.saturating_add(error.line() as u64).saturating_sub(1);
+        let column = error.column();
+        let ending = if error.is_eof() {
+            ": it ends too early"
+        } else {
+            ""
+        };
+        let told = format_args!("{input}:{line}:{column}: not valid JSON{ending}");
+        tell(self.alloc, told, self.err);
     }
 
     /// Draws the finding that a diagnostic reports.
@@ -152,6 +155,24 @@ impl<S: Shelf + Drop, W: Write, V: Write> Drawing<'_, '_, S, W, V> {
             Err(Stop::Unwritable)
         }
     }
+}
+
+/// Writes a message, with nothing in it that could change how a terminal shows it.
+pub fn tell<D: fmt::Display + Drop, V: Write>(alloc: Global, message: D, err: &mut V) {
+    match shown(alloc, message) {
+        Ok(text) => {
+            let _ = err.writeln(text.as_str());
+        }
+        Err(AllocError) => {
+            let _ = err.writeln("redraw: out of memory");
+        }
+    }
+}
+
+/// A message as it may be shown.
+fn shown<D: fmt::Display + Drop>(alloc: Global, message: D) -> Result<String, AllocError> {
+    let message = format!(in alloc; "redraw: {message}")?;
+    normalize_untrusted_str(alloc, message.as_str())
 }
 
 /// What was drawn of a finding.

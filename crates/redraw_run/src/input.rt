@@ -1,8 +1,9 @@
 //! An input, read line by line. Nothing of a line is kept when the next is read, save of a log that is one document.
 
 use crate::draw::Drawing;
-use crate::sarif::draw_log;
+use crate::sarif::draw_runs;
 use crate::stop::Stop;
+use redraw_read::json::listed;
 use redraw_read::rustc::diagnostic_of;
 use redraw_read::sources::Shelf;
 use replay_read::fault::Place;
@@ -22,12 +23,14 @@ pub struct Reading {
     has_begun: bool,
     /// The lines of a document that is more than its first line.
     document: Option<String>,
+    /// The number of the line that the document begins on.
+    begins: u64,
     /// Whether each line so far was UTF-8.
     is_text: bool,
 }
 
 /// What a value of JSON is.
-#[derive(Clone, Copy, Debug, PartialEq, Eq)]
+#[derive(Clone, Copy)]
 enum Kind {
     /// A diagnostic of rustc.
     Rustc,
@@ -54,7 +57,11 @@ fn kind_of(value: &Value) -> Option<Kind> {
     if value.get("message").is_some() && value.get("spans").is_some() {
         return Some(Kind::Rustc);
     }
-    value.get("$message_type").map(|_| Kind::Other)
+    if value.get("$message_type").is_some() {
+        Some(Kind::Other)
+    } else {
+        None
+    }
 }
 
 impl Reading {
@@ -65,6 +72,7 @@ impl Reading {
             is_known: false,
             has_begun: false,
             document: None,
+            begins: 0,
             is_text: true,
         }
     }
@@ -91,10 +99,12 @@ impl Reading {
             Err(error) if error.is_memory() => Err(Stop::Memory),
             Err(error) if is_first && line.trim_start().starts_with('{') => {
                 self.document = Some(String::from_str(self.alloc, line)?);
+                self.begins = drawing.line;
                 Ok(())
             }
             Err(error) => {
-                drawing.wrong(format_args!("not valid JSON: {error}"));
+                let line = drawing.line;
+                drawing.not_json(line, &error);
                 Ok(())
             }
         }
@@ -125,7 +135,7 @@ impl Reading {
             Ok(value) => self.value(&value, drawing),
             Err(error) if error.is_memory() => Err(Stop::Memory),
             Err(error) => {
-                drawing.wrong(format_args!("not valid JSON: {error}"));
+                drawing.not_json(self.begins, &error);
                 Ok(())
             }
         }
@@ -154,7 +164,7 @@ impl Reading {
                 drawing.other();
                 Ok(())
             }
-            Kind::Sarif => draw_log(value, drawing),
+            Kind::Sarif => sarif_log(&node, drawing),
         }
     }
 }
@@ -171,6 +181,17 @@ fn cargo_message<S: Shelf + Drop, W: Write, V: Write>(
 ) -> Result<(), Stop> {
     match node.needed("message", Expectation::Object) {
         Ok(message) => drawing.finding(diagnostic_of(&message)),
+        Err(fault) => drawing.finding(Err(fault)),
+    }
+}
+
+/// Takes a SARIF log. One whose runs are no list is told and left out.
+fn sarif_log<S: Shelf + Drop, W: Write, V: Write>(
+    node: &Node<'_, '_>,
+    drawing: &mut Drawing<'_, '_, S, W, V>,
+) -> Result<(), Stop> {
+    match listed(node, "runs") {
+        Ok(runs) => draw_runs(runs, drawing),
         Err(fault) => drawing.finding(Err(fault)),
     }
 }

@@ -3,6 +3,7 @@
 
 pub mod draw;
 pub mod input;
+pub mod misuse;
 pub mod run;
 pub mod sarif;
 pub mod stop;

@@ -1,6 +1,6 @@
 //! A run of the program.
 
-use crate::draw::{Drawing, Tally};
+use crate::draw::{Drawing, Tally, tell};
 use crate::input::draw_input;
 use crate::stop::Stop;
 use crate::words::{Options, command_of};
@@ -74,11 +74,14 @@ pub fn run<'r, 'w, R: Files + Input + AllocGlobal, W: Write, V: Write>(
     if matches!(words, ["--help"]) {
         return help(out);
     }
-    let Some(command) = command_of(words) else {
-        let _ = err.writeln(USAGE);
-        return FAILED;
-    };
     let alloc = rt.alloc();
+    let command = match command_of(words) {
+        Ok(command) => command,
+        Err(misuse) => {
+            tell(alloc, format_args!("{misuse}\n{USAGE}"), err);
+            return FAILED;
+        }
+    };
     let shelf = Below {
         rt,
         root: command.root,
@@ -141,7 +144,7 @@ fn draw_file<R: Files + AllocGlobal, S: Shelf + Drop, W: Write, V: Write>(
 }
 
 /// The same of an input that could be opened or not.
-fn draw_opened<B: BufRead + Drop, S: Shelf + Drop, W: Write, V: Write>(
+pub fn draw_opened<B: BufRead + Drop, S: Shelf + Drop, W: Write, V: Write>(
     input: io::Result<B>,
     drawing: &mut Drawing<'_, '_, S, W, V>,
 ) -> bool {
@@ -151,12 +154,7 @@ fn draw_opened<B: BufRead + Drop, S: Shelf + Drop, W: Write, V: Write>(
         Err(error) => Err(Stop::Unreadable(error)),
     };
     match drawn {
-        Ok(true) => true,
-        Ok(false) => {
-            drawing.line = 0;
-            drawing.tell("neither messages of rustc or cargo nor a SARIF log");
-            false
-        }
+        Ok(is_known) => is_known,
         Err(stop) => {
             drawing.tell(stop);
             false

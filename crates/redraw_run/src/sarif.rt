@@ -3,20 +3,21 @@
 use crate::draw::Drawing;
 use crate::stop::Stop;
 use redraw_read::sources::Shelf;
-use redraw_sarif::node::{Node, Troubles};
-use redraw_sarif::sarif::{Run, log};
+use redraw_sarif::node::{List, Node, Place, Troubles};
+use redraw_sarif::sarif::Run;
 use serde_json::Value;
 use std::io::Write;
 
-/// Draws what the results of a log tell, each before the next is read.
-pub fn draw_log<S: Shelf + Drop, W: Write, V: Write>(
-    document: &Value,
+/// Draws what the results of a log's runs tell, each before the next is read.
+pub fn draw_runs<S: Shelf + Drop, W: Write, V: Write>(
+    runs: &[Value],
     drawing: &mut Drawing<'_, '_, S, W, V>,
 ) -> Result<(), Stop> {
-    let mut troubles = Troubles::new(drawing.alloc);
-    let log = log(document);
-    let runs = log.list("runs", &mut troubles);
-    tell_all(&troubles, drawing)?;
+    let document = Place::Document;
+    let runs = List {
+        items: runs,
+        place: Place::Field(&document, "runs"),
+    };
     for (index, value) in runs.items.iter().enumerate() {
         draw_run(runs.node(index, value), drawing)?;
     }

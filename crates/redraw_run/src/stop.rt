@@ -4,7 +4,7 @@ use std::alloc::{AllocError, AllocFailed};
 use std::{fmt, io};
 
 /// Why a run can't go on.
-#[derive(Debug, Drop)]
+#[derive(Drop)]
 pub enum Stop {
     /// A growth of memory was refused.
     Memory,

@@ -1,7 +1,9 @@
 //! The words of the command line, without the program's name.
 
+use crate::misuse::{Misuse, misuse_of};
+
 /// The options that stand before the files.
-#[derive(Clone, Copy, Debug, Default, PartialEq, Eq)]
+#[derive(Clone, Copy, Default)]
 pub struct Options {
     /// Whether strokes are drawn with line-drawing characters.
     pub unicode: bool,
@@ -18,7 +20,7 @@ pub struct Options {
 }
 
 /// What a command line asks for.
-#[derive(Clone, Copy, Debug)]
+#[derive(Clone, Copy)]
 pub struct Command<'w, 'a> {
     /// How reports are drawn.
     pub options: Options,
@@ -36,31 +38,39 @@ fn number_of(word: &str) -> Option<usize> {
     }
 }
 
-/// The options with the one that the words begin with, and how many words give it; `None` where they begin with none. The first of
-/// these words is the one with this number.
-fn take_option(mut options: Options, words: &[&str], at: usize) -> Option<(Options, usize)> {
-    let mut count = 1;
-    match words {
-        ["--unicode", ..] => options.unicode = true,
-        ["--text", ..] => options.text = true,
-        ["--short", ..] => options.short = true,
-        ["--styled", ..] => options.styled = true,
-        ["--width", digits, ..] => {
-            options.width = Some(number_of(digits)?);
-            count = 2;
-        }
-        ["--root", _, ..] => {
-            options.root_at = Some(at.saturating_add(1));
-            count = 2;
-        }
+/// The options with the one of this name that stands alone; `None` where there is none.
+fn with_flag(mut options: Options, name: &str) -> Option<Options> {
+    match name {
+        "--unicode" => options.unicode = true,
+        "--text" => options.text = true,
+        "--short" => options.short = true,
+        "--styled" => options.styled = true,
         _ => return None,
     }
-    Some((options, count))
+    Some(options)
 }
 
-/// The same of the words from this number on.
+/// The options with the one of this name that has a word after it; `None` where there is none, or the word isn't of its form.
+/// That word has this number.
+fn with_value(mut options: Options, name: &str, word: &str, at: usize) -> Option<Options> {
+    match name {
+        "--width" => options.width = Some(number_of(word)?),
+        "--root" => options.root_at = Some(at),
+        _ => return None,
+    }
+    Some(options)
+}
+
+/// The options with the one that the words from this number on begin with, and how many words give it; `None` where they begin
+/// with none.
 fn option_at(options: Options, words: &[&str], at: usize) -> Option<(Options, usize)> {
-    take_option(options, words.get(at..)?, at)
+    let name = *words.get(at)?;
+    if let Some(changed) = with_flag(options, name) {
+        return Some((changed, 1));
+    }
+    let next = at.checked_add(1)?;
+    let changed = with_value(options, name, *words.get(next)?, next)?;
+    Some((changed, 2))
 }
 
 /// The options that the words begin with, and how many words give them.
@@ -87,13 +97,31 @@ fn root_in<'a>(words: &[&'a str], options: Options) -> Option<&'a str> {
     }
 }
 
-/// The files that the words from this number on name; `None` where one of them is no file.
-fn files_from<'w, 'a>(words: &'w [&'a str], at: usize) -> Option<&'w [&'a str]> {
-    let files = words.get(at..)?;
-    if files.iter().any(|word| is_option(word)) {
-        None
-    } else {
-        Some(files)
+/// The files that the words from this number on name, or what is wrong with the first of these words that is no file.
+fn files_from<'w, 'a>(words: &'w [&'a str], at: usize) -> Result<&'w [&'a str], Misuse<'a>> {
+    match words.get(at..) {
+        Some(files) => checked_files(files),
+        None => Ok(words),
+    }
+}
+
+/// These words, if each of them names a file.
+fn checked_files<'w, 'a>(words: &'w [&'a str]) -> Result<&'w [&'a str], Misuse<'a>> {
+    let mut is_after_file = false;
+    for word in words {
+        if is_option(word) {
+            return Err(misuse_of(is_after_file, *word, second_of(words)));
+        }
+        is_after_file = true;
+    }
+    Ok(words)
+}
+
+/// The second of these words.
+fn second_of<'a>(words: &[&'a str]) -> Option<&'a str> {
+    match words {
+        [_, second, ..] => Some(*second),
+        _ => None,
     }
 }
 
@@ -102,11 +130,11 @@ fn is_option(word: &str) -> bool {
     word.starts_with("--")
 }
 
-/// The command that the words ask for; `None` where they aren't of the form.
-pub fn command_of<'w, 'a>(words: &'w [&'a str]) -> Option<Command<'w, 'a>> {
+/// The command that the words ask for, or what is wrong where they aren't of the form.
+pub fn command_of<'w, 'a>(words: &'w [&'a str]) -> Result<Command<'w, 'a>, Misuse<'a>> {
     let (options, at) = options_in(words);
     let files = files_from(words, at)?;
-    Some(Command {
+    Ok(Command {
         options,
         root: root_in(words, options),
         files,

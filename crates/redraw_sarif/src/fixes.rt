@@ -73,15 +73,26 @@ fn edits_of(
     troubles: &mut Troubles,
 ) -> Result<Option<Vec<Edit>>, AllocError> {
     let told = troubles.lines.len();
+    let edits = edits_in(fix, context, troubles)?;
+    if troubles.lines.len() > told {
+        Ok(None)
+    } else {
+        Ok(Some(edits))
+    }
+}
+
+/// Those edits of a fix with which nothing is wrong.
+fn edits_in(
+    fix: &Node<'_, '_>,
+    context: &Context<'_>,
+    troubles: &mut Troubles,
+) -> Result<Vec<Edit>, AllocError> {
     let mut edits = Vec::new(context.alloc);
     let changes = fix.needed_list("artifactChanges", troubles);
     for (index, value) in changes.items.iter().enumerate() {
         add_change(&mut edits, &changes.node(index, value), context, troubles)?;
     }
-    if troubles.lines.len() > told {
-        return Ok(None);
-    }
-    Ok(Some(edits))
+    Ok(edits)
 }
 
 /// Adds the edits of one file.

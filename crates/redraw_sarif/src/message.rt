@@ -19,9 +19,12 @@ pub fn text_in(
         return Ok(None);
     };
     let arguments = message.list("arguments", troubles).items;
+    let told = troubles.lines.len();
     let own = message.text("text", troubles);
     let Some(text) = own.or(text_by_id(&message, rule, troubles)) else {
-        message.tell(troubles, Expectation::Message);
+        if troubles.lines.len() == told {
+            message.tell(troubles, Expectation::Message);
+        }
         return Ok(None);
     };
     let text = if own.is_some() && arguments.is_empty() {

@@ -16,12 +16,21 @@ pub enum Place<'p> {
     Item(&'p Place<'p>, usize),
 }
 
+impl Place<'_> {
+    /// Whether this is the document's object itself.
+    fn is_document(&self) -> bool {
+        matches!(self, Place::Document)
+    }
+}
+
 impl fmt::Display for Place<'_> {
     fn fmt<W: fmt::Write>(&self, f: &mut fmt::Formatter<W>) -> fmt::Result {
         match self {
             Place::Document => f.write_str("the document"),
-            Place::Field(Place::Document, name) => f.write_str(name),
             Place::Field(object, name) => {
+                if object.is_document() {
+                    return f.write_str(name);
+                }
                 (*object).fmt(f)?;
                 write!(f, ".{name}")
             }
@@ -101,10 +110,8 @@ impl<'v> Node<'v, '_> {
 
     /// What stands in the field of this name.
     fn field(&self, name: &str) -> Option<&'v Value> {
-        match self.value.get(name) {
-            Some(value) if !value.is_null() => Some(value),
-            _ => None,
-        }
+        let value = self.value.get(name)?;
+        if value.is_null() { None } else { Some(value) }
     }
 
     /// Whether there is a field of this name.
@@ -114,11 +121,11 @@ impl<'v> Node<'v, '_> {
 
     /// Whether the value is an object.
     pub fn is_object(&self, troubles: &mut Troubles) -> bool {
-        if self.value.is_object() {
-            return true;
+        let is_object = self.value.is_object();
+        if !is_object {
+            self.tell(troubles, Expectation::Object);
         }
-        self.tell(troubles, Expectation::Object);
-        false
+        is_object
     }
 
     /// The object in the field of this name, which has to be there.
@@ -201,13 +208,12 @@ impl<'v> Node<'v, '_> {
 
     /// The line or the column in the field of this name, counted from 1.
     pub fn from_one(&self, name: &str, troubles: &mut Troubles) -> Option<usize> {
-        match self.field(name)?.as_u64() {
-            Some(number) if number > 0 => Some(number as usize),
-            _ => {
-                self.tell_field(name, troubles, Expectation::FromOne);
-                None
-            }
+        let number = self.field(name)?.as_u64().unwrap_or(0);
+        if number == 0 {
+            self.tell_field(name, troubles, Expectation::FromOne);
+            return None;
         }
+        Some(number as usize)
     }
 }
 

@@ -5,9 +5,19 @@ use crate::node::{Node, Troubles};
 use redraw_report::diagnostic::{Carried, LineRegion, Region, Unit};
 use std::alloc::{AllocError, Global};
 
-/// The part of a file that a region names: by lines and columns, else by characters, else by bytes. Where it says none of
-/// these, that is reported.
+/// The part of a file that a region names. Where it says no place to begin at, that is reported, unless what it says in its
+/// stead has been.
 pub fn region_of(region: &Node<'_, '_>, unit: Unit, troubles: &mut Troubles) -> Option<Region> {
+    let told = troubles.lines.len();
+    let found = region_in(region, unit, troubles);
+    if found.is_none() && troubles.lines.len() == told {
+        region.tell(troubles, Expectation::RegionStart);
+    }
+    found
+}
+
+/// The part of a file that a region names: by lines and columns, else by characters, else by bytes.
+fn region_in(region: &Node<'_, '_>, unit: Unit, troubles: &mut Troubles) -> Option<Region> {
     if let Some(start_line) = region.from_one("startLine", troubles) {
         return Some(Region::Lines(line_region(region, start_line, unit, troubles)));
     }
@@ -21,7 +31,6 @@ pub fn region_of(region: &Node<'_, '_>, unit: Unit, troubles: &mut Troubles) -> 
         let end = start.saturating_add(length);
         return Some(Region::Bytes { start, end });
     }
-    region.tell(troubles, Expectation::RegionStart);
     None
 }
 

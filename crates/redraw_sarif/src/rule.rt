@@ -23,10 +23,8 @@ impl<'v> Rule<'v> {
 
     /// The text of the rule's, or else of the component's, message strings by this name.
     pub fn message_string(&self, id: &str) -> Option<&'v str> {
-        match text_of_string(self.rule, "messageStrings", id) {
-            Some(text) => Some(text),
-            None => text_of_string(self.component, "globalMessageStrings", id),
-        }
+        let own = text_of_string(strings_in(self.rule, "messageStrings"), id);
+        own.or(text_of_string(strings_in(self.component, "globalMessageStrings"), id))
     }
 
     /// What the rule says of itself in short.
@@ -41,9 +39,14 @@ impl<'v> Rule<'v> {
     }
 }
 
-/// The text of the message string of this id in an object's strings.
-fn text_of_string<'v>(object: Option<&'v Value>, strings: &str, id: &str) -> Option<&'v str> {
-    text_field(object?.get(strings)?.get(id)?, "text")
+/// The strings in the field of this name.
+fn strings_in<'v>(object: Option<&'v Value>, name: &str) -> Option<&'v Value> {
+    object?.get(name)
+}
+
+/// The text of the message string of this id.
+fn text_of_string<'v>(strings: Option<&'v Value>, id: &str) -> Option<&'v str> {
+    text_field(strings?.get(id)?, "text")
 }
 
 /// The rule of a result: by its number, or else by its id. Where it is the number of no rule, that is reported.

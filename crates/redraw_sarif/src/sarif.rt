@@ -4,22 +4,13 @@ use crate::expectation::Expectation;
 use crate::fixes::children_of;
 use crate::location::{Context, add_spans};
 use crate::message::text_in;
-use crate::node::{List, Node, Place, Troubles};
+use crate::node::{List, Node, Troubles};
 use crate::rule::{Rule, code_of, rule_of, severity_of};
 use redraw_report::diagnostic::{Diagnostic, FileSpan, Unit};
-use serde_json::Value;
 use std::alloc::{AllocError, Global};
 
 /// What stands where a result says nothing, and its rule doesn't either.
 const NO_MESSAGE: &str = "the log has no message";
-
-/// The object of a log.
-pub fn log(document: &Value) -> Node<'_, '_> {
-    Node {
-        value: document,
-        place: Place::Document,
-    }
-}
 
 /// A run of a log.
 #[derive(Clone, Copy)]
@@ -108,10 +99,7 @@ fn message_of(
 
 /// What a rule says of itself, or that there is no message.
 fn description_of<'v>(rule: &Rule<'v>) -> &'v str {
-    match rule.description() {
-        Some(text) => text,
-        None => NO_MESSAGE,
-    }
+    rule.description().unwrap_or(NO_MESSAGE)
 }
 
 /// The places of a result: those where it is, and those that help to see it.

@@ -16,12 +16,21 @@ pub enum Place<'p> {
     Item(&'p Place<'p>, usize),
 }
 
+impl Place<'_> {
+    /// Whether this is the line's object itself.
+    fn is_line(&self) -> bool {
+        matches!(self, Place::Line)
+    }
+}
+
 impl fmt::Display for Place<'_> {
     fn fmt<W: fmt::Write>(&self, f: &mut fmt::Formatter<W>) -> fmt::Result {
         match self {
             Place::Line => f.write_str("the line"),
-            Place::Field(Place::Line, name) => f.write_str(name),
             Place::Field(object, name) => {
+                if object.is_line() {
+                    return f.write_str(name);
+                }
                 (*object).fmt(f)?;
                 write!(f, ".{name}")
             }

@@ -2,8 +2,7 @@
 use annotate_snippets::Renderer;
 use redraw_read::sources::{Shelf, Sources};
 use redraw_run::draw::{Drawing, Tally};
-use redraw_run::input::draw_input;
-use redraw_run::stop::Stop;
+use redraw_run::run::{draw_opened, run};
 use std::alloc::{AllocError, Global};
 use std::test::Fail;
 
@@ -25,10 +24,10 @@ impl Shelf for Room {
     }
 }
 
-/// What became of an input: whether its form is known, what was drawn, what was told, and the counts.
+/// What became of an input: whether it could be read and its form is known, what was drawn, what was told, and the counts.
 #[derive(Drop)]
 struct Drawn {
-    is_known: bool,
+    is_whole: bool,
     out: Vec<u8>,
     err: Vec<u8>,
     tally: Tally,
@@ -40,7 +39,7 @@ fn draw_into<'r>(
     input: &[u8],
     out: &'r mut Vec<u8>,
     err: &'r mut Vec<u8>,
-) -> Result<(bool, Tally), Stop> {
+) -> (bool, Tally) {
     let room = Room {
         alloc,
         name: "a",
@@ -56,22 +55,20 @@ fn draw_into<'r>(
         input: "in",
         line: 0,
     };
-    let is_known = draw_input(input, &mut drawing)?;
-    Ok((is_known, drawing.tally))
+    let is_whole = draw_opened(Ok(input), &mut drawing);
+    (is_whole, drawing.tally)
 }
 
 /// The same into texts.
-fn run_over(alloc: Global, input: &[u8]) -> Result<Drawn, Fail> {
+fn run_over(alloc: Global, input: &[u8]) -> Drawn {
     let mut out = Vec::new(alloc);
     let mut err = Vec::new(alloc);
-    match draw_into(alloc, input, &mut out, &mut err) {
-        Ok((is_known, tally)) => Ok(Drawn {
-            is_known,
-            out,
-            err,
-            tally,
-        }),
-        Err(_) => Err(Fail::from(AllocError)),
+    let (is_whole, tally) = draw_into(alloc, input, &mut out, &mut err);
+    Drawn {
+        is_whole,
+        out,
+        err,
+        tally,
     }
 }
 
@@ -88,7 +85,7 @@ no JSON
 
 #[test]
 fn a_place_that_is_not_in_its_source_is_told(rt: HostRuntime) -> Result<(), Fail> {
-    let run = run_over(rt.alloc(), PAST_END)?;
+    let run = run_over(rt.alloc(), PAST_END);
     let told: &[u8] =
         b"redraw: in:1: places that aren't in their source, drawn at the nearest one: 1\n";
     let text: &[u8] = b"error: m\n --> a:1:3\n  |\n1 | xy\n  |   ^ here\n\n";
@@ -100,11 +97,14 @@ fn a_place_that_is_not_in_its_source_is_told(rt: HostRuntime) -> Result<(), Fail
 
 #[test]
 fn what_is_wrong_is_told_and_the_rest_is_drawn(rt: HostRuntime) -> Result<(), Fail> {
-    let run = run_over(rt.alloc(), FAULTY)?;
-    let told: &[u8] = b"redraw: in:1: level: expected ";
+    let run = run_over(rt.alloc(), FAULTY);
+    let told: &[u8] =
+        b"redraw: in:1: level: expected \"error\", \"warning\", \"info\", \"note\" or \"help\", found \"loud\"
+redraw: in:4:1: not valid JSON
+";
     let text: &[u8] = b"m\n";
-    assert!(rt; run.is_known);
-    assert!(rt; run.err.as_slice().starts_with(told));
+    assert!(rt; run.is_whole);
+    assert_eq!(rt; run.err.as_slice(), told);
     assert_eq!(rt; run.out.as_slice(), text);
     assert_eq!(rt; run.tally.drawn, 1);
     assert_eq!(rt; run.tally.other, 1);
@@ -114,8 +114,8 @@ fn what_is_wrong_is_told_and_the_rest_is_drawn(rt: HostRuntime) -> Result<(), Fa
 
 #[test]
 fn an_input_of_another_form_is_not_known(rt: HostRuntime) -> Result<(), Fail> {
-    let run = run_over(rt.alloc(), b"{\"a\":1}\n")?;
-    assert!(rt; !run.is_known);
+    let run = run_over(rt.alloc(), b"{\"a\":1}\n");
+    assert!(rt; !run.is_whole);
     assert_eq!(rt; run.tally.drawn, 0);
     Ok(())
 }
@@ -125,10 +125,83 @@ const LATIN: &[u8] = b"{\"version\": \"2.1.0\",\n\"x\": \"\xe9\",\n\"runs\": []}
 
 #[test]
 fn a_document_that_is_not_text_is_not_known(rt: HostRuntime) -> Result<(), Fail> {
-    let run = run_over(rt.alloc(), LATIN)?;
+    let run = run_over(rt.alloc(), LATIN);
     let told: &[u8] = b"redraw: in:2: not valid UTF-8\n";
-    assert!(rt; !run.is_known);
+    assert!(rt; !run.is_whole);
     assert_eq!(rt; run.err.as_slice(), told);
     assert_eq!(rt; run.tally.wrong, 1);
+    Ok(())
+}
+
+/// Inputs in which something is wrong, and what is told of each: once, and where it is.
+const TOLD: [(&[u8], &str); 6] = [
+    (
+        b"{\"reason\":\"x\"}\n{\"message\": \n{\"reason\":\"y\"} z\n",
+        "redraw: in:2:12: not valid JSON: it ends too early\nredraw: in:3:16: not valid JSON\n",
+    ),
+    (
+        b"\n{\"a\": 1,\n\"b\": }\n",
+        "redraw: in:3:6: not valid JSON\n",
+    ),
+    (
+        b"{\"a\":1}\n",
+        "redraw: in:1: neither a message of rustc or cargo nor a SARIF log\n",
+    ),
+    (
+        b"{\"runs\": {}}\n",
+        "redraw: in:1: runs: expected a list, found an object of size 0\n",
+    ),
+    (
+        b"{\"runs\":\n[{\"results\":[{\"message\":{\"id\":3}}]}]}\n",
+        "redraw: in: runs[0].results[0].message.id: expected a text\n",
+    ),
+    (
+        b"{\"runs\":[{\"results\":[{\"locations\":[{\"physicalLocation\":{\"artifactLocation\":{\"uri\":\"a\"},\"region\":{\"startLine\":0}}}]}]}]}\n",
+        "redraw: in:1: runs[0].results[0].locations[0].physicalLocation.region.startLine: expected a whole number from 1\n",
+    ),
+];
+
+#[test]
+fn a_fault_is_told_once_with_its_place(rt: HostRuntime) -> Result<(), Fail> {
+    for (input, told) in &TOLD {
+        let run = run_over(rt.alloc(), input);
+        assert_eq!(rt; run.err.as_slice(), told.as_bytes());
+    }
+    Ok(())
+}
+
+/// How the words are to be written.
+const USAGE: &str =
+    "usage: redraw [--unicode] [--text] [--short] [--styled] [--width N] [--root DIR] [FILE ..]
+
+Each FILE, or standard input without one, holds lines of `rustc --error-format=json` or of
+`cargo build --message-format=json`, or one SARIF 2.1.0 log. Which of them it is, is told by what it holds.
+";
+
+/// Words that aren't of the form, and what is told of them.
+const MISUSES: [(&[&str], &str); 6] = [
+    (&["--text", "--loud"], "unknown option --loud"),
+    (
+        &["--width", "wide"],
+        "expected a number after --width, found wide",
+    ),
+    (&["--width"], "expected a number after --width"),
+    (&["--root"], "expected a folder after --root"),
+    (
+        &["a", "--text"],
+        "expected a file, found --text: options stand before files",
+    ),
+    (&["--text", "--help"], "expected --help without other words"),
+];
+
+#[test]
+fn the_word_that_is_wrong_is_told(rt: HostRuntime) -> Result<(), Fail> {
+    for (words, told) in &MISUSES {
+        let (mut out, mut err) = (Vec::new(rt.alloc()), Vec::new(rt.alloc()));
+        assert_eq!(rt; run(&rt, words, &mut out, &mut err), 2);
+        let wanted = format!(in rt.alloc(); "redraw: {told}\n{USAGE}")?;
+        assert_eq!(rt; err.as_slice(), wanted.as_bytes());
+        assert!(rt; out.is_empty());
+    }
     Ok(())
 }
