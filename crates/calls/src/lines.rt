@@ -1,13 +1,14 @@
 //! The lines of a snippet that are kept, with their entries and depths, and the marks of columns.
-ghost use Rattle.std.specs.Prelude.{◌+◌, ◌<◌, ◌^◌, All, length};
-ghost use Rattle.snippet_lines.specs.Lines.{newline_count};
+ghost use Rattle.std.specs.Prelude.{All};
 ghost use Rattle.snippet_lines.specs.Span.{IsSpan};
 
+use crate::mapped::map_of;
 use crate::marked::{Marked, annotations_of};
-use annotate_snippets::renderer::parts::{AnnotatedLineInfo, SourceMap, newline_count};
-use annotate_snippets::text::text_fits;
+use crate::output::print_heading;
+use annotate_snippets::renderer::parts::{AnnotatedLineInfo, SourceMap};
 use annotate_snippets::{Annotation, AnnotationKind};
 use snippet_parts::{mark_of, with_lines_between};
+use std::alloc::{AllocError, Global};
 use std::io;
 
 const PRIMARY: AnnotationKind = AnnotationKind::Primary;
@@ -20,7 +21,7 @@ const VISIBLE: AnnotationKind = AnnotationKind::Visible;
 type Row = (&'static str, &'static [Marked], bool);
 
 /// The sources whose lines are printed.
-const ROWS: [Row; 11] = [
+const ROWS: &[Row] = &[
     (
         "a\nb\nc\nd\ne\nf\ng",
         &[(PRIMARY, 0, 3), (CONTEXT, 4, 11), (PRIMARY, 6, 13)],
@@ -47,7 +48,7 @@ const ROWS: [Row; 11] = [
 ];
 
 /// Sources of one line, their spans, and the number of columns whose marks are printed.
-const COLUMNS: [(&str, &[Marked], usize); 8] = [
+const COLUMNS: &[(&str, &[Marked], usize)] = &[
     ("日本", &[(PRIMARY, 3, 6)], 5),
     ("\tx", &[(PRIMARY, 1, 2)], 6),
     ("e\u{301}x", &[(PRIMARY, 1, 3)], 3),
@@ -58,68 +59,92 @@ const COLUMNS: [(&str, &[Marked], usize); 8] = [
     ("abcd", &[(PRIMARY, 0, 2), (CONTEXT, 0, 2)], 4),
 ];
 
+/// What is printed of a source with spans.
+#[derive(Clone, Copy)]
+enum Asked {
+    /// The lines that are kept, and those that are shown; whether the others are left out.
+    Lines(bool),
+    /// The marks of its first columns, so many.
+    Marks(usize),
+}
+
 /// Prints the lines that are kept of each source, and the marks of columns.
 pub fn print(rt: &(impl Print + AllocGlobal)) -> io::Result<()> {
-    println!(rt; "== the greatest depth, the lines that are kept, and those that are shown")?;
+    print_heading(
+        rt,
+        "the greatest depth, the lines that are kept, and those that are shown",
+    )?;
     for (source, spans, fold) in ROWS {
-        print_row(rt, source, spans, fold)?;
+        println!(rt; "{source:?} {spans:?} {fold}")?;
+        print_source(rt, source, spans, Asked::Lines(*fold))?;
     }
-    println!(rt; "== the marks of columns")?;
+    print_columns(rt)
+}
+
+/// Prints the marks of the columns of each source.
+fn print_columns(rt: &(impl Print + AllocGlobal)) -> io::Result<()> {
+    print_heading(rt, "the marks of columns")?;
     for (source, spans, columns) in COLUMNS {
-        print_columns(rt, source, spans, columns)?;
+        print_source(rt, source, spans, Asked::Marks(*columns))?;
     }
     Ok(())
 }
 
-/// Prints the lines of a source with these spans.
-fn print_row(
+/// Prints what is asked of a source with these spans.
+fn print_source(
     rt: &(impl Print + AllocGlobal),
     source: &str,
     spans: &[Marked],
-    fold: bool,
+    asked: Asked,
 ) -> io::Result<()> {
-    println!(rt; "{source:?} {spans:?} {fold}")?;
-    let annotations = annotations_of(rt.alloc(), source, spans)?;
-    if text_fits(source) && newline_count(source) < 99 {
-        print_lines(rt, source, &annotations, fold)?;
+    match map_of(rt.alloc(), source, 1)? {
+        Some(map) => print_asked(rt, &map, spans, asked),
+        None => println!(rt; "too long"),
     }
-    Ok(())
 }
 
-/// Prints the marks of a source with these spans.
-fn print_columns(
+/// The same of a source whose lines are mapped.
+fn print_asked(
     rt: &(impl Print + AllocGlobal),
-    source: &str,
+    map: &SourceMap<'_>,
     spans: &[Marked],
-    columns: usize,
+    asked: Asked,
 ) -> io::Result<()> {
-    let annotations = annotations_of(rt.alloc(), source, spans)?;
-    if text_fits(source) && newline_count(source) < 99 {
-        print_marks(rt, source, &annotations, columns)?;
+    let annotations = annotations_of(rt.alloc(), map, spans)?;
+    match asked {
+        Asked::Lines(fold) => print_lines(rt, map, &annotations, fold),
+        Asked::Marks(columns) => print_marks(rt, map, &annotations, columns),
     }
-    Ok(())
 }
 
 /// Prints the greatest depth, the lines that are kept, each with its entries, and the numbers of those that are shown.
 fn print_lines<'a>(
     rt: &(impl Print + AllocGlobal),
-    source: &'a str,
+    map: &SourceMap<'a>,
     annotations: &'a [Annotation<'a>],
     fold: bool,
 ) -> io::Result<()>
-    requires fits { length source.now < 2 ^ 56 }
-    requires numbers { newline_count source.now + 2 < 2 ^ 64 }
-    requires spans { All (λ a. IsSpan source.now a.span.start a.span.end) annotations.now }
+    requires spans { All (λ a. IsSpan map.now.text a.span.start a.span.end) annotations.now }
 {
-    let map = SourceMap::new(rt.alloc(), source, 1)?;
     let (deepest, kept) = map.annotated_lines(annotations, fold)?;
+    print_kept(rt, deepest, &kept)?;
+    let shown = with_lines_between(rt.alloc(), map, kept)?;
+    print_shown(rt, &shown)
+}
+
+/// Prints the greatest depth, and the lines that are kept, each with its entries.
+fn print_kept(rt: &impl Print, deepest: usize, kept: &[AnnotatedLineInfo<'_>]) -> io::Result<()> {
     println!(rt; "  depth {deepest}")?;
-    for line in &kept {
+    for line in kept {
         print_line(rt, line)?;
     }
-    let shown = with_lines_between(rt.alloc(), &map, kept)?;
+    Ok(())
+}
+
+/// Prints the numbers of the lines that are shown.
+fn print_shown(rt: &impl Print, shown: &[AnnotatedLineInfo<'_>]) -> io::Result<()> {
     print!(rt; "  shown:")?;
-    for line in &shown {
+    for line in shown {
         print!(rt; " {}", line.line_index)?;
     }
     println!(rt; "")
@@ -136,24 +161,34 @@ fn print_line(rt: &impl Print, line: &AnnotatedLineInfo<'_>) -> io::Result<()> {
 }
 
 /// Prints the marks of the first columns of a source's first line.
-fn print_marks<'a>(
+fn print_marks(
     rt: &(impl Print + AllocGlobal),
-    source: &'a str,
-    annotations: &'a [Annotation<'a>],
+    map: &SourceMap<'_>,
+    annotations: &[Annotation<'_>],
     columns: usize,
 ) -> io::Result<()>
-    requires fits { length source.now < 2 ^ 56 }
-    requires numbers { newline_count source.now + 2 < 2 ^ 64 }
-    requires spans { All (λ a. IsSpan source.now a.span.start a.span.end) annotations.now }
+    requires spans { All (λ a. IsSpan map.now.text a.span.start a.span.end) annotations.now }
 {
-    let map = SourceMap::new(rt.alloc(), source, 1)?;
-    let mut marks = String::new(rt.alloc());
+    let marks = marks_of(rt.alloc(), map, annotations, columns)?;
+    println!(rt; "{:?}: {marks:?}", map.source())
+}
+
+/// The marks of the first columns of a source's first line.
+fn marks_of(
+    alloc: Global,
+    map: &SourceMap<'_>,
+    annotations: &[Annotation<'_>],
+    columns: usize,
+) -> Result<String, AllocError>
+    requires spans { All (λ a. IsSpan map.now.text a.span.start a.span.end) annotations.now }
+{
+    let mut marks = String::new(alloc);
     for column in 0..columns {
-        marks.push(match mark_of(&map, annotations, 1, column) {
+        marks.push(match mark_of(map, annotations, 1, column) {
             Some(AnnotationKind::Primary) => '^',
             Some(_) => '-',
             None => ' ',
         })?;
     }
-    println!(rt; "{source:?}: {marks:?}")
+    Ok(marks)
 }

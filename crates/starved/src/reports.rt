@@ -153,15 +153,27 @@ fn offer(
     Snippet::source(alloc, "foo()").patch(Patch::new(4..4, replacement))
 }
 
+/// A group with an offer below its elements: `element` of a group.
+fn with_offer(
+    group: Group<'static>,
+    alloc: Global,
+    replacement: &'static str,
+) -> Result<Group<'static>, AllocError>
+    requires group { GroupFits group }
+    requires replacement { length replacement.now < 2 ^ 56 }
+    ensures fits { IfOk result GroupFits }
+{
+    let snippet = offer(alloc, replacement)?;
+    group.element(Element::from(snippet))
+}
+
 /// Two suggestions.
 fn two_offers(alloc: Global) -> Result<Group<'static>, AllocError>
     ensures fits { IfOk result GroupFits }
 {
-    let one = Element::from(offer(alloc, "x")?);
-    let other = Element::from(offer(alloc, "y")?);
-    Group::with_title(alloc, HELP.secondary_title("t"))
-        .element(one)?
-        .element(other)
+    let empty = Group::with_title(alloc, HELP.secondary_title("t"));
+    let group = with_offer(empty, alloc, "x")?;
+    with_offer(group, alloc, "y")
 }
 
 /// An insertion and a deletion: `patches`.
