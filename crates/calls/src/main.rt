@@ -4,7 +4,6 @@
 
 mod builders;
 mod grid;
-mod headings;
 mod levels;
 mod lines;
 mod mapped;
@@ -36,7 +35,6 @@ fn print_all(rt: &(impl Print + AllocGlobal)) -> io::Result<()> {
     sequences::print(rt)?;
     builders::print(rt)?;
     refusals::print(rt)?;
-    headings::print(rt)?;
     order::print(rt)?;
     roles::print(rt)
 }

@@ -127,4 +127,15 @@ pub const REPORTS: &[(Subject, Texts)] = &[
             styled: "\u{1b}[1m\u{1b}[96mhelp\u{1b}[0m: t\n  \u{1b}[1m\u{1b}[94m|\u{1b}[0m\n\u{1b}[1m\u{1b}[94m1\u{1b}[0m \u{1b}[92m~ x\u{1b}[0ma\n\u{1b}[1m\u{1b}[94m2\u{1b}[0m \u{1b}[1m\u{1b}[94m|\u{1b}[0m c\n  \u{1b}[1m\u{1b}[94m|\u{1b}[0m",
         },
     ),
+    (
+        Subject::Unset,
+        Texts {
+            name: "a title whose level has no name, with an id that has neither text nor address",
+            width: DEFAULT_TERM_WIDTH,
+            graphic: "e",
+            short: "e",
+            text_form: "e",
+            styled: "\u{1b}[1me\u{1b}[0m",
+        },
+    ),
 ];
