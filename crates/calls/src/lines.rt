@@ -1,11 +1,12 @@
 //! The lines of a snippet that are kept, with their entries and depths, and the marks of columns.
-ghost use Rattle.std.specs.Prelude.{All};
+ghost use Rattle.std.specs.Prelude.{◌+◌, ◌<◌, ◌^◌, All, length};
+ghost use Rattle.snippet_lines.specs.Lines.{newline_count};
 ghost use Rattle.snippet_lines.specs.Span.{IsSpan};
 
-use crate::mapped::map_of;
 use crate::marked::{Marked, annotations_of};
 use crate::output::print_heading;
-use annotate_snippets::renderer::parts::{AnnotatedLineInfo, SourceMap};
+use annotate_snippets::renderer::parts::{AnnotatedLineInfo, SourceMap, newline_count};
+use annotate_snippets::text::text_fits;
 use annotate_snippets::{Annotation, AnnotationKind};
 use snippet_parts::{mark_of, with_lines_between};
 use std::alloc::{AllocError, Global};
@@ -59,15 +60,6 @@ const COLUMNS: &[(&str, &[Marked], usize)] = &[
     ("abcd", &[(PRIMARY, 0, 2), (CONTEXT, 0, 2)], 4),
 ];
 
-/// What is printed of a source with spans.
-#[derive(Clone, Copy)]
-enum Asked {
-    /// The lines that are kept, and those that are shown; whether the others are left out.
-    Lines(bool),
-    /// The marks of its first columns, so many.
-    Marks(usize),
-}
-
 /// Prints the lines that are kept of each source, and the marks of columns.
 pub fn print(rt: &(impl Print + AllocGlobal)) -> io::Result<()> {
     print_heading(
@@ -75,50 +67,66 @@ pub fn print(rt: &(impl Print + AllocGlobal)) -> io::Result<()> {
         "the greatest depth, the lines that are kept, and those that are shown",
     )?;
     for (source, spans, fold) in ROWS {
-        println!(rt; "{source:?} {spans:?} {fold}")?;
-        print_source(rt, source, spans, Asked::Lines(*fold))?;
+        print_row(rt, source, spans, *fold)?;
     }
-    print_columns(rt)
+    print_all_columns(rt)
 }
 
 /// Prints the marks of the columns of each source.
-fn print_columns(rt: &(impl Print + AllocGlobal)) -> io::Result<()> {
+fn print_all_columns(rt: &(impl Print + AllocGlobal)) -> io::Result<()> {
     print_heading(rt, "the marks of columns")?;
     for (source, spans, columns) in COLUMNS {
-        print_source(rt, source, spans, Asked::Marks(*columns))?;
+        print_columns(rt, source, spans, *columns)?;
     }
     Ok(())
 }
 
-/// Prints what is asked of a source with these spans.
-fn print_source(
+/// Prints the lines of a source with these spans.
+fn print_row(
     rt: &(impl Print + AllocGlobal),
     source: &str,
     spans: &[Marked],
-    asked: Asked,
+    fold: bool,
 ) -> io::Result<()> {
-    match map_of(rt.alloc(), source, 1)? {
-        Some(map) => print_asked(rt, &map, spans, asked),
-        None => println!(rt; "too long"),
+    println!(rt; "{source:?} {spans:?} {fold}")?;
+    let annotations = annotations_of(rt.alloc(), source, spans)?;
+    if text_fits(source) && newline_count(source) < 99 {
+        print_lines(rt, source, &annotations, fold)?;
     }
+    Ok(())
 }
 
-/// The same of a source whose lines are mapped.
-fn print_asked(
+/// Prints the marks of a source with these spans.
+fn print_columns(
     rt: &(impl Print + AllocGlobal),
-    map: &SourceMap<'_>,
+    source: &str,
     spans: &[Marked],
-    asked: Asked,
+    columns: usize,
 ) -> io::Result<()> {
-    let annotations = annotations_of(rt.alloc(), map, spans)?;
-    match asked {
-        Asked::Lines(fold) => print_lines(rt, map, &annotations, fold),
-        Asked::Marks(columns) => print_marks(rt, map, &annotations, columns),
+    let annotations = annotations_of(rt.alloc(), source, spans)?;
+    if text_fits(source) && newline_count(source) < 99 {
+        print_marks(rt, source, &annotations, columns)?;
     }
+    Ok(())
 }
 
 /// Prints the greatest depth, the lines that are kept, each with its entries, and the numbers of those that are shown.
 fn print_lines<'a>(
+    rt: &(impl Print + AllocGlobal),
+    source: &'a str,
+    annotations: &'a [Annotation<'a>],
+    fold: bool,
+) -> io::Result<()>
+    requires fits { length source.now < 2 ^ 56 }
+    requires numbers { newline_count source.now + 2 < 2 ^ 64 }
+    requires spans { All (λ a. IsSpan source.now a.span.start a.span.end) annotations.now }
+{
+    let map = SourceMap::new(rt.alloc(), source, 1)?;
+    print_mapped(rt, &map, annotations, fold)
+}
+
+/// The same of a source whose lines are mapped.
+fn print_mapped<'a>(
     rt: &(impl Print + AllocGlobal),
     map: &SourceMap<'a>,
     annotations: &'a [Annotation<'a>],
@@ -161,16 +169,19 @@ fn print_line(rt: &impl Print, line: &AnnotatedLineInfo<'_>) -> io::Result<()> {
 }
 
 /// Prints the marks of the first columns of a source's first line.
-fn print_marks(
+fn print_marks<'a>(
     rt: &(impl Print + AllocGlobal),
-    map: &SourceMap<'_>,
-    annotations: &[Annotation<'_>],
+    source: &'a str,
+    annotations: &'a [Annotation<'a>],
     columns: usize,
 ) -> io::Result<()>
-    requires spans { All (λ a. IsSpan map.now.text a.span.start a.span.end) annotations.now }
+    requires fits { length source.now < 2 ^ 56 }
+    requires numbers { newline_count source.now + 2 < 2 ^ 64 }
+    requires spans { All (λ a. IsSpan source.now a.span.start a.span.end) annotations.now }
 {
-    let marks = marks_of(rt.alloc(), map, annotations, columns)?;
-    println!(rt; "{:?}: {marks:?}", map.source())
+    let map = SourceMap::new(rt.alloc(), source, 1)?;
+    let marks = marks_of(rt.alloc(), &map, annotations, columns)?;
+    println!(rt; "{source:?}: {marks:?}")
 }
 
 /// The marks of the first columns of a source's first line.

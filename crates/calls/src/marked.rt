@@ -2,7 +2,7 @@
 ghost use Rattle.std.specs.Prelude.{All, IfOk};
 ghost use Rattle.snippet_lines.specs.Span.{IsSpan};
 
-use annotate_snippets::renderer::parts::{SourceMap, check_span};
+use annotate_snippets::renderer::parts::check_span;
 use annotate_snippets::{Annotation, AnnotationKind};
 use std::alloc::{AllocError, Global};
 
@@ -13,15 +13,15 @@ pub type Marked = (AnnotationKind, usize, usize);
 #[tactic(auto, using(crate::proofs::Lists::all_push))]
 pub fn annotations_of<'a>(
     alloc: Global,
-    map: &SourceMap<'_>,
+    source: &str,
     spans: &[Marked],
 ) -> Result<Vec<Annotation<'a>>, AllocError>
-    ensures spans { IfOk result (λ built. All (λ a. IsSpan map.now.text a.span.start a.span.end) built.items) }
+    ensures spans { IfOk result (λ built. All (λ a. IsSpan source.now a.span.start a.span.end) built.items) }
 {
     let mut annotations = Vec::new(alloc);
     for (kind, start, end) in spans {
         let span = *start..*end;
-        if check_span(map.source(), &span).is_none() {
+        if check_span(source, &span).is_none() {
             annotations.push(kind.span(span))?;
         }
     }

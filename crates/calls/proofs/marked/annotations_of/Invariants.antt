@@ -3,4 +3,4 @@ use Rattle.snippet_lines.specs.Span.{IsSpan}
 use Rattle.calls.proofs.marked.annotations_of.Given as goal
 
 abbrev pub invariant-loop-kind : goal.invariant-loop-kind
-invariant-loop-kind l = All (λ a. IsSpan l.map.text a.span.start a.span.end) l.annotations.items
+invariant-loop-kind l = All (λ a. IsSpan l.source a.span.start a.span.end) l.annotations.items
