@@ -1,9 +1,10 @@
 //! What builders make: lists filled at once and one by one, texts given as they come, and copies.
 
+use crate::output::{print_heading, print_made};
 use annotate_snippets::level::{ERROR, HELP, NOTE};
 use annotate_snippets::text::CowStr;
 use annotate_snippets::{
-    Annotation, AnnotationKind, Element, Group, OptionCow, Origin, Padding, Patch, Snippet,
+    Annotation, AnnotationKind, Element, Group, OptionCow, Origin, Padding, Patch, Snippet, Title,
 };
 use std::alloc::{AllocError, Global};
 use std::io;
@@ -89,17 +90,33 @@ fn pair(alloc: Global) -> Result<Group<'static>, AllocError> {
     Group::with_title(alloc, HELP.secondary_title("t")).elements(both)
 }
 
+/// A copy of a title.
+fn title_copy() -> Result<Title<'static>, AllocError> {
+    HELP.secondary_title("t").clone()
+}
+
 /// The same, given one by one below a copy of the title.
 fn pair_one_by_one(alloc: Global) -> Result<Group<'static>, AllocError> {
-    let title = HELP.secondary_title("t").clone()?;
-    title
+    title_copy()?
         .element(alloc, Element::from(Padding))?
         .element(Element::from(Origin::path("b.rs")))
 }
 
+/// The line with both annotations, given one by one.
+fn cause_one_by_one(alloc: Global) -> Result<Snippet<'static, Annotation<'static>>, AllocError> {
+    line(alloc).annotation(labelled())?.annotation(unlabelled())
+}
+
+/// The owned line with both patches, given one by one.
+fn suggestion_one_by_one(alloc: Global) -> Result<Snippet<'static, Patch<'static>>, AllocError> {
+    owned_line(alloc)?
+        .patch(Patch::new(4..5, "y"))?
+        .patch(Patch::new(9..9, "0"))
+}
+
 /// Prints what the builders make.
 pub fn print(rt: &(impl Print + AllocGlobal)) -> io::Result<()> {
-    println!(rt; "== snippets and groups, filled at once and one by one")?;
+    print_heading(rt, "snippets and groups, filled at once and one by one")?;
     print_snippets(rt, rt.alloc())?;
     print_groups(rt, rt.alloc())?;
     print_copy(rt, rt.alloc())
@@ -107,29 +124,27 @@ pub fn print(rt: &(impl Print + AllocGlobal)) -> io::Result<()> {
 
 /// Prints snippets, filled at once and one by one.
 fn print_snippets(rt: &impl Print, alloc: Global) -> io::Result<()> {
-    println!(rt; "{:?}", cause(alloc)?)?;
-    let marked = line(alloc)
-        .annotation(labelled())?
-        .annotation(unlabelled())?;
-    println!(rt; "{marked:?}")?;
-    println!(rt; "{:?}", suggestion(alloc)?)?;
-    let patched = owned_line(alloc)?
-        .patch(Patch::new(4..5, "y"))?
-        .patch(Patch::new(9..9, "0"))?;
-    println!(rt; "{patched:?}")
+    print_made(rt, cause(alloc))?;
+    print_made(rt, cause_one_by_one(alloc))?;
+    print_made(rt, suggestion(alloc))?;
+    print_made(rt, suggestion_one_by_one(alloc))
 }
 
 /// Prints groups, filled at once and one by one, and an empty one.
 fn print_groups(rt: &impl Print, alloc: Global) -> io::Result<()> {
-    println!(rt; "{:?}", pair(alloc)?)?;
-    println!(rt; "{:?}", pair_one_by_one(alloc)?)?;
-    let untitled = Group::with_level(alloc, NOTE);
+    print_made(rt, pair(alloc))?;
+    print_made(rt, pair_one_by_one(alloc))?;
+    print_untitled(rt, &Group::with_level(alloc, NOTE))
+}
+
+/// Prints a group, and whether it is empty.
+fn print_untitled(rt: &impl Print, untitled: &Group<'_>) -> io::Result<()> {
     println!(rt; "{untitled:?} {}", untitled.is_empty())
 }
 
 /// Prints a group with an element of each kind, after its copy.
 fn print_copy(rt: &impl Print, alloc: Global) -> io::Result<()> {
     let whole = whole_group(alloc)?;
-    println!(rt; "{:?}", whole.clone()?)?;
-    println!(rt; "{whole:?}")
+    print_made(rt, whole.clone())?;
+    print_made(rt, Ok(whole))
 }

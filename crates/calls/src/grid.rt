@@ -1,5 +1,6 @@
 //! The grid of cells, by what it prints.
 
+use crate::output::print_heading;
 use Call::{Append, Link, Putc, Puts, Replace, SetStyle, SetStyleRange};
 use Step::{Length, Make, Runs, Show};
 use annotate_snippets::renderer::parts::{ElementStyle, LevelInner, StyledBuffer};
@@ -148,6 +149,19 @@ const GAPS: &[Step] = &[
     Show(3),
 ];
 
+/// The lists of what is done.
+const LISTS: &[&[Step]] = &[
+    OPEN_AT_ROWS,
+    LINKED,
+    LINKS,
+    GROWING,
+    RESTYLED,
+    REPLACED,
+    RUNS,
+    FAR,
+    GAPS,
+];
+
 /// The sheet of this number: plain but for the styles of some roles.
 fn sheet(number: u8) -> Stylesheet {
     let mut sheet = Stylesheet::plain();
@@ -166,22 +180,21 @@ fn sheet(number: u8) -> Stylesheet {
 
 /// Prints what grids hold after some calls.
 pub fn print(rt: &(impl Print + AllocGlobal)) -> io::Result<()> {
-    println!(rt; "== the number of rows of grids and their texts, of runs, of characters")?;
-    for steps in [
-        OPEN_AT_ROWS,
-        LINKED,
-        LINKS,
-        GROWING,
-        RESTYLED,
-        REPLACED,
-        RUNS,
-        FAR,
-        GAPS,
-    ] {
-        let mut buffer = StyledBuffer::new(rt.alloc());
-        for step in steps {
-            take(rt, &mut buffer, *step)?;
-        }
+    print_heading(
+        rt,
+        "the number of rows of grids and their texts, of runs, of characters",
+    )?;
+    for steps in LISTS {
+        print_steps(rt, steps)?;
+    }
+    Ok(())
+}
+
+/// Prints what a new grid holds after some calls.
+fn print_steps(rt: &(impl Print + AllocGlobal), steps: &[Step]) -> io::Result<()> {
+    let mut buffer = StyledBuffer::new(rt.alloc());
+    for step in steps {
+        take(rt, &mut buffer, *step)?;
     }
     Ok(())
 }
@@ -189,18 +202,23 @@ pub fn print(rt: &(impl Print + AllocGlobal)) -> io::Result<()> {
 /// Makes a call, or prints what the grid holds.
 fn take(rt: &impl Print, buffer: &mut StyledBuffer<'static>, step: Step) -> io::Result<()> {
     match step {
-        Make(call) => make(buffer, call)?,
-        Show(number) => {
-            let text = buffer.render(LevelInner::Error, &sheet(number))?;
-            println!(rt; "{} {:?}", buffer.num_lines(), text.as_str())?;
-        }
-        Runs => println!(rt; "{} runs", buffer.num_runs())?,
-        Length => {
-            let text = buffer.render(LevelInner::Error, &sheet(0))?;
-            println!(rt; "{} characters", char_count(text.as_str()))?;
-        }
+        Make(call) => Ok(make(buffer, call)?),
+        Show(number) => print_text(rt, buffer, number),
+        Runs => println!(rt; "{} runs", buffer.num_runs()),
+        Length => print_length(rt, buffer),
     }
-    Ok(())
+}
+
+/// Prints how many rows a grid has, and its text under the sheet of this number.
+fn print_text(rt: &impl Print, buffer: &StyledBuffer<'_>, number: u8) -> io::Result<()> {
+    let text = buffer.render(LevelInner::Error, &sheet(number))?;
+    println!(rt; "{} {:?}", buffer.num_lines(), text.as_str())
+}
+
+/// Prints how many characters the plain text of a grid has.
+fn print_length(rt: &impl Print, buffer: &StyledBuffer<'_>) -> io::Result<()> {
+    let text = buffer.render(LevelInner::Error, &Stylesheet::plain())?;
+    println!(rt; "{} characters", char_count(text.as_str()))
 }
 
 /// Makes a call of a grid.

@@ -1,5 +1,6 @@
 //! Levels: their names and their order.
 
+use crate::output::print_heading;
 use annotate_snippets::OptionCow;
 use annotate_snippets::level::{ERROR, HELP, INFO, Level, NOTE, WARNING};
 use std::cmp::Ordering;
@@ -32,14 +33,23 @@ fn sign(left: &Level<'_>, right: &Level<'_>) -> char {
 
 /// Prints how each level compares with each, and its name.
 pub fn print(rt: &(impl Print + AllocGlobal)) -> io::Result<()> {
-    println!(rt; "== how each level compares with each, and its name")?;
+    print_heading(rt, "how each level compares with each, and its name")?;
     let levels = levels();
     for level in &levels {
-        let mut signs = String::new(rt.alloc());
-        for other in &levels {
-            signs.push(sign(level, other))?;
-        }
-        println!(rt; "{signs} {:?}", level.as_str())?;
+        print_level(rt, level, &levels)?;
     }
     Ok(())
+}
+
+/// Prints how a level compares with each, and its name.
+fn print_level(
+    rt: &(impl Print + AllocGlobal),
+    level: &Level<'_>,
+    levels: &[Level<'_>],
+) -> io::Result<()> {
+    let mut signs = String::new(rt.alloc());
+    for other in levels {
+        signs.push(sign(level, other))?;
+    }
+    println!(rt; "{signs} {:?}", level.as_str())
 }

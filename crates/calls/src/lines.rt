@@ -4,10 +4,12 @@ ghost use Rattle.snippet_lines.specs.Lines.{newline_count};
 ghost use Rattle.snippet_lines.specs.Span.{IsSpan};
 
 use crate::marked::{Marked, annotations_of};
+use crate::output::print_heading;
 use annotate_snippets::renderer::parts::{AnnotatedLineInfo, SourceMap, newline_count};
 use annotate_snippets::text::text_fits;
 use annotate_snippets::{Annotation, AnnotationKind};
 use snippet_parts::{mark_of, with_lines_between};
+use std::alloc::{AllocError, Global};
 use std::io;
 
 const PRIMARY: AnnotationKind = AnnotationKind::Primary;
@@ -20,7 +22,7 @@ const VISIBLE: AnnotationKind = AnnotationKind::Visible;
 type Row = (&'static str, &'static [Marked], bool);
 
 /// The sources whose lines are printed.
-const ROWS: [Row; 11] = [
+const ROWS: &[Row] = &[
     (
         "a\nb\nc\nd\ne\nf\ng",
         &[(PRIMARY, 0, 3), (CONTEXT, 4, 11), (PRIMARY, 6, 13)],
@@ -47,7 +49,7 @@ const ROWS: [Row; 11] = [
 ];
 
 /// Sources of one line, their spans, and the number of columns whose marks are printed.
-const COLUMNS: [(&str, &[Marked], usize); 8] = [
+const COLUMNS: &[(&str, &[Marked], usize)] = &[
     ("日本", &[(PRIMARY, 3, 6)], 5),
     ("\tx", &[(PRIMARY, 1, 2)], 6),
     ("e\u{301}x", &[(PRIMARY, 1, 3)], 3),
@@ -60,13 +62,21 @@ const COLUMNS: [(&str, &[Marked], usize); 8] = [
 
 /// Prints the lines that are kept of each source, and the marks of columns.
 pub fn print(rt: &(impl Print + AllocGlobal)) -> io::Result<()> {
-    println!(rt; "== the greatest depth, the lines that are kept, and those that are shown")?;
+    print_heading(
+        rt,
+        "the greatest depth, the lines that are kept, and those that are shown",
+    )?;
     for (source, spans, fold) in ROWS {
-        print_row(rt, source, spans, fold)?;
+        print_row(rt, source, spans, *fold)?;
     }
-    println!(rt; "== the marks of columns")?;
+    print_all_columns(rt)
+}
+
+/// Prints the marks of the columns of each source.
+fn print_all_columns(rt: &(impl Print + AllocGlobal)) -> io::Result<()> {
+    print_heading(rt, "the marks of columns")?;
     for (source, spans, columns) in COLUMNS {
-        print_columns(rt, source, spans, columns)?;
+        print_columns(rt, source, spans, *columns)?;
     }
     Ok(())
 }
@@ -112,14 +122,37 @@ fn print_lines<'a>(
     requires spans { All (λ a. IsSpan source.now a.span.start a.span.end) annotations.now }
 {
     let map = SourceMap::new(rt.alloc(), source, 1)?;
+    print_mapped(rt, &map, annotations, fold)
+}
+
+/// The same of a source whose lines are mapped.
+fn print_mapped<'a>(
+    rt: &(impl Print + AllocGlobal),
+    map: &SourceMap<'a>,
+    annotations: &'a [Annotation<'a>],
+    fold: bool,
+) -> io::Result<()>
+    requires spans { All (λ a. IsSpan map.now.text a.span.start a.span.end) annotations.now }
+{
     let (deepest, kept) = map.annotated_lines(annotations, fold)?;
+    print_kept(rt, deepest, &kept)?;
+    let shown = with_lines_between(rt.alloc(), map, kept)?;
+    print_shown(rt, &shown)
+}
+
+/// Prints the greatest depth, and the lines that are kept, each with its entries.
+fn print_kept(rt: &impl Print, deepest: usize, kept: &[AnnotatedLineInfo<'_>]) -> io::Result<()> {
     println!(rt; "  depth {deepest}")?;
-    for line in &kept {
+    for line in kept {
         print_line(rt, line)?;
     }
-    let shown = with_lines_between(rt.alloc(), &map, kept)?;
+    Ok(())
+}
+
+/// Prints the numbers of the lines that are shown.
+fn print_shown(rt: &impl Print, shown: &[AnnotatedLineInfo<'_>]) -> io::Result<()> {
     print!(rt; "  shown:")?;
-    for line in &shown {
+    for line in shown {
         print!(rt; " {}", line.line_index)?;
     }
     println!(rt; "")
@@ -147,13 +180,26 @@ fn print_marks<'a>(
     requires spans { All (λ a. IsSpan source.now a.span.start a.span.end) annotations.now }
 {
     let map = SourceMap::new(rt.alloc(), source, 1)?;
-    let mut marks = String::new(rt.alloc());
+    let marks = marks_of(rt.alloc(), &map, annotations, columns)?;
+    println!(rt; "{source:?}: {marks:?}")
+}
+
+/// The marks of the first columns of a source's first line.
+fn marks_of(
+    alloc: Global,
+    map: &SourceMap<'_>,
+    annotations: &[Annotation<'_>],
+    columns: usize,
+) -> Result<String, AllocError>
+    requires spans { All (λ a. IsSpan map.now.text a.span.start a.span.end) annotations.now }
+{
+    let mut marks = String::new(alloc);
     for column in 0..columns {
-        marks.push(match mark_of(&map, annotations, 1, column) {
+        marks.push(match mark_of(map, annotations, 1, column) {
             Some(AnnotationKind::Primary) => '^',
             Some(_) => '-',
             None => ' ',
         })?;
     }
-    println!(rt; "{source:?}: {marks:?}")
+    Ok(marks)
 }

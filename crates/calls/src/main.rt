@@ -4,12 +4,13 @@
 
 mod builders;
 mod grid;
-mod headings;
 mod levels;
 mod lines;
+mod mapped;
 mod margin;
 mod marked;
 mod order;
+mod output;
 mod plain;
 mod refusals;
 mod roles;
@@ -34,7 +35,6 @@ fn print_all(rt: &(impl Print + AllocGlobal)) -> io::Result<()> {
     sequences::print(rt)?;
     builders::print(rt)?;
     refusals::print(rt)?;
-    headings::print(rt)?;
     order::print(rt)?;
     roles::print(rt)
 }

@@ -1,5 +1,6 @@
 //! The constants of levels, the order of kinds, and the spans of markers.
 
+use crate::output::print_heading;
 use annotate_snippets::level::{ERROR, HELP, INFO, Level, NOTE, WARNING};
 use annotate_snippets::renderer::parts::LevelInner;
 use annotate_snippets::snippet::Marker;
@@ -19,7 +20,7 @@ fn constants() -> [(LevelInner, Level<'static>, Level<'static>); 5] {
 }
 
 /// The kinds of annotations, in their order.
-const KINDS: [AnnotationKind; 3] = [
+const KINDS: &[AnnotationKind] = &[
     AnnotationKind::Primary,
     AnnotationKind::Context,
     AnnotationKind::Visible,
@@ -27,23 +28,52 @@ const KINDS: [AnnotationKind; 3] = [
 
 /// Prints what the constants of levels are, how kinds of annotations compare, and the bytes of markers.
 pub fn print(rt: &(impl Print + AllocGlobal)) -> io::Result<()> {
-    println!(rt; "== the name of each kind's level, and whether the constants are that level")?;
-    for (kind, constant, own) in &constants() {
-        let level = Level::standard(*kind);
-        let (one, two) = (level == *constant, level == *own);
-        println!(rt; "{} {one} {two}", level.as_str())?;
-    }
-    println!(rt; "== how each kind of annotation compares with each")?;
-    for kind in KINDS {
-        let mut signs = String::new(rt.alloc());
-        for other in KINDS {
-            signs.push(sign(kind, other))?;
-        }
-        println!(rt; "{signs} {kind:?}")?;
-    }
-    println!(rt; "== the bytes that markers mark")?;
+    print_constants(rt)?;
+    print_kinds(rt)?;
+    print_heading(rt, "the bytes that markers mark")?;
     print_span(rt, &AnnotationKind::Primary.span(4..5))?;
     print_span(rt, &Patch::new(1..2, "x"))
+}
+
+/// Prints the name of each kind's level, and whether the constants are that level.
+fn print_constants(rt: &impl Print) -> io::Result<()> {
+    print_heading(
+        rt,
+        "the name of each kind's level, and whether the constants are that level",
+    )?;
+    for (kind, constant, own) in &constants() {
+        print_constant(rt, &Level::standard(*kind), constant, own)?;
+    }
+    Ok(())
+}
+
+/// Prints the name of a level, and whether two constants are that level.
+fn print_constant(
+    rt: &impl Print,
+    level: &Level<'_>,
+    constant: &Level<'_>,
+    own: &Level<'_>,
+) -> io::Result<()> {
+    let (one, two) = (level == constant, level == own);
+    println!(rt; "{} {one} {two}", level.as_str())
+}
+
+/// Prints how each kind of annotation compares with each.
+fn print_kinds(rt: &(impl Print + AllocGlobal)) -> io::Result<()> {
+    print_heading(rt, "how each kind of annotation compares with each")?;
+    for kind in KINDS {
+        print_kind(rt, *kind)?;
+    }
+    Ok(())
+}
+
+/// Prints how a kind of annotation compares with each.
+fn print_kind(rt: &(impl Print + AllocGlobal), kind: AnnotationKind) -> io::Result<()> {
+    let mut signs = String::new(rt.alloc());
+    for other in KINDS {
+        signs.push(sign(kind, *other))?;
+    }
+    println!(rt; "{signs} {kind:?}")
 }
 
 /// How two kinds compare.

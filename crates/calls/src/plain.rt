@@ -41,30 +41,27 @@ impl PlainGrid {
 
     /// Does what a call of a grid does.
     pub fn make(&mut self, alloc: Global, call: Call) -> Result<(), AllocError> {
+        let rows = &mut self.rows;
         match call {
-            Call::Putc(row, cell, character, role) => {
-                write_character(alloc, &mut self.rows, row, cell as usize, character, role)
+            Call::Putc(row, cell, ch, role) => {
+                write_character(alloc, rows, row, cell as usize, ch, role)
             }
             Call::Puts(row, cell, text, role) => {
-                write(alloc, &mut self.rows, row, usize::from(cell), text, role)
+                write(alloc, rows, row, usize::from(cell), text, role)
             }
-            Call::Append(row, text, role) => append(alloc, &mut self.rows, row, text, role),
-            Call::Replace(row, start, end, text) => {
-                replace(alloc, &mut self.rows, row, (start, end), text)
-            }
+            Call::Append(row, text, role) => append(alloc, rows, row, text, role),
+            Call::Replace(row, start, end, text) => replace(alloc, rows, row, (start, end), text),
             Call::SetStyle(row, cell, role, overwrite) => {
                 let end = cell.saturating_add(1);
-                let change = Change::Restyle(role, overwrite);
-                change_row(&mut self.rows, row, cell, end, change);
+                change_row(rows, row, cell, end, Change::Restyle(role, overwrite));
                 Ok(())
             }
             Call::SetStyleRange(row, start, end, role, overwrite) => {
-                let change = Change::Restyle(role, overwrite);
-                change_range(&mut self.rows, row, (start, end), change);
+                change_range(rows, row, (start, end), Change::Restyle(role, overwrite));
                 Ok(())
             }
             Call::Link(row, start, end, url) => {
-                change_range(&mut self.rows, row, (start, end), Change::Link(url));
+                change_range(rows, row, (start, end), Change::Link(url));
                 Ok(())
             }
         }
@@ -153,17 +150,19 @@ fn write_cells(
     }
     let mut to = at;
     for ch in text.chars() {
-        let cell = PlainCell {
-            ch,
-            role,
-            link: None,
-        };
-        if to < cells.len() {
-            cells[to] = cell;
-        } else {
-            cells.push(cell)?;
-        }
+        let link = None;
+        write_cell(cells, to, PlainCell { ch, role, link })?;
         to = to.saturating_add(1);
+    }
+    Ok(())
+}
+
+/// Writes a cell into a row: over the one that is there, else after the last one.
+fn write_cell(cells: &mut Vec<PlainCell>, to: usize, cell: PlainCell) -> Result<(), AllocError> {
+    if to < cells.len() {
+        cells[to] = cell;
+    } else {
+        cells.push(cell)?;
     }
     Ok(())
 }
@@ -196,19 +195,25 @@ fn replaced(
     let mut row = Vec::new(alloc);
     for (index, cell) in cells.iter().enumerate() {
         if index == start {
-            for ch in text.chars() {
-                row.push(PlainCell {
-                    ch,
-                    role: ElementStyle::LineNumber,
-                    link: None,
-                })?;
-            }
+            add_numbers(&mut row, text)?;
         }
         if index < start || end <= index {
             row.push(*cell)?;
         }
     }
     Ok(row)
+}
+
+/// Adds a text to a row, in the role of a line's number.
+fn add_numbers(row: &mut Vec<PlainCell>, text: &str) -> Result<(), AllocError> {
+    for ch in text.chars() {
+        row.push(PlainCell {
+            ch,
+            role: ElementStyle::LineNumber,
+            link: None,
+        })?;
+    }
+    Ok(())
 }
 
 /// What becomes of cells.
@@ -256,6 +261,13 @@ fn changed(cell: PlainCell, change: Change) -> PlainCell {
     }
 }
 
+/// What is in force at a cell.
+#[derive(Clone, Copy)]
+struct Look {
+    style: Style,
+    link: Option<&'static str>,
+}
+
 /// Adds a row to a text.
 fn add_row(
     alloc: Global,
@@ -264,41 +276,63 @@ fn add_row(
     level: LevelInner,
     sheet: &Stylesheet,
 ) -> Result<(), AllocError> {
-    let mut style = sheet.none;
-    let mut link = None;
+    let (style, link) = (sheet.none, None);
+    let mut last = Look { style, link };
     for cell in cells {
-        let next = sheet.style_of(level, cell.role);
-        change_codes(alloc, text, (style, link), (next, cell.link))?;
+        let (style, link) = (sheet.style_of(level, cell.role), cell.link);
+        let next = Look { style, link };
+        change_look(alloc, text, last, next)?;
         text.push(cell.ch)?;
-        style = next;
-        link = cell.link;
+        last = next;
     }
-    if link.is_some() {
-        text.push_str("\u{1b}]8;;\u{1b}\\")?;
-    }
-    text.push_str(reset_code(style))
+    end_link(text, last.link)?;
+    text.push_str(reset_code(last.style))
 }
 
-/// Adds the codes between two cells.
-fn change_codes(
+/// Adds the codes between two cells. A link ends before the codes of styles, and the next one starts after them.
+fn change_look(alloc: Global, text: &mut String, last: Look, next: Look) -> Result<(), AllocError> {
+    let same_link = last.link == next.link;
+    if !same_link {
+        end_link(text, last.link)?;
+    }
+    change_style(alloc, text, last.style, next.style)?;
+    if same_link {
+        return Ok(());
+    }
+    start_link(text, next.link)
+}
+
+/// Adds the codes that end a link, if there is one.
+fn end_link(text: &mut String, link: Option<&'static str>) -> Result<(), AllocError> {
+    match link {
+        Some(_) => text.push_str("\u{1b}]8;;\u{1b}\\"),
+        None => Ok(()),
+    }
+}
+
+/// Adds the codes that reset a style and open another, unless the two are the same.
+fn change_style(
     alloc: Global,
     text: &mut String,
-    last: (Style, Option<&'static str>),
-    next: (Style, Option<&'static str>),
+    last: Style,
+    next: Style,
 ) -> Result<(), AllocError> {
-    if last.1.is_some() && last.1 != next.1 {
-        text.push_str("\u{1b}]8;;\u{1b}\\")?;
+    if last == next {
+        return Ok(());
     }
-    if last.0 != next.0 {
-        text.push_str(reset_code(last.0))?;
-        text.push_str(open_code(alloc, next.0)?.as_str())?;
-    }
-    match next.1 {
-        Some(url) if last.1 != next.1 => {
+    text.push_str(reset_code(last))?;
+    let opening = open_code(alloc, next)?;
+    text.push_str(opening.as_str())
+}
+
+/// Adds the codes that start a link, if there is one.
+fn start_link(text: &mut String, link: Option<&'static str>) -> Result<(), AllocError> {
+    match link {
+        Some(url) => {
             text.push_str("\u{1b}]8;;")?;
             text.push_str(url)?;
             text.push_str("\u{1b}\\")
         }
-        _ => Ok(()),
+        None => Ok(()),
     }
 }

@@ -1,12 +1,13 @@
 //! What refusals say.
 
+use crate::output::print_heading;
 use annotate_snippets::renderer::RenderError;
 use std::alloc::AllocError;
 use std::io;
 
 /// Prints what refusals say.
 pub fn print(rt: &impl Print) -> io::Result<()> {
-    println!(rt; "== what refusals say")?;
+    print_heading(rt, "what refusals say")?;
     for refusal in &refusals() {
         println!(rt; "{refusal}")?;
     }

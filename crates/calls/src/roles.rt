@@ -1,5 +1,6 @@
 //! The styles of roles, and effects.
 
+use crate::output::print_heading;
 use annotate_snippets::renderer::parts::{ElementStyle, LevelInner};
 use annotate_snippets::renderer::{Color, Effects, Style, Stylesheet};
 use std::io;
@@ -27,7 +28,7 @@ fn numbered_sheet() -> Stylesheet {
 }
 
 /// The roles of cells.
-const ROLES: [ElementStyle; 17] = [
+const ROLES: &[ElementStyle] = &[
     ElementStyle::MainHeaderMsg,
     ElementStyle::HeaderMsg,
     ElementStyle::LineAndColumn,
@@ -48,7 +49,7 @@ const ROLES: [ElementStyle; 17] = [
 ];
 
 /// The effects, in the order of their codes.
-const EFFECTS: [Effects; 8] = [
+const EFFECTS: &[Effects] = &[
     Effects::BOLD,
     Effects::DIMMED,
     Effects::ITALIC,
@@ -61,15 +62,20 @@ const EFFECTS: [Effects; 8] = [
 
 /// Prints the colours of roles in a group of warnings, and the effects.
 pub fn print(rt: &(impl Print + AllocGlobal)) -> io::Result<()> {
-    println!(rt; "== the colour that each role has in a group of warnings")?;
+    print_heading(rt, "the colour that each role has in a group of warnings")?;
     let sheet = numbered_sheet();
     for role in ROLES {
-        let style = sheet.style_of(LevelInner::Warning, role);
+        let style = sheet.style_of(LevelInner::Warning, *role);
         println!(rt; "{role:?}: {:?}", style.get_fg_color())?;
     }
-    println!(rt; "== which effect each one holds")?;
+    print_effects(rt)
+}
+
+/// Prints which effect each one holds.
+fn print_effects(rt: &(impl Print + AllocGlobal)) -> io::Result<()> {
+    print_heading(rt, "which effect each one holds")?;
     for effect in EFFECTS {
-        print_effect(rt, effect)?;
+        print_effect(rt, *effect)?;
     }
     Ok(())
 }
@@ -78,7 +84,7 @@ pub fn print(rt: &(impl Print + AllocGlobal)) -> io::Result<()> {
 fn print_effect(rt: &(impl Print + AllocGlobal), effect: Effects) -> io::Result<()> {
     let mut held = String::new(rt.alloc());
     for other in EFFECTS {
-        held.push(if effect.contains(other) { '1' } else { '0' })?;
+        held.push(if effect.contains(*other) { '1' } else { '0' })?;
     }
     println!(rt; "{held}")
 }

@@ -1,6 +1,7 @@
 //! Lists of calls from a fixed sequence, made of a grid and of plain rows of cells, whose texts are then compared.
 
 use crate::grid::{Call, make};
+use crate::output::print_heading;
 use crate::plain::PlainGrid;
 use annotate_snippets::renderer::parts::{ElementStyle, LevelInner, StyledBuffer};
 use annotate_snippets::renderer::{AnsiColor, Stylesheet};
@@ -117,17 +118,26 @@ struct Seen {
     too_many_runs: u64,
 }
 
+/// Makes a call of a grid and of plain rows of cells, and says whether it adds no more runs to the grid than it may.
+fn make_of_both(
+    alloc: Global,
+    buffer: &mut StyledBuffer<'static>,
+    plain: &mut PlainGrid,
+    call: Call,
+) -> Result<bool, AllocError> {
+    let before = buffer.num_runs();
+    make(buffer, call)?;
+    plain.make(alloc, call)?;
+    Ok(buffer.num_runs() <= before.saturating_add(most_new_runs(call)))
+}
+
 /// Whether each of some calls adds no more runs than it may, and whether the grid then holds what plain rows of cells hold.
 fn list(alloc: Global, numbers: &mut Numbers) -> Result<(bool, bool), AllocError> {
     let mut buffer = StyledBuffer::new(alloc);
     let mut plain = PlainGrid::new(alloc);
     let mut few = true;
     for _ in 0..CALLS {
-        let call = numbers.call();
-        let before = buffer.num_runs();
-        make(&mut buffer, call)?;
-        plain.make(alloc, call)?;
-        few = few && buffer.num_runs() <= before.saturating_add(most_new_runs(call));
+        few = make_of_both(alloc, &mut buffer, &mut plain, numbers.call())? && few;
     }
     Ok((few, is_same(alloc, &buffer, &plain)?))
 }
@@ -138,30 +148,43 @@ fn is_same(
     buffer: &StyledBuffer<'static>,
     plain: &PlainGrid,
 ) -> Result<bool, AllocError> {
-    let level = LevelInner::Error;
-    let mut same = buffer.num_lines() == plain.num_rows();
-    for sheet in [Stylesheet::plain(), sheet()] {
-        let text = buffer.render(level, &sheet)?;
-        same = same && text == plain.text(alloc, level, &sheet)?;
-    }
-    Ok(same)
+    let same_rows = buffer.num_lines() == plain.num_rows();
+    let same_bare = is_same_under(alloc, buffer, plain, &Stylesheet::plain())?;
+    let same_styled = is_same_under(alloc, buffer, plain, &sheet())?;
+    Ok(same_rows && same_bare && same_styled)
 }
 
-/// Prints in how many lists of calls a grid differs from plain rows of cells.
-pub fn print(rt: &(impl Print + AllocGlobal)) -> io::Result<()> {
-    println!(rt; "== a thousand lists of calls, beside plain rows of cells")?;
+/// Whether a grid has the text of plain rows of cells under a sheet.
+fn is_same_under(
+    alloc: Global,
+    buffer: &StyledBuffer<'static>,
+    plain: &PlainGrid,
+    sheet: &Stylesheet,
+) -> Result<bool, AllocError> {
+    let text = buffer.render(LevelInner::Error, sheet)?;
+    Ok(text == plain.text(alloc, LevelInner::Error, sheet)?)
+}
+
+/// Counts what is seen of the lists.
+fn count_lists(alloc: Global) -> Result<Seen, AllocError> {
     let mut numbers = Numbers { state: 1 };
     let mut seen = Seen::default();
     for _ in 0..LISTS {
-        let (few, same) = list(rt.alloc(), &mut numbers)?;
+        let (few, same) = list(alloc, &mut numbers)?;
         seen.lists = seen.lists.saturating_add(1);
         seen.other_texts = seen.other_texts.saturating_add(u64::from(!same));
         seen.too_many_runs = seen.too_many_runs.saturating_add(u64::from(!few));
     }
+    Ok(seen)
+}
+
+/// Prints in how many lists of calls a grid differs from plain rows of cells.
+pub fn print(rt: &(impl Print + AllocGlobal)) -> io::Result<()> {
+    print_heading(rt, "a thousand lists of calls, beside plain rows of cells")?;
     let Seen {
         lists,
         other_texts,
         too_many_runs,
-    } = seen;
+    } = count_lists(rt.alloc())?;
     println!(rt; "lists: {lists}, other texts: {other_texts}, too many runs: {too_many_runs}")
 }

@@ -1,13 +1,14 @@
 //! The lines of a source, and the places in it.
 
+use crate::mapped::map_of;
+use crate::output::print_heading;
 use annotate_snippets::renderer::parts::{
     CursorLines, LineRange, SourceMap, check_span, newline_count,
 };
-use annotate_snippets::text::text_fits;
 use std::io;
 
 /// Texts whose line feeds are counted.
-const COUNTED: [&str; 8] = [
+const COUNTED: &[&str] = &[
     "",
     "one",
     "one\n",
@@ -22,7 +23,7 @@ const COUNTED: [&str; 8] = [
 type Mapped = (&'static str, u8, &'static [(usize, usize)]);
 
 /// The sources that are mapped.
-const MAPPED: [Mapped; 4] = [
+const MAPPED: &[Mapped] = &[
     ("one\r\ntwo\n", 7, &[]),
     (
         "a\nb\r\nc",
@@ -44,41 +45,75 @@ const MAPPED: [Mapped; 4] = [
 
 /// Prints how many line feeds texts have, and the lines and places of sources.
 pub fn print(rt: &(impl Print + AllocGlobal)) -> io::Result<()> {
-    println!(rt; "== line feeds, but for one that ends the text, and lines with their ends")?;
+    print_heading(
+        rt,
+        "line feeds, but for one that ends the text, and lines with their ends",
+    )?;
+    print_feeds(rt)?;
+    print_ends(rt)?;
+    print_heading(
+        rt,
+        "lines by number, the lines of spans, and the places of their ends",
+    )?;
+    print_sources(rt)?;
+    println!(rt; "{:?}", LineRange { first: 1, last: 2 })
+}
+
+/// Prints how many line feeds texts have.
+fn print_feeds(rt: &impl Print) -> io::Result<()> {
     for text in COUNTED {
         let feeds = newline_count(text);
         println!(rt; "{text:?}: {feeds}")?;
     }
+    Ok(())
+}
+
+/// Prints the lines of a text with their ends.
+fn print_ends(rt: &impl Print) -> io::Result<()> {
     for (line, end) in CursorLines::new("one\r\ntwo\nthree") {
         println!(rt; "{line:?} {end:?} {}", end.len())?;
     }
-    println!(rt; "== lines by number, the lines of spans, and the places of their ends")?;
+    Ok(())
+}
+
+/// Prints the lines and the places of each source.
+fn print_sources(rt: &(impl Print + AllocGlobal)) -> io::Result<()> {
     for (source, first, spans) in MAPPED {
-        print_source(rt, source, usize::from(first), spans)?;
+        print_source(rt, source, *first, spans)?;
     }
-    println!(rt; "{:?}", LineRange { first: 1, last: 2 })
+    Ok(())
 }
 
 /// Prints the lines of a source, and the lines and places of its spans.
 fn print_source(
     rt: &(impl Print + AllocGlobal),
     source: &str,
-    first: usize,
+    first: u8,
     spans: &[(usize, usize)],
 ) -> io::Result<()> {
-    if !text_fits(source) || newline_count(source) > 9 || first > 9 {
+    let Some(map) = map_of(rt.alloc(), source, first)? else {
         return println!(rt; "too long");
-    }
-    let map = SourceMap::new(rt.alloc(), source, first)?;
-    let count = map.line_count();
-    println!(rt; "{source:?}: {count} lines from {} on", map.line_start())?;
+    };
+    print_map(rt, &map)?;
+    print_spans(rt, &map, spans)
+}
+
+/// Prints the lines of a source by their numbers.
+fn print_map(rt: &impl Print, map: &SourceMap<'_>) -> io::Result<()> {
+    let (count, first) = (map.line_count(), map.line_start());
+    println!(rt; "{:?}: {count} lines from {first} on", map.source())?;
     for number in 0..11 {
         if let Some(line) = map.get_line(number) {
             println!(rt; "{number} {line:?}")?;
         }
     }
+    Ok(())
+}
+
+/// Prints the lines and places of spans.
+fn print_spans(rt: &impl Print, map: &SourceMap<'_>, spans: &[(usize, usize)]) -> io::Result<()> {
     for (start, end) in spans {
-        print_span(rt, &map, *start, *end)?;
+        print_span(rt, map, *start, *end)?;
     }
     Ok(())
 }

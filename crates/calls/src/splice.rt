@@ -2,16 +2,15 @@
 ghost use Rattle.std.specs.Prelude.{All, IfOk};
 ghost use Rattle.snippet_lines.specs.Span.{IsSpan};
 
+use crate::mapped::map_of;
+use crate::output::{print_heading, print_made};
 use annotate_snippets::Patch;
-use annotate_snippets::renderer::parts::{
-    SourceMap, as_substr, check_patches, check_span, newline_count,
-};
-use annotate_snippets::text::text_fits;
+use annotate_snippets::renderer::parts::{SourceMap, as_substr, check_patches, check_span};
 use std::alloc::{AllocError, Global};
 use std::io;
 
 /// An original, and what stands in its place.
-const REPLACED: [(&str, &str); 6] = [
+const REPLACED: &[(&str, &str)] = &[
     ("AACC", "AABBCC"),
     ("foo", "foobar"),
     ("foo", "barfoo"),
@@ -27,7 +26,7 @@ type Given = (usize, usize, &'static str);
 type Row = (&'static str, &'static [Given], bool);
 
 /// The sources that are spliced.
-const ROWS: [Row; 16] = [
+const ROWS: &[Row] = &[
     ("abc", &[], true),
     ("abc", &[(0, 2, "x"), (1, 3, "y")], true),
     ("foo", &[(0, 3, "bar")], true),
@@ -52,15 +51,26 @@ const ROWS: [Row; 16] = [
 
 /// Prints what texts put in, and what patches make of sources.
 pub fn print(rt: &(impl Print + AllocGlobal)) -> io::Result<()> {
-    println!(rt; "== the text that is put in, between the start and the end of the original")?;
+    print_replaced(rt)?;
+    print_heading(
+        rt,
+        "patches that overlap, or what the others make of a source",
+    )?;
+    for (source, given, fold) in ROWS {
+        print_row(rt, source, given, *fold)?;
+    }
+    Ok(())
+}
+
+/// Prints what texts put in.
+fn print_replaced(rt: &impl Print) -> io::Result<()> {
+    print_heading(
+        rt,
+        "the text that is put in, between the start and the end of the original",
+    )?;
     for (original, replacement) in REPLACED {
         let put_in = as_substr(original, replacement);
         println!(rt; "{original:?} {replacement:?}: {put_in:?}")?;
-    }
-    println!(rt; "== patches that overlap, or what the others make of a source")?;
-    for (source, given, fold) in ROWS {
-        println!(rt; "{source:?} {given:?} {fold}")?;
-        print_row(rt, source, given, fold)?;
     }
     Ok(())
 }
@@ -72,23 +82,26 @@ fn print_row(
     given: &[Given],
     fold: bool,
 ) -> io::Result<()> {
-    let patches = patches_of(rt.alloc(), source, given)?;
-    print_spliced(rt, source, &patches, fold)
+    println!(rt; "{source:?} {given:?} {fold}")?;
+    match map_of(rt.alloc(), source, 1)? {
+        Some(map) => print_spliced(rt, &map, given, fold),
+        None => println!(rt; "  too long"),
+    }
 }
 
 /// The patches, as far as they replace spans of the source.
 #[tactic(auto, using(crate::proofs::Lists::all_push))]
 fn patches_of(
     alloc: Global,
-    source: &str,
+    map: &SourceMap<'_>,
     given: &[Given],
 ) -> Result<Vec<Patch<'static>>, AllocError>
-    ensures spans { IfOk result (λ built. All (λ p. IsSpan source.now p.span.start p.span.end) built.items) }
+    ensures spans { IfOk result (λ built. All (λ p. IsSpan map.now.text p.span.start p.span.end) built.items) }
 {
     let mut patches = Vec::new(alloc);
     for (start, end, replacement) in given {
         let span = *start..*end;
-        if check_span(source, &span).is_none() {
+        if check_span(map.source(), &span).is_none() {
             patches.push(Patch::new(span, replacement))?;
         }
     }
@@ -98,19 +111,14 @@ fn patches_of(
 /// Prints which patches of a source overlap, or what they make of it.
 fn print_spliced(
     rt: &(impl Print + AllocGlobal),
-    source: &str,
-    patches: &[Patch<'_>],
+    map: &SourceMap<'_>,
+    given: &[Given],
     fold: bool,
-) -> io::Result<()>
-    requires spans { All (λ p. IsSpan source.now p.span.start p.span.end) patches.now }
-{
-    if !text_fits(source) || newline_count(source) > 99 {
-        return println!(rt; "  too long");
-    }
-    if let Some(pair) = check_patches(source, patches) {
+) -> io::Result<()> {
+    let patches = patches_of(rt.alloc(), map, given)?;
+    if let Some(pair) = check_patches(map.source(), &patches) {
         return println!(rt; "  overlap: {pair:?}");
     }
-    let map = SourceMap::new(rt.alloc(), source, 1)?;
-    let spliced = map.splice_lines(patches, fold)?;
-    println!(rt; "  {spliced:?}")
+    print!(rt; "  ")?;
+    print_made(rt, map.splice_lines(&patches, fold))
 }

@@ -30,7 +30,7 @@ pub struct Texts {
 /// Builds each report, draws it in each form and under two sheets, and prints what came out right.
 pub fn print(rt: &(impl Print + AllocGlobal)) -> io::Result<()> {
     for (subject, texts) in REPORTS {
-        print_subject(rt, subject, texts)?;
+        print_subject(rt, *subject, *texts)?;
     }
     Ok(())
 }
@@ -61,15 +61,48 @@ fn print_group(
 fn print_report(rt: &(impl Print + AllocGlobal), groups: Report<'_>, texts: Texts) -> io::Result<()>
     requires fits { ReportFits groups.now }
 {
-    let name = texts.name;
-    let plain = Renderer::plain().term_width(texts.width);
-    println!(rt; "{name}:")?;
-    print_form(rt, groups, &plain, "  graphic form", texts.graphic)?;
-    print_sheets(rt, groups, &plain, texts)?;
-    let short = plain.short_message(true);
-    print_form(rt, groups, &short, "  short form", texts.short)?;
-    let text_form = short.no_graphics(true);
-    print_form(rt, groups, &text_form, "  text form", texts.text_form)
+    println!(rt; "{}:", texts.name)?;
+    print_graphic(rt, groups, texts)?;
+    print_short(rt, groups, texts)?;
+    print_text_form(rt, groups, texts)
+}
+
+/// Draws a report in the graphic form: alone, and under two sheets.
+fn print_graphic(
+    rt: &(impl Print + AllocGlobal),
+    groups: Report<'_>,
+    texts: Texts,
+) -> io::Result<()>
+    requires fits { ReportFits groups.now }
+{
+    let renderer = Renderer::plain().term_width(texts.width);
+    print_form(rt, groups, &renderer, "  graphic form", texts.graphic)?;
+    print_sheets(rt, groups, &renderer, texts)
+}
+
+/// Draws a report in the short form.
+fn print_short(rt: &(impl Print + AllocGlobal), groups: Report<'_>, texts: Texts) -> io::Result<()>
+    requires fits { ReportFits groups.now }
+{
+    let renderer = Renderer::plain()
+        .term_width(texts.width)
+        .short_message(true);
+    print_form(rt, groups, &renderer, "  short form", texts.short)
+}
+
+/// Draws a report in the text form, which the short form gives way to.
+fn print_text_form(
+    rt: &(impl Print + AllocGlobal),
+    groups: Report<'_>,
+    texts: Texts,
+) -> io::Result<()>
+    requires fits { ReportFits groups.now }
+{
+    let renderer = Renderer::plain()
+        .term_width(texts.width)
+        .short_message(true)
+        .no_graphics(true);
+    print_form(rt, groups, &renderer, "  text form", texts.text_form)
 }
 
 /// The text of a report.
@@ -83,7 +116,17 @@ pub fn text_of(
     renderer.render(alloc, groups)
 }
 
-/// Draws a report in one form, once more where it is out of memory.
+/// The text of a report, drawn once more where that is out of memory.
+fn drawn(alloc: Global, groups: Report<'_>, renderer: &Renderer) -> Result<String, RenderError>
+    requires fits { ReportFits groups.now }
+{
+    match text_of(alloc, groups, renderer) {
+        Err(RenderError::Memory(_)) => text_of(alloc, groups, renderer),
+        drawn => drawn,
+    }
+}
+
+/// Draws a report in one form, and compares its text.
 fn print_form(
     rt: &(impl Print + AllocGlobal),
     groups: Report<'_>,
@@ -93,11 +136,7 @@ fn print_form(
 ) -> io::Result<()>
     requires fits { ReportFits groups.now }
 {
-    let drawn = match text_of(rt.alloc(), groups, renderer) {
-        Err(RenderError::Memory(_)) => text_of(rt.alloc(), groups, renderer),
-        drawn => drawn,
-    };
-    match drawn {
+    match drawn(rt.alloc(), groups, renderer) {
         Ok(text) => print_text(rt, form, text.as_str(), wanted),
         Err(refusal) => print_refusal(rt, form, refusal),
     }
@@ -123,7 +162,21 @@ fn under_sheets(
     renderer.render_sheets(alloc, groups, &sheets)
 }
 
-/// Draws a report under the plain and the default sheet, once more where it is out of memory.
+/// The same, drawn once more where that is out of memory.
+fn drawn_under_sheets(
+    alloc: Global,
+    groups: Report<'_>,
+    renderer: &Renderer,
+) -> Result<Vec<String>, RenderError>
+    requires fits { ReportFits groups.now }
+{
+    match under_sheets(alloc, groups, renderer) {
+        Err(RenderError::Memory(_)) => under_sheets(alloc, groups, renderer),
+        drawn => drawn,
+    }
+}
+
+/// Draws a report under the plain and the default sheet, and compares its texts.
 fn print_sheets(
     rt: &(impl Print + AllocGlobal),
     groups: Report<'_>,
@@ -132,11 +185,7 @@ fn print_sheets(
 ) -> io::Result<()>
     requires fits { ReportFits groups.now }
 {
-    let drawn = match under_sheets(rt.alloc(), groups, renderer) {
-        Err(RenderError::Memory(_)) => under_sheets(rt.alloc(), groups, renderer),
-        drawn => drawn,
-    };
-    match drawn {
+    match drawn_under_sheets(rt.alloc(), groups, renderer) {
         Ok(drawn) => print_pair(rt, &drawn, texts),
         Err(refusal) => print_refusal(rt, "  two sheets", refusal),
     }

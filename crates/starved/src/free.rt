@@ -1,7 +1,7 @@
 //! Calls of texts, styles, orders and settings that take no memory.
 
-use crate::subject::print_subject;
-use annotate_snippets::level::{ERROR, HELP, NOTE, WARNING};
+use crate::subject::print_subjects;
+use annotate_snippets::level::{ERROR, HELP, Level, NOTE, WARNING};
 use annotate_snippets::renderer::{
     AnsiColor, Color, DEFAULT_ERROR_STYLE, DecorStyle, Effects, Style, Stylesheet, reset_code,
 };
@@ -12,17 +12,21 @@ use std::io;
 
 /// Makes the calls, and prints what came out right.
 pub fn print(rt: &impl Print) -> io::Result<()> {
-    print_subject(rt, "widths of characters", widths())?;
-    print_subject(
+    print_subjects(
         rt,
-        "the width of a text, and what it is asked for",
-        sizes("a\tb"),
-    )?;
-    print_subject(rt, "the parts of a style", style_parts())?;
-    print_subject(rt, "the code that resets a style", resets())?;
-    print_subject(rt, "the order of levels and kinds", orders())?;
-    print_subject(rt, "switches of renderers", switches())?;
-    print_subject(rt, "styles of renderers", sheets())
+        &[
+            ("widths of characters", widths()),
+            (
+                "the width of a text, and what it is asked for",
+                sizes("a\tb"),
+            ),
+            ("the parts of a style", style_parts()),
+            ("the code that resets a style", resets()),
+            ("the order of levels and kinds", orders()),
+            ("switches of renderers", switches()),
+            ("styles of renderers", sheets()),
+        ],
+    )
 }
 
 /// Whether characters have their widths.
@@ -55,10 +59,20 @@ fn resets() -> bool {
 
 /// Whether levels and kinds of annotations have their order.
 fn orders() -> bool {
-    ERROR.cmp(&WARNING) == Ordering::Less
-        && HELP.cmp(&HELP.no_name()) == Ordering::Less
-        && NOTE == NOTE
+    is_before(ERROR, WARNING)
+        && is_before(HELP, HELP.no_name())
+        && is_same(NOTE, NOTE)
         && AnnotationKind::Primary.cmp(&AnnotationKind::Visible) == Ordering::Less
+}
+
+/// Whether a level comes before another one.
+fn is_before(level: Level<'_>, other: Level<'_>) -> bool {
+    level.cmp(&other) == Ordering::Less
+}
+
+/// Whether two levels are equal.
+fn is_same(level: Level<'_>, other: Level<'_>) -> bool {
+    level == other
 }
 
 /// Whether a renderer has the settings that it was given.
@@ -72,6 +86,11 @@ fn switches() -> bool {
         .anonymized_line_numbers(true)
         .anonymized_origin_line_numbers(true)
         .hyperlink(true);
+    is_switched(&renderer)
+}
+
+/// Whether a renderer has all switches on, is 80 columns wide and draws with the characters of Unicode.
+fn is_switched(renderer: &Renderer) -> bool {
     renderer.no_graphics
         && renderer.short_message
         && renderer.term_width == 80

@@ -1,8 +1,8 @@
 //! Builders that take no memory.
 
-use crate::subject::print_subject;
-use annotate_snippets::level::{ERROR, HELP, NOTE};
-use annotate_snippets::renderer::MessageOrTitle;
+use crate::subject::print_subjects;
+use annotate_snippets::level::{ERROR, HELP, Level, NOTE};
+use annotate_snippets::renderer::{Id, MessageOrTitle};
 use annotate_snippets::text::CowStr;
 use annotate_snippets::{
     Annotation, AnnotationKind, Element, Group, OptionCow, Origin, Padding, Patch, Snippet, Title,
@@ -12,30 +12,33 @@ use std::io;
 
 /// Makes the calls, and prints what came out right.
 pub fn print(rt: &(impl Print + AllocGlobal)) -> io::Result<()> {
-    print_subject(rt, "names of levels", names())?;
-    print_subject(rt, "titles and messages", headings() && shared_headings())?;
-    print_subject(rt, "empty groups", groups(rt.alloc()))?;
-    print_subject(rt, "settings of snippets", snippets(rt.alloc()))?;
-    print_subject(rt, "annotations", annotations())?;
-    print_subject(rt, "patches", patches())?;
-    print_subject(rt, "origins", origins())?;
-    print_subject(rt, "elements", elements() && snippet_elements(rt.alloc()))?;
-    print_subject(
+    let alloc = rt.alloc();
+    print_subjects(
         rt,
-        "optional texts",
-        optional_texts(rt.alloc()) && lent_texts(rt.alloc()),
+        &[
+            ("names of levels", names()),
+            ("titles and messages", headings()),
+            ("empty groups", groups(alloc)),
+            ("settings of snippets", snippets(alloc)),
+            ("annotations", annotations()),
+            ("patches", patches()),
+            ("origins", origins()),
+            ("elements", elements(alloc)),
+            ("optional texts", optional_texts(alloc)),
+        ],
     )
 }
 
 /// Whether levels have the names that they are given.
 fn names() -> bool {
-    ERROR.as_str() == "error" && HELP.no_name().as_str() == "" && own_name()
+    is_named(ERROR, "error")
+        && is_named(HELP.no_name(), "")
+        && is_named(NOTE.with_name(OptionCow::from("remark")), "remark")
 }
 
-/// Whether a level has a name of its own.
-fn own_name() -> bool {
-    let level = NOTE.with_name(OptionCow::from("remark"));
-    level.as_str() == "remark"
+/// Whether a level has this name.
+fn is_named(level: Level<'_>, name: &str) -> bool {
+    level.as_str() == name
 }
 
 /// Whether this is a heading of this text, trusted or not.
@@ -52,6 +55,7 @@ fn headings() -> bool {
         && is_heading(ERROR.secondary_title("t"), "t", true)
         && is_heading(ERROR.message("m"), "m", true)
         && has_id(ERROR.primary_title("e").id("E1").id_url("u"))
+        && shared_headings()
 }
 
 /// A title whose texts are copies on write.
@@ -72,7 +76,12 @@ fn shared_headings() -> bool {
 
 /// Whether a title has the id `E1`, whose address is `u`.
 fn has_id(title: Title<'_>) -> bool {
-    match &title.id {
+    is_id(&title.id)
+}
+
+/// Whether this is the id `E1`, whose address is `u`.
+fn is_id(id: &Option<Id<'_>>) -> bool {
+    match id {
         Some(id) => is_text(&id.id, "E1") && is_text(&id.url, "u"),
         None => false,
     }
@@ -91,11 +100,16 @@ fn is_empty(group: Group<'_>) -> bool {
 
 /// Whether a snippet has the settings that it is given.
 fn snippets(alloc: Global) -> bool {
-    let snippet: Snippet<'static, Annotation<'static>> = Snippet::source(alloc, "ab")
+    let snippet = Snippet::source(alloc, "ab")
         .path(OptionCow::from("a.rs"))
         .line_start(7)
         .line_numbering(false)
         .fold(false);
+    is_set(&snippet)
+}
+
+/// Whether a snippet has these settings.
+fn is_set(snippet: &Snippet<'_, Annotation<'_>>) -> bool {
     snippet.source.as_str() == "ab"
         && is_text(&snippet.path, "a.rs")
         && snippet.line_start == 7
@@ -155,8 +169,8 @@ fn is_place(origin: Origin<'_>, path: &str, line: Option<usize>, column: Option<
 }
 
 /// What kind of element this is.
-fn kind_of(element: Element<'_>) -> &'static str {
-    match &element {
+fn kind_of(element: &Element<'_>) -> &'static str {
+    match element {
         Element::Message(_) => "message",
         Element::Cause(_) => "cause",
         Element::Suggestion(_) => "suggestion",
@@ -165,23 +179,28 @@ fn kind_of(element: Element<'_>) -> &'static str {
     }
 }
 
-/// Whether elements are of the kinds that they are made from.
-fn elements() -> bool {
-    kind_of(Element::from(NOTE.message("m"))) == "message"
-        && kind_of(Element::from(Origin::path("a.rs"))) == "origin"
-        && kind_of(Element::from(Padding)) == "padding"
+/// Whether an element is of this kind.
+fn is_of_kind(element: Element<'_>, kind: &str) -> bool {
+    kind_of(&element) == kind
 }
 
-/// The same of snippets with annotations, and with patches.
-fn snippet_elements(alloc: Global) -> bool {
-    let marked: Snippet<'static, Annotation<'static>> = Snippet::source(alloc, "a");
-    let patched: Snippet<'static, Patch<'static>> = Snippet::source_cow(
-        alloc,
-        CowStr::Borrowed("a"),
-    );
-    let (cause, suggestion) = (Element::from(marked), Element::from(patched));
-    let (one, other) = (kind_of(cause), kind_of(suggestion));
-    one == "cause" && other == "suggestion"
+/// A snippet with annotations.
+fn marked(alloc: Global) -> Snippet<'static, Annotation<'static>> {
+    Snippet::source(alloc, "a")
+}
+
+/// A snippet with patches.
+fn patched(alloc: Global) -> Snippet<'static, Patch<'static>> {
+    Snippet::source_cow(alloc, CowStr::Borrowed("a"))
+}
+
+/// Whether elements are of the kinds that they are made from.
+fn elements(alloc: Global) -> bool {
+    is_of_kind(Element::from(NOTE.message("m")), "message")
+        && is_of_kind(Element::from(Origin::path("a.rs")), "origin")
+        && is_of_kind(Element::from(Padding), "padding")
+        && is_of_kind(Element::from(marked(alloc)), "cause")
+        && is_of_kind(Element::from(patched(alloc)), "suggestion")
 }
 
 /// Whether an optional text is there, and is this one.
@@ -197,6 +216,7 @@ fn optional_texts(alloc: Global) -> bool {
         && is_given(OptionCow::from(CowStr::Borrowed("a")), "a")
         && is_given(OptionCow::from(String::new(alloc)), "")
         && !is_given(OptionCow::from(none), "")
+        && lent_texts(alloc)
 }
 
 /// Whether an optional text is the one that is lent, or is there.

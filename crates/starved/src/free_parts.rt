@@ -1,6 +1,6 @@
 //! Calls of sources, spans, margins and grids that take no memory.
 
-use crate::subject::print_subject;
+use crate::subject::print_subjects;
 use annotate_snippets::Patch;
 use annotate_snippets::renderer::parts::{
     CursorLines, Margin, SourceMap, SpanFault, StyledBuffer, as_substr, check_patches, check_span,
@@ -14,14 +14,19 @@ pub const SOURCE: &str = "a\r\nbc";
 
 /// Makes the calls, and prints what came out right.
 pub fn print(rt: &(impl Print + AllocGlobal), map: &SourceMap<'_>) -> io::Result<()> {
-    print_subject(rt, "faults of spans", faults())?;
-    print_subject(rt, "patches that overlap, and others", overlaps())?;
-    print_subject(rt, "lines by their numbers", lines(map))?;
-    print_subject(rt, "the places of a span", places(map))?;
-    print_subject(rt, "the text that a replacement puts in", put_in())?;
-    print_subject(rt, "line feeds, and a source line by line", feeds())?;
-    print_subject(rt, "the bounds of lines", bounds())?;
-    print_subject(rt, "a new grid", new_grid(rt.alloc()))
+    print_subjects(
+        rt,
+        &[
+            ("faults of spans", faults()),
+            ("patches that overlap, and others", overlaps()),
+            ("lines by their numbers", lines(map)),
+            ("the places of a span", places(map)),
+            ("the text that a replacement puts in", put_in()),
+            ("line feeds, and a source line by line", feeds()),
+            ("the bounds of lines", bounds()),
+            ("a new grid", new_grid(rt.alloc())),
+        ],
+    )
 }
 
 /// Whether each fault of a span is found, and none where there is none.

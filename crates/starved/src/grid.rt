@@ -20,7 +20,7 @@ enum Call {
 }
 
 /// The calls, in the order in which they are made of each row.
-const CALLS: [(Call, &str); 7] = [
+const CALLS: &[(Call, &str)] = &[
     (Call::Putc, "grid: `putc`"),
     (Call::Puts, "grid: `puts`"),
     (Call::Append, "grid: `append`"),
@@ -34,8 +34,11 @@ const CALLS: [(Call, &str); 7] = [
 const ROWS: u8 = 3;
 
 /// The text of three such rows: `a`, dots in place of `bc`, `d` and two spaces, and a mark with a linked label.
-const TEXT: &str =
-    "\u{1b}[32ma\u{1b}[0m\u{1b}[34m...\u{1b}[0m\u{1b}[35md  \u{1b}[0m\u{1b}[31m^ \u{1b}]8;;u\u{1b}\\label\u{1b}]8;;\u{1b}\\\u{1b}[0m\n\u{1b}[32ma\u{1b}[0m\u{1b}[34m...\u{1b}[0m\u{1b}[35md  \u{1b}[0m\u{1b}[31m^ \u{1b}]8;;u\u{1b}\\label\u{1b}]8;;\u{1b}\\\u{1b}[0m\n\u{1b}[32ma\u{1b}[0m\u{1b}[34m...\u{1b}[0m\u{1b}[35md  \u{1b}[0m\u{1b}[31m^ \u{1b}]8;;u\u{1b}\\label\u{1b}]8;;\u{1b}\\\u{1b}[0m";
+const TEXT: &str = concat!(
+    "\u{1b}[32ma\u{1b}[0m\u{1b}[34m...\u{1b}[0m\u{1b}[35md  \u{1b}[0m\u{1b}[31m^ \u{1b}]8;;u\u{1b}\\label\u{1b}]8;;\u{1b}\\\u{1b}[0m\n",
+    "\u{1b}[32ma\u{1b}[0m\u{1b}[34m...\u{1b}[0m\u{1b}[35md  \u{1b}[0m\u{1b}[31m^ \u{1b}]8;;u\u{1b}\\label\u{1b}]8;;\u{1b}\\\u{1b}[0m\n",
+    "\u{1b}[32ma\u{1b}[0m\u{1b}[34m...\u{1b}[0m\u{1b}[35md  \u{1b}[0m\u{1b}[31m^ \u{1b}]8;;u\u{1b}\\label\u{1b}]8;;\u{1b}\\\u{1b}[0m",
+);
 
 /// A sheet that tells the roles apart.
 fn sheet() -> Stylesheet {
@@ -71,14 +74,25 @@ struct State {
     text: String,
 }
 
+/// The text of a grid, once more where that is out of memory.
+fn text_of(grid: &StyledBuffer<'static>) -> Result<String, AllocError> {
+    again!(grid.render(LevelInner::Error, &sheet()))
+}
+
 /// What a grid shows.
 fn state_of(grid: &StyledBuffer<'static>) -> Result<State, AllocError> {
-    let text = again!(grid.render(LevelInner::Error, &sheet()))?;
     Ok(State {
         rows: grid.num_lines(),
         runs: grid.num_runs(),
-        text,
+        text: text_of(grid)?,
     })
+}
+
+/// Whether two grids show the same.
+fn is_same(before: &State, after: &State) -> bool {
+    before.rows == after.rows
+        && before.runs == after.runs
+        && before.text.as_str() == after.text.as_str()
 }
 
 /// Makes a call, once more where it is out of memory, and says whether the grid was then as before.
@@ -89,23 +103,34 @@ fn made(grid: &mut StyledBuffer<'static>, call: Call, row: u8) -> Result<bool, A
     }
     let after = state_of(grid)?;
     make(grid, call, row)?;
-    Ok(
-        before.rows == after.rows
-            && before.runs == after.runs
-            && before.text.as_str() == after.text.as_str(),
-    )
+    Ok(is_same(&before, &after))
+}
+
+/// Makes a call of each row, and prints whether it came out right.
+fn print_call(
+    rt: &impl Print,
+    grid: &mut StyledBuffer<'static>,
+    call: Call,
+    name: &str,
+) -> io::Result<()> {
+    let mut same = true;
+    for row in 0..ROWS {
+        same = made(grid, call, row)? && same;
+    }
+    print_subject(rt, name, same)
 }
 
 /// Makes each call of each row, and prints what came out right.
 pub fn print(rt: &(impl Print + AllocGlobal)) -> io::Result<()> {
     let mut grid = StyledBuffer::new(rt.alloc());
     for (call, name) in CALLS {
-        let mut same = true;
-        for row in 0..ROWS {
-            same = made(&mut grid, call, row)? && same;
-        }
-        print_subject(rt, name, same)?;
+        print_call(rt, &mut grid, *call, name)?;
     }
-    let text = again!(grid.render(LevelInner::Error, &sheet()))?;
+    print_whole(rt, &grid)
+}
+
+/// Prints whether the grid has its text.
+fn print_whole(rt: &impl Print, grid: &StyledBuffer<'static>) -> io::Result<()> {
+    let text = text_of(grid)?;
     print_text(rt, "grid: `render`", text.as_str(), TEXT)
 }

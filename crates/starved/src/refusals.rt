@@ -1,12 +1,36 @@
 //! Reports that are refused by name: that is answered with no memory at all.
-ghost use Rattle.annotate_snippets.specs.Fits.{GroupFits};
+ghost use Rattle.std.specs.Prelude.{All, IfOk};
+ghost use Rattle.annotate_snippets.specs.Fits.{GroupFits, ReportFits};
 
 use crate::drawn::text_of;
 use crate::reports::{Subject, built};
+use crate::retry::again;
 use annotate_snippets::level::ERROR;
 use annotate_snippets::renderer::RenderError;
+use annotate_snippets::snippet::Report;
 use annotate_snippets::{Group, Renderer};
+use std::alloc::{AllocError, Global};
 use std::io;
+
+/// The reports of one group that are refused, and what each is refused for.
+const REFUSED: &[(Subject, &str)] = &[
+    (Subject::PastEnd, "a span past the end"),
+    (Subject::Reversed, "a reversed span"),
+    (Subject::OffBorder, "a span inside a character"),
+    (Subject::TooLarge, "a line number that is too large"),
+    (Subject::Overlapping, "patches that overlap"),
+];
+
+/// Builds their groups, in room that is made for all of them.
+fn refused_groups(alloc: Global) -> Result<Vec<Group<'static>>, AllocError>
+    ensures fits { IfOk result (λ groups. All GroupFits groups.items) }
+{
+    let mut groups = again!(Vec::with_capacity(alloc, REFUSED.len()))?;
+    for (kind, _) in REFUSED {
+        groups.push(built(alloc, *kind)?)?;
+    }
+    Ok(groups)
+}
 
 /// Prints what a report is refused for.
 fn print_refusal(
@@ -20,42 +44,47 @@ fn print_refusal(
     }
 }
 
-/// Prints what a report of one group is refused for.
-fn print_refused(
-    rt: &(impl Print + AllocGlobal),
-    subject: &str,
-    group: Group<'static>,
-    short: bool,
-) -> io::Result<()>
-    requires fits { GroupFits group }
+/// Prints what each group is refused for, in a report of its own.
+fn print_each(rt: &(impl Print + AllocGlobal), groups: &[Group<'_>]) -> io::Result<()>
+    requires fits { All GroupFits groups.now }
 {
-    let renderer = Renderer::plain().short_message(short);
-    let groups = [group];
-    print_refusal(rt, subject, text_of(rt.alloc(), &groups, &renderer))
+    let renderer = Renderer::plain();
+    for (index, (_, subject)) in REFUSED.iter().enumerate() {
+        if index < groups.len() {
+            let answer = text_of(rt.alloc(), &groups[index..index + 1], &renderer);
+            print_refusal(rt, subject, answer)?;
+        }
+    }
+    Ok(())
 }
 
 /// Builds the reports, prints the first line, and then what each report is refused for.
 pub fn print(rt: &(impl Print + AllocGlobal)) -> io::Result<()> {
-    let past_end = built(rt.alloc(), Subject::PastEnd)?;
-    let reversed = built(rt.alloc(), Subject::Reversed)?;
-    let off_border = built(rt.alloc(), Subject::OffBorder)?;
-    let too_large = built(rt.alloc(), Subject::TooLarge)?;
-    let patched = built(rt.alloc(), Subject::Overlapping)?;
+    let groups = refused_groups(rt.alloc())?;
     println!(rt; "what is needed from here on, up to where memory is taken, is built")?;
-    print_refused(rt, "a span past the end", past_end, false)?;
-    print_refused(rt, "a reversed span", reversed, false)?;
-    print_refused(rt, "a span inside a character", off_border, false)?;
-    print_refused(rt, "a line number that is too large", too_large, false)?;
-    print_refused(rt, "patches that overlap", patched, false)?;
-    print_short(rt)
+    print_each(rt, &groups)?;
+    print_none(rt)?;
+    print_untitled(rt, Group::with_level(rt.alloc(), ERROR))
 }
 
-/// Prints what reports that the short form has nothing for are refused for.
-fn print_short(rt: &(impl Print + AllocGlobal)) -> io::Result<()> {
+/// Prints what a report without a group is refused for in the short form.
+fn print_none(rt: &(impl Print + AllocGlobal)) -> io::Result<()> {
+    let groups: Vec<Group<'static>> = Vec::new(rt.alloc());
+    print_short(rt, "no group in the short form", &groups)
+}
+
+/// Prints what a report of a group without a title is refused for in the short form.
+fn print_untitled(rt: &(impl Print + AllocGlobal), group: Group<'static>) -> io::Result<()>
+    requires fits { GroupFits group }
+{
+    let groups = [group];
+    print_short(rt, "no title in the short form", &groups)
+}
+
+/// Prints what a report that the short form has nothing for is refused for.
+fn print_short(rt: &(impl Print + AllocGlobal), subject: &str, groups: Report<'_>) -> io::Result<()>
+    requires fits { ReportFits groups.now }
+{
     let renderer = Renderer::plain().short_message(true);
-    let none: Vec<Group<'static>> = Vec::new(rt.alloc());
-    let answer = text_of(rt.alloc(), &none, &renderer);
-    print_refusal(rt, "no group in the short form", answer)?;
-    let untitled = Group::with_level(rt.alloc(), ERROR);
-    print_refused(rt, "no title in the short form", untitled, true)
+    print_refusal(rt, subject, text_of(rt.alloc(), groups, &renderer))
 }

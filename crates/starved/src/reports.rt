@@ -3,8 +3,9 @@ ghost use Rattle.std.specs.Prelude.{◌^◌, ◌<◌, IfOk, length};
 ghost use Rattle.annotate_snippets.specs.Fits.{AnnotationFits, GroupFits, PatchFits, SnippetFits};
 
 use annotate_snippets::level::{ERROR, HELP, NOTE};
+use annotate_snippets::renderer::Id;
 use annotate_snippets::{
-    Annotation, AnnotationKind, Element, Group, OptionCow, Origin, Patch, Snippet,
+    Annotation, AnnotationKind, Element, Group, OptionCow, Origin, Patch, Snippet, Title,
 };
 use std::alloc::{AllocError, Global};
 
@@ -19,6 +20,7 @@ pub enum Subject {
     Origin,
     TwoOffers,
     TwoPatches,
+    Unset,
     /// The reports from here on are refused by name.
     PastEnd,
     Reversed,
@@ -153,15 +155,27 @@ fn offer(
     Snippet::source(alloc, "foo()").patch(Patch::new(4..4, replacement))
 }
 
+/// A group with an offer below its elements: `element` of a group.
+fn with_offer(
+    group: Group<'static>,
+    alloc: Global,
+    replacement: &'static str,
+) -> Result<Group<'static>, AllocError>
+    requires group { GroupFits group }
+    requires replacement { length replacement.now < 2 ^ 56 }
+    ensures fits { IfOk result GroupFits }
+{
+    let snippet = offer(alloc, replacement)?;
+    group.element(Element::from(snippet))
+}
+
 /// Two suggestions.
 fn two_offers(alloc: Global) -> Result<Group<'static>, AllocError>
     ensures fits { IfOk result GroupFits }
 {
-    let one = Element::from(offer(alloc, "x")?);
-    let other = Element::from(offer(alloc, "y")?);
-    Group::with_title(alloc, HELP.secondary_title("t"))
-        .element(one)?
-        .element(other)
+    let empty = Group::with_title(alloc, HELP.secondary_title("t"));
+    let group = with_offer(empty, alloc, "x")?;
+    with_offer(group, alloc, "y")
 }
 
 /// An insertion and a deletion: `patches`.
@@ -180,6 +194,18 @@ fn two_patches(alloc: Global) -> Result<Group<'static>, AllocError>
     offered(alloc, snippet)
 }
 
+/// A title whose level has no name, with an id that has neither text nor address.
+fn unset(alloc: Global) -> Group<'static>
+    ensures fits { GroupFits result }
+{
+    let (id, url) = (None, None);
+    let title = Title {
+        id: Some(Id { id, url }),
+        ..ERROR.no_name().primary_title("e")
+    };
+    Group::with_title(alloc, title)
+}
+
 /// Builds a report.
 fn build(alloc: Global, subject: Subject) -> Result<Group<'static>, AllocError>
     ensures fits { IfOk result GroupFits }
@@ -193,6 +219,7 @@ fn build(alloc: Global, subject: Subject) -> Result<Group<'static>, AllocError>
         Subject::Origin => origin(alloc),
         Subject::TwoOffers => two_offers(alloc),
         Subject::TwoPatches => two_patches(alloc),
+        Subject::Unset => Ok(unset(alloc)),
         Subject::PastEnd => marked(alloc, "ab", 3, 4, 1),
         Subject::Reversed => marked(alloc, "let x", 2, 1, 1),
         Subject::OffBorder => marked(alloc, "é", 1, 2, 1),

@@ -19,10 +19,15 @@ pub fn print(rt: &(impl Print + AllocGlobal)) -> io::Result<()> {
         return println!(rt; "too long");
     }
     let map = again!(SourceMap::new(rt.alloc(), SOURCE, 1))?;
+    print_map(rt, &map)
+}
+
+/// Makes each call of the map that takes memory.
+fn print_map(rt: &impl Print, map: &SourceMap<'_>) -> io::Result<()> {
     print_subject(rt, "source map: `new`", map.line_count() == 6)?;
-    print_span(rt, &map)?;
-    print_subject(rt, "source map: `annotated_lines`", again!(keeps(&map))?)?;
-    print_subject(rt, "source map: `splice_lines`", again!(splices(&map))?)
+    print_span(rt, map)?;
+    print_subject(rt, "source map: `annotated_lines`", again!(keeps(map))?)?;
+    print_subject(rt, "source map: `splice_lines`", again!(splices(map))?)
 }
 
 /// Whether this is the line of this text and number.
@@ -36,16 +41,28 @@ fn print_span(rt: &impl Print, map: &SourceMap<'_>) -> io::Result<()> {
         return println!(rt; "no span");
     }
     let lines = again!(map.span_to_lines(2..5))?;
-    let right = match lines.as_slice() {
+    print_subject(rt, "source map: `span_to_lines`", are_touched(&lines))
+}
+
+/// Whether these lines are the second and the third.
+fn are_touched(lines: &[LineInfo<'_>]) -> bool {
+    match lines {
         [one, other] => is_line(one, "b", 2) && is_line(other, "c", 3),
         _ => false,
-    };
-    print_subject(rt, "source map: `span_to_lines`", right)
+    }
 }
 
 /// Whether this line is kept, with one entry.
 fn is_kept(line: &AnnotatedLineInfo<'_>, text: &str, number: usize) -> bool {
     line.line == text && line.line_index == number && line.annotations.len() == 1
+}
+
+/// Whether these lines are the first two and the last, each with one entry.
+fn are_kept(lines: &[AnnotatedLineInfo<'_>]) -> bool {
+    match lines {
+        [one, two, six] => is_kept(one, "a", 1) && is_kept(two, "b", 2) && is_kept(six, "f", 6),
+        _ => false,
+    }
 }
 
 /// Whether the first two lines and the last are kept, where a span goes over the first two and another is in the last.
@@ -60,11 +77,7 @@ fn keeps(map: &SourceMap<'_>) -> Result<bool, AllocError> {
     }
     let marks = [long, short];
     let (deepest, kept) = map.annotated_lines(&marks, true)?;
-    let right = match kept.as_slice() {
-        [one, two, six] => is_kept(one, "a", 1) && is_kept(two, "b", 2) && is_kept(six, "f", 6),
-        _ => false,
-    };
-    Ok(deepest == 1 && right)
+    Ok(deepest == 1 && are_kept(&kept))
 }
 
 /// Whether an insertion and a replacement give the first two lines anew.

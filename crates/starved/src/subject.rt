@@ -11,6 +11,14 @@ pub fn print_subject(rt: &impl Print, subject: &str, right: bool) -> io::Result<
     }
 }
 
+/// Prints a line for each of these subjects, of which it is said whether they came out right.
+pub fn print_subjects(rt: &impl Print, subjects: &[(&str, bool)]) -> io::Result<()> {
+    for (subject, right) in subjects {
+        print_subject(rt, subject, *right)?;
+    }
+    Ok(())
+}
+
 /// Prints a line for a text: what it is, and, where it is another one than it has to be, that text.
 pub fn print_text(rt: &impl Print, subject: &str, text: &str, wanted: &str) -> io::Result<()> {
     if text == wanted {

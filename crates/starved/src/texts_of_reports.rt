@@ -5,7 +5,7 @@ use crate::reports::Subject;
 use annotate_snippets::renderer::DEFAULT_TERM_WIDTH;
 
 /// The reports that are drawn, each with its texts.
-pub const REPORTS: [(Subject, Texts); 8] = [
+pub const REPORTS: &[(Subject, Texts)] = &[
     (
         Subject::Labelled,
         Texts {
@@ -25,7 +25,14 @@ pub const REPORTS: [(Subject, Texts); 8] = [
             graphic: "error: e\n  |\n1 | ab cd\n  | -- ^^ c\n  | |\n  | a",
             short: "error: e: c",
             text_form: "error: e\n on line 1, column 4: c\n on line 1: a",
-            styled: "\u{1b}[1m\u{1b}[91merror\u{1b}[0m\u{1b}[1m: e\u{1b}[0m\n  \u{1b}[1m\u{1b}[94m|\u{1b}[0m\n\u{1b}[1m\u{1b}[94m1\u{1b}[0m \u{1b}[1m\u{1b}[94m|\u{1b}[0m ab cd\n  \u{1b}[1m\u{1b}[94m|\u{1b}[0m \u{1b}[1m\u{1b}[94m--\u{1b}[0m \u{1b}[1m\u{1b}[91m^^\u{1b}[0m \u{1b}[1m\u{1b}[91mc\u{1b}[0m\n  \u{1b}[1m\u{1b}[94m|\u{1b}[0m \u{1b}[1m\u{1b}[94m|\u{1b}[0m\n  \u{1b}[1m\u{1b}[94m|\u{1b}[0m \u{1b}[1m\u{1b}[94ma\u{1b}[0m",
+            styled: concat!(
+                "\u{1b}[1m\u{1b}[91merror\u{1b}[0m\u{1b}[1m: e\u{1b}[0m\n",
+                "  \u{1b}[1m\u{1b}[94m|\u{1b}[0m\n",
+                "\u{1b}[1m\u{1b}[94m1\u{1b}[0m \u{1b}[1m\u{1b}[94m|\u{1b}[0m ab cd\n",
+                "  \u{1b}[1m\u{1b}[94m|\u{1b}[0m \u{1b}[1m\u{1b}[94m--\u{1b}[0m \u{1b}[1m\u{1b}[91m^^\u{1b}[0m \u{1b}[1m\u{1b}[91mc\u{1b}[0m\n",
+                "  \u{1b}[1m\u{1b}[94m|\u{1b}[0m \u{1b}[1m\u{1b}[94m|\u{1b}[0m\n",
+                "  \u{1b}[1m\u{1b}[94m|\u{1b}[0m \u{1b}[1m\u{1b}[94ma\u{1b}[0m",
+            ),
         },
     ),
     (
@@ -36,7 +43,14 @@ pub const REPORTS: [(Subject, Texts); 8] = [
             graphic: "error: e\n  |\n1 | / a {\n2 | |  b\n3 | | }\n  | |_^",
             short: "error: e",
             text_form: "error: e\n on line 1 to line 3",
-            styled: "\u{1b}[1m\u{1b}[91merror\u{1b}[0m\u{1b}[1m: e\u{1b}[0m\n  \u{1b}[1m\u{1b}[94m|\u{1b}[0m\n\u{1b}[1m\u{1b}[94m1\u{1b}[0m \u{1b}[1m\u{1b}[94m|\u{1b}[0m \u{1b}[1m\u{1b}[91m/\u{1b}[0m a {\n\u{1b}[1m\u{1b}[94m2\u{1b}[0m \u{1b}[1m\u{1b}[94m|\u{1b}[0m \u{1b}[1m\u{1b}[91m|\u{1b}[0m  b\n\u{1b}[1m\u{1b}[94m3\u{1b}[0m \u{1b}[1m\u{1b}[94m|\u{1b}[0m \u{1b}[1m\u{1b}[91m|\u{1b}[0m }\n  \u{1b}[1m\u{1b}[94m|\u{1b}[0m \u{1b}[1m\u{1b}[91m|_^\u{1b}[0m",
+            styled: concat!(
+                "\u{1b}[1m\u{1b}[91merror\u{1b}[0m\u{1b}[1m: e\u{1b}[0m\n",
+                "  \u{1b}[1m\u{1b}[94m|\u{1b}[0m\n",
+                "\u{1b}[1m\u{1b}[94m1\u{1b}[0m \u{1b}[1m\u{1b}[94m|\u{1b}[0m \u{1b}[1m\u{1b}[91m/\u{1b}[0m a {\n",
+                "\u{1b}[1m\u{1b}[94m2\u{1b}[0m \u{1b}[1m\u{1b}[94m|\u{1b}[0m \u{1b}[1m\u{1b}[91m|\u{1b}[0m  b\n",
+                "\u{1b}[1m\u{1b}[94m3\u{1b}[0m \u{1b}[1m\u{1b}[94m|\u{1b}[0m \u{1b}[1m\u{1b}[91m|\u{1b}[0m }\n",
+                "  \u{1b}[1m\u{1b}[94m|\u{1b}[0m \u{1b}[1m\u{1b}[91m|_^\u{1b}[0m",
+            ),
         },
     ),
     (
@@ -47,7 +61,12 @@ pub const REPORTS: [(Subject, Texts); 8] = [
             graphic: "error: e\n  |\n1 | ...aaaaTaaaaa...\n  |        ^",
             short: "error: e",
             text_form: "error: e\n on line 1, column 31",
-            styled: "\u{1b}[1m\u{1b}[91merror\u{1b}[0m\u{1b}[1m: e\u{1b}[0m\n  \u{1b}[1m\u{1b}[94m|\u{1b}[0m\n\u{1b}[1m\u{1b}[94m1\u{1b}[0m \u{1b}[1m\u{1b}[94m|\u{1b}[0m \u{1b}[1m\u{1b}[94m...\u{1b}[0maaaaTaaaaa\u{1b}[1m\u{1b}[94m...\u{1b}[0m\n  \u{1b}[1m\u{1b}[94m|\u{1b}[0m        \u{1b}[1m\u{1b}[91m^\u{1b}[0m",
+            styled: concat!(
+                "\u{1b}[1m\u{1b}[91merror\u{1b}[0m\u{1b}[1m: e\u{1b}[0m\n",
+                "  \u{1b}[1m\u{1b}[94m|\u{1b}[0m\n",
+                "\u{1b}[1m\u{1b}[94m1\u{1b}[0m \u{1b}[1m\u{1b}[94m|\u{1b}[0m \u{1b}[1m\u{1b}[94m...\u{1b}[0maaaaTaaaaa\u{1b}[1m\u{1b}[94m...\u{1b}[0m\n",
+                "  \u{1b}[1m\u{1b}[94m|\u{1b}[0m        \u{1b}[1m\u{1b}[91m^\u{1b}[0m",
+            ),
         },
     ),
     (
@@ -58,7 +77,14 @@ pub const REPORTS: [(Subject, Texts); 8] = [
             graphic: "error: e\n  |\n1 | ab\n  | ^\n  |\n  = note: m",
             short: "error: e",
             text_form: "error: e\n on line 1\n note: m",
-            styled: "\u{1b}[1m\u{1b}[91merror\u{1b}[0m\u{1b}[1m: e\u{1b}[0m\n  \u{1b}[1m\u{1b}[94m|\u{1b}[0m\n\u{1b}[1m\u{1b}[94m1\u{1b}[0m \u{1b}[1m\u{1b}[94m|\u{1b}[0m ab\n  \u{1b}[1m\u{1b}[94m|\u{1b}[0m \u{1b}[1m\u{1b}[91m^\u{1b}[0m\n  \u{1b}[1m\u{1b}[94m|\u{1b}[0m\n  \u{1b}[1m\u{1b}[94m= \u{1b}[0m\u{1b}[1mnote\u{1b}[0m: m",
+            styled: concat!(
+                "\u{1b}[1m\u{1b}[91merror\u{1b}[0m\u{1b}[1m: e\u{1b}[0m\n",
+                "  \u{1b}[1m\u{1b}[94m|\u{1b}[0m\n",
+                "\u{1b}[1m\u{1b}[94m1\u{1b}[0m \u{1b}[1m\u{1b}[94m|\u{1b}[0m ab\n",
+                "  \u{1b}[1m\u{1b}[94m|\u{1b}[0m \u{1b}[1m\u{1b}[91m^\u{1b}[0m\n",
+                "  \u{1b}[1m\u{1b}[94m|\u{1b}[0m\n",
+                "  \u{1b}[1m\u{1b}[94m= \u{1b}[0m\u{1b}[1mnote\u{1b}[0m: m",
+            ),
         },
     ),
     (
@@ -80,7 +106,14 @@ pub const REPORTS: [(Subject, Texts); 8] = [
             graphic: "help: t\n  |\n1 | foo(x)\n  |     +\n1 | foo(y)\n  |     +",
             short: "help: t",
             text_form: "help: t\n option 1\n  on line 1, column 5 add: x\n option 2\n  on line 1, column 5 add: y",
-            styled: "\u{1b}[1m\u{1b}[96mhelp\u{1b}[0m: t\n  \u{1b}[1m\u{1b}[94m|\u{1b}[0m\n\u{1b}[1m\u{1b}[94m1\u{1b}[0m \u{1b}[1m\u{1b}[94m| \u{1b}[0mfoo(\u{1b}[92mx\u{1b}[0m)\n  \u{1b}[1m\u{1b}[94m|\u{1b}[0m     \u{1b}[92m+\u{1b}[0m\n\u{1b}[1m\u{1b}[94m1\u{1b}[0m \u{1b}[1m\u{1b}[94m| \u{1b}[0mfoo(\u{1b}[92my\u{1b}[0m)\n  \u{1b}[1m\u{1b}[94m|\u{1b}[0m     \u{1b}[92m+\u{1b}[0m",
+            styled: concat!(
+                "\u{1b}[1m\u{1b}[96mhelp\u{1b}[0m: t\n",
+                "  \u{1b}[1m\u{1b}[94m|\u{1b}[0m\n",
+                "\u{1b}[1m\u{1b}[94m1\u{1b}[0m \u{1b}[1m\u{1b}[94m| \u{1b}[0mfoo(\u{1b}[92mx\u{1b}[0m)\n",
+                "  \u{1b}[1m\u{1b}[94m|\u{1b}[0m     \u{1b}[92m+\u{1b}[0m\n",
+                "\u{1b}[1m\u{1b}[94m1\u{1b}[0m \u{1b}[1m\u{1b}[94m| \u{1b}[0mfoo(\u{1b}[92my\u{1b}[0m)\n",
+                "  \u{1b}[1m\u{1b}[94m|\u{1b}[0m     \u{1b}[92m+\u{1b}[0m",
+            ),
         },
     ),
     (
@@ -92,6 +125,17 @@ pub const REPORTS: [(Subject, Texts); 8] = [
             short: "help: t",
             text_form: "help: t\n on line 1, column 1 add: x\n on line 2, column 1",
             styled: "\u{1b}[1m\u{1b}[96mhelp\u{1b}[0m: t\n  \u{1b}[1m\u{1b}[94m|\u{1b}[0m\n\u{1b}[1m\u{1b}[94m1\u{1b}[0m \u{1b}[92m~ x\u{1b}[0ma\n\u{1b}[1m\u{1b}[94m2\u{1b}[0m \u{1b}[1m\u{1b}[94m|\u{1b}[0m c\n  \u{1b}[1m\u{1b}[94m|\u{1b}[0m",
+        },
+    ),
+    (
+        Subject::Unset,
+        Texts {
+            name: "a title whose level has no name, with an id that has neither text nor address",
+            width: DEFAULT_TERM_WIDTH,
+            graphic: "e",
+            short: "e",
+            text_form: "e",
+            styled: "\u{1b}[1me\u{1b}[0m",
         },
     ),
 ];

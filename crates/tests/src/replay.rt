@@ -327,7 +327,7 @@ fn tells_the_cases_that_differ(rt: HostRuntime) -> Result<(), Fail> {
 }
 
 /// Worked rows of each subject and each form.
-const ROWS: &str =
+const ROWS: &str = concat!(
     r#"{"id": "unused-variable", "groups": [{"title": {"level": {"kind": "error"}, "text": "unused", "primary": true}, "elements": [{"cause": {"source": "let x = 1;", "annotations": [{"kind": "primary", "start": 4, "end": 5, "label": "here"}]}}]}]}
 {"id": "wide-characters", "groups": [{"title": {"level": {"kind": "error"}, "text": "e", "primary": true}, "elements": [{"cause": {"source": "\u65e5\u672c", "annotations": [{"kind": "primary", "start": 3, "end": 6}]}}]}]}
 {"id": "label-below-and-beside", "groups": [{"title": {"level": {"kind": "error"}, "text": "e", "primary": true}, "elements": [{"cause": {"source": "ab cd", "annotations": [{"kind": "context", "start": 0, "end": 2, "label": "a"}, {"kind": "primary", "start": 3, "end": 5, "label": "c"}]}}]}]}
@@ -335,15 +335,19 @@ const ROWS: &str =
 {"id": "elided-lines", "groups": [{"title": {"level": {"kind": "error"}, "text": "e", "primary": true}, "elements": [{"cause": {"source": "a\nb\nc\nd", "annotations": [{"kind": "primary", "start": 0, "end": 1}, {"kind": "context", "start": 6, "end": 7}]}}]}]}
 {"id": "replacement", "groups": [{"title": {"level": {"kind": "help"}, "text": "use this", "primary": false}, "elements": [{"suggestion": {"source": "foo", "patches": [{"start": 0, "end": 3, "text": "bar"}]}}]}]}
 {"id": "note-below-a-snippet", "groups": [{"title": {"level": {"kind": "error"}, "text": "e", "primary": true}, "elements": [{"cause": {"source": "ab", "annotations": [{"kind": "primary", "start": 0, "end": 1}]}}, {"message": {"level": {"kind": "note"}, "text": "m"}}]}]}
-{"id": "two-paths", "groups": [{"title": {"level": {"kind": "error"}, "text": "e", "primary": true}, "elements": [{"cause": {"source": "ab", "annotations": [{"kind": "primary", "start": 0, "end": 1}], "path": "a.rs"}}, {"cause": {"source": "cd", "annotations": [{"kind": "context", "start": 0, "end": 1}], "path": "b.rs"}}]}]}
+{"id": "two-paths", "groups": [{"title": {"level": {"kind": "error"}, "text": "e", "primary": true}, "elements": [{"cause": {"source": "ab", "annotations": [{"kind": "primary", "start": 0, "end": 1}], "path": "a.rs"}}, "#,
+    r#"{"cause": {"source": "cd", "annotations": [{"kind": "context", "start": 0, "end": 1}], "path": "b.rs"}}]}]}
 {"id": "linked-id", "groups": [{"title": {"level": {"kind": "error"}, "text": "e", "primary": true, "id": "E1", "url": "u"}, "elements": []}], "settings": {"hyperlink": true}}
 {"id": "path-short-form", "groups": [{"title": {"level": {"kind": "error"}, "text": "unused", "primary": true}, "elements": [{"cause": {"source": "let x = 1;", "annotations": [{"kind": "primary", "start": 4, "end": 5, "label": "here"}], "path": "a.rs"}}]}], "settings": {"short_message": true}}
-{"id": "short-form-with-labels", "groups": [{"title": {"level": {"kind": "error"}, "text": "e", "primary": true}, "elements": [{"cause": {"source": "abcdef", "annotations": [{"kind": "primary", "start": 0, "end": 1, "label": "p"}, {"kind": "primary", "start": 2, "end": 3, "label": "q"}, {"kind": "context", "start": 4, "end": 5, "label": "r"}], "path": "a.rs"}}]}], "settings": {"short_message": true}}
+{"id": "short-form-with-labels", "groups": [{"title": {"level": {"kind": "error"}, "text": "e", "primary": true}, "elements": [{"cause": {"source": "abcdef", "annotations": [{"kind": "primary", "start": 0, "end": 1, "label": "p"}, "#,
+    r#"{"kind": "primary", "start": 2, "end": 3, "label": "q"}, {"kind": "context", "start": 4, "end": 5, "label": "r"}], "path": "a.rs"}}]}], "settings": {"short_message": true}}
 {"id": "path-text-form", "groups": [{"title": {"level": {"kind": "error"}, "text": "unused", "primary": true}, "elements": [{"cause": {"source": "let x = 1;", "annotations": [{"kind": "primary", "start": 4, "end": 5, "label": "here"}], "path": "a.rs"}}]}], "settings": {"no_graphics": true}}
-{"id": "two-offers-text-form", "groups": [{"title": {"level": {"kind": "help"}, "text": "t", "primary": false}, "elements": [{"suggestion": {"source": "foo()", "patches": [{"start": 4, "end": 4, "text": "x"}]}}, {"suggestion": {"source": "foo()", "patches": [{"start": 4, "end": 4, "text": "y"}]}}]}], "settings": {"no_graphics": true}}
+{"id": "two-offers-text-form", "groups": [{"title": {"level": {"kind": "help"}, "text": "t", "primary": false}, "elements": [{"suggestion": {"source": "foo()", "patches": [{"start": 4, "end": 4, "text": "x"}]}}, "#,
+    r#"{"suggestion": {"source": "foo()", "patches": [{"start": 4, "end": 4, "text": "y"}]}}]}], "settings": {"no_graphics": true}}
 {"id": "text-form-of-two-lines", "groups": [{"title": {"level": {"kind": "error"}, "text": "e", "primary": true}, "elements": [{"cause": {"source": "f(a,\n b)", "annotations": [{"kind": "primary", "start": 1, "end": 8, "label": "x"}]}}]}], "settings": {"no_graphics": true}}
 {"id": "empty-report", "groups": []}
-"#;
+"#,
+);
 
 /// The texts that they have to give.
 const ROW_TEXTS: &str =

@@ -29,8 +29,36 @@ const TWO_LINES: &str =
     "warning: trailing blanks\n --> a.rs:1:2\n  |\n1 | x  \n  |  ^^\n  |\nhelp: apply this\n  |\n1 | x\n  |\nwarning: tab\n --> a.rs:2:1\n  |\n2 |     y\n  | ^^^^\nhelp: apply this\n  |\n2 |     y\n  | ++++\n";
 
 /// All three rules find something in one line.
-const THREE_RULES: &str =
-    "warning: trailing blanks\n --> a.rs:1:3\n  |\n1 |     x \n  |      ^\n  |\nhelp: apply this\n  |\n1 |     x\n  |\nwarning: tab\n --> a.rs:1:1\n  |\n1 |     x \n  | ^^^^\nhelp: apply this\n  |\n1 |     x \n  | ++++\nwarning: no final line end\n --> a.rs:1:4\n  |\n1 |     x \n  |       ^\nhelp: apply this\n  |\n1 |     x \n  |       +\n";
+const THREE_RULES: &str = concat!(
+    "warning: trailing blanks\n",
+    " --> a.rs:1:3\n",
+    "  |\n",
+    "1 |     x \n",
+    "  |      ^\n",
+    "  |\n",
+    "help: apply this\n",
+    "  |\n",
+    "1 |     x\n",
+    "  |\n",
+    "warning: tab\n",
+    " --> a.rs:1:1\n",
+    "  |\n",
+    "1 |     x \n",
+    "  | ^^^^\n",
+    "help: apply this\n",
+    "  |\n",
+    "1 |     x \n",
+    "  | ++++\n",
+    "warning: no final line end\n",
+    " --> a.rs:1:4\n",
+    "  |\n",
+    "1 |     x \n",
+    "  |       ^\n",
+    "help: apply this\n",
+    "  |\n",
+    "1 |     x \n",
+    "  |       +\n",
+);
 
 /// A blank before CR LF.
 const BEFORE_CR: &str =
