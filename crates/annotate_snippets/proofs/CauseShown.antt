@@ -37,10 +37,13 @@ use Rattle.annotate_snippets.specs.Page.{IsAscending, NamedRow, cells_of, others
 use Rattle.annotate_snippets.specs.Prepared.{IsDrawable}
 use Rattle.annotate_snippets.specs.Rows.{cause_head, closing_rows, origin_layout, place_found, place_named, rows_after_cause, separator_rows}
 use Rattle.annotate_snippets.specs.Shown.{NamesLocation}
+use Rattle.annotate_snippets.specs.Feeds.{HasNoFeed}
 use Rattle.annotate_snippets.proofs.ElementShown.{ElementShown}
 use Rattle.annotate_snippets.proofs.GutterLemmas.{numbers_fit}
+use Rattle.annotate_snippets.proofs.LineFeedLaws.{lines_one_line}
 use Rattle.annotate_snippets.proofs.PageLemmas.{cells_of-append, cells_of-others, named_lines}
 use Rattle.annotate_snippets.proofs.PartsFacts.{ends_shown, shown_ascending, shown_within}
+use Rattle.annotate_snippets.proofs.PathFeedLaws.{after_one_line, head_one_line}
 
 -- where a snippet of the group's primary file has a path, its first row is that of the path
 path_first : (layout : OriginLayout) (primary first : Bool) (named : Option (List ℕ)) (place : OriginLocation) (more : List NamedRow) (path : List ℕ)
@@ -145,4 +148,8 @@ cause_shown r frame around s rows drawable room drawn =
         begins = named.begins;
       };
       free = free_named part (subst (All IsFree) (sym (cells ∙ drawn.rows_are)) all_free);
+      one_line = λ plain.
+          let lines : All HasNoFeed drawn.lines = subst (All HasNoFeed) named.cells (lines_one_line r frame (closes_with around) s named.part named.are named.drawn named.begins are.utf8 plain.1) in
+          let below : All HasNoFeed (drawn.lines ++ tail) = All-append HasNoFeed drawn.lines tail lines (after_one_line r frame around) in
+          subst (All HasNoFeed) (sym drawn.rows_are) (All-append HasNoFeed head (drawn.lines ++ tail) (head_one_line r frame around s plain.0) below);
     }

@@ -34,9 +34,11 @@ use Rattle.annotate_snippets.specs.declared.renderer.frame.Frame.{Frame}
 use Rattle.annotate_snippets.specs.declared.renderer.element_context.GroupPosition.{GroupPosition}
 use Rattle.annotate_snippets.specs.declared.renderer.element_context.Next.{Next}
 use Rattle.annotate_snippets.specs.declared.renderer.element_context.ElementContext.{ElementContext}
+use Rattle.annotate_snippets.specs.Feeds.{HasNoFeed, IsOneLineElement}
 use Rattle.annotate_snippets.proofs.CauseShown.{cause_shown}
 use Rattle.annotate_snippets.proofs.ElementShown.{ElementShown}
 use Rattle.annotate_snippets.proofs.GroupShown.{GroupShown}
+use Rattle.annotate_snippets.proofs.HeadingFeedLaws.{title_part-one_line}
 use Rattle.annotate_snippets.proofs.HeadingShown.{message_shown, origin_shown, padding_shown, title_shown}
 use Rattle.annotate_snippets.proofs.SuggestionShown.{suggestion_shown}
 use Rattle.annotate_snippets.proofs.TrustedLemmas.{AreTextsAmong, IsFreeRow, after_title-free, element-free, free_text, texts_among, title_part-free}
@@ -126,6 +128,7 @@ module _ (r : Renderer) (frame : Frame) (place : GroupPosition) (file : Option (
     cells : cells_of part ≡ get_or parts i []
     shows : ShowsElement r frame (context_at place file es i e) e part
     free : IsFreeElement e part
+    one_line : IsOneLineElement e → All HasNoFeed (cells_of part)
 
   -- the parts with names
   record AreNamed : Type 0 where
@@ -143,7 +146,7 @@ module _ (r : Renderer) (frame : Frame) (place : GroupPosition) (file : Option (
         (subst IsElementDrawable own (All-get_or IsElementDrawable es i e within drawable))
         (subst (λ x. is_drawn x ≡ true) own (All-get_or (λ x. is_drawn x ≡ true) es i e within drawn))
         (subst (HasRoomFor r frame) own (All-get_or (HasRoomFor r frame) es i e within room)) (are.each i e is) in
-        (shown.part, record { cells = shown.cells; shows = shown.shows; free = shown.free })
+        (shown.part, record { cells = shown.cells; shows = shown.shows; free = shown.free; one_line = λ plain. subst (All HasNoFeed) (sym shown.cells) (shown.one_line plain) })
 
     named_parts : AreNamed
     named_parts =
@@ -191,6 +194,16 @@ module _ (r : Renderer) (frame : Frame) (place : GroupPosition) (file : Option (
           let texts : AreTextsAmong trusted (trusted_of_element e.0) = subst (λ x. AreTextsAmong trusted (trusted_of_element x)) own (All-get_or (λ x. AreTextsAmong trusted (trusted_of_element x)) es i e.0 (slice_get_within es i e.0 e.1) among) in
           element-free trusted e.0 (get_or names.named i []) texts (names.each i e.0 e.1).free
 
+  -- and no line feed, where no text of the elements brings one
+  parts-one_line : (names : AreNamed) → All IsOneLineElement es → All HasNoFeed (flat_map cells_of names.named)
+  parts-one_line names plain = All-flat_map HasNoFeed cells_of names.named [] each
+    where
+      each : (i : ℕ) → i < length names.named → All HasNoFeed (cells_of (get_or names.named i []))
+      each i within =
+          let e = element_at names i within in
+          let own : get_or es i e.0 ≡ e.0 = get_or_from_slice_get es i e.0 e.0 e.1 in
+          (names.each i e.0 e.1).one_line (subst IsOneLineElement own (All-get_or IsOneLineElement es i e.0 (slice_get_within es i e.0 e.1) plain))
+
 -- the rows of a group show it: each part that is drawn shows its element
 pub group_shown : (r : Renderer) (frame : Frame) (place : GroupPosition) (file : Option (List ℕ)) (g : Group) (rows : List (List Cell)) → IsGroupDrawable g → All (HasRoomFor r frame) (drawn_elements g) → IsGroupGrid r frame place file g rows → GroupShown r frame place file g rows
 group_shown r frame place file g rows drawable room grid =
@@ -213,4 +226,6 @@ group_shown r frame place file g rows drawable room grid =
       };
       links = ap links_of rows_are ∙ links-append title below (parts-unlinked r frame place file es parts names) ∙ title_part-links r frame place (next_of es) g.title;
       free = subst (λ ts. IsFreeBut ts (plain_text rows)) (sym (append-nil (titles ++ texts))) (free_text (titles ++ texts) rows (subst (All (IsFreeRow (titles ++ texts))) (sym rows_are) free));
+      one_line = λ plain. All-append HasNoFeed title below (title_part-one_line r frame place (next_of es) g.title plain.0)
+          (parts-one_line r frame place file es parts names (All-filter is_drawn IsOneLineElement g.elements.items plain.1));
     }

@@ -9,6 +9,7 @@ use Rattle.snippet_model.specs.declared.snippet.Group.{Group}
 use Rattle.snippet_model.specs.declared.snippet.Title.{Title}
 use Rattle.snippet_model.specs.Trusted.{trusted_texts}
 use Rattle.snippet_titles.specs.Title.{id_links}
+use Rattle.annotate_snippets.specs.Feeds.{HasOneLineRows, IsOneLineGroup}
 use Rattle.annotate_snippets.specs.Page.{GroupPage, group_rows}
 use Rattle.annotate_snippets.specs.Shown.{IsFreeBut, ShowsGroup}
 use Rattle.annotate_snippets.specs.declared.renderer.Renderer.{Renderer}
@@ -16,10 +17,11 @@ use Rattle.annotate_snippets.specs.declared.renderer.frame.Frame.{Frame}
 use Rattle.annotate_snippets.specs.declared.renderer.element_context.GroupPosition.{GroupPosition}
 
 -- rows that show a group once they have names: they link to what its title links to, and each listed character of them is one of
--- its trusted texts
+-- its trusted texts; and they hold no line feed, where its texts bring none
 pub record GroupShown (r : Renderer) (frame : Frame) (place : GroupPosition) (file : Option (List ℕ)) (g : Group) (rows : List (List Cell)) : Type 0 where
   pub page : GroupPage
   pub rows_are : rows ≡ group_rows page
   pub shows : ShowsGroup r frame place file g page
   pub links : links_of rows ≡ flat_map (λ (t : Title). id_links r.hyperlink t.id) (option_to_list g.title)
   pub free : IsFreeBut (trusted_texts (g ∷ [])) (plain_text rows)
+  pub one_line : IsOneLineGroup g → HasOneLineRows page

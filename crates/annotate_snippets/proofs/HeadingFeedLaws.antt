@@ -1,5 +1,5 @@
 -- The rows of a title or message hold a line feed only where its level's name or its id does: its text is cut at each.
-use Rattle.std.proofs.Common.{◌≡◌, ℕ, ◌+◌, ◌==◌, ◌&&◌, not, Bool, true, false, Option, None, Some, List, [], ◌∷◌, ◌++◌, All, chars, map, replicate, codes, refl, sym, subst}
+use Rattle.std.proofs.Common.{◌≡◌, ℕ, ◌+◌, ◌==◌, ◌&&◌, not, Bool, true, false, cond, IfSome, Option, None, Some, List, [], ◌∷◌, ◌++◌, All, chars, map, replicate, codes, refl, sym, subst}
 use Rattle.std.specs.Cow.{cow_str_bytes}
 use Rattle.std.specs.List.{onto_first, slice_split}
 use Rattle.std.specs.Option.{option_map}
@@ -12,27 +12,31 @@ use Rattle.snippet_style.specs.declared.glyphs.DecorStyle.TheVariants.{Ascii, Un
 use Rattle.snippet_style.specs.declared.role.ElementStyle.{ElementStyle}
 use Rattle.snippet_style.specs.declared.role.ElementStyle.TheVariants.{LineNumber}
 use Rattle.snippet_text.specs.Normalized.{norm}
-use Rattle.snippet_model.specs.Heading.{Heading, is_hidden}
+use Rattle.snippet_model.specs.Heading.{Heading, heading_of_title, is_hidden}
 use Rattle.snippet_model.specs.Level.{name_of}
 use Rattle.snippet_model.specs.declared.snippet.Id.{Id}
+use Rattle.snippet_model.specs.declared.snippet.Title.{Title as TitleGiven}
 use Rattle.snippet_titles.specs.Heading.{address_of, bracketed_cells, closing_of, colon_of, heading_lines, heading_rows, id_cells, indent_cells, is_set, label_cells, label_width, linked_to, lines_below, note_bar_of, note_sign_of, opening_of, roles_of, shown_text, sign_cells}
+use Rattle.snippet_titles.specs.Title.{title_rows}
 use Rattle.snippet_titles.specs.declared.style.HeadingRoles.{HeadingRoles}
 use Rattle.snippet_titles.specs.declared.style.TitleStyle.{TitleStyle}
 use Rattle.snippet_titles.specs.declared.style.TitleStyle.TheVariants.{Message, Short, Title}
 use Rattle.snippet_titles.proofs.FreeLemmas.{All-trimmed}
-use Rattle.annotate_snippets.proofs.FeedLaws.{HasNoFeed, HoldsNoFeed, IsNoFeed, after_spaces}
-use Rattle.annotate_snippets.proofs.PathFeedLaws.{HasPlainText, alone, cells_plain, choice, norm_plain}
+use Rattle.annotate_snippets.specs.declared.renderer.Renderer.{Renderer}
+use Rattle.annotate_snippets.specs.declared.renderer.frame.Frame.{Frame}
+use Rattle.annotate_snippets.specs.declared.renderer.element_context.GroupPosition.{GroupPosition}
+use Rattle.annotate_snippets.specs.declared.renderer.element_context.Next.{Next as NextElement}
+use Rattle.annotate_snippets.specs.Around.{is_before_message}
+use Rattle.annotate_snippets.specs.Feeds.{HasNoFeed, HoldsNoFeed, IsNoFeed, IsOneLineId, IsOneLineName, IsOneLineText, IsOneLineTitle}
+use Rattle.annotate_snippets.specs.Rows.{closing_rows, rows_after_title, separator_rows, title_part}
+use Rattle.annotate_snippets.proofs.FeedLaws.{after_spaces, bare_plain}
+use Rattle.annotate_snippets.proofs.PathFeedLaws.{alone, cells_plain, choice, closing_plain as closing_rows-plain, norm_plain}
 
 -- ---- the label
 
--- an id's text holds no line feed, if there is one; and neither does the name of a heading's level
-abbrev pub HasPlainId : Option Id → Type 0
-HasPlainId None = Unit {0}
-HasPlainId (Some id) = HasPlainText (option_map cow_str_bytes id.id)
-
-pub record HasPlainLabel (heading : Heading) : Type 0 where
-  pub name : All IsNoFeed (chars (name_of heading.level))
-  pub id : HasPlainId heading.id
+-- neither the name of a heading's level nor the text of its id, if there is one, holds a line feed
+abbrev pub IsOneLineHeading : Heading → Type 0
+IsOneLineHeading heading = IsOneLineName heading.level × IsOneLineId heading.id
 
 linked_plain : (address : Option (List ℕ)) (cells : List Cell) → HasNoFeed cells → HasNoFeed (linked_to address cells)
 linked_plain None cells plain = plain
@@ -46,7 +50,7 @@ closing_plain : (hidden : Bool) → All IsNoFeed (closing_of hidden)
 closing_plain true = All-nil IsNoFeed
 closing_plain false = alone 93 refl
 
-brackets_plain : (hidden : Bool) (role : ElementStyle) (address text : Option (List ℕ)) → HasPlainText text → HasNoFeed (bracketed_cells hidden role address text)
+brackets_plain : (hidden : Bool) (role : ElementStyle) (address text : Option (List ℕ)) → IsOneLineText text → HasNoFeed (bracketed_cells hidden role address text)
 brackets_plain hidden role address None plain = All-nil HoldsNoFeed
 brackets_plain hidden role address (Some text) plain =
     let own : List Cell = linked_to address (text_cells role (norm (chars text))) in
@@ -55,7 +59,7 @@ brackets_plain hidden role address (Some text) plain =
     (linked_plain address (text_cells role (norm (chars text))) (cells_plain role (norm (chars text)) (norm_plain (chars text) plain))) in
     All-append HoldsNoFeed (text_cells role (opening_of hidden) ++ own) (text_cells role (closing_of hidden)) opened (cells_plain role (closing_of hidden) (closing_plain hidden))
 
-id_plain : (hyperlink hidden : Bool) (role : ElementStyle) (id : Option Id) → HasPlainId id → HasNoFeed (id_cells hyperlink hidden role id)
+id_plain : (hyperlink hidden : Bool) (role : ElementStyle) (id : Option Id) → IsOneLineId id → HasNoFeed (id_cells hyperlink hidden role id)
 id_plain hyperlink hidden role None plain = All-nil HoldsNoFeed
 id_plain hyperlink hidden role (Some id) plain =
     brackets_plain hidden role (address_of hyperlink id) (option_map cow_str_bytes id.id) plain
@@ -64,13 +68,13 @@ colon_plain : (hidden : Bool) (id : Option Id) → All IsNoFeed (colon_of hidden
 colon_plain hidden id =
     choice (hidden && not (is_set id)) [] (codes ": ") (All-nil IsNoFeed) (All-cons IsNoFeed 58 (32 ∷ []) refl (alone 32 refl))
 
-label_plain : (hyperlink : Bool) (roles : HeadingRoles) (heading : Heading) → HasPlainLabel heading → HasNoFeed (label_cells hyperlink roles heading)
+label_plain : (hyperlink : Bool) (roles : HeadingRoles) (heading : Heading) → IsOneLineHeading heading → HasNoFeed (label_cells hyperlink roles heading)
 unfolding label_cells
 label_plain hyperlink roles heading plain =
     let hidden : Bool = is_hidden heading.level.name in
     let name : List ℕ = norm (chars (name_of heading.level)) in
     let id : List Cell = id_cells hyperlink hidden roles.label heading.id in
-    let named : HasNoFeed (text_cells roles.label name ++ id) = All-append HoldsNoFeed (text_cells roles.label name) id (cells_plain roles.label name (norm_plain (chars (name_of heading.level)) plain.name)) (id_plain hyperlink hidden roles.label heading.id plain.id) in
+    let named : HasNoFeed (text_cells roles.label name ++ id) = All-append HoldsNoFeed (text_cells roles.label name) id (cells_plain roles.label name (norm_plain (chars (name_of heading.level)) plain.0)) (id_plain hyperlink hidden roles.label heading.id plain.1) in
     All-append HoldsNoFeed (text_cells roles.label name ++ id) (text_cells roles.colon (colon_of hidden heading.id)) named (cells_plain roles.colon (colon_of hidden heading.id) (colon_plain hidden heading.id))
 
 -- ---- what stands before it, and below
@@ -104,7 +108,7 @@ indent_plain (Message place) width =
 
 -- ---- the lines of a text
 
--- parts of a text that is cut at each line feed hold none
+-- a character before the first of such parts
 onto_plain : (c : ℕ) (parts : List (List ℕ)) → IsNoFeed c → All (All IsNoFeed) parts → All (All IsNoFeed) (onto_first c parts)
 onto_plain c [] plain all = All-cons (All IsNoFeed) (c ∷ []) [] (alone c plain) (All-nil (All IsNoFeed))
 onto_plain c (part ∷ parts) plain all =
@@ -116,7 +120,8 @@ one_more c cs true is all =
 one_more c cs false is all =
     subst (All (All IsNoFeed)) (sym (slice_split-cons_no (λ x. x == 10) c cs is)) (onto_plain c (slice_split (λ x. x == 10) cs) is all)
 
-parts_plain : (cs : List ℕ) → All (All IsNoFeed) (slice_split (λ x. x == 10) cs)
+-- no part of a text that is cut at each line feed holds one
+pub parts_plain : (cs : List ℕ) → All (All IsNoFeed) (slice_split (λ x. x == 10) cs)
 parts_plain [] = All-cons (All IsNoFeed) [] [] (All-nil IsNoFeed) (All-nil (All IsNoFeed))
 parts_plain (c ∷ cs) = one_more c cs (c == 10) refl (parts_plain cs)
 
@@ -132,7 +137,7 @@ lines_plain first further role (line ∷ lines) begun below all =
     All-cons HasNoFeed (first ++ text_cells role line) rest (after_plain first role line begun (All-head (All IsNoFeed) line lines all)) (All-map HasNoFeed (λ l. further ++ text_cells role l) lines (λ k d within. after_plain further role _ below (later k d within)))
 
 -- so no row of a title or message holds one, whatever its text is, where its level's name and its id hold none
-pub heading_one_line : (hyperlink : Bool) (style : TitleStyle) (heading : Heading) → HasPlainLabel heading → All HasNoFeed (heading_rows hyperlink style heading)
+pub heading_one_line : (hyperlink : Bool) (style : TitleStyle) (heading : Heading) → IsOneLineHeading heading → All HasNoFeed (heading_rows hyperlink style heading)
 unfolding heading_rows
 heading_one_line hyperlink style heading plain =
     let roles : HeadingRoles = roles_of style heading.level.kind heading.allows_styling in
@@ -141,3 +146,15 @@ heading_one_line hyperlink style heading plain =
     let indent : List Cell = indent_cells style (label_width heading) in
     let begun : HasNoFeed (sign ++ label) = All-append HoldsNoFeed sign label (sign_plain style) (label_plain hyperlink roles heading plain) in
     All-trimmed HasNoFeed (lines_below (sign ++ label) indent roles.text (heading_lines heading)) (lines_plain (sign ++ label) indent roles.text (heading_lines heading) begun (indent_plain style (label_width heading)) (parts_plain (shown_text heading)))
+
+-- so no row of a group's title does, and none below it
+pub title_part-one_line : (r : Renderer) (frame : Frame) (place : GroupPosition) (follows : NextElement) (title : Option TitleGiven) → IfSome title IsOneLineTitle → All HasNoFeed (title_part r frame place follows title)
+title_part-one_line r frame place follows None plain = All-nil HasNoFeed
+title_part-one_line r frame place follows (Some title) plain =
+    let own : List (List Cell) = title_rows r.hyperlink title in
+    let after : List (List Cell) = rows_after_title r frame place follows title.allows_styling in
+    All-append HasNoFeed own after (heading_one_line r.hyperlink Title (heading_of_title title) plain) (below (is_before_message follows) _)
+  where
+    below : (before closes : Bool) → All HasNoFeed (cond before (separator_rows r frame) (cond closes (closing_rows r frame) []))
+    below true closes = All-cons HasNoFeed _ [] (bare_plain r.decor_style frame.gutter false) (All-nil HasNoFeed)
+    below false closes = closing_rows-plain r frame closes

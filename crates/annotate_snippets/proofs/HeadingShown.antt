@@ -34,8 +34,11 @@ use Rattle.annotate_snippets.specs.declared.renderer.frame.Frame.{Frame}
 use Rattle.annotate_snippets.specs.declared.renderer.element_context.GroupPosition.{GroupPosition}
 use Rattle.annotate_snippets.specs.declared.renderer.element_context.Next.{Next}
 use Rattle.annotate_snippets.specs.declared.renderer.element_context.ElementContext.{ElementContext}
+use Rattle.annotate_snippets.specs.Feeds.{HasNoFeed}
 use Rattle.annotate_snippets.proofs.ElementShown.{ElementShown}
+use Rattle.annotate_snippets.proofs.HeadingFeedLaws.{heading_one_line}
 use Rattle.annotate_snippets.proofs.PageLemmas.{cells_of-others}
+use Rattle.annotate_snippets.proofs.PathFeedLaws.{origin_one_line, padding_one_line}
 
 -- what holds of rows holds of them with names
 pub others-each : (P : List Cell → Type 0) (rows : List (List Cell)) → All P rows → All (λ (row : NamedRow). P row.cells) (others rows)
@@ -65,6 +68,7 @@ message_shown r frame around message rows are =
         shows = subst (ShowsHeading r.hyperlink (message_style r frame around) heading) (sym (cells_of-others rows)) shows;
       };
       free = others-each (IsFreeButText heading) rows shows.free;
+      one_line = λ plain. subst (All HasNoFeed) (sym are) (heading_one_line r.hyperlink (message_style r frame around) heading (plain, tt));
     }
 
 -- those of an origin
@@ -86,6 +90,7 @@ origin_shown r frame around origin rows are =
         text = ap (λ (rs : List (List Cell)). row_text (drop (frame.gutter + 4) (row_at (cells_of (others rs)) 0))) are ∙ origin_row-text (origin_layout r frame) (origin_start around) path (place_given origin);
       };
       free = others-each IsFree rows (subst (All IsFree) (sym are) free);
+      one_line = λ plain. subst (All HasNoFeed) (sym are) (origin_one_line r frame around origin plain);
     }
 
 -- and that of a padding
@@ -98,6 +103,7 @@ padding_shown r frame around padding rows are =
       cells = cells_of-others rows;
       shows = ap others are;
       free = others-each IsFree rows (subst (All IsFree) (sym are) free);
+      one_line = λ plain. subst (All HasNoFeed) (sym are) (padding_one_line r frame (is_end around.next));
     }
 
 -- the title's part of a group shows the title

@@ -18,12 +18,14 @@ pub mod HeadingFeedLaws
 pub mod HeadingShown
 pub mod LabelLemmas
 pub mod LeftLaws
+pub mod LineFeedLaws
 pub mod LineLemmas
 pub mod ListLemmas
 pub mod MarkLemmas
 pub mod NotDrawn
 pub mod NotLabelled
 pub mod NotOffered
+pub mod NotOneLine
 pub mod NotShown
 pub mod NotSuggested
 pub mod NotWhole
@@ -41,9 +43,11 @@ pub mod RoomLemmas
 pub mod ShortLemmas
 pub mod ShortShown
 pub mod SourceFeedLaws
+pub mod SuggestFeedLaws
 pub mod SuggestionLemmas
 pub mod SuggestionShown
 pub mod ContextLemmas
+pub mod TextLineLaws
 pub mod TextShown
 pub mod TrustedLemmas
 pub mod WalkLemmas

@@ -4,8 +4,10 @@ use Rattle.std.specs.Prelude.{OnOk}
 use Rattle.std.specs.declared.alloc.AllocError.{AllocError}
 use Rattle.std.specs.declared.result.Result.{Result}
 use Rattle.std.specs.Fmt.{decimal}
+use Rattle.std.specs.Cow.{cow_str_bytes}
 use Rattle.std.specs.List.{AllZip, flat_map, list_all, list_any}
 use Rattle.std.specs.Option.{is_some, option_to_list}
+use Rattle.std.specs.Str.{IsUtf8}
 use Rattle.std.proofs.lemmas.Bool.Decides.{nat_tests}
 use Rattle.std.proofs.lemmas.List.{append_cancel_left, append-nil}
 use Rattle.snippet_grid.proofs.OutcomeLemmas.{on_ok_two}
@@ -25,7 +27,7 @@ use Rattle.snippet_model.specs.declared.snippet.Snippet.{Snippet}
 use Rattle.snippet_suggest.specs.declared.SuggestionLayout.{SuggestionLayout}
 use Rattle.snippet_suggest.specs.declared.SuggestionStart.{SuggestionStart}
 use Rattle.snippet_suggest.specs.declared.SuggestionStart.TheVariants.{Opening, Next, Path}
-use Rattle.snippet_suggest.specs.Given.{counted_line, first_given, given_lines}
+use Rattle.snippet_suggest.specs.Given.{counted_line, first_given, given_lines, given_text}
 use Rattle.snippet_suggest.specs.Order.{Ends, SuggestionRow, rows_of_suggestion}
 use Rattle.snippet_suggest.specs.Rows.{AddsSuggestion, HasGutter, IsStart, IsStrokeRow, IsTail, Shows, begin_glyph, beside_gutter, is_stroke, rows_shared}
 use Rattle.snippet_suggest.specs.Suggested.{body_cells, cells_of as row_cells, suggestion_cells}
@@ -140,11 +142,11 @@ snoc_parts (a ∷ xs) (b ∷ ys) x y same =
 
 -- the rows of a suggestion below those that it begins with are the element's: its last row is its own, or the next one begins in it
 pub suggestion_added : (r : Renderer) (frame : Frame) (around : ElementContext) (s : Snippet Patch) (under : List Cell) (above new : List (List Cell))
-    → IsUnder r frame around.start under → AddsSuggestion (suggestion_layout r frame s) around.start (follows around)
-    s (above ++ suggestion_head r frame around s) new
+    → IsUtf8 (cow_str_bytes s.source) → IsUtf8 (given_text s) → IsUnder r frame around.start under
+    → AddsSuggestion (suggestion_layout r frame s) around.start (follows around) s (above ++ suggestion_head r frame around s) new
     → new ≡ (above ++ suggestion_head r frame around s) ++ suggestion_cells (suggestion_layout r frame s) around.start (follows around) s under
     → AddsElement r frame around (Suggestion s) above new
-suggestion_added r frame around s under above new found adds drawn = at around.shared refl
+suggestion_added r frame around s under above new utf8 given_utf8 found adds drawn = at around.shared refl
   where
     -- the rows are those of its value
     parts : (adds.rows ≡ body_cells (suggestion_layout r frame s) around.start s under) × (adds.last ≡ row_cells (suggestion_layout r frame s) s [] (Ends (follows around)))
@@ -167,6 +169,8 @@ suggestion_added r frame around s under above new found adds drawn = at around.s
           tail = adds.last ∷ [];
           added = adds.added ∙ append_assoc above head (adds.rows ++ adds.last ∷ []) ∙ ap (λ rows. above ++ rows) (sym (append_assoc head adds.rows (adds.last ∷ [])));
           is = record {
+            utf8 = utf8;
+            given_utf8 = given_utf8;
             lines = adds.rows;
             rows_are = refl;
             are = subst (λ shown. AllZip IsShown shown adds.rows) (sym (ap ends shares ∙ append-nil (rows_of_suggestion around.start s))) adds.are;
@@ -190,6 +194,8 @@ suggestion_added r frame around s under above new found adds drawn = at around.s
           tail = [];
           added = adds.added ∙ append_assoc above head lines ∙ ap (λ rows. above ++ rows) (sym (append-nil (head ++ lines)));
           is = record {
+            utf8 = utf8;
+            given_utf8 = given_utf8;
             lines = lines;
             rows_are = refl;
             are = subst (λ shown. AllZip IsShown shown lines) (sym (ap ends shares)) (zip_push IsShown (rows_of_suggestion around.start s) adds.rows (Ends (follows around)) adds.last adds.are adds.last_is);
@@ -219,15 +225,16 @@ DrawsCells s at next mid new result layout =
 -- the rows of a suggestion stand below what is there
 pub patches_added : (r : Renderer) (frame : Frame) (around : ElementContext) (s : Snippet Patch) (above tail old mid new : List (List Cell))
     (numbers : LineNumbers) (next : Bool) (result : Result (Unit {0}) AllocError) → numbers ≡ line_numbers r s.line_numbering → next ≡ follows around
-    → s.markers.items ≢ [] → HasRoomFor r frame (Suggestion s) → old ≡ above ++ tail
+    → s.markers.items ≢ [] → IsUtf8 (cow_str_bytes s.source) → IsUtf8 (given_text s) → HasRoomFor r frame (Suggestion s) → old ≡ above ++ tail
     → IsTail r.decor_style frame.gutter (begins_in_row_above around) tail → HasPathFor around.start s
     → (around.start ≡ Path → mid ≡ old ++ path_head r frame around.first s) → ((around.start ≡ Path → ⊥) → mid ≡ old)
     → DrawsBelow s around.start next mid new result (layout_with r frame numbers)
     → DrawsCells s around.start next mid new result (layout_with r frame numbers) → OnOk result (AddsElement r frame around (Suggestion s) above new)
-patches_added r frame around s above tail old mid new numbers next result numbers_are next_is some room is tail_is path headed same draws draws_cells =
+patches_added r frame around s above tail old mid new numbers next result numbers_are next_is some utf8 given_utf8 room is tail_is path headed same draws draws_cells =
     let begun = begun_below r frame around.start around.first s above tail old mid is tail_is path headed same in
     let Draws : Bool → SuggestionLayout → Type 0 = λ b layout. DrawsBelow s around.start b mid new result layout in
     let drawn : Draws (follows around) (suggestion_layout r frame s) = subst (λ b. Draws b (suggestion_layout r frame s)) next_is (subst (λ n. Draws next (layout_with r frame n)) numbers_are draws) in
     let Cells : Bool → SuggestionLayout → Type 0 = λ b layout. DrawsCells s around.start b mid new result layout in
     let cells : Cells (follows around) (suggestion_layout r frame s) = subst (λ b. Cells b (suggestion_layout r frame s)) next_is (subst (λ n. Cells next (layout_with r frame n)) numbers_are draws_cells) in
-    on_ok_two result (suggestion_added r frame around s (row_at begun.end 0) above new begun.found) (drawn (gutter_room r frame s some room) (above ++ suggestion_head r frame around s) begun.end begun.is begun.start) (cells (above ++ suggestion_head r frame around s) begun.end begun.is begun.count)
+    let added = suggestion_added r frame around s (row_at begun.end 0) above new utf8 given_utf8 begun.found in
+    on_ok_two result added (drawn (gutter_room r frame s some room) (above ++ suggestion_head r frame around s) begun.end begun.is begun.start) (cells (above ++ suggestion_head r frame around s) begun.end begun.is begun.count)

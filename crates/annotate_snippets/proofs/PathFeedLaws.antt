@@ -15,7 +15,7 @@ use Rattle.snippet_text.specs.Normalized.{has_control_picture, is_bidirectional_
 use Rattle.snippet_model.specs.declared.snippet.Annotation.{Annotation}
 use Rattle.snippet_model.specs.declared.snippet.Origin as origin
 use Rattle.snippet_model.specs.declared.snippet.Snippet.{Snippet}
-use Rattle.snippet_titles.specs.Origin.{file_glyph, file_row, origin_row, origin_text, place_text, snippet_head}
+use Rattle.snippet_titles.specs.Origin.{file_glyph, file_row, origin_row, origin_text, padding_row, place_text, snippet_head}
 use Rattle.snippet_titles.specs.declared.origin.FileStart.{FileStart}
 use Rattle.snippet_titles.specs.declared.origin.FileStart.TheVariants.{Alone, First, Later, Secondary}
 use Rattle.snippet_titles.specs.declared.origin.OriginLayout.{OriginLayout}
@@ -31,7 +31,8 @@ use Rattle.annotate_snippets.specs.declared.renderer.frame.Frame.{Frame}
 use Rattle.annotate_snippets.specs.Around.{closes_after, is_before_message, is_first_group, path_bytes}
 use Rattle.annotate_snippets.specs.Gutter.{numbered_source}
 use Rattle.annotate_snippets.specs.Rows.{cause_head, closing_rows, origin_layout, origin_rows, origin_start, place_given, place_named, rows_after_cause, separator_rows}
-use Rattle.annotate_snippets.proofs.FeedLaws.{HasNoFeed, HoldsNoFeed, IsNoFeed, after_spaces, bare_plain}
+use Rattle.annotate_snippets.specs.Feeds.{HasNoFeed, HoldsNoFeed, IsNoFeed, IsOneLineText}
+use Rattle.annotate_snippets.proofs.FeedLaws.{after_spaces, bare_plain}
 use Rattle.snippet_view.specs.Annotated.{annotated_lines}
 
 -- ---- characters
@@ -93,18 +94,14 @@ unfolding origin_text
 text_plain anonymized path place plain =
     All-append IsNoFeed (norm (chars path)) (place_text anonymized place) (norm_plain (chars path) plain) (place_text-each IsNoFeed digit_plain refl refl anonymized place)
 
-row_plain : (layout : OriginLayout) (start : FileStart) (path : List ℕ) (place : OriginLocation) → All IsNoFeed (chars path) → HasNoFeed (origin_row layout start path place)
+-- the row of a path that holds none holds none
+pub row_plain : (layout : OriginLayout) (start : FileStart) (path : List ℕ) (place : OriginLocation) → All IsNoFeed (chars path) → HasNoFeed (origin_row layout start path place)
 unfolding origin_row
 row_plain layout start path place plain =
     let text : List ℕ = origin_text layout.anonymized path place in
     All-append HoldsNoFeed (file_row layout start) (text_cells LineAndColumn text) (file_plain layout start) (cells_plain LineAndColumn text (text_plain layout.anonymized path place plain))
 
--- a text holds no line feed, if there is one
-abbrev pub HasPlainText : Option (List ℕ) → Type 0
-HasPlainText None = Unit {0}
-HasPlainText (Some path) = All IsNoFeed (chars path)
-
-head_plain : (layout : OriginLayout) (primary first : Bool) (named : Option (List ℕ)) (place : OriginLocation) → HasPlainText named → All HasNoFeed (snippet_head layout primary first named place)
+head_plain : (layout : OriginLayout) (primary first : Bool) (named : Option (List ℕ)) (place : OriginLocation) → IsOneLineText named → All HasNoFeed (snippet_head layout primary first named place)
 head_plain layout true first None place plain =
     opening_head-each HasNoFeed layout (bare_plain layout.decor layout.gutter false) (file_plain layout) first
 head_plain layout true first (Some path) place plain =
@@ -122,7 +119,7 @@ closing_plain r frame true = one _ (bare_plain r.decor_style frame.gutter true)
 closing_plain r frame false = All-nil HasNoFeed
 
 -- so the rows that a snippet begins with hold none where its path holds none, and those below its lines never do
-pub head_one_line : (r : Renderer) (frame : Frame) (around : ElementContext) (s : Snippet Annotation) → HasPlainText (path_bytes s.path) → All HasNoFeed (cause_head r frame around s)
+pub head_one_line : (r : Renderer) (frame : Frame) (around : ElementContext) (s : Snippet Annotation) → IsOneLineText (path_bytes s.path) → All HasNoFeed (cause_head r frame around s)
 head_one_line r frame around s plain =
     head_plain (origin_layout r frame) around.primary around.first (path_bytes s.path) (place_named around.primary (annotated_lines s.fold (numbered_source s) s.markers.items)) plain
 
@@ -133,6 +130,11 @@ after_one_line r frame around =
     either : (sets_off : Bool) → All HasNoFeed (cond sets_off (separator_rows r frame) (cond (closes_after around) (closing_rows r frame) []))
     either true = one _ (bare_plain r.decor_style frame.gutter false)
     either false = closing_plain r frame (closes_after around)
+
+-- nor does that of a padding
+pub padding_one_line : (r : Renderer) (frame : Frame) (last : Bool) → All HasNoFeed (padding_row r.decor_style frame.gutter last ∷ [])
+padding_one_line r frame true = one _ (bare_plain r.decor_style frame.gutter true)
+padding_one_line r frame false = one _ (bare_plain r.decor_style frame.gutter false)
 
 -- nor do the rows of an origin whose path holds none
 pub origin_one_line : (r : Renderer) (frame : Frame) (around : ElementContext) (o : origin.Origin) → All IsNoFeed (chars (cow_str_bytes o.path)) → All HasNoFeed (origin_rows r frame around o)

@@ -2,7 +2,7 @@
 use Rattle.std.proofs.Common.{◌≡◌, ℕ, zero, suc, ◌+◌, arith, drop, true, List, [], ◌∷◌, ◌++◌, All, Option, Some, None, Result, Ok, Err, IfSome, length, map, chars, refl, sym, ap, subst, ◌∙◌, encode_utf8_all}
 use Rattle.std.specs.List.{AllZip, Contains, flat_map, join_with_byte, slice_get}
 use Rattle.std.specs.Result.{IfOk, MatchResult, IsErrAnd}
-use Rattle.std.proofs.lemmas.List.Elements.{All-nil, All-cons, All-append, All-get_or}
+use Rattle.std.proofs.lemmas.List.Elements.{All-nil, All-cons, All-append, All-get_or, All-head, All-tail}
 use Rattle.std.proofs.lemmas.Option.{get_or_from_slice_get, slice_get_within}
 use Rattle.snippet_grid.specs.Print.{plain_text}
 use Rattle.snippet_style.specs.Stylesheet.{is_plain_sheet}
@@ -20,6 +20,7 @@ use Rattle.annotate_snippets.specs.declared.renderer.graphic.GroupGrid.{GroupGri
 use Rattle.annotate_snippets.specs.Around.{file_of_group, place_at}
 use Rattle.annotate_snippets.specs.Drawn.{AreGridsOf}
 use Rattle.annotate_snippets.specs.Fault.{first_fault, first_refusal, form_of, missing_title}
+use Rattle.annotate_snippets.specs.Feeds.{HasOneLineRows, HasOneLineTexts, IsOneLineGroup}
 use Rattle.annotate_snippets.specs.Gutter.{frame_of}
 use Rattle.annotate_snippets.specs.Page.{ArePrinted, GroupPage, Page, PrintsGrids, PrintsPage, group_rows, page_links, page_text}
 use Rattle.annotate_snippets.specs.Prepared.{IsGroupDrawable}
@@ -31,6 +32,7 @@ use Rattle.annotate_snippets.proofs.GroupShown.{GroupShown}
 use Rattle.annotate_snippets.proofs.PrintLemmas.{AllZip-weaker}
 use Rattle.annotate_snippets.proofs.ReportTexts.{free_first, free_rest, links_of_titles, title_links}
 use Rattle.annotate_snippets.proofs.RoomLemmas.{room_in_report}
+use Rattle.annotate_snippets.proofs.TextLineLaws.{lines_of_page}
 use Rattle.annotate_snippets.proofs.WovenLemmas.{IsWoven-from_page, grid_links, grid_plain}
 
 -- two free texts with a line feed between them, which isn't listed
@@ -67,6 +69,7 @@ module _ (r : Renderer) (groups : List Group) where
     pub links : flat_map grid_links grids ≡ flat_map (title_links r.hyperlink) gs
     pub free : IsFreeBut (trusted_texts gs) (join_with_byte 10 (map grid_plain grids))
     pub printed : (sheet : Stylesheet) (parts : List (List ℕ)) → AllZip (λ (grid : GroupGrid) part. Prints sheet grid.level grid.buffer part) grids parts → ArePrinted sheet (levels_of gs) page parts
+    pub one_line : HasOneLineTexts gs → All HasOneLineRows page
 
   -- one more group above
   free_above : (g : Group) (gs : List Group) (grid : GroupGrid) (grids : List GroupGrid) → IsFreeBut (trusted_texts (g ∷ [])) (grid_plain grid)
@@ -87,6 +90,7 @@ module _ (r : Renderer) (groups : List Group) where
         links = ap (λ urls. urls ++ flat_map grid_links grids) shown.links ∙ ap (λ urls. title_links r.hyperlink g ++ urls) rest.links;
         free = free_above g gs grid grids shown.free rest.free;
         printed = printed;
+        one_line = λ plain. All-cons HasOneLineRows shown.page rest.page (shown.one_line (All-head IsOneLineGroup g gs plain)) (rest.one_line (All-tail IsOneLineGroup g gs plain));
       }
     where
       each : (i : ℕ) (h : Group) (part : GroupPage) → slice_get (g ∷ gs) i ≡ Some h → slice_get (shown.page ∷ rest.page) i ≡ Some part → IsShownAt (n + i) h part
@@ -112,6 +116,7 @@ module _ (r : Renderer) (groups : List Group) where
         links = refl;
         free = All-nil (λ c. is_listed c ≡ true → Contains (flat_map chars (trusted_texts [])) c);
         printed = nothing;
+        one_line = λ plain. All-nil HasOneLineRows;
       }
     where
       nothing : (sheet : Stylesheet) (parts : List (List ℕ)) → AllZip (λ (grid : GroupGrid) part. Prints sheet grid.level grid.buffer part) [] parts → ArePrinted sheet [] [] parts
@@ -176,6 +181,8 @@ module _ (r : Renderer) (groups : List Group) (grids : List GroupGrid) (drawable
         printed = AllZip-weaker (λ sheet text. PrintsGrids sheet grids text) (λ sheet text. PrintsPage sheet (levels_of groups) report_page.page text) page_printed sheets texts printed;
         free = page_free;
         links = links_of_page;
+        one_line = report_page.one_line;
+        lines = λ plain. lines_of_page report_page.page (report_page.one_line plain);
         plain = λ none. AllZip-weaker (λ sheet text. PrintsGrids sheet grids text)
             (λ sheet text. is_plain_sheet sheet ≡ true → text ≡ encode_utf8_all (page_text report_page.page))
             (λ sheet text prints plain. plain_woven sheet text (page_text report_page.page) (report_links r groups)

@@ -13,6 +13,7 @@ use Rattle.snippet_style.specs.declared.glyphs.DecorStyle.TheVariants.{Ascii, Un
 use Rattle.snippet_style.specs.declared.role.ElementStyle.TheVariants.{LineNumber}
 use Rattle.snippet_text.specs.Normalized.{norm}
 use Rattle.snippet_titles.proofs.DigitLemmas.{IsDigit, decimal-all}
+use Rattle.snippet_view.specs.Margin.{Bounds}
 use Rattle.snippet_view.specs.Window.{AreReplaced, IsReplaced, begun_with, chars_at, covered_columns, covered_end, ended_with, inner_part, reaching, uncovered_part, window}
 use Rattle.snippet_lines.specs.Number.{shown_number}
 use Rattle.snippet_lines.specs.declared.number.LineNumbers.{LineNumbers}
@@ -23,12 +24,14 @@ use Rattle.annotate_snippets.specs.declared.renderer.Renderer.{Renderer}
 use Rattle.annotate_snippets.specs.declared.renderer.frame.Frame.{Frame}
 use Rattle.annotate_snippets.specs.Gutter.{line_numbers, number_text}
 use Rattle.annotate_snippets.specs.Shown.{ShowsSourceLine, bounds_in, cells_left, room_of, wide_spans}
-use Rattle.annotate_snippets.proofs.FeedLaws.{HasNoFeed, HoldsNoFeed, IsNoFeed, at_any, bar_cell}
+use Rattle.annotate_snippets.specs.Feeds.{HasNoFeed, HoldsNoFeed, IsNoFeed}
+use Rattle.annotate_snippets.proofs.FeedLaws.{at_any, bar_cell}
 use Rattle.annotate_snippets.proofs.PathFeedLaws.{alone, cells_plain, digit_plain, norm_plain}
 
 -- ---- windows
 
-placeholder_plain : (decor : DecorStyle) → All IsNoFeed (placeholder_of decor)
+-- no character of what stands in place of a part of a line is one
+pub placeholder_plain : (decor : DecorStyle) → All IsNoFeed (placeholder_of decor)
 placeholder_plain Ascii = All-cons IsNoFeed 46 (46 ∷ 46 ∷ []) refl (All-cons IsNoFeed 46 (46 ∷ []) refl (alone 46 refl))
 placeholder_plain Unicode = alone 0x2026 refl
 
@@ -89,7 +92,8 @@ replaced_plain placeholder (suc n) before after own (inr replaced) plain =
 
 -- ---- the row
 
-number_plain : (numbers : LineNumbers) (gutter n : ℕ) → All IsNoFeed (shown_number numbers gutter n)
+-- nor of what the gutter shows beside a line
+pub number_plain : (numbers : LineNumbers) (gutter n : ℕ) → All IsNoFeed (shown_number numbers gutter n)
 number_plain Shown gutter n =
     All-append IsNoFeed (replicate (gutter - length (decimal n)) 32) (decimal n) (All-replicate IsNoFeed (gutter - length (decimal n)) 32 refl) (All-weaker IsDigit IsNoFeed digit_plain (decimal n) (decimal-all n))
 number_plain Anonymized gutter n =
@@ -122,8 +126,14 @@ code_plain code row plain c right within =
 -- placeholder too
 pub source_one_line : (r : Renderer) (frame : Frame) (s : Snippet Annotation) (k dropped : ℕ) (row : List Cell) → ShowsSourceLine r frame s k dropped row → All IsNoFeed (chars_at (cow_str_bytes s.source) k) → HasNoFeed row
 source_one_line r frame s k dropped row shows plain =
-    let own : All IsNoFeed (placeholder_of r.decor_style) = placeholder_plain r.decor_style in
-    let text : All IsNoFeed (row_text (drop frame.code row)) = replaced_plain (placeholder_of r.decor_style) (wide_spans (room_of r frame) (length (placeholder_of r.decor_style)) s k) (window (placeholder_of r.decor_style) (room_of r frame) (bounds_in r frame s).left (bounds_in r frame s).right (norm (chars_at (cow_str_bytes s.source) k))) (row_text (drop frame.code row)) own shows.window.shown_is (window_plain (placeholder_of r.decor_style) (room_of r frame) (bounds_in r frame s).left (bounds_in r frame s).right (norm (chars_at (cow_str_bytes s.source) k)) own (norm_plain (chars_at (cow_str_bytes s.source) k) plain)) in
+    let placeholder : List ℕ = placeholder_of r.decor_style in
+    let room : ℕ = room_of r frame in
+    let bounds : Bounds = bounds_in r frame s in
+    let line : List ℕ = norm (chars_at (cow_str_bytes s.source) k) in
+    let shown : List ℕ = row_text (drop frame.code row) in
+    let own : All IsNoFeed placeholder = placeholder_plain r.decor_style in
+    let windowed : All IsNoFeed (window placeholder room bounds.left bounds.right line) = window_plain placeholder room bounds.left bounds.right line own (norm_plain (chars_at (cow_str_bytes s.source) k) plain) in
+    let text : All IsNoFeed shown = replaced_plain placeholder (wide_spans room (length placeholder) s k) (window placeholder room bounds.left bounds.right line) shown own shows.window.shown_is windowed in
     let number : List ℕ = number_text r s.line_numbering frame.gutter (s.line_start + k) in
     let left : HasNoFeed (cells_left r.decor_style frame.gutter number) = left_plain r.decor_style frame.gutter number (number_plain (line_numbers r s.line_numbering) frame.gutter (s.line_start + k)) in
     All-from_get_or HoldsNoFeed row SPACE (λ c within. elim (cases_lt c (frame.gutter + 2)) [

@@ -35,6 +35,7 @@ use Rattle.annotate_snippets.specs.declared.renderer.frame.Frame.{Frame}
 use Rattle.annotate_snippets.specs.declared.renderer.element_context.ElementContext.{ElementContext}
 use Rattle.annotate_snippets.proofs.ElementShown.{ElementShown}
 use Rattle.annotate_snippets.proofs.PageLemmas.{cells_of-others}
+use Rattle.annotate_snippets.proofs.SuggestFeedLaws.{suggestion_one_line}
 use Rattle.annotate_snippets.proofs.SuggestionLemmas.{cells_of-named, lines_free, lines_offered-named, lines_removed-named, named_rows, names_of-named, rising_ascends, rows_named, strokes_shown}
 
 -- the row of its path holds no listed character and no link
@@ -126,4 +127,5 @@ suggestion_shown r frame around s rows suggestible some room drawn =
       cells = cells;
       shows = shows;
       free = All-unmapped IsFree (λ (row : NamedRow). row.cells) (others head ++ after) (subst (All IsFree) (sym cells) free);
+      one_line = suggestion_one_line r frame around s rows drawn (all_own around s);
     }

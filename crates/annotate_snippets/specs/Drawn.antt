@@ -1,6 +1,7 @@
 -- What the grids of a report hold: for each group its title and its elements, one below the other.
 use Rattle.std.specs.Prelude.{◌≡◌, ℕ, ◌+◌, ◌-◌, ◌≤◌, Bool, true, false, not, if◌then◌else◌, List, [], ◌∷◌, ◌++◌, Option, Some, length, map}
 use Rattle.std.specs.List.{AllZip, flat_map, slice_get, slice_index_or}
+use Rattle.std.specs.Str.{IsUtf8}
 use Rattle.std.specs.Cow.{cow_str_bytes}
 use Rattle.snippet_style.specs.Cell.{Cell}
 use Rattle.snippet_model.specs.declared.snippet.Group.{Group}
@@ -18,7 +19,7 @@ use Rattle.snippet_view.specs.Measures.{margin_of}
 use Rattle.snippet_strokes.specs.declared.layout.Layout.{Layout}
 use Rattle.snippet_strokes.specs.Snippet.{AreLinesShown}
 use Rattle.snippet_suggest.specs.declared.SuggestionLayout.{SuggestionLayout}
-use Rattle.snippet_suggest.specs.Given.{first_given, given_lines}
+use Rattle.snippet_suggest.specs.Given.{first_given, given_lines, given_text}
 use Rattle.snippet_suggest.specs.Order.{Ends}
 use Rattle.snippet_suggest.specs.Rows.{IsTail, Shows}
 use Rattle.snippet_suggest.specs.Suggested.{body_cells, cells_of as row_cells}
@@ -51,9 +52,10 @@ use Rattle.annotate_snippets.specs.declared.renderer.form.Form.TheVariants.{Grap
 abbrev pub layout_in : Renderer → Frame → Layout
 layout_in r frame = record { gutter = frame.gutter; code = frame.code; decor = r.decor_style }
 
--- the rows of an annotated snippet's lines: the lines that are shown, each with its entries, between the bounds for those that
--- are kept, in a room of what is left of the width. The group's window may close with the last of them
+-- the rows of an annotated snippet's lines, whose source is UTF-8: the lines that are shown, each with its entries, between the bounds
+-- for those that are kept, in a room of what is left of the width. The group's window may close with the last of them
 pub record AreCauseRows (r : Renderer) (frame : Frame) (closes : Bool) (s : Snippet Annotation) (rows : List (List Cell)) : Type 0 where
+  pub utf8 : IsUtf8 (cow_str_bytes s.source)
   pub infos : List AnnotatedLineInfo
   pub lines : map seen_kept infos ≡ map (kept_line (numbered_source s) s.markers.items) (shown_lines s.fold (cow_str_bytes s.source) s.markers.items)
   pub margin : Margin
@@ -104,9 +106,11 @@ pub record AreSuggestionRows (r : Renderer) (frame : Frame) (around : ElementCon
   pub found : IsUnder r frame around.start under
   pub are : lines ≡ suggestion_lines r frame around s under
 
--- the rows of a suggestion: that of its path, where it names that, and those of its lines, each of which shows what the suggestion
--- has there
+-- the rows of a suggestion, whose source and whose lines are UTF-8: that of its path, where it names that, and those of its lines, each
+-- of which shows what the suggestion has there
 pub record IsSuggestionDrawn (r : Renderer) (frame : Frame) (around : ElementContext) (s : Snippet Patch) (rows : List (List Cell)) : Type 0 where
+  pub utf8 : IsUtf8 (cow_str_bytes s.source)
+  pub given_utf8 : IsUtf8 (given_text s)
   pub lines : List (List Cell)
   pub rows_are : rows ≡ suggestion_head r frame around s ++ lines
   pub are : AllZip (Shows (suggestion_layout r frame s) (s.line_start + first_given s) (given_lines s)) (suggestion_rows around s) lines

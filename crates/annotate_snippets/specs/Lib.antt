@@ -1,6 +1,7 @@
 pub mod Around
 pub mod Drawn
 pub mod Fault
+pub mod Feeds
 pub mod Forms
 pub mod Gutter
 pub mod Levels

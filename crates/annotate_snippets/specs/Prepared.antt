@@ -2,6 +2,7 @@
 use Rattle.std.specs.Prelude.{◌≡◌, ℕ, ◌+◌, ◌<◌, ◌^◌, All, length, map, List, Option, Some}
 use Rattle.std.specs.Cow.{cow_str_bytes}
 use Rattle.std.specs.List.{slice_get}
+use Rattle.std.specs.Str.{IsUtf8}
 use Rattle.snippet_model.specs.declared.snippet.Annotation.{Annotation}
 use Rattle.snippet_model.specs.declared.snippet.Snippet.{Snippet}
 use Rattle.snippet_model.specs.declared.snippet.Group.{Group}
@@ -48,9 +49,11 @@ element_of (Suggestion suggestion) = element.Suggestion suggestion.snippet.now
 element_of (Origin origin) = element.Origin origin.now
 element_of (Padding padding) = element.Padding padding.now
 
--- what was prepared of an annotated snippet is its own: the lines of its source, those that are kept, and the depth of its spans
+-- what was prepared of an annotated snippet is its own: the lines of its source, which is UTF-8, as each `str` is, those that are kept,
+-- and the depth of its spans
 pub record IsCausePrepared (c : PreparedCause) : Type 0 where
   pub drawable : IsDrawable c.snippet.now
+  pub utf8 : IsUtf8 (cow_str_bytes c.snippet.now.source)
   pub few : length c.snippet.now.markers.items < 2 ^ 63
   pub map_is : c.map ≡ numbered_source c.snippet.now
   pub kept_are : map seen_kept c.kept.items ≡ annotated_lines c.snippet.now.fold (numbered_source c.snippet.now) c.snippet.now.markers.items

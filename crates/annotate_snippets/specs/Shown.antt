@@ -60,6 +60,7 @@ use Rattle.annotate_snippets.specs.declared.renderer.element_context.Next.{Next}
 use Rattle.annotate_snippets.specs.declared.renderer.element_context.ElementContext.{ElementContext}
 use Rattle.annotate_snippets.specs.Around.{closes_with, drawn_elements, file_of_group, is_end, next_of, path_bytes, place_at, context_at, suggestion_rows}
 use Rattle.annotate_snippets.specs.Drawn.{AreSuggestionRows, suggestion_layout}
+use Rattle.annotate_snippets.specs.Feeds.{HasOneLineRows, HasOneLineTexts, page_lines, text_lines}
 use Rattle.annotate_snippets.specs.Gutter.{frame_of, line_numbers, number_text, numbered_source}
 use Rattle.annotate_snippets.specs.LineRows.{AreRowsDrawn}
 use Rattle.annotate_snippets.specs.Page.{RowName, SourceRow, Elision, OfferedLine, RemovedLine, Other, NamedRow, lines_named, lines_offered, lines_removed, names_in, names_of_lines, cells_below, cells_of, rows_below, others, GroupPage, Page, page_text, PrintsPage, IsAscending, page_links}
@@ -385,11 +386,15 @@ report_links r groups =
 
 -- the texts show a report under these sheets, one text under each: all print one page, which shows each group, in order,
 -- and each listed character of which is one of a trusted text; it links to what the report links to. So without links, under a
--- plain sheet, the text is the page's characters and nothing else (`plain` follows from `printed` and `links`)
+-- plain sheet, the text is the page's characters and nothing else (`plain` follows from `printed` and `links`). Where no label, path,
+-- id and name of a level holds a line feed, no cell of the page does, whatever the sources, the patches, and the texts of titles and
+-- messages hold; so the lines of the text are the rows (`lines` follows from `one_line`)
 pub record SheetsShown (r : Renderer) (groups : List Group) (sheets : List Stylesheet) (texts : List (List ℕ)) : Type 0 where
   pub page : Page
   pub shows : AreGroupsShown r groups page
   pub printed : AllZip (λ sheet text. PrintsPage sheet (levels_of groups) page text) sheets texts
   pub free : IsFreeBut (trusted_texts groups) (page_text page)
   pub links : page_links page ≡ report_links r groups
+  pub one_line : HasOneLineTexts groups → All HasOneLineRows page
+  pub lines : HasOneLineTexts groups → text_lines (page_text page) ≡ page_lines page
   pub plain : report_links r groups ≡ [] → AllZip (λ sheet text. is_plain_sheet sheet ≡ true → text ≡ encode_utf8_all (page_text page)) sheets texts

@@ -2,6 +2,7 @@
 use Rattle.std.specs.Prelude.{◌≡◌, ◌≢◌, ℕ, ◌+◌, ◌≤◌, ◌<◌, ◌^◌, [], All, length, map}
 use Rattle.std.specs.String.{string_bytes}
 use Rattle.std.specs.Cow.{cow_str_bytes}
+use Rattle.std.specs.Str.{IsUtf8}
 use Rattle.snippet_model.specs.declared.snippet.Snippet.{Snippet}
 use Rattle.snippet_model.specs.declared.snippet.Patch.{Patch}
 use Rattle.snippet_lines.specs.Lines.{source_lines}
@@ -21,9 +22,10 @@ pub record IsSuggestible (s : Snippet Patch) : Type 0 where
   pub disjoint : AreDisjoint (edits_of s)
   pub numbers : s.line_start + first_given s + length (given_lines s) ≤ 2 ^ 64
 
--- what was prepared is that of its snippet, which has patches
+-- what was prepared is that of its snippet, which has patches, and whose source is UTF-8, as each `str` is
 pub record IsPrepared (p : PreparedSuggestion) : Type 0 where
   pub suggestible : IsSuggestible p.snippet.now
+  pub utf8 : IsUtf8 (cow_str_bytes p.snippet.now.source)
   pub some : p.snippet.now.markers.items ≢ []
   pub lines : p.map ≡ source_of p.snippet.now
   pub text : string_bytes p.splice.complete ≡ given_text p.snippet.now

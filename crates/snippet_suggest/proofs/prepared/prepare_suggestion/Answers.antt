@@ -1,5 +1,6 @@
-use Rattle.std.proofs.Common.{◌≡◌, ◌≢◌, ◌∙◌, ℕ, List, [], map, ap, arith}
+use Rattle.std.proofs.Common.{◌≡◌, ◌≢◌, ◌∙◌, ℕ, List, [], map, ap, arith, subst}
 use Rattle.std.specs.Cow.{cow_str_bytes}
+use Rattle.std.specs.Str.{IsUtf8}
 use Rattle.std.specs.String.{string_bytes}
 use Rattle.snippet_model.specs.declared.snippet.Patch.{Patch}
 use Rattle.snippet_model.specs.declared.snippet.Snippet.{Snippet}
@@ -51,6 +52,7 @@ returns-clause-prepared c =
     ∙ ap (kind_of source (trimmed_of s)) text in
     record {
       suggestible = c.requires.suggestible;
+      utf8 = subst IsUtf8 c.as_str.ensures.value c.as_str.utf8;
       some = λ e. let other = none.1 (given ∙ e) in cc;
       lines = lines;
       text = text;

@@ -115,6 +115,7 @@ returns c =
         rows = adds.rows;
         added = adds.added;
         are = record {
+          utf8 = prepared.utf8;
           infos = c.deref-2.result.now;
           lines = shown_of c.args.cause prepared c.args.cause.map refl c.in_ok-lines.lines.items c.deref-2.result.now c.deref-2.ensures.value c.in_ok-lines.ensures.value;
           margin = c.margin_for-margin.result;

@@ -1,0 +1,393 @@
+-- The rows of an annotated snippet's lines hold a line feed only where a label does, whatever is cut of them.
+use Rattle.std.proofs.Common.{◌≡◌, ◌≢◌, ℕ, suc, ◌+◌, ◌-◌, ◌<◌, ◌==◌, ◌&&◌, nat_le, nat_lt, Bool, true, false, cond, Option, None, Some, List, [], ◌∷◌, ◌++◌, All, chars, take, drop, map, length, fold, get_or, replicate, refl, sym, ap, subst, ◌∙◌, arith, inl, inr}
+use Rattle.std.specs.Cow.{cow_str_bytes}
+use Rattle.std.specs.List.{Contains, range_with_len}
+use Rattle.std.specs.Option.{option_map}
+use Rattle.std.specs.Str.{IsUtf8}
+use Rattle.std.proofs.lemmas.Bool.{cases_Bool, cases_lt}
+use Rattle.std.proofs.lemmas.Bool.Decides.{nat_tests}
+use Rattle.std.proofs.lemmas.List.{get_or_past}
+use Rattle.std.proofs.lemmas.List.Elements.{All-append, All-cons, All-contains, All-drop, All-filter, All-from_get_or, All-get_or, All-head, All-map, All-nil, All-replicate, All-tail, All-take, All-weaker}
+use Rattle.std.proofs.lemmas.List.Splits.{slice_split_none}
+use Rattle.std.proofs.lemmas.Str.{IsUtf8-nil}
+use Rattle.snippet_grid.specs.Grid.{cell_at, replaced_within, row_at}
+use Rattle.snippet_lines.specs.Lines.{Line, Source, source_lines, text_at}
+use Rattle.snippet_lines.specs.declared.lines.EndLine.TheVariants.{Eof}
+use Rattle.snippet_lines.proofs.BoundsLemmas.{IsLine-at}
+use Rattle.snippet_lines.proofs.LinesLemmas.{IsUtf8-text_at}
+use Rattle.snippet_model.specs.AnnotationKind.{is_primary}
+use Rattle.snippet_model.specs.declared.snippet.Annotation.{Annotation}
+use Rattle.snippet_model.specs.declared.snippet.Snippet.{Snippet}
+use Rattle.snippet_style.specs.Cell.{Cell, SPACE, text_cells, unlinked_cell, written}
+use Rattle.snippet_style.specs.Glyphs.{glyph_of, placeholder_of, underline_role}
+use Rattle.snippet_style.specs.Separators.{closing_row, separator_row}
+use Rattle.snippet_style.specs.declared.glyphs.DecorStyle.{DecorStyle}
+use Rattle.snippet_style.specs.declared.glyphs.DecorStyle.TheVariants.{Ascii, Unicode}
+use Rattle.snippet_style.specs.declared.role.ElementStyle.{ElementStyle}
+use Rattle.snippet_style.specs.declared.role.ElementStyle.TheVariants.{LineNumber}
+use Rattle.snippet_text.specs.OneLine.{IsOneLine}
+use Rattle.snippet_titles.proofs.SplitLemmas.{lines_at, lines_at-chars}
+use Rattle.snippet_view.specs.Annotated.{PartEntry, made_parts, seen_part}
+use Rattle.snippet_view.specs.declared.entries.LineAnnotation.{LineAnnotation}
+use Rattle.snippet_view.specs.declared.entries.LineAnnotationType.{LineAnnotationType}
+use Rattle.snippet_view.specs.declared.entries.LineAnnotationType.TheVariants.{Singleline, MultilineStart, MultilineEnd, MultilineLine}
+use Rattle.snippet_view.proofs.PartLemmas.{made-all}
+use Rattle.snippet_strokes.specs.Bars.{Bar, bars_apart, ends_of_bars, is_whole_line}
+use Rattle.snippet_strokes.specs.Cuts.{Stretch, cut_row, cuts_of, overlapped}
+use Rattle.snippet_strokes.specs.Entries.{label_text, shifted}
+use Rattle.snippet_strokes.specs.LineRows.{AreLineRows, AreOwnRows}
+use Rattle.snippet_strokes.specs.Painting.{first_glyph, foot_of, mark_end, painting_order}
+use Rattle.snippet_strokes.specs.Positions.{has_label, has_stem, row_count, takes_space}
+use Rattle.snippet_strokes.specs.Rows.{bare_row}
+use Rattle.snippet_strokes.specs.Strokes.{StrokesPainted, bar_cell as bar_column, bar_of, begun_rows, connector_of, connectors_of, corner_by, corner_of, corners_of, label_of, label_write, labels_of, mark_of, marks_of, stem_write, stems_of, stroke_role, strokes_of}
+use Rattle.snippet_strokes.specs.Writes.{Write, column_of, glyph_at, painted, stretch_of}
+use Rattle.snippet_strokes.specs.declared.layout.Layout.{Layout}
+use Rattle.snippet_strokes.proofs.BarWrites.{All-connector_of, All-stretch_of}
+use Rattle.snippet_strokes.proofs.LabelWrites.{All-label_of}
+use Rattle.snippet_strokes.proofs.PositionLemmas.{entries_all}
+use Rattle.snippet_strokes.proofs.StemWrites.{All-stem_of, All-stems_of}
+use Rattle.snippet_strokes.proofs.WriteLaws.{All-flat_map, painted-cell}
+use Rattle.annotate_snippets.specs.declared.renderer.Renderer.{Renderer}
+use Rattle.annotate_snippets.specs.declared.renderer.frame.Frame.{Frame}
+use Rattle.annotate_snippets.specs.Drawn.{layout_in}
+use Rattle.annotate_snippets.specs.Feeds.{HasNoFeed, HoldsNoFeed, IsNoFeed, IsOneLineLabel, IsOneLineText}
+use Rattle.annotate_snippets.specs.Gutter.{numbered_source}
+use Rattle.annotate_snippets.specs.LineRows.{AreRowsDrawn, IsLineDrawn, IsRowDrawn, entries_on, open_after}
+use Rattle.annotate_snippets.specs.Page.{Elision, NamedRow, OfferedLine, Other, RemovedLine, RowName, SourceRow, cells_of, rows_below}
+use Rattle.annotate_snippets.specs.Shown.{AreRowsOf, IsRowOf, normalized_chars}
+use Rattle.annotate_snippets.proofs.FeedLaws.{at_any, bare_plain, elided}
+use Rattle.annotate_snippets.proofs.HeadingFeedLaws.{parts_plain}
+use Rattle.annotate_snippets.proofs.LabelLemmas.{tail_same}
+use Rattle.annotate_snippets.proofs.MarkLemmas.{label_is}
+use Rattle.annotate_snippets.proofs.PathFeedLaws.{alone, cells_plain, norm_plain}
+use Rattle.annotate_snippets.proofs.SourceFeedLaws.{placeholder_plain, source_one_line}
+
+-- ---- lines of a source
+
+-- the characters of a text hold no line feed where no byte of it is one, as `is_one_line` tells
+pub chars_plain : (bytes : List ℕ) → IsUtf8 bytes → IsOneLine bytes → All IsNoFeed (chars bytes)
+chars_plain bytes utf8 none =
+    let whole : lines_at bytes ≡ bytes ∷ [] = slice_split_none (λ c. c == 10) bytes (All-weaker (λ b. b ≢ 10) IsNoFeed other bytes none) in
+    let same : chars bytes ∷ [] ≡ lines_at (chars bytes) = ap (map chars) (sym whole) ∙ lines_at-chars bytes utf8 in
+    All-head (All IsNoFeed) (chars bytes) [] (subst (All (All IsNoFeed)) (sym same) (parts_plain (chars bytes)))
+  where
+    other : (b : ℕ) → b ≢ 10 → IsNoFeed b
+    other b is = grind (arith, nat_tests, is)
+
+-- so no line of a source holds one
+pub line_plain : (source : List ℕ) (k : ℕ) → IsUtf8 source → All IsNoFeed (chars (text_at (source_lines source) k))
+line_plain source k utf8 =
+    elim (cases_lt k (length (source_lines source))) [
+      | inl within ↦ chars_plain (text_at (source_lines source) k) (IsUtf8-text_at source k utf8) (IsLine-at source k within).no_lf
+      | inr past ↦ subst (λ (l : Line). All IsNoFeed (chars l.0)) (sym (get_or_past (source_lines source) k ([], Eof) past)) (chars_plain [] IsUtf8-nil (All-nil (λ b. b ≢ 10)))
+    ]
+
+-- ---- glyphs. The type of an entry with its place has no name outside its crate, so `_` stands for it
+
+-- a glyph of which no form is a line feed
+glyph_plain : (decor : DecorStyle) (primary : Bool) (a b c d : ℕ) → IsNoFeed a → IsNoFeed b → IsNoFeed c → IsNoFeed d → IsNoFeed (glyph_of decor primary a b c d)
+glyph_plain Ascii true a b c d is_a is_b is_c is_d = is_a
+glyph_plain Ascii false a b c d is_a is_b is_c is_d = is_b
+glyph_plain Unicode true a b c d is_a is_b is_c is_d = is_c
+glyph_plain Unicode false a b c d is_a is_b is_c is_d = is_d
+
+foot_plain : (part : LineAnnotationType) (decor : DecorStyle) (primary labelled : Bool) → IsNoFeed (foot_of part decor primary labelled)
+foot_plain Singleline decor primary labelled = glyph_plain decor primary 124 124 0x2502 0x2502 refl refl refl refl
+foot_plain (MultilineStart depth) decor primary labelled = glyph_plain decor primary 124 124 0x2519 0x2518 refl refl refl refl
+foot_plain (MultilineEnd depth) decor primary true = glyph_plain decor primary 124 124 0x2525 0x2524 refl refl refl refl
+foot_plain (MultilineEnd depth) decor primary false = glyph_plain decor primary 124 124 0x2502 0x2502 refl refl refl refl
+foot_plain (MultilineLine depth) decor primary labelled = glyph_plain decor primary 124 124 0x2502 0x2502 refl refl refl refl
+
+-- one of two characters, neither of which is a line feed
+either_plain : (b : Bool) (x y : ℕ) → IsNoFeed x → IsNoFeed y → IsNoFeed (cond b x y)
+either_plain true x y one other = one
+either_plain false x y one other = other
+
+first_plain : (decor : DecorStyle) (e : _) → IsNoFeed (first_glyph decor e)
+first_plain decor e =
+    let primary : Bool = is_primary e.entry.kind in
+    either_plain (takes_space e) _ _
+    (either_plain (has_stem e) _ _ (glyph_plain decor primary 94 45 0x257F 0x2502 refl refl refl refl) (glyph_plain decor primary 94 45 0x251B 0x2518 refl refl refl refl))
+    (either_plain (has_stem e) _ _ (glyph_plain decor primary 94 45 0x252F 0x252C refl refl refl refl) (glyph_plain decor primary 94 45 0x2501 0x2500 refl refl refl refl))
+
+-- ---- what is written
+
+-- a write of characters none of which is a line feed
+abbrev IsPlainWrite : Write → Type 0
+IsPlainWrite w = All IsNoFeed w.text
+
+stretch_plain : (row from to glyph : ℕ) (role : ElementStyle) → IsNoFeed glyph → All IsPlainWrite (stretch_of row from to glyph role)
+stretch_plain row from to glyph role plain =
+    All-stretch_of IsPlainWrite row from to glyph role (All-replicate IsNoFeed (to - from) glyph plain)
+
+column_plain : (start end cell glyph : ℕ) (role : ElementStyle) → IsNoFeed glyph → All IsPlainWrite (column_of start end cell glyph role)
+column_plain start end cell glyph role plain =
+    All-map IsPlainWrite (λ row. glyph_at row cell glyph role) (range_with_len start (end - start)) (λ k d within. alone glyph plain)
+
+module _ (layout : Layout) where
+  connectors_plain : (row : ℕ) (es : _) → All IsPlainWrite (connectors_of layout row es)
+  connectors_plain row es =
+      All-flat_map IsPlainWrite (connector_of layout row) es (λ k d within. of_entry (get_or es k d))
+    where
+      of_entry : (e : _) → All IsPlainWrite (connector_of layout row e)
+      of_entry e =
+          All-connector_of IsPlainWrite layout row e (λ depth. stretch_plain (row + e.position) (layout.gutter + 3 + depth) (layout.code + e.entry.start.display) _ (stroke_role e) (glyph_plain layout.decor (is_primary e.entry.kind) 95 95 0x2501 0x2500 refl refl refl refl))
+
+  corners_plain : (row count : ℕ) (es : _) → All IsPlainWrite (corners_of layout row count es)
+  corners_plain row count es =
+      All-flat_map IsPlainWrite (corner_of layout row count) es (λ k d within. by_part (get_or es k d) (get_or es k d).entry.annotation_type)
+    where
+      bar : (e : _) (depth start end : ℕ) → All IsPlainWrite (bar_of layout e depth start end)
+      bar e depth start end =
+          column_plain start end (bar_column layout depth) _ (stroke_role e) (glyph_plain layout.decor (is_primary e.entry.kind) 124 124 0x2503 0x2502 refl refl refl refl)
+
+      by_part : (e : _) (part : LineAnnotationType) → All IsPlainWrite (corner_by layout row count e part)
+      by_part e Singleline = All-nil IsPlainWrite
+      by_part e (MultilineStart depth) =
+          let at : ℕ = row + 1 + e.position in
+          let corner : ℕ = glyph_of layout.decor (is_primary e.entry.kind) 32 32 0x250F 0x250C in
+          let first : Write = glyph_at at (bar_column layout depth) corner (stroke_role e) in
+          All-cons IsPlainWrite first (bar_of layout e depth (at + 1) count) (alone corner (glyph_plain layout.decor (is_primary e.entry.kind) 32 32 0x250F 0x250C refl refl refl refl)) (bar e depth (at + 1) count)
+      by_part e (MultilineEnd depth) =
+          let at : ℕ = row + 1 + e.position in
+          let corner : ℕ = glyph_of layout.decor (is_primary e.entry.kind) 124 124 0x2517 0x2514 in
+          let last : Write = glyph_at at (bar_column layout depth) corner (stroke_role e) in
+          let one : All IsPlainWrite (last ∷ []) = All-cons IsPlainWrite last [] (alone corner (glyph_plain layout.decor (is_primary e.entry.kind) 124 124 0x2517 0x2514 refl refl refl refl)) (All-nil IsPlainWrite) in
+          All-append IsPlainWrite (bar_of layout e depth row at) (last ∷ []) (bar e depth row at) one
+      by_part e (MultilineLine depth) = All-nil IsPlainWrite
+
+  stems_plain : (row : ℕ) (es : _) → All IsPlainWrite (stems_of layout row es)
+  stems_plain row es =
+      All-stems_of IsPlainWrite layout row es (λ k d within. All-stem_of IsPlainWrite layout row (get_or es k d) (λ below low. of_entry (get_or es k d) below))
+    where
+      of_entry : (e : _) (below : ℕ) → IsPlainWrite (stem_write layout row e below)
+      of_entry e below =
+          let primary : Bool = is_primary e.entry.kind in
+          alone _ (either_plain (below == e.position) _ _ (foot_plain e.entry.annotation_type layout.decor primary (has_label e)) (glyph_plain layout.decor primary 124 124 0x2502 0x2502 refl refl refl refl))
+
+  labels_plain : (row : ℕ) (es : _) → ((k : ℕ) (d : _) → k < length es → IsPlainWrite (label_write layout row (get_or es k d))) → All IsPlainWrite (labels_of layout row es)
+  labels_plain row es plain =
+      All-flat_map IsPlainWrite (label_of layout row) es (λ k d within. All-label_of IsPlainWrite layout row (get_or es k d) (λ has. plain k d within))
+
+  marks_plain : (row : ℕ) (es : _) → All IsPlainWrite (marks_of layout row es)
+  marks_plain row es =
+      All-flat_map IsPlainWrite (mark_of layout row) es (λ k d within. of_entry (get_or es k d))
+    where
+      of_entry : (e : _) → All IsPlainWrite (mark_of layout row e)
+      of_entry e =
+          let from : ℕ = layout.code + e.entry.start.display in
+          let to : ℕ = layout.code + mark_end e in
+          let line : ℕ = glyph_of layout.decor (is_primary e.entry.kind) 94 45 0x2501 0x2500 in
+          let first : Write = glyph_at row from (first_glyph layout.decor e) (stroke_role e) in
+          let rest : List Write = stretch_of row (from + 1) to line (stroke_role e) in
+          elim (nat_lt from to) as (λ b. All IsPlainWrite (cond b (first ∷ rest) [])) [
+            | true ↦ All-cons IsPlainWrite first rest (alone _ (first_plain layout.decor e)) (stretch_plain row (from + 1) to line (stroke_role e) (glyph_plain layout.decor (is_primary e.entry.kind) 94 45 0x2501 0x2500 refl refl refl refl))
+            | false ↦ All-nil IsPlainWrite
+          ]
+
+  -- no stroke of a line is a line feed, where no label holds one
+  strokes_plain : (row count : ℕ) (placed order : _)
+      → ((k : ℕ) (d : _) → k < length placed → IsPlainWrite (label_write layout (row + 1) (get_or placed k d)))
+      → All IsPlainWrite (strokes_of layout row count placed order)
+  strokes_plain row count placed order plain =
+      let connectors : List Write = connectors_of layout (row + 1) placed in
+      let corners : List Write = corners_of layout row count placed in
+      let stems : List Write = stems_of layout (row + 1) placed in
+      let labels : List Write = labels_of layout (row + 1) placed in
+      let beside = All-append IsPlainWrite connectors corners (connectors_plain (row + 1) placed) (corners_plain row count placed) in
+      let below = All-append IsPlainWrite (connectors ++ corners) stems beside (stems_plain (row + 1) placed) in
+      let named = All-append IsPlainWrite (connectors ++ corners ++ stems) labels below (labels_plain (row + 1) placed plain) in
+      All-append IsPlainWrite (connectors ++ corners ++ stems ++ labels) (marks_of layout (row + 1) order) named (marks_plain (row + 1) order)
+
+-- such writes leave no line feed in a cell
+painted_plain : (ws : List Write) (rows : List (List Cell)) (r c : ℕ) → HoldsNoFeed (cell_at rows r c) → All IsPlainWrite ws → HoldsNoFeed (cell_at (painted ws rows) r c)
+painted_plain ws rows r c before all =
+    painted-cell HoldsNoFeed ws rows r c before (λ k d within there.
+    let w : Write = get_or ws k d in
+    all k d within (c - w.cell) 0 (omega (arith, there.from, there.to)))
+
+-- ---- rows
+
+-- cells that are written into a row, and those that stand in place of a stretch of it, bring none into it
+pub row_written : (row : List Cell) (at : ℕ) (new : List Cell) → HasNoFeed row → HasNoFeed new → HasNoFeed (written SPACE row at new)
+unfolding written
+row_written row at new plain own =
+    let filled : List Cell = row ++ replicate (at - length row) SPACE in
+    let before : HasNoFeed (take at filled) = All-take HoldsNoFeed at filled (All-append HoldsNoFeed row (replicate (at - length row) SPACE) plain (All-replicate HoldsNoFeed (at - length row) SPACE refl)) in
+    All-append HoldsNoFeed (take at filled ++ new) (drop (at + length new) row) (All-append HoldsNoFeed (take at filled) new before own) (All-drop HoldsNoFeed (at + length new) row plain)
+
+row_replaced : (from to : ℕ) (new row : List Cell) → HasNoFeed row → HasNoFeed new → HasNoFeed (replaced_within from to new row)
+unfolding replaced_within
+row_replaced from to new row plain own =
+    let changed : List Cell = take from row ++ new ++ drop to row in
+    elim (nat_lt from to && nat_le to (length row)) as (λ b. HasNoFeed (cond b changed row)) [
+      | true ↦ All-append HoldsNoFeed (take from row ++ new) (drop to row) (All-append HoldsNoFeed (take from row) new (All-take HoldsNoFeed from row plain) own) (All-drop HoldsNoFeed to row plain)
+      | false ↦ plain
+    ]
+
+row_cut : (decor : DecorStyle) (cuts : List Stretch) (row : List Cell) → HasNoFeed row → HasNoFeed (cut_row decor cuts row)
+row_cut decor [] row plain = plain
+row_cut decor (cut ∷ cuts) row plain =
+    let placeholder : List Cell = text_cells LineNumber (placeholder_of decor) in
+    row_cut decor cuts (replaced_within cut.from cut.to placeholder row) (row_replaced cut.from cut.to placeholder row plain (cells_plain LineNumber (placeholder_of decor) (placeholder_plain decor)))
+
+-- the bar of a span that goes on past a line, and a row with such bars
+abbrev bar_beside : Layout → Bar → Cell
+bar_beside layout bar =
+    unlinked_cell (underline_role bar.primary) (glyph_of layout.decor bar.primary 124 124 0x2503 0x2502)
+
+abbrev barred : Layout → List Bar → List Cell → List Cell
+barred layout bars row =
+    fold (λ cells bar. written SPACE cells (layout.gutter + 2 + bar.depth) (bar_beside layout bar ∷ [])) row bars
+
+row_barred : (layout : Layout) (bars : List Bar) (row : List Cell) → HasNoFeed row → HasNoFeed (barred layout bars row)
+row_barred layout [] row plain = plain
+row_barred layout (bar ∷ bars) row plain =
+    let at : ℕ = layout.gutter + 2 + bar.depth in
+    let part : Cell = bar_beside layout bar in
+    let one : HasNoFeed (part ∷ []) = All-cons HoldsNoFeed part [] (glyph_plain layout.decor bar.primary 124 124 0x2503 0x2502 refl refl refl refl) (All-nil HoldsNoFeed) in
+    row_barred layout bars (written SPACE row at (part ∷ [])) (row_written row at (part ∷ []) plain one)
+
+-- a cell of rows without line feeds, or a space beside them
+in_rows : (rows : List (List Cell)) → All HasNoFeed rows → (r c : ℕ) → HoldsNoFeed (cell_at rows r c)
+in_rows rows all r c =
+    elim (cases_lt r (length rows)) [
+      | inl within ↦ at_any (row_at rows r) (All-get_or HasNoFeed rows r [] within all) c
+      | inr past ↦ subst (λ (row : List Cell). HoldsNoFeed (get_or row c SPACE)) (sym (get_or_past rows r [] past)) refl
+    ]
+
+from_cells : (rows : List (List Cell)) → ((r c : ℕ) → HoldsNoFeed (cell_at rows r c)) → All HasNoFeed rows
+from_cells rows each =
+    All-from_get_or HasNoFeed rows [] (λ r within. All-from_get_or HoldsNoFeed (row_at rows r) SPACE (λ c inside. each r c))
+
+-- ---- the rows below a line
+
+module _ (layout : Layout) (room : ℕ) (closes : Bool) where
+  -- before strokes are drawn there they hold none
+  begun_plain : (count : ℕ) → All HasNoFeed (replicate count (separator_row layout.decor layout.gutter) ++ bare_row layout.decor layout.gutter closes ∷ [])
+  begun_plain count =
+      let empty : List Cell = separator_row layout.decor layout.gutter in
+      let last : List Cell = bare_row layout.decor layout.gutter closes in
+      let above : All HasNoFeed (replicate count empty) = All-replicate HasNoFeed count empty (bare_plain layout.decor layout.gutter false) in
+      All-append HasNoFeed (replicate count empty) (last ∷ []) above (All-cons HasNoFeed last [] (bare_plain layout.decor layout.gutter closes) (All-nil HasNoFeed))
+
+  -- nor after that
+  drawn_plain : (es : List LineAnnotation) (source : List Cell) (rows : List (List Cell)) (strokes : StrokesPainted layout room closes es source rows) → All (λ e. All IsNoFeed (label_text e)) es → All HasNoFeed (strokes.marks ∷ strokes.lower)
+  drawn_plain es source rows strokes plain =
+      let placed = strokes.placed in
+      let ws : List Write = strokes_of layout 0 (row_count placed + 1) placed (painting_order placed) in
+      let begun : List (List Cell) = begun_rows layout closes (row_count placed) source in
+      let own = entries_all (λ e. All IsNoFeed (label_text e)) es placed strokes.are.same plain in
+      let written : All IsPlainWrite ws = strokes_plain layout 0 (row_count placed + 1) placed (painting_order placed) own in
+      from_cells (strokes.marks ∷ strokes.lower) (λ r c.
+      subst (λ (all : List (List Cell)). HoldsNoFeed (cell_at all (suc r) c)) (sym strokes.painted_are)
+      (painted_plain ws begun (suc r) c (in_rows _ (begun_plain (row_count placed - 1)) r c) written))
+
+  end_plain : All HasNoFeed (cond closes (closing_row layout.decor layout.gutter ∷ []) [])
+  end_plain =
+      elim closes as (λ b. All HasNoFeed (cond b (closing_row layout.decor layout.gutter ∷ []) [])) [
+        | true ↦ All-cons HasNoFeed (closing_row layout.decor layout.gutter) [] (bare_plain layout.decor layout.gutter true) (All-nil HasNoFeed)
+        | false ↦ All-nil HasNoFeed
+      ]
+
+  -- so a line's own rows below it hold none
+  own_plain : (text : List ℕ) (dropped : ℕ) (es : List LineAnnotation) (source row : List Cell) (below : List (List Cell)) → AreOwnRows layout room closes text dropped es source (row ∷ below) → All (λ e. All IsNoFeed (label_text e)) es → All HasNoFeed below
+  own_plain text dropped [] source row below are plain =
+      subst (All HasNoFeed) (sym (tail_same row source below (cond closes (closing_row layout.decor layout.gutter ∷ []) []) (are.none refl))) end_plain
+  own_plain text dropped (e ∷ es) source row below are plain =
+      elim (cases_Bool (is_whole_line text (e ∷ es))) [
+        | inl whole ↦ subst (All HasNoFeed) (sym (tail_same row _ below [] (are.whole whole))) (All-nil HasNoFeed)
+        | inr other ↦
+            let strokes = are.strokes other (omega arith) in
+            let cuts : List Stretch = cuts_of layout room (painting_order strokes.placed) (overlapped strokes.placed) in
+            let drawn : All HasNoFeed (strokes.marks ∷ strokes.lower) = drawn_plain (map (shifted dropped) (e ∷ es)) source (row ∷ below) strokes (All-map (λ x. All IsNoFeed (label_text x)) (shifted dropped) (e ∷ es) plain) in
+            let marks : List Cell = cut_row layout.decor cuts strokes.marks in
+            let cut : All HasNoFeed (marks ∷ strokes.lower) = All-cons HasNoFeed marks strokes.lower (row_cut layout.decor cuts strokes.marks (All-head HasNoFeed strokes.marks strokes.lower drawn)) (All-tail HasNoFeed strokes.marks strokes.lower drawn) in
+            subst (All HasNoFeed) (sym (tail_same row _ below (marks ∷ strokes.lower) strokes.rows_are)) cut
+      ]
+
+  -- and no bar that runs past it brings one
+  pub below_plain : (text : List ℕ) (dropped : ℕ) (open_bars : List Bar) (es : List LineAnnotation) (source row : List Cell) (below : List (List Cell))
+      → AreLineRows layout room closes text dropped open_bars es source (row ∷ below) → All (λ e. All IsNoFeed (label_text e)) es → All HasNoFeed below
+  below_plain text dropped open_bars es source row below are plain = of are.own are.are are.rows_are
+    where
+      rule : List Cell → List Cell
+      rule = barred layout (bars_apart open_bars (ends_of_bars es))
+
+      of : (own : List (List Cell)) → AreOwnRows layout room closes text dropped es source own → row ∷ below ≡ map rule own → All HasNoFeed below
+      of [] own_are same = cc
+      of (first ∷ later) own_are same =
+          let later_plain : All HasNoFeed later = own_plain text dropped es source first later own_are plain in
+          let each : All (λ x. HasNoFeed (rule x)) later = λ k d within. row_barred layout (bars_apart open_bars (ends_of_bars es)) (get_or later k d) (later_plain k d within) in
+          subst (All HasNoFeed) (sym (tail_same row (rule first) below (map rule later) same)) (All-map HasNoFeed rule later each)
+
+-- ---- labels
+
+-- what a text shows holds none where the text holds none
+shown_text_plain : (text : Option (List ℕ)) → IsOneLineText text → All IsNoFeed (normalized_chars text)
+shown_text_plain None plain = All-nil IsNoFeed
+shown_text_plain (Some text) plain = norm_plain (chars text) plain
+
+abbrev IsPlainPart : PartEntry → Type 0
+IsPlainPart p = All IsNoFeed (normalized_chars p.entry.label)
+
+parts_one_line : (s : Source) (marks : List Annotation) → All IsOneLineLabel marks → All IsPlainPart (made_parts s marks)
+parts_one_line s marks plain =
+    made-all IsPlainPart s marks (λ a among short. of_label a among)
+    (λ a among long kind. record {
+      start = All-nil IsNoFeed;
+      bars = λ i d within. All-nil IsNoFeed;
+      end = of_label a among;
+      again = of_label a among;
+    })
+  where
+    of_label : (a : Annotation) → Contains marks a → All IsNoFeed (normalized_chars (option_map cow_str_bytes a.label))
+    of_label a among = shown_text_plain (option_map cow_str_bytes a.label) (All-contains IsOneLineLabel marks a plain among)
+
+-- the label of each entry of a line is one of its spans'
+entries_plain : (s : Snippet Annotation) (k : ℕ) (es : List LineAnnotation) → map seen_part es ≡ entries_on s k → All IsOneLineLabel s.markers.items → All (λ e. All IsNoFeed (label_text e)) es
+entries_plain s k es are plain =
+    let source : Source = numbered_source s in
+    each es (subst (All IsPlainPart) (sym are) (All-filter (λ (p : PartEntry). p.entry.start.line == source.first + k) IsPlainPart (made_parts source s.markers.items) (parts_one_line source s.markers.items plain)))
+  where
+    each : (xs : List LineAnnotation) → All IsPlainPart (map seen_part xs) → All (λ e. All IsNoFeed (label_text e)) xs
+    each [] all = All-nil (λ e. All IsNoFeed (label_text e))
+    each (x ∷ xs) all =
+        All-cons (λ e. All IsNoFeed (label_text e)) x xs (subst (All IsNoFeed) (sym (label_is x.label)) (All-head IsPlainPart (seen_part x) (map seen_part xs) all)) (each xs (All-tail IsPlainPart (seen_part x) (map seen_part xs) all))
+
+-- ---- all rows
+
+-- a row that is one line of the text
+abbrev IsRowOfText : NamedRow → Type 0
+IsRowOfText row = HasNoFeed row.cells
+
+module _ (r : Renderer) (frame : Frame) (closes : Bool) (s : Snippet Annotation) (utf8 : IsUtf8 (cow_str_bytes s.source)) (plain : All IsOneLineLabel s.markers.items) where
+  line_below : (open_bars : List Bar) (k : ℕ) (row : List Cell) (below : List (List Cell)) (ends : Bool) → IsLineDrawn r frame ends s open_bars k (row ∷ below) → All HasNoFeed below
+  line_below open_bars k row below ends drawn =
+      below_plain (layout_in r frame) drawn.margin.term_width ends drawn.text drawn.dropped open_bars drawn.entries drawn.highlighted row below drawn.drawn (entries_plain s k drawn.entries drawn.are plain)
+
+  one_row : (open_bars : List Bar) (name : RowName) (cells : List Cell) (rows : List NamedRow) → IsRowOf r frame closes s name cells rows
+      → IsRowDrawn r frame closes s open_bars name cells rows → All HasNoFeed (rows_below (record { name = name; cells = cells } ∷ rows))
+      → HasNoFeed cells × All HasNoFeed (rows_below rows)
+  one_row open_bars (SourceRow k) cells rows shows drawn below =
+      (source_one_line r frame s k shows.dropped cells shows.line (line_plain (cow_str_bytes s.source) k utf8), line_below open_bars k cells (rows_below rows) _ drawn)
+  one_row open_bars Elision cells rows shows drawn below =
+      (elided r.decor_style frame cells shows, subst (All HasNoFeed) (sym drawn.1) (All-nil HasNoFeed))
+  one_row open_bars (OfferedLine j) cells rows shows drawn below = absurd shows
+  one_row open_bars (RemovedLine i) cells rows shows drawn below = absurd shows
+  one_row open_bars Other cells rows shows drawn below =
+      (All-head HasNoFeed cells (rows_below rows) below, All-tail HasNoFeed cells (rows_below rows) below)
+
+  all_rows : (open_bars : List Bar) (rows : List NamedRow) → AreRowsOf r frame closes s rows → AreRowsDrawn r frame closes s open_bars rows → All HasNoFeed (rows_below rows) → All IsRowOfText rows
+  all_rows open_bars [] shows drawn below = All-nil IsRowOfText
+  all_rows open_bars (row ∷ rows) shows drawn below =
+      let own = one_row open_bars row.name row.cells rows shows.0 drawn.0 below in
+      All-cons IsRowOfText row rows own.0 (all_rows (open_after s row.name open_bars) rows shows.1 drawn.1 own.1)
+
+-- where no label holds a line feed, no row of a snippet's lines holds one: each is one line of the text
+pub lines_one_line : (r : Renderer) (frame : Frame) (closes : Bool) (s : Snippet Annotation) (rows : List NamedRow)
+    → AreRowsOf r frame closes s rows → AreRowsDrawn r frame closes s [] rows → rows_below rows ≡ []
+    → IsUtf8 (cow_str_bytes s.source) → All IsOneLineLabel s.markers.items → All HasNoFeed (cells_of rows)
+lines_one_line r frame closes s rows shows drawn begins utf8 plain =
+    let all = all_rows r frame closes s utf8 plain [] rows shows drawn (subst (All HasNoFeed) (sym begins) (All-nil HasNoFeed)) in
+    All-map HasNoFeed (λ (row : NamedRow). row.cells) rows all

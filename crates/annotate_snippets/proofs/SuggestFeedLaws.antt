@@ -1,0 +1,316 @@
+-- The rows of a suggestion hold a line feed only where its path does.
+use Rattle.std.proofs.Common.{◌≡◌, ℕ, zero, suc, ◌+◌, ◌-◌, ◌<◌, ◌≤◌, ◌==◌, ◌&&◌, max, Bool, true, false, cond, not, Option, None, Some, List, [], ◌∷◌, ◌++◌, All, chars, take, drop, map, length, get_or, refl, sym, ap, subst, ◌∙◌, arith, inl, inr}
+use Rattle.std.specs.Cow.{cow_str_bytes}
+use Rattle.std.specs.List.{AllZip, list_any, slice_index_or}
+use Rattle.std.specs.Str.{IsUtf8, bytes_eq}
+use Rattle.std.proofs.lemmas.Bool.{cases_Bool, cases_eq, cases_lt, eqb-true, false≢true}
+use Rattle.std.proofs.lemmas.Bool.Decides.{nat_tests}
+use Rattle.std.proofs.lemmas.List.{get_or-drop, get_or-take}
+use Rattle.std.proofs.lemmas.List.Elements.{All-append, All-cons, All-drop, All-from_get_or, All-head, All-map, All-nil, All-tail, All-take}
+use Rattle.snippet_grid.specs.Grid.{changed_within, restyled}
+use Rattle.snippet_lines.specs.Lines.{Line, lines_of, text_at}
+use Rattle.snippet_lines.specs.Number.{shown_number}
+use Rattle.snippet_lines.specs.declared.number.LineNumbers.{LineNumbers}
+use Rattle.snippet_lines.specs.declared.number.LineNumbers.TheVariants.{Anonymized, Hidden, Shown}
+use Rattle.snippet_model.specs.declared.snippet.Patch.{Patch}
+use Rattle.snippet_model.specs.declared.snippet.Snippet.{Snippet}
+use Rattle.snippet_splice.specs.Spliced.{last_line_reached, texts_of}
+use Rattle.snippet_splice.specs.declared.stretches.SubstitutionHighlight.{SubstitutionHighlight}
+use Rattle.snippet_style.specs.Cell.{Cell, SPACE, text_cells}
+use Rattle.snippet_style.specs.declared.glyphs.DecorStyle.{DecorStyle}
+use Rattle.snippet_style.specs.declared.glyphs.DecorStyle.TheVariants.{Ascii, Unicode}
+use Rattle.snippet_style.specs.declared.role.ElementStyle.{ElementStyle}
+use Rattle.snippet_style.specs.declared.role.ElementStyle.TheVariants.{Addition, LineNumber, NoStyle, Removal}
+use Rattle.snippet_text.specs.Normalized.{norm}
+use Rattle.snippet_titles.specs.Origin.{primary_start}
+use Rattle.snippet_titles.proofs.OriginFree.{each-fails}
+use Rattle.snippet_view.proofs.PartLemmas.{All-unmapped}
+use Rattle.snippet_suggest.specs.Cells.{left_out_cells, line_cells, offered_cells, on_last, put, sign_of, stretch_cell, with_stretches}
+use Rattle.snippet_suggest.specs.Given.{edits_of, first_given, given_lines, given_ranges, given_text, is_left_out, last_reached, shown_kind}
+use Rattle.snippet_suggest.specs.Glyphs.{glyph_of, role_of}
+use Rattle.snippet_suggest.specs.Order.{Begins, Empty, Ends, Offers, Removes, Skips, SuggestionRow, is_diff, number_after, rows_of_suggestion}
+use Rattle.snippet_suggest.specs.Rows.{IsBareRow, IsBeforeSign, IsLeftOver, IsMarkOrSpace, IsRemovedRow, Shows, is_stroke}
+use Rattle.snippet_suggest.specs.Shown.{is_touched}
+use Rattle.snippet_suggest.specs.Suggested.{body_cells, cells_of as row_cells, cells_over, new_on, replaced_on, with_left_out}
+use Rattle.snippet_suggest.specs.declared.SuggestionLayout.{SuggestionLayout}
+use Rattle.snippet_suggest.specs.declared.SuggestionStart.{SuggestionStart}
+use Rattle.snippet_suggest.specs.declared.SuggestionStart.TheVariants as start
+use Rattle.snippet_suggest.specs.declared.glyphs.SuggestionGlyph.{SuggestionGlyph}
+use Rattle.snippet_suggest.specs.declared.glyphs.SuggestionGlyph.TheVariants.{Opening, Next, Leading, Closing, Kept, Alone, Changed, Added}
+use Rattle.snippet_suggest.proofs.ComposeLemmas.{zip_append}
+use Rattle.snippet_suggest.proofs.OrderLaws.{IsRowOf}
+use Rattle.annotate_snippets.specs.declared.renderer.Renderer.{Renderer}
+use Rattle.annotate_snippets.specs.declared.renderer.element_context.ElementContext.{ElementContext}
+use Rattle.annotate_snippets.specs.declared.renderer.frame.Frame.{Frame}
+use Rattle.annotate_snippets.specs.Around.{is_end, path_bytes, suggestion_rows}
+use Rattle.annotate_snippets.specs.Drawn.{AreSuggestionRows, IsSuggestionDrawn, suggestion_layout}
+use Rattle.annotate_snippets.specs.Feeds.{HasNoFeed, HoldsNoFeed, IsNoFeed, IsOneLineText}
+use Rattle.annotate_snippets.specs.Rows.{origin_layout, patch_place, path_row, suggestion_head, suggestion_head_at}
+use Rattle.annotate_snippets.proofs.FeedLaws.{at_any}
+use Rattle.annotate_snippets.proofs.LineFeedLaws.{line_plain, row_written}
+use Rattle.annotate_snippets.proofs.PathFeedLaws.{cells_plain, norm_plain, row_plain}
+use Rattle.annotate_snippets.proofs.SourceFeedLaws.{number_plain}
+
+-- ---- characters
+
+-- what stands left of the lines in a row that shows none is no line feed
+stroke_plain : (decor : DecorStyle) (c : ℕ) → is_stroke decor c ≡ true → IsNoFeed c
+stroke_plain decor c is =
+    elim (cases_Bool (c == 10)) [
+      | inl feed ↦ absurd (false≢true (sym (none decor) ∙ sym (ap (is_stroke decor) (eqb-true c 10 feed)) ∙ is))
+      | inr other ↦ other
+    ]
+  where
+    none : (decor : DecorStyle) → is_stroke decor 10 ≡ false
+    none Ascii = refl
+    none Unicode = refl
+
+-- nor is a mark
+mark_plain : (decor : DecorStyle) (c : ℕ) → IsMarkOrSpace decor c → IsNoFeed c
+mark_plain decor c (inl space) = subst IsNoFeed (sym space) refl
+mark_plain decor c (inr (inl plus)) = subst IsNoFeed (sym plus) refl
+mark_plain Ascii c (inr (inr changed)) = subst IsNoFeed (sym changed) refl
+mark_plain Unicode c (inr (inr changed)) = subst IsNoFeed (sym changed) refl
+
+digit_or_mark : (decor : DecorStyle) (c : ℕ) → IsLeftOver decor c → IsNoFeed c
+digit_or_mark decor c (inl mark) = mark_plain decor c mark
+digit_or_mark decor c (inr digit) = grind (arith, nat_tests, digit)
+
+before_plain : (numbers : LineNumbers) (decor : DecorStyle) (c : ℕ) → IsBeforeSign numbers decor c → IsNoFeed c
+before_plain numbers decor c (inl stroke) = stroke_plain decor c stroke
+before_plain Shown decor c (inr digit) = grind (arith, nat_tests, digit)
+before_plain Anonymized decor c (inr letter) = subst IsNoFeed (sym letter) refl
+before_plain Hidden decor c (inr none) = absurd none
+
+glyph_plain : (decor : DecorStyle) (glyph : SuggestionGlyph) → All IsNoFeed (glyph_of decor glyph)
+glyph_plain decor glyph = each-fails (λ c. c == 10) (glyph_of decor glyph) (none decor glyph)
+  where
+    none : (decor : DecorStyle) (glyph : SuggestionGlyph) → list_any (λ c. c == 10) (glyph_of decor glyph) ≡ false
+    none Ascii Opening = refl
+    none Ascii Next = refl
+    none Ascii Leading = refl
+    none Ascii Closing = refl
+    none Ascii Kept = refl
+    none Ascii Alone = refl
+    none Ascii Changed = refl
+    none Ascii Added = refl
+    none Unicode Opening = refl
+    none Unicode Next = refl
+    none Unicode Leading = refl
+    none Unicode Closing = refl
+    none Unicode Kept = refl
+    none Unicode Alone = refl
+    none Unicode Changed = refl
+    none Unicode Added = refl
+
+-- ---- rows that show no line, and those of removed lines
+
+bare_one_line : (decor : DecorStyle) (gutter : ℕ) (row : List Cell) → IsBareRow decor gutter row → HasNoFeed row
+bare_one_line decor gutter row bare =
+    All-from_get_or HoldsNoFeed row SPACE (λ c within. elim (cases_lt c (gutter + 3)) [
+      | inl left ↦ stroke_plain decor _ (bare.strokes c left)
+      | inr right ↦ mark_plain decor _ (bare.marks c (omega (arith, right)))
+    ])
+
+removed_one_line : (numbers : LineNumbers) (decor : DecorStyle) (gutter : ℕ) (number text : List ℕ) (row : List Cell) → IsRemovedRow numbers decor gutter number text row → All IsNoFeed text → HasNoFeed row
+removed_one_line numbers decor gutter number text row removed plain =
+    All-from_get_or HoldsNoFeed row SPACE (λ c within. elim (cases_lt c (gutter + 1)) [
+      | inl left ↦ before_plain numbers decor _ (removed.before c (omega (arith, left)))
+      | inr right ↦ elim (cases_lt c (gutter + 3)) [
+        | inl sign ↦ beside c (omega (arith, right)) sign
+        | inr after ↦ elim (cases_lt c (gutter + 3 + length text)) [
+          | inl inside ↦ in_text c (omega (arith, after)) inside
+          | inr past ↦ digit_or_mark decor _ (removed.after c (omega (arith, past)))
+        ]
+      ]
+    ])
+  where
+    shown : List Cell
+    shown = take (length text) (drop (gutter + 3) row)
+
+    shown_plain : HasNoFeed shown
+    shown_plain = All-unmapped IsNoFeed (λ (cell : Cell). cell.ch) shown (subst (All IsNoFeed) (sym removed.begins) plain)
+
+    in_text : (c : ℕ) → gutter + 3 ≤ c → c < gutter + 3 + length text → HoldsNoFeed (get_or row c SPACE)
+    in_text c after inside =
+        let n : ℕ = c - (gutter + 3) in
+        let fits : n < length text = omega (arith, after, inside) in
+        let here : gutter + 3 + n ≡ c = omega (arith, after) in
+        subst HoldsNoFeed (get_or-take (length text) (drop (gutter + 3) row) n SPACE fits ∙ get_or-drop (gutter + 3) row n SPACE ∙ ap (λ i. get_or row i SPACE) here) (at_any shown shown_plain n)
+
+    beside : (c : ℕ) → gutter + 1 ≤ c → c < gutter + 3 → HoldsNoFeed (get_or row c SPACE)
+    beside c right sign =
+        elim (cases_eq c (gutter + 1)) [
+          | inl minus ↦ subst (λ i. HoldsNoFeed (get_or row i SPACE)) (sym minus) (subst IsNoFeed (sym removed.minus) refl)
+          | inr other ↦
+              let space : c ≡ gutter + 2 = omega (arith, right, sign, other) in
+              subst (λ i. HoldsNoFeed (get_or row i SPACE)) (sym space) (subst IsNoFeed (sym removed.space) refl)
+        ]
+
+-- ---- rows that offer a line
+
+put_plain : (role : ElementStyle) (cs : List ℕ) (at : ℕ) (row : List Cell) → HasNoFeed row → All IsNoFeed cs → HasNoFeed (put role cs at row)
+unfolding put
+put_plain role [] at row plain own = plain
+put_plain role (c ∷ cs) at row plain own = row_written row at (text_cells role (c ∷ cs)) plain (cells_plain role (c ∷ cs) own)
+
+restyled_plain : (role : ElementStyle) (from to : ℕ) (row : List Cell) → HasNoFeed row → HasNoFeed (changed_within (restyled role true) from to row)
+unfolding changed_within
+restyled_plain role from to row plain =
+    let before : List Cell = take from row in
+    let part : List Cell = take (to - from) (drop from row) in
+    let now : List Cell = map (restyled role true) part in
+    let part_plain : HasNoFeed part = All-take HoldsNoFeed (to - from) (drop from row) (All-drop HoldsNoFeed from row plain) in
+    All-append HoldsNoFeed (before ++ now) (drop (max from to) row) (All-append HoldsNoFeed before now (All-take HoldsNoFeed from row plain) (All-map HoldsNoFeed (restyled role true) part part_plain)) (All-drop HoldsNoFeed (max from to) row plain)
+
+stretches_plain : (role : ElementStyle) (gutter : ℕ) (line : List ℕ) (ss : List SubstitutionHighlight) (row : List Cell) → HasNoFeed row → HasNoFeed (with_stretches role gutter line ss row)
+unfolding with_stretches
+stretches_plain role gutter line [] row plain = plain
+stretches_plain role gutter line (s ∷ ss) row plain =
+    let from : ℕ = stretch_cell gutter line s.start in
+    let to : ℕ = stretch_cell gutter line s.end in
+    stretches_plain role gutter line ss (changed_within (restyled role true) from to row) (restyled_plain role from to row plain)
+
+line_row_plain : (layout : SuggestionLayout) (glyph : SuggestionGlyph) (number : ℕ) (line : List ℕ) → All IsNoFeed (chars line) → HasNoFeed (line_cells layout glyph number line)
+unfolding line_cells
+line_row_plain layout glyph number line plain =
+    let g : ℕ = layout.gutter in
+    let signed : List Cell = put (role_of glyph) (glyph_of layout.decor glyph) (g + 1) [] in
+    let digits : List ℕ = shown_number layout.numbers g number in
+    let signed_plain : HasNoFeed signed = put_plain (role_of glyph) (glyph_of layout.decor glyph) (g + 1) [] (All-nil HoldsNoFeed) (glyph_plain layout.decor glyph) in
+    let numbered_plain = put_plain LineNumber digits 0 signed signed_plain (number_plain layout.numbers g number) in
+    put_plain NoStyle (norm (chars line)) (g + 3) (put LineNumber digits 0 signed) numbered_plain (norm_plain (chars line) plain)
+
+-- a row that offers a line holds none
+abbrev IsPlainOffer : SuggestionRow → List Cell → Type 0
+IsPlainOffer (Begins at) row = Unit {0}
+IsPlainOffer (Offers k) row = HasNoFeed row
+IsPlainOffer Skips row = Unit {0}
+IsPlainOffer (Removes i number text) row = Unit {0}
+IsPlainOffer Empty row = Unit {0}
+IsPlainOffer (Ends follows) row = Unit {0}
+
+-- the lines that are given, by number
+given_line : (ls : List Line) (k : ℕ) → slice_index_or (texts_of ls) k [] ≡ text_at ls k
+given_line [] k = refl
+given_line (l ∷ ls) zero = refl
+given_line (l ∷ ls) (suc k) = given_line ls k
+
+-- no line of a text holds one
+text_line_plain : (text : List ℕ) (k : ℕ) → IsUtf8 text → All IsNoFeed (chars (slice_index_or (texts_of (lines_of text)) k []))
+text_line_plain [] k utf8 = line_plain [] 1 utf8
+text_line_plain (b ∷ bs) k utf8 =
+    subst (λ line. All IsNoFeed (chars line)) (sym (given_line (lines_of (b ∷ bs)) k)) (line_plain (b ∷ bs) k utf8)
+
+module _ (layout : SuggestionLayout) (s : Snippet Patch) (utf8 : IsUtf8 (given_text s)) where
+  offer_plain : (under : List Cell) (shown : SuggestionRow) → IsPlainOffer shown (row_cells layout s under shown)
+  unfolding row_cells offered_cells
+  offer_plain under (Begins at) = tt
+  offer_plain under (Offers k) =
+      let line : List ℕ = slice_index_or (given_lines s) k [] in
+      let glyph : SuggestionGlyph = sign_of (shown_kind s) (length (given_lines s)) line (new_on s k) in
+      let number : ℕ = number_after (s.line_start + first_given s) k in
+      stretches_plain Addition layout.gutter (chars line) (new_on s k) (line_cells layout glyph number line) (line_row_plain layout glyph number line (text_line_plain (given_text s) k utf8))
+  offer_plain under Skips = tt
+  offer_plain under (Removes i number text) = tt
+  offer_plain under Empty = tt
+  offer_plain under (Ends follows) = tt
+
+  offers_later : (rows : List SuggestionRow) → AllZip IsPlainOffer rows (map (row_cells layout s []) rows)
+  offers_later [] = tt
+  offers_later (row ∷ rows) = (offer_plain [] row, offers_later rows)
+
+  offers_over : (under : List Cell) (rows : List SuggestionRow) → AllZip IsPlainOffer rows (cells_over (row_cells layout s) under rows)
+  offers_over under [] = tt
+  offers_over under (row ∷ rows) = (offer_plain under row, offers_later rows)
+
+  -- other roles bring none
+  offer_kept : (f : List Cell → List Cell) → ((row : List Cell) → HasNoFeed row → HasNoFeed (f row)) → (shown : SuggestionRow) (row : List Cell) → IsPlainOffer shown row → IsPlainOffer shown (f row)
+  offer_kept f keeps (Begins at) row plain = tt
+  offer_kept f keeps (Offers k) row plain = keeps row plain
+  offer_kept f keeps Skips row plain = tt
+  offer_kept f keeps (Removes i number text) row plain = tt
+  offer_kept f keeps Empty row plain = tt
+  offer_kept f keeps (Ends follows) row plain = tt
+
+  offers_last : (f : List Cell → List Cell) → ((row : List Cell) → HasNoFeed row → HasNoFeed (f row)) → (shown : List SuggestionRow) (rows : List (List Cell)) → AllZip IsPlainOffer shown rows → AllZip IsPlainOffer shown (on_last f rows)
+  unfolding on_last
+  offers_last f keeps [] [] plain = tt
+  offers_last f keeps [] (row ∷ rows) plain = elim plain [ ]
+  offers_last f keeps (x ∷ shown) [] plain = elim plain [ ]
+  offers_last f keeps (x ∷ shown) (row ∷ []) plain = (offer_kept f keeps x row plain.0, plain.1)
+  offers_last f keeps (x ∷ shown) (row ∷ next ∷ rows) plain = (plain.0, offers_last f keeps shown (next ∷ rows) plain.1)
+
+  offers_left_out : (lines : List (List ℕ)) (shown : List SuggestionRow) (rows : List (List Cell)) → AllZip IsPlainOffer shown rows → AllZip IsPlainOffer shown (with_left_out layout s lines rows)
+  offers_left_out [] shown rows plain = plain
+  offers_left_out (line ∷ lines) shown rows plain =
+      let gone : List SubstitutionHighlight = cond (bytes_eq line (last_reached s)) (replaced_on s (last_line_reached (cow_str_bytes s.source) (edits_of s) - first_given s)) [] in
+      let f : List Cell → List Cell = left_out_cells layout.gutter line gone (new_on s 0) in
+      let keeps : (row : List Cell) → HasNoFeed row → HasNoFeed (f row) =
+      λ row own. stretches_plain Addition layout.gutter (chars line) (new_on s 0) (with_stretches Removal layout.gutter (chars line) gone row) (stretches_plain Removal layout.gutter (chars line) gone row own) in
+      let test : Bool = is_diff (shown_kind s) && is_touched s.fold (given_ranges s) 0 && is_left_out (shown_kind s) (line ∷ lines) (last_reached s) in
+      elim test as (λ b. AllZip IsPlainOffer shown (cond b (on_last f rows) rows)) [
+        | true ↦ offers_last f keeps shown rows plain
+        | false ↦ plain
+      ]
+
+  offers_body : (at : SuggestionStart) (under : List Cell) → AllZip IsPlainOffer (rows_of_suggestion at s) (body_cells layout at s under)
+  unfolding body_cells
+  offers_body at under =
+      offers_left_out (given_lines s) (rows_of_suggestion at s) (cells_over (row_cells layout s) under (rows_of_suggestion at s)) (offers_over under (rows_of_suggestion at s))
+
+-- ---- all rows
+
+module _ (r : Renderer) (frame : Frame) (around : ElementContext) (s : Snippet Patch) where
+  abbrev own_layout : SuggestionLayout
+  own_layout = suggestion_layout r frame s
+
+  offers_drawn : (lines : List (List Cell)) → IsUtf8 (given_text s) → AreSuggestionRows r frame around s lines → AllZip IsPlainOffer (suggestion_rows around s) lines
+  offers_drawn lines utf8 drawn =
+      let next : Bool = not (is_end around.next) in
+      let shown : List SuggestionRow = rows_of_suggestion around.start s in
+      let body : List (List Cell) = body_cells own_layout around.start s drawn.under in
+      let last : List (List Cell) = cond around.shared [] (row_cells own_layout s [] (Ends next) ∷ []) in
+      subst (AllZip IsPlainOffer (suggestion_rows around s)) (sym drawn.are)
+      (zip_append IsPlainOffer shown (cond around.shared [] (Ends next ∷ [])) body last (offers_body own_layout s utf8 around.start drawn.under) (ends around.shared next))
+    where
+      ends : (shared next : Bool) → AllZip IsPlainOffer (cond shared [] (Ends next ∷ [])) (cond shared [] (row_cells own_layout s [] (Ends next) ∷ []))
+      ends true next = tt
+      ends false next = (tt, tt)
+
+  abbrev IsShown : SuggestionRow → List Cell → Type 0
+  IsShown = Shows own_layout (s.line_start + first_given s) (given_lines s)
+
+  one_row : (shown : SuggestionRow) (row : List Cell) → IsUtf8 (cow_str_bytes s.source) → IsShown shown row → IsPlainOffer shown row → IsRowOf s shown → HasNoFeed row
+  one_row (Begins at) row utf8 is offer own = bare_one_line own_layout.decor own_layout.gutter row is.bare
+  one_row (Offers k) row utf8 is offer own = offer
+  one_row Skips row utf8 is offer own = bare_one_line own_layout.decor own_layout.gutter row is.bare
+  one_row (Removes i number text) row utf8 is offer own =
+      let plain : All IsNoFeed (chars text) = subst (λ t. All IsNoFeed (chars t)) (sym own.1) (line_plain (cow_str_bytes s.source) i utf8) in
+      removed_one_line own_layout.numbers own_layout.decor own_layout.gutter (shown_number own_layout.numbers own_layout.gutter number) (norm (chars text)) row is (norm_plain (chars text) plain)
+  one_row Empty row utf8 is offer own = bare_one_line own_layout.decor own_layout.gutter row is.bare
+  one_row (Ends follows) row utf8 is offer own = bare_one_line own_layout.decor own_layout.gutter row is.bare
+
+  all_rows : (shown : List SuggestionRow) (rows : List (List Cell)) → IsUtf8 (cow_str_bytes s.source) → AllZip IsShown shown rows → AllZip IsPlainOffer shown rows → All (IsRowOf s) shown → All HasNoFeed rows
+  all_rows [] [] utf8 are offers own = All-nil HasNoFeed
+  all_rows [] (row ∷ rows) utf8 are offers own = elim are [ ]
+  all_rows (x ∷ shown) [] utf8 are offers own = elim are [ ]
+  all_rows (x ∷ shown) (row ∷ rows) utf8 are offers own =
+      All-cons HasNoFeed row rows (one_row x row utf8 are.0 offers.0 (All-head (IsRowOf s) x shown own)) (all_rows shown rows utf8 are.1 offers.1 (All-tail (IsRowOf s) x shown own))
+
+  path_plain : (first : Bool) (path : Option (List ℕ)) → IsOneLineText path → All HasNoFeed (path_row r frame first s path)
+  path_plain first None plain = All-nil HasNoFeed
+  path_plain first (Some path) plain =
+      All-cons HasNoFeed _ [] (row_plain (origin_layout r frame) (primary_start first) path (patch_place s) plain) (All-nil HasNoFeed)
+
+  head_plain : (at : SuggestionStart) (first : Bool) → IsOneLineText (path_bytes s.path) → All HasNoFeed (suggestion_head_at at r frame first s)
+  head_plain start.Opening first plain = All-nil HasNoFeed
+  head_plain start.Next first plain = All-nil HasNoFeed
+  head_plain start.Path first plain = path_plain first (path_bytes s.path) plain
+
+  -- where its path holds no line feed, no row of a suggestion holds one
+  pub suggestion_one_line : (rows : List (List Cell)) → IsSuggestionDrawn r frame around s rows → All (IsRowOf s) (suggestion_rows around s) → IsOneLineText (path_bytes s.path) → All HasNoFeed rows
+  suggestion_one_line rows drawn own plain =
+      let head : List (List Cell) = suggestion_head r frame around s in
+      let lines : All HasNoFeed drawn.lines = all_rows (suggestion_rows around s) drawn.lines drawn.utf8 drawn.are (offers_drawn drawn.lines drawn.given_utf8 drawn.cells) own in
+      subst (All HasNoFeed) (sym drawn.rows_are) (All-append HasNoFeed head drawn.lines (head_plain around.start around.first plain) lines)
