@@ -1,5 +1,5 @@
 -- Rows that show a group.
-use Rattle.std.proofs.Common.{◌≡◌, ℕ, All, List, [], ◌∷◌, Option}
+use Rattle.std.proofs.Common.{◌≡◌, ℕ, List, [], ◌∷◌, Option}
 use Rattle.std.specs.List.{flat_map}
 use Rattle.std.specs.Option.{option_to_list}
 use Rattle.snippet_style.specs.Cell.{Cell}
@@ -9,7 +9,7 @@ use Rattle.snippet_model.specs.declared.snippet.Group.{Group}
 use Rattle.snippet_model.specs.declared.snippet.Title.{Title}
 use Rattle.snippet_model.specs.Trusted.{trusted_texts}
 use Rattle.snippet_titles.specs.Title.{id_links}
-use Rattle.annotate_snippets.specs.Feeds.{HasNoFeed, IsOneLineGroup}
+use Rattle.annotate_snippets.specs.Feeds.{HasOneLineRows, IsOneLineGroup}
 use Rattle.annotate_snippets.specs.Page.{GroupPage, group_rows}
 use Rattle.annotate_snippets.specs.Shown.{IsFreeBut, ShowsGroup}
 use Rattle.annotate_snippets.specs.declared.renderer.Renderer.{Renderer}
@@ -24,4 +24,4 @@ pub record GroupShown (r : Renderer) (frame : Frame) (place : GroupPosition) (fi
   pub shows : ShowsGroup r frame place file g page
   pub links : links_of rows ≡ flat_map (λ (t : Title). id_links r.hyperlink t.id) (option_to_list g.title)
   pub free : IsFreeBut (trusted_texts (g ∷ [])) (plain_text rows)
-  pub one_line : IsOneLineGroup g → All HasNoFeed (group_rows page)
+  pub one_line : IsOneLineGroup g → HasOneLineRows page

@@ -82,8 +82,9 @@ line_plain source k utf8 =
       | inr past ↦ subst (λ (l : Line). All IsNoFeed (chars l.0)) (sym (get_or_past (source_lines source) k ([], Eof) past)) (chars_plain [] IsUtf8-nil (All-nil (λ b. b ≢ 10)))
     ]
 
--- ---- glyphs
+-- ---- glyphs. The type of an entry with its place has no name outside its crate, so `_` stands for it
 
+-- a glyph of which no form is a line feed
 glyph_plain : (decor : DecorStyle) (primary : Bool) (a b c d : ℕ) → IsNoFeed a → IsNoFeed b → IsNoFeed c → IsNoFeed d → IsNoFeed (glyph_of decor primary a b c d)
 glyph_plain Ascii true a b c d is_a is_b is_c is_d = is_a
 glyph_plain Ascii false a b c d is_a is_b is_c is_d = is_b

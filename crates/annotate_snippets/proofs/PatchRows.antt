@@ -236,4 +236,5 @@ patches_added r frame around s above tail old mid new numbers next result number
     let drawn : Draws (follows around) (suggestion_layout r frame s) = subst (λ b. Draws b (suggestion_layout r frame s)) next_is (subst (λ n. Draws next (layout_with r frame n)) numbers_are draws) in
     let Cells : Bool → SuggestionLayout → Type 0 = λ b layout. DrawsCells s around.start b mid new result layout in
     let cells : Cells (follows around) (suggestion_layout r frame s) = subst (λ b. Cells b (suggestion_layout r frame s)) next_is (subst (λ n. Cells next (layout_with r frame n)) numbers_are draws_cells) in
-    on_ok_two result (suggestion_added r frame around s (row_at begun.end 0) above new utf8 given_utf8 begun.found) (drawn (gutter_room r frame s some room) (above ++ suggestion_head r frame around s) begun.end begun.is begun.start) (cells (above ++ suggestion_head r frame around s) begun.end begun.is begun.count)
+    let added = suggestion_added r frame around s (row_at begun.end 0) above new utf8 given_utf8 begun.found in
+    on_ok_two result added (drawn (gutter_room r frame s some room) (above ++ suggestion_head r frame around s) begun.end begun.is begun.start) (cells (above ++ suggestion_head r frame around s) begun.end begun.is begun.count)

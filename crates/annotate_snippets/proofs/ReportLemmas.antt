@@ -21,7 +21,7 @@ use Rattle.annotate_snippets.specs.declared.renderer.graphic.GroupGrid.{GroupGri
 use Rattle.annotate_snippets.specs.Around.{file_of_group, place_at}
 use Rattle.annotate_snippets.specs.Drawn.{AreGridsOf}
 use Rattle.annotate_snippets.specs.Fault.{first_fault, first_refusal, form_of, missing_title}
-use Rattle.annotate_snippets.specs.Feeds.{HasOneLineTexts, IsOneLineGroup}
+use Rattle.annotate_snippets.specs.Feeds.{HasOneLineRows, HasOneLineTexts, IsOneLineGroup}
 use Rattle.annotate_snippets.specs.Gutter.{frame_of}
 use Rattle.annotate_snippets.specs.Page.{ArePrinted, GroupPage, Page, PrintsGrids, PrintsPage, group_rows, page_links, page_text}
 use Rattle.annotate_snippets.specs.Prepared.{IsGroupDrawable}
@@ -33,7 +33,7 @@ use Rattle.annotate_snippets.proofs.GroupShown.{GroupShown}
 use Rattle.annotate_snippets.proofs.PrintLemmas.{AllZip-weaker}
 use Rattle.annotate_snippets.proofs.ReportTexts.{free_first, free_rest, links_of_titles, title_links}
 use Rattle.annotate_snippets.proofs.RoomLemmas.{room_in_report}
-use Rattle.annotate_snippets.proofs.TextLineLaws.{IsOneLinePart, lines_of_page}
+use Rattle.annotate_snippets.proofs.TextLineLaws.{lines_of_page}
 use Rattle.annotate_snippets.proofs.WovenLemmas.{IsWoven-from_page, grid_links, grid_plain}
 
 -- two free texts with a line feed between them, which isn't listed
@@ -44,6 +44,7 @@ free_joined trusted a b first second =
 -- places that are counted on
 none_more : (n : ℕ) → n + 0 ≡ n
 none_more n = omega arith
+
 
 one_more : (n i : ℕ) → suc n + i ≡ n + suc i
 one_more n i = omega arith
@@ -67,7 +68,7 @@ module _ (r : Renderer) (groups : List Group) where
     pub links : flat_map grid_links grids ≡ flat_map (title_links r.hyperlink) gs
     pub free : IsFreeBut (trusted_texts gs) (join_with_byte 10 (map grid_plain grids))
     pub printed : (sheet : Stylesheet) (parts : List (List ℕ)) → AllZip (λ (grid : GroupGrid) part. Prints sheet grid.level grid.buffer part) grids parts → ArePrinted sheet (levels_of gs) page parts
-    pub one_line : HasOneLineTexts gs → All IsOneLinePart page
+    pub one_line : HasOneLineTexts gs → All HasOneLineRows page
 
   -- one more group above
   free_above : (g : Group) (gs : List Group) (grid : GroupGrid) (grids : List GroupGrid) → IsFreeBut (trusted_texts (g ∷ [])) (grid_plain grid)
@@ -88,7 +89,7 @@ module _ (r : Renderer) (groups : List Group) where
         links = ap (λ urls. urls ++ flat_map grid_links grids) shown.links ∙ ap (λ urls. title_links r.hyperlink g ++ urls) rest.links;
         free = free_above g gs grid grids shown.free rest.free;
         printed = printed;
-        one_line = λ plain. All-cons IsOneLinePart shown.page rest.page (shown.one_line (All-head IsOneLineGroup g gs plain)) (rest.one_line (All-tail IsOneLineGroup g gs plain));
+        one_line = λ plain. All-cons HasOneLineRows shown.page rest.page (shown.one_line (All-head IsOneLineGroup g gs plain)) (rest.one_line (All-tail IsOneLineGroup g gs plain));
       }
     where
       each : (i : ℕ) (h : Group) (part : GroupPage) → slice_get (g ∷ gs) i ≡ Some h → slice_get (shown.page ∷ rest.page) i ≡ Some part → IsShownAt (n + i) h part
@@ -114,7 +115,7 @@ module _ (r : Renderer) (groups : List Group) where
         links = refl;
         free = All-nil (λ c. is_listed c ≡ true → Contains (flat_map chars (trusted_texts [])) c);
         printed = nothing;
-        one_line = λ plain. All-nil IsOneLinePart;
+        one_line = λ plain. All-nil HasOneLineRows;
       }
     where
       nothing : (sheet : Stylesheet) (parts : List (List ℕ)) → AllZip (λ (grid : GroupGrid) part. Prints sheet grid.level grid.buffer part) [] parts → ArePrinted sheet [] [] parts

@@ -1,12 +1,13 @@
 -- The lines of a page's text are its rows, where no row holds a line feed.
-use Rattle.std.proofs.Common.{◌≡◌, ℕ, ◌<◌, ◌==◌, Bool, true, false, List, [], ◌∷◌, ◌++◌, All, length, map, refl, sym, ap, ◌∙◌, arith}
+use Rattle.std.proofs.Common.{◌≡◌, ℕ, ◌<◌, ◌==◌, Bool, true, false, List, [], ◌∷◌, ◌++◌, All, codes, length, map, refl, sym, ap, ◌∙◌, arith}
 use Rattle.std.specs.List.{flat_map, onto_first}
 use Rattle.std.proofs.lemmas.List.{append-nil}
 use Rattle.std.proofs.lemmas.List.Elements.{All-head, All-map, All-tail}
 use Rattle.std.proofs.lemmas.List.Splits.{length-slice_split, slice_split-cons_no, slice_split-cons_yes, slice_split_at, slice_split_none}
 use Rattle.snippet_grid.specs.Print.{further_text, plain_text, row_text}
-use Rattle.snippet_style.specs.Cell.{Cell}
-use Rattle.annotate_snippets.specs.Feeds.{HasNoFeed, IsNoFeed, group_lines, or_empty_line, page_lines, text_lines}
+use Rattle.snippet_style.specs.Cell.{Cell, text_cells}
+use Rattle.snippet_style.specs.declared.role.ElementStyle.TheVariants.{LineNumber}
+use Rattle.annotate_snippets.specs.Feeds.{HasNoFeed, HasOneLineRows, IsNoFeed, group_lines, or_empty_line, page_lines, text_lines}
 use Rattle.annotate_snippets.specs.Page.{GroupPage, Page, group_rows, page_text}
 
 -- ---- two texts with a line feed between them
@@ -48,18 +49,29 @@ some_lines : (lines more : List (List ℕ)) → or_empty_line (or_empty_line lin
 some_lines [] more = refl
 some_lines (line ∷ lines) more = refl
 
--- a group's rows hold no line feed
-abbrev pub IsOneLinePart : GroupPage → Type 0
-IsOneLinePart g = All HasNoFeed (group_rows g)
-
 -- the lines of a page's text are its rows, where these hold no line feed
-pub lines_of_page : (page : Page) → All IsOneLinePart page → text_lines (page_text page) ≡ page_lines page
+pub lines_of_page : (page : Page) → All HasOneLineRows page → text_lines (page_text page) ≡ page_lines page
 lines_of_page [] all = refl
 lines_of_page (g ∷ []) all =
-    lines_of_rows (group_rows g) (All-head IsOneLinePart g [] all) ∙ sym (append-nil (group_lines g)) ∙ sym (some_lines (map row_text (group_rows g)) [])
+    lines_of_rows (group_rows g) (All-head HasOneLineRows g [] all) ∙ sym (append-nil (group_lines g)) ∙ sym (some_lines (map row_text (group_rows g)) [])
 lines_of_page (g ∷ h ∷ page) all =
     let later : Page = h ∷ page in
     lines_joined (plain_text (group_rows g)) (page_text later)
-    ∙ ap (λ lines. lines ++ text_lines (page_text later)) (lines_of_rows (group_rows g) (All-head IsOneLinePart g later all))
-    ∙ ap (λ lines. group_lines g ++ lines) (lines_of_page (h ∷ page) (All-tail IsOneLinePart g later all) ∙ some_lines (map row_text (group_rows h)) (flat_map group_lines page))
+    ∙ ap (λ lines. lines ++ text_lines (page_text later)) (lines_of_rows (group_rows g) (All-head HasOneLineRows g later all))
+    ∙ ap (λ lines. group_lines g ++ lines) (lines_of_page (h ∷ page) (All-tail HasOneLineRows g later all) ∙ some_lines (map row_text (group_rows h)) (flat_map group_lines page))
     ∙ sym (some_lines (map row_text (group_rows g)) (flat_map group_lines later))
+
+-- ---- computed on small inputs
+
+-- two groups of one row each, and between them one without rows, are three lines, the second of which is empty
+abbrev one_row : GroupPage
+one_row = record { title = text_cells LineNumber (codes "ab") ∷ []; elements = [] }
+
+abbrev small_page : Page
+small_page = one_row ∷ record { title = []; elements = [] } ∷ one_row ∷ []
+
+small_lines : page_lines small_page ≡ codes "ab" ∷ [] ∷ codes "ab" ∷ []
+small_lines = refl
+
+small_text : text_lines (page_text small_page) ≡ codes "ab" ∷ [] ∷ codes "ab" ∷ []
+small_text = refl

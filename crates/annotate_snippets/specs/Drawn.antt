@@ -52,8 +52,8 @@ use Rattle.annotate_snippets.specs.declared.renderer.form.Form.TheVariants.{Grap
 abbrev pub layout_in : Renderer → Frame → Layout
 layout_in r frame = record { gutter = frame.gutter; code = frame.code; decor = r.decor_style }
 
--- the rows of an annotated snippet's lines, those of a source in UTF-8: the lines that are shown, each with its entries, between the bounds for those that
--- are kept, in a room of what is left of the width. The group's window may close with the last of them
+-- the rows of an annotated snippet's lines, whose source is UTF-8: the lines that are shown, each with its entries, between the bounds
+-- for those that are kept, in a room of what is left of the width. The group's window may close with the last of them
 pub record AreCauseRows (r : Renderer) (frame : Frame) (closes : Bool) (s : Snippet Annotation) (rows : List (List Cell)) : Type 0 where
   pub utf8 : IsUtf8 (cow_str_bytes s.source)
   pub infos : List AnnotatedLineInfo

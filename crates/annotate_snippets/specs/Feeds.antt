@@ -30,6 +30,10 @@ HoldsNoFeed cell = IsNoFeed cell.ch
 abbrev pub HasNoFeed : List Cell → Type 0
 HasNoFeed row = All HoldsNoFeed row
 
+-- a group each row of which is such
+abbrev pub HasOneLineRows : GroupPage → Type 0
+HasOneLineRows g = All HasNoFeed (group_rows g)
+
 -- ---- lines of a text
 
 -- the lines of a text: what stands between its line feeds, one line more than there are of these
