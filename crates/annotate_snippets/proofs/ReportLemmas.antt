@@ -45,7 +45,6 @@ free_joined trusted a b first second =
 none_more : (n : ℕ) → n + 0 ≡ n
 none_more n = omega arith
 
-
 one_more : (n i : ℕ) → suc n + i ≡ n + suc i
 one_more n i = omega arith
 
