@@ -1,6 +1,7 @@
 pub mod ChangeLemmas
 pub mod ChangedRow
 pub mod CopyLemmas
+pub mod CodeLemmas
 pub mod CutLemmas
 pub mod GridChanged
 pub mod GridLemmas

@@ -1,12 +1,13 @@
 //! The codes that open a sheet's styles, each made once.
-ghost use Rattle.std.specs.Prelude.{◌≡◌, ◌<◌, ℕ, List, map, slice_index_or, IfOk, string_bytes, encode_utf8_all};
-ghost use Rattle.snippet_grid.specs.Codes.{opening_bytes, styles_in};
+ghost use Rattle.std.specs.Prelude.{◌≡◌, ◌<◌, slice_index_or, IfOk, OnOk, string_bytes, encode_utf8_all};
+ghost use Rattle.snippet_grid.specs.Codes.{AreOpenings, IsOpening, styles_in};
+ghost use Rattle.snippet_grid.specs.Runs.{BeginsWith};
 ghost use Rattle.snippet_style.specs.Codes as codes;
 ghost use Rattle.snippet_style.specs.Stylesheet as spec;
 ghost use Rattle.snippet_style.specs.declared.style.Style.{Style};
 ghost use Rattle.snippet_style.specs.declared.stylesheet.Stylesheet.{Stylesheet};
 
-use snippet_style::{ElementStyle, LevelInner, Style, Stylesheet, open_code};
+use snippet_style::{ElementStyle, LevelInner, Style, Stylesheet, write_opening};
 use std::alloc::{AllocError, Global};
 use std::marker::Model;
 
@@ -14,20 +15,29 @@ use std::marker::Model;
 #[derive(Drop)]
 pub struct SheetCodes {
     sheet: Stylesheet,
-    /// The codes of the sheet's styles, in the order of its fields.
-    openings: Vec<String>,
+    /// The codes, one after another.
+    text: String,
+    /// Where in it the code of each style stands, in the order of the sheet's fields.
+    pieces: Vec<Piece>,
+}
+
+/// A piece of a text: the byte at which it starts, and the one after it.
+#[derive(Clone, Copy)]
+pub(crate) struct Piece {
+    pub(crate) start: usize,
+    pub(crate) end: usize,
 }
 
 impl Model for SheetCodes {
-    ghost use Rattle.std.specs.Prelude.{◌≡◌, map, string_bytes};
-    ghost use Rattle.snippet_grid.specs.Codes.{opening_bytes, styles_in};
+    ghost use Rattle.std.specs.Prelude.{string_bytes};
+    ghost use Rattle.snippet_grid.specs.Codes.{AreOpenings, styles_in};
     ghost use Rattle.snippet_style.specs.declared.stylesheet.Stylesheet.{Stylesheet};
 
     ghost Value = { Stylesheet };
 
     ghost view = { λ c. c.sheet };
 
-    ghost invariant = { λ c. map string_bytes c.openings.items ≡ map opening_bytes (styles_in c.sheet) };
+    ghost invariant = { λ c. AreOpenings (string_bytes c.text) c.pieces.items (styles_in c.sheet) };
 }
 
 impl SheetCodes {
@@ -39,9 +49,11 @@ impl SheetCodes {
     pub fn new(alloc: Global, sheet: &Stylesheet) -> Result<SheetCodes, AllocError>
         ensures sheet { IfOk result (λ made. made ≡ sheet.now) }
     {
+        let (text, pieces) = openings(alloc, &styles(sheet))?;
         Ok(SheetCodes {
             sheet: *sheet,
-            openings: openings(alloc, &styles(sheet))?,
+            text,
+            pieces,
         })
     }
 
@@ -56,7 +68,8 @@ impl SheetCodes {
     pub(crate) fn opening_of(&self, level: LevelInner, role: ElementStyle) -> &str
         ensures value { result.now ≡ encode_utf8_all (codes.opening (spec.style_of self.now level role)) }
     {
-        self.openings[place_of(level, role)].as_str()
+        let piece = self.pieces[place_of(level, role)];
+        &self.text.as_str()[piece.start..piece.end]
     }
 }
 
@@ -79,15 +92,32 @@ fn styles(sheet: &Stylesheet) -> [Style; 11]
     ]
 }
 
-/// The code that opens each of some styles.
-fn openings(alloc: Global, styles: &[Style]) -> Result<Vec<String>, AllocError>
-    ensures value { IfOk result (λ made. map string_bytes made.items ≡ map opening_bytes styles.now) }
+/// The codes that open some styles, one after another, and where each stands.
+fn openings(alloc: Global, styles: &[Style]) -> Result<(String, Vec<Piece>), AllocError>
+    ensures openings { IfOk result (λ made. AreOpenings (string_bytes made.0) made.1.items styles.now) }
 {
-    let mut openings = Vec::with_capacity(alloc, styles.len())?;
+    let mut text = String::with_capacity(alloc, ROOM * styles.len())?;
+    let mut pieces = Vec::with_capacity(alloc, styles.len())?;
     for style in styles {
-        openings.push(open_code(alloc, *style)?)?;
+        pieces.push(push_opening(&mut text, *style)?)?;
     }
-    Ok(openings)
+    Ok((text, pieces))
+}
+
+/// Room for the code of a style of the default sheet, in bytes.
+const ROOM: usize = 12;
+
+/// Adds the code that opens a style to a text.
+fn push_opening(text: &mut String, style: Style) -> Result<Piece, AllocError>
+    ensures piece { IfOk result (λ piece. IsOpening (string_bytes text.new) piece style) }
+    ensures begins { OnOk result (BeginsWith (string_bytes text.old) (string_bytes text.new)) }
+{
+    let start = text.len();
+    write_opening(text, style)?;
+    Ok(Piece {
+        start,
+        end: text.len(),
+    })
 }
 
 /// Where the style of a cell of this role stands among a sheet's styles, in a group of this level.

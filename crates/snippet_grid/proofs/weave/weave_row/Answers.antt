@@ -10,6 +10,7 @@ use Rattle.snippet_grid.specs.Runs.{run_bytes, cells_to}
 use Rattle.snippet_grid.specs.Stretch.{PrintsStretch}
 use Rattle.snippet_grid.specs.declared.runs.Run.{Run}
 use Rattle.snippet_style.specs.declared.role.ElementStyle.TheVariants.{MainHeaderMsg}
+use Rattle.snippet_style.specs.declared.style.Style.{Style}
 use Rattle.snippet_grid.proofs.weave.weave_row.Goals as goal
 use Rattle.snippet_grid.proofs.weave.weave_row.Goals.{then-col-run+in_ok-weave_gap, else-col-run, then-col-width+in_ok-weave_gap-2, else-col-width}
 
@@ -19,8 +20,10 @@ none = record { row = 0; cell = 0; count = 0; start = 0; end = 0; role = MainHea
 
 pub loop-run-init : goal.loop-run-init
 loop-run-init c =
+    let begun : List ℕ = string_bytes c.args.out.now in
+    let Woven : Style → Type 0 = λ style. WovenTo c.args.codes.now c.args.level c.args.text.now c.args.runs.now c.args.row 0 0 style None begun begun in
     record {
-      woven = subst (λ style. WovenTo c.args.codes.now c.args.level c.args.text.now c.args.runs.now c.args.row 0 0 style None (string_bytes c.args.out.now) (string_bytes c.args.out.now)) (sym c.style_of-space.ensures.value) (woven_start c.args.codes.now c.args.level c.args.text.now c.args.runs.now c.args.row (string_bytes c.args.out.now));
+      woven = subst Woven (sym c.style_of-space.ensures.value) (woven_start c.args.codes.now c.args.level c.args.text.now c.args.runs.now c.args.row begun);
       inside = omega arith;
     }
 
