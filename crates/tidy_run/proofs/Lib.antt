@@ -10,3 +10,4 @@ mod ToldLemmas
 mod WithinLemmas
 mod FileLemmas
 pub mod OfferLaws
+pub mod WrittenLemmas

@@ -1,0 +1,47 @@
+-- The texts of a run: one for each sheet, if any, and what is written of them is what shows the findings.
+use Rattle.std.proofs.Common.{◌≡◌, ℕ, List, [], ◌∷◌, Option, None, Some, IfSome, IsSomeAnd, String, Global, inl, inr, ◌⊎◌, length, map, ap, string_bytes, subst, sym, ◌∙◌}
+use Rattle.std.proofs.lemmas.List.{length-map, nil_from_length}
+use Rattle.std.proofs.lemmas.Slice.Zip.{AllZip-long}
+use Rattle.annotate_snippets.specs.declared.renderer.style.Stylesheet.{Stylesheet}
+use Rattle.tidy_run.specs.Report.{Told}
+use Rattle.tidy_run.specs.Run.{AreTextsOf, AreWritten, IsSource, IsWritten, ShowsTold, sheets_for}
+use Rattle.tidy_run.specs.Words.{Line, Word}
+
+-- there is no text of a report, or one for each sheet
+counted : (path source : List ℕ) (told : List Told) (sheets : List Stylesheet) (texts : List (List ℕ)) → AreTextsOf path source told sheets texts → (texts ≡ []) ⊎ (length texts ≡ length sheets)
+counted path source [] sheets texts none = inl none
+counted path source (t ∷ ts) sheets texts shown = inr (AllZip-long _ sheets texts shown.shows.printed)
+
+-- so it is of the texts of a file that was read
+pub counted_texts : (file : Option (List ℕ)) (path : List ℕ) (told : List ℕ → List Told) (sheets : List Stylesheet) (texts : List (String Global)) → IsSomeAnd file IsSource
+    → IfSome file (λ source. AreTextsOf path source (told source) sheets (map string_bytes texts)) → (texts ≡ []) ⊎ (length texts ≡ length sheets)
+counted_texts None path told sheets texts read shows = absurd read
+counted_texts (Some source) path told sheets texts read shows =
+    elim (counted path source (told source) sheets (map string_bytes texts) shows) [
+      | inl none ↦ inl (nil_from_length texts (sym (length-map texts string_bytes) ∙ ap length none))
+      | inr many ↦ inr (sym (length-map texts string_bytes) ∙ many)
+    ]
+
+-- texts that are written show what is told
+shown_told : (path source : List ℕ) (told : List Told) (sheets : List Stylesheet) (texts : List (List ℕ)) (log : Option Word) (Printed Logged : List ℕ → Type 0)
+    → AreTextsOf path source told sheets texts → AreWritten log Printed Logged texts → ShowsTold path source told sheets texts
+shown_told path source [] sheets texts log Printed Logged none written = absurd (subst (AreWritten log Printed Logged) none written)
+shown_told path source (t ∷ ts) sheets texts log Printed Logged shown written = shown
+
+-- so what is written for the words of a line is the texts that show what is told of its file
+pub written_texts : (line : Option Line) (file : Option (List ℕ)) (made : Line) (told : List ℕ → List Told) (texts read : List (List ℕ)) (Printed Logged : List ℕ → Type 0) → Some made ≡ line → read ≡ texts
+    → IfSome file (λ source. AreTextsOf made.file source (told source) (sheets_for made.log) texts) → AreWritten made.log Printed Logged read
+    → IfSome line (λ l. IfSome file (λ source. IsWritten l.file source (told source) l.log Printed Logged))
+written_texts line file made told texts read Printed Logged is same shows written_read =
+    subst (λ l. IfSome l (λ m. IfSome file (λ source. IsWritten m.file source (told source) m.log Printed Logged))) is (of_file file shows)
+  where
+    written : AreWritten made.log Printed Logged texts
+    written = subst (AreWritten made.log Printed Logged) same written_read
+
+    of_file : (given : Option (List ℕ)) → IfSome given (λ source. AreTextsOf made.file source (told source) (sheets_for made.log) texts) → IfSome given (λ source. IsWritten made.file source (told source) made.log Printed Logged)
+    of_file None none = tt
+    of_file (Some source) are = record {
+      texts = texts;
+      shows = shown_told made.file source (told source) (sheets_for made.log) texts made.log Printed Logged are written;
+      written = written;
+    }
