@@ -1,8 +1,6 @@
-//! The codes that open a sheet's styles, each made once.
-ghost use Rattle.std.specs.Prelude.{◌≡◌, ◌<◌, slice_index_or, IfOk, OnOk, string_bytes, encode_utf8_all};
-ghost use Rattle.snippet_grid.specs.Codes.{AreOpenings, IsOpening, styles_in};
-ghost use Rattle.snippet_grid.specs.Runs.{BeginsWith};
-ghost use Rattle.snippet_style.specs.Codes as codes;
+//! The codes that open a sheet's styles, each made once, when it is first needed.
+ghost use Rattle.std.specs.Prelude.{◌≡◌, ◌≢◌, ◌<◌, ◌++◌, true, false, slice_index_or, IfOk, OnOk, string_bytes};
+ghost use Rattle.snippet_grid.specs.Codes.{AreOpenings, opening_bytes, styles_in};
 ghost use Rattle.snippet_style.specs.Stylesheet as spec;
 ghost use Rattle.snippet_style.specs.declared.style.Style.{Style};
 ghost use Rattle.snippet_style.specs.declared.stylesheet.Stylesheet.{Stylesheet};
@@ -11,25 +9,16 @@ use snippet_style::{ElementStyle, LevelInner, Style, Stylesheet, write_opening};
 use std::alloc::{AllocError, Global};
 use std::marker::Model;
 
-/// A sheet of styles, with the code that opens each of them.
+/// A sheet of styles, with the codes that open them.
 #[derive(Drop)]
 pub struct SheetCodes {
+    alloc: Global,
     sheet: Stylesheet,
-    /// The codes, one after another.
-    text: String,
-    /// Where in it the code of each style stands, in the order of the sheet's fields.
-    pieces: Vec<Piece>,
-}
-
-/// A piece of a text: the byte at which it starts, and the one after it.
-#[derive(Clone, Copy)]
-pub(crate) struct Piece {
-    pub(crate) start: usize,
-    pub(crate) end: usize,
+    /// The codes that were needed so far, in the order of the sheet's fields.
+    codes: [Option<String>; 11],
 }
 
 impl Model for SheetCodes {
-    ghost use Rattle.std.specs.Prelude.{string_bytes};
     ghost use Rattle.snippet_grid.specs.Codes.{AreOpenings, styles_in};
     ghost use Rattle.snippet_style.specs.declared.stylesheet.Stylesheet.{Stylesheet};
 
@@ -37,24 +26,21 @@ impl Model for SheetCodes {
 
     ghost view = { λ c. c.sheet };
 
-    ghost invariant = { λ c. AreOpenings (string_bytes c.text) c.pieces.items (styles_in c.sheet) };
+    ghost invariant = { λ c. AreOpenings c.codes (styles_in c.sheet) };
 }
 
 impl SheetCodes {
-    /// The codes of a sheet.
-    ///
-    /// # Errors
-    ///
-    /// There is no memory for them.
-    pub fn new(alloc: Global, sheet: &Stylesheet) -> Result<SheetCodes, AllocError>
-        ensures sheet { IfOk result (λ made. made ≡ sheet.now) }
+    /// The codes of a sheet, of which none is made yet.
+    pub fn new(alloc: Global, sheet: &Stylesheet) -> SheetCodes
+        ensures sheet { result ≡ sheet.now }
     {
-        let (text, pieces) = openings(alloc, &styles(sheet))?;
-        Ok(SheetCodes {
+        SheetCodes {
+            alloc,
             sheet: *sheet,
-            text,
-            pieces,
-        })
+            codes: [
+                None, None, None, None, None, None, None, None, None, None, None,
+            ],
+        }
     }
 
     /// The style of a cell of this role, in a group of this level.
@@ -64,60 +50,46 @@ impl SheetCodes {
         self.sheet.style_of(level, role)
     }
 
-    /// The code that opens that style.
-    pub(crate) fn opening_of(&self, level: LevelInner, role: ElementStyle) -> &str
-        ensures value { result.now ≡ encode_utf8_all (codes.opening (spec.style_of self.now level role)) }
+    /// Whether the styles of two cells of these roles differ, in a group of this level.
+    pub(crate) fn differ(&self, level: LevelInner, a: ElementStyle, b: ElementStyle) -> bool
+        ensures yes { result ≡ true → spec.style_of self.now level a ≢ spec.style_of self.now level b }
+        ensures no { result ≡ false → spec.style_of self.now level a ≡ spec.style_of self.now level b }
     {
-        let piece = self.pieces[place_of(level, role)];
-        &self.text.as_str()[piece.start..piece.end]
+        place_of(level, a) != place_of(level, b) && self.style_of(level, a) != self.style_of(level, b)
     }
-}
 
-/// The styles of a sheet, in the order of its fields.
-fn styles(sheet: &Stylesheet) -> [Style; 11]
-    ensures value { result ≡ styles_in sheet.now }
-{
-    [
-        sheet.error,
-        sheet.warning,
-        sheet.info,
-        sheet.note,
-        sheet.help,
-        sheet.line_num,
-        sheet.emphasis,
-        sheet.none,
-        sheet.context,
-        sheet.addition,
-        sheet.removal,
-    ]
-}
-
-/// The codes that open some styles, one after another, and where each stands.
-fn openings(alloc: Global, styles: &[Style]) -> Result<(String, Vec<Piece>), AllocError>
-    ensures openings { IfOk result (λ made. AreOpenings (string_bytes made.0) made.1.items styles.now) }
-{
-    let mut text = String::with_capacity(alloc, ROOM * styles.len())?;
-    let mut pieces = Vec::with_capacity(alloc, styles.len())?;
-    for style in styles {
-        pieces.push(push_opening(&mut text, *style)?)?;
+    /// Adds the code that opens the style of a cell of this role, in a group of this level.
+    pub(crate) fn push_opening(
+        &mut self,
+        out: &mut String,
+        level: LevelInner,
+        role: ElementStyle,
+    ) -> Result<(), AllocError>
+        ensures sheet { self.new ≡ self.old }
+        ensures text { OnOk result (string_bytes out.new ≡ string_bytes out.old ++ opening_bytes (spec.style_of self.old level role)) }
+    {
+        let place = place_of(level, role);
+        if let Some(code) = &self.codes[place] {
+            return out.push_str(code.as_str());
+        }
+        let code = opening(self.alloc, self.style_of(level, role))?;
+        out.push_str(code.as_str())?;
+        self.codes[place] = Some(code);
+        Ok(())
     }
-    Ok((text, pieces))
 }
 
 /// Room for the code of a style of the default sheet, in bytes.
 const ROOM: usize = 12;
 
-/// Adds the code that opens a style to a text.
-fn push_opening(text: &mut String, style: Style) -> Result<Piece, AllocError>
-    ensures piece { IfOk result (λ piece. IsOpening (string_bytes text.new) piece style) }
-    ensures begins { OnOk result (BeginsWith (string_bytes text.old) (string_bytes text.new)) }
+/// The code that opens a style.
+fn opening(alloc: Global, style: Style) -> Result<String, AllocError>
+    ensures text { IfOk result (λ code. string_bytes code ≡ opening_bytes style) }
 {
-    let start = text.len();
-    write_opening(text, style)?;
-    Ok(Piece {
-        start,
-        end: text.len(),
-    })
+    let room = if style.is_plain() { 0 } else { ROOM };
+    let mut code = String::with_capacity(alloc, room)?;
+    write_opening(&mut code, style)?;
+    Ok(code)
 }
 
 /// Where the style of a cell of this role stands among a sheet's styles, in a group of this level.

@@ -312,8 +312,8 @@ impl<'a> StyledBuffer<'a> {
         ensures plain { IfOk result (λ t. is_plain_sheet sheet.now ≡ true → links_of self.now ≡ []
             → string_bytes t ≡ encode_utf8_all (spec.plain_text self.now)) }
     {
-        let codes = SheetCodes::new(self.alloc, sheet)?;
-        self.render_after(String::new(self.alloc), level, &codes)
+        let mut codes = SheetCodes::new(self.alloc, sheet);
+        self.render_after(String::new(self.alloc), level, &mut codes)
     }
 
     /// The text that `render` gives under the sheet of these codes, after one that is there.
@@ -325,9 +325,10 @@ impl<'a> StyledBuffer<'a> {
         &self,
         before: String,
         level: LevelInner,
-        codes: &SheetCodes,
+        codes: &mut SheetCodes,
     ) -> Result<String, AllocError>
-        ensures added { IfOk result (λ text. AddsRows codes.now level self.now (string_bytes before) (string_bytes text)) }
+        ensures sheet { codes.new ≡ codes.old }
+        ensures added { IfOk result (λ text. AddsRows codes.old level self.now (string_bytes before) (string_bytes text)) }
     {
         let mut text = before;
         // Codes take about as much as the text itself.

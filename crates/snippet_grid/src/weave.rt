@@ -10,16 +10,17 @@ ghost use Rattle.std.specs.Prelude.{◌≡◌, ◌≢◌, ◌<◌, ◌≤◌, �
 ghost use Rattle.std.specs.Option.{option_copied};
 ghost use Rattle.std.specs.Str.{chars};
 ghost use Rattle.std.specs.List.{AllPairs, flat_map, slice_index_or};
-ghost use Rattle.snippet_grid.specs.Codes.{opening_bytes};
 ghost use Rattle.snippet_grid.specs.Runs.{IsGrid, IsRow, EndsBy, Precedes, cells_to, grid_shown};
 ghost use Rattle.snippet_grid.specs.declared.runs.Run.{Run};
 ghost use Rattle.snippet_grid.specs.Stretch.{PrintsStretch};
+ghost use Rattle.snippet_style.specs.Stylesheet.{style_of};
+ghost use Rattle.snippet_style.specs.declared.role.ElementStyle.TheVariants.{NoStyle};
 ghost use Rattle.snippet_grid.specs.Woven.{Opening, Reset, LinkTo, LinkEnd, piece_text, AddsRow, AddsRows};
 
 use crate::codes::SheetCodes;
 use crate::runs::Run;
 use crate::spaces::push_spaces;
-use snippet_style::{ElementStyle, LevelInner, Style, reset_code};
+use snippet_style::{ElementStyle, LevelInner, reset_code};
 use std::alloc::AllocError;
 
 /// Adds the rows to a text, one below another.
@@ -29,10 +30,11 @@ pub(crate) fn weave_rows(
     runs: &[Run<'_>],
     widths: &[usize],
     level: LevelInner,
-    codes: &SheetCodes,
+    codes: &mut SheetCodes,
 ) -> Result<(), AllocError>
     requires grid { IsGrid text.now runs.now widths.now }
-    ensures text { OnOk result (AddsRows codes.now level (grid_shown text.now runs.now widths.now) (string_bytes out.old) (string_bytes out.new)) }
+    ensures sheet { codes.new ≡ codes.old }
+    ensures text { OnOk result (AddsRows codes.old level (grid_shown text.now runs.now widths.now) (string_bytes out.old) (string_bytes out.new)) }
 {
     let mut from = 0;
     for row in 0..widths.len() {
@@ -70,74 +72,78 @@ fn weave_row(
     row: usize,
     width: usize,
     level: LevelInner,
-    codes: &SheetCodes,
+    codes: &mut SheetCodes,
 ) -> Result<(), AllocError>
     requires runs { IsRow text.now row runs.now }
     requires ends { EndsBy width runs.now }
-    ensures text { OnOk result (AddsRow codes.now level (cells_to text.now runs.now row width) (string_bytes out.old) (string_bytes out.new)) }
+    ensures sheet { codes.new ≡ codes.old }
+    ensures text { OnOk result (AddsRow codes.old level (cells_to text.now runs.now row width) (string_bytes out.old) (string_bytes out.new)) }
 {
-    let space = codes.style_of(level, ElementStyle::NoStyle);
-    let opening = codes.opening_of(level, ElementStyle::NoStyle);
-    let mut style = space;
-    let mut link = None;
+    let mut last = SPACE;
     let mut col = 0;
     for run in runs {
         if col < run.cell {
-            weave_gap(out, run.cell - col, style, space, opening, link)?;
-            style = space;
-            link = None;
+            weave_gap(out, run.cell - col, level, codes, last)?;
+            last = SPACE;
         }
-        let next = codes.style_of(level, run.role);
-        let word = &text[run.start..run.end];
-        let code = codes.opening_of(level, run.role);
-        weave_stretch(out, word, style, next, code, link, run.link)?;
-        style = next;
-        link = run.link;
+        let next = Look { role: run.role, link: run.link };
+        weave_stretch(out, &text[run.start..run.end], level, codes, last, next)?;
+        last = next;
         col = run.cell + run.count;
     }
     if col < width {
-        weave_gap(out, width - col, style, space, opening, link)?;
-        style = space;
-        link = None;
+        weave_gap(out, width - col, level, codes, last)?;
+        last = SPACE;
     }
-    end_link(out, link, None)?;
-    out.push_str(reset_code(style))
+    end_link(out, last.link, None)?;
+    out.push_str(reset_code(codes.style_of(level, last.role)))
 }
 
-/// Adds a text in a style, which this code opens, and with a link, after what was printed in another style and with another link.
+/// How a cell looks: its role, and where its link leads.
+#[derive(Clone, Copy)]
+struct Look<'a> {
+    role: ElementStyle,
+    link: Option<&'a str>,
+}
+
+/// How a cell looks in which nothing stands.
+const SPACE: Look<'static> = Look {
+    role: ElementStyle::NoStyle,
+    link: None,
+};
+
+/// Adds a text that looks like this, after what was printed and looks like `last`.
 fn weave_stretch(
     out: &mut String,
     word: &str,
-    last: Style,
-    next: Style,
-    opening: &str,
-    last_link: Option<&str>,
-    next_link: Option<&str>,
+    level: LevelInner,
+    codes: &mut SheetCodes,
+    last: Look<'_>,
+    next: Look<'_>,
 ) -> Result<(), AllocError>
-    requires opening { opening.now ≡ opening_bytes next }
     requires some { 0 < length (chars word.now) }
-    ensures text { OnOk result (PrintsStretch (chars word.now) last next (option_copied last_link.entry) (option_copied next_link.entry) (string_bytes out.old) (string_bytes out.new)) }
+    ensures sheet { codes.new ≡ codes.old }
+    ensures text { OnOk result (PrintsStretch (chars word.now) (style_of codes.old level last.entry.role) (style_of codes.old level next.entry.role) (option_copied last.entry.link) (option_copied next.entry.link) (string_bytes out.old) (string_bytes out.new)) }
 {
-    end_link(out, last_link, next_link)?;
-    change_style(out, last, next, opening)?;
-    begin_link(out, last_link, next_link)?;
+    end_link(out, last.link, next.link)?;
+    change_style(out, level, codes, last.role, next.role)?;
+    begin_link(out, last.link, next.link)?;
     out.push_str(word)
 }
 
-/// Adds unstyled spaces, whose style this code opens, after what was printed in a style and with a link.
+/// Adds unstyled spaces, after what was printed and looks like `last`.
 fn weave_gap(
     out: &mut String,
     count: usize,
-    last: Style,
-    next: Style,
-    opening: &str,
-    last_link: Option<&str>,
+    level: LevelInner,
+    codes: &mut SheetCodes,
+    last: Look<'_>,
 ) -> Result<(), AllocError>
-    requires opening { opening.now ≡ opening_bytes next }
-    ensures text { OnOk result (PrintsStretch (replicate count 32) last next (option_copied last_link.entry) None (string_bytes out.old) (string_bytes out.new)) }
+    ensures sheet { codes.new ≡ codes.old }
+    ensures text { OnOk result (PrintsStretch (replicate count 32) (style_of codes.old level last.entry.role) (style_of codes.old level NoStyle) (option_copied last.entry.link) None (string_bytes out.old) (string_bytes out.new)) }
 {
-    end_link(out, last_link, None)?;
-    change_style(out, last, next, opening)?;
+    end_link(out, last.link, None)?;
+    change_style(out, level, codes, last.role, ElementStyle::NoStyle)?;
     push_spaces(out, count)
 }
 
@@ -153,15 +159,22 @@ fn end_link(out: &mut String, last: Option<&str>, next: Option<&str>) -> Result<
     Ok(())
 }
 
-/// Resets the style that is open and opens the next one by its code, unless they are the same.
-fn change_style(out: &mut String, last: Style, next: Style, opening: &str) -> Result<(), AllocError>
-    requires opening { opening.now ≡ opening_bytes next }
-    ensures kept { OnOk result (last ≡ next → string_bytes out.new ≡ string_bytes out.old) }
-    ensures changed { OnOk result (last ≢ next → string_bytes out.new ≡ string_bytes out.old ++ flat_map piece_text (Reset last ∷ Opening next ∷ [])) }
+/// Resets the style that is open and opens the next one, unless they are the same.
+fn change_style(
+    out: &mut String,
+    level: LevelInner,
+    codes: &mut SheetCodes,
+    last: ElementStyle,
+    next: ElementStyle,
+) -> Result<(), AllocError>
+    ensures sheet { codes.new ≡ codes.old }
+    ensures kept { OnOk result (style_of codes.old level last ≡ style_of codes.old level next → string_bytes out.new ≡ string_bytes out.old) }
+    ensures changed { OnOk result (style_of codes.old level last ≢ style_of codes.old level next
+        → string_bytes out.new ≡ string_bytes out.old ++ flat_map piece_text (Reset (style_of codes.old level last) ∷ Opening (style_of codes.old level next) ∷ [])) }
 {
-    if last != next {
-        out.push_str(reset_code(last))?;
-        out.push_str(opening)?;
+    if codes.differ(level, last, next) {
+        out.push_str(reset_code(codes.style_of(level, last)))?;
+        codes.push_opening(out, level, next)?;
     }
     Ok(())
 }

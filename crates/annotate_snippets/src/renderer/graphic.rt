@@ -107,13 +107,13 @@ pub fn printed(
 ) -> Result<String, AllocError>
     ensures printed { IfOk result (λ text. PrintsGrids sheet.now grids.now (string_bytes text)) }
 {
-    let codes = SheetCodes::new(alloc, sheet)?;
+    let mut codes = SheetCodes::new(alloc, sheet);
     let mut text = String::new(alloc);
     for (i, grid) in grids.iter().enumerate() {
         if i > 0 {
             text.push('\n')?;
         }
-        text = grid.buffer.render_after(text, grid.level, &codes)?;
+        text = grid.buffer.render_after(text, grid.level, &mut codes)?;
     }
     Ok(text)
 }

@@ -4,10 +4,9 @@ use Rattle.snippet_grid.proofs.StretchPrinted.{space_bytes}
 use Rattle.snippet_grid.proofs.WeaveLemmas.{none≢some}
 use Rattle.snippet_grid.proofs.weave.weave_gap.Goals as goal
 
-pub returns : goal.returns
-returns c =
-    record {
-      text = on_ok_weaker c.push_spaces.result (λ text. record {
+pub returns-clause-text : goal.returns-clause-text
+returns-clause-text c =
+    on_ok_weaker c.push_spaces.result (λ text. record {
         ended = string_bytes c.end_link.new.out;
         changed = string_bytes c.change_style.new.out;
         begun = string_bytes c.change_style.new.out;
@@ -20,5 +19,4 @@ returns c =
         no_link = λ none. refl;
         link_begins = λ url is differs. absurd (none≢some is);
         text_is = text ∙ ap (λ (t : List ℕ). string_bytes c.change_style.new.out ++ t) (sym (space_bytes c.args.count));
-      }) c.push_spaces.ensures.text;
-    }
+      }) c.push_spaces.ensures.text

@@ -1,8 +1,12 @@
-use Rattle.std.proofs.Common.{◌≡◌, ◌++◌, ◌<◌, arith, string_bytes, encode_utf8}
+use Rattle.std.proofs.Common.{◌≡◌, ◌++◌, ◌<◌, ◌∙◌, arith, get_or, subst, string_bytes, encode_utf8}
 use Rattle.snippet_grid.proofs.PutLemmas.{IsRow-stretch}
 use Rattle.snippet_grid.proofs.RowPut.{row_ends}
 use Rattle.snippet_grid.proofs.RowsWoven.{rows_next, rows_all}
 use Rattle.snippet_grid.specs.Changes.{RowAt}
+use Rattle.snippet_grid.specs.Runs.{cells_to}
+use Rattle.snippet_grid.specs.Woven.{AddsRow}
+use Rattle.snippet_grid.proofs.StretchLemmas.{stretch}
+use Rattle.snippet_style.specs.declared.stylesheet.Stylesheet.{Stylesheet}
 use Rattle.snippet_grid.proofs.weave.weave_rows.Goals as goal
 use Rattle.snippet_grid.proofs.weave.weave_rows.Goals.{then-row-gt0+in_ok-push, else-row-gt0}
 
@@ -16,20 +20,20 @@ weave_row-requires-clause-ends c =
     let at : RowAt c.args.runs.now c.loop-row.row c.loop-row.from c.row_end-to.result = record {
       ordered = c.row_end-to.ensures.bounds.0;
       within = c.row_end-to.ensures.bounds.1;
-      above = c.loop-row.invariant.above;
+      above = c.loop-row.invariant.rows.above;
       inside = c.row_end-to.ensures.inside;
       below = c.row_end-to.ensures.below;
     } in
     row_ends c.args.widths.now c.args.runs.now c.loop-row.row c.loop-row.from c.row_end-to.result at c.requires.grid.inside
 
 pub row_end-to-requires-clause-within : goal.row_end-to-requires-clause-within
-row_end-to-requires-clause-within c = c.loop-row.invariant.within
+row_end-to-requires-clause-within c = c.loop-row.invariant.rows.within
 
 pub row_end-to-requires-clause-ordered : goal.row_end-to-requires-clause-ordered
 row_end-to-requires-clause-ordered c = c.requires.grid.ordered
 
 pub row_end-to-requires-clause-from_here : goal.row_end-to-requires-clause-from_here
-row_end-to-requires-clause-from_here c = c.loop-row.invariant.below
+row_end-to-requires-clause-from_here c = c.loop-row.invariant.rows.below
 
 pub loop-row-preserved : goal.loop-row-preserved
 loop-row-preserved c =
@@ -41,11 +45,15 @@ loop-row-preserved c =
       | then-row-gt0+in_ok-push w ↦ rw (w.out-is) w.in_ok-push.ensures.bytes
       | else-row-gt0 w ↦ absurd (omega (arith, some, w.if-row-gt0.false))
     ] in
-    rows_next c.args.codes.now c.args.level c.args.text.now c.args.runs.now c.args.widths.now c.loop-row.row c.loop-row.from c.row_end-to.result
+    let row = subst (λ (sheet : Stylesheet). AddsRow sheet c.args.level (cells_to c.args.text.now (stretch c.args.runs.now c.loop-row.from c.row_end-to.result) c.loop-row.row (get_or c.args.widths.now c.loop-row.row 0)) (string_bytes c.if-row-gt0.out) (string_bytes c.weave_row.new.out)) c.loop-row.invariant.sheet c.in_ok-weave_row.ensures.text in
+    record {
+      sheet = c.in_ok-weave_row.ensures.sheet ∙ c.loop-row.invariant.sheet;
+      rows = rows_next c.args.codes.now c.args.level c.args.text.now c.args.runs.now c.args.widths.now c.loop-row.row c.loop-row.from c.row_end-to.result
     (string_bytes c.args.out.now) (string_bytes c.loop-row.out) (string_bytes c.if-row-gt0.out) (string_bytes c.weave_row.new.out)
     c.loop-row-test.true c.row_end-to.ensures.bounds.0 c.row_end-to.ensures.bounds.1 c.row_end-to.ensures.inside c.row_end-to.ensures.below first
-    further c.in_ok-weave_row.ensures.text c.loop-row.invariant
+    further row c.loop-row.invariant.rows;
+    }
 
-pub returns : goal.returns
-returns c =
-    record { text = rows_all c.args.codes.now c.args.level c.args.text.now c.args.runs.now c.args.widths.now c.loop-row.row c.loop-row.from (string_bytes c.args.out.now) (string_bytes c.loop-row.out) (omega (arith, c.loop-row-test.false, c.loop-row.auto.row-end)) c.loop-row.invariant }
+pub returns-clause-text : goal.returns-clause-text
+returns-clause-text c =
+    rows_all c.args.codes.now c.args.level c.args.text.now c.args.runs.now c.args.widths.now c.loop-row.row c.loop-row.from (string_bytes c.args.out.now) (string_bytes c.loop-row.out) (omega (arith, c.loop-row-test.false, c.loop-row.auto.row-end)) c.loop-row.invariant.rows

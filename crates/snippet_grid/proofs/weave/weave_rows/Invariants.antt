@@ -1,8 +1,11 @@
 -- The rows so far are printed.
-use Rattle.std.proofs.Common.{string_bytes}
+use Rattle.std.proofs.Common.{◌≡◌, string_bytes}
 use Rattle.snippet_grid.proofs.RowsWoven.{RowsTo}
 use Rattle.snippet_grid.proofs.weave.weave_rows.Given as goal
 
 abbrev pub invariant-loop-row : goal.invariant-loop-row
 invariant-loop-row l =
-    RowsTo l.codes l.level l.text l.runs l.widths l.row l.from (string_bytes l.initial.out) (string_bytes l.out)
+    record {
+      sheet : l.codes ≡ l.initial.codes;
+      rows : RowsTo l.initial.codes l.level l.text l.runs l.widths l.row l.from (string_bytes l.initial.out) (string_bytes l.out);
+    }

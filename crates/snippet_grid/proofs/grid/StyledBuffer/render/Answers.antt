@@ -7,10 +7,10 @@ use Rattle.snippet_grid.proofs.WovenLemmas.{Prints-from_adds, IsWoven-from_print
 use Rattle.snippet_grid.proofs.grid.StyledBuffer.render.Goals as goal
 
 -- what is added to no text prints the rows
-printed : (c : goal.After-drop-codes-inside-2) (new : List ℕ) → AddsRows c.in_ok-codes.codes c.args.level c.args.self.now (string_bytes c.new-2.result) new → Prints c.args.sheet.now c.args.level c.args.self.now new
+printed : (c : goal.After-array_drop-codes-inside) (new : List ℕ) → AddsRows c.new-codes.result c.args.level c.args.self.now (string_bytes c.new.result) new → Prints c.args.sheet.now c.args.level c.args.self.now new
 printed c new adds =
-    let under : AddsRows c.args.sheet.now c.args.level c.args.self.now (string_bytes c.new-2.result) new = subst (λ sheet. AddsRows sheet c.args.level c.args.self.now (string_bytes c.new-2.result) new) c.in_ok-codes.ensures.sheet adds in
-    Prints-from_adds c.args.sheet.now c.args.level c.args.self.now _ _ _ refl c.new-2.ensures.bytes under
+    let under : AddsRows c.args.sheet.now c.args.level c.args.self.now (string_bytes c.new.result) new = subst (λ sheet. AddsRows sheet c.args.level c.args.self.now (string_bytes c.new.result) new) c.new-codes.ensures.sheet adds in
+    Prints-from_adds c.args.sheet.now c.args.level c.args.self.now _ _ _ refl c.new.ensures.bytes under
 
 pub returns-clause-prints : goal.returns-clause-prints
 returns-clause-prints c = if_ok_weaker c.render_after.result (λ t adds. printed c (string_bytes t) adds) c.render_after.ensures.added

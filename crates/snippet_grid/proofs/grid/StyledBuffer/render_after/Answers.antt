@@ -10,4 +10,4 @@ weave_rows-requires c =
 pub returns : goal.returns
 returns c =
     let shown = grid_read (string_bytes c.self.inside.text) c.as_str.result.now c.self.inside.runs.items c.deref.result.now c.self.inside.widths.items c.deref-2.result.now c.as_str.ensures.value c.deref.ensures.value c.deref-2.ensures.value ∙ c.self.view_is in
-    record { added = AddsRows-same c.args.codes.now c.args.level c.args.self.now _ _ _ _ shown c.in_ok-reserve.ensures.bytes c.in_ok-weave_rows.ensures.text }
+    record { sheet = c.in_ok-weave_rows.ensures.sheet; added = AddsRows-same c.args.codes.now c.args.level c.args.self.now _ _ _ _ shown c.in_ok-reserve.ensures.bytes c.in_ok-weave_rows.ensures.text }
