@@ -39,6 +39,7 @@ among gs ch none some =
     negated true is = cc
     negated false is = refl
 
+-- the cell of a bar holds no line feed
 pub bar_cell : (decor : DecorStyle) (cell : Cell) → IsBarCell decor cell → HoldsNoFeed cell
 bar_cell Ascii cell is = among (bar_glyphs Ascii) cell.ch refl is.glyph
 bar_cell Unicode cell is = among (bar_glyphs Unicode) cell.ch refl is.glyph

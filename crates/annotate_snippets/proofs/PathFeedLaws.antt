@@ -64,6 +64,7 @@ norm_plain [] plain = All-nil IsNoFeed
 norm_plain (c ∷ cs) plain =
     subst (All IsNoFeed) (sym (flat_map-cons shown c cs)) (All-append IsNoFeed (shown c) (flat_map shown cs) (shown_plain c (All-head IsNoFeed c cs plain)) (norm_plain cs (All-tail IsNoFeed c cs plain)))
 
+-- a digit is no line feed
 pub digit_plain : (c : ℕ) → IsDigit c → IsNoFeed c
 digit_plain c is = grind (arith, nat_tests)
 
@@ -114,6 +115,7 @@ head_plain layout false first (Some path) place plain =
 one : (row : List Cell) → HasNoFeed row → All HasNoFeed (row ∷ [])
 one row plain = All-cons HasNoFeed row [] plain (All-nil HasNoFeed)
 
+-- nor does a row that closes a group's window hold one
 pub closing_plain : (r : Renderer) (frame : Frame) (closes : Bool) → All HasNoFeed (cond closes (closing_rows r frame) [])
 closing_plain r frame true = one _ (bare_plain r.decor_style frame.gutter true)
 closing_plain r frame false = All-nil HasNoFeed
@@ -123,6 +125,7 @@ pub head_one_line : (r : Renderer) (frame : Frame) (around : ElementContext) (s 
 head_one_line r frame around s plain =
     head_plain (origin_layout r frame) around.primary around.first (path_bytes s.path) (place_named around.primary (annotated_lines s.fold (numbered_source s) s.markers.items)) plain
 
+-- nor do the rows below a snippet's lines hold one, whatever follows
 pub after_one_line : (r : Renderer) (frame : Frame) (around : ElementContext) → All HasNoFeed (rows_after_cause r frame around)
 after_one_line r frame around =
     either (is_first_group around.place && is_before_message around.next)

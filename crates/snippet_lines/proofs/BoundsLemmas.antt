@@ -148,9 +148,11 @@ module _ (source : List ℕ) (at start end : ℕ) (around : IsLineAround source 
   line_of-around : (b : ℕ) → start ≤ b → (b < end) ⊎ (end ≡ length source) → line_of (source_lines source) b ≡ index_of_it
   line_of-around b from to = line_of-is (source_lines source) b index_of_it (holds b from to)
 
+  -- the line starts where the lines of its source say
   pub start-around : (b : ℕ) → start ≤ b → (b < end) ⊎ (end ≡ length source) → start ≡ start_of (source_lines source) (line_of (source_lines source) b)
   start-around b from to = sym start_is ∙ ap (start_of (source_lines source)) (sym (line_of-around b from to))
 
+  -- and ends where the next one starts
   pub end-around : (b : ℕ) → start ≤ b → (b < end) ⊎ (end ≡ length source) → end ≡ start_of (source_lines source) (line_of (source_lines source) b + 1)
   end-around b from to = sym end_is ∙ ap (λ k. start_of (source_lines source) (k + 1)) (sym (line_of-around b from to))
 

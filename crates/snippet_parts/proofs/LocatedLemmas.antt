@@ -39,6 +39,7 @@ located-ordered s l at =
       line_of-mono (source_lines s.text) l.annotation.now.span.start l.annotation.now.span.end (omega (arith, line_of-within s.text 0)) at.span.ordered,
     )
 
+-- the line on which a located span ends is one of its source
 pub located-within : (s : Source) (l : LocatedSpan) → IsLocated s l → l.last < length (source_lines s.text)
 located-within s l at = omega (arith, at.last, line_of-within s.text l.annotation.now.span.end)
 
@@ -94,5 +95,6 @@ all-fit s (x ∷ ls) all = pick (is_long_span x) refl (all-fit s ls (All-tail (I
     pick true long rest = All-cons (Fits s) (span_entry x) (map span_entry (filter is_long_span ls)) (fits s x (All-head (IsLocated s) x ls all) long) rest
     pick false long rest = rest
 
+-- spans of several lines, as they are given to the bars, fit their source
 pub given-fit : (s : Source) (ls : List LocatedSpan) (spans : List LongSpan) → map seen_long spans ≡ map span_entry (filter is_long_span ls) → All (IsLocated s) ls → All (HasFit s) spans
 given-fit s ls spans is all = All-weaker (λ (l : LongSpan). Fits s (seen_long l)) (HasFit s) (λ l fit. fit l refl) spans (All-unmapped (Fits s) seen_long spans (subst (All (Fits s)) (sym is) (all-fit s ls all)))

@@ -276,20 +276,24 @@ module _ (fold : Bool) (s : Source) (marks : List Annotation) (infos : List Anno
       index-of k info seen = let at : info.line_index ≡ s.first + k = ap (λ (l : KeptLine). l.number) seen in omega arith
 
   module _ (spans : All (λ a. IsSpan s.text a.span.start a.span.end) marks) where
+    -- the line on which a span begins is kept,
     pub first-line-among : (a : Annotation) → Contains marks a → Contains (numbers_of infos) (s.first + first_line s.text a)
     first-line-among a among =
         number-among (first_line s.text a) (first-kept fold s.text marks a among (All-contains (λ a. IsSpan s.text a.span.start a.span.end) marks a spans among))
 
+    -- the one on which it ends,
     pub last-line-among : (a : Annotation) → Contains marks a → Contains (numbers_of infos) (s.first + last_line s.text a)
     last-line-among a among =
         number-among (last_line s.text a) (last-kept fold s.text marks a among (All-contains (λ a. IsSpan s.text a.span.start a.span.end) marks a spans among))
 
+    -- and each that a span touches which isn't marked
     pub seen-line-among : (a : Annotation) → Contains marks a → (k : ℕ) → is_seen s.text k a ≡ true → Contains (numbers_of infos) (s.first + k)
     seen-line-among a among k seen =
         let parts = and_parts (not (is_marking a.kind)) (touches s.text a k) seen in
         let there = and_parts (leb (first_line s.text a) k) (leb k (last_line s.text a)) parts.1 in
         number-among k (span-kept fold s.text marks a k among (omega (arith, leb-true k (last_line s.text a) there.1, line_of-within s.text a.span.end)) (keeps-unmarked s.text a k parts.0 parts.1))
 
+    -- the entries of each kept line are those of the spans on it
     pub lines-entries : All (λ info. AreEntriesOn s marks (info.line_index - s.first) (map seen_part info.annotations.items)) infos
     lines-entries =
         each-line (λ info. AreEntriesOn s marks (info.line_index - s.first) (map seen_part info.annotations.items)) s marks (kept_lines fold s.text marks) infos lines (λ i d within info seen. on (get_or (kept_lines fold s.text marks) i d) info seen)

@@ -166,15 +166,17 @@ module _ (s : Source) (byte : ℕ) (info : LineInfo) (entry : entry_of info ≡ 
       ap (λ start. take (byte - start) info.line.now) located-start
       ∙ ap (take (byte - start_of (source_lines s.text) (line_of (source_lines s.text) byte))) located-text
 
-  -- the line, the character and the column of its location
+  -- the location of a byte is on its line,
   pub located-line : (location : Loc) → location ≡ location_of s byte → location.line ≡ info.line_index
   unfolding location_of place_of
   located-line location is = ap (λ (l : Loc). l.line) is ∙ sym located-number
 
+  -- its character is the number of those before it on the line,
   pub located-char : (location : Loc) → location ≡ location_of s byte → location.char ≡ length (chars (take (byte - info.start_byte) info.line.now))
   unfolding location_of place_of
   located-char location is = ap (λ (l : Loc). l.char) is ∙ ap (λ bs. length (chars bs)) (sym before-byte)
 
+  -- and its column is the width of these
   pub located-display : (location : Loc) → location ≡ location_of s byte → location.display ≡ width_of (chars (take (byte - info.start_byte) info.line.now))
   unfolding location_of place_of
   located-display location is = ap (λ (l : Loc). l.display) is ∙ ap (λ bs. width_of (chars bs)) (sym before-byte)

@@ -371,6 +371,7 @@ module _ (layout : Layout) (room : ℕ) (closes : Bool) (es : List LineAnnotatio
   abbrev lower : List (List Cell)
   lower = drop (row + 1) new
 
+  -- the rows are those above, the source row, that of the marks and those below it
   pub rows_split : new ≡ above_rows ++ source ∷ row_at new row ∷ lower
   rows_split =
       let n : ℕ = length above_rows in

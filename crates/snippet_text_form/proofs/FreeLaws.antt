@@ -48,6 +48,7 @@ abbrev pub EachPlain : (ℕ → Type 0) → List FormPiece → Type 0
 EachPlain P form = (begun : Bool) → All P (plain_from begun form)
 
 module _ (P : ℕ → Type 0) (feed : P 10) where
+  -- it holds of those of no form,
   pub each-nil : EachPlain P []
   each-nil begun = All-nil P
 
@@ -58,6 +59,7 @@ module _ (P : ℕ → Type 0) (feed : P 10) where
       let now : Bool = begun_after begun front in
       subst (All P) (sym (plain-append begun a b)) (All-append P front (plain_from now b) (first begun) (second now))
 
+  -- and of many
   pub each-flat_map : {A : Type 0} (form : A → List FormPiece) → ((x : A) → EachPlain P (form x)) → (xs : List A) → EachPlain P (flat_map form xs)
   each-flat_map form each [] = each-nil
   each-flat_map form each (x ∷ xs) =

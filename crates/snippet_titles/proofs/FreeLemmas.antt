@@ -149,6 +149,7 @@ module _ (P : ℕ → Type 0) (free : (c : ℕ) → IsUnlisted c → P c) where
       lines (All-weaker (All P) (λ l. All P (row_text (further ++ text_cells r l))) (row-all further r below)
       lines (All-tail (All P) line lines all)))
 
+  -- what holds of each character of a heading that is shown holds of those of its rows
   pub heading_rows-all : (hyperlink : Bool) (style : TitleStyle) (heading : Heading) → All P (shown_text heading) → All (λ row. All P (row_text row)) (heading_rows hyperlink style heading)
   unfolding heading_rows
   heading_rows-all hyperlink style heading all =

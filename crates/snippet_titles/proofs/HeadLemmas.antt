@@ -21,12 +21,14 @@ module _ (P : List Cell → Type 0) (layout : OriginLayout) (separator : P (sepa
 
   -- those of snippets with a path
   module _ (path : List ℕ) (place : OriginLocation) (origin : (start : FileStart) → P (origin_row layout start path place)) where
+    -- of a primary file, or of what stands for it,
     pub primary_head-each : (first : Bool) → All P (primary_head layout first path place)
     primary_head-each true =
         All-cons P (origin_row layout First path place) (separator_row layout.decor layout.gutter ∷ []) (origin First) ends
     primary_head-each false =
         All-cons P (origin_row layout Later path place) (separator_row layout.decor layout.gutter ∷ []) (origin Later) ends
 
+    -- and of another file
     pub secondary_head-each : All P (secondary_head layout path place)
     secondary_head-each =
         All-cons P (separator_row layout.decor layout.gutter) (origin_row layout Secondary path place ∷ separator_row layout.decor layout.gutter ∷ []) separator (All-cons P (origin_row layout Secondary path place) (separator_row layout.decor layout.gutter ∷ []) (origin Secondary) ends)

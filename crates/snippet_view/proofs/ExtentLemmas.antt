@@ -22,6 +22,7 @@ least-push (k ∷ []) n = refl
 least-push (k ∷ m ∷ ns) n =
     ap (λ (o : Option ℕ). Some (option_map_or (λ j. min k j) o k)) (least-push (m ∷ ns) n) ∙ ap Some (omega arith)
 
+-- the greatest, where one number more is added
 pub greatest-push : (ns : List ℕ) (n : ℕ) → greatest (ns ++ n ∷ []) ≡ max (greatest ns) n
 greatest-push ns n = fold_push (λ m k. max m k) 0 ns n
 
