@@ -11,7 +11,8 @@ use Rattle.snippet_view.specs.declared.depths.LongExtent.{LongExtent}
 use Rattle.snippet_view.specs.declared.entries.AnnotatedLineInfo.{AnnotatedLineInfo}
 use Rattle.snippet_view.specs.declared.entries.LineAnnotationType.TheVariants.{Singleline, MultilineStart, MultilineEnd}
 use Rattle.snippet_lines.specs.declared.place.Loc.{Loc}
-use Rattle.snippet_view.specs.Annotated.{PartEntry, seen_part, KeptLine, seen_kept, kept_line, annotated_lines, is_short, is_long, long_entry, long_place, long_places, long_spans, long_parts, stands_before, stands_among, depth_of, single_part, start_part, bar_part, end_part, bar_lines, span_parts, parts_on, promoted, is_promoted}
+use Rattle.snippet_view.specs.Annotated.{PartEntry, seen_part, KeptLine, seen_kept, kept_line, annotated_lines, is_short, is_long, long_entry, long_place, long_places, long_spans}
+use Rattle.snippet_view.specs.Annotated.{long_parts, stands_before, stands_among, depth_of, single_part, start_part, bar_part, end_part, bar_lines, span_parts, parts_on, promoted, is_promoted}
 use Rattle.snippet_lines.specs.Order.{put_in, ordered_by}
 use Rattle.snippet_view.specs.Depths.{depth_among, same_place}
 use Rattle.snippet_view.specs.Entries.{Ascends}

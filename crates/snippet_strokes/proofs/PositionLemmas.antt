@@ -14,7 +14,8 @@ use Rattle.std.proofs.lemmas.List.Sorted.{All-permutation, IsPermutation-map}
 use Rattle.snippet_lines.specs.Order.{ordered_by}
 use Rattle.snippet_view.specs.declared.entries.LineAnnotation.{LineAnnotation}
 use Rattle.snippet_strokes.specs.declared.positions.PlacedEntry.{PlacedEntry}
-use Rattle.snippet_strokes.specs.Positions.{ArePlaced, IsFromRight, HasItsLabel, asks, do_overlap, ends_no_later, has_label, takes_space, has_stem, is_start, is_start_part, are_starts, crosses, crowds, position_at, position_after, positions, flipped, line_positions, lowest_position, row_count, label_place, unplaced, is_placed_before}
+use Rattle.snippet_strokes.specs.Positions.{ArePlaced, IsFromRight, HasItsLabel, asks, do_overlap, ends_no_later, has_label, takes_space, has_stem, is_start, is_start_part, are_starts}
+use Rattle.snippet_strokes.specs.Positions.{crosses, crowds, position_at, position_after, positions, flipped, line_positions, lowest_position, row_count, label_place, unplaced, is_placed_before}
 use Rattle.snippet_strokes.specs.Painting.{HasRows}
 use Rattle.snippet_view.specs.Measures.{greatest}
 use Rattle.snippet_strokes.specs.Entries.{HasPlace}

@@ -13,7 +13,8 @@ use Rattle.snippet_view.specs.declared.entries.LineAnnotation.{LineAnnotation}
 use Rattle.snippet_view.specs.declared.entries.LineAnnotationType.{LineAnnotationType}
 use Rattle.snippet_view.specs.declared.entries.LineAnnotationType.TheVariants.{Singleline, MultilineEnd}
 use Rattle.snippet_lines.specs.declared.place.Loc.{Loc}
-use Rattle.snippet_view.specs.Annotated.{PartEntry, seen_part, long_entry, long_place, is_long, is_short, stands_before, long_spans, long_places, bar_lines, bar_part, single_part, start_part, end_part, span_parts, stands_among, promoted, is_promoted, long_parts, made_parts, parts_on, KeptLine, seen_kept, kept_line, annotated_lines}
+use Rattle.snippet_view.specs.Annotated.{PartEntry, seen_part, long_entry, long_place, is_long, is_short, stands_before, long_spans, long_places, bar_lines, bar_part, single_part}
+use Rattle.snippet_view.specs.Annotated.{start_part, end_part, span_parts, stands_among, promoted, is_promoted, long_parts, made_parts, parts_on, KeptLine, seen_kept, kept_line, annotated_lines}
 use Rattle.snippet_view.specs.Depths.{same_place, depth_among}
 use Rattle.snippet_view.specs.Kept.{keeps, kept_lines}
 use Rattle.snippet_lines.specs.Lines.{Source, source_lines}
