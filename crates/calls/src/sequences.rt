@@ -3,7 +3,7 @@
 use crate::grid::{Call, make};
 use crate::output::print_heading;
 use crate::plain::PlainGrid;
-use annotate_snippets::renderer::parts::{ElementStyle, LevelInner, StyledBuffer};
+use annotate_snippets::renderer::parts::{ElementStyle, LevelInner, SheetCodes, StyledBuffer};
 use annotate_snippets::renderer::{AnsiColor, Stylesheet};
 use std::alloc::{AllocError, Global};
 use std::io;
@@ -151,7 +151,8 @@ fn is_same(
     let same_rows = buffer.num_lines() == plain.num_rows();
     let same_bare = is_same_under(alloc, buffer, plain, &Stylesheet::plain())?;
     let same_styled = is_same_under(alloc, buffer, plain, &sheet())?;
-    Ok(same_rows && same_bare && same_styled)
+    let same_twice = is_same_twice(alloc, buffer, plain, &sheet())?;
+    Ok(same_rows && same_bare && same_styled && same_twice)
 }
 
 /// Whether a grid has the text of plain rows of cells under a sheet.
@@ -163,6 +164,21 @@ fn is_same_under(
 ) -> Result<bool, AllocError> {
     let text = buffer.render(LevelInner::Error, sheet)?;
     Ok(text == plain.text(alloc, LevelInner::Error, sheet)?)
+}
+
+/// Whether a grid that is printed twice, by the same codes, has the text of plain rows of cells twice.
+fn is_same_twice(
+    alloc: Global,
+    buffer: &StyledBuffer<'static>,
+    plain: &PlainGrid,
+    sheet: &Stylesheet,
+) -> Result<bool, AllocError> {
+    let mut codes = SheetCodes::new(alloc, sheet);
+    let once = buffer.render_after(String::new(alloc), LevelInner::Error, &mut codes)?;
+    let twice = buffer.render_after(once, LevelInner::Error, &mut codes)?;
+    let mut wanted = plain.text(alloc, LevelInner::Error, sheet)?;
+    wanted.push_str(plain.text(alloc, LevelInner::Error, sheet)?.as_str())?;
+    Ok(twice == wanted)
 }
 
 /// Counts what is seen of the lists.

@@ -1,4 +1,3 @@
-
 -- Codes of which one more is made.
 use Rattle.std.proofs.Common.{◌≡◌, inl, inr, ℕ, ◌<◌, List, Option, Some, String, Global, get_or, length, string_bytes, sym, ap, ◌∙◌, arith}
 use Rattle.std.proofs.Math.ListN.{set}

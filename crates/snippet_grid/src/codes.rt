@@ -55,7 +55,8 @@ impl SheetCodes {
         ensures yes { result ≡ true → spec.style_of self.now level a ≢ spec.style_of self.now level b }
         ensures no { result ≡ false → spec.style_of self.now level a ≡ spec.style_of self.now level b }
     {
-        place_of(level, a) != place_of(level, b) && self.style_of(level, a) != self.style_of(level, b)
+        place_of(level, a) != place_of(level, b)
+            && self.style_of(level, a) != self.style_of(level, b)
     }
 
     /// Adds the code that opens the style of a cell of this role, in a group of this level.

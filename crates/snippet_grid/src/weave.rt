@@ -23,6 +23,19 @@ use crate::spaces::push_spaces;
 use snippet_style::{ElementStyle, LevelInner, reset_code};
 use std::alloc::AllocError;
 
+/// How a cell looks: its role, and where its link leads.
+#[derive(Clone, Copy)]
+struct Look<'a> {
+    role: ElementStyle,
+    link: Option<&'a str>,
+}
+
+/// How a cell looks in which nothing stands.
+const SPACE: Look<'static> = Look {
+    role: ElementStyle::NoStyle,
+    link: None,
+};
+
 /// Adds the rows to a text, one below another.
 pub(crate) fn weave_rows(
     out: &mut String,
@@ -86,7 +99,10 @@ fn weave_row(
             weave_gap(out, run.cell - col, level, codes, last)?;
             last = SPACE;
         }
-        let next = Look { role: run.role, link: run.link };
+        let next = Look {
+            role: run.role,
+            link: run.link,
+        };
         weave_stretch(out, &text[run.start..run.end], level, codes, last, next)?;
         last = next;
         col = run.cell + run.count;
@@ -98,19 +114,6 @@ fn weave_row(
     end_link(out, last.link, None)?;
     out.push_str(reset_code(codes.style_of(level, last.role)))
 }
-
-/// How a cell looks: its role, and where its link leads.
-#[derive(Clone, Copy)]
-struct Look<'a> {
-    role: ElementStyle,
-    link: Option<&'a str>,
-}
-
-/// How a cell looks in which nothing stands.
-const SPACE: Look<'static> = Look {
-    role: ElementStyle::NoStyle,
-    link: None,
-};
 
 /// Adds a text that looks like this, after what was printed and looks like `last`.
 fn weave_stretch(

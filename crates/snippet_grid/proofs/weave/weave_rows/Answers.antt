@@ -49,9 +49,9 @@ loop-row-preserved c =
     record {
       sheet = c.in_ok-weave_row.ensures.sheet ∙ c.loop-row.invariant.sheet;
       rows = rows_next c.args.codes.now c.args.level c.args.text.now c.args.runs.now c.args.widths.now c.loop-row.row c.loop-row.from c.row_end-to.result
-    (string_bytes c.args.out.now) (string_bytes c.loop-row.out) (string_bytes c.if-row-gt0.out) (string_bytes c.weave_row.new.out)
-    c.loop-row-test.true c.row_end-to.ensures.bounds.0 c.row_end-to.ensures.bounds.1 c.row_end-to.ensures.inside c.row_end-to.ensures.below first
-    further row c.loop-row.invariant.rows;
+          (string_bytes c.args.out.now) (string_bytes c.loop-row.out) (string_bytes c.if-row-gt0.out) (string_bytes c.weave_row.new.out)
+          c.loop-row-test.true c.row_end-to.ensures.bounds.0 c.row_end-to.ensures.bounds.1 c.row_end-to.ensures.inside c.row_end-to.ensures.below first
+          further row c.loop-row.invariant.rows;
     }
 
 pub returns-clause-text : goal.returns-clause-text
