@@ -9,9 +9,7 @@ use Rattle.snippet_model.specs.declared.snippet.Annotation.{Annotation}
 use Rattle.snippet_model.specs.declared.snippet.Patch.{Patch}
 use Rattle.snippet_model.specs.declared.snippet.Element.{Element}
 use Rattle.snippet_model.specs.declared.snippet.Element.TheVariants.{Message, Cause, Suggestion, Origin, Padding}
-use Rattle.std.specs.Cow.{cow_str_bytes}
 use Rattle.snippet_view.specs.Annotated.{deepest}
-use Rattle.snippet_lines.specs.Lines.{Source}
 use Rattle.snippet_view.specs.Prepare.{counted_number}
 use Rattle.snippet_lines.specs.Number.{shown_number}
 use Rattle.snippet_lines.specs.declared.number.LineNumbers.{LineNumbers}

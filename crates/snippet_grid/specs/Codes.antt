@@ -10,6 +10,10 @@ abbrev pub styles_in : Stylesheet → List Style
 styles_in s =
     s.error ∷ s.warning ∷ s.info ∷ s.note ∷ s.help ∷ s.line_num ∷ s.emphasis ∷ s.none ∷ s.context ∷ s.addition ∷ s.removal ∷ []
 
+-- the style at a place among them
+abbrev pub style_at : Stylesheet → ℕ → Style
+style_at s place = slice_index_or (styles_in s) place s.none
+
 -- the bytes of the code that opens a style
 abbrev pub opening_bytes : Style → List ℕ
 opening_bytes style = encode_utf8_all (opening style)

@@ -1,6 +1,6 @@
 //! The codes that open a sheet's styles, each made once, when it is first needed.
 ghost use Rattle.std.specs.Prelude.{◌≡◌, ◌≢◌, ◌<◌, ◌++◌, true, false, slice_index_or, IfOk, OnOk, string_bytes};
-ghost use Rattle.snippet_grid.specs.Codes.{AreOpenings, opening_bytes, styles_in};
+ghost use Rattle.snippet_grid.specs.Codes.{opening_bytes, style_at, styles_in};
 ghost use Rattle.snippet_style.specs.Stylesheet as spec;
 ghost use Rattle.snippet_style.specs.declared.style.Style.{Style};
 ghost use Rattle.snippet_style.specs.declared.stylesheet.Stylesheet.{Stylesheet};
@@ -9,16 +9,19 @@ use snippet_style::{ElementStyle, LevelInner, Style, Stylesheet, write_opening};
 use std::alloc::{AllocError, Global};
 use std::marker::Model;
 
-/// A sheet of styles, with the codes that open them.
+/// A sheet of styles, with the codes that open them. Both are found by the place of a style among the sheet's fields.
 #[derive(Drop)]
 pub struct SheetCodes {
     alloc: Global,
     sheet: Stylesheet,
-    /// The codes that were needed so far, in the order of the sheet's fields.
+    /// The styles of the sheet, in the order of its fields.
+    styles: [Style; 11],
+    /// The codes that were needed so far, in the same order.
     codes: [Option<String>; 11],
 }
 
 impl Model for SheetCodes {
+    ghost use Rattle.std.specs.Prelude.{◌≡◌};
     ghost use Rattle.snippet_grid.specs.Codes.{AreOpenings, styles_in};
     ghost use Rattle.snippet_style.specs.declared.stylesheet.Stylesheet.{Stylesheet};
 
@@ -26,7 +29,10 @@ impl Model for SheetCodes {
 
     ghost view = { λ c. c.sheet };
 
-    ghost invariant = { λ c. AreOpenings c.codes (styles_in c.sheet) };
+    ghost invariant = { λ c. record {
+      styles : c.styles ≡ styles_in c.sheet;
+      codes : AreOpenings c.codes (styles_in c.sheet);
+    } };
 }
 
 impl SheetCodes {
@@ -37,47 +43,63 @@ impl SheetCodes {
         SheetCodes {
             alloc,
             sheet: *sheet,
+            styles: styles(sheet),
             codes: [
                 None, None, None, None, None, None, None, None, None, None, None,
             ],
         }
     }
 
-    /// The style of a cell of this role, in a group of this level.
-    pub(crate) fn style_of(&self, level: LevelInner, role: ElementStyle) -> Style
-        ensures value { result ≡ spec.style_of self.now level role }
+    /// The style at a place.
+    pub(crate) fn style_at(&self, place: usize) -> Style
+        requires within { place < 11 }
+        ensures value { result ≡ style_at self.now place }
     {
-        self.sheet.style_of(level, role)
+        self.styles[place]
     }
 
-    /// Whether the styles of two cells of these roles differ, in a group of this level.
-    pub(crate) fn differ(&self, level: LevelInner, a: ElementStyle, b: ElementStyle) -> bool
-        ensures yes { result ≡ true → spec.style_of self.now level a ≢ spec.style_of self.now level b }
-        ensures no { result ≡ false → spec.style_of self.now level a ≡ spec.style_of self.now level b }
+    /// Whether the styles at two places differ.
+    pub(crate) fn differ(&self, a: usize, b: usize) -> bool
+        requires within { a < 11 × (b < 11) }
+        ensures yes { result ≡ true → style_at self.now a ≢ style_at self.now b }
+        ensures no { result ≡ false → style_at self.now a ≡ style_at self.now b }
     {
-        place_of(level, a) != place_of(level, b)
-            && self.style_of(level, a) != self.style_of(level, b)
+        a != b && self.style_at(a) != self.style_at(b)
     }
 
-    /// Adds the code that opens the style of a cell of this role, in a group of this level.
-    pub(crate) fn push_opening(
-        &mut self,
-        out: &mut String,
-        level: LevelInner,
-        role: ElementStyle,
-    ) -> Result<(), AllocError>
+    /// Adds the code that opens the style at a place.
+    pub(crate) fn push_opening(&mut self, out: &mut String, place: usize) -> Result<(), AllocError>
+        requires within { place < 11 }
         ensures sheet { self.new ≡ self.old }
-        ensures text { OnOk result (string_bytes out.new ≡ string_bytes out.old ++ opening_bytes (spec.style_of self.old level role)) }
+        ensures text { OnOk result (string_bytes out.new ≡ string_bytes out.old ++ opening_bytes (style_at self.old place)) }
     {
-        let place = place_of(level, role);
         if let Some(code) = &self.codes[place] {
             return out.push_str(code.as_str());
         }
-        let code = opening(self.alloc, self.style_of(level, role))?;
+        let code = opening(self.alloc, self.style_at(place))?;
         out.push_str(code.as_str())?;
         self.codes[place] = Some(code);
         Ok(())
     }
+}
+
+/// The styles of a sheet, in the order of its fields.
+fn styles(sheet: &Stylesheet) -> [Style; 11]
+    ensures value { result ≡ styles_in sheet.now }
+{
+    [
+        sheet.error,
+        sheet.warning,
+        sheet.info,
+        sheet.note,
+        sheet.help,
+        sheet.line_num,
+        sheet.emphasis,
+        sheet.none,
+        sheet.context,
+        sheet.addition,
+        sheet.removal,
+    ]
 }
 
 /// Room for the code of a style of the default sheet, in bytes.
@@ -93,8 +115,11 @@ fn opening(alloc: Global, style: Style) -> Result<String, AllocError>
     Ok(code)
 }
 
-/// Where the style of a cell of this role stands among a sheet's styles, in a group of this level.
-fn place_of(level: LevelInner, role: ElementStyle) -> usize
+/// The place of the style of what has no style of its own.
+pub(crate) const NONE: usize = 7;
+
+/// The place of the style of a cell of this role, in a group of this level.
+pub(crate) fn place_of(level: LevelInner, role: ElementStyle) -> usize
     ensures place { (sheet : Stylesheet) (d : Style) → slice_index_or (styles_in sheet) result d ≡ spec.style_of sheet level role }
     ensures within { result < 11 }
 {
@@ -106,7 +131,7 @@ fn place_of(level: LevelInner, role: ElementStyle) -> usize
         ElementStyle::HeaderMsg
         | ElementStyle::LineAndColumn
         | ElementStyle::Quotation
-        | ElementStyle::NoStyle => 7,
+        | ElementStyle::NoStyle => NONE,
         ElementStyle::UnderlineSecondary | ElementStyle::LabelSecondary => 8,
         ElementStyle::Addition => 9,
         ElementStyle::Removal => 10,

@@ -10,29 +10,28 @@ ghost use Rattle.std.specs.Prelude.{◌≡◌, ◌≢◌, ◌<◌, ◌≤◌, �
 ghost use Rattle.std.specs.Option.{option_copied};
 ghost use Rattle.std.specs.Str.{chars};
 ghost use Rattle.std.specs.List.{AllPairs, flat_map, slice_index_or};
+ghost use Rattle.snippet_grid.specs.Codes.{style_at};
 ghost use Rattle.snippet_grid.specs.Runs.{IsGrid, IsRow, EndsBy, Precedes, cells_to, grid_shown};
 ghost use Rattle.snippet_grid.specs.declared.runs.Run.{Run};
 ghost use Rattle.snippet_grid.specs.Stretch.{PrintsStretch};
-ghost use Rattle.snippet_style.specs.Stylesheet.{style_of};
-ghost use Rattle.snippet_style.specs.declared.role.ElementStyle.TheVariants.{NoStyle};
 ghost use Rattle.snippet_grid.specs.Woven.{Opening, Reset, LinkTo, LinkEnd, piece_text, AddsRow, AddsRows};
 
-use crate::codes::SheetCodes;
+use crate::codes::{NONE, SheetCodes, place_of};
 use crate::runs::Run;
 use crate::spaces::push_spaces;
-use snippet_style::{ElementStyle, LevelInner, reset_code};
+use snippet_style::{LevelInner, reset_code};
 use std::alloc::AllocError;
 
-/// How a cell looks: its role, and where its link leads.
+/// How a cell looks: the place of its style in the sheet, and where its link leads.
 #[derive(Clone, Copy)]
 struct Look<'a> {
-    role: ElementStyle,
+    place: usize,
     link: Option<&'a str>,
 }
 
 /// How a cell looks in which nothing stands.
 const SPACE: Look<'static> = Look {
-    role: ElementStyle::NoStyle,
+    place: NONE,
     link: None,
 };
 
@@ -96,40 +95,40 @@ fn weave_row(
     let mut col = 0;
     for run in runs {
         if col < run.cell {
-            weave_gap(out, run.cell - col, level, codes, last)?;
+            weave_gap(out, run.cell - col, codes, last)?;
             last = SPACE;
         }
         let next = Look {
-            role: run.role,
+            place: place_of(level, run.role),
             link: run.link,
         };
-        weave_stretch(out, &text[run.start..run.end], level, codes, last, next)?;
+        weave_stretch(out, &text[run.start..run.end], codes, last, next)?;
         last = next;
         col = run.cell + run.count;
     }
     if col < width {
-        weave_gap(out, width - col, level, codes, last)?;
+        weave_gap(out, width - col, codes, last)?;
         last = SPACE;
     }
     end_link(out, last.link, None)?;
-    out.push_str(reset_code(codes.style_of(level, last.role)))
+    out.push_str(reset_code(codes.style_at(last.place)))
 }
 
 /// Adds a text that looks like this, after what was printed and looks like `last`.
 fn weave_stretch(
     out: &mut String,
     word: &str,
-    level: LevelInner,
     codes: &mut SheetCodes,
     last: Look<'_>,
     next: Look<'_>,
 ) -> Result<(), AllocError>
     requires some { 0 < length (chars word.now) }
+    requires within { last.place < 11 × (next.place < 11) }
     ensures sheet { codes.new ≡ codes.old }
-    ensures text { OnOk result (PrintsStretch (chars word.now) (style_of codes.old level last.entry.role) (style_of codes.old level next.entry.role) (option_copied last.entry.link) (option_copied next.entry.link) (string_bytes out.old) (string_bytes out.new)) }
+    ensures text { OnOk result (PrintsStretch (chars word.now) (style_at codes.old last.entry.place) (style_at codes.old next.entry.place) (option_copied last.entry.link) (option_copied next.entry.link) (string_bytes out.old) (string_bytes out.new)) }
 {
     end_link(out, last.link, next.link)?;
-    change_style(out, level, codes, last.role, next.role)?;
+    change_style(out, codes, last.place, next.place)?;
     begin_link(out, last.link, next.link)?;
     out.push_str(word)
 }
@@ -138,15 +137,15 @@ fn weave_stretch(
 fn weave_gap(
     out: &mut String,
     count: usize,
-    level: LevelInner,
     codes: &mut SheetCodes,
     last: Look<'_>,
 ) -> Result<(), AllocError>
+    requires within { last.place < 11 }
     ensures sheet { codes.new ≡ codes.old }
-    ensures text { OnOk result (PrintsStretch (replicate count 32) (style_of codes.old level last.entry.role) (style_of codes.old level NoStyle) (option_copied last.entry.link) None (string_bytes out.old) (string_bytes out.new)) }
+    ensures text { OnOk result (PrintsStretch (replicate count 32) (style_at codes.old last.entry.place) codes.old.none (option_copied last.entry.link) None (string_bytes out.old) (string_bytes out.new)) }
 {
     end_link(out, last.link, None)?;
-    change_style(out, level, codes, last.role, ElementStyle::NoStyle)?;
+    change_style(out, codes, last.place, NONE)?;
     push_spaces(out, count)
 }
 
@@ -165,19 +164,19 @@ fn end_link(out: &mut String, last: Option<&str>, next: Option<&str>) -> Result<
 /// Resets the style that is open and opens the next one, unless they are the same.
 fn change_style(
     out: &mut String,
-    level: LevelInner,
     codes: &mut SheetCodes,
-    last: ElementStyle,
-    next: ElementStyle,
+    last: usize,
+    next: usize,
 ) -> Result<(), AllocError>
+    requires within { last < 11 × (next < 11) }
     ensures sheet { codes.new ≡ codes.old }
-    ensures kept { OnOk result (style_of codes.old level last ≡ style_of codes.old level next → string_bytes out.new ≡ string_bytes out.old) }
-    ensures changed { OnOk result (style_of codes.old level last ≢ style_of codes.old level next
-        → string_bytes out.new ≡ string_bytes out.old ++ flat_map piece_text (Reset (style_of codes.old level last) ∷ Opening (style_of codes.old level next) ∷ [])) }
+    ensures kept { OnOk result (style_at codes.old last ≡ style_at codes.old next → string_bytes out.new ≡ string_bytes out.old) }
+    ensures changed { OnOk result (style_at codes.old last ≢ style_at codes.old next
+        → string_bytes out.new ≡ string_bytes out.old ++ flat_map piece_text (Reset (style_at codes.old last) ∷ Opening (style_at codes.old next) ∷ [])) }
 {
-    if codes.differ(level, last, next) {
-        out.push_str(reset_code(codes.style_of(level, last)))?;
-        codes.push_opening(out, level, next)?;
+    if codes.differ(last, next) {
+        out.push_str(reset_code(codes.style_at(last)))?;
+        codes.push_opening(out, next)?;
     }
     Ok(())
 }

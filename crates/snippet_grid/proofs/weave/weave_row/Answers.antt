@@ -6,12 +6,11 @@ use Rattle.snippet_grid.proofs.OutcomeLemmas.{on_ok_value}
 use Rattle.snippet_grid.proofs.RunLemmas.{starts_at_boundary, ends_at_boundary}
 use Rattle.snippet_grid.proofs.RowWoven.{WovenTo, woven_start, woven_gap, woven_run, first_ahead}
 use Rattle.snippet_grid.proofs.WeaveLemmas.{Goes, row_closed}
+use Rattle.snippet_grid.specs.Codes.{style_at}
 use Rattle.snippet_grid.specs.Runs.{run_bytes, cells_to}
 use Rattle.snippet_grid.specs.Stretch.{PrintsStretch}
 use Rattle.snippet_grid.specs.declared.runs.Run.{Run}
-use Rattle.snippet_style.specs.Stylesheet.{style_of}
-use Rattle.snippet_style.specs.declared.role.ElementStyle.{ElementStyle}
-use Rattle.snippet_style.specs.declared.role.ElementStyle.TheVariants.{MainHeaderMsg, NoStyle}
+use Rattle.snippet_style.specs.declared.role.ElementStyle.TheVariants.{MainHeaderMsg}
 use Rattle.snippet_style.specs.declared.style.Style.{Style}
 use Rattle.snippet_style.specs.declared.stylesheet.Stylesheet.{Stylesheet}
 use Rattle.snippet_grid.proofs.weave.weave_row.Goals as goal
@@ -26,6 +25,7 @@ loop-run-init c =
     record {
       sheet = refl;
       woven = woven_start c.args.codes.now c.args.level c.args.text.now c.args.runs.now c.args.row (string_bytes c.args.out.now);
+      placed = omega arith;
       inside = omega arith;
     }
 
@@ -33,31 +33,31 @@ pub loop-run-preserved : goal.loop-run-preserved
 loop-run-preserved c =
     let i = c.loop-run.run-index in
     let run : Run = get_or c.args.runs.now i none in
-    let style = λ (sheet : Stylesheet) (role : ElementStyle). style_of sheet c.args.level role in
     let ahead : (k : ℕ) (d : Run) → i ≤ k → k < length c.args.runs.now → run.cell ≤ (get_or c.args.runs.now k d).cell = first_ahead c.args.text.now c.args.row c.args.runs.now i none c.requires.runs c.loop-run-test.true in
     let kept : c.if-col-run.codes ≡ c.args.codes.now = elim c.if-col-run.branch [
       | then-col-run+in_ok-weave_gap w ↦ w.codes-is ∙ w.in_ok-weave_gap.ensures.sheet ∙ c.loop-run.invariant.sheet
       | else-col-run w ↦ w.codes-is ∙ c.loop-run.invariant.sheet
     ] in
-    let before : WovenTo c.args.codes.now c.args.level c.args.text.now c.args.runs.now c.args.row i run.cell (style c.args.codes.now c.if-col-run.last.role) (option_copied c.if-col-run.last.link) (string_bytes c.args.out.now) (string_bytes c.if-col-run.out) = elim c.if-col-run.branch [
+    let before : WovenTo c.args.codes.now c.args.level c.args.text.now c.args.runs.now c.args.row i run.cell (style_at c.args.codes.now c.if-col-run.last.place) (option_copied c.if-col-run.last.link) (string_bytes c.args.out.now) (string_bytes c.if-col-run.out) = elim c.if-col-run.branch [
       | then-col-run+in_ok-weave_gap w ↦
-          let gap = subst (λ (s : Stylesheet). PrintsStretch (replicate (run.cell - c.loop-run.col) 32) (style s c.loop-run.last.role) (style s NoStyle) (option_copied c.loop-run.last.link) None (string_bytes c.loop-run.out) (string_bytes w.weave_gap.new.out)) c.loop-run.invariant.sheet w.in_ok-weave_gap.ensures.text in
+          let gap = subst (λ (s : Stylesheet). PrintsStretch (replicate (run.cell - c.loop-run.col) 32) (style_at s c.loop-run.last.place) s.none (option_copied c.loop-run.last.link) None (string_bytes c.loop-run.out) (string_bytes w.weave_gap.new.out)) c.loop-run.invariant.sheet w.in_ok-weave_gap.ensures.text in
           rw (w.out-is, w.last-is)
-          (woven_gap c.args.codes.now c.args.level c.args.text.now c.args.runs.now c.args.row i c.loop-run.col run.cell _ (style c.args.codes.now c.loop-run.last.role)
-          (style c.args.codes.now NoStyle) (option_copied c.loop-run.last.link) (string_bytes c.args.out.now) (string_bytes c.loop-run.out)
+          (woven_gap c.args.codes.now c.args.level c.args.text.now c.args.runs.now c.args.row i c.loop-run.col run.cell _ (style_at c.args.codes.now c.loop-run.last.place)
+          c.args.codes.now.none (option_copied c.loop-run.last.link) (string_bytes c.args.out.now) (string_bytes c.loop-run.out)
           (string_bytes w.weave_gap.new.out) w.if-col-run.true (omega arith) ahead refl gap c.loop-run.invariant.woven)
       | else-col-run w ↦
           let here : c.loop-run.col ≡ run.cell = omega (arith, w.if-col-run.false, c.loop-run.invariant.woven.ahead i none (omega arith) c.loop-run-test.true) in
-          rw (w.out-is, w.last-is) (subst (λ col. WovenTo c.args.codes.now c.args.level c.args.text.now c.args.runs.now c.args.row i col (style c.args.codes.now c.loop-run.last.role) (option_copied c.loop-run.last.link) (string_bytes c.args.out.now) (string_bytes c.loop-run.out)) here c.loop-run.invariant.woven)
+          rw (w.out-is, w.last-is) (subst (λ col. WovenTo c.args.codes.now c.args.level c.args.text.now c.args.runs.now c.args.row i col (style_at c.args.codes.now c.loop-run.last.place) (option_copied c.loop-run.last.link) (string_bytes c.args.out.now) (string_bytes c.loop-run.out)) here c.loop-run.invariant.woven)
     ] in
     let bytes : c.range.result.now ≡ run_bytes c.args.text.now run = c.range.ensures.value in
-    let word = subst (λ (t : List ℕ). PrintsStretch (chars t) (style c.if-col-run.codes c.if-col-run.last.role) (style c.if-col-run.codes run.role) (option_copied c.if-col-run.last.link) (option_copied run.link) (string_bytes c.if-col-run.out) (string_bytes c.weave_stretch.new.out)) bytes c.in_ok-weave_stretch.ensures.text in
-    let prints = subst (λ (s : Stylesheet). PrintsStretch (chars (run_bytes c.args.text.now run)) (style s c.if-col-run.last.role) (style s run.role) (option_copied c.if-col-run.last.link) (option_copied run.link) (string_bytes c.if-col-run.out) (string_bytes c.weave_stretch.new.out)) kept word in
+    let word = subst (λ (t : List ℕ). PrintsStretch (chars t) (style_at c.if-col-run.codes c.if-col-run.last.place) (style_at c.if-col-run.codes c.place_of.result) (option_copied c.if-col-run.last.link) (option_copied run.link) (string_bytes c.if-col-run.out) (string_bytes c.weave_stretch.new.out)) bytes c.in_ok-weave_stretch.ensures.text in
+    let prints = subst (λ (s : Stylesheet). PrintsStretch (chars (run_bytes c.args.text.now run)) (style_at s c.if-col-run.last.place) (style_at s c.place_of.result) (option_copied c.if-col-run.last.link) (option_copied run.link) (string_bytes c.if-col-run.out) (string_bytes c.weave_stretch.new.out)) kept word in
     record {
       sheet = c.in_ok-weave_stretch.ensures.sheet ∙ kept;
-      woven = woven_run c.args.codes.now c.args.level c.args.text.now c.args.runs.now c.args.row i run.cell none (style c.args.codes.now c.if-col-run.last.role)
-          (style c.args.codes.now run.role) (option_copied c.if-col-run.last.link) (string_bytes c.args.out.now) (string_bytes c.if-col-run.out)
-          (string_bytes c.weave_stretch.new.out) c.requires.runs c.loop-run-test.true refl refl prints before;
+      woven = woven_run c.args.codes.now c.args.level c.args.text.now c.args.runs.now c.args.row i run.cell none (style_at c.args.codes.now c.if-col-run.last.place)
+          (style_at c.args.codes.now c.place_of.result) (option_copied c.if-col-run.last.link) (string_bytes c.args.out.now) (string_bytes c.if-col-run.out)
+          (string_bytes c.weave_stretch.new.out) c.requires.runs c.loop-run-test.true refl (c.place_of.ensures.place c.args.codes.now c.args.codes.now.none) prints before;
+      placed = c.place_of.ensures.within;
       inside = c.requires.ends i none c.loop-run-test.true;
     }
 
@@ -72,26 +72,25 @@ range-requires-clause-end_boundary c =
 pub returns-clause-text : goal.returns-clause-text
 returns-clause-text c =
     let n = c.loop-run.run-index in
-    let style = λ (sheet : Stylesheet) (role : ElementStyle). style_of sheet c.args.level role in
     let past : (k : ℕ) (d : Run) → n ≤ k → k < length c.args.runs.now → c.args.width ≤ (get_or c.args.runs.now k d).cell = λ k d after within. absurd (omega (arith, c.loop-run-test.false)) in
     let kept : c.if-col-width.codes ≡ c.args.codes.now = elim c.if-col-width.branch [
       | then-col-width+in_ok-weave_gap-2 w ↦ w.codes-is ∙ w.in_ok-weave_gap-2.ensures.sheet ∙ c.loop-run.invariant.sheet
       | else-col-width w ↦ w.codes-is ∙ c.loop-run.invariant.sheet
     ] in
-    let last : WovenTo c.args.codes.now c.args.level c.args.text.now c.args.runs.now c.args.row n c.args.width (style c.args.codes.now c.if-col-width.last.role) (option_copied c.if-col-width.last.link) (string_bytes c.args.out.now) (string_bytes c.if-col-width.out) = elim c.if-col-width.branch [
+    let last : WovenTo c.args.codes.now c.args.level c.args.text.now c.args.runs.now c.args.row n c.args.width (style_at c.args.codes.now c.if-col-width.last.place) (option_copied c.if-col-width.last.link) (string_bytes c.args.out.now) (string_bytes c.if-col-width.out) = elim c.if-col-width.branch [
       | then-col-width+in_ok-weave_gap-2 w ↦
-          let gap = subst (λ (s : Stylesheet). PrintsStretch (replicate (c.args.width - c.loop-run.col) 32) (style s c.loop-run.last.role) (style s NoStyle) (option_copied c.loop-run.last.link) None (string_bytes c.loop-run.out) (string_bytes w.weave_gap-then-col-width.new.out)) c.loop-run.invariant.sheet w.in_ok-weave_gap-2.ensures.text in
+          let gap = subst (λ (s : Stylesheet). PrintsStretch (replicate (c.args.width - c.loop-run.col) 32) (style_at s c.loop-run.last.place) s.none (option_copied c.loop-run.last.link) None (string_bytes c.loop-run.out) (string_bytes w.weave_gap-then-col-width.new.out)) c.loop-run.invariant.sheet w.in_ok-weave_gap-2.ensures.text in
           rw (w.out-is, w.last-is)
-          (woven_gap c.args.codes.now c.args.level c.args.text.now c.args.runs.now c.args.row n c.loop-run.col c.args.width _ (style c.args.codes.now c.loop-run.last.role)
-          (style c.args.codes.now NoStyle) (option_copied c.loop-run.last.link) (string_bytes c.args.out.now) (string_bytes c.loop-run.out)
+          (woven_gap c.args.codes.now c.args.level c.args.text.now c.args.runs.now c.args.row n c.loop-run.col c.args.width _ (style_at c.args.codes.now c.loop-run.last.place)
+          c.args.codes.now.none (option_copied c.loop-run.last.link) (string_bytes c.args.out.now) (string_bytes c.loop-run.out)
           (string_bytes w.weave_gap-then-col-width.new.out) w.if-col-width.true (omega arith) past refl gap c.loop-run.invariant.woven)
       | else-col-width w ↦
           let here : c.loop-run.col ≡ c.args.width = omega (arith, w.if-col-width.false, c.loop-run.invariant.inside) in
-          rw (w.out-is, w.last-is) (subst (λ col. WovenTo c.args.codes.now c.args.level c.args.text.now c.args.runs.now c.args.row n col (style c.args.codes.now c.loop-run.last.role) (option_copied c.loop-run.last.link) (string_bytes c.args.out.now) (string_bytes c.loop-run.out)) here c.loop-run.invariant.woven)
+          rw (w.out-is, w.last-is) (subst (λ col. WovenTo c.args.codes.now c.args.level c.args.text.now c.args.runs.now c.args.row n col (style_at c.args.codes.now c.loop-run.last.place) (option_copied c.loop-run.last.link) (string_bytes c.args.out.now) (string_bytes c.loop-run.out)) here c.loop-run.invariant.woven)
     ] in
-    let worn : c.style_of.result ≡ style c.args.codes.now c.if-col-width.last.role = c.style_of.ensures.value ∙ ap (λ s. style s c.if-col-width.last.role) kept in
+    let worn : c.style_at.result ≡ style_at c.args.codes.now c.if-col-width.last.place = c.style_at.ensures.value ∙ ap (λ s. style_at s c.if-col-width.last.place) kept in
     on_ok_weaker c.push_str.result
-    (λ bytes. row_closed c.args.codes.now c.args.level c.style_of.result (option_copied c.if-col-width.last.link)
+    (λ bytes. row_closed c.args.codes.now c.args.level c.style_at.result (option_copied c.if-col-width.last.link)
     (cells_to c.args.text.now c.args.runs.now c.args.row c.args.width) (string_bytes c.args.out.now) (string_bytes c.if-col-width.out)
     (string_bytes c.end_link.new.out) _ c.in_ok-end_link.ensures.none c.in_ok-end_link.ensures.ended
     (bytes ∙ ap (λ (t : List ℕ). string_bytes c.end_link.new.out ++ t) c.reset_code.ensures.text)

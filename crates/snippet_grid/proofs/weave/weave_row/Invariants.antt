@@ -1,14 +1,15 @@
 -- The row is printed up to the end of the last run.
-use Rattle.std.proofs.Common.{◌≡◌, ◌≤◌, string_bytes}
+use Rattle.std.proofs.Common.{◌≡◌, ◌<◌, ◌≤◌, string_bytes}
 use Rattle.std.specs.Option.{option_copied}
 use Rattle.snippet_grid.proofs.RowWoven.{WovenTo}
-use Rattle.snippet_style.specs.Stylesheet.{style_of}
+use Rattle.snippet_grid.specs.Codes.{style_at}
 use Rattle.snippet_grid.proofs.weave.weave_row.Given as goal
 
 abbrev pub invariant-loop-run : goal.invariant-loop-run
 invariant-loop-run l =
     record {
       sheet : l.codes ≡ l.initial.codes;
-      woven : WovenTo l.initial.codes l.level l.text l.runs l.row l.run-index l.col (style_of l.initial.codes l.level l.last.role) (option_copied l.last.link) (string_bytes l.initial.out) (string_bytes l.out);
+      woven : WovenTo l.initial.codes l.level l.text l.runs l.row l.run-index l.col (style_at l.initial.codes l.last.place) (option_copied l.last.link) (string_bytes l.initial.out) (string_bytes l.out);
+      placed : l.last.place < 11;
       inside : l.col ≤ l.width;
     }
