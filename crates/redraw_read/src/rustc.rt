@@ -87,12 +87,18 @@ fn count_before_edits(children: &[Child]) -> usize
 fn spans_of(node: &Node<'_, '_>) -> Result<Vec<FileSpan>, Fault> {
     let field = node.needed("spans", Expectation::List)?;
     let values = listed(node, "spans")?;
-    let mut spans = Vec::new(node.alloc);
-    for (index, value) in values.iter().enumerate() {
-        spans.push(span_of(&field.item(index, value))?)?;
-    }
+    let mut spans = each_span(&field, values)?;
     for (index, value) in values.iter().enumerate() {
         add_call(&field.item(index, value), &mut spans)?;
+    }
+    Ok(spans)
+}
+
+/// The places in a list of these values.
+fn each_span<'v>(list: &Node<'v, '_>, values: &'v [Value]) -> Result<Vec<FileSpan>, Fault> {
+    let mut spans = Vec::new(list.alloc);
+    for (index, value) in values.iter().enumerate() {
+        spans.push(span_of(&list.item(index, value))?)?;
     }
     Ok(spans)
 }
@@ -239,12 +245,17 @@ fn edits_of(node: &Node<'_, '_>) -> Result<Vec<Edit>, Fault> {
     let field = node.needed("spans", Expectation::List)?;
     let mut edits = Vec::new(node.alloc);
     for (index, value) in listed(node, "spans")?.iter().enumerate() {
-        let item = field.item(index, value);
-        if let Some(replacement) = given_text(&item, "suggested_replacement")? {
-            edits.push(edit_of(&item, replacement)?)?;
-        }
+        add_edit(&field.item(index, value), &mut edits)?;
     }
     Ok(edits)
+}
+
+/// Adds the edit of a place, if a text is to stand there.
+fn add_edit(place: &Node<'_, '_>, edits: &mut Vec<Edit>) -> Result<(), Fault> {
+    if let Some(replacement) = given_text(place, "suggested_replacement")? {
+        edits.push(edit_of(place, replacement)?)?;
+    }
+    Ok(())
 }
 
 /// A place. One in the source of a macro that isn't at hand is shown where the macro is called.
