@@ -9,11 +9,17 @@ const EXPANSIONS: usize = 128;
 
 /// The expansion that a place is in: where it was called, and the macro.
 fn expansion_of(span: &Value) -> Option<&Value> {
-    let expansion = span.get("expansion")?;
-    if expansion.get("span")?.is_object() {
-        Some(expansion)
-    } else {
-        None
+    match span.get("expansion") {
+        Some(expansion) if has_span(expansion) => Some(expansion),
+        _ => None,
+    }
+}
+
+/// Whether an expansion says where it was called.
+fn has_span(expansion: &Value) -> bool {
+    match expansion.get("span") {
+        Some(span) => span.is_object(),
+        None => false,
     }
 }
 
@@ -47,7 +53,10 @@ pub fn shown_place(span: &Value) -> &Value {
 
 /// Where the outermost macro around a place was called.
 fn outermost_call(span: &Value) -> Option<&Value> {
-    outermost(span)?.get("span")
+    match outermost(span) {
+        Some(expansion) => expansion.get("span"),
+        None => None,
+    }
 }
 
 /// The call around a place that is shown beside it, and how: none where the place is shown in it.
@@ -55,14 +64,26 @@ pub fn told_call(span: &Value) -> Option<(&Value, &'static str)> {
     if !has_text(span) {
         return None;
     }
-    let expansion = outermost(span)?;
-    let call = expansion.get("span")?;
-    let label = call_label(expansion.get("macro_decl_name")?.as_str()?)?;
-    if is_inside(span, call) {
-        None
-    } else {
-        Some((call, label))
+    match outermost(span).and_then(labelled_call) {
+        Some((call, label)) if !is_inside(span, call) => Some((call, label)),
+        _ => None,
     }
+}
+
+/// Where a macro was called, and what is said of that.
+fn labelled_call(expansion: &Value) -> Option<(&Value, &'static str)> {
+    match (
+        expansion.get("span"),
+        decl_name(expansion).and_then(call_label),
+    ) {
+        (Some(call), Some(label)) => Some((call, label)),
+        _ => None,
+    }
+}
+
+/// The name of the macro that an expansion is of, as it is declared.
+fn decl_name(expansion: &Value) -> Option<&str> {
+    expansion.get("macro_decl_name").and_then(Value::as_str)
 }
 
 /// What is said of the call of a macro of this name.
@@ -87,7 +108,7 @@ fn is_inside(inner: &Value, outer: &Value) -> bool {
 
 /// The number in the field of this name.
 fn number(object: &Value, name: &str) -> Option<u64> {
-    object.get(name)?.as_u64()
+    object.get(name).and_then(Value::as_u64)
 }
 
 /// The macros that primary places come from: the first of them, and the last.
@@ -141,40 +162,77 @@ impl<'v> Macros<'v> {
     /// What rustc's text says of the macros that a diagnostic of this level originates in. Of those whose source isn't at hand
     /// it says nothing.
     pub fn note(&self, alloc: Global, level: &str) -> Result<Option<String>, AllocError> {
-        let (Some(first), Some(last)) = (self.first, self.last) else {
-            return Ok(None);
-        };
-        if !last.get("def_site_span").map_or(false, has_text) {
-            return Ok(None);
+        match (
+            self.first.and_then(macro_name),
+            self.last.and_then(told_name),
+        ) {
+            (Some(first), Some(last)) => Ok(Some(note_of(alloc, level, first, last)?)),
+            _ => Ok(None),
         }
-        let (Some((kind, name)), Some((last_kind, last_name))) = (
-            macro_name(first),
-            macro_name(last),
-        ) else {
-            return Ok(None);
-        };
-        let mut note = format!(in alloc; "this {level} originates in the {kind} `{name}`")?;
-        if last_name != name {
-            let text = format!(in alloc;
-                " which comes from the expansion of the {last_kind} `{last_name}`"
-            )?;
-            note.push_str(text.as_str())?;
-        }
-        note.push_str(" (in Nightly builds, run with -Z macro-backtrace for more info)")?;
-        Ok(Some(note))
     }
+}
+
+/// What kind of macro an expansion is of, and its name, if the macro's source is at hand.
+fn told_name(expansion: &Value) -> Option<(&'static str, &str)> {
+    if expansion.get("def_site_span").map_or(false, has_text) {
+        macro_name(expansion)
+    } else {
+        None
+    }
+}
+
+/// What is said of the first and the last macro that a diagnostic of this level originates in, each by its kind and name.
+fn note_of(
+    alloc: Global,
+    level: &str,
+    first: (&str, &str),
+    last: (&str, &str),
+) -> Result<String, AllocError> {
+    let (kind, name) = first;
+    let mut note = format!(in alloc; "this {level} originates in the {kind} `{name}`")?;
+    if last.1 != name {
+        add_last(&mut note, last)?;
+    }
+    note.push_str(" (in Nightly builds, run with -Z macro-backtrace for more info)")?;
+    Ok(note)
+}
+
+/// Adds what is said of the last macro.
+fn add_last(note: &mut String, last: (&str, &str)) -> Result<(), AllocError> {
+    let (kind, name) = last;
+    write!(
+        note,
+        " which comes from the expansion of the {kind} `{name}`"
+    )
 }
 
 /// What kind of macro an expansion is of, and its name; none where it is of no macro.
 fn macro_name(expansion: &Value) -> Option<(&'static str, &str)> {
-    let name = expansion.get("macro_decl_name")?.as_str()?;
-    if let Some(name) = name.strip_suffix('!') {
-        return Some(("macro", name));
+    match decl_name(expansion) {
+        Some(name) => kind_and_name(name),
+        None => None,
     }
-    let inner = name.strip_prefix("#[")?.strip_suffix(']')?;
-    match derived_name(inner) {
-        Some(name) => Some(("derive macro", name)),
-        None => Some(("attribute macro", inner)),
+}
+
+/// The kind and the name of a macro that is declared by this name; none where it is no macro's.
+fn kind_and_name(name: &str) -> Option<(&'static str, &str)> {
+    match (name.strip_suffix('!'), attribute_name(name)) {
+        (Some(name), _) => Some(("macro", name)),
+        (None, Some(name)) => Some(attribute_kind(name)),
+        (None, None) => None,
+    }
+}
+
+/// What stands in the brackets of an attribute.
+fn attribute_name(name: &str) -> Option<&str> {
+    name.strip_prefix("#[")?.strip_suffix(']')
+}
+
+/// The kind and the name of the macro that an attribute is.
+fn attribute_kind(attribute: &str) -> (&'static str, &str) {
+    match derived_name(attribute) {
+        Some(name) => ("derive macro", name),
+        None => ("attribute macro", attribute),
     }
 }
 

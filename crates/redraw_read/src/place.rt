@@ -75,10 +75,7 @@ impl<'a> Placing<'a> {
         diagnostic: &'a Diagnostic,
     ) -> Result<Finding<'a>, AllocError> {
         let marks = self.marks(sources, &diagnostic.spans)?;
-        let mut remarks = Vec::new(self.alloc);
-        for child in &diagnostic.children {
-            remarks.push(self.remark(sources, child)?)?;
-        }
+        let remarks = self.remarks(sources, &diagnostic.children)?;
         Ok(Finding {
             severity: diagnostic.severity,
             message: diagnostic.message.as_str(),
@@ -86,6 +83,19 @@ impl<'a> Placing<'a> {
             marks,
             remarks,
         })
+    }
+
+    /// The remarks that some children make.
+    fn remarks<S: Shelf + Drop>(
+        &mut self,
+        sources: &'a Sources<S>,
+        children: &'a [Child],
+    ) -> Result<Vec<Remark<'a>>, AllocError> {
+        let mut remarks = Vec::new(self.alloc);
+        for child in children {
+            remarks.push(self.remark(sources, child)?)?;
+        }
+        Ok(remarks)
     }
 
     /// The remark that a child makes.
@@ -142,11 +152,22 @@ impl<'a> Placing<'a> {
             if !self.has_lines(spot.source) {
                 self.undrawn = self.undrawn.saturating_add(1);
             } else if edits.len() == 1 && is_attribute(text) {
-                offers.push(self.attribute_offer(spot, edit)?)?;
+                self.add_attribute(spot, edit, offers)?;
             } else {
                 add_change(self.alloc, had, spot, text, offers)?;
             }
         }
+        Ok(())
+    }
+
+    /// Adds the offer of an attribute.
+    fn add_attribute(
+        &mut self,
+        spot: Spot,
+        edit: &'a Edit,
+        offers: &mut Vec<Offer<'a>>,
+    ) -> Result<(), AllocError> {
+        offers.push(self.attribute_offer(spot, edit)?)?;
         Ok(())
     }
 
@@ -280,15 +301,29 @@ impl<'a> Placing<'a> {
 
     /// The index of a source, which is all of a file or not; it is added where it isn't there yet.
     fn index_of(&mut self, source: Shown<'a>, is_file: bool) -> Result<usize, AllocError> {
+        match self.known_index(&source, is_file) {
+            Some(index) => Ok(index),
+            None => self.new_index(source, is_file),
+        }
+    }
+
+    /// The index of such a source, if it is there.
+    fn known_index(&self, source: &Shown<'_>, is_file: bool) -> Option<usize> {
         for (index, known) in self.shown.iter().enumerate() {
             let known_file = self.is_file.get(index) == Some(&is_file);
-            if known_file && known.path == source.path && (is_file || is_same(known, &source)) {
-                return Ok(index);
+            if known_file && known.path == source.path && (is_file || is_same(known, source)) {
+                return Some(index);
             }
         }
+        None
+    }
+
+    /// Adds such a source, and answers its index.
+    fn new_index(&mut self, source: Shown<'a>, is_file: bool) -> Result<usize, AllocError> {
+        let index = self.shown.len();
         self.shown.push(source)?;
         self.is_file.push(is_file)?;
-        Ok(self.shown.len() - 1)
+        Ok(index)
     }
 }
 

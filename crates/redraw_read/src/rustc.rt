@@ -17,15 +17,22 @@ use std::alloc::{AllocError, Global};
 /// The diagnostic that a value describes.
 pub fn diagnostic_of(node: &Node<'_, '_>) -> Result<Diagnostic, Fault> {
     let (severity, message) = heading_of(node)?;
-    let spans = spans_of(node)?;
-    let children = children_of(node)?;
+    let (spans, children, code) = parts_of(node)?;
     Ok(Diagnostic {
         severity,
         message,
-        code: code_of(node)?,
+        code,
         spans,
         children,
     })
+}
+
+/// The places, the children and the code of a diagnostic.
+fn parts_of(node: &Node<'_, '_>) -> Result<(Vec<FileSpan>, Vec<Child>, Option<Code>), Fault> {
+    let spans = spans_of(node)?;
+    let children = children_of(node)?;
+    let code = code_of(node)?;
+    Ok((spans, children, code))
 }
 
 /// The children of a diagnostic, with a note on the macros that it originates in.
@@ -80,12 +87,18 @@ fn count_before_edits(children: &[Child]) -> usize
 fn spans_of(node: &Node<'_, '_>) -> Result<Vec<FileSpan>, Fault> {
     let field = node.needed("spans", Expectation::List)?;
     let values = listed(node, "spans")?;
-    let mut spans = Vec::new(node.alloc);
-    for (index, value) in values.iter().enumerate() {
-        spans.push(span_of(&field.item(index, value))?)?;
-    }
+    let mut spans = each_span(&field, values)?;
     for (index, value) in values.iter().enumerate() {
         add_call(&field.item(index, value), &mut spans)?;
+    }
+    Ok(spans)
+}
+
+/// The places in a list of these values.
+fn each_span<'v>(list: &Node<'v, '_>, values: &'v [Value]) -> Result<Vec<FileSpan>, Fault> {
+    let mut spans = Vec::new(list.alloc);
+    for (index, value) in values.iter().enumerate() {
+        spans.push(span_of(&list.item(index, value))?)?;
     }
     Ok(spans)
 }
@@ -95,21 +108,34 @@ fn add_call(node: &Node<'_, '_>, spans: &mut Vec<FileSpan>) -> Result<(), Fault>
     if !node.flag("is_primary")? {
         return Ok(());
     }
-    let Some((call, label)) = told_call(node.value) else {
-        return Ok(());
-    };
-    let place = Node {
-        alloc: node.alloc,
-        value: call,
-        place: node.place,
-    };
-    let region = region_of(&place)?;
-    if is_said(spans, Region::Lines(region), label) {
-        return Ok(());
+    match told_call(node.value) {
+        Some((call, label)) => add_told(&at_value(node, call), label, spans),
+        None => Ok(()),
     }
-    let file = place.text("file_name")?;
-    spans.push(file_span(&place, file, region, Some(label), false)?)?;
+}
+
+/// This value, where a node stands.
+fn at_value<'v, 'p>(node: &Node<'_, 'p>, value: &'v Value) -> Node<'v, 'p> {
+    Node {
+        alloc: node.alloc,
+        value,
+        place: node.place,
+    }
+}
+
+/// Adds a place of which this is said, unless it is there.
+fn add_told(place: &Node<'_, '_>, label: &str, spans: &mut Vec<FileSpan>) -> Result<(), Fault> {
+    let region = region_of(place)?;
+    if !is_said(spans, Region::Lines(region), label) {
+        spans.push(told_span(place, region, label)?)?;
+    }
     Ok(())
+}
+
+/// A place in this region of which this is said, and which isn't the point of the report.
+fn told_span(place: &Node<'_, '_>, region: LineRegion, label: &str) -> Result<FileSpan, Fault> {
+    let file = place.text("file_name")?;
+    file_span(place, file, region, Some(label), false)
 }
 
 /// Whether this is said of one of these places, in this region.
@@ -142,15 +168,24 @@ fn heading_of(node: &Node<'_, '_>) -> Result<(Severity, String), Fault> {
 
 /// How severe a diagnostic of this level is.
 fn severity_of(level: &Value) -> Option<Severity> {
-    match level.as_str()? {
-        "error" | INTERNAL => Some(Severity::Error),
-        "warning" => Some(Severity::Warning),
-        "note" => Some(Severity::Note),
-        "help" => Some(Severity::Help),
-        "failure-note" => Some(Severity::Plain),
-        _ => None,
+    let level = level.as_str()?;
+    for (name, severity) in &LEVELS {
+        if *name == level {
+            return Some(*severity);
+        }
     }
+    None
 }
+
+/// The levels by their names, and how severe they are.
+const LEVELS: [(&str, Severity); 6] = [
+    ("error", Severity::Error),
+    (INTERNAL, Severity::Error),
+    ("warning", Severity::Warning),
+    ("note", Severity::Note),
+    ("help", Severity::Help),
+    ("failure-note", Severity::Plain),
+];
 
 /// The level of an internal compiler error, which its message is to say.
 const INTERNAL: &str = "error: internal compiler error";
@@ -210,23 +245,24 @@ fn edits_of(node: &Node<'_, '_>) -> Result<Vec<Edit>, Fault> {
     let field = node.needed("spans", Expectation::List)?;
     let mut edits = Vec::new(node.alloc);
     for (index, value) in listed(node, "spans")?.iter().enumerate() {
-        let item = field.item(index, value);
-        if let Some(replacement) = given_text(&item, "suggested_replacement")? {
-            edits.push(edit_of(&item, replacement)?)?;
-        }
+        add_edit(&field.item(index, value), &mut edits)?;
     }
     Ok(edits)
+}
+
+/// Adds the edit of a place, if a text is to stand there.
+fn add_edit(place: &Node<'_, '_>, edits: &mut Vec<Edit>) -> Result<(), Fault> {
+    if let Some(replacement) = given_text(place, "suggested_replacement")? {
+        edits.push(edit_of(place, replacement)?)?;
+    }
+    Ok(())
 }
 
 /// A place. One in the source of a macro that isn't at hand is shown where the macro is called.
 fn span_of(node: &Node<'_, '_>) -> Result<FileSpan, Fault> {
     let label = given_text(node, "label")?;
     let is_primary = node.flag("is_primary")?;
-    let place = Node {
-        alloc: node.alloc,
-        value: shown_place(node.value),
-        place: node.place,
-    };
+    let place = at_value(node, shown_place(node.value));
     labelled(&place, label, is_primary)
 }
 
@@ -332,16 +368,22 @@ fn numbers_of(node: &Node<'_, '_>, line: &str, column: &str) -> Result<(usize, u
 
 /// The lines that a place in this region has with it, where it has some.
 fn carried_of(node: &Node<'_, '_>, region: LineRegion) -> Result<Option<Carried>, Fault> {
-    let Some(field) = given(node, "text") else {
-        return Ok(None);
-    };
-    let lines = values_of(&field)?;
+    match given(node, "text") {
+        Some(field) => carried_in(&field, region.start_line),
+        None => Ok(None),
+    }
+}
+
+/// The lines that this list holds, if it holds some; the first of them has this number.
+fn carried_in(list: &Node<'_, '_>, first_line: usize) -> Result<Option<Carried>, Fault> {
+    let lines = values_of(list)?;
     if lines.is_empty() {
         return Ok(None);
     }
+    let text = text_of_lines(list, lines)?;
     Ok(Some(Carried {
-        first_line: region.start_line,
-        text: text_of_lines(&field, lines)?,
+        first_line,
+        text,
         is_whole: true,
     }))
 }

@@ -1,9 +1,10 @@
 //! What is drawn of places: each source with those that are in it.
-ghost use Rattle.std.specs.Prelude.{◌≡◌, ◌++◌, IfOk, OnOk, map};
+ghost use Rattle.std.specs.Prelude.{◌≡◌, ◌++◌, [], ◌∷◌, IfOk, OnOk, map};
 ghost use Rattle.std.specs.List.{flat_map};
 ghost use Rattle.redraw_report.specs.Report as spec;
-ghost use Rattle.redraw_report.specs.Report.{label_in, label_rows, mark_in, marked_of, marked_parts, parts_at, source_parts, with_index, with_source, with_sources};
-ghost use Rattle.redraw_report.specs.View.{marked_view, part_view};
+ghost use Rattle.redraw_report.specs.Report.{label_in, label_rows, mark_in, marked_of, marked_parts, parts_at, said, source_parts, with_index, with_source, with_sources};
+ghost use Rattle.redraw_report.specs.View.{Gap, marked_view, part_view};
+ghost use Rattle.redraw_report.specs.declared.diagnostic.Severity.TheVariants.{Note};
 
 use crate::diagnostic::Severity;
 use crate::finding::{Content, Mark, Shown};
@@ -120,11 +121,35 @@ fn add_label_rows<'a>(
 ) -> Result<(), AllocError>
     ensures added { OnOk result (map part_view elements.new.items ≡ map part_view elements.old.items ++ label_rows label.entry) }
 {
-    if let Some(label) = label {
-        let message = message_of(alloc, Severity::Note, label)?;
-        elements.push(Element::Padding(Padding))?;
-        elements.push(message)?;
+    match label {
+        Some(label) => add_row(alloc, elements, label),
+        None => Ok(()),
     }
+}
+
+/// Adds an empty row, and a note below it.
+fn add_row<'a>(
+    alloc: Global,
+    elements: &mut Vec<Element<'a>>,
+    text: &'a str,
+) -> Result<(), AllocError>
+    ensures added { OnOk result (map part_view elements.new.items
+        ≡ map part_view elements.old.items ++ Gap ∷ said Note text.now ∷ []) }
+{
+    elements.push(Element::Padding(Padding))?;
+    add_note(alloc, elements, text)
+}
+
+/// Adds a note.
+fn add_note<'a>(
+    alloc: Global,
+    elements: &mut Vec<Element<'a>>,
+    text: &'a str,
+) -> Result<(), AllocError>
+    ensures added { OnOk result (map part_view elements.new.items ≡ map part_view elements.old.items ++ said Note text.now ∷ []) }
+{
+    let message = message_of(alloc, Severity::Note, text)?;
+    elements.push(message)?;
     Ok(())
 }
 

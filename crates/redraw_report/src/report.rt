@@ -1,8 +1,8 @@
 //! The report of a finding.
-ghost use Rattle.std.specs.Prelude.{◌≡◌, ◌++◌, List, ◌∷◌, IfOk, map};
+ghost use Rattle.std.specs.Prelude.{◌≡◌, ◌++◌, List, [], ◌∷◌, IfOk, map};
 ghost use Rattle.redraw_report.specs.declared.finding.Remark.{Remark};
 ghost use Rattle.redraw_report.specs.Report as spec;
-ghost use Rattle.redraw_report.specs.Report.{headed_of, marked_parts, remark_section, report_of, section_of, sections_from};
+ghost use Rattle.redraw_report.specs.Report.{headed_of, marked_parts, offers_parts, remark_section, report_of, section_of, sections_from};
 ghost use Rattle.redraw_report.specs.View.{headed_view, part_view, section_view};
 
 use crate::finding::{Finding, Remark, Shown};
@@ -32,9 +32,22 @@ fn remark_group<'a>(
     ensures value { IfOk result (λ group. section_view group ≡ remark_section sources.now remark.now) }
 {
     let title = remark_title(alloc, remark)?;
+    let elements = remark_elements(alloc, sources, remark)?;
+    Ok(group_of(title, elements))
+}
+
+/// What stands below the title of such a remark: its places, and the edits that it offers.
+fn remark_elements<'a>(
+    alloc: Global,
+    sources: &[Shown<'a>],
+    remark: &Remark<'a>,
+) -> Result<Vec<Element<'a>>, AllocError>
+    ensures value { IfOk result (λ elements. map part_view elements.items
+        ≡ marked_parts sources.now remark.now.marks.items ++ offers_parts sources.now remark.now.offers.items) }
+{
     let mut elements = marked_elements(alloc, sources, &remark.marks)?;
     add_offers(alloc, &mut elements, sources, &remark.offers)?;
-    Ok(group_of(title, elements))
+    Ok(elements)
 }
 
 /// The group of a finding itself.
@@ -90,6 +103,23 @@ fn add_remark<'a>(
     }
 }
 
+/// Takes some remarks, one after another, and answers the last group.
+fn add_remarks<'a>(
+    alloc: Global,
+    groups: &mut Vec<Group<'a>>,
+    mut group: Group<'a>,
+    sources: &[Shown<'a>],
+    remarks: &[Remark<'a>],
+) -> Result<Group<'a>, AllocError>
+    ensures taken { IfOk result (λ g. map section_view groups.new.items ++ section_view g ∷ []
+        ≡ map section_view groups.old.items ++ sections_from sources.now (section_view group.entry) remarks.now) }
+{
+    for remark in remarks {
+        group = add_remark(alloc, groups, group, sources, remark)?;
+    }
+    Ok(group)
+}
+
 /// The report of a finding, whose places are in these sources.
 pub fn report<'a>(
     alloc: Global,
@@ -99,10 +129,8 @@ pub fn report<'a>(
     ensures told { IfOk result (λ groups. map section_view groups.items ≡ report_of sources.now finding.now) }
 {
     let mut groups = Vec::new(alloc);
-    let mut group = first_group(alloc, sources, finding)?;
-    for remark in finding.remarks.as_slice() {
-        group = add_remark(alloc, &mut groups, group, sources, remark)?;
-    }
-    groups.push(group)?;
+    let first = first_group(alloc, sources, finding)?;
+    let last = add_remarks(alloc, &mut groups, first, sources, &finding.remarks)?;
+    groups.push(last)?;
     Ok(groups)
 }

@@ -116,7 +116,12 @@ impl<S: Shelf + Drop, W: Write, V: Write> Drawing<'_, '_, S, W, V> {
     pub fn draw(&mut self, diagnostic: &Diagnostic) -> Result<(), Stop> {
         load_files(&mut self.sources, diagnostic)?;
         let drawn = drawn_of(self.alloc, &self.renderer, &self.sources, diagnostic)?;
-        let (clamped, undrawn) = (drawn.clamped, drawn.undrawn);
+        self.tell_inexact(drawn.clamped, drawn.undrawn);
+        self.print_drawn(drawn.text, diagnostic.severity)
+    }
+
+    /// Tells how many places aren't in their source, and how many edits aren't drawn.
+    fn tell_inexact(&mut self, clamped: u64, undrawn: u64) {
         if clamped > 0 {
             self.tell(format_args!(
                 "places that aren't in their source, drawn at the nearest one: {clamped}"
@@ -127,8 +132,16 @@ impl<S: Shelf + Drop, W: Write, V: Write> Drawing<'_, '_, S, W, V> {
                 "edits that aren't drawn, since nothing of their file is at hand: {undrawn}"
             ));
         }
-        match drawn.text {
-            Ok(text) => self.print(text.as_str(), diagnostic.severity),
+    }
+
+    /// Prints the text of a finding, or tells why there is none.
+    fn print_drawn(
+        &mut self,
+        text: Result<String, RenderError>,
+        severity: Severity,
+    ) -> Result<(), Stop> {
+        match text {
+            Ok(text) => self.print(text.as_str(), severity),
             Err(RenderError::Memory(_)) => Err(Stop::Memory),
             Err(error) => {
                 self.wrong(format_args!("{error}"));
@@ -137,12 +150,17 @@ impl<S: Shelf + Drop, W: Write, V: Write> Drawing<'_, '_, S, W, V> {
         }
     }
 
-    /// Prints a report, with an empty line after it, but not after one line or a text without a level.
-    fn print(&mut self, text: &str, severity: Severity) -> Result<(), Stop> {
+    /// Counts a finding that is drawn.
+    fn count(&mut self, severity: Severity) {
         self.tally.drawn = self.tally.drawn.saturating_add(1);
         if severity == Severity::Error {
             self.tally.errors = self.tally.errors.saturating_add(1);
         }
+    }
+
+    /// Prints a report, with an empty line after it, but not after one line or a text without a level.
+    fn print(&mut self, text: &str, severity: Severity) -> Result<(), Stop> {
+        self.count(severity);
         let ending = if self.renderer.short_message || severity == Severity::Plain {
             ""
         } else {

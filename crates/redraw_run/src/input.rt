@@ -84,9 +84,7 @@ impl Reading {
         drawing: &mut Drawing<'_, '_, S, W, V>,
     ) -> Result<(), Stop> {
         if let Some(document) = &mut self.document {
-            document.push_str("\n")?;
-            document.push_str(line)?;
-            return Ok(());
+            return add_line(document, line);
         }
         if line.trim().is_empty() {
             return Ok(());
@@ -97,16 +95,41 @@ impl Reading {
         match Value::from_str(self.alloc, line) {
             Ok(value) => self.value(&value, drawing),
             Err(error) if error.is_memory() => Err(Stop::Memory),
-            Err(error) if is_first && line.trim_start().starts_with('{') => {
-                self.document = Some(String::from_str(self.alloc, line)?);
-                self.begins = drawing.line;
+            Err(error) => self.no_value(line, is_first, &error, drawing),
+        }
+    }
+
+    /// Takes a line that isn't JSON: the first may begin a document, and another one is told and left out.
+    fn no_value<S: Shelf + Drop, W: Write, V: Write>(
+        &mut self,
+        line: &str,
+        is_first: bool,
+        error: &serde_json::Error,
+        drawing: &mut Drawing<'_, '_, S, W, V>,
+    ) -> Result<(), Stop> {
+        let at = drawing.line;
+        if is_first && line.trim_start().starts_with('{') {
+            self.document = Some(String::from_str(self.alloc, line)?);
+            self.begins = at;
+        } else {
+            drawing.not_json(at, error);
+        }
+        Ok(())
+    }
+
+    /// Takes what was read of an input as its next line.
+    fn next_line<S: Shelf + Drop, W: Write, V: Write>(
+        &mut self,
+        line: io::Result<String>,
+        drawing: &mut Drawing<'_, '_, S, W, V>,
+    ) -> Result<(), Stop> {
+        match line {
+            Ok(line) => self.line(line.as_str(), drawing),
+            Err(error) if error.kind() == io::ErrorKind::InvalidData => {
+                self.undecoded(drawing);
                 Ok(())
             }
-            Err(error) => {
-                let line = drawing.line;
-                drawing.not_json(line, &error);
-                Ok(())
-            }
+            Err(error) => Err(Stop::Unreadable(error)),
         }
     }
 
@@ -169,6 +192,13 @@ impl Reading {
     }
 }
 
+/// Adds a line to a document.
+fn add_line(document: &mut String, line: &str) -> Result<(), Stop> {
+    document.push_str("\n")?;
+    document.push_str(line)?;
+    Ok(())
+}
+
 /// A first line without the mark of the order of bytes, which some tools write.
 fn without_mark(line: &str) -> &str {
     line.strip_prefix('\u{feff}').unwrap_or(line)
@@ -206,13 +236,7 @@ pub fn draw_input<B: BufRead + Drop, S: Shelf + Drop, W: Write, V: Write>(
     drawing.line = 0;
     for line in input.lines(drawing.alloc) {
         drawing.line = drawing.line.saturating_add(1);
-        match line {
-            Ok(line) => reading.line(line.as_str(), drawing)?,
-            Err(error) if error.kind() == io::ErrorKind::InvalidData => {
-                reading.undecoded(drawing);
-            }
-            Err(error) => return Err(Stop::Unreadable(error)),
-        }
+        reading.next_line(line, drawing)?;
     }
     drawing.line = 0;
     reading.end(drawing)?;

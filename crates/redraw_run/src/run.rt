@@ -3,7 +3,7 @@
 use crate::draw::{Drawing, Tally, tell};
 use crate::input::draw_input;
 use crate::stop::Stop;
-use crate::words::{Options, command_of};
+use crate::words::{Command, Options, command_of};
 use annotate_snippets::Renderer;
 use annotate_snippets::renderer::{DEFAULT_TERM_WIDTH, DecorStyle};
 use redraw_read::sources::{Shelf, Sources};
@@ -74,14 +74,23 @@ pub fn run<'r, 'w, R: Files + Input + AllocGlobal, W: Write, V: Write>(
     if matches!(words, ["--help"]) {
         return help(out);
     }
-    let alloc = rt.alloc();
-    let command = match command_of(words) {
-        Ok(command) => command,
+    match command_of(words) {
+        Ok(command) => draw_all(rt, command, out, err),
         Err(misuse) => {
-            tell(alloc, format_args!("{misuse}\n{USAGE}"), err);
-            return FAILED;
+            tell(rt.alloc(), format_args!("{misuse}\n{USAGE}"), err);
+            FAILED
         }
-    };
+    }
+}
+
+/// Draws what a command asks for, and answers the status to end with.
+fn draw_all<'r, 'w, R: Files + Input + AllocGlobal, W: Write, V: Write>(
+    rt: &'r R,
+    command: Command<'_, 'w>,
+    out: &'r mut W,
+    err: &'r mut V,
+) -> u8 {
+    let alloc = rt.alloc();
     let shelf = Below {
         rt,
         root: command.root,

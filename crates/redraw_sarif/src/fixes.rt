@@ -5,8 +5,8 @@ use crate::message::text_in;
 use crate::node::{List, Node, Troubles};
 use crate::region::{carried_in, region_of};
 use crate::uri::path_in;
-use redraw_report::diagnostic::{Child, Edit, Severity};
-use std::alloc::AllocError;
+use redraw_report::diagnostic::{Carried, Child, Edit, Region, Severity};
+use std::alloc::{AllocError, Global};
 
 /// What stands over a fix that isn't described.
 const UNDESCRIBED: &str = "apply this fix";
@@ -20,13 +20,25 @@ pub fn children_of(
 ) -> Result<Vec<Child>, AllocError> {
     let mut children: Vec<Child> = Vec::new(context.alloc);
     for (index, value) in fixes.items.iter().enumerate() {
-        let fix = fixes.node(index, value);
-        if let Some(edits) = edits_of(&fix, context, troubles)? {
-            let message = description_of(&fix, context, troubles)?;
-            add_fix(&mut children, message, edits, context)?;
-        }
+        take_fix(&mut children, &fixes.node(index, value), context, troubles)?;
     }
     Ok(children)
+}
+
+/// Adds what is said of a fix, unless something is wrong in it.
+fn take_fix(
+    children: &mut Vec<Child>,
+    fix: &Node<'_, '_>,
+    context: &Context<'_>,
+    troubles: &mut Troubles,
+) -> Result<(), AllocError> {
+    match edits_of(fix, context, troubles)? {
+        Some(edits) => {
+            let message = description_of(fix, context, troubles)?;
+            add_fix(children, message, edits, context)
+        }
+        None => Ok(()),
+    }
 }
 
 /// The description of a fix.
@@ -54,15 +66,20 @@ fn add_fix(
             return Ok(());
         }
     }
+    children.push(help_of(message, edits, context)?)?;
+    Ok(())
+}
+
+/// The help that one fix makes.
+fn help_of(message: String, edits: Vec<Edit>, context: &Context<'_>) -> Result<Child, AllocError> {
     let mut alternatives = Vec::new(context.alloc);
     alternatives.push(edits)?;
-    children.push(Child {
+    Ok(Child {
         severity: Severity::Help,
         message,
         spans: Vec::new(context.alloc),
         alternatives,
-    })?;
-    Ok(())
+    })
 }
 
 /// The edits of a fix, in all files; `None` where something is wrong with one of them, which is reported: the others alone would be
@@ -102,13 +119,24 @@ fn add_change(
     context: &Context<'_>,
     troubles: &mut Troubles,
 ) -> Result<(), AllocError> {
-    let Some(file) = path_in(context.alloc, change, context.run, troubles)? else {
-        return Ok(());
-    };
+    match path_in(context.alloc, change, context.run, troubles)? {
+        Some(file) => add_replacements(edits, change, file.as_str(), context, troubles),
+        None => Ok(()),
+    }
+}
+
+/// Adds the edits of a file that a change makes.
+fn add_replacements(
+    edits: &mut Vec<Edit>,
+    change: &Node<'_, '_>,
+    file: &str,
+    context: &Context<'_>,
+    troubles: &mut Troubles,
+) -> Result<(), AllocError> {
     let replacements = change.needed_list("replacements", troubles);
     for (index, value) in replacements.items.iter().enumerate() {
         let replacement = replacements.node(index, value);
-        if let Some(edit) = edit_of(&replacement, file.as_str(), context, troubles)? {
+        if let Some(edit) = edit_of(&replacement, file, context, troubles)? {
             edits.push(edit)?;
         }
     }
@@ -129,13 +157,26 @@ fn edit_of(
     let (Some(region), Some(text)) = (region, inserted_in(replacement, troubles)) else {
         return Ok(None);
     };
-    let alloc = context.alloc;
-    Ok(Some(Edit {
-        file: String::from_str(alloc, file)?,
+    let carried = carried_in(context.alloc, &deleted, context.unit, troubles)?;
+    Ok(Some(edit_with(context.alloc, file, region, text, carried)?))
+}
+
+/// The edit of a region of this file.
+fn edit_with(
+    alloc: Global,
+    file: &str,
+    region: Region,
+    text: &str,
+    carried: Option<Carried>,
+) -> Result<Edit, AllocError> {
+    let file = String::from_str(alloc, file)?;
+    let replacement = String::from_str(alloc, text)?;
+    Ok(Edit {
+        file,
         region,
-        replacement: String::from_str(alloc, text)?,
-        carried: carried_in(alloc, &deleted, context.unit, troubles)?,
-    }))
+        replacement,
+        carried,
+    })
 }
 
 /// The text that a replacement puts in: none where it only takes text away.
@@ -143,6 +184,8 @@ fn inserted_in<'v>(replacement: &Node<'v, '_>, troubles: &mut Troubles) -> Optio
     if !replacement.has("insertedContent") {
         return Some("");
     }
-    let content = replacement.needed("insertedContent", troubles)?;
-    content.needed_text("text", troubles)
+    match replacement.needed("insertedContent", troubles) {
+        Some(content) => content.needed_text("text", troubles),
+        None => None,
+    }
 }

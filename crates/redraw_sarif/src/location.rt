@@ -49,22 +49,48 @@ fn span_of(
     if !location.is_object(troubles) {
         return Ok(None);
     }
-    let Some(physical) = location.object("physicalLocation", troubles) else {
-        return Ok(None);
-    };
+    match location.object("physicalLocation", troubles) {
+        Some(physical) => span_at(location, &physical, context, is_primary, troubles),
+        None => Ok(None),
+    }
+}
+
+/// The place of a location that is at this physical one.
+fn span_at(
+    location: &Node<'_, '_>,
+    physical: &Node<'_, '_>,
+    context: &Context<'_>,
+    is_primary: bool,
+    troubles: &mut Troubles,
+) -> Result<Option<FileSpan>, AllocError> {
+    match path_in(context.alloc, physical, context.run, troubles)? {
+        Some(file) => {
+            let span = span_in(file, location, physical, context, is_primary, troubles)?;
+            Ok(Some(span))
+        }
+        None => Ok(None),
+    }
+}
+
+/// The place in this file.
+fn span_in(
+    file: String,
+    location: &Node<'_, '_>,
+    physical: &Node<'_, '_>,
+    context: &Context<'_>,
+    is_primary: bool,
+    troubles: &mut Troubles,
+) -> Result<FileSpan, AllocError> {
     let alloc = context.alloc;
-    let Some(file) = path_in(alloc, &physical, context.run, troubles)? else {
-        return Ok(None);
-    };
     let region = physical.object("region", troubles);
     let around = physical.object("contextRegion", troubles);
-    Ok(Some(FileSpan {
+    Ok(FileSpan {
         file,
         region: region_or_start(&region, context.unit, troubles),
         label: text_in(alloc, location, "message", &context.rule, troubles)?,
         is_primary,
         carried: carried_of(alloc, &around, &region, context.unit, troubles)?,
-    }))
+    })
 }
 
 /// The region of a location; the start of its file where it has none, or a wrong one.

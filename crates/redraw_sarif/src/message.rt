@@ -4,6 +4,7 @@ use crate::expectation::Expectation;
 use crate::node::{Node, Troubles};
 use crate::placeholders::filled;
 use crate::rule::Rule;
+use serde_json::Value;
 use std::alloc::{AllocError, Global};
 
 /// The text of the message in the field of this name, if there is one: its own, or one of the rule's by its id, with its
@@ -15,24 +16,43 @@ pub fn text_in(
     rule: &Rule<'_>,
     troubles: &mut Troubles,
 ) -> Result<Option<String>, AllocError> {
-    let Some(message) = object.object(name, troubles) else {
-        return Ok(None);
-    };
+    match object.object(name, troubles) {
+        Some(message) => text_of(alloc, &message, rule, troubles),
+        None => Ok(None),
+    }
+}
+
+/// The text of a message.
+fn text_of(
+    alloc: Global,
+    message: &Node<'_, '_>,
+    rule: &Rule<'_>,
+    troubles: &mut Troubles,
+) -> Result<Option<String>, AllocError> {
     let arguments = message.list("arguments", troubles).items;
     let told = troubles.lines.len();
     let own = message.text("text", troubles);
-    let Some(text) = own.or(text_by_id(&message, rule, troubles)) else {
+    let Some(text) = own.or(text_by_id(message, rule, troubles)) else {
         if troubles.lines.len() == told {
             message.tell(troubles, Expectation::Message);
         }
         return Ok(None);
     };
-    let text = if own.is_some() && arguments.is_empty() {
-        String::from_str(alloc, text)?
+    Ok(Some(with_arguments(alloc, text, own.is_some(), arguments)?))
+}
+
+/// A text, which may be a message's own, with the message's arguments.
+fn with_arguments(
+    alloc: Global,
+    text: &str,
+    is_own: bool,
+    arguments: &[Value],
+) -> Result<String, AllocError> {
+    if is_own && arguments.is_empty() {
+        String::from_str(alloc, text)
     } else {
-        filled(alloc, text, arguments)?
-    };
-    Ok(Some(text))
+        filled(alloc, text, arguments)
+    }
 }
 
 /// The text of the rule that a message names by its id.
@@ -41,5 +61,8 @@ fn text_by_id<'v>(
     rule: &Rule<'v>,
     troubles: &mut Troubles,
 ) -> Option<&'v str> {
-    rule.message_string(message.text("id", troubles)?)
+    match message.text("id", troubles) {
+        Some(id) => rule.message_string(id),
+        None => None,
+    }
 }

@@ -110,8 +110,10 @@ impl<'v> Node<'v, '_> {
 
     /// What stands in the field of this name.
     fn field(&self, name: &str) -> Option<&'v Value> {
-        let value = self.value.get(name)?;
-        if value.is_null() { None } else { Some(value) }
+        match self.value.get(name) {
+            Some(value) if !value.is_null() => Some(value),
+            _ => None,
+        }
     }
 
     /// Whether there is a field of this name.
@@ -138,15 +140,17 @@ impl<'v> Node<'v, '_> {
 
     /// The object in the field of this name.
     pub fn object<'n>(&'n self, name: &'n str, troubles: &mut Troubles) -> Option<Node<'v, 'n>> {
-        let value = self.field(name)?;
-        if !value.is_object() {
-            self.tell_field(name, troubles, Expectation::Object);
-            return None;
+        match self.field(name) {
+            Some(value) if value.is_object() => Some(Node {
+                value,
+                place: Place::Field(&self.place, name),
+            }),
+            Some(_) => {
+                self.tell_field(name, troubles, Expectation::Object);
+                None
+            }
+            None => None,
         }
-        Some(Node {
-            value,
-            place: Place::Field(&self.place, name),
-        })
     }
 
     /// The list in the field of this name; an empty one where there is none.
@@ -177,8 +181,9 @@ impl<'v> Node<'v, '_> {
 
     /// The text in the field of this name.
     pub fn text(&self, name: &str, troubles: &mut Troubles) -> Option<&'v str> {
-        let text = self.field(name)?.as_str();
-        if text.is_none() {
+        let value = self.field(name);
+        let text = value.and_then(Value::as_str);
+        if value.is_some() && text.is_none() {
             self.tell_field(name, troubles, Expectation::Text);
         }
         text
@@ -219,5 +224,26 @@ impl<'v> Node<'v, '_> {
 
 /// The text in the field of this name, if one stands there; where there is none, nothing is reported.
 pub fn text_field<'v>(object: &'v Value, name: &str) -> Option<&'v str> {
-    object.get(name)?.as_str()
+    object.get(name).and_then(Value::as_str)
+}
+
+/// What stands in the field of this name, if there is an object.
+pub fn field_at<'v>(object: Option<&'v Value>, name: &str) -> Option<&'v Value> {
+    match object {
+        Some(object) => object.get(name),
+        None => None,
+    }
+}
+
+/// The text in the field of this name, if there is an object and one stands there.
+pub fn text_at<'v>(object: Option<&'v Value>, name: &str) -> Option<&'v str> {
+    field_at(object, name).and_then(Value::as_str)
+}
+
+/// The item of a list with this number, if there is a list.
+pub fn item_at<'v>(list: Option<&'v Value>, index: u64) -> Option<&'v Value> {
+    match list {
+        Some(list) => list.get(index as usize),
+        None => None,
+    }
 }

@@ -75,7 +75,7 @@ fn write_argument(out: &mut String, number: usize, arguments: &[Value]) -> Resul
 
 /// The argument with this number, if there is one that is a text.
 fn argument_at(arguments: &[Value], number: usize) -> Option<&str> {
-    arguments.get(number)?.as_str()
+    arguments.get(number).and_then(Value::as_str)
 }
 
 /// Writes what was no placeholder.

@@ -3,6 +3,7 @@
 use crate::expectation::Expectation;
 use crate::node::{Node, Troubles};
 use redraw_report::diagnostic::{Carried, LineRegion, Region, Unit};
+use serde_json::Value;
 use std::alloc::{AllocError, Global};
 
 /// The part of a file that a region names. Where it says no place to begin at, that is reported, unless what it says in its
@@ -96,12 +97,15 @@ pub fn carried_in(
 
 /// The text of a region's snippet.
 fn snippet_in<'v>(region: &Node<'v, '_>, troubles: &mut Troubles) -> Option<&'v str> {
-    region.object("snippet", troubles)?.text("text", troubles)
+    match region.object("snippet", troubles) {
+        Some(snippet) => snippet.text("text", troubles),
+        None => None,
+    }
 }
 
 /// The line that a region begins on.
 fn first_line_of(region: &Node<'_, '_>) -> Option<usize> {
-    match region.value.get("startLine")?.as_u64() {
+    match region.value.get("startLine").and_then(Value::as_u64) {
         Some(number) if number > 0 => Some(number as usize),
         _ => None,
     }
@@ -135,15 +139,21 @@ const MOST_BLANKS: usize = 1000;
 
 /// The lines of a text, with line feeds between them, and blanks before the first.
 fn lines_of(alloc: Global, blanks: usize, text: &str) -> Result<String, AllocError> {
-    let mut out = String::new(alloc);
-    for _ in 0..blanks.min(MOST_BLANKS) {
-        out.push(' ')?;
-    }
+    let mut out = blanks_of(alloc, blanks.min(MOST_BLANKS))?;
     for (index, line) in text.lines().enumerate() {
         if index > 0 {
             out.push('\n')?;
         }
         out.push_str(line)?;
+    }
+    Ok(out)
+}
+
+/// This many blanks.
+fn blanks_of(alloc: Global, count: usize) -> Result<String, AllocError> {
+    let mut out = String::new(alloc);
+    for _ in 0..count {
+        out.push(' ')?;
     }
     Ok(out)
 }

@@ -1,7 +1,7 @@
 //! The rule that a result breaks, and how severe that is.
 
 use crate::expectation::Expectation;
-use crate::node::{Node, Troubles, text_field};
+use crate::node::{Node, Troubles, field_at, item_at, text_at, text_field};
 use redraw_report::diagnostic::{Code, Severity};
 use serde_json::Value;
 use std::alloc::{AllocError, Global};
@@ -18,49 +18,37 @@ pub struct Rule<'v> {
 impl<'v> Rule<'v> {
     /// A text of the rule by its name.
     fn text(&self, name: &str) -> Option<&'v str> {
-        text_field(self.rule?, name)
+        text_at(self.rule, name)
     }
 
     /// The text of the rule's, or else of the component's, message strings by this name.
     pub fn message_string(&self, id: &str) -> Option<&'v str> {
-        let own = text_of_string(strings_in(self.rule, "messageStrings"), id);
-        own.or(text_of_string(strings_in(self.component, "globalMessageStrings"), id))
+        let own = text_of_string(field_at(self.rule, "messageStrings"), id);
+        own.or(text_of_string(field_at(self.component, "globalMessageStrings"), id))
     }
 
     /// What the rule says of itself in short.
     pub fn description(&self) -> Option<&'v str> {
-        text_field(self.rule?.get("shortDescription")?, "text")
+        text_at(field_at(self.rule, "shortDescription"), "text")
     }
 
     /// The severity of results that don't say theirs.
     fn severity(&self) -> Option<Severity> {
-        let configuration = self.rule?.get("defaultConfiguration")?;
-        severity_by_name(text_field(configuration, "level")?)
+        let configuration = field_at(self.rule, "defaultConfiguration");
+        text_at(configuration, "level").and_then(severity_by_name)
     }
-}
-
-/// The strings in the field of this name.
-fn strings_in<'v>(object: Option<&'v Value>, name: &str) -> Option<&'v Value> {
-    object?.get(name)
 }
 
 /// The text of the message string of this id.
 fn text_of_string<'v>(strings: Option<&'v Value>, id: &str) -> Option<&'v str> {
-    text_field(strings?.get(id)?, "text")
+    text_at(field_at(strings, id), "text")
 }
 
 /// The rule of a result: by its number, or else by its id. Where it is the number of no rule, that is reported.
 pub fn rule_of<'v>(run: &'v Value, reported: &Node<'v, '_>, troubles: &mut Troubles) -> Rule<'v> {
-    let own = reported.number("ruleIndex", troubles);
-    let index = match reported.object("rule", troubles) {
-        Some(reference) => reference.number("index", troubles).or(own),
-        None => own,
-    };
+    let index = index_of(reported, troubles);
     let component = component_of(run, reported.value);
-    let rules: &'v [Value] = match component {
-        Some(component) => rules_of(component),
-        None => &[],
-    };
+    let rules = rules_of(component);
     let rule = match index {
         Some(index) => rules.get(index),
         None => rule_by_id(rules, id_of(reported.value).unwrap_or("")),
@@ -71,23 +59,34 @@ pub fn rule_of<'v>(run: &'v Value, reported: &Node<'v, '_>, troubles: &mut Troub
     Rule { component, rule }
 }
 
+/// The number of the rule that a result names.
+fn index_of(reported: &Node<'_, '_>, troubles: &mut Troubles) -> Option<usize> {
+    let own = reported.number("ruleIndex", troubles);
+    match reported.object("rule", troubles) {
+        Some(reference) => reference.number("index", troubles).or(own),
+        None => own,
+    }
+}
+
 /// The component whose rule a result names: an extension of the tool by its number, else the driver.
 fn component_of<'v>(run: &'v Value, reported: &Value) -> Option<&'v Value> {
-    let tool = run.get("tool")?;
+    let tool = run.get("tool");
     match extension_of(reported) {
-        Some(index) => tool.get("extensions")?.get(index as usize),
-        None => tool.get("driver"),
+        Some(index) => item_at(field_at(tool, "extensions"), index),
+        None => field_at(tool, "driver"),
     }
 }
 
 /// The number of the extension that a result names.
 fn extension_of(reported: &Value) -> Option<u64> {
-    reported.pointer("/rule/toolComponent/index")?.as_u64()
+    reported
+        .pointer("/rule/toolComponent/index")
+        .and_then(Value::as_u64)
 }
 
-/// The rules of a component.
-fn rules_of(component: &Value) -> &[Value] {
-    match component.get("rules") {
+/// The rules of a component, if there is one.
+fn rules_of(component: Option<&Value>) -> &[Value] {
+    match field_at(component, "rules") {
         Some(Value::Array(rules)) => rules.as_slice(),
         _ => &[],
     }
@@ -97,7 +96,7 @@ fn rules_of(component: &Value) -> &[Value] {
 fn id_of(reported: &Value) -> Option<&str> {
     match reported.get("ruleId") {
         Some(id) => id.as_str(),
-        None => text_field(reported.get("rule")?, "id"),
+        None => text_at(reported.get("rule"), "id"),
     }
 }
 
@@ -118,12 +117,17 @@ fn rule_by_id<'v>(rules: &'v [Value], id: &str) -> Option<&'v Value> {
 
 /// How long the id of a rule is, if it is this id or the part of it before a slash.
 fn length_of_part(rule: &Value, id: &str) -> Option<usize> {
-    let own = text_field(rule, "id")?;
-    let rest = id.strip_prefix(own)?;
-    if rest.is_empty() || rest.starts_with('/') {
-        Some(own.len())
-    } else {
-        None
+    match text_field(rule, "id") {
+        Some(own) if is_part(own, id) => Some(own.len()),
+        _ => None,
+    }
+}
+
+/// Whether the id of a rule is this id, or the part of it before a slash.
+fn is_part(own: &str, id: &str) -> bool {
+    match id.strip_prefix(own) {
+        Some(rest) => rest.is_empty() || rest.starts_with('/'),
+        None => false,
     }
 }
 
@@ -137,11 +141,16 @@ pub fn code_of(
         return Ok(None);
     };
     let id = String::from_str(alloc, id)?;
-    let url = match rule.text("helpUri") {
-        Some(url) => Some(String::from_str(alloc, url)?),
-        None => None,
-    };
+    let url = owned(alloc, rule.text("helpUri"))?;
     Ok(Some(Code { id, url }))
+}
+
+/// A copy of a text, if there is one.
+fn owned(alloc: Global, text: Option<&str>) -> Result<Option<String>, AllocError> {
+    match text {
+        Some(text) => Ok(Some(String::from_str(alloc, text)?)),
+        None => Ok(None),
+    }
 }
 
 /// How severe a result is: by its level, else a note where it isn't of the kind `fail`, else by its rule, else a warning.

@@ -1,7 +1,7 @@
 //! The files that a log names by addresses.
 
 use crate::expectation::Expectation;
-use crate::node::{Node, Troubles, text_field};
+use crate::node::{Node, Troubles, field_at, item_at, text_at, text_field};
 use percent_encoding::percent_decode;
 use serde_json::Value;
 use std::alloc::{AllocError, Global};
@@ -43,16 +43,24 @@ pub fn path_in(
 /// The address of an artifact's location: its own, or that of the artifact with its number.
 fn address_of<'v>(run: &'v Value, location: &'v Value) -> Option<Address<'v>> {
     let named = match location.get("uri") {
-        Some(_) => location,
-        None => {
-            let index = location.get("index")?.as_u64()?;
-            run.get("artifacts")?.get(index as usize)?.get("location")?
-        }
+        Some(_) => Some(location),
+        None => artifact_location(run, location),
     };
-    Some(Address {
-        uri: text_field(named, "uri")?,
-        base: text_field(named, BASE),
-    })
+    match text_at(named, "uri") {
+        Some(uri) => Some(Address {
+            uri,
+            base: text_at(named, BASE),
+        }),
+        None => None,
+    }
+}
+
+/// The location of the artifact whose number a location has.
+fn artifact_location<'v>(run: &'v Value, location: &Value) -> Option<&'v Value> {
+    match location.get("index").and_then(Value::as_u64) {
+        Some(index) => field_at(item_at(run.get("artifacts"), index), "location"),
+        None => None,
+    }
 }
 
 /// The path that an address names, after its base, which may have a base itself. A base without an address adds nothing.
@@ -73,7 +81,10 @@ fn path_at(alloc: Global, run: &Value, address: Address<'_>) -> Result<String, A
 
 /// The location of the base of this name.
 fn base_location<'v>(run: &'v Value, id: Option<&str>) -> Option<&'v Value> {
-    run.get("originalUriBaseIds")?.get(id?)
+    match id {
+        Some(id) => field_at(run.get("originalUriBaseIds"), id),
+        None => None,
+    }
 }
 
 /// An address below another one.
