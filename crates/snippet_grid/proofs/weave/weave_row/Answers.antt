@@ -40,18 +40,22 @@ loop-run-preserved c =
     ] in
     let before : WovenTo c.args.codes.now c.args.level c.args.text.now c.args.runs.now c.args.row i run.cell (style_at c.args.codes.now c.if-col-run.last.place) (option_copied c.if-col-run.last.link) (string_bytes c.args.out.now) (string_bytes c.if-col-run.out) = elim c.if-col-run.branch [
       | then-col-run+in_ok-weave_gap w ↦
-          let gap = subst (λ (s : Stylesheet). PrintsStretch (replicate (run.cell - c.loop-run.col) 32) (style_at s c.loop-run.last.place) s.none (option_copied c.loop-run.last.link) None (string_bytes c.loop-run.out) (string_bytes w.weave_gap.new.out)) c.loop-run.invariant.sheet w.in_ok-weave_gap.ensures.text in
+          let gap = subst (λ (s : Stylesheet). PrintsStretch (replicate (run.cell - c.loop-run.col) 32) (style_at s c.loop-run.last.place) s.none
+          (option_copied c.loop-run.last.link) None (string_bytes c.loop-run.out) (string_bytes w.weave_gap.new.out)) c.loop-run.invariant.sheet w.in_ok-weave_gap.ensures.text in
           rw (w.out-is, w.last-is)
           (woven_gap c.args.codes.now c.args.level c.args.text.now c.args.runs.now c.args.row i c.loop-run.col run.cell _ (style_at c.args.codes.now c.loop-run.last.place)
           c.args.codes.now.none (option_copied c.loop-run.last.link) (string_bytes c.args.out.now) (string_bytes c.loop-run.out)
           (string_bytes w.weave_gap.new.out) w.if-col-run.true (omega arith) ahead refl gap c.loop-run.invariant.woven)
       | else-col-run w ↦
           let here : c.loop-run.col ≡ run.cell = omega (arith, w.if-col-run.false, c.loop-run.invariant.woven.ahead i none (omega arith) c.loop-run-test.true) in
-          rw (w.out-is, w.last-is) (subst (λ col. WovenTo c.args.codes.now c.args.level c.args.text.now c.args.runs.now c.args.row i col (style_at c.args.codes.now c.loop-run.last.place) (option_copied c.loop-run.last.link) (string_bytes c.args.out.now) (string_bytes c.loop-run.out)) here c.loop-run.invariant.woven)
+          rw (w.out-is, w.last-is) (subst (λ col. WovenTo c.args.codes.now c.args.level c.args.text.now c.args.runs.now c.args.row i col
+          (style_at c.args.codes.now c.loop-run.last.place) (option_copied c.loop-run.last.link) (string_bytes c.args.out.now) (string_bytes c.loop-run.out)) here c.loop-run.invariant.woven)
     ] in
     let bytes : c.range.result.now ≡ run_bytes c.args.text.now run = c.range.ensures.value in
-    let word = subst (λ (t : List ℕ). PrintsStretch (chars t) (style_at c.if-col-run.codes c.if-col-run.last.place) (style_at c.if-col-run.codes c.place_of.result) (option_copied c.if-col-run.last.link) (option_copied run.link) (string_bytes c.if-col-run.out) (string_bytes c.weave_stretch.new.out)) bytes c.in_ok-weave_stretch.ensures.text in
-    let prints = subst (λ (s : Stylesheet). PrintsStretch (chars (run_bytes c.args.text.now run)) (style_at s c.if-col-run.last.place) (style_at s c.place_of.result) (option_copied c.if-col-run.last.link) (option_copied run.link) (string_bytes c.if-col-run.out) (string_bytes c.weave_stretch.new.out)) kept word in
+    let word = subst (λ (t : List ℕ). PrintsStretch (chars t) (style_at c.if-col-run.codes c.if-col-run.last.place) (style_at c.if-col-run.codes c.place_of.result)
+    (option_copied c.if-col-run.last.link) (option_copied run.link) (string_bytes c.if-col-run.out) (string_bytes c.weave_stretch.new.out)) bytes c.in_ok-weave_stretch.ensures.text in
+    let prints = subst (λ (s : Stylesheet). PrintsStretch (chars (run_bytes c.args.text.now run)) (style_at s c.if-col-run.last.place) (style_at s c.place_of.result)
+    (option_copied c.if-col-run.last.link) (option_copied run.link) (string_bytes c.if-col-run.out) (string_bytes c.weave_stretch.new.out)) kept word in
     record {
       sheet = c.in_ok-weave_stretch.ensures.sheet ∙ kept;
       woven = woven_run c.args.codes.now c.args.level c.args.text.now c.args.runs.now c.args.row i run.cell none (style_at c.args.codes.now c.if-col-run.last.place)
@@ -79,14 +83,16 @@ returns-clause-text c =
     ] in
     let last : WovenTo c.args.codes.now c.args.level c.args.text.now c.args.runs.now c.args.row n c.args.width (style_at c.args.codes.now c.if-col-width.last.place) (option_copied c.if-col-width.last.link) (string_bytes c.args.out.now) (string_bytes c.if-col-width.out) = elim c.if-col-width.branch [
       | then-col-width+in_ok-weave_gap-2 w ↦
-          let gap = subst (λ (s : Stylesheet). PrintsStretch (replicate (c.args.width - c.loop-run.col) 32) (style_at s c.loop-run.last.place) s.none (option_copied c.loop-run.last.link) None (string_bytes c.loop-run.out) (string_bytes w.weave_gap-then-col-width.new.out)) c.loop-run.invariant.sheet w.in_ok-weave_gap-2.ensures.text in
+          let gap = subst (λ (s : Stylesheet). PrintsStretch (replicate (c.args.width - c.loop-run.col) 32) (style_at s c.loop-run.last.place) s.none
+          (option_copied c.loop-run.last.link) None (string_bytes c.loop-run.out) (string_bytes w.weave_gap-then-col-width.new.out)) c.loop-run.invariant.sheet w.in_ok-weave_gap-2.ensures.text in
           rw (w.out-is, w.last-is)
           (woven_gap c.args.codes.now c.args.level c.args.text.now c.args.runs.now c.args.row n c.loop-run.col c.args.width _ (style_at c.args.codes.now c.loop-run.last.place)
           c.args.codes.now.none (option_copied c.loop-run.last.link) (string_bytes c.args.out.now) (string_bytes c.loop-run.out)
           (string_bytes w.weave_gap-then-col-width.new.out) w.if-col-width.true (omega arith) past refl gap c.loop-run.invariant.woven)
       | else-col-width w ↦
           let here : c.loop-run.col ≡ c.args.width = omega (arith, w.if-col-width.false, c.loop-run.invariant.inside) in
-          rw (w.out-is, w.last-is) (subst (λ col. WovenTo c.args.codes.now c.args.level c.args.text.now c.args.runs.now c.args.row n col (style_at c.args.codes.now c.loop-run.last.place) (option_copied c.loop-run.last.link) (string_bytes c.args.out.now) (string_bytes c.loop-run.out)) here c.loop-run.invariant.woven)
+          rw (w.out-is, w.last-is) (subst (λ col. WovenTo c.args.codes.now c.args.level c.args.text.now c.args.runs.now c.args.row n col
+          (style_at c.args.codes.now c.loop-run.last.place) (option_copied c.loop-run.last.link) (string_bytes c.args.out.now) (string_bytes c.loop-run.out)) here c.loop-run.invariant.woven)
     ] in
     let worn : c.style_at.result ≡ style_at c.args.codes.now c.if-col-width.last.place = c.style_at.ensures.value ∙ ap (λ s. style_at s c.if-col-width.last.place) kept in
     on_ok_weaker c.push_str.result

@@ -45,7 +45,8 @@ loop-row-preserved c =
       | then-row-gt0+in_ok-push w ↦ rw (w.out-is) w.in_ok-push.ensures.bytes
       | else-row-gt0 w ↦ absurd (omega (arith, some, w.if-row-gt0.false))
     ] in
-    let row = subst (λ (sheet : Stylesheet). AddsRow sheet c.args.level (cells_to c.args.text.now (stretch c.args.runs.now c.loop-row.from c.row_end-to.result) c.loop-row.row (get_or c.args.widths.now c.loop-row.row 0)) (string_bytes c.if-row-gt0.out) (string_bytes c.weave_row.new.out)) c.loop-row.invariant.sheet c.in_ok-weave_row.ensures.text in
+    let row = subst (λ (sheet : Stylesheet). AddsRow sheet c.args.level
+    (cells_to c.args.text.now (stretch c.args.runs.now c.loop-row.from c.row_end-to.result) c.loop-row.row (get_or c.args.widths.now c.loop-row.row 0)) (string_bytes c.if-row-gt0.out) (string_bytes c.weave_row.new.out)) c.loop-row.invariant.sheet c.in_ok-weave_row.ensures.text in
     record {
       sheet = c.in_ok-weave_row.ensures.sheet ∙ c.loop-row.invariant.sheet;
       rows = rows_next c.args.codes.now c.args.level c.args.text.now c.args.runs.now c.args.widths.now c.loop-row.row c.loop-row.from c.row_end-to.result
