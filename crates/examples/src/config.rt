@@ -9,35 +9,22 @@ use std::alloc::{AllocError, Global};
 use toml::Value;
 use toml::de::Error;
 
-/// What the parser says of its error. No clause of `toml` tells how long that may be, so it is measured.
-fn reason(error: &Error) -> &str
-    ensures fits { TextFits result.now }
-{
-    let reason = error.message();
-    if text_fits(reason) { reason } else { "" }
-}
+/// A report, or why there is none.
+type Answer = Result<String, RenderError>;
 
 /// The report of a text that isn't TOML: it marks the bytes that the parser stumbled over.
-fn not_toml<'a>(
-    alloc: Global,
-    path: &'a str,
-    text: &'a str,
-    error: &'a Error,
-) -> Result<String, RenderError>
+fn not_toml<'a>(alloc: Global, path: &'a str, text: &'a str, error: &'a Error) -> Answer
     requires path { TextFits path.now }
     requires text { TextFits text.now }
 {
-    // An error without a place is that the parser was out of memory.
-    let Some(place) = error.span() else {
-        return Err(RenderError::Memory(AllocError));
-    };
-    // A place inside a character would need no care: `render` refuses it by name.
-    let mark = AnnotationKind::Primary
-        .span(place)
-        .label(OptionCow::from(reason(error)));
+    // An error without a place is that the parser was out of memory. How long a reason may be no clause of `toml` tells.
+    let place = error.span().ok_or(RenderError::Memory(AllocError))?;
+    let reason = error.message();
+    let label = if text_fits(reason) { reason } else { "" };
+    let mark = AnnotationKind::Primary.span(place);
     let snippet = Snippet::source(alloc, text)
         .path(OptionCow::from(path))
-        .annotation(mark)
+        .annotation(mark.label(OptionCow::from(label)))
         .map_err(RenderError::Memory)?;
     let group: Group<'a> = ERROR
         .primary_title("the configuration isn't TOML")
@@ -47,7 +34,7 @@ fn not_toml<'a>(
 }
 
 /// The report of a configuration without a port: there is no line to show, so the file alone is named, by an origin.
-fn no_port<'a>(alloc: Global, path: &'a str) -> Result<String, RenderError>
+fn no_port<'a>(alloc: Global, path: &'a str) -> Answer
     requires path { TextFits path.now }
 {
     let group: Group<'a> = ERROR
@@ -58,17 +45,15 @@ fn no_port<'a>(alloc: Global, path: &'a str) -> Result<String, RenderError>
 }
 
 /// The port that a configuration names, as a text; else the report of what is wrong with it.
-pub fn port(alloc: Global, path: &str, text: &str) -> Result<String, RenderError>
+pub fn port(alloc: Global, path: &str, text: &str) -> Answer
     requires path { TextFits path.now }
     requires text { TextFits text.now }
 {
-    let table = match toml::table_from_str(alloc, text) {
-        Ok(table) => table,
-        // `&*` lends a text once more, for no longer than the error stays.
-        Err(error) => return not_toml(alloc, &*path, &*text, &error),
-    };
-    match table.get("port").and_then(Value::as_integer) {
-        Some(port) => format!(in alloc; "port {port}").map_err(RenderError::Memory),
-        None => no_port(alloc, path),
+    match toml::table_from_str(alloc, text) {
+        Err(error) => not_toml(alloc, &*path, &*text, &error), // both lent for as long as `error` stays
+        Ok(table) => match table.get("port").and_then(Value::as_integer) {
+            Some(port) => format!(in alloc; "port {port}").map_err(RenderError::Memory),
+            None => no_port(alloc, path),
+        },
     }
 }

@@ -42,16 +42,14 @@ fn fail_a_test(rt: &(impl Print + AllocGlobal)) -> io::Result<()> {
 
 /// A request that is right, though its label tries to colour the terminal.
 const RIGHT: Request<'static> = Request {
-    title: "unused",
     source: "let x = 1;",
-    line: 7,
     start: 4,
     end: 5,
     label: "\u{1b}[31mhere",
 };
 
 /// Requests of strangers. All but the first are wrong.
-const REQUESTS: [Request<'static>; 6] = [
+const REQUESTS: [Request<'static>; 5] = [
     RIGHT,
     Request { start: 6, ..RIGHT },
     Request { end: 99, ..RIGHT },
@@ -60,11 +58,7 @@ const REQUESTS: [Request<'static>; 6] = [
         ..RIGHT
     },
     Request {
-        line: usize::MAX,
-        ..RIGHT
-    },
-    Request {
-        label: "here\n8 | let y = 2;",
+        label: "here\n2 | let y = 2;",
         ..RIGHT
     },
 ];
