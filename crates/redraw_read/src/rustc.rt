@@ -37,16 +37,33 @@ fn parts_of(node: &Node<'_, '_>) -> Result<(Vec<FileSpan>, Vec<Child>, Option<Co
 
 /// The children of a diagnostic, with a note on the macros that it originates in.
 fn children_of(node: &Node<'_, '_>) -> Result<Vec<Child>, Fault> {
-    let field = node.needed("children", Expectation::List)?;
+    let list = node.needed("children", Expectation::List)?;
     let values = listed(node, "children")?;
     let mut children = Vec::new(node.alloc);
-    let mut macros = Macros::new().with_places(node.value);
-    for (index, value) in values.iter().enumerate() {
-        children.push(child_of(&field.item(index, value))?)?;
-        macros = macros.with_places(value);
-    }
-    add_macro_note(node, macros, &mut children)?;
+    add_children(&list, values, &mut children)?;
+    add_macro_note(node, macros_of(node.value, values), &mut children)?;
     Ok(children)
+}
+
+/// Adds the children in a list of these values.
+fn add_children<'v>(
+    list: &Node<'v, '_>,
+    values: &'v [Value],
+    children: &mut Vec<Child>,
+) -> Result<(), Fault> {
+    for (index, value) in values.iter().enumerate() {
+        children.push(child_of(&list.item(index, value))?)?;
+    }
+    Ok(())
+}
+
+/// The macros that the primary places of a diagnostic and of its children come from.
+fn macros_of<'v>(diagnostic: &'v Value, children: &'v [Value]) -> Macros<'v> {
+    let mut macros = Macros::new().with_places(diagnostic);
+    for child in children {
+        macros = macros.with_places(child);
+    }
+    macros
 }
 
 /// Adds the notes on the macros that a diagnostic originates in, before the edits that are suggested.
@@ -85,13 +102,23 @@ fn count_before_edits(children: &[Child]) -> usize
 
 /// The places of a diagnostic, and the calls of macros that are shown beside them.
 fn spans_of(node: &Node<'_, '_>) -> Result<Vec<FileSpan>, Fault> {
-    let field = node.needed("spans", Expectation::List)?;
+    let list = node.needed("spans", Expectation::List)?;
     let values = listed(node, "spans")?;
-    let mut spans = each_span(&field, values)?;
-    for (index, value) in values.iter().enumerate() {
-        add_call(&field.item(index, value), &mut spans)?;
-    }
+    let mut spans = each_span(&list, values)?;
+    add_calls(&list, values, &mut spans)?;
     Ok(spans)
+}
+
+/// Adds the calls of macros that are shown beside the places in a list of these values.
+fn add_calls<'v>(
+    list: &Node<'v, '_>,
+    values: &'v [Value],
+    spans: &mut Vec<FileSpan>,
+) -> Result<(), Fault> {
+    for (index, value) in values.iter().enumerate() {
+        add_call(&list.item(index, value), spans)?;
+    }
+    Ok(())
 }
 
 /// The places in a list of these values.
@@ -209,18 +236,27 @@ fn is_error_code(code: &str) -> bool {
 
 /// The code of a diagnostic, where it is that of an error.
 fn code_of(node: &Node<'_, '_>) -> Result<Option<Code>, Fault> {
-    let Some(field) = given(node, "code") else {
-        return Ok(None);
-    };
-    let code = field.text("code")?;
+    match given(node, "code") {
+        Some(field) => Ok(error_code(node.alloc, field.text("code")?)?),
+        None => Ok(None),
+    }
+}
+
+/// This code with the address of what is written of it, where it is that of an error.
+fn error_code(alloc: Global, code: &str) -> Result<Option<Code>, AllocError> {
     if !is_error_code(code) {
         return Ok(None);
     }
-    let url = format!(in node.alloc; "https://doc.rust-lang.org/error_codes/{code}.html")?;
+    let id = owned(alloc, code)?;
     Ok(Some(Code {
-        id: owned(node.alloc, code)?,
-        url: Some(url),
+        id,
+        url: Some(code_address(alloc, code)?),
     }))
+}
+
+/// Where the code of an error is explained.
+fn code_address(alloc: Global, code: &str) -> Result<String, AllocError> {
+    format!(in alloc; "https://doc.rust-lang.org/error_codes/{code}.html")
 }
 
 /// A child: its places, or the edits that it suggests.
@@ -242,12 +278,23 @@ fn child_of(node: &Node<'_, '_>) -> Result<Child, Fault> {
 
 /// The edits of a child: those of its places that have a text to stand there.
 fn edits_of(node: &Node<'_, '_>) -> Result<Vec<Edit>, Fault> {
-    let field = node.needed("spans", Expectation::List)?;
+    let list = node.needed("spans", Expectation::List)?;
+    let values = listed(node, "spans")?;
     let mut edits = Vec::new(node.alloc);
-    for (index, value) in listed(node, "spans")?.iter().enumerate() {
-        add_edit(&field.item(index, value), &mut edits)?;
-    }
+    add_edits(&list, values, &mut edits)?;
     Ok(edits)
+}
+
+/// Adds the edits of the places in a list of these values.
+fn add_edits<'v>(
+    list: &Node<'v, '_>,
+    values: &'v [Value],
+    edits: &mut Vec<Edit>,
+) -> Result<(), Fault> {
+    for (index, value) in values.iter().enumerate() {
+        add_edit(&list.item(index, value), edits)?;
+    }
+    Ok(())
 }
 
 /// Adds the edit of a place, if a text is to stand there.
