@@ -190,11 +190,16 @@ fn note_of(
 ) -> Result<String, AllocError> {
     let (kind, name) = first;
     let mut note = format!(in alloc; "this {level} originates in the {kind} `{name}`")?;
-    if last.1 != name {
-        add_last(&mut note, last)?;
-    }
-    note.push_str(" (in Nightly builds, run with -Z macro-backtrace for more info)")?;
+    add_rest(&mut note, name, last)?;
     Ok(note)
+}
+
+/// Adds what is said after the name of the first macro.
+fn add_rest(note: &mut String, first: &str, last: (&str, &str)) -> Result<(), AllocError> {
+    if last.1 != first {
+        add_last(note, last)?;
+    }
+    note.push_str(" (in Nightly builds, run with -Z macro-backtrace for more info)")
 }
 
 /// Adds what is said of the last macro.

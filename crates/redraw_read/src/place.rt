@@ -92,10 +92,21 @@ impl<'a> Placing<'a> {
         children: &'a [Child],
     ) -> Result<Vec<Remark<'a>>, AllocError> {
         let mut remarks = Vec::new(self.alloc);
+        self.add_remarks(sources, children, &mut remarks)?;
+        Ok(remarks)
+    }
+
+    /// Adds the remarks that some children make.
+    fn add_remarks<S: Shelf + Drop>(
+        &mut self,
+        sources: &'a Sources<S>,
+        children: &'a [Child],
+        remarks: &mut Vec<Remark<'a>>,
+    ) -> Result<(), AllocError> {
         for child in children {
             remarks.push(self.remark(sources, child)?)?;
         }
-        Ok(remarks)
+        Ok(())
     }
 
     /// The remark that a child makes.
@@ -105,16 +116,26 @@ impl<'a> Placing<'a> {
         child: &'a Child,
     ) -> Result<Remark<'a>, AllocError> {
         let marks = self.marks(sources, &child.spans)?;
-        let mut offers = Vec::new(self.alloc);
-        for edits in &child.alternatives {
-            self.add_offers(sources, edits, &mut offers)?;
-        }
+        let offers = self.offers(sources, &child.alternatives)?;
         Ok(Remark {
             severity: child.severity,
             message: child.message.as_str(),
             marks,
             offers,
         })
+    }
+
+    /// The offers of some alternatives.
+    fn offers<S: Shelf + Drop>(
+        &mut self,
+        sources: &'a Sources<S>,
+        alternatives: &'a [Vec<Edit>],
+    ) -> Result<Vec<Offer<'a>>, AllocError> {
+        let mut offers = Vec::new(self.alloc);
+        for edits in alternatives {
+            self.add_offers(sources, edits, &mut offers)?;
+        }
+        Ok(offers)
     }
 
     /// The marks of some places.
@@ -125,17 +146,25 @@ impl<'a> Placing<'a> {
     ) -> Result<Vec<Mark<'a>>, AllocError> {
         let mut marks = Vec::new(self.alloc);
         for span in spans {
-            let file = span.file.as_str();
-            let spot = self.spot(sources, file, span.region, &span.carried)?;
-            marks.push(Mark {
-                source: spot.source,
-                start: spot.start,
-                end: spot.end,
-                label: label_of(span),
-                is_primary: span.is_primary,
-            })?;
+            marks.push(self.mark(sources, span)?)?;
         }
         Ok(marks)
+    }
+
+    /// The mark of a place.
+    fn mark<S: Shelf + Drop>(
+        &mut self,
+        sources: &'a Sources<S>,
+        span: &'a FileSpan,
+    ) -> Result<Mark<'a>, AllocError> {
+        let spot = self.spot(sources, span.file.as_str(), span.region, &span.carried)?;
+        Ok(Mark {
+            source: spot.source,
+            start: spot.start,
+            end: spot.end,
+            label: label_of(span),
+            is_primary: span.is_primary,
+        })
     }
 
     /// Adds the offers of an alternative's edits: one for each source that they are in.

@@ -76,16 +76,18 @@ fn add_macro_note(
         return Ok(());
     };
     let at = count_before_edits(children);
-    children.insert(
-        at,
-        Child {
-            severity: Severity::Note,
-            message,
-            spans: Vec::new(node.alloc),
-            alternatives: Vec::new(node.alloc),
-        },
-    )?;
+    children.insert(at, note_of(node.alloc, message))?;
     Ok(())
+}
+
+/// A note without places.
+fn note_of(alloc: Global, message: String) -> Child {
+    Child {
+        severity: Severity::Note,
+        message,
+        spans: Vec::new(alloc),
+        alternatives: Vec::new(alloc),
+    }
 }
 
 /// How many children stand before the first that suggests an edit.
@@ -187,10 +189,16 @@ fn has_label(span: &FileSpan, label: &str) -> bool {
 fn heading_of(node: &Node<'_, '_>) -> Result<(Severity, String), Fault> {
     let message = node.text("message")?;
     let level = node.needed("level", Expectation::LevelKind)?;
-    let Some(severity) = severity_of(level.value) else {
-        return Err(level.unexpected(Expectation::LevelKind));
-    };
+    let severity = severity_in(&level)?;
     Ok((severity, message_of(level.alloc, level.value, message)?))
+}
+
+/// How severe a diagnostic of the level is that stands here.
+fn severity_in(level: &Node<'_, '_>) -> Result<Severity, Fault> {
+    match severity_of(level.value) {
+        Some(severity) => Ok(severity),
+        None => Err(level.unexpected(Expectation::LevelKind)),
+    }
 }
 
 /// How severe a diagnostic of this level is.
@@ -228,9 +236,9 @@ fn message_of(alloc: Global, level: &Value, message: &str) -> Result<String, All
 
 /// Whether a code is that of an error, `E` and digits; others are the names of lints.
 fn is_error_code(code: &str) -> bool {
-    match code.as_bytes() {
-        [b'E', digits @ ..] => !digits.is_empty() && digits.iter().all(u8::is_ascii_digit),
-        _ => false,
+    match code.strip_prefix('E') {
+        Some(digits) => !digits.is_empty() && digits.bytes().all(|b| b.is_ascii_digit()),
+        None => false,
     }
 }
 
@@ -438,14 +446,19 @@ fn carried_in(list: &Node<'_, '_>, first_line: usize) -> Result<Option<Carried>,
 /// The lines of this list, with line feeds between them.
 fn text_of_lines<'v>(list: &Node<'v, '_>, lines: &'v [Value]) -> Result<String, Fault> {
     let mut text = String::new(list.alloc);
+    add_lines(list, lines, &mut text)?;
+    Ok(text)
+}
+
+/// Adds the lines of this list, with line feeds between them.
+fn add_lines<'v>(list: &Node<'v, '_>, lines: &'v [Value], text: &mut String) -> Result<(), Fault> {
     for (index, value) in lines.iter().enumerate() {
-        let line = list.item(index, value).text("text")?;
         if index > 0 {
             text.push('\n')?;
         }
-        text.push_str(line)?;
+        text.push_str(list.item(index, value).text("text")?)?;
     }
-    Ok(text)
+    Ok(())
 }
 
 /// Edits as the alternatives that they are. rustc writes these one after another, and none of them has edits that overlap: so
